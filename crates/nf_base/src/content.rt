@@ -1,0 +1,88 @@
+//! What a file contains: pieces, each a blob with its size and its digest.
+
+ghost use Rattle.std.specs.Prelude.{◌≡◌, ◌≤◌, [], length};
+
+use crate::BlobId;
+use std::alloc::{AllocError, Global};
+use std::marker::Model;
+
+/// The SHA-256 digest of some bytes (FIPS 180-4).
+#[derive(Clone, Copy, Debug, PartialEq, Eq)]
+pub struct Digest {
+    bytes: [u8; 32],
+}
+
+impl Model for Digest {
+    ghost use Rattle.std.specs.Prelude.{List, ℕ};
+
+    ghost Value = { List ℕ };
+
+    ghost view = { λ digest. digest.bytes };
+
+    ghost inverse = { λ bytes. record { bytes = bytes } };
+}
+
+impl Digest {
+    pub fn new(bytes: [u8; 32]) -> Self
+        ensures { result ≡ bytes }
+    {
+        Digest { bytes }
+    }
+
+    pub fn as_bytes(&self) -> &[u8]
+        ensures { result.now ≡ self.now }
+    {
+        &self.bytes
+    }
+}
+
+/// Some bytes of a file: the blob that holds them, how many they are, and their digest.
+#[derive(Clone, Copy, Debug, PartialEq, Eq)]
+pub struct Piece {
+    pub blob: BlobId,
+    /// From 1 to 16,777,216.
+    pub size: u32,
+    pub digest: Digest,
+}
+
+/// The pieces of a file in their order, at most 10,000. An empty file has none.
+#[derive(Clone, Debug, Drop)]
+pub struct Content {
+    pieces: Vec<Piece>,
+}
+
+impl Model for Content {
+    ghost use Rattle.std.specs.Prelude.{List, ◌≤◌, length};
+    ghost use Rattle.nf_base.specs.declared.content.Piece.{Piece};
+
+    ghost Value = { List Piece };
+
+    ghost view = { λ content. content.pieces.items };
+
+    ghost invariant = { λ content. length content.pieces.items ≤ 10000 };
+}
+
+impl Content {
+    /// The content of an empty file, and of a folder.
+    pub fn empty(alloc: Global) -> Self
+        ensures { result ≡ [] }
+    {
+        Content {
+            pieces: Vec::new(alloc),
+        }
+    }
+
+    pub fn new(pieces: Vec<Piece>) -> Self
+        requires { length pieces.items ≤ 10000 }
+        ensures { result ≡ pieces.items }
+    {
+        Content { pieces }
+    }
+
+    pub fn pieces(&self) -> &[Piece]
+        ensures pieces { result.now ≡ self.now }
+        ensures few { length self.now ≤ 10000 }
+    {
+        &self.pieces
+    }
+}
