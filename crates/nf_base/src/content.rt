@@ -1,6 +1,9 @@
 //! What a file contains: pieces, each a blob with its size and its digest.
 
 ghost use Rattle.std.specs.Prelude.{◌≡◌, ◌≤◌, [], length};
+ghost use Rattle.std.specs.Cmp.{partial_equiv_from_equiv};
+ghost use Rattle.std.specs.Cmp.Rules.{comparing};
+ghost use Rattle.std.proofs.Common.{rules};
 
 use crate::BlobId;
 use std::alloc::{AllocError, Global};
@@ -63,6 +66,8 @@ impl Model for Content {
 }
 
 impl Content {
+    ghost use Rattle.nf_base.specs.Content.{size_of};
+
     /// The content of an empty file, and of a folder.
     pub fn empty(alloc: Global) -> Self
         ensures { result ≡ [] }
@@ -84,5 +89,69 @@ impl Content {
         ensures few { length self.now ≤ 10000 }
     {
         &self.pieces
+    }
+
+    /// How many bytes the file has.
+    pub fn size(&self) -> u64
+        ensures { result ≡ size_of self.now }
+    {
+        let mut size = 0;
+        for piece in &self.pieces {
+            size += u64::from(piece.size);
+        }
+        size
+    }
+}
+
+impl PartialEq for Content {
+    ghost use Rattle.nf_base.specs.Content.{content_eq};
+
+    ghost eq = { content_eq };
+
+    ghost laws = { partial_equiv_from_equiv (Prim.search (comparing, rules)) };
+
+    fn eq(&self, other: &Content) -> bool {
+        self.pieces.as_slice() == other.pieces.as_slice()
+    }
+}
+
+impl Eq for Content {
+    ghost laws = { Prim.search (comparing, rules) };
+}
+
+#[cfg(test)]
+mod tests {
+    use super::*;
+    use std::test::Fail;
+
+    #[test]
+    fn sums_the_sizes(rt: HostRuntime) -> Result<(), Fail> {
+        assert_eq!(rt; Content::empty(rt.alloc()).size(), 0);
+        let digest = Digest::new([7; 32]);
+        let pieces = vec![in rt.alloc();
+            Piece {
+                blob: BlobId::new(1),
+                size: 16777216,
+                digest
+            },
+            Piece {
+                blob: BlobId::new(2),
+                size: 16777216,
+                digest
+            },
+            Piece {
+                blob: BlobId::new(1),
+                size: 1,
+                digest
+            },
+        ]?;
+        assert!(rt; pieces.len() <= 10000);
+        let content = Content::new(pieces);
+        assert_eq!(rt; content.size(), 33554433);
+        assert_eq!(rt; content.pieces().len(), 3);
+        assert_eq!(rt; digest.as_bytes().len(), 32);
+        assert!(rt; content == content.clone()?);
+        assert!(rt; content != Content::empty(rt.alloc()));
+        Ok(())
     }
 }

@@ -2,6 +2,8 @@
 
 ghost use Rattle.std.specs.Prelude.{◌≡◌, [], ◌∷◌, ◌++◌, IfOk, OnOk, OnErr};
 ghost use Rattle.nf_base.specs.declared.rows.Row.{Row};
+ghost use Rattle.std.specs.Cmp.{partial_equiv_from_equiv};
+ghost use Rattle.std.specs.Cmp.Lexicographic.{pointwise, lists_equiv};
 
 use crate::{BlobId, Content, Digest, GroupId, Moment, Name, NodeId, Path, Perms, ShareId, UserId};
 use std::alloc::{AllocError, Global};
@@ -19,7 +21,7 @@ pub struct MetaRow {
 }
 
 /// A user, with a quota in bytes.
-#[derive(Clone, Debug, Drop)]
+#[derive(Clone, Debug, PartialEq, Eq, Drop)]
 pub struct UserRow {
     pub id: UserId,
     pub name: Name,
@@ -34,7 +36,7 @@ pub struct TokenRow {
     pub user: UserId,
 }
 
-#[derive(Clone, Debug, Drop)]
+#[derive(Clone, Debug, PartialEq, Eq, Drop)]
 pub struct GroupRow {
     pub id: GroupId,
     pub name: Name,
@@ -64,7 +66,7 @@ pub enum NodeKind {
 }
 
 /// A file or a folder. A folder's content is empty.
-#[derive(Clone, Debug, Drop)]
+#[derive(Clone, Debug, PartialEq, Eq, Drop)]
 pub struct NodeRow {
     pub id: NodeId,
     pub owner: UserId,
@@ -77,14 +79,14 @@ pub struct NodeRow {
 }
 
 /// Whom a share is for: a user, a group, or whoever knows the link's token.
-#[derive(Clone, Debug, Drop)]
+#[derive(Clone, Debug, PartialEq, Eq, Drop)]
 pub enum ShareKind {
     User(UserId),
     Group(GroupId),
     Link(Name),
 }
 
-#[derive(Clone, Debug, Drop)]
+#[derive(Clone, Debug, PartialEq, Eq, Drop)]
 pub struct ShareRow {
     pub id: ShareId,
     pub kind: ShareKind,
@@ -101,7 +103,7 @@ pub struct ShareRow {
 }
 
 /// The name under which a shared node stands in a user's root.
-#[derive(Clone, Debug, Drop)]
+#[derive(Clone, Debug, PartialEq, Eq, Drop)]
 pub struct MountRow {
     pub user: UserId,
     pub node: NodeId,
@@ -110,7 +112,7 @@ pub struct MountRow {
 }
 
 /// An earlier content of a file, with the moment at which it became current.
-#[derive(Clone, Debug, Drop)]
+#[derive(Clone, Debug, PartialEq, Eq, Drop)]
 pub struct VersionRow {
     pub node: NodeId,
     pub at: Moment,
@@ -118,7 +120,7 @@ pub struct VersionRow {
 }
 
 /// An item of the trash: a node, and the folder and name that it had.
-#[derive(Clone, Debug, Drop)]
+#[derive(Clone, Debug, PartialEq, Eq, Drop)]
 pub struct ItemRow {
     pub node: NodeId,
     pub owner: UserId,
@@ -128,7 +130,7 @@ pub struct ItemRow {
 }
 
 /// An upload in chunks, and the path that it is for.
-#[derive(Clone, Debug, Drop)]
+#[derive(Clone, Debug, PartialEq, Eq, Drop)]
 pub struct UploadRow {
     pub user: UserId,
     pub dir: Name,
@@ -137,7 +139,7 @@ pub struct UploadRow {
 }
 
 /// A chunk of an upload. Its content has one piece, or none where the chunk is empty.
-#[derive(Clone, Debug, Drop)]
+#[derive(Clone, Debug, PartialEq, Eq, Drop)]
 pub struct ChunkRow {
     pub user: UserId,
     pub dir: Name,
@@ -146,7 +148,7 @@ pub struct ChunkRow {
 }
 
 /// A row of any kind.
-#[derive(Clone, Debug, Drop)]
+#[derive(Clone, Debug, PartialEq, Eq, Drop)]
 pub enum Row {
     Meta(MetaRow),
     User(UserRow),
@@ -218,5 +220,61 @@ impl RowList {
             rows.push(row.copy()?)?;
         }
         Ok(RowList { rows })
+    }
+}
+
+impl PartialEq for RowList {
+    ghost use Rattle.nf_base.specs.contracts.rows.RowPartialEq.TheImpl.{ghosts};
+    ghost use Rattle.nf_base.specs.contracts.rows.RowEq.TheImpl.Laws.{laws-law};
+
+    ghost eq = { pointwise ghosts.eq };
+
+    ghost laws = { partial_equiv_from_equiv (lists_equiv laws-law) };
+
+    fn eq(&self, other: &RowList) -> bool {
+        self.rows.as_slice() == other.rows.as_slice()
+    }
+}
+
+impl Eq for RowList {
+    ghost use Rattle.nf_base.specs.contracts.rows.RowEq.TheImpl.Laws.{laws-law};
+
+    ghost laws = { lists_equiv laws-law };
+}
+
+#[cfg(test)]
+mod tests {
+    use super::*;
+    use std::test::Fail;
+
+    #[test]
+    fn copies_rows(rt: HostRuntime) -> Result<(), Fail> {
+        let mut rows = RowList::new(rt.alloc());
+        let user = UserRow {
+            id: UserId::new(1),
+            name: Name::read(rt.alloc(), b"ann")?,
+            quota: 1000,
+            root: NodeId::new(1),
+        };
+        rows.push(Row::User(user))?;
+        let root = NodeRow {
+            id: NodeId::new(1),
+            owner: UserId::new(1),
+            place: Place::Root,
+            name: Name::read(rt.alloc(), b"ann")?,
+            kind: NodeKind::Folder,
+            content: Content::empty(rt.alloc()),
+            changed: Moment::new(5),
+        };
+        rows.push(Row::Node(root))?;
+        let copy = rows.copy(rt.alloc())?;
+        assert_eq!(rt; copy.rows().len(), 2);
+        assert!(rt; copy == rows);
+        rows.push(Row::Member(MemberRow {
+            group: GroupId::new(1),
+            user: UserId::new(1),
+        }))?;
+        assert!(rt; copy != rows);
+        Ok(())
     }
 }
