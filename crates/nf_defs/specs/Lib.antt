@@ -1,0 +1,3 @@
+pub mod Tables
+pub mod People
+pub mod Tree

@@ -1,0 +1,80 @@
+-- Legal histories: lists of entries, each of which may come in the state that those before it made.
+use Rattle.std.specs.Prelude.{◌≢◌, ℕ, ◌+◌, ◌≤◌, List, [], ◌∷◌, length, IsNone, IsSome, Result, Err}
+use Rattle.nf_words.specs.State.{State, ticket_of, without_ticket}
+use Rattle.nf_words.specs.Step.{step, answer_to}
+use Rattle.nf_words.specs.declared.answer.Denial.{Denial}
+use Rattle.nf_words.specs.declared.answer.Denial.TheVariants as denial
+use Rattle.nf_words.specs.declared.answer.Reply.{Reply}
+use Rattle.nf_words.specs.declared.history.Entry.{Entry}
+use Rattle.nf_words.specs.declared.history.Event.{Event}
+use Rattle.nf_words.specs.declared.history.Event.TheVariants.{Begin, End}
+use Rattle.nf_words.specs.declared.history.Mark.{Mark}
+use Rattle.nf_words.specs.declared.history.Mark.TheVariants as mark
+use Rattle.nf_words.specs.declared.history.Outcome.TheVariants.{Sent, Gone}
+
+-- a step whose store failed or that found no memory: the rows stay, and the ticket of an End goes
+abbrev pub failed : State → ℕ → ℕ → Event → State
+failed s seat now (Begin request) = record s { seen = now }
+failed s seat now (End outcome) = record (without_ticket s seat) { seen = now }
+
+-- the state after an entry
+abbrev pub after_mark : State → Entry → Mark → State
+after_mark s e mark.Answered = step s e.seat e.moment e.event
+after_mark s e mark.Store = failed s e.seat e.moment e.event
+after_mark s e mark.Memory = failed s e.seat e.moment e.event
+
+abbrev pub after : State → Entry → State
+after s e = after_mark s e e.mark
+
+-- the answer of an entry
+abbrev pub answer_at : State → Entry → Mark → Result Reply Denial
+answer_at s e mark.Answered = answer_to s e.seat e.moment e.event
+answer_at s e mark.Store = Err denial.Store
+answer_at s e mark.Memory = Err denial.Memory
+
+-- the answers of some entries, in their order
+abbrev pub answers_from : State → List Entry → List (Result Reply Denial)
+answers_from s [] = []
+answers_from s (e ∷ es) = answer_at s e e.mark ∷ answers_from (after s e) es
+
+-- the state after some entries
+abbrev pub replay : State → List Entry → State
+replay s [] = s
+replay s (e ∷ es) = replay (after s e) es
+
+-- the event may come from the seat: a Begin where it has no ticket, an End where it has one
+abbrev pub MayAsk : State → ℕ → Event → Type 0
+MayAsk s seat (Begin request) = IsNone (ticket_of s seat)
+MayAsk s seat (End outcome) = IsSome (ticket_of s seat)
+
+-- an End brings a body
+abbrev pub HasBody : Event → Type 0
+HasBody (Begin request) = ⊥
+HasBody (End Sent) = ⊥
+HasBody (End Gone) = ⊥
+
+-- a Begin leaves room for the Ends of all tickets and its own two entries, after n entries
+abbrev pub LeavesRoom : ℕ → State → Event → Type 0
+LeavesRoom n s (Begin request) = n + length s.tickets + 2 ≤ 262144
+LeavesRoom n s (End outcome) = Unit {0}
+
+-- the step may be marked so
+abbrev pub MayBear : State → Entry → Mark → Type 0
+MayBear s e mark.Answered = Unit {0}
+MayBear s e mark.Store = (step s e.seat e.moment e.event).tables ≢ s.tables
+MayBear s e mark.Memory = HasBody e.event
+
+-- the entry may come after n entries that led to the state
+pub record MayCome (n : ℕ) (s : State) (e : Entry) : Type 0 where
+  pub not_before : s.seen ≤ e.moment
+  pub asked : MayAsk s e.seat e.event
+  pub room : LeavesRoom n s e.event
+  pub marked : MayBear s e e.mark
+
+-- the entries may come one after the other, the first of them after n others
+abbrev pub IsLegalFrom : ℕ → State → List Entry → Type 0
+IsLegalFrom n s [] = Unit {0}
+IsLegalFrom n s (e ∷ es) = MayCome n s e × IsLegalFrom (n + 1) (after s e) es
+
+abbrev pub IsLegal : State → List Entry → Type 0
+IsLegal s es = IsLegalFrom 0 s es

@@ -1,0 +1,47 @@
+//! Events, and the entries that record them.
+
+use crate::{Goal, Request};
+use nf_base::Moment;
+
+/// How a granted request ended.
+#[derive(Clone, Copy, Debug, PartialEq, Eq)]
+pub enum Outcome {
+    /// The content was sent.
+    Sent,
+    /// It wasn't.
+    Gone,
+}
+
+/// What one step of the site is about.
+#[derive(Debug, Drop)]
+pub enum Event {
+    Begin(Request),
+    End(Outcome),
+}
+
+/// What became of a step.
+#[derive(Clone, Copy, Debug, PartialEq, Eq)]
+pub enum Mark {
+    /// It was made and answered.
+    Answered,
+    /// The store failed, so no row changed.
+    Store,
+    /// An End with a body found no memory, so no row changed.
+    Memory,
+}
+
+/// A step that was taken. A seat is the number of a session.
+#[derive(Debug, Drop)]
+pub struct Entry {
+    pub seat: u64,
+    pub moment: Moment,
+    pub event: Event,
+    pub mark: Mark,
+}
+
+/// What a granted request holds from its Begin to its End; at most one a seat.
+#[derive(Debug, Drop)]
+pub struct Ticket {
+    pub seat: u64,
+    pub goal: Goal,
+}

@@ -1,0 +1,15 @@
+//! What is asked of the site and what it answers: requests, denials, goals, replies, events and entries.
+//! The step and the legal history stand in `specs/`.
+#![tactic(auto)]
+
+mod answer;
+mod history;
+mod laws;
+mod request;
+
+pub use answer::{Allowed, Answer, Denial, Goal, Reply};
+pub use history::{Entry, Event, Mark, Outcome, Ticket};
+pub use laws::{
+    ends_free, grants_ticket, others_keep, refusals_keep, rules_in_order, seats_differ,
+};
+pub use request::{Caller, Request, Spot, Wanted};
