@@ -1,0 +1,4 @@
+pub mod Tickets
+pub mod Turns
+pub mod Sessions
+pub mod OneFile

@@ -1,0 +1,9 @@
+pub mod Asked
+pub mod Command
+pub mod OneFile
+pub mod Parts
+pub mod Reply
+pub mod Session
+pub mod Statuses
+pub mod Store
+pub mod Turn

@@ -1,0 +1,50 @@
+//! The file server's program.
+#![tactic(auto)]
+
+mod asking;
+mod replies;
+mod requests;
+mod running;
+mod session;
+mod store;
+#[cfg(test)]
+mod tests;
+mod verdict;
+
+use nf_outside::{Input, Output, RealClock};
+use running::{Status, run};
+use std::env;
+use std::process::ExitCode;
+
+/// Serves standard input and output by the words, and says on standard error how it ended, if not well.
+fn main(rt: HostRuntime) -> ExitCode {
+    let status = serve(&rt);
+    if status != Status::Done {
+        let word = status.word();
+        let _ = eprintln!(rt; "filesd: {word}");
+    }
+    ExitCode::from(status.code())
+}
+
+fn serve(rt: &HostRuntime) -> Status {
+    let Ok(words) = words(rt) else {
+        return Status::Memory;
+    };
+    let mut input = Input::new(rt.stdin());
+    let mut output = Output::new(rt.stdout());
+    let Ok(clock) = rt.clone() else {
+        return Status::Memory;
+    };
+    let mut clock = RealClock::new(clock);
+    let (status, _site) = run(rt.alloc(), &words, &mut input, &mut output, &mut clock);
+    status
+}
+
+// The words after the program's own name.
+fn words(rt: &HostRuntime) -> std::io::Result<Vec<String>> {
+    let mut words = Vec::new(rt.alloc());
+    for word in env::args(rt)?.skip(1) {
+        words.push(word)?;
+    }
+    Ok(words)
+}
