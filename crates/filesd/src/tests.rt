@@ -73,7 +73,7 @@ fn hello_with(alloc: Global, lines: &str) -> Result<Vec<u8>, AllocError> {
 }
 
 /// Inputs with their outputs and statuses, each read whole and byte by byte.
-const RUNS: [(&str, &str, Status); 17] = [
+const RUNS: [(&str, &str, Status); 19] = [
     ("", "", Status::Done),
     (GET_HELLO, HELLO, Status::Done),
     (
@@ -135,6 +135,16 @@ const RUNS: [(&str, &str, Status); 17] = [
     ),
     (
         "PUT /x HTTP/1.1\r\nContent-Length: 3\r\n\r\nab",
+        BAD_MESSAGE,
+        Status::BadMessage,
+    ),
+    (
+        "GET /remote.php/dav/files/alice/hello.txt HTTP/1.1\r\nAuthorization: Bearer alice-1\r\nContent-Length: 3\r\n\r\nab",
+        BAD_MESSAGE,
+        Status::BadMessage,
+    ),
+    (
+        "GET /remote.php/dav/files/alice/hello.txt HTTP/1.1\r\nContent-Length: 1\r\n\r\n",
         BAD_MESSAGE,
         Status::BadMessage,
     ),
@@ -343,18 +353,32 @@ fn many(alloc: Global, count: u32) -> Result<Vec<u8>, AllocError> {
 }
 
 #[test]
-fn ten_thousand_messages(rt: HostRuntime) -> Result<(), Fail> {
+fn no_message_follows_the_ten_thousandth(rt: HostRuntime) -> Result<(), Fail> {
     let alloc = rt.alloc();
-    for (count, status) in [
-        (9_999, Status::Done),
-        (10_000, Status::Budget),
-        (10_001, Status::Budget),
-    ] {
+    for count in [10_000, 10_001] {
         let (ended, written) = served(alloc, many(alloc, count)?, 8192)?;
-        assert_eq!(rt; ended, status);
-        let answers = u64::from(count.min(10_000));
-        let closing = if count < 10_000 { 0 } else { 19 };
-        assert_eq!(rt; written.len() as u64, answers * 125 + closing);
+        assert_eq!(rt; ended, Status::Budget);
+        assert_eq!(rt; written.len(), 10_000 * 125 + 19);
     }
+    Ok(())
+}
+
+#[test]
+fn fewer_messages_are_all_answered(rt: HostRuntime) -> Result<(), Fail> {
+    let alloc = rt.alloc();
+    let (ended, written) = served(alloc, many(alloc, 9_999)?, 8192)?;
+    assert_eq!(rt; ended, Status::Done);
+    assert_eq!(rt; written.len(), 9_999 * 125);
+    Ok(())
+}
+
+#[test]
+fn the_ten_thousandth_message_may_end_the_session(rt: HostRuntime) -> Result<(), Fail> {
+    let alloc = rt.alloc();
+    let mut input = many(alloc, 9_999)?;
+    input.extend_from_slice(b"GET /remote.php/dav/files/a/b HTTP/1.1\nConnection: close\n\n")?;
+    let (ended, written) = served(alloc, input, 8192)?;
+    assert_eq!(rt; ended, Status::Done);
+    assert_eq!(rt; written.len(), 10_000 * 125 + 19);
     Ok(())
 }
