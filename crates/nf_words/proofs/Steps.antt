@@ -1,26 +1,33 @@
 -- What one step does to the tickets.
-use Rattle.std.proofs.Common.{ℕ, suc, zero, ◌+◌, ◌==◌, ◌≡◌, ◌≢◌, ◌<◌, Bool, true, false, not, List, [], ◌∷◌, None, Some, IsNone, find, filter, length, get_or, Result, Ok, Err, refl, ◌∙◌, arith}
+use Rattle.std.proofs.Common.{ℕ, suc, zero, ◌+◌, ◌==◌, ◌≡◌, ◌≢◌, ◌<◌, Bool, true, false, not, List, [], ◌∷◌, Option, None, Some, IsNone, find, filter, length, get_or, Result, Ok, Err, refl, sym, ap, subst, ◌∙◌, arith}
 use Rattle.std.specs.List.{AllPairs}
 use Rattle.std.proofs.lemmas.Bool.{eqb-false}
 use Rattle.std.proofs.lemmas.List.Folds.{find-append}
 use Rattle.std.proofs.lemmas.List.Kept.{AllPairs-filter}
 use Rattle.std.proofs.lemmas.List.Quantifiers.{all_pairs_push}
 use Rattle.std.proofs.lemmas.Grind.{common_steps}
+use Rattle.nf_defs.specs.Tables.{Tables}
 use Rattle.nf_words.specs.State.{State, ticket_of, without_ticket}
-use Rattle.nf_words.specs.Step.{step, decision_of, decided, answered_by, answer_to}
-use Rattle.nf_words.specs.Changes.{applied}
+use Rattle.nf_words.specs.Step.{step, without, decision_of, decided, answered_by, answer_to}
+use Rattle.nf_words.specs.Changes.{goal_of, with_goal, reply_to}
+use Rattle.nf_words.specs.Endings.{unless_refused, stored_at, end_refusal, ends_goal, ends_ticket, end_decision}
 use Rattle.nf_words.specs.History.{failed, after, after_mark, replay, MayAsk, IsLegalFrom}
 use Rattle.nf_words.specs.declared.answer.Allowed.{Allowed}
 use Rattle.nf_words.specs.declared.answer.Allowed.TheVariants as allowed
 use Rattle.nf_words.specs.declared.answer.Denial.{Denial}
 use Rattle.nf_words.specs.declared.answer.Goal.{Goal}
-use Rattle.nf_words.specs.declared.answer.Goal.TheVariants.{Serve}
-use Rattle.nf_words.specs.declared.answer.Reply.TheVariants.{Closed, Granted}
+use Rattle.nf_words.specs.declared.answer.Goal.TheVariants.{Serve, Store}
+use Rattle.nf_words.specs.declared.answer.LockKey.{LockKey}
+use Rattle.nf_words.specs.declared.answer.LockKey.TheVariants.{Node, Slot}
+use Rattle.nf_words.specs.declared.answer.Reply.{Reply}
+use Rattle.nf_words.specs.declared.answer.Reply.TheVariants.{Granted}
 use Rattle.nf_words.specs.declared.history.Entry.{Entry}
 use Rattle.nf_words.specs.declared.history.Event.{Event}
 use Rattle.nf_words.specs.declared.history.Event.TheVariants.{Begin, End}
 use Rattle.nf_words.specs.declared.history.Mark.{Mark}
 use Rattle.nf_words.specs.declared.history.Mark.TheVariants as mark
+use Rattle.nf_words.specs.declared.history.Outcome.{Outcome}
+use Rattle.nf_words.specs.declared.history.Outcome.TheVariants.{Sent, Gone, Body}
 use Rattle.nf_words.specs.declared.history.Ticket.{Ticket}
 
 -- a filter that keeps all that a look-up may find
@@ -57,35 +64,123 @@ fails_each p (x ∷ xs) none k d within = here (p x) k refl none within (λ none
 pub freed : (s : State) (seat : ℕ) → ticket_of (without_ticket s seat) seat ≡ None
 freed s seat = find-filter-not (λ ticket. ticket.seat == seat) s.tickets
 
-other_without : (s : State) (seat other : ℕ) → other ≢ seat → ticket_of (without_ticket s seat) other ≡ ticket_of s other
-other_without s seat other differ =
+other_without : (s : State) (seat : ℕ) (event : Event) (other : ℕ) → other ≢ seat → ticket_of (without s seat event) other ≡ ticket_of s other
+other_without s seat (Begin request) other differ = refl
+other_without s seat (End outcome) other differ =
     find-filter (λ ticket. ticket.seat == other) (λ ticket. not (ticket.seat == seat)) (λ ticket is. grind (arith, common_steps)) s.tickets
 
-other_applied : (s : State) (seat other : ℕ) (change : Allowed) → other ≢ seat → ticket_of (applied s seat change) other ≡ ticket_of s other
-other_applied s seat other (allowed.Get content) differ =
-    find-append (λ ticket. ticket.seat == other) s.tickets _ ∙ grind (arith, common_steps)
-other_applied s seat other allowed.Close differ = other_without s seat other differ
+other_goal : (tickets : List Ticket) (seat other : ℕ) (goal : Option Goal) → other ≢ seat
+    → find (λ ticket. ticket.seat == other) (with_goal tickets seat goal) ≡ find (λ ticket. ticket.seat == other) tickets
+other_goal tickets seat other None differ = refl
+other_goal tickets seat other (Some goal) differ = find-append (λ ticket. ticket.seat == other) tickets _ ∙ grind (arith, common_steps)
 
-other_decided : (s : State) (seat other : ℕ) (decision : Result Allowed Denial)
-    → other ≢ seat → ticket_of (decided s seat decision) other ≡ ticket_of s other
-other_decided s seat other (Ok change) differ = other_applied s seat other change differ
-other_decided s seat other (Err refusal) differ = refl
+other_decided : (s : State) (seat now other : ℕ) (decision : Result Allowed Denial)
+    → other ≢ seat → ticket_of (decided s seat now decision) other ≡ ticket_of s other
+other_decided s seat now other (Ok change) differ = other_goal s.tickets seat other (goal_of change) differ
+other_decided s seat now other (Err refusal) differ = refl
 
 pub other_step : (s : State) (seat now : ℕ) (event : Event) (other : ℕ) → other ≢ seat → ticket_of (step s seat now event) other ≡ ticket_of s other
-other_step s seat now event other differ = other_decided s seat other (decision_of s seat now event) differ
+other_step s seat now event other differ =
+    other_decided (without s seat event) seat now other (decision_of s seat now event) differ ∙ other_without s seat event other differ
 
-granted_decided : (s : State) (seat : ℕ) (decision : Result Allowed Denial) (goal : Goal)
+-- ---- what an End grants
+
+-- the decision grants nothing
+abbrev GrantsNothing : Result Allowed Denial → Type 0
+GrantsNothing (Ok change) = goal_of change ≡ None
+GrantsNothing (Err refusal) = Unit {0}
+
+stores_nothing : (refusal : Option Denial) (t : Tables) (now : ℕ) (key : LockKey) (digest : List ℕ) (length : ℕ)
+    → GrantsNothing (unless_refused refusal (stored_at t now key digest length))
+stores_nothing (Some refusal) t now key digest length = tt
+stores_nothing None t now (Node node) digest length = refl
+stores_nothing None t now (Slot folder name) digest length = refl
+
+goal_nothing : (t : Tables) (now : ℕ) (outcome : Outcome) (goal : Goal) → GrantsNothing (ends_goal t now outcome goal)
+goal_nothing t now Sent goal = refl
+goal_nothing t now Gone goal = refl
+goal_nothing t now (Body digest length) (Serve content) = refl
+goal_nothing t now (Body digest length) (Store key wanted) = stores_nothing (end_refusal t key length) t now key digest length
+
+ticket_nothing : (t : Tables) (now : ℕ) (outcome : Outcome) (ticket : Option Ticket) → GrantsNothing (ends_ticket t now outcome ticket)
+ticket_nothing t now outcome None = refl
+ticket_nothing t now outcome (Some ticket) = goal_nothing t now outcome ticket.goal
+
+-- an End grants nothing
+pub end_nothing : (s : State) (seat now : ℕ) (outcome : Outcome) → GrantsNothing (end_decision s seat now outcome)
+end_nothing s seat now outcome = ticket_nothing s.tables now outcome (ticket_of s seat)
+
+nothing_more : (s : State) (seat now : ℕ) (decision : Result Allowed Denial) → GrantsNothing decision
+    → (decided s seat now decision).tickets ≡ s.tickets
+nothing_more s seat now (Ok change) nothing = ap (λ (g : Option Goal). with_goal s.tickets seat g) nothing
+nothing_more s seat now (Err refusal) nothing = refl
+
+-- an End leaves the tickets of the others
+pub end_tickets : (s : State) (seat now : ℕ) (outcome : Outcome)
+    → (step s seat now (End outcome)).tickets ≡ (without_ticket s seat).tickets
+end_tickets s seat now outcome =
+    nothing_more (without_ticket s seat) seat now (end_decision s seat now outcome) (end_nothing s seat now outcome)
+
+pub end_frees : (s : State) (seat now : ℕ) (outcome : Outcome) → ticket_of (step s seat now (End outcome)) seat ≡ None
+end_frees s seat now outcome = ap (λ (ts : List Ticket). find (λ ticket. ticket.seat == seat) ts) (end_tickets s seat now outcome) ∙ freed s seat
+
+-- ---- what an End that brings no body changes
+
+ticket_keeps : (s : State) (seat now : ℕ) (outcome : Outcome) (ticket : Option Ticket) → ((goal : Goal) → ends_goal s.tables now outcome goal ≡ Ok allowed.Close)
+    → (decided (without_ticket s seat) seat now (ends_ticket s.tables now outcome ticket)).tables ≡ s.tables
+ticket_keeps s seat now outcome None closes = refl
+ticket_keeps s seat now outcome (Some ticket) closes =
+    ap (λ (d : Result Allowed Denial). (decided (without_ticket s seat) seat now d).tables) (closes ticket.goal)
+
+pub sent_keeps : (s : State) (seat now : ℕ) → (step s seat now (End Sent)).tables ≡ s.tables
+sent_keeps s seat now = ticket_keeps s seat now Sent (ticket_of s seat) (λ goal. refl)
+
+pub gone_keeps : (s : State) (seat now : ℕ) → (step s seat now (End Gone)).tables ≡ s.tables
+gone_keeps s seat now = ticket_keeps s seat now Gone (ticket_of s seat) (λ goal. refl)
+
+-- ---- a granted step
+
+goal_of_reply : (change : Allowed) (goal : Goal) → reply_to change ≡ Granted goal → goal_of change ≡ Some goal
+goal_of_reply (allowed.Get content) goal is = cc
+goal_of_reply (allowed.Put key length) goal is = cc
+goal_of_reply (allowed.Create row) goal is = cc
+goal_of_reply (allowed.Replace node content) goal is = cc
+goal_of_reply (allowed.Remove nodes) goal is = cc
+goal_of_reply allowed.Close goal is = cc
+
+ok_reply : (x y : Reply) → ◌≡◌ {A = Result Reply Denial} (Ok x) (Ok y) → x ≡ y
+ok_reply x y e = cc
+
+pub granted_goal : (change : Allowed) (goal : Goal) → answered_by (Ok change) ≡ Ok (Granted goal) → goal_of change ≡ Some goal
+granted_goal change goal is = goal_of_reply change goal (ok_reply (reply_to change) (Granted goal) is)
+
+goal_found : (tickets : List Ticket) (seat : ℕ) (goal : Goal) → IsNone (find (λ ticket. ticket.seat == seat) tickets)
+    → find (λ ticket. ticket.seat == seat) (with_goal tickets seat (Some goal)) ≡ Some (record { seat = seat; goal = goal })
+goal_found tickets seat goal none = find-append (λ ticket. ticket.seat == seat) tickets _ ∙ grind (arith, common_steps)
+
+granted_decided : (s : State) (seat now : ℕ) (decision : Result Allowed Denial) (goal : Goal)
     → IsNone (ticket_of s seat) → answered_by decision ≡ Ok (Granted goal)
-    → ticket_of (decided s seat decision) seat ≡ Some (record { seat = seat; goal = goal })
-granted_decided s seat (Ok (allowed.Get content)) goal none is =
-    find-append (λ ticket. ticket.seat == seat) s.tickets _ ∙ grind (arith, common_steps)
-granted_decided s seat (Ok allowed.Close) goal none is = cc
-granted_decided s seat (Err refusal) goal none is = cc
+    → ticket_of (decided s seat now decision) seat ≡ Some (record { seat = seat; goal = goal })
+granted_decided s seat now (Ok change) goal none is =
+    ap (λ (g : Option Goal). find (λ ticket. ticket.seat == seat) (with_goal s.tickets seat g)) (granted_goal change goal is)
+    ∙ goal_found s.tickets seat goal none
+granted_decided s seat now (Err refusal) goal none is = cc
+
+never_granted : (decision : Result Allowed Denial) (goal : Goal) → GrantsNothing decision → answered_by decision ≡ Ok (Granted goal) → ⊥
+never_granted (Ok change) goal nothing is = none_some goal (sym nothing ∙ granted_goal change goal is)
+  where
+    none_some : (goal : Goal) → ◌≡◌ {A = Option Goal} None (Some goal) → ⊥
+    none_some goal e = cc
+never_granted (Err refusal) goal nothing is = cc
 
 pub granted_step : (s : State) (seat now : ℕ) (event : Event) (goal : Goal)
     → IsNone (ticket_of s seat) → answer_to s seat now event ≡ Ok (Granted goal)
     → ticket_of (step s seat now event) seat ≡ Some (record { seat = seat; goal = goal })
-granted_step s seat now event goal none is = granted_decided s seat (decision_of s seat now event) goal none is
+granted_step s seat now (Begin request) goal none is = granted_decided s seat now (decision_of s seat now (Begin request)) goal none is
+granted_step s seat now (End outcome) goal none is =
+    absurd (never_granted (end_decision s seat now outcome) goal (end_nothing s seat now outcome) is)
+
+-- ---- no seat has two tickets
 
 abbrev OfTwoSeats : Ticket → Ticket → Type 0
 OfTwoSeats a b = a.seat ≢ b.seat
@@ -96,19 +191,21 @@ Differ s = AllPairs OfTwoSeats s.tickets
 differ_without : (s : State) (seat : ℕ) → Differ s → Differ (without_ticket s seat)
 differ_without s seat h = AllPairs-filter OfTwoSeats (λ ticket. not (ticket.seat == seat)) s.tickets h
 
-differ_applied : (s : State) (seat : ℕ) (change : Allowed) → IsNone (ticket_of s seat) → Differ s → Differ (applied s seat change)
-differ_applied s seat (allowed.Get content) none h =
-    all_pairs_push OfTwoSeats s.tickets _ h (λ k d within. eqb-false _ _ (fails_each (λ ticket. ticket.seat == seat) s.tickets none k d within))
-differ_applied s seat allowed.Close none h = differ_without s seat h
+differ_goal : (tickets : List Ticket) (seat : ℕ) (goal : Option Goal) → IsNone (find (λ ticket. ticket.seat == seat) tickets)
+    → AllPairs OfTwoSeats tickets → AllPairs OfTwoSeats (with_goal tickets seat goal)
+differ_goal tickets seat None none h = h
+differ_goal tickets seat (Some goal) none h =
+    all_pairs_push OfTwoSeats tickets _ h (λ k d within. eqb-false _ _ (fails_each (λ ticket. ticket.seat == seat) tickets none k d within))
 
-differ_decided : (s : State) (seat : ℕ) (decision : Result Allowed Denial)
-    → IsNone (ticket_of s seat) → Differ s → Differ (decided s seat decision)
-differ_decided s seat (Ok change) none h = differ_applied s seat change none h
-differ_decided s seat (Err refusal) none h = h
+differ_decided : (s : State) (seat now : ℕ) (decision : Result Allowed Denial)
+    → IsNone (ticket_of s seat) → Differ s → Differ (decided s seat now decision)
+differ_decided s seat now (Ok change) none h = differ_goal s.tickets seat (goal_of change) none h
+differ_decided s seat now (Err refusal) none h = h
 
 differ_step : (s : State) (seat now : ℕ) (event : Event) → MayAsk s seat event → Differ s → Differ (step s seat now event)
-differ_step s seat now (Begin request) asked h = differ_decided s seat (decision_of s seat now (Begin request)) asked h
-differ_step s seat now (End outcome) asked h = differ_without s seat h
+differ_step s seat now (Begin request) asked h = differ_decided s seat now (decision_of s seat now (Begin request)) asked.0 h
+differ_step s seat now (End outcome) asked h =
+    subst (λ (ts : List Ticket). AllPairs OfTwoSeats ts) (sym (end_tickets s seat now outcome)) (differ_without s seat h)
 
 differ_failed : (s : State) (seat now : ℕ) (event : Event) → Differ s → Differ (failed s seat now event)
 differ_failed s seat now (Begin request) h = h

@@ -1,5 +1,5 @@
 -- A request as the rules see it: who asks, and where its path leads.
-use Rattle.std.specs.Prelude.{ℕ, Option, None, option_and_then}
+use Rattle.std.specs.Prelude.{ℕ, ◌-◌, List, [], length, Option, None, option_and_then, slice_get, unwrap_or}
 use Rattle.std.specs.Option.{option_map_or}
 use Rattle.nf_base.specs.declared.rows.UserRow.{UserRow}
 use Rattle.nf_defs.specs.People.{holder_of, user_row}
@@ -11,7 +11,7 @@ use Rattle.nf_words.specs.declared.request.Caller.TheVariants.{Absent, Token}
 use Rattle.nf_words.specs.declared.request.Request.{Request}
 use Rattle.nf_words.specs.declared.request.Spot.{Spot}
 use Rattle.nf_words.specs.declared.request.Wanted.{Wanted}
-use Rattle.nf_words.specs.declared.request.Wanted.TheVariants.{Get}
+use Rattle.nf_words.specs.declared.request.Wanted.TheVariants.{Get, Put, Mkcol, Delete}
 
 -- a Begin in its state
 pub record Call : Type 0 where
@@ -23,6 +23,13 @@ pub record Call : Type 0 where
 -- where the request looks
 abbrev pub spot_of : Wanted → Spot
 spot_of (Get spot) = spot
+spot_of (Put spot length) = spot
+spot_of (Mkcol spot) = spot
+spot_of (Delete spot) = spot
+
+-- the last name of its path
+abbrev pub last_name : Spot → List ℕ
+last_name spot = unwrap_or (slice_get spot.path (length spot.path - 1)) []
 
 -- the user whose token the caller shows
 abbrev pub caller_of : State → Caller → Option ℕ

@@ -1,7 +1,7 @@
 -- Legal histories: lists of entries, each of which may come in the state that those before it made.
-use Rattle.std.specs.Prelude.{◌≢◌, ℕ, ◌+◌, ◌≤◌, List, [], ◌∷◌, length, IsNone, IsSome, Result, Err}
-use Rattle.nf_words.specs.State.{State, ticket_of, without_ticket}
-use Rattle.nf_words.specs.Step.{step, answer_to}
+use Rattle.std.specs.Prelude.{◌≡◌, ◌≢◌, ℕ, ◌+◌, ◌≤◌, List, [], ◌∷◌, length, Option, None, Some, IsNone, Result, Err}
+use Rattle.nf_words.specs.State.{State, ticket_of}
+use Rattle.nf_words.specs.Step.{step, answer_to, without}
 use Rattle.nf_words.specs.declared.answer.Denial.{Denial}
 use Rattle.nf_words.specs.declared.answer.Denial.TheVariants as denial
 use Rattle.nf_words.specs.declared.answer.Reply.{Reply}
@@ -10,12 +10,17 @@ use Rattle.nf_words.specs.declared.history.Event.{Event}
 use Rattle.nf_words.specs.declared.history.Event.TheVariants.{Begin, End}
 use Rattle.nf_words.specs.declared.history.Mark.{Mark}
 use Rattle.nf_words.specs.declared.history.Mark.TheVariants as mark
-use Rattle.nf_words.specs.declared.history.Outcome.TheVariants.{Sent, Gone}
+use Rattle.nf_words.specs.declared.history.Outcome.{Outcome}
+use Rattle.nf_words.specs.declared.history.Outcome.TheVariants.{Sent, Gone, Body}
+use Rattle.nf_words.specs.declared.history.Ticket.{Ticket}
+use Rattle.nf_words.specs.declared.answer.Goal.{Goal}
+use Rattle.nf_words.specs.declared.answer.Goal.TheVariants.{Serve, Store}
+use Rattle.nf_words.specs.declared.request.Wanted.{Wanted}
+use Rattle.nf_words.specs.declared.request.Wanted.TheVariants.{Get, Put, Mkcol, Delete}
 
 -- a step whose store failed or that found no memory: the rows stay, and the ticket of an End goes
 abbrev pub failed : State → ℕ → ℕ → Event → State
-failed s seat now (Begin request) = record s { seen = now }
-failed s seat now (End outcome) = record (without_ticket s seat) { seen = now }
+failed s seat now event = record (without s seat event) { seen = now }
 
 -- the state after an entry
 abbrev pub after_mark : State → Entry → Mark → State
@@ -42,16 +47,36 @@ abbrev pub replay : State → List Entry → State
 replay s [] = s
 replay s (e ∷ es) = replay (after s e) es
 
+-- a body that is to be stored has at most 16,777,216 bytes
+abbrev pub MayWant : Wanted → Type 0
+MayWant (Put spot length) = length ≤ 16777216
+MayWant (Get spot) = Unit {0}
+MayWant (Mkcol spot) = Unit {0}
+MayWant (Delete spot) = Unit {0}
+
+-- a body is for a goal that stores one, and has its length
+abbrev pub MayBring : Goal → Outcome → Type 0
+MayBring goal Sent = Unit {0}
+MayBring goal Gone = Unit {0}
+MayBring (Serve content) (Body digest length) = ⊥
+MayBring (Store key wanted) (Body digest length) = (length ≡ wanted) × (length ≤ 16777216)
+
+-- the End of what the seat has
+abbrev pub MayEnd : Option Ticket → Outcome → Type 0
+MayEnd None outcome = ⊥
+MayEnd (Some ticket) outcome = MayBring ticket.goal outcome
+
 -- the event may come from the seat: a Begin where it has no ticket, an End where it has one
 abbrev pub MayAsk : State → ℕ → Event → Type 0
-MayAsk s seat (Begin request) = IsNone (ticket_of s seat)
-MayAsk s seat (End outcome) = IsSome (ticket_of s seat)
+MayAsk s seat (Begin request) = IsNone (ticket_of s seat) × MayWant request.wanted
+MayAsk s seat (End outcome) = MayEnd (ticket_of s seat) outcome
 
 -- an End brings a body
 abbrev pub HasBody : Event → Type 0
 HasBody (Begin request) = ⊥
 HasBody (End Sent) = ⊥
 HasBody (End Gone) = ⊥
+HasBody (End (Body digest length)) = Unit {0}
 
 -- a Begin leaves room for the Ends of all tickets and its own two entries, after n entries
 abbrev pub LeavesRoom : ℕ → State → Event → Type 0

@@ -1,12 +1,12 @@
 -- What every step keeps, and the order of the refusals.
-use Rattle.std.specs.Prelude.{◌≡◌, ◌≢◌, ℕ, List, None, Some, IsNone, Ok, Err}
+use Rattle.std.specs.Prelude.{◌≡◌, ◌≢◌, ℕ, List, [], ◌∷◌, ◌++◌, None, Some, IsNone, Ok, Err}
 use Rattle.std.specs.List.{AllPairs}
 use Rattle.nf_base.specs.declared.rows.Row.{Row}
-use Rattle.nf_words.specs.State.{State, opened, ticket_of}
+use Rattle.nf_words.specs.State.{State, opened, ticket_of, without_ticket}
 use Rattle.nf_words.specs.Calls.{Call}
-use Rattle.nf_words.specs.Rules.{token_rule, not_you_rule, place_rule, refusal_of}
+use Rattle.nf_words.specs.Rules.{Rule, rules, refusal_of}
 use Rattle.nf_words.specs.Step.{decision_of, step, answer_to}
-use Rattle.nf_words.specs.History.{IsLegal, replay}
+use Rattle.nf_words.specs.History.{IsLegal, failed, replay}
 use Rattle.nf_words.specs.declared.answer.Denial.{Denial}
 use Rattle.nf_words.specs.declared.answer.Goal.{Goal}
 use Rattle.nf_words.specs.declared.answer.Reply.TheVariants.{Granted}
@@ -18,19 +18,34 @@ use Rattle.nf_words.specs.declared.history.Outcome.{Outcome}
 use Rattle.nf_words.specs.declared.history.Ticket.{Ticket}
 
 -- a Begin that is refused changes no row and no ticket
-abbrev pub RefusalsKeep : Type 0
-RefusalsKeep =
+abbrev pub RefusedBeginsKeep : Type 0
+RefusedBeginsKeep =
     (s : State) (seat now : ℕ) (request : Request) (refusal : Denial)
     → decision_of s seat now (Begin request) ≡ Err refusal
     → step s seat now (Begin request) ≡ record s { seen = now }
 
--- an End changes no row
-abbrev pub EndsKeepRows : Type 0
-EndsKeepRows = (s : State) (seat now : ℕ) (outcome : Outcome) → (step s seat now (End outcome)).tables ≡ s.tables
+-- an End that is refused changes no row and takes its seat's ticket alone
+abbrev pub RefusedEndsKeep : Type 0
+RefusedEndsKeep =
+    (s : State) (seat now : ℕ) (outcome : Outcome) (refusal : Denial)
+    → decision_of s seat now (End outcome) ≡ Err refusal
+    → step s seat now (End outcome) ≡ record (without_ticket s seat) { seen = now }
 
--- an End leaves its seat no ticket
+-- so does a step whose store failed or that found no memory
+abbrev pub FailuresKeep : Type 0
+FailuresKeep = (s : State) (seat now : ℕ) (event : Event) → (failed s seat now event).tables ≡ s.tables
+
+-- and an End that stores nothing
+abbrev pub ClosingsKeep : Outcome → Type 0
+ClosingsKeep outcome = (s : State) (seat now : ℕ) → (step s seat now (End outcome)).tables ≡ s.tables
+
+-- an End leaves its seat no ticket, whatever it answers
 abbrev pub EndsFree : Type 0
 EndsFree = (s : State) (seat now : ℕ) (outcome : Outcome) → ticket_of (step s seat now (End outcome)) seat ≡ None
+
+-- nor does one that failed
+abbrev pub FailedEndsFree : Type 0
+FailedEndsFree = (s : State) (seat now : ℕ) (outcome : Outcome) → ticket_of (failed s seat now (End outcome)) seat ≡ None
 
 -- a step that is granted leaves its seat, which had no ticket, the ticket of its goal
 abbrev pub GrantsTicket : Type 0
@@ -43,19 +58,21 @@ GrantsTicket =
 abbrev pub OthersKeep : Type 0
 OthersKeep = (s : State) (seat now : ℕ) (event : Event) (other : ℕ) → other ≢ seat → ticket_of (step s seat now event) other ≡ ticket_of s other
 
--- a call that breaks the rule `token` is refused by it, whatever the others say
-abbrev pub TokenIsFirst : Type 0
-TokenIsFirst = (call : Call) (refusal : Denial) → token_rule call ≡ Some refusal → refusal_of call ≡ Some refusal
+-- some rules pass a call
+abbrev pub Pass : List Rule → Call → Type 0
+Pass [] call = Unit {0}
+Pass (rule ∷ others) call = (rule call ≡ None) × Pass others call
 
--- then `not-you`
-abbrev pub NotYouIsSecond : Type 0
-NotYouIsSecond =
-    (call : Call) (refusal : Denial) → token_rule call ≡ None → not_you_rule call ≡ Some refusal → refusal_of call ≡ Some refusal
+-- a rule refuses where all before it pass, whatever those behind it say
+abbrev pub FirstRuleRefuses : Type 0
+FirstRuleRefuses =
+    (before : List Rule) (rule : Rule) (behind : List Rule) (call : Call) (refusal : Denial)
+    → rules ≡ before ++ rule ∷ behind → Pass before call → rule call ≡ Some refusal
+    → refusal_of call ≡ Some refusal
 
--- and `not-found` last
-abbrev pub PlaceIsLast : Type 0
-PlaceIsLast =
-    (call : Call) → token_rule call ≡ None → not_you_rule call ≡ None → refusal_of call ≡ place_rule call
+-- and a call that all pass is refused by none
+abbrev pub AllowedByAll : Type 0
+AllowedByAll = (call : Call) → Pass rules call → refusal_of call ≡ None
 
 -- over a legal history no seat has two tickets
 abbrev pub SeatsDiffer : Type 0

@@ -1,7 +1,12 @@
 pub mod State
 pub mod Calls
+pub mod Callers
+pub mod Places
+pub mod Limits
 pub mod Rules
 pub mod Changes
+pub mod Endings
 pub mod Step
 pub mod History
 pub mod Laws
+pub mod Sound

@@ -1,9 +1,8 @@
 -- The state of the site.
-use Rattle.std.specs.Prelude.{ℕ, ◌==◌, not, List, [], ◌∷◌, ◌++◌, Option, find, filter}
+use Rattle.std.specs.Prelude.{ℕ, ◌==◌, not, List, [], Option, find, filter}
 use Rattle.nf_base.specs.declared.rows.Row.{Row}
 use Rattle.nf_defs.specs.Tables.{Tables, tables_of}
 use Rattle.nf_words.specs.declared.history.Ticket.{Ticket}
-use Rattle.nf_words.specs.declared.answer.Goal.{Goal}
 
 -- the rows, the tickets in the order in which they were granted, and the greatest moment seen
 pub record State : Type 0 where
@@ -17,9 +16,6 @@ opened rows = record { tables = tables_of rows; tickets = []; seen = (tables_of 
 
 abbrev pub ticket_of : State → ℕ → Option Ticket
 ticket_of s seat = find (λ ticket. ticket.seat == seat) s.tickets
-
-abbrev pub with_ticket : State → ℕ → Goal → State
-with_ticket s seat goal = record s { tickets = s.tickets ++ record { seat = seat; goal = goal } ∷ [] }
 
 abbrev pub without_ticket : State → ℕ → State
 without_ticket s seat = record s { tickets = filter (λ ticket. not (ticket.seat == seat)) s.tickets }

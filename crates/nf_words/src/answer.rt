@@ -1,20 +1,35 @@
 //! Answers.
 
-use nf_base::Content;
+ghost use Rattle.std.specs.Prelude.{◌≡◌};
+
+use nf_base::{Content, Name, NameFault, NodeId, NodeRow};
+use std::marker::Model;
 
 /// Why a request is refused. Each has a status of RFC 9110 or RFC 4918 and a reason of its own.
 #[derive(Clone, Copy, Debug, PartialEq, Eq)]
 pub enum Denial {
     /// 400: the bytes are no message, or end inside one.
     BadMessage,
+    /// 400: a name in the target is none.
+    BadName(NameFault),
     /// 401: the caller shows no token that is known.
     Token,
     /// 403: the user in the path isn't the caller.
     NotYou,
-    /// 404: there is no such file.
+    /// 403: a name in the path is `.htaccess`.
+    ForbiddenName,
+    /// 403: that can't be done to what the path leads to.
+    BadTarget(TargetFault),
+    /// 404: there is no such file or folder.
     NotFound,
+    /// 405: what is to be made is there, or a file is to be stored where a folder is.
+    Exists,
+    /// 409: the folder of what is to be made isn't there.
+    NoParent,
     /// 413: the body is over 16,777,216 bytes.
     TooLarge,
+    /// 415: the request takes no body.
+    Body,
     /// 431: the head is over 8,192 bytes or 64 fields.
     Head,
     /// 500: the store failed.
@@ -27,6 +42,35 @@ pub enum Denial {
     NotBuilt,
     /// 503: there is no memory.
     Memory,
+    /// 507: the step would pass a limit of the site.
+    Limit(Limit),
+}
+
+/// Why a target can't be acted upon.
+#[derive(Clone, Copy, Debug, PartialEq, Eq)]
+pub enum TargetFault {
+    /// It is a root.
+    Root,
+}
+
+/// A limit of the site.
+#[derive(Clone, Copy, Debug, PartialEq, Eq)]
+pub enum Limit {
+    /// 262,144 nodes, and 2^64 - 1 numbers of nodes ever given.
+    Nodes,
+    /// 64 folders above a node.
+    Depth,
+    /// 1,048,576 pieces of all nodes, and 2^64 - 1 numbers of blobs ever given.
+    Pieces,
+}
+
+/// What a granted PUT is to change.
+#[derive(Debug, Drop)]
+pub enum LockKey {
+    /// A file that is there.
+    Node(NodeId),
+    /// A free name in a folder.
+    Slot { folder: NodeId, name: Name },
 }
 
 /// What a granted request may do between its Begin and its End.
@@ -34,12 +78,18 @@ pub enum Denial {
 pub enum Goal {
     /// Send this content.
     Serve(Content),
+    /// Store a body of that many bytes.
+    Store { key: LockKey, length: u64 },
 }
 
 /// What a request that isn't refused is answered.
 #[derive(Debug, Drop)]
 pub enum Reply {
-    /// The End of a granted request.
+    /// What was asked for was made.
+    Made,
+    /// It was done.
+    Done,
+    /// The End of a request that stores nothing.
     Closed,
     /// The Begin of a request in two steps.
     Granted(Goal),
@@ -47,11 +97,47 @@ pub enum Reply {
 
 pub type Answer = Result<Reply, Denial>;
 
+/// Nodes by their numbers.
+#[derive(Debug, Drop)]
+pub struct NodeIds {
+    ids: Vec<NodeId>,
+}
+
+impl Model for NodeIds {
+    ghost use Rattle.std.specs.Prelude.{List, ℕ};
+
+    ghost Value = { List ℕ };
+
+    ghost view = { λ nodes. nodes.ids.items };
+}
+
+impl NodeIds {
+    pub fn new(ids: Vec<NodeId>) -> Self
+        ensures { result ≡ ids.items }
+    {
+        NodeIds { ids }
+    }
+
+    pub fn ids(&self) -> &[NodeId]
+        ensures { result.now ≡ self.now }
+    {
+        &self.ids
+    }
+}
+
 /// What a step that isn't refused changes.
 #[derive(Debug, Drop)]
 pub enum Allowed {
     /// The seat is given a ticket to send this content.
     Get { content: Content },
-    /// The seat's ticket is freed.
+    /// The seat is given a ticket to store a body of that many bytes.
+    Put { key: LockKey, length: u64 },
+    /// A folder or a file is made, with the next number.
+    Create(NodeRow),
+    /// A file's content is replaced.
+    Replace { node: NodeId, content: Content },
+    /// Nodes are removed for good.
+    Remove(NodeIds),
+    /// Nothing but, at an End, the ticket.
     Close,
 }

@@ -1,15 +1,17 @@
 //! Events, and the entries that record them.
 
 use crate::{Goal, Request};
-use nf_base::Moment;
+use nf_base::{Digest, Moment};
 
 /// How a granted request ended.
 #[derive(Clone, Copy, Debug, PartialEq, Eq)]
 pub enum Outcome {
     /// The content was sent.
     Sent,
-    /// It wasn't.
+    /// It wasn't, or the body to be stored never came whole.
     Gone,
+    /// A body of that SHA-256 digest and length is there to be stored.
+    Body { digest: Digest, length: u64 },
 }
 
 /// What one step of the site is about.

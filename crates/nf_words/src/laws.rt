@@ -1,16 +1,21 @@
 //! Laws of the step and of legal histories. The functions do nothing: each stands for the fact that it ensures.
 
-ghost use Rattle.nf_words.specs.Laws.{RefusalsKeep, EndsKeepRows, EndsFree, GrantsTicket, OthersKeep, TokenIsFirst, NotYouIsSecond, PlaceIsLast, SeatsDiffer};
+ghost use Rattle.nf_words.specs.Laws.{RefusedBeginsKeep, RefusedEndsKeep, FailuresKeep, ClosingsKeep, EndsFree, FailedEndsFree, GrantsTicket, OthersKeep, FirstRuleRefuses, AllowedByAll, SeatsDiffer};
+ghost use Rattle.nf_words.specs.declared.history.Outcome.TheVariants.{Sent, Gone};
 
-/// A refusal changes no row and no ticket.
+/// What is refused, or failed, changes no row; a refused Begin changes no ticket.
 pub fn refusals_keep()
-    ensures { RefusalsKeep }
+    ensures begin { RefusedBeginsKeep }
+    ensures end { RefusedEndsKeep }
+    ensures failure { FailuresKeep }
 {}
 
-/// An End frees its seat and changes no row.
+/// An End frees its seat, and changes no row where it brings no body.
 pub fn ends_free()
-    ensures rows { EndsKeepRows }
     ensures ticket { EndsFree }
+    ensures failed { FailedEndsFree }
+    ensures sent { ClosingsKeep Sent }
+    ensures gone { ClosingsKeep Gone }
 {}
 
 /// A granted Begin leaves its seat a ticket, so that its End may come.
@@ -23,11 +28,10 @@ pub fn others_keep()
     ensures { OthersKeep }
 {}
 
-/// Where several rules hold, the first in their order is answered: `token`, `not-you`, `not-found`.
+/// Where several rules hold, the first in their order is answered.
 pub fn rules_in_order()
-    ensures token { TokenIsFirst }
-    ensures not_you { NotYouIsSecond }
-    ensures place { PlaceIsLast }
+    ensures first { FirstRuleRefuses }
+    ensures none { AllowedByAll }
 {}
 
 /// A seat has at most one ticket.

@@ -21,7 +21,14 @@ pub struct Spot {
 /// What is asked for.
 #[derive(Debug, Drop)]
 pub enum Wanted {
+    /// What is there.
     Get(Spot),
+    /// That a body of that many bytes, at most 16,777,216, is stored there.
+    Put { spot: Spot, length: u64 },
+    /// A new folder there.
+    Mkcol(Spot),
+    /// That what is there, and all under it, is removed.
+    Delete(Spot),
 }
 
 #[derive(Debug, Drop)]

@@ -1,0 +1,71 @@
+-- The End of a request in two steps. One with a body is decided by the tables of its own moment, not by those of its Begin.
+use Rattle.std.specs.Prelude.{ℕ, ◌==◌, ◌&&◌, List, [], ◌∷◌, Option, None, Some, is_none, option_map, Result, Ok, Err, if◌then◌else◌}
+use Rattle.std.specs.Option.{option_or}
+use Rattle.nf_base.specs.declared.content.Piece.{Piece}
+use Rattle.nf_base.specs.declared.rows.MetaRow.{MetaRow}
+use Rattle.nf_base.specs.declared.rows.NodeKind.TheVariants.{File}
+use Rattle.nf_defs.specs.Tables.{Tables}
+use Rattle.nf_defs.specs.Tree.{child_of, is_file, is_folder}
+use Rattle.nf_defs.specs.declared.Found.{Found}
+use Rattle.nf_defs.specs.declared.Found.TheVariants.{At, Free}
+use Rattle.nf_words.specs.Changes.{new_node}
+use Rattle.nf_words.specs.Limits.{limit_at, pieces_of}
+use Rattle.nf_words.specs.State.{State, ticket_of}
+use Rattle.nf_words.specs.declared.answer.Allowed.{Allowed}
+use Rattle.nf_words.specs.declared.answer.Allowed.TheVariants as allowed
+use Rattle.nf_words.specs.declared.answer.Denial.{Denial}
+use Rattle.nf_words.specs.declared.answer.Denial.TheVariants as denial
+use Rattle.nf_words.specs.declared.answer.Goal.{Goal}
+use Rattle.nf_words.specs.declared.answer.Goal.TheVariants.{Serve, Store}
+use Rattle.nf_words.specs.declared.answer.LockKey.{LockKey}
+use Rattle.nf_words.specs.declared.answer.LockKey.TheVariants.{Node, Slot}
+use Rattle.nf_words.specs.declared.history.Outcome.{Outcome}
+use Rattle.nf_words.specs.declared.history.Outcome.TheVariants.{Sent, Gone, Body}
+use Rattle.nf_words.specs.declared.history.Ticket.{Ticket}
+
+abbrev pub unless_refused : Option Denial → Allowed → Result Allowed Denial
+unless_refused None change = Ok change
+unless_refused (Some refusal) change = Err refusal
+
+-- the place of what is stored
+abbrev pub place_of : LockKey → Found
+place_of (Node node) = At node
+place_of (Slot folder name) = Free folder
+
+-- `not-found`: the file isn't there any more; or the folder isn't, or has such a name by now
+abbrev pub key_lost : Tables → LockKey → Option Denial
+key_lost t (Node node) = if is_file t.nodes node then None else Some denial.NotFound
+key_lost t (Slot folder name) =
+    if is_folder t.nodes folder && is_none (child_of t.nodes folder name) then None else Some denial.NotFound
+
+-- the first rule that refuses the End of a PUT: `not-found`, `limit`
+abbrev pub end_refusal : Tables → LockKey → ℕ → Option Denial
+end_refusal t key length = option_or (key_lost t key) (option_map denial.Limit (limit_at t (place_of key) (pieces_of length)))
+
+-- the content of a body, in the next blob; an empty body has no piece
+abbrev pub content_of_body : MetaRow → List ℕ → ℕ → List Piece
+content_of_body meta digest length =
+    if length == 0 then [] else record { blob = meta.next_blob; size = length; digest = digest } ∷ []
+
+-- what storing a body changes
+abbrev pub stored_at : Tables → ℕ → LockKey → List ℕ → ℕ → Allowed
+stored_at t now (Node node) digest length = allowed.Replace node (content_of_body t.meta digest length)
+stored_at t now (Slot folder name) digest length =
+    allowed.Create (new_node t now folder name File (content_of_body t.meta digest length))
+
+abbrev pub stores : Tables → ℕ → LockKey → List ℕ → ℕ → Result Allowed Denial
+stores t now key digest length = unless_refused (end_refusal t key length) (stored_at t now key digest length)
+
+-- what an End may do, by the goal of its seat's ticket
+abbrev pub ends_goal : Tables → ℕ → Outcome → Goal → Result Allowed Denial
+ends_goal t now Sent goal = Ok allowed.Close
+ends_goal t now Gone goal = Ok allowed.Close
+ends_goal t now (Body digest length) (Serve content) = Ok allowed.Close
+ends_goal t now (Body digest length) (Store key wanted) = stores t now key digest length
+
+abbrev pub ends_ticket : Tables → ℕ → Outcome → Option Ticket → Result Allowed Denial
+ends_ticket t now outcome None = Ok allowed.Close
+ends_ticket t now outcome (Some ticket) = ends_goal t now outcome ticket.goal
+
+abbrev pub end_decision : State → ℕ → ℕ → Outcome → Result Allowed Denial
+end_decision s seat now outcome = ends_ticket s.tables now outcome (ticket_of s seat)

@@ -1,0 +1,78 @@
+-- Sound states: their nodes and tickets keep the rules of the site. The acts that are built change no other row.
+use Rattle.std.specs.Prelude.{◌≡◌, ◌≢◌, ℕ, ◌<◌, ◌≤◌, All, true, [], length, Some}
+use Rattle.std.specs.List.{AllPairs}
+use Rattle.std.specs.Option.{option_map_or}
+use Rattle.nf_base.specs.declared.content.Piece.{Piece}
+use Rattle.nf_base.specs.declared.rows.NodeRow.{NodeRow}
+use Rattle.nf_base.specs.declared.rows.Place.{Place}
+use Rattle.nf_base.specs.declared.rows.Place.TheVariants.{Root, Inside, Trash}
+use Rattle.nf_base.specs.declared.rows.UserRow.{UserRow}
+use Rattle.nf_defs.specs.People.{user_row}
+use Rattle.nf_defs.specs.Tables.{Tables}
+use Rattle.nf_defs.specs.Tree.{climb, is_folder, is_folder_kind, node_row, owner_of, piece_count}
+use Rattle.nf_words.specs.Limits.{count_of}
+use Rattle.nf_words.specs.State.{State}
+use Rattle.nf_words.specs.declared.answer.Goal.{Goal}
+use Rattle.nf_words.specs.declared.answer.Goal.TheVariants.{Serve, Store}
+use Rattle.nf_words.specs.declared.answer.Limit.TheVariants as limit
+use Rattle.nf_words.specs.declared.history.Ticket.{Ticket}
+
+-- a piece has from 1 to 16,777,216 bytes, in a blob whose number was given
+pub record IsPieceSound (t : Tables) (piece : Piece) : Type 0 where
+  pub some : 1 ≤ piece.size
+  pub few : piece.size ≤ 16777216
+  pub given : piece.blob < t.meta.next_blob
+
+-- the root of a user
+abbrev pub root_of_user : Tables → ℕ → ℕ
+root_of_user t user = option_map_or (λ row. row.root) (user_row t.users user) 0
+
+-- what a node is inside is a folder of the same owner; nothing is in the trash yet
+abbrev pub IsPlaceSound : Tables → NodeRow → Place → Type 0
+IsPlaceSound t row Root = row.id ≡ root_of_user t row.owner
+IsPlaceSound t row (Inside folder) = (is_folder t.nodes folder ≡ true) × (owner_of t.nodes folder ≡ row.owner)
+IsPlaceSound t row Trash = ⊥
+
+-- a node's number was given, and it leads to its owner's root in at most 64 steps; a folder has no content
+pub record IsNodeSound (t : Tables) (row : NodeRow) : Type 0 where
+  pub some : 1 ≤ row.id
+  pub given : row.id < t.meta.next_node
+  pub changed : row.changed ≤ t.meta.last
+  pub pieces : All (IsPieceSound t) row.content
+  pub folder : is_folder_kind row.kind ≡ true → row.content ≡ []
+  pub place : IsPlaceSound t row row.place
+  pub steps : ℕ
+  pub shallow : steps ≤ count_of limit.Depth
+  pub present : climb t.nodes steps row.id ≡ Some (root_of_user t row.owner)
+
+-- a user's root is there: a folder of the user's name and with place Root
+pub record HasRoot (t : Tables) (user : UserRow) : Type 0 where
+  pub row : NodeRow
+  pub there : node_row t.nodes user.root ≡ Some row
+  pub place : row.place ≡ Root
+  pub folder : is_folder_kind row.kind ≡ true
+  pub owner : row.owner ≡ user.id
+  pub name : row.name ≡ user.name
+
+-- two nodes have different names, where they are in one folder or both roots
+abbrev pub AreApart : NodeRow → NodeRow → Type 0
+AreApart a b = a.place ≡ b.place → a.name ≢ b.name
+
+pub record AreSound (t : Tables) : Type 0 where
+  pub rising : AllPairs (λ (a b : NodeRow). a.id < b.id) t.nodes
+  pub nodes : All (IsNodeSound t) t.nodes
+  pub names : AllPairs AreApart t.nodes
+  pub roots : All (HasRoot t) t.users
+  pub few_nodes : length t.nodes ≤ count_of limit.Nodes
+  pub few_pieces : piece_count t.nodes ≤ count_of limit.Pieces
+
+-- what is sent is in blobs whose numbers were given; what is stored isn't too long
+abbrev pub IsGoalSound : Tables → Goal → Type 0
+IsGoalSound t (Serve content) = All (IsPieceSound t) content
+IsGoalSound t (Store key length) = length ≤ 16777216
+
+pub record IsSound (s : State) : Type 0 where
+  pub rows : AreSound s.tables
+  pub seen : s.tables.meta.last ≤ s.seen
+  pub seats : AllPairs (λ (a b : Ticket). a.seat ≢ b.seat) s.tickets
+  pub goals : All (λ (ticket : Ticket). IsGoalSound s.tables ticket.goal) s.tickets
