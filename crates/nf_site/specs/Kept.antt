@@ -2,10 +2,10 @@
 use Rattle.std.specs.Prelude.{◌≡◌, ℕ, max, List, [], ◌∷◌, ◌++◌}
 use Rattle.nf_base.specs.declared.rows.Row.{Row}
 use Rattle.nf_words.specs.State.{State, opened}
-use Rattle.nf_words.specs.Step.{step}
-use Rattle.nf_words.specs.History.{IsLegal, replay}
+use Rattle.nf_words.specs.History.{IsLegal, after, replay}
 use Rattle.nf_words.specs.declared.history.Entry.{Entry}
 use Rattle.nf_words.specs.declared.history.Event.{Event}
+use Rattle.nf_words.specs.declared.history.Mark.{Mark}
 use Rattle.nf_words.specs.declared.history.Mark.TheVariants.{Answered}
 
 pub record Kept : Type 0 where
@@ -26,12 +26,16 @@ pub record IsHistory (k : Kept) : Type 0 where
 abbrev pub moment_of : State → ℕ → ℕ
 moment_of s now = max s.seen now
 
+abbrev pub entry : ℕ → ℕ → Event → Mark → Entry
+entry seat moment event mark = record { seat = seat; moment = moment; event = event; mark = mark }
+
 abbrev pub answered : ℕ → ℕ → Event → Entry
-answered seat moment event = record { seat = seat; moment = moment; event = event; mark = Answered }
+answered seat moment event = entry seat moment event Answered
+
+-- the same site after an entry
+abbrev pub entered : Kept → Entry → Kept
+entered k e = record k { state = after k.state e; history = k.history ++ e ∷ [] }
 
 -- the same site after a step that was answered
 abbrev pub stepped : Kept → ℕ → ℕ → Event → Kept
-stepped k seat moment event = record k {
-  state = step k.state seat moment event;
-  history = k.history ++ answered seat moment event ∷ [];
-}
+stepped k seat moment event = entered k (answered seat moment event)

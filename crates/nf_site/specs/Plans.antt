@@ -4,6 +4,7 @@ use Rattle.nf_words.specs.State.{State}
 use Rattle.nf_words.specs.Step.{decision_of, answer_to}
 use Rattle.nf_words.specs.declared.history.Event.{Event}
 use Rattle.nf_words.specs.declared.history.Event.TheVariants.{Begin, End}
+use Rattle.nf_words.specs.declared.history.Outcome.TheVariants.{Sent, Gone, Body}
 use Rattle.nf_site.specs.Kept.{moment_of}
 use Rattle.nf_site.specs.declared.plan.Plan.{Plan}
 
@@ -20,7 +21,9 @@ plan_at s seat moment event = record {
 abbrev pub plan_of : State → ℕ → ℕ → Event → Plan
 plan_of s seat now event = plan_at s seat (moment_of s now) event
 
--- an End is always planned
+-- an End that brings no body is always planned
 abbrev pub IsPlannedAtEnd : {E : Type 0} → Event → Result Plan E → Type 0
 IsPlannedAtEnd (Begin request) result = ⊤
-IsPlannedAtEnd (End outcome) result = IsOk result
+IsPlannedAtEnd (End Sent) result = IsOk result
+IsPlannedAtEnd (End Gone) result = IsOk result
+IsPlannedAtEnd (End (Body digest length)) result = ⊤

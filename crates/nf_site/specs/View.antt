@@ -10,7 +10,7 @@ kept_of site = record { opening = site.opening; state = site.current.state; hist
 abbrev pub held_of : Inside → Held
 held_of site = record {
   kept = kept_of site;
-  room = record { entries = vec_capacity site.history; tickets = site.current.room };
+  room = record { entries = vec_capacity site.history; tickets = site.current.room.tickets; nodes = site.current.room.nodes };
 }
 
 -- the history led to the state, and each ticket has room for the entry of its End

@@ -1,20 +1,28 @@
 //! The rules that refuse a request, and what a request that none of them refuses may do.
 
-ghost use Rattle.std.specs.Prelude.{◌≡◌, Some, IfOk, option_copied};
-ghost use Rattle.nf_defs.specs.People.{holder_of, user_row};
-ghost use Rattle.nf_defs.specs.Tree.{node_row, child_of, is_in, is_folder, found_from};
-ghost use Rattle.nf_words.specs.Calls.{spot_of, user_of, caller_row, root_of, found};
-ghost use Rattle.nf_words.specs.Rules.{token_rule, not_you_rule, place_rule, refusal_of, is_caller};
-ghost use Rattle.nf_words.specs.Changes.{content_of, given, allowed_of};
-ghost use Rattle.nf_words.specs.Step.{unless_refused};
+ghost use Rattle.std.specs.Prelude.{◌≡◌, ℕ, IfOk, [], option_copied};
+ghost use Rattle.std.specs.List.{list_any};
+ghost use Rattle.nf_base.specs.Naming.{is_forbidden};
+ghost use Rattle.nf_base.specs.declared.rows.NodeKind.TheVariants.{Folder};
+ghost use Rattle.nf_defs.specs.Tree.{is_folder, is_root};
+ghost use Rattle.nf_defs.specs.declared.Found.TheVariants.{Free};
+ghost use Rattle.nf_words.specs.Calls.{spot_of, last_name, user_of, caller_row, found};
+ghost use Rattle.nf_words.specs.Callers.{token_rule, not_you_rule, is_caller};
+ghost use Rattle.nf_words.specs.Places.{forbidden_rule, place_rule, built_rule, exists_rule, target_rule};
+ghost use Rattle.nf_words.specs.Limits.{limit_rule};
+ghost use Rattle.nf_words.specs.Rules.{refusal_of};
+ghost use Rattle.nf_words.specs.Changes.{allowed_of, new_node};
+ghost use Rattle.nf_words.specs.Endings.{unless_refused};
 ghost use Rattle.nf_site.specs.Deciding.{Follows};
 
+use crate::ending::new_node;
+use crate::limits::{limit_at, pieces_of};
+use crate::nodes::{content_of, find, is_folder, is_root, subtree};
+use crate::people::{holder_of, user_row};
 use crate::state::State;
-use nf_base::{
-    Content, Digest, Moment, Name, NodeId, NodeKind, NodeRow, Place, TokenRow, UserId, UserRow,
-};
+use nf_base::{Content, Moment, Name, NodeId, NodeKind, NodeRow, UserId, UserRow};
 use nf_defs::Found;
-use nf_words::{Allowed, Caller, Denial, Request, Spot, Wanted};
+use nf_words::{Allowed, Caller, Denial, LockKey, Request, Spot, TargetFault, Wanted};
 use std::alloc::{AllocError, Global};
 use std::marker::Model;
 
@@ -53,12 +61,17 @@ impl<'a> Call<'a> {
     {
         self.token()?;
         self.not_you()?;
+        self.forbidden()?;
         let place = self.found();
         self.place(&place)?;
+        self.built(&place)?;
+        self.exists(&place)?;
+        self.target(&place)?;
+        self.limit(&place)?;
         Ok(place)
     }
 
-    #[tactic(auto, unfolding(nf_words::specs::Rules::token_rule))]
+    #[tactic(auto, unfolding(nf_words::specs::Callers::token_rule))]
     fn token(&self) -> Result<(), Denial>
         ensures { Follows token_rule self.entry.now result }
     {
@@ -68,7 +81,7 @@ impl<'a> Call<'a> {
         }
     }
 
-    #[tactic(auto, unfolding(nf_words::specs::Rules::not_you_rule))]
+    #[tactic(auto, unfolding(nf_words::specs::Callers::not_you_rule))]
     fn not_you(&self) -> Result<(), Denial>
         ensures { Follows not_you_rule self.entry.now result }
     {
@@ -78,36 +91,151 @@ impl<'a> Call<'a> {
         }
     }
 
-    #[tactic(auto, unfolding(nf_words::specs::Rules::place_rule))]
+    #[tactic(auto, unfolding(nf_words::specs::Places::forbidden_rule))]
+    fn forbidden(&self) -> Result<(), Denial>
+        ensures { Follows forbidden_rule self.entry.now result }
+    {
+        if any_forbidden(self.spot().path.names()) {
+            Err(Denial::ForbiddenName)
+        } else {
+            Ok(())
+        }
+    }
+
+    #[tactic(auto, unfolding(nf_words::specs::Places::place_rule))]
     fn place(&self, place: &Found) -> Result<(), Denial>
         requires { place.now ≡ found self.now }
         ensures { Follows place_rule self.entry.now result }
     {
         match (&self.request.wanted, place) {
-            (Wanted::Get(_), Found::At(_)) => Ok(()),
-            (Wanted::Get(_), _) => Err(Denial::NotFound),
+            (_, Found::At(_)) => Ok(()),
+            (Wanted::Get(_) | Wanted::Delete(_), _) => Err(Denial::NotFound),
+            (Wanted::Put { .. } | Wanted::Mkcol(_), Found::Free(_)) => Ok(()),
+            (Wanted::Put { .. } | Wanted::Mkcol(_), Found::Missing(_)) => Err(Denial::NoParent),
         }
     }
 
-    /// What the act does at that place. It copies what the ticket keeps.
+    #[tactic(auto, unfolding(nf_words::specs::Places::built_rule))]
+    fn built(&self, place: &Found) -> Result<(), Denial>
+        requires { place.now ≡ found self.now }
+        ensures { Follows built_rule self.entry.now result }
+    {
+        match (&self.request.wanted, place) {
+            (Wanted::Get(_), Found::At(node)) if self.is_folder(*node) => Err(Denial::NotBuilt),
+            _ => Ok(()),
+        }
+    }
+
+    #[tactic(auto, unfolding(nf_words::specs::Places::exists_rule))]
+    fn exists(&self, place: &Found) -> Result<(), Denial>
+        requires { place.now ≡ found self.now }
+        ensures { Follows exists_rule self.entry.now result }
+    {
+        match (&self.request.wanted, place) {
+            (Wanted::Put { .. }, Found::At(node)) if self.is_folder(*node) => Err(Denial::Exists),
+            (Wanted::Mkcol(_), Found::At(_)) => Err(Denial::Exists),
+            _ => Ok(()),
+        }
+    }
+
+    #[tactic(auto, unfolding(nf_words::specs::Places::target_rule))]
+    fn target(&self, place: &Found) -> Result<(), Denial>
+        requires { place.now ≡ found self.now }
+        ensures { Follows target_rule self.entry.now result }
+    {
+        match (&self.request.wanted, place) {
+            (Wanted::Delete(_), Found::At(node)) if self.is_root(*node) => {
+                Err(Denial::BadTarget(TargetFault::Root))
+            }
+            _ => Ok(()),
+        }
+    }
+
+    #[tactic(auto, unfolding(nf_words::specs::Limits::limit_rule))]
+    fn limit(&self, place: &Found) -> Result<(), Denial>
+        requires { place.now ≡ found self.now }
+        ensures { Follows limit_rule self.entry.now result }
+    {
+        let tables = self.state.tables();
+        let passed = match &self.request.wanted {
+            Wanted::Put { length, .. } => limit_at(tables, place, pieces_of(*length)),
+            Wanted::Mkcol(_) => limit_at(tables, place, 0),
+            Wanted::Get(_) | Wanted::Delete(_) => None,
+        };
+        match passed {
+            Some(limit) => Err(Denial::Limit(limit)),
+            None => Ok(()),
+        }
+    }
+
+    /// What the act does at that place. It copies what the step keeps.
     fn allowed(&self, alloc: Global, place: Found) -> Result<Allowed, AllocError>
         requires { place ≡ found self.now }
         ensures { IfOk result (λ allowed. allowed ≡ allowed_of self.entry.now) }
     {
+        let nodes = self.state.tables().nodes();
         match (&self.request.wanted, place) {
             (Wanted::Get(_), Found::At(node)) => Ok(Allowed::Get {
-                content: content(alloc, self.state.tables().nodes(), node)?,
+                content: content_of(alloc, nodes, node)?,
             }),
-            (Wanted::Get(_), _) => Ok(Allowed::Close),
+            (Wanted::Put { length, .. }, Found::At(node)) => Ok(Allowed::Put {
+                key: LockKey::Node(node),
+                length: *length,
+            }),
+            (Wanted::Put { length, .. }, Found::Free(folder)) => Ok(Allowed::Put {
+                key: LockKey::Slot {
+                    folder,
+                    name: self.last_name()?,
+                },
+                length: *length,
+            }),
+            (Wanted::Mkcol(_), Found::Free(folder)) => {
+                Ok(Allowed::Create(self.new_folder(alloc, folder)?))
+            }
+            (Wanted::Delete(_), Found::At(node)) => {
+                Ok(Allowed::Remove(subtree(alloc, nodes, node)?))
+            }
+            _ => Ok(Allowed::Close),
         }
+    }
+
+    fn new_folder(&self, alloc: Global, folder: NodeId) -> Result<NodeRow, AllocError>
+        requires { found self.now ≡ Free folder }
+        ensures { IfOk result (λ row. row ≡ new_node self.entry.now.state.tables self.entry.now.now folder (last_name (spot_of self.entry.now.request.wanted)) Folder []) }
+    {
+        let name = self.last_name()?;
+        let tables = self.state.tables();
+        let content = Content::empty(alloc);
+        Ok(new_node(tables, self.now, folder, name, NodeKind::Folder, content))
+    }
+
+    /// The last name of the path, which leads to a free one.
+    fn last_name(&self) -> Result<Name, AllocError>
+        requires { (folder : ℕ) × (found self.now ≡ Free folder) }
+        ensures { IfOk result (λ name. name ≡ last_name (spot_of self.entry.now.request.wanted)) }
+    {
+        self.spot().path.names().last().unwrap().copy()
     }
 
     fn spot(&self) -> &Spot
         ensures { result.now ≡ spot_of self.entry.now.request.wanted }
     {
         match &self.request.wanted {
-            Wanted::Get(spot) => spot,
+            Wanted::Get(spot) | Wanted::Mkcol(spot) | Wanted::Delete(spot) => spot,
+            Wanted::Put { spot, .. } => spot,
         }
+    }
+
+    fn is_folder(&self, node: NodeId) -> bool
+        ensures { result ≡ is_folder self.entry.now.state.tables.nodes node }
+    {
+        is_folder(self.state.tables().nodes(), node)
+    }
+
+    fn is_root(&self, node: NodeId) -> bool
+        ensures { result ≡ is_root self.entry.now.state.tables.nodes node }
+    {
+        is_root(self.state.tables().nodes(), node)
     }
 
     fn user(&self) -> Option<UserId>
@@ -145,82 +273,8 @@ impl<'a> Call<'a> {
     }
 }
 
-fn holder_of(rows: &[TokenRow], digest: &Digest) -> Option<UserId>
-    ensures { result ≡ holder_of rows.now digest.now }
+fn any_forbidden(names: &[Name]) -> bool
+    ensures { result ≡ list_any is_forbidden names.now }
 {
-    let row = rows
-        .iter()
-        .find(|row| row.digest.as_bytes() == digest.as_bytes())?;
-    Some(row.user)
-}
-
-fn user_row(rows: &[UserRow], user: UserId) -> Option<&UserRow>
-    ensures { option_copied result ≡ user_row rows.now user }
-{
-    rows.iter().find(|row| row.id == user)
-}
-
-fn node_row(rows: &[NodeRow], node: NodeId) -> Option<&NodeRow>
-    ensures { option_copied result ≡ node_row rows.now node }
-{
-    rows.iter().find(|row| row.id == node)
-}
-
-fn child_of(rows: &[NodeRow], folder: NodeId, name: &Name) -> Option<NodeId>
-    ensures { result ≡ child_of rows.now folder name.now }
-{
-    let row = rows.iter().find(|row| is_in(folder, row) && row.name.as_bytes() == name.as_bytes())?;
-    Some(row.id)
-}
-
-fn is_in(folder: NodeId, row: &NodeRow) -> bool
-    ensures { result ≡ is_in folder row.now }
-{
-    match row.place {
-        Place::Inside(parent) => parent == folder,
-        _ => false,
-    }
-}
-
-fn is_folder(rows: &[NodeRow], node: NodeId) -> bool
-    ensures { result ≡ is_folder rows.now node }
-{
-    match node_row(rows, node) {
-        Some(row) => row.kind == NodeKind::Folder,
-        None => false,
-    }
-}
-
-/// Where the names lead from a folder.
-fn find(rows: &[NodeRow], from: NodeId, names: &[Name]) -> Found
-    ensures { result ≡ found_from rows.now 0 from names.now }
-{
-    let mut at = from;
-    for (depth, name) in names.iter().enumerate() {
-        if !is_folder(rows, at) {
-            return Found::Missing(depth);
-        }
-        at = match child_of(rows, at, name) {
-            Some(child) => child,
-            None if depth + 1 == names.len() => return Found::Free(at),
-            None => return Found::Missing(depth),
-        };
-    }
-    Found::At(at)
-}
-
-fn content(alloc: Global, rows: &[NodeRow], node: NodeId) -> Result<Content, AllocError>
-    ensures { IfOk result (λ content. content ≡ content_of rows.now node) }
-{
-    match node_row(rows, node) {
-        Some(row) => copy(alloc, &row.content),
-        None => Ok(Content::empty(alloc)),
-    }
-}
-
-/// An equal content.
-pub(crate) fn copy(alloc: Global, content: &Content) -> Result<Content, AllocError>
-    ensures { IfOk result (λ copy. copy ≡ content.now) }
-{
-    Ok(Content::new(content.pieces().to_vec(alloc)?))
+    names.iter().any(|name| name.forbidden())
 }

@@ -4,6 +4,10 @@
 mod deciding;
 mod demo;
 mod digests;
+mod ending;
+mod limits;
+mod nodes;
+mod people;
 mod plan;
 mod site;
 mod state;

@@ -1,13 +1,15 @@
 //! The state of the site, and the changes that steps make to it.
 
-ghost use Rattle.std.specs.Prelude.{◌≡◌, ◌==◌, not, filter, IfOk, OnOk};
-ghost use Rattle.nf_words.specs.State.{opened};
-ghost use Rattle.nf_words.specs.Step.{decided};
-ghost use Rattle.nf_site.specs.Current.{FitsTicket, Fits};
+ghost use Rattle.std.specs.Prelude.{◌≡◌, ◌≤◌, ◌==◌, not, filter, vec_capacity, length, [], ◌∷◌, ◌++◌, find, IfOk, OnOk, option_copied};
+ghost use Rattle.nf_words.specs.Changes.{applied};
+ghost use Rattle.nf_words.specs.History.{failed};
+ghost use Rattle.nf_words.specs.State.{opened, ticket_of};
+ghost use Rattle.nf_words.specs.Step.{stepped_by};
+ghost use Rattle.nf_site.specs.Current.{FitsNode, FitsTicket, FitsAct, Fits, CountsAct, Counts};
 
 use crate::tables::Tables;
 use nf_base::{Moment, Row};
-use nf_words::{Allowed, Denial, Goal, Ticket};
+use nf_words::{Allowed, Denial, Event, Goal, Ticket};
 use std::alloc::{AllocError, Global};
 use std::marker::Model;
 
@@ -26,8 +28,8 @@ impl Model for State {
     ghost Value = { Current };
 
     ghost view = { λ s. record {
-      state = record { tables = s.tables; tickets = s.tickets.items; seen = s.seen };
-      room = vec_capacity s.tickets;
+      state = record { tables = s.tables.tables; tickets = s.tickets.items; seen = s.seen };
+      room = record { tickets = vec_capacity s.tickets; nodes = s.tables.room };
     } };
 }
 
@@ -45,7 +47,7 @@ impl State {
     }
 
     pub(crate) fn tables(&self) -> &Tables
-        ensures { result.now ≡ self.now.state.tables }
+        ensures { result.now.tables ≡ self.now.state.tables }
     {
         &self.tables
     }
@@ -62,33 +64,96 @@ impl State {
         self.seen
     }
 
-    /// Makes room for one ticket more.
-    pub(crate) fn reserve(&mut self) -> Result<(), AllocError>
-        ensures ok { OnOk result (FitsTicket self.new) }
-        ensures same { self.new.state ≡ self.old.state }
+    /// The ticket of a seat.
+    pub(crate) fn ticket(&self, seat: u64) -> Option<&Ticket>
+        ensures { option_copied result ≡ ticket_of self.now.state seat }
     {
-        self.tickets.reserve(1)
+        ticket_of(&self.tickets, seat)
     }
 
-    /// Makes the change of a seat's step. It takes no memory.
-    pub(crate) fn change(&mut self, seat: u64, moment: Moment, decision: Result<Allowed, Denial>)
-        requires { Fits self.old decision }
-        ensures { self.new.state ≡ record (decided self.old.state seat decision) { seen = moment } }
+    /// Makes room for one ticket and one node more.
+    pub(crate) fn reserve(&mut self) -> Result<(), AllocError>
+        ensures ticket { OnOk result (FitsTicket self.new) }
+        ensures node { OnOk result (FitsNode self.new) }
+        ensures same { self.new.state ≡ self.old.state }
+    {
+        self.tickets.reserve(1)?;
+        self.tables.reserve_node()
+    }
+
+    /// Makes room for one node more.
+    pub(crate) fn reserve_node(&mut self) -> Result<(), AllocError>
+        ensures node { OnOk result (FitsNode self.new) }
+        ensures same { self.new.state ≡ self.old.state }
+    {
+        self.tables.reserve_node()
+    }
+
+    /// Makes the step of a seat's event. It takes no memory.
+    pub(crate) fn change(
+        &mut self,
+        seat: u64,
+        moment: Moment,
+        event: &Event,
+        decision: Result<Allowed, Denial>,
+    )
+        requires fits { Fits self.old decision }
+        requires counts { Counts self.old.state.tables decision }
+        ensures { self.new.state ≡ stepped_by self.old.state seat moment event.now decision }
     {
         self.seen = moment;
+        if let Event::End(_) = event {
+            free(&mut self.tickets, seat);
+        }
         match decision {
-            Ok(Allowed::Get { content }) => self.tickets.push_reserved(Ticket {
-                seat,
-                goal: Goal::Serve(content),
-            }),
-            Ok(Allowed::Close) => free(&mut self.tickets, seat),
+            Ok(allowed) => self.apply(seat, moment, allowed),
             Err(_) => {}
+        }
+    }
+
+    fn apply(&mut self, seat: u64, moment: Moment, allowed: Allowed)
+        requires fits { FitsAct self.old allowed }
+        requires counts { CountsAct self.old.state.tables allowed }
+        ensures { self.new.state ≡ applied self.old.state seat moment allowed }
+    {
+        match allowed {
+            Allowed::Get { content } => self.grant(seat, Goal::Serve(content)),
+            Allowed::Put { key, length } => self.grant(seat, Goal::Store { key, length }),
+            Allowed::Create(row) => self.tables.create(moment, row),
+            Allowed::Replace { node, content } => self.tables.replace(moment, node, content),
+            Allowed::Remove(nodes) => self.tables.remove(moment, &nodes),
+            Allowed::Close => {}
+        }
+    }
+
+    fn grant(&mut self, seat: u64, goal: Goal)
+        requires { FitsTicket self.old }
+        ensures { self.new.state ≡ record self.old.state { tickets = self.old.state.tickets ++ record { seat = seat; goal = goal } ∷ [] } }
+    {
+        self.tickets.push_reserved(Ticket { seat, goal });
+    }
+
+    /// Makes the step of a seat's event whose store failed or that found no memory: no row changes.
+    pub(crate) fn fail(&mut self, seat: u64, moment: Moment, event: &Event)
+        ensures { self.new.state ≡ failed self.old.state seat moment event.now }
+    {
+        self.seen = moment;
+        if let Event::End(_) = event {
+            free(&mut self.tickets, seat);
         }
     }
 }
 
+fn ticket_of(tickets: &[Ticket], seat: u64) -> Option<&Ticket>
+    ensures { option_copied result ≡ find (λ ticket. ticket.seat == seat) tickets.now }
+{
+    tickets.iter().find(|ticket| ticket.seat == seat)
+}
+
 fn free(tickets: &mut Vec<Ticket>, seat: u64)
-    ensures { tickets.new.items ≡ filter (λ ticket. not (ticket.seat == seat)) tickets.old.items }
+    ensures items { tickets.new.items ≡ filter (λ ticket. not (ticket.seat == seat)) tickets.old.items }
+    ensures fewer { length tickets.new.items ≤ length tickets.old.items }
+    ensures capacity { vec_capacity tickets.new ≡ vec_capacity tickets.old }
 {
     tickets.retain(|ticket| ticket.seat != seat)
 }

@@ -1,6 +1,6 @@
 use Rattle.std.proofs.Common.{◌≡◌, drop}
 use Rattle.nf_defs.specs.Tree.{found_from}
-use Rattle.nf_site.proofs.deciding.find.Given as goal
+use Rattle.nf_site.proofs.nodes.find.Given as goal
 
 -- where the names that are left lead
 abbrev pub invariant-loop-depth : goal.invariant-loop-depth

@@ -1,0 +1,12 @@
+-- The tables as the program holds them.
+use Rattle.std.specs.Prelude.{ℕ, ◌+◌, ◌≤◌, length}
+use Rattle.nf_defs.specs.Tables.{Tables}
+
+-- the tables, and how many nodes fit without more memory
+pub record Rows : Type 0 where
+  pub tables : Tables
+  pub room : ℕ
+
+-- one node more fits
+abbrev pub FitsNode : Rows → Type 0
+FitsNode rows = length rows.tables.nodes + 1 ≤ rows.room
