@@ -1,5 +1,5 @@
 -- The tables with a node more are sound.
-use Rattle.std.proofs.Common.{ℕ, suc, zero, ◌+◌, ◌==◌, ◌&&◌, ◌≡◌, ◌<◌, ◌≤◌, Bool, true, false, List, [], ◌∷◌, ◌++◌, Option, None, Some, find, length, get_or, option_map, bytes_eq, refl, sym, ap, subst, ◌∙◌, arith, le_refl, length-append}
+use Rattle.std.proofs.Common.{ℕ, suc, zero, ◌+◌, ◌==◌, ◌&&◌, ◌≡◌, ◌<◌, ◌≤◌, Bool, true, false, List, [], ◌∷◌, ◌++◌, Option, None, Some, find, length, option_map, bytes_eq, refl, sym, ap, subst, ◌∙◌, arith, le_refl, length-append}
 use Rattle.std.specs.List.{All}
 use Rattle.std.specs.Option.{option_and_then, option_map_or, option_or}
 use Rattle.std.proofs.lemmas.Bool.{and_from, both_ways, eq-eqb, eqb-true, ne_eqb}
@@ -9,17 +9,15 @@ use Rattle.std.proofs.lemmas.List.Quantifiers.{all_pairs_push}
 use Rattle.std.proofs.lemmas.List.Sums.{sum_by_push}
 use Rattle.std.proofs.lemmas.Option.{none-some, same_Some}
 use Rattle.std.proofs.lemmas.Slice.Eq.{bytes_eq-Decides}
-use Rattle.nf_base.specs.declared.content.Piece.{Piece}
-use Rattle.nf_base.specs.declared.rows.NodeKind.{NodeKind}
 use Rattle.nf_base.specs.declared.rows.NodeRow.{NodeRow}
 use Rattle.nf_base.specs.declared.rows.Place.{Place}
 use Rattle.nf_base.specs.declared.rows.Place.TheVariants.{Inside}
 use Rattle.nf_defs.specs.Tables.{Tables}
-use Rattle.nf_defs.specs.Tree.{child_of, climb, depth, depth_within, folder_of, is_folder, is_in, is_place_in, node_row, owner_of, parent_of, piece_count}
+use Rattle.nf_defs.specs.Tree.{child_of, climb, depth, depth_within, folder_of, is_folder, is_in, is_place_in, node_row, owner_of, parent_of}
 use Rattle.nf_words.proofs.Known.{KnownNew}
-use Rattle.nf_words.specs.Changes.{created, new_node}
+use Rattle.nf_words.specs.Changes.{created}
 use Rattle.nf_words.specs.Sound.{AreApart, AreSound, HasRoot, IsNodeSound, IsPlaceSound, root_of_user}
-use Rattle.nf_laws.proofs.Rows.{AreKept, body_sound, folder_kept, folder_there, climb_kept, found_has, node_kept, none_above, root_kept, with_rows}
+use Rattle.nf_laws.proofs.Rows.{AreKept, body_sound, folder_kept, folder_there, climb_kept, found_has, node_kept, none_above, root_kept}
 
 -- ---- look-ups that find nothing
 

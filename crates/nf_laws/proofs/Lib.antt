@@ -1,2 +1,3 @@
 pub mod Added
+pub mod Replaced
 pub mod Rows
