@@ -1,51 +1,27 @@
--- The request of a message: a GET of one file in a user's root (RFC 9110, section 9.3.1; RFC 6750, section 2.1).
-use Rattle.std.specs.Prelude.{◌≡◌, ⊤, ℕ, Bool, true, false, ◌||◌, ◌&&◌, ◌==◌, nat_le, not, is_none, if◌then◌else◌, List, [], ◌∷◌, length, take, drop, codes, bytes_eq, Option, None, Some, Result, Ok, Err, option_map, option_and_then, position, ◌+◌}
-use Rattle.std.specs.List.{list_any}
+-- The request of a message: GET and DELETE (RFC 9110, sections 9.3.1 and 9.3.5), PUT (9.3.4) and MKCOL (RFC 4918, section 9.3) in a
+-- user's files, by the holder of a token (RFC 6750, section 2.1).
+use Rattle.std.specs.Prelude.{◌≡◌, ⊤, ℕ, ◌+◌, ◌-◌, Bool, true, false, ◌||◌, ◌&&◌, ◌==◌, nat_le, not, if◌then◌else◌, List, [], ◌∷◌, length, take, drop, codes, bytes_eq, Option, None, Some, Result, Ok, Err, option_map, option_and_then, position}
+use Rattle.std.specs.List.{list_any, slice_split}
+use Rattle.std.specs.Option.{option_map_or, option_or}
 use Rattle.sha2.specs.Sha256.{sha256}
-use Rattle.nf_base.specs.Naming.{name_fault, is_forbidden, same_ignoring_case}
+use Rattle.nf_base.specs.Naming.{name_fault, path_fault, same_ignoring_case}
+use Rattle.nf_base.specs.declared.name.NameFault.{NameFault}
 use Rattle.nf_http.specs.Fields.{first_value, has_field}
-use Rattle.nf_http.specs.Head.{Head}
+use Rattle.nf_http.specs.Head.{Head, length_of}
+use Rattle.nf_words.specs.declared.answer.Denial.{Denial}
+use Rattle.nf_words.specs.declared.answer.Denial.TheVariants as denial
 use Rattle.nf_words.specs.declared.request.Caller.{Caller}
 use Rattle.nf_words.specs.declared.request.Caller.TheVariants.{Absent, Token}
 use Rattle.nf_words.specs.declared.request.Request.{Request}
 use Rattle.nf_words.specs.declared.request.Spot.{Spot}
-use Rattle.nf_words.specs.declared.request.Wanted.TheVariants.{Get}
+use Rattle.nf_words.specs.declared.request.Wanted.{Wanted}
+use Rattle.nf_words.specs.declared.request.Wanted.TheVariants as wanted
+use Rattle.filesd.specs.declared.requests.Method.{Method}
+use Rattle.filesd.specs.declared.requests.Method.TheVariants as method
 use Rattle.filesd.specs.declared.requests.Unasked.{Unasked}
-use Rattle.filesd.specs.declared.requests.Unasked.TheVariants.{NotBuilt, Memory}
+use Rattle.filesd.specs.declared.requests.Unasked.TheVariants.{Refused, Memory}
 
--- a byte that begins an escape or a query
-abbrev pub is_special : ℕ → Bool
-is_special b = b == 37 || b == 63
-
--- a name that stands in a target as it is
-abbrev pub is_plain : List ℕ → Bool
-is_plain name = is_none (name_fault name) && not (list_any is_special name)
-
-abbrev pub is_slash : ℕ → Bool
-is_slash b = b == 47
-
--- the parts before and behind the first slash
-abbrev pub cut_at : List ℕ → Option ℕ → Option (List ℕ × List ℕ)
-cut_at bytes None = None
-cut_at bytes (Some at) = Some (take at bytes, drop (at + 1) bytes)
-
--- where the files of users are
-abbrev pub files : List ℕ
-files = codes "/remote.php/dav/files/"
-
--- the user and the name in a target there
-abbrev pub files_target : List ℕ → Option (List ℕ × List ℕ)
-files_target target =
-    if bytes_eq (take 22 target) files then cut_at (drop 22 target) (position is_slash (drop 22 target)) else None
-
-abbrev pub spot_of_parts : List ℕ × List ℕ → Option Spot
-spot_of_parts parts =
-    if is_plain parts.0 && is_plain parts.1 && not (is_forbidden parts.1)
-    then Some (record { user = Some parts.0; path = parts.1 ∷ [] }) else None
-
--- the file that a target names
-abbrev pub spot_at : List ℕ → Option Spot
-spot_at target = option_and_then spot_of_parts (files_target target)
+-- ---- the caller
 
 -- the caller of an Authorization: "Bearer" in any case, one space, and 1 to 128 bytes
 abbrev pub caller_of_value : Option (List ℕ) → Caller
@@ -57,31 +33,118 @@ caller_of_value (Some value) =
 abbrev pub caller_of : Head → Caller
 caller_of head = caller_of_value (first_value (codes "Authorization") head.fields)
 
--- the method and the fields are those of a request that is built
+-- ---- the method
+
+abbrev pub method_of : List ℕ → Option Method
+method_of bytes =
+    if bytes_eq bytes (codes "GET") then Some method.Get
+    else if bytes_eq bytes (codes "PUT") then Some method.Put
+    else if bytes_eq bytes (codes "MKCOL") then Some method.Mkcol
+    else if bytes_eq bytes (codes "DELETE") then Some method.Delete
+    else None
+
+-- what a method wants at a place, with a body of n bytes
+abbrev pub wanted_of : Method → ℕ → Spot → Wanted
+wanted_of method.Get n spot = wanted.Get spot
+wanted_of method.Put n spot = wanted.Put spot n
+wanted_of method.Mkcol n spot = wanted.Mkcol spot
+wanted_of method.Delete n spot = wanted.Delete spot
+
+-- ---- the target
+
+-- a byte that begins an escape or a query
+abbrev pub is_special : ℕ → Bool
+is_special b = b == 37 || b == 63
+
+abbrev pub is_slash : ℕ → Bool
+is_slash b = b == 47
+
+-- what is behind a front
+abbrev pub behind : List ℕ → List ℕ → Option (List ℕ)
+behind front bytes = if bytes_eq (take (length front) bytes) front then Some (drop (length front) bytes) else None
+
+-- from the first slash on, which ends a host
+abbrev pub from_slash : List ℕ → Option (List ℕ)
+from_slash bytes = option_map (λ at. drop at bytes) (position is_slash bytes)
+
+-- the path of a target, which may begin with a scheme and a host (RFC 9112, section 3.2.2)
+abbrev pub path_in : List ℕ → Option (List ℕ)
+path_in target =
+    option_map_or from_slash (option_or (behind (codes "http://") target) (behind (codes "https://") target)) (Some target)
+
+-- without one slash at its end
+abbrev pub without_slash : List ℕ → List ℕ
+without_slash path = if bytes_eq (drop (length path - 1) path) (codes "/") then take (length path - 1) path else path
+
+-- the segments behind the fixed words of the files route: the user, and the names of the path
+abbrev pub files_segments : List ℕ → Option (List (List ℕ))
+files_segments target =
+    option_map (slice_split is_slash)
+    (option_and_then (λ path. behind (codes "/remote.php/dav/files/") (without_slash path)) (path_in target))
+
+-- ---- the request
+
+-- the first bad name of the segments: the user's, or else the path's
+abbrev pub segments_fault : List (List ℕ) → Option NameFault
+segments_fault [] = None
+segments_fault (user ∷ names) = option_or (name_fault user) (path_fault names)
+
+abbrev pub spot_at : List (List ℕ) → Spot
+spot_at [] = record { user = None; path = [] }
+spot_at (user ∷ names) = record { user = Some user; path = names }
+
+-- `body`: MKCOL takes none
+abbrev pub body_refusal : Method → ℕ → Option Denial
+body_refusal method.Mkcol n = if n == 0 then None else Some denial.Body
+body_refusal method.Get n = None
+body_refusal method.Put n = None
+body_refusal method.Delete n = None
+
+-- `body`, then `bad-name`
+abbrev pub asked_refusal : Head → Method → List (List ℕ) → Option Denial
+asked_refusal head m segments = option_or (body_refusal m (length_of head)) (option_map denial.BadName (segments_fault segments))
+
+abbrev pub request_at : Head → Method → List (List ℕ) → Request
+request_at head m segments = record { caller = caller_of head; wanted = wanted_of m (length_of head) (spot_at segments) }
+
+abbrev pub unless_refused : Option Denial → Request → Result Request Denial
+unless_refused None request = Ok request
+unless_refused (Some refusal) request = Err refusal
+
+-- the request of a method and segments; without them it isn't built
+abbrev pub asked : Head → Option Method → Option (List (List ℕ)) → Result Request Denial
+asked head None segments = Err denial.NotBuilt
+asked head (Some m) None = Err denial.NotBuilt
+asked head (Some m) (Some segments) = unless_refused (asked_refusal head m segments) (request_at head m segments)
+
+-- the method and the target are those of a request that is built, as far as their bytes tell
 abbrev pub is_built : Head → Bool
-is_built head = bytes_eq head.method (codes "GET") && not (has_field (codes "Expect") head.fields)
+is_built head = not (has_field (codes "Expect") head.fields) && not (list_any is_special head.target)
 
-abbrev pub get_of : Head → Spot → Request
-get_of head spot = record { caller = caller_of head; wanted = Get spot }
+-- the request of a head, or its first refusal: `not-built`, `body`, `bad-name`
+unfoldable pub request_of : Head → Result Request Denial
+request_of head =
+    if is_built head then asked head (method_of head.method) (files_segments head.target) else Err denial.NotBuilt
 
--- the request of a head, and none where what it asks for isn't built
-unfoldable pub request_of : Head → Option Request
-request_of head = if is_built head then option_map (get_of head) (spot_at head.target) else None
-
--- what reading a request gives: it, or that none is built; want of memory is free
+-- what reading a request gives: it, or its refusal; want of memory is free
 abbrev pub GivesRequest : Head → Result Request Unasked → Type 0
-GivesRequest head (Ok request) = request_of head ≡ Some request
-GivesRequest head (Err NotBuilt) = request_of head ≡ None
+GivesRequest head (Ok request) = request_of head ≡ Ok request
+GivesRequest head (Err (Refused denial)) = request_of head ≡ Err denial
 GivesRequest head (Err Memory) = ⊤
 
--- the same of a target
-abbrev pub GivesSpot : List ℕ → Result Spot Unasked → Type 0
-GivesSpot target (Ok spot) = spot_at target ≡ Some spot
-GivesSpot target (Err NotBuilt) = spot_at target ≡ None
-GivesSpot target (Err Memory) = ⊤
+-- the same of the segments of a target
+abbrev pub GivesSpot : List (List ℕ) → Result Spot Unasked → Type 0
+GivesSpot segments (Ok spot) = (segments_fault segments ≡ None) × (spot ≡ spot_at segments)
+GivesSpot segments (Err (Refused refusal)) = option_map denial.BadName (segments_fault segments) ≡ Some refusal
+GivesSpot segments (Err Memory) = ⊤
 
--- the same of a name in it
+-- the same of a name and of a path in it
 abbrev pub GivesName : List ℕ → Result (List ℕ) Unasked → Type 0
-GivesName bytes (Ok name) = (name ≡ bytes) × (is_plain bytes ≡ true)
-GivesName bytes (Err NotBuilt) = is_plain bytes ≡ false
+GivesName bytes (Ok name) = (name ≡ bytes) × (name_fault bytes ≡ None)
+GivesName bytes (Err (Refused refusal)) = option_map denial.BadName (name_fault bytes) ≡ Some refusal
 GivesName bytes (Err Memory) = ⊤
+
+abbrev pub GivesPath : List (List ℕ) → Result (List (List ℕ)) Unasked → Type 0
+GivesPath segments (Ok path) = (path ≡ segments) × (path_fault segments ≡ None)
+GivesPath segments (Err (Refused refusal)) = option_map denial.BadName (path_fault segments) ≡ Some refusal
+GivesPath segments (Err Memory) = ⊤

@@ -3,11 +3,13 @@
 ghost use Rattle.std.specs.Prelude.{◌≡◌, ◌++◌, IfOk, length};
 ghost use Rattle.std.specs.String.{string_bytes};
 ghost use Rattle.serde_json.specs.View.{view};
-ghost use Rattle.filesd.specs.Reply.{status_of, reason_of, challenge_of, close_line as closing, head_bytes, refusal_body, refusal_object, refusal_reply, file_reply, reply_bytes};
+ghost use Rattle.nf_words.specs.Limits.{count_of};
+ghost use Rattle.filesd.specs.Reply.{status_of, reason_of, fault_word, cause_word, limit_word, own_line as own, close_line as closing, ends_session as ends, head_bytes, refusal_body, refusal_object, refusal_reply, made_reply, done_reply, file_reply, reply_bytes};
 
 use crate::store::Store;
 use crate::verdict::Verdict;
-use nf_words::Denial;
+use nf_base::NameFault;
+use nf_words::{Denial, Limit, TargetFault};
 use serde_json::{Value, json};
 use std::alloc::{AllocError, Global};
 
@@ -18,17 +20,27 @@ pub fn reply(
     verdict: &Verdict,
     close: bool,
 ) -> Result<Vec<u8>, AllocError>
-    ensures { IfOk result (λ reply. reply.items ≡ reply_bytes store.now close verdict.now) }
+    ensures { IfOk result (λ reply. reply.items ≡ reply_bytes store.now.blobs close verdict.now) }
 {
     match verdict {
-        Verdict::NotBuilt => refusal(alloc, Denial::NotBuilt, true),
+        Verdict::Unasked(denial) => refusal(alloc, *denial, close || ends_session(*denial)),
         Verdict::RunFull => refusal(alloc, Denial::RunFull, true),
-        Verdict::Denied(denial) => refusal(alloc, *denial, close),
-        Verdict::Granted(content) => {
+        Verdict::Denied(denial) => refusal(alloc, *denial, close || ends_session(*denial)),
+        Verdict::Made => made(alloc, close),
+        Verdict::Done => done(alloc, close),
+        Verdict::Serve(content) => {
             let body = store.body(alloc, content.pieces())?;
             file(alloc, &body, close)
         }
+        Verdict::Store { .. } => Ok(Vec::new(alloc)),
     }
+}
+
+/// Whether the denial ends the session by itself.
+pub fn ends_session(denial: Denial) -> bool
+    ensures { result ≡ ends denial }
+{
+    denial == Denial::NotBuilt
 }
 
 /// The answer of a denial.
@@ -40,11 +52,30 @@ pub fn refusal(alloc: Global, denial: Denial, close: bool) -> Result<Vec<u8>, Al
         alloc,
         status(denial),
         close,
-        challenge(denial),
+        own_line(denial),
         "application/json",
         body.len(),
     )?;
     joined(&head, body.as_bytes())
+}
+
+// The answer to what was made.
+fn made(alloc: Global, close: bool) -> Result<Vec<u8>, AllocError>
+    ensures { IfOk result (λ reply. reply.items ≡ made_reply close) }
+{
+    let close = close_line(close);
+    let head =
+        format!(in alloc; "HTTP/1.1 201 Created\r\n{close}Content-Length: 0\r\n\r\n")?;
+    Ok(head.into_bytes())
+}
+
+// The answer to what was done.
+fn done(alloc: Global, close: bool) -> Result<Vec<u8>, AllocError>
+    ensures { IfOk result (λ reply. reply.items ≡ done_reply close) }
+{
+    let close = close_line(close);
+    let head = format!(in alloc; "HTTP/1.1 204 No Content\r\n{close}\r\n")?;
+    Ok(head.into_bytes())
 }
 
 // The answer with a file's bytes.
@@ -66,15 +97,15 @@ fn head(
     alloc: Global,
     status: &str,
     close: bool,
-    challenge: &str,
+    own_line: &str,
     kind: &str,
     length: usize,
 ) -> Result<String, AllocError>
-    ensures { IfOk result (λ text. string_bytes text ≡ head_bytes status.now close challenge.now kind.now length) }
+    ensures { IfOk result (λ text. string_bytes text ≡ head_bytes status.now close own_line.now kind.now length) }
 {
     let close = close_line(close);
     format!(in alloc;
-        "HTTP/1.1 {status}\r\n{close}{challenge}Content-Type: {kind}\r\nContent-Length: {length}\r\n\r\n"
+        "HTTP/1.1 {status}\r\n{close}{own_line}Content-Type: {kind}\r\nContent-Length: {length}\r\n\r\n"
     )
 }
 
@@ -96,7 +127,22 @@ fn refusal_value(alloc: Global, denial: Denial) -> Result<Value, AllocError>
     ensures { IfOk result (λ value. view value ≡ refusal_object denial) }
 {
     let reason = reason(denial);
-    json!(in alloc; {"reason": reason})
+    match denial {
+        Denial::BadName(fault) => {
+            let fault = fault_word(fault);
+            json!(in alloc; {"fault": fault, "reason": reason})
+        }
+        Denial::BadTarget(cause) => {
+            let cause = cause_word(cause);
+            json!(in alloc; {"cause": cause, "reason": reason})
+        }
+        Denial::Limit(limit) => {
+            let count = count(limit);
+            let which = limit_word(limit);
+            json!(in alloc; {"count": count, "reason": reason, "which": which})
+        }
+        _ => json!(in alloc; {"reason": reason}),
+    }
 }
 
 fn close_line(close: bool) -> &'static str
@@ -105,10 +151,11 @@ fn close_line(close: bool) -> &'static str
     if close { "Connection: close\r\n" } else { "" }
 }
 
-fn challenge(denial: Denial) -> &'static str
-    ensures { result.now ≡ challenge_of denial }
+fn own_line(denial: Denial) -> &'static str
+    ensures { result.now ≡ own denial }
 {
     match denial {
+        Denial::Exists => "Allow: GET, PUT, MKCOL, DELETE, MOVE, COPY\r\n",
         Denial::Token => "WWW-Authenticate: Bearer\r\n",
         _ => "",
     }
@@ -118,15 +165,19 @@ fn status(denial: Denial) -> &'static str
     ensures { result.now ≡ status_of denial }
 {
     match denial {
-        Denial::BadMessage => "400 Bad Request",
+        Denial::BadMessage | Denial::BadName(_) => "400 Bad Request",
         Denial::Token => "401 Unauthorized",
-        Denial::NotYou => "403 Forbidden",
+        Denial::NotYou | Denial::ForbiddenName | Denial::BadTarget(_) => "403 Forbidden",
         Denial::NotFound => "404 Not Found",
+        Denial::Exists => "405 Method Not Allowed",
+        Denial::NoParent => "409 Conflict",
         Denial::TooLarge => "413 Payload Too Large",
+        Denial::Body => "415 Unsupported Media Type",
         Denial::Head => "431 Request Header Fields Too Large",
         Denial::Store | Denial::RunFull => "500 Internal Server Error",
         Denial::Coding | Denial::NotBuilt => "501 Not Implemented",
         Denial::Memory => "503 Service Unavailable",
+        Denial::Limit(_) => "507 Insufficient Storage",
     }
 }
 
@@ -135,15 +186,65 @@ fn reason(denial: Denial) -> &'static str
 {
     match denial {
         Denial::BadMessage => "bad-message",
+        Denial::BadName(_) => "bad-name",
         Denial::Token => "token",
         Denial::NotYou => "not-you",
+        Denial::ForbiddenName => "forbidden-name",
+        Denial::BadTarget(_) => "bad-target",
         Denial::NotFound => "not-found",
+        Denial::Exists => "exists",
+        Denial::NoParent => "no-parent",
         Denial::TooLarge => "too-large",
+        Denial::Body => "body",
         Denial::Head => "head",
         Denial::Store => "store",
         Denial::RunFull => "run-full",
         Denial::Coding => "coding",
         Denial::NotBuilt => "not-built",
         Denial::Memory => "memory",
+        Denial::Limit(_) => "limit",
+    }
+}
+
+fn fault_word(fault: NameFault) -> &'static str
+    ensures { result.now ≡ fault_word fault }
+{
+    match fault {
+        NameFault::Empty => "empty",
+        NameFault::Long => "long",
+        NameFault::NotUtf8 => "not-utf8",
+        NameFault::Slash => "slash",
+        NameFault::Zero => "zero",
+        NameFault::Dots => "dots",
+        NameFault::Deep => "deep",
+        NameFault::Memory => "memory",
+    }
+}
+
+fn cause_word(cause: TargetFault) -> &'static str
+    ensures { result.now ≡ cause_word cause }
+{
+    match cause {
+        TargetFault::Root => "root",
+    }
+}
+
+fn limit_word(limit: Limit) -> &'static str
+    ensures { result.now ≡ limit_word limit }
+{
+    match limit {
+        Limit::Nodes => "nodes",
+        Limit::Depth => "depth",
+        Limit::Pieces => "pieces",
+    }
+}
+
+fn count(limit: Limit) -> u64
+    ensures { result ≡ count_of limit }
+{
+    match limit {
+        Limit::Nodes => 262_144,
+        Limit::Depth => 64,
+        Limit::Pieces => 1_048_576,
     }
 }

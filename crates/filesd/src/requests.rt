@@ -1,21 +1,23 @@
 //! The request of a message.
 
-ghost use Rattle.std.specs.Prelude.{◌≡◌, ◌<◌, ℕ, List, Option, None, Some, Result, Ok, Err, IfOk, IfSome, [], ◌∷◌, codes, length, option_copied, option_map, position, bytes_eq};
-ghost use Rattle.std.specs.List.{list_any};
+ghost use Rattle.std.specs.Prelude.{◌≡◌, ◌<◌, ℕ, List, Option, None, Some, Result, Ok, Err, IfOk, IfSome, [], ◌∷◌, ◌++◌, codes, length, map, option_copied, option_map, position, if◌then◌else◌};
+ghost use Rattle.std.specs.List.{list_any, slice_split};
 ghost use Rattle.nf_base.specs.Naming.{same_ignoring_case};
-ghost use Rattle.filesd.specs.Asked.{GivesRequest, GivesSpot, GivesName, request_of, spot_at, files_target as target_parts, is_built as built, is_slash, is_special, caller_of_value};
+ghost use Rattle.nf_words.specs.History.{MayWant};
+ghost use Rattle.nf_words.specs.declared.answer.Denial.TheVariants.{Body};
+ghost use Rattle.filesd.specs.Asked.{GivesRequest, GivesSpot, GivesName, GivesPath, request_of, method_of, wanted_of, body_refusal, files_segments, path_in, from_slash, without_slash, is_built as built, is_slash, is_special, caller_of_value};
 
 use nf_base::{Name, NameFault, Path};
 use nf_http::Message;
 use nf_site::digest_of;
-use nf_words::{Caller, Request, Spot, Wanted};
+use nf_words::{Caller, Denial, Request, Spot, Wanted};
 use std::alloc::{AllocError, Global};
 
 /// Why a message has no request.
 #[derive(Clone, Copy, Debug, PartialEq, Eq)]
 pub enum Unasked {
-    /// What it asks for isn't built yet.
-    NotBuilt,
+    /// It is refused before the site is asked.
+    Refused(Denial),
     /// There is no memory.
     Memory,
 }
@@ -30,82 +32,112 @@ impl From<AllocError> for Unasked {
     }
 }
 
+/// The methods of the files route that are built.
+#[derive(Clone, Copy, Debug, PartialEq, Eq)]
+pub enum Method {
+    Get,
+    Put,
+    Mkcol,
+    Delete,
+}
+
 const FILES: &[u8] = b"/remote.php/dav/files/";
 
 /// The request of a message.
 #[tactic(auto, unfolding(crate::specs::Asked::request_of))]
 pub fn request(alloc: Global, message: &Message) -> Result<Request, Unasked>
-    ensures { GivesRequest message.now result }
+    ensures gives { GivesRequest message.now result }
+    ensures may_want { IfOk result (λ request. MayWant request.wanted) }
 {
     if !is_built(message) {
-        return Err(Unasked::NotBuilt);
+        return Err(Unasked::Refused(Denial::NotBuilt));
     }
-    let spot = spot(alloc, message.target())?;
+    let Some(method) = method(message.method()) else {
+        return Err(Unasked::Refused(Denial::NotBuilt));
+    };
+    let Some(rest) = behind_files(message.target()) else {
+        return Err(Unasked::Refused(Denial::NotBuilt));
+    };
+    if takes_no_body(method, message.length()) {
+        return Err(Unasked::Refused(Denial::Body));
+    }
+    let spot = spot(alloc, rest)?;
     let caller = caller(message.field(b"Authorization"));
     Ok(Request {
         caller,
-        wanted: Wanted::Get(spot),
+        wanted: wanted(method, message.length(), spot),
     })
 }
 
 fn is_built(message: &Message) -> bool
     ensures { result ≡ built message.now }
 {
-    is_get(message.method()) && message.field(b"Expect").is_none()
+    message.field(b"Expect").is_none() && !has_special(message.target())
 }
 
-fn is_get(method: &[u8]) -> bool
-    ensures { result ≡ bytes_eq method.now (codes "GET") }
+fn method(bytes: &[u8]) -> Option<Method>
+    ensures { result ≡ method_of bytes.now }
 {
-    method == b"GET".as_slice()
+    if bytes == b"GET".as_slice() {
+        Some(Method::Get)
+    } else if bytes == b"PUT".as_slice() {
+        Some(Method::Put)
+    } else if bytes == b"MKCOL".as_slice() {
+        Some(Method::Mkcol)
+    } else if bytes == b"DELETE".as_slice() {
+        Some(Method::Delete)
+    } else {
+        None
+    }
 }
 
-// The file that a target names.
-fn spot(alloc: Global, target: &[u8]) -> Result<Spot, Unasked>
-    ensures { GivesSpot target.now result }
+// Whether the method is refused for its body.
+fn takes_no_body(method: Method, length: usize) -> bool
+    ensures { body_refusal method length ≡ (if result then Some Body else None) }
 {
-    let Some((user, name)) = files_target(target) else {
-        return Err(Unasked::NotBuilt);
+    method == Method::Mkcol && length > 0
+}
+
+fn wanted(method: Method, length: usize, spot: Spot) -> Wanted
+    ensures { result ≡ wanted_of method length spot }
+{
+    match method {
+        Method::Get => Wanted::Get(spot),
+        Method::Put => Wanted::Put {
+            spot,
+            length: length as u64,
+        },
+        Method::Mkcol => Wanted::Mkcol(spot),
+        Method::Delete => Wanted::Delete(spot),
+    }
+}
+
+// What is behind the fixed words of the files route.
+fn behind_files(target: &[u8]) -> Option<&[u8]>
+    ensures { option_map (slice_split is_slash) (option_copied result) ≡ files_segments target.now }
+{
+    without_slash(path_in(target)?).strip_prefix(FILES)
+}
+
+// The path of a target, which may begin with a scheme and a host.
+fn path_in(target: &[u8]) -> Option<&[u8]>
+    ensures { option_copied result ≡ path_in target.now }
+{
+    let after_scheme = match target.strip_prefix(b"http://".as_slice()) {
+        Some(rest) => Some(rest),
+        None => target.strip_prefix(b"https://".as_slice()),
     };
-    let user = plain_name(alloc, user)?;
-    let name = plain_name(alloc, name)?;
-    if name.forbidden() {
-        return Err(Unasked::NotBuilt);
-    }
-    Ok(Spot {
-        user: Some(user),
-        path: path_of(alloc, name)?,
-    })
-}
-
-fn path_of(alloc: Global, name: Name) -> Result<Path, AllocError>
-    ensures { IfOk result (λ path. path ≡ name ∷ []) }
-{
-    let mut names = Vec::new(alloc);
-    names.push(name)?;
-    Ok(Path::new(names))
-}
-
-fn plain_name(alloc: Global, bytes: &[u8]) -> Result<Name, Unasked>
-    ensures { GivesName bytes.now result }
-{
-    if has_special(bytes) {
-        return Err(Unasked::NotBuilt);
-    }
-    match Name::read(alloc, bytes) {
-        Ok(name) => Ok(name),
-        Err(NameFault::Memory) => Err(Unasked::Memory),
-        Err(_) => Err(Unasked::NotBuilt),
+    match after_scheme {
+        Some(rest) => from_slash(rest),
+        None => Some(target),
     }
 }
 
-// The user and the name in a target of the files route.
-fn files_target(target: &[u8]) -> Option<(&[u8], &[u8])>
-    ensures { option_map (λ parts. (parts.0.now, parts.1.now)) result ≡ target_parts target.now }
+fn from_slash(bytes: &[u8]) -> Option<&[u8]>
+    ensures { option_copied result ≡ from_slash bytes.now }
 {
-    let rest = target.strip_prefix(FILES)?;
-    let at = first_slash(rest)?;
-    Some((&rest[..at], &rest[at + 1..]))
+    let at = first_slash(bytes)?;
+    Some(&bytes[at..])
 }
 
 fn first_slash(bytes: &[u8]) -> Option<usize>
@@ -113,6 +145,61 @@ fn first_slash(bytes: &[u8]) -> Option<usize>
     ensures within { IfSome result (λ at. at < length bytes.now) }
 {
     bytes.iter().position(|byte| *byte == b'/')
+}
+
+fn without_slash(path: &[u8]) -> &[u8]
+    ensures { result.now ≡ without_slash path.now }
+{
+    match path.strip_suffix(b"/".as_slice()) {
+        Some(front) => front,
+        None => path,
+    }
+}
+
+// The spot of a user and a path, with slashes between their names.
+fn spot(alloc: Global, rest: &[u8]) -> Result<Spot, Unasked>
+    ensures { GivesSpot (slice_split is_slash rest.now) result }
+{
+    let segments = segments(alloc, rest)?;
+    let [user, names @ ..] = segments.as_slice() else {
+        unreachable!()
+    };
+    let user = name(alloc, user)?;
+    let path = path(alloc, names)?;
+    Ok(Spot {
+        user: Some(user),
+        path,
+    })
+}
+
+fn segments(alloc: Global, rest: &[u8]) -> Result<Vec<Vec<u8>>, AllocError>
+    ensures { IfOk result (λ segments. map (λ segment. segment.items) segments.items ≡ slice_split is_slash rest.now) }
+{
+    let mut segments = Vec::new(alloc);
+    for segment in rest.split(|byte| *byte == b'/') {
+        segments.push(segment.to_vec(alloc)?)?;
+    }
+    Ok(segments)
+}
+
+fn name(alloc: Global, bytes: &[u8]) -> Result<Name, Unasked>
+    ensures { GivesName bytes.now result }
+{
+    match Name::read(alloc, bytes) {
+        Ok(name) => Ok(name),
+        Err(NameFault::Memory) => Err(Unasked::Memory),
+        Err(fault) => Err(Unasked::Refused(Denial::BadName(fault))),
+    }
+}
+
+fn path(alloc: Global, names: &[Vec<u8>]) -> Result<Path, Unasked>
+    ensures { GivesPath (map (λ segment. segment.items) names.now) result }
+{
+    match Path::read(alloc, names) {
+        Ok(path) => Ok(path),
+        Err(NameFault::Memory) => Err(Unasked::Memory),
+        Err(fault) => Err(Unasked::Refused(Denial::BadName(fault))),
+    }
 }
 
 fn has_special(bytes: &[u8]) -> bool

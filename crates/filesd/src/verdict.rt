@@ -6,12 +6,18 @@ use nf_words::Denial;
 /// What becomes of a message that was read without a fault.
 #[derive(Debug, Drop)]
 pub enum Verdict {
-    /// What it asks for isn't built yet.
-    NotBuilt,
+    /// It is refused before the site is asked.
+    Unasked(Denial),
     /// The run has no room for its two entries.
     RunFull,
     /// The site refuses it.
     Denied(Denial),
-    /// The site grants it, and its content is to be sent.
-    Granted(Content),
+    /// The site has made what was asked for.
+    Made,
+    /// The site has done it.
+    Done,
+    /// The site grants it, and this content is to be sent.
+    Serve(Content),
+    /// The site grants it, and a body of that many bytes is to be stored.
+    Store { length: u64 },
 }
