@@ -1,2 +1,5 @@
+pub mod Added
 pub mod Climbs
 pub mod Gone
+pub mod Replaced
+pub mod Stays
