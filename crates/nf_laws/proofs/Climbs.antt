@@ -1,26 +1,13 @@
 -- Rows by their numbers, and the folders that a climb passes.
-use Rattle.std.proofs.Common.{ℕ, suc, zero, ◌==◌, ◌≡◌, ◌<◌, ◌≤◌, Bool, true, false, ◌&&◌, List, [], ◌∷◌, Option, None, Some, find, filter, map, get_or, refl, sym, ap, subst, ◌∙◌, ⊎_elim, arith}
+use Rattle.std.proofs.Common.{ℕ, suc, zero, ◌==◌, ◌≡◌, ◌<◌, ◌≤◌, Bool, true, false, ◌&&◌, List, [], ◌∷◌, Option, None, Some, filter, map, get_or, refl, sym, ap, ◌∙◌, ⊎_elim, arith}
 use Rattle.std.specs.Prelude.{is_some}
 use Rattle.std.specs.List.{All, AllPairs}
 use Rattle.std.specs.Option.{option_and_then, option_map_or}
 use Rattle.std.proofs.lemmas.Bool.{false≢true, eqb-true, eq-eqb, ne_eqb, and_right, or_cases, or_left, or_right}
-use Rattle.std.proofs.lemmas.List.Elements.{All-head, All-tail}
 use Rattle.std.proofs.lemmas.Option.{none-some, same_Some}
 use Rattle.nf_base.specs.declared.rows.NodeRow.{NodeRow}
 use Rattle.nf_defs.specs.Tree.{node_row, folder_of, parent_of, climb, is_under, is_under_within}
 use Rattle.nf_words.specs.Changes.{is_among}
-
--- what is found passes the test, and has what each element has
-pub found_has : {X : Type 0} (P : X → Type 0) (test : X → Bool) (xs : List X) (found : X) → All P xs → find test xs ≡ Some found → (test found ≡ true) × P found
-found_has P test [] found all is = absurd (none-some found is)
-found_has {X = X} P test (x ∷ xs) found all is = here (test x) refl is (λ is. found_has P test xs found (All-tail P x xs all) is)
-  where
-    here : (a : Bool) → test x ≡ a → find test (x ∷ xs) ≡ Some found
-        → (find test xs ≡ Some found → (test found ≡ true) × P found) → (test found ≡ true) × P found
-    here true e is rest =
-        let same : x ≡ found = same_Some x found (simp e at is) in
-        subst (λ (y : X). (test y ≡ true) × P y) same (e, All-head P x xs all)
-    here false e is rest = rest (simp e at is)
 
 -- where the numbers rise, each row is found by its own
 pub node_row_each : (rows : List NodeRow) → AllPairs (λ (a b : NodeRow). a.id < b.id) rows → All (λ (row : NodeRow). node_row rows row.id ≡ Some row) rows

@@ -11,29 +11,13 @@ use Rattle.nf_base.specs.declared.rows.NodeRow.{NodeRow}
 use Rattle.nf_base.specs.declared.rows.Place.{Place}
 use Rattle.nf_base.specs.declared.rows.Place.TheVariants.{Root, Inside, Trash}
 use Rattle.nf_base.specs.declared.rows.UserRow.{UserRow}
-use Rattle.nf_defs.specs.People.{user_row}
 use Rattle.nf_defs.specs.Tables.{Tables}
 use Rattle.nf_defs.specs.Tree.{node_row, folder_of, parent_of, climb, is_root, is_root_place, is_under, subtree_of}
 use Rattle.nf_words.specs.Changes.{is_among, removed}
-use Rattle.nf_words.specs.Sound.{AreApart, AreSound, HasRoot, IsNodeSound, IsPieceSound, IsPlaceSound, root_of_user}
-use Rattle.nf_laws.proofs.Climbs.{among_those, climb_those, climb_under, climbs_no_further, found_has, node_row_each, row_of_those, under_climb}
+use Rattle.nf_words.specs.Sound.{AreApart, AreSound, HasRoot, IsNodeSound, IsPlaceSound, root_of_user}
+use Rattle.nf_laws.proofs.Climbs.{among_those, climb_those, climb_under, climbs_no_further, node_row_each, row_of_those, under_climb}
+use Rattle.nf_laws.proofs.Rows.{found_has, none_above, pieces_kept}
 use Rattle.nf_words.proofs.Known.{KnownGone}
-
--- no folder is above a root
-root_alone : (t : Tables) (user : UserRow) → HasRoot t user → parent_of t.nodes user.root ≡ None
-root_alone t user root = ap (option_and_then (λ row. folder_of row.place)) root.there ∙ ap folder_of root.place
-
-none_above : (t : Tables) (user : ℕ) → AreSound t → parent_of t.nodes (root_of_user t user) ≡ None
-none_above t user sound = of_user (user_row t.users user) refl
-  where
-    of_no_user : (o : Option NodeRow) → node_row t.nodes 0 ≡ o → option_and_then (λ row. folder_of row.place) o ≡ None
-    of_no_user None e = refl
-    of_no_user (Some row) e =
-        let h = found_has (IsNodeSound t) (λ row. row.id == 0) t.nodes row sound.nodes e in
-        absurd (omega (arith, h.1.some, eqb-true row.id 0 h.0))
-    of_user : (o : Option UserRow) → user_row t.users user ≡ o → parent_of t.nodes (option_map_or (λ row. row.root) o 0) ≡ None
-    of_user None e = of_no_user (node_row t.nodes 0) refl
-    of_user (Some row) e = root_alone t row (found_has (HasRoot t) (λ row. row.id == user) t.users row sound.roots e).1
 
 -- a node that isn't under the top
 abbrev is_left : List NodeRow → ℕ → ℕ → Bool
@@ -69,7 +53,9 @@ root_left t top no_root user root = here (is_among (subtree_of t.nodes top) user
     here false e = refl
     here true e =
         let c = under_climb t.nodes user.root top (gone_is_under t.nodes top user.root e) in
-        let short = climbs_no_further 0 c.0 t.nodes user.root user.root top (root_alone t user root) refl c.2 in
+        let alone : parent_of t.nodes user.root ≡ None =
+            ap (option_and_then (λ row. folder_of row.place)) root.there ∙ ap folder_of root.place in
+        let short = climbs_no_further 0 c.0 t.nodes user.root user.root top alone refl c.2 in
         let none : c.0 ≡ 0 = omega (arith, short) in
         let same = same_Some user.root top (subst (λ (j : ℕ). climb t.nodes j user.root ≡ Some top) none c.2) in
         let is : is_root t.nodes user.root ≡ true =
@@ -94,7 +80,7 @@ node_left t now top row sound before there left h = record {
   some = h.some;
   given = h.given;
   changed = omega (arith, h.changed);
-  pieces = All-weaker (IsPieceSound t) (IsPieceSound (rest t now top)) (λ piece p. record { some = p.some; few = p.few; given = p.given }) row.content h.pieces;
+  pieces = pieces_kept t (rest t now top).meta (rest t now top).nodes row.content (omega arith) h.pieces;
   folder = h.folder;
   place = place_left t now top row sound there left row.place refl h.place;
   steps = h.steps;

@@ -2,4 +2,5 @@ pub mod Added
 pub mod Climbs
 pub mod Gone
 pub mod Replaced
+pub mod Rows
 pub mod Stays

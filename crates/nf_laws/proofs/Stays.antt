@@ -26,9 +26,9 @@ use Rattle.nf_words.specs.declared.history.Ticket.{Ticket}
 use Rattle.nf_words.proofs.Known.{Known, known_change}
 use Rattle.nf_words.proofs.Steps.{differ_replay}
 use Rattle.nf_laws.proofs.Added.{created_sound}
-use Rattle.nf_laws.proofs.Climbs.{found_has}
 use Rattle.nf_laws.proofs.Gone.{removed_sound}
 use Rattle.nf_laws.proofs.Replaced.{replaced_sound}
+use Rattle.nf_laws.proofs.Rows.{found_has}
 
 -- ---- the rows
 

@@ -1,3 +1,4 @@
 pub mod Histories
+pub mod Known
 pub mod Orders
 pub mod Steps

@@ -1,0 +1,101 @@
+-- The tables with a node more are sound.
+use Rattle.std.proofs.Common.{ℕ, suc, zero, ◌+◌, ◌==◌, ◌&&◌, ◌≡◌, ◌<◌, ◌≤◌, Bool, true, false, List, [], ◌∷◌, ◌++◌, Option, None, Some, find, length, get_or, option_map, bytes_eq, refl, sym, ap, subst, ◌∙◌, arith, length-append}
+use Rattle.std.specs.List.{All}
+use Rattle.std.specs.Option.{option_and_then, option_map_or, option_or}
+use Rattle.std.proofs.lemmas.Bool.{and_from, both_ways, eq-eqb, ne_eqb}
+use Rattle.std.proofs.lemmas.List.Elements.{All-cons, All-nil, All-push, All-tail, All-head, All-weaker}
+use Rattle.std.proofs.lemmas.List.Folds.{find-append}
+use Rattle.std.proofs.lemmas.List.Quantifiers.{all_pairs_push}
+use Rattle.std.proofs.lemmas.List.Sums.{sum_by_push}
+use Rattle.std.proofs.lemmas.Option.{none-some, same_Some}
+use Rattle.std.proofs.lemmas.Slice.Eq.{bytes_eq-Decides}
+use Rattle.nf_base.specs.declared.content.Piece.{Piece}
+use Rattle.nf_base.specs.declared.rows.NodeKind.{NodeKind}
+use Rattle.nf_base.specs.declared.rows.NodeRow.{NodeRow}
+use Rattle.nf_base.specs.declared.rows.Place.{Place}
+use Rattle.nf_base.specs.declared.rows.Place.TheVariants.{Inside}
+use Rattle.nf_defs.specs.Tables.{Tables}
+use Rattle.nf_defs.specs.Tree.{child_of, climb, depth, depth_within, folder_of, is_folder, is_in, is_place_in, node_row, owner_of, parent_of, piece_count}
+use Rattle.nf_words.proofs.Known.{KnownNew}
+use Rattle.nf_words.specs.Changes.{created, new_node}
+use Rattle.nf_words.specs.Sound.{AreApart, AreSound, HasRoot, IsNodeSound, root_of_user}
+use Rattle.nf_laws.proofs.Rows.{AreKept, body_sound, folder_kept, folder_there, climb_kept, found_has, node_kept, none_above, root_kept, with_rows}
+
+-- ---- look-ups that find nothing
+
+finds_none : {X : Type 0} (test : X → Bool) (xs : List X) → All (λ x. test x ≡ false) xs → find test xs ≡ None
+finds_none test [] fail = refl
+finds_none test (x ∷ xs) fail = simp (All-head (λ x. test x ≡ false) x xs fail) (finds_none test xs (All-tail (λ x. test x ≡ false) x xs fail))
+
+each_fails : {X : Type 0} (test : X → Bool) (xs : List X) → find test xs ≡ None → All (λ x. test x ≡ false) xs
+each_fails test [] none = All-nil (λ x. test x ≡ false)
+each_fails {X = X} test (x ∷ xs) none = here (test x) refl none (λ none. each_fails test xs none)
+  where
+    here : (a : Bool) → test x ≡ a → find test (x ∷ xs) ≡ None → (find test xs ≡ None → All (λ x. test x ≡ false) xs)
+        → All (λ x. test x ≡ false) (x ∷ xs)
+    here true e none rest = absurd (none-some x (sym (simp e at none)))
+    here false e none rest = All-cons (λ x. test x ≡ false) x xs e (rest (simp e at none))
+
+no_value : {X : Type 0} (f : X → ℕ) (o : Option X) → option_map f o ≡ None → o ≡ None
+no_value f None none = refl
+no_value f (Some x) none = absurd (none-some (f x) (sym none))
+
+-- ---- how deep a node is
+
+climbs_deep : (k m : ℕ) (rows : List NodeRow) (node root : ℕ) → climb rows k node ≡ Some root → parent_of rows root ≡ None → k ≤ m
+    → depth_within m rows node ≡ k
+unfolding depth_within
+climbs_deep zero zero rows node root climbs top few = refl
+climbs_deep zero (suc m) rows node root climbs top few =
+    ap (λ (o : Option ℕ). option_map_or (λ parent. depth_within m rows parent + 1) o 0)
+        (ap (parent_of rows) (same_Some node root climbs) ∙ top)
+climbs_deep (suc k) zero rows node root climbs top few = absurd (omega arith)
+climbs_deep (suc k) (suc m) rows node root climbs top few =
+    here (parent_of rows node) climbs (λ parent climbs. climbs_deep k m rows parent root climbs top (omega arith))
+  where
+    here : (o : Option ℕ) → option_and_then (climb rows k) o ≡ Some root
+        → ((parent : ℕ) → climb rows k parent ≡ Some root → depth_within m rows parent ≡ k)
+        → option_map_or (λ parent. depth_within m rows parent + 1) o 0 ≡ suc k
+    here None climbs rest = absurd (none-some root climbs)
+    here (Some parent) climbs rest = omega (arith, rest parent climbs)
+
+depth_climbed : (k : ℕ) (rows : List NodeRow) (node root : ℕ) → climb rows k node ≡ Some root → parent_of rows root ≡ None → k ≤ 64
+    → depth rows node ≡ k
+unfolding depth
+depth_climbed k rows node root climbs top few = climbs_deep k 64 rows node root climbs top few
+
+-- ---- the rows with one more
+
+all_kept : (rows : List NodeRow) (row : NodeRow) → AreKept rows (rows ++ row ∷ [])
+all_kept rows row node old is = record {
+  row = old;
+  there =
+      find-append (λ row. row.id == node) rows (row ∷ [])
+      ∙ ap (λ (o : Option NodeRow). option_or o (node_row (row ∷ []) node)) is;
+  owner = refl;
+  place = refl;
+  name = refl;
+  kind = refl;
+}
+
+-- where no row has the new row's number, it is found by it
+new_there : (rows : List NodeRow) (row : NodeRow) → All (λ (old : NodeRow). old.id < row.id) rows
+    → node_row (rows ++ row ∷ []) row.id ≡ Some row
+new_there rows row less =
+    let none : node_row rows row.id ≡ None =
+        finds_none (λ old. old.id == row.id) rows
+            (All-weaker (λ (old : NodeRow). old.id < row.id) (λ (old : NodeRow). (old.id == row.id) ≡ false)
+                (λ old less. ne_eqb old.id row.id (λ e. absurd (omega arith))) rows less) in
+    find-append (λ old. old.id == row.id) rows (row ∷ [])
+    ∙ ap (λ (o : Option NodeRow). option_or o (node_row (row ∷ []) row.id)) none
+    ∙ rw (eq-eqb row.id row.id refl)
+
+-- where the folder has no child of the new row's name, the new row is apart from each
+new_apart : (rows : List NodeRow) (folder : ℕ) (row : NodeRow) → row.place ≡ Inside folder → child_of rows folder row.name ≡ None
+    → All (λ (old : NodeRow). AreApart old row) rows
+new_apart rows folder row inside free =
+    All-weaker (λ (old : NodeRow). (is_in folder old && bytes_eq old.name row.name) ≡ false) (λ (old : NodeRow). AreApart old row)
+        (λ old fails place name. both_ways _ fails
+            (and_from (is_in folder old) (bytes_eq old.name row.name)
+                (ap (is_place_in folder) (place ∙ inside) ∙ eq-eqb folder folder refl) ((bytes_eq-Decides old.name row.name).1 name)))
+        rows (each_fails _ rows (no_value (λ row. row.id) _ free))

@@ -1,0 +1,162 @@
+-- Rows that may change while each node keeps its owner, place, name and kind.
+use Rattle.std.proofs.Common.{ℕ, suc, zero, ◌+◌, ◌==◌, ◌≡◌, ◌≤◌, Bool, true, false, List, [], ◌∷◌, Option, None, Some, find, length, refl, sym, ap, subst, ◌∙◌, inl, inr, arith}
+use Rattle.std.specs.List.{All}
+use Rattle.std.specs.Option.{option_and_then, option_map_or}
+use Rattle.std.proofs.lemmas.Bool.{false≢true, eqb-true}
+use Rattle.std.proofs.lemmas.List.Elements.{All-cons, All-head, All-nil, All-tail, All-weaker}
+use Rattle.std.proofs.lemmas.Option.{none-some, same_Some}
+use Rattle.nf_base.specs.declared.content.Piece.{Piece}
+use Rattle.nf_base.specs.declared.rows.MetaRow.{MetaRow}
+use Rattle.nf_base.specs.declared.rows.NodeRow.{NodeRow}
+use Rattle.nf_base.specs.declared.rows.Place.{Place}
+use Rattle.nf_base.specs.declared.rows.Place.TheVariants.{Root, Inside, Trash}
+use Rattle.nf_base.specs.declared.rows.UserRow.{UserRow}
+use Rattle.nf_defs.specs.People.{user_row}
+use Rattle.nf_defs.specs.Tables.{Tables}
+use Rattle.nf_defs.specs.Tree.{climb, folder_of, is_folder, is_folder_kind, node_row, owner_of, parent_of}
+use Rattle.nf_words.proofs.Known.{IsOfBody}
+use Rattle.nf_words.specs.Sound.{AreSound, HasRoot, IsNodeSound, IsPieceSound, IsPlaceSound, root_of_user}
+
+-- ---- what a look-up finds
+
+-- what is found passes the test, and has what each element has
+pub found_has : {X : Type 0} (P : X → Type 0) (test : X → Bool) (xs : List X) (found : X)
+    → All P xs → find test xs ≡ Some found → (test found ≡ true) × P found
+found_has P test [] found all is = absurd (none-some found is)
+found_has {X = X} P test (x ∷ xs) found all is = here (test x) refl is (λ is. found_has P test xs found (All-tail P x xs all) is)
+  where
+    here : (a : Bool) → test x ≡ a → find test (x ∷ xs) ≡ Some found
+        → (find test xs ≡ Some found → (test found ≡ true) × P found) → (test found ≡ true) × P found
+    here true e is rest =
+        let same : x ≡ found = same_Some x found (simp e at is) in
+        subst (λ (y : X). (test y ≡ true) × P y) same (e, All-head P x xs all)
+    here false e is rest = rest (simp e at is)
+
+-- the row of a folder
+pub folder_there : (rows : List NodeRow) (node : ℕ) → is_folder rows node ≡ true
+    → (row : NodeRow) × (node_row rows node ≡ Some row) × (is_folder_kind row.kind ≡ true)
+folder_there rows node is = here (node_row rows node) refl is
+  where
+    here : (o : Option NodeRow) → node_row rows node ≡ o → option_map_or (λ row. is_folder_kind row.kind) o false ≡ true
+        → (row : NodeRow) × (node_row rows node ≡ Some row) × (is_folder_kind row.kind ≡ true)
+    here None e is = absurd (false≢true is)
+    here (Some row) e is = (row, e, is)
+
+-- no folder is above a user's root
+pub none_above : (t : Tables) (user : ℕ) → AreSound t → parent_of t.nodes (root_of_user t user) ≡ None
+none_above t user sound = of_user (user_row t.users user) refl
+  where
+    of_no_user : (o : Option NodeRow) → node_row t.nodes 0 ≡ o → option_and_then (λ row. folder_of row.place) o ≡ None
+    of_no_user None e = refl
+    of_no_user (Some row) e =
+        let h = found_has (IsNodeSound t) (λ row. row.id == 0) t.nodes row sound.nodes e in
+        absurd (omega (arith, h.1.some, eqb-true row.id 0 h.0))
+    of_user : (o : Option UserRow) → user_row t.users user ≡ o → parent_of t.nodes (option_map_or (λ row. row.root) o 0) ≡ None
+    of_user None e = of_no_user (node_row t.nodes 0) refl
+    of_user (Some row) e =
+        let root = (found_has (HasRoot t) (λ row. row.id == user) t.users row sound.roots e).1 in
+        ap (option_and_then (λ row. folder_of row.place)) root.there ∙ ap folder_of root.place
+
+-- ---- what stays where each node keeps its owner, place, name and kind
+
+-- the node is there, and has these of the old row
+pub record Kept (rows : List NodeRow) (node : ℕ) (old : NodeRow) : Type 0 where
+  pub row : NodeRow
+  pub there : node_row rows node ≡ Some row
+  pub owner : row.owner ≡ old.owner
+  pub place : row.place ≡ old.place
+  pub name : row.name ≡ old.name
+  pub kind : row.kind ≡ old.kind
+
+abbrev pub AreKept : List NodeRow → List NodeRow → Type 0
+AreKept rows others = (node : ℕ) (old : NodeRow) → node_row rows node ≡ Some old → Kept others node old
+
+pub folder_kept : (rows others : List NodeRow) (node : ℕ) → AreKept rows others → is_folder rows node ≡ true
+    → (is_folder others node ≡ true) × (owner_of others node ≡ owner_of rows node)
+folder_kept rows others node kept is =
+    let h = folder_there rows node is in
+    let k = kept node h.0 h.1 in
+    (
+        ap (λ (o : Option NodeRow). option_map_or (λ row. is_folder_kind row.kind) o false) k.there ∙ ap is_folder_kind k.kind ∙ h.2,
+        ap (λ (o : Option NodeRow). option_map_or (λ row. row.owner) o 0) k.there ∙ k.owner
+        ∙ sym (ap (λ (o : Option NodeRow). option_map_or (λ row. row.owner) o 0) h.1),
+    )
+
+parent_kept : (rows others : List NodeRow) (node parent : ℕ) → AreKept rows others
+    → parent_of rows node ≡ Some parent → parent_of others node ≡ Some parent
+parent_kept rows others node parent kept is = here (node_row rows node) refl is
+  where
+    here : (o : Option NodeRow) → node_row rows node ≡ o → option_and_then (λ row. folder_of row.place) o ≡ Some parent
+        → parent_of others node ≡ Some parent
+    here None e is = absurd (none-some parent is)
+    here (Some row) e is =
+        let k = kept node row e in
+        ap (option_and_then (λ row. folder_of row.place)) k.there ∙ ap folder_of k.place ∙ is
+
+pub climb_kept : (k : ℕ) (rows others : List NodeRow) (node top : ℕ) → AreKept rows others
+    → climb rows k node ≡ Some top → climb others k node ≡ Some top
+climb_kept zero rows others node top kept is = is
+climb_kept (suc k) rows others node top kept is =
+    here (parent_of rows node) refl is (λ parent is. climb_kept k rows others parent top kept is)
+  where
+    here : (o : Option ℕ) → parent_of rows node ≡ o → option_and_then (climb rows k) o ≡ Some top
+        → ((parent : ℕ) → climb rows k parent ≡ Some top → climb others k parent ≡ Some top) → climb others (suc k) node ≡ Some top
+    here None e is rest = absurd (none-some top is)
+    here (Some parent) e is rest =
+        ap (option_and_then (climb others k)) (parent_kept rows others node parent kept e) ∙ rest parent is
+
+-- the tables with other rows and counters
+abbrev pub with_rows : Tables → MetaRow → List NodeRow → Tables
+with_rows t meta others = record t { meta = meta; nodes = others }
+
+pub place_kept : (t : Tables) (meta : MetaRow) (others : List NodeRow) (row : NodeRow) (place : Place) → AreKept t.nodes others
+    → IsPlaceSound t row place → IsPlaceSound (with_rows t meta others) row place
+place_kept t meta others row Root kept sound = sound
+place_kept t meta others row (Inside folder) kept sound =
+    let h = folder_kept t.nodes others folder kept sound.0 in (h.0, h.1 ∙ sound.1)
+place_kept t meta others row Trash kept sound = sound
+
+pub pieces_kept : (t : Tables) (meta : MetaRow) (others : List NodeRow) (pieces : List Piece) → t.meta.next_blob ≤ meta.next_blob
+    → All (IsPieceSound t) pieces → All (IsPieceSound (with_rows t meta others)) pieces
+pieces_kept t meta others pieces grows =
+    All-weaker (IsPieceSound t) (IsPieceSound (with_rows t meta others))
+        (λ piece sound. record { some = sound.some; few = sound.few; given = omega (arith, sound.given) }) pieces
+
+pub node_kept : (t : Tables) (meta : MetaRow) (others : List NodeRow) (row : NodeRow) → AreKept t.nodes others
+    → t.meta.next_node ≤ meta.next_node → t.meta.next_blob ≤ meta.next_blob → t.meta.last ≤ meta.last
+    → IsNodeSound t row → IsNodeSound (with_rows t meta others) row
+node_kept t meta others row kept nodes blobs later sound = record {
+  some = sound.some;
+  given = omega (arith, sound.given);
+  changed = omega (arith, sound.changed);
+  pieces = pieces_kept t meta others row.content blobs sound.pieces;
+  folder = sound.folder;
+  place = place_kept t meta others row row.place kept sound.place;
+  steps = sound.steps;
+  shallow = sound.shallow;
+  present = climb_kept sound.steps t.nodes others row.id (root_of_user t row.owner) kept sound.present;
+}
+
+pub root_kept : (t : Tables) (meta : MetaRow) (others : List NodeRow) → AreKept t.nodes others
+    → (user : UserRow) → HasRoot t user → HasRoot (with_rows t meta others) user
+root_kept t meta others kept user root =
+    let k = kept user.root root.row root.there in
+    record {
+      row = k.row;
+      there = k.there;
+      place = k.place ∙ root.place;
+      folder = ap is_folder_kind k.kind ∙ root.folder;
+      owner = k.owner ∙ root.owner;
+      name = k.name ∙ root.name;
+    }
+
+-- the piece of a body is sound, where its blob's number was given
+pub body_sound : (t : Tables) (meta : MetaRow) (others : List NodeRow) (content : List Piece)
+    → IsOfBody t.meta content → t.meta.next_blob + length content ≤ meta.next_blob → All (IsPieceSound (with_rows t meta others)) content
+body_sound t meta others content (inl none) given =
+    subst (λ (c : List Piece). All (IsPieceSound (with_rows t meta others)) c) (sym none) (All-nil (IsPieceSound (with_rows t meta others)))
+body_sound t meta others content (inr one) given =
+    let P = IsPieceSound (with_rows t meta others) in
+    subst (λ (c : List Piece). All P c) (sym one.4)
+        (All-cons P (record { blob = t.meta.next_blob; size = one.0; digest = one.1 }) []
+            (record { some = one.2; few = one.3; given = omega (arith, given, ap length one.4) }) (All-nil P))
