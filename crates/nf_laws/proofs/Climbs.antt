@@ -16,7 +16,7 @@ node_row_each (x ∷ rows) rising zero d within = rw (eq-eqb x.id x.id refl)
 node_row_each (x ∷ rows) rising (suc k) d within =
     let below : x.id < (get_or rows k d).id = rising 0 (suc k) d (omega arith) within in
     rw (ne_eqb x.id (get_or rows k d).id (λ e. absurd (omega arith)))
-        (node_row_each rows (λ i j d before within. rising (suc i) (suc j) d (omega arith) (omega arith)) k d (omega arith))
+    (node_row_each rows (λ i j d before within. rising (suc i) (suc j) d (omega arith) (omega arith)) k d (omega arith))
 
 -- ---- under, as a climb
 
@@ -26,8 +26,8 @@ unfolding is_under_within
 under_climbs zero rows node top is = (0, omega arith, ap Some (eqb-true node top is))
 under_climbs (suc m) rows node top is =
     ⊎_elim (λ e. (0, omega arith, ap Some (eqb-true node top e)))
-        (here (parent_of rows node) refl (λ parent is. under_climbs m rows parent top is))
-        (or_cases (node == top) _ is)
+    (here (parent_of rows node) refl (λ parent is. under_climbs m rows parent top is))
+    (or_cases (node == top) _ is)
   where
     here : (o : Option ℕ) → parent_of rows node ≡ o
         → ((parent : ℕ) → is_under_within m rows parent top ≡ true → (j : ℕ) × (j ≤ m) × (climb rows j parent ≡ Some top))
@@ -116,5 +116,5 @@ climb_those test rows up (suc k) node root passes is =
     here None e is rest = absurd (none-some root is)
     here (Some parent) e is rest =
         let same : parent_of (those test rows) node ≡ Some parent =
-            ap (option_and_then (λ row. folder_of row.place)) (row_of_those test rows node passes) ∙ e in
+        ap (option_and_then (λ row. folder_of row.place)) (row_of_those test rows node passes) ∙ e in
         rw same (rest parent (up node parent e passes) is)

@@ -38,12 +38,12 @@ folder_left t top sound node parent above left = here (is_among (subtree_of t.no
         let c = under_climb t.nodes parent top (gone_is_under t.nodes top parent e) in
         let further : climb t.nodes (suc c.0) node ≡ Some top = rw above c.2 in
         option_and_then_some (λ row. folder_of row.place) (node_row t.nodes node) parent above (λ row there place.
-            let h = found_has (IsNodeSound t) (λ row. row.id == node) t.nodes row sound.nodes there in
-            let whole = subst (λ (n : ℕ). climb t.nodes h.1.steps n ≡ Some (root_of_user t row.owner)) (eqb-true row.id node h.0) h.1.present in
-            let short = climbs_no_further h.1.steps (suc c.0) t.nodes node (root_of_user t row.owner) top (none_above t row.owner sound) whole further in
-            let under = climb_under (suc c.0) t.nodes node top (omega (arith, h.1.shallow)) further in
-            let among : is_among (subtree_of t.nodes top) node ≡ true = among_those (λ n. is_under t.nodes n top) t.nodes node ∙ rw (there, under) in
-            absurd (both_ways (is_among (subtree_of t.nodes top) node) (not-true (is_among (subtree_of t.nodes top) node) left) among))
+        let h = found_has (IsNodeSound t) (λ row. row.id == node) t.nodes row sound.nodes there in
+        let whole = subst (λ (n : ℕ). climb t.nodes h.1.steps n ≡ Some (root_of_user t row.owner)) (eqb-true row.id node h.0) h.1.present in
+        let short = climbs_no_further h.1.steps (suc c.0) t.nodes node (root_of_user t row.owner) top (none_above t row.owner sound) whole further in
+        let under = climb_under (suc c.0) t.nodes node top (omega (arith, h.1.shallow)) further in
+        let among : is_among (subtree_of t.nodes top) node ≡ true = among_those (λ n. is_under t.nodes n top) t.nodes node ∙ rw (there, under) in
+        absurd (both_ways (is_among (subtree_of t.nodes top) node) (not-true (is_among (subtree_of t.nodes top) node) left) among))
 
 -- a root is left, since a top that it is under is that root
 root_left : (t : Tables) (top : ℕ) → is_root t.nodes top ≡ false → (user : UserRow) → HasRoot t user → is_left t.nodes top user.root ≡ true
@@ -54,12 +54,12 @@ root_left t top no_root user root = here (is_among (subtree_of t.nodes top) user
     here true e =
         let c = under_climb t.nodes user.root top (gone_is_under t.nodes top user.root e) in
         let alone : parent_of t.nodes user.root ≡ None =
-            ap (option_and_then (λ row. folder_of row.place)) root.there ∙ ap folder_of root.place in
+        ap (option_and_then (λ row. folder_of row.place)) root.there ∙ ap folder_of root.place in
         let short = climbs_no_further 0 c.0 t.nodes user.root user.root top alone refl c.2 in
         let none : c.0 ≡ 0 = omega (arith, short) in
         let same = same_Some user.root top (subst (λ (j : ℕ). climb t.nodes j user.root ≡ Some top) none c.2) in
         let is : is_root t.nodes user.root ≡ true =
-            ap (λ (o : Option NodeRow). option_map_or (λ row. is_root_place row.place) o false) root.there ∙ ap is_root_place root.place in
+        ap (λ (o : Option NodeRow). option_map_or (λ row. is_root_place row.place) o false) root.there ∙ ap is_root_place root.place in
         absurd (both_ways (is_root t.nodes top) no_root (subst (λ (n : ℕ). is_root t.nodes n ≡ true) same is))
 
 abbrev rest : Tables → ℕ → ℕ → Tables

@@ -51,6 +51,7 @@ none_above t user sound = of_user (user_row t.users user) refl
     of_no_user (Some row) e =
         let h = found_has (IsNodeSound t) (λ row. row.id == 0) t.nodes row sound.nodes e in
         absurd (omega (arith, h.1.some, eqb-true row.id 0 h.0))
+
     of_user : (o : Option UserRow) → user_row t.users user ≡ o → parent_of t.nodes (option_map_or (λ row. row.root) o 0) ≡ None
     of_user None e = of_no_user (node_row t.nodes 0) refl
     of_user (Some row) e =
@@ -75,11 +76,10 @@ pub folder_kept : (rows others : List NodeRow) (node : ℕ) → AreKept rows oth
     → (is_folder others node ≡ true) × (owner_of others node ≡ owner_of rows node)
 folder_kept rows others node kept is =
     let h = folder_there rows node is in
-    let k = kept node h.0 h.1 in
-    (
-        ap (λ (o : Option NodeRow). option_map_or (λ row. is_folder_kind row.kind) o false) k.there ∙ ap is_folder_kind k.kind ∙ h.2,
-        ap (λ (o : Option NodeRow). option_map_or (λ row. row.owner) o 0) k.there ∙ k.owner
-        ∙ sym (ap (λ (o : Option NodeRow). option_map_or (λ row. row.owner) o 0) h.1),
+    let k = kept node h.0 h.1 in (
+      ap (λ (o : Option NodeRow). option_map_or (λ row. is_folder_kind row.kind) o false) k.there ∙ ap is_folder_kind k.kind ∙ h.2,
+      ap (λ (o : Option NodeRow). option_map_or (λ row. row.owner) o 0) k.there ∙ k.owner
+          ∙ sym (ap (λ (o : Option NodeRow). option_map_or (λ row. row.owner) o 0) h.1),
     )
 
 parent_kept : (rows others : List NodeRow) (node parent : ℕ) → AreKept rows others
@@ -120,7 +120,7 @@ pub pieces_kept : (t : Tables) (meta : MetaRow) (others : List NodeRow) (pieces 
     → All (IsPieceSound t) pieces → All (IsPieceSound (with_rows t meta others)) pieces
 pieces_kept t meta others pieces grows =
     All-weaker (IsPieceSound t) (IsPieceSound (with_rows t meta others))
-        (λ piece sound. record { some = sound.some; few = sound.few; given = omega (arith, sound.given) }) pieces
+    (λ piece sound. record { some = sound.some; few = sound.few; given = omega (arith, sound.given) }) pieces
 
 pub node_kept : (t : Tables) (meta : MetaRow) (others : List NodeRow) (row : NodeRow) → AreKept t.nodes others
     → t.meta.next_node ≤ meta.next_node → t.meta.next_blob ≤ meta.next_blob → t.meta.last ≤ meta.last
@@ -158,5 +158,5 @@ body_sound t meta others content (inl none) given =
 body_sound t meta others content (inr one) given =
     let P = IsPieceSound (with_rows t meta others) in
     subst (λ (c : List Piece). All P c) (sym one.4)
-        (All-cons P (record { blob = t.meta.next_blob; size = one.0; digest = one.1 }) []
-            (record { some = one.2; few = one.3; given = omega (arith, given, ap length one.4) }) (All-nil P))
+    (All-cons P (record { blob = t.meta.next_blob; size = one.0; digest = one.1 }) []
+    (record { some = one.2; few = one.3; given = omega (arith, given, ap length one.4) }) (All-nil P))

@@ -62,7 +62,7 @@ blobs_given t now allowed.Close = omega arith
 goal_stays : (t : Tables) (now : ℕ) (change : Allowed) (goal : Goal) → IsGoalSound t goal → IsGoalSound (changed t now change) goal
 goal_stays t now change (Serve content) h =
     All-weaker (IsPieceSound t) (IsPieceSound (changed t now change))
-        (λ piece p. record { some = p.some; few = p.few; given = omega (arith, p.given, blobs_given t now change) }) content h
+    (λ piece p. record { some = p.some; few = p.few; given = omega (arith, p.given, blobs_given t now change) }) content h
 goal_stays t now change (Store key length) h = h
 
 content_sound : (t : Tables) (node : ℕ) → AreSound t → All (IsPieceSound t) (content_of t.nodes node)
@@ -113,7 +113,7 @@ holds_decided : (s : State) (seat now : ℕ) (decision : Result Allowed Denial)
 holds_decided s seat now (Ok change) known h =
     let k = known change refl in
     let goals = All-weaker (HasSoundGoal s.tables) (HasSoundGoal (changed s.tables now change))
-        (λ ticket. goal_stays s.tables now change ticket.goal) s.tickets h.goals in
+    (λ ticket. goal_stays s.tables now change ticket.goal) s.tickets h.goals in
     record {
       rows = changed_sound s.tables now change h.rows h.seen k;
       seen = changed_seen s.tables now change h.seen;
@@ -124,10 +124,10 @@ holds_decided s seat now (Err refusal) known h = h
 holds_step : (s : State) (seat now : ℕ) (event : Event) → MayAsk s seat event → Holds (failed s seat now event) → Holds (step s seat now event)
 holds_step s seat now (Begin request) asked h =
     holds_decided s seat now (decision_of s seat now (Begin request))
-        (λ change is. known_change s seat now (Begin request) change asked is) h
+    (λ change is. known_change s seat now (Begin request) change asked is) h
 holds_step s seat now (End outcome) asked h =
     holds_decided (without_ticket s seat) seat now (decision_of s seat now (End outcome))
-        (λ change is. known_change s seat now (End outcome) change asked is) h
+    (λ change is. known_change s seat now (End outcome) change asked is) h
 
 holds_after : (s : State) (e : Entry) (m : Mark) → MayAsk s e.seat e.event → Holds (failed s e.seat e.moment e.event) → Holds (after_mark s e m)
 holds_after s e mark.Answered asked h = holds_step s e.seat e.moment e.event asked h
