@@ -1,5 +1,5 @@
 -- The tables without what is removed are sound.
-use Rattle.std.proofs.Common.{ℕ, suc, ◌==◌, ◌≡◌, ◌<◌, ◌≤◌, Bool, true, false, not, List, Option, None, Some, filter, length, refl, sym, ap, subst, ◌∙◌, arith}
+use Rattle.std.proofs.Common.{ℕ, suc, ◌==◌, ◌≡◌, ◌<◌, ◌≤◌, Bool, true, false, not, List, Option, None, Some, length, refl, sym, ap, subst, ◌∙◌, arith}
 use Rattle.std.specs.Prelude.{is_some}
 use Rattle.std.specs.Option.{option_and_then, option_map_or}
 use Rattle.std.proofs.lemmas.Bool.{both_ways, eqb-true, and_parts, not-true}
@@ -62,9 +62,12 @@ root_left t top no_root user root = here (is_among (subtree_of t.nodes top) user
         ap (λ (o : Option NodeRow). option_map_or (λ row. is_root_place row.place) o false) root.there ∙ ap is_root_place root.place in
         absurd (both_ways (is_root t.nodes top) no_root (subst (λ (n : ℕ). is_root t.nodes n ≡ true) same is))
 
+-- ---- the tables without the nodes under the top
+
 abbrev rest : Tables → ℕ → ℕ → Tables
 rest t now top = removed t now (subtree_of t.nodes top)
 
+-- what is left has its place, its climb and its root as before
 place_left : (t : Tables) (now top : ℕ) (row : NodeRow) → AreSound t → node_row t.nodes row.id ≡ Some row → is_left t.nodes top row.id ≡ true
     → (place : Place) → row.place ≡ place → IsPlaceSound t row place → IsPlaceSound (rest t now top) row place
 place_left t now top row sound there left Root is h = h
