@@ -106,25 +106,25 @@ climb_kept (suc k) rows others node top kept is =
         ap (option_and_then (climb others k)) (parent_kept rows others node parent kept e) ∙ rest parent is
 
 -- the tables with other rows and counters
-abbrev pub with_rows : Tables → MetaRow → List NodeRow → Tables
-with_rows t meta others = record t { meta = meta; nodes = others }
+abbrev pub with_nodes : Tables → MetaRow → List NodeRow → Tables
+with_nodes t meta others = record t { meta = meta; nodes = others }
 
 pub place_kept : (t : Tables) (meta : MetaRow) (others : List NodeRow) (row : NodeRow) (place : Place) → AreKept t.nodes others
-    → IsPlaceSound t row place → IsPlaceSound (with_rows t meta others) row place
+    → IsPlaceSound t row place → IsPlaceSound (with_nodes t meta others) row place
 place_kept t meta others row Root kept sound = sound
 place_kept t meta others row (Inside folder) kept sound =
     let h = folder_kept t.nodes others folder kept sound.0 in (h.0, h.1 ∙ sound.1)
 place_kept t meta others row Trash kept sound = sound
 
 pub pieces_kept : (t : Tables) (meta : MetaRow) (others : List NodeRow) (pieces : List Piece) → t.meta.next_blob ≤ meta.next_blob
-    → All (IsPieceSound t) pieces → All (IsPieceSound (with_rows t meta others)) pieces
+    → All (IsPieceSound t) pieces → All (IsPieceSound (with_nodes t meta others)) pieces
 pieces_kept t meta others pieces grows =
-    All-weaker (IsPieceSound t) (IsPieceSound (with_rows t meta others))
+    All-weaker (IsPieceSound t) (IsPieceSound (with_nodes t meta others))
     (λ piece sound. record { some = sound.some; few = sound.few; given = omega (arith, sound.given) }) pieces
 
 pub node_kept : (t : Tables) (meta : MetaRow) (others : List NodeRow) (row : NodeRow) → AreKept t.nodes others
     → t.meta.next_node ≤ meta.next_node → t.meta.next_blob ≤ meta.next_blob → t.meta.last ≤ meta.last
-    → IsNodeSound t row → IsNodeSound (with_rows t meta others) row
+    → IsNodeSound t row → IsNodeSound (with_nodes t meta others) row
 node_kept t meta others row kept nodes blobs later sound = record {
   some = sound.some;
   given = omega (arith, sound.given);
@@ -138,7 +138,7 @@ node_kept t meta others row kept nodes blobs later sound = record {
 }
 
 pub root_kept : (t : Tables) (meta : MetaRow) (others : List NodeRow) → AreKept t.nodes others
-    → (user : UserRow) → HasRoot t user → HasRoot (with_rows t meta others) user
+    → (user : UserRow) → HasRoot t user → HasRoot (with_nodes t meta others) user
 root_kept t meta others kept user root =
     let k = kept user.root root.row root.there in
     record {
@@ -152,11 +152,11 @@ root_kept t meta others kept user root =
 
 -- the piece of a body is sound, where its blob's number was given
 pub body_sound : (t : Tables) (meta : MetaRow) (others : List NodeRow) (content : List Piece)
-    → IsOfBody t.meta content → t.meta.next_blob + length content ≤ meta.next_blob → All (IsPieceSound (with_rows t meta others)) content
+    → IsOfBody t.meta content → t.meta.next_blob + length content ≤ meta.next_blob → All (IsPieceSound (with_nodes t meta others)) content
 body_sound t meta others content (inl none) given =
-    subst (λ (c : List Piece). All (IsPieceSound (with_rows t meta others)) c) (sym none) (All-nil (IsPieceSound (with_rows t meta others)))
+    subst (λ (c : List Piece). All (IsPieceSound (with_nodes t meta others)) c) (sym none) (All-nil (IsPieceSound (with_nodes t meta others)))
 body_sound t meta others content (inr one) given =
-    let P = IsPieceSound (with_rows t meta others) in
+    let P = IsPieceSound (with_nodes t meta others) in
     subst (λ (c : List Piece). All P c) (sym one.4)
     (All-cons P (record { blob = t.meta.next_blob; size = one.0; digest = one.1 }) []
     (record { some = one.2; few = one.3; given = omega (arith, given, ap length one.4) }) (All-nil P))
