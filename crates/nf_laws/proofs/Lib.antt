@@ -1,3 +1,6 @@
 pub mod Added
+pub mod Climbs
+pub mod Gone
 pub mod Replaced
 pub mod Rows
+pub mod Stays
