@@ -6,4 +6,6 @@ pub mod Reply
 pub mod Session
 pub mod Statuses
 pub mod Store
+pub mod Taken
 pub mod Turn
+pub mod Verdicts

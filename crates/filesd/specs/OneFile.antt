@@ -10,7 +10,8 @@ use Rattle.filesd.specs.Asked.{request_of}
 use Rattle.filesd.specs.Reply.{file_reply}
 use Rattle.filesd.specs.Session.{first_site}
 use Rattle.filesd.specs.Store.{demo_store, body_of}
-use Rattle.filesd.specs.Turn.{begin_answer}
+use Rattle.filesd.specs.Verdicts.{answer_of}
+use Rattle.nf_words.specs.declared.history.Event.TheVariants.{Begin}
 use Rattle.filesd.specs.declared.running.Status.{Status}
 use Rattle.filesd.specs.declared.running.Status.TheVariants as exit
 
@@ -22,8 +23,8 @@ pub record AsksForFile (h : RequestHead) (content : List Piece) : Type 0 where
   pub no_body : length_of (head_of h) ≡ 0
   pub goes_on : closes_session (head_of h) ≡ false
   pub request : Request
-  pub asked : request_of (head_of h) ≡ Some request
-  pub granted : (now : ℕ) → begin_answer first_site now request ≡ Ok (Granted (Serve content))
+  pub asked : request_of (head_of h) ≡ Ok request
+  pub granted : (now : ℕ) → answer_of first_site now (Begin request) ≡ Ok (Granted (Serve content))
 
 -- where the input is that head and no more and the run was done, its output is that file and no more
 abbrev pub ServesOneFile : Status → Option (List ℕ) → Option (List ℕ) → Option (List ℕ) → Type 0

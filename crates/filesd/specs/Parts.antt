@@ -23,19 +23,19 @@ Sends old new bytes (Ok sent) = Appends old new bytes
 Sends old new bytes (Err ended.WriteFault) = AppendsPart old new bytes
 Sends old new bytes (Err end) = ⊥
 
--- a verdict was answered once the body was skipped; where that failed, the fault was
+-- a verdict was answered once the body was taken; where that failed, the fault was
 abbrev pub Responds : {T D : Type 0} → Store → Bool → Verdict → Result D WireFault
     → Option (List ℕ) → Option (List ℕ) → Result T Ended → Type 0
-Responds store close v skipped old new (Ok sent) = IsOk skipped × Appends old new (reply_bytes store close v)
-Responds store close v skipped old new (Err ended.BadMessage) =
-    (skipped ≡ Err wire.Truncated) × Appends old new (refusal_reply true denial.BadMessage)
-Responds store close v skipped old new (Err ended.WriteFault) =
-    (IsOk skipped × AppendsPart old new (reply_bytes store close v))
-    ⊎ ((skipped ≡ Err wire.Truncated) × AppendsPart old new (refusal_reply true denial.BadMessage))
-Responds store close v skipped old new (Err ended.ReadFault) =
-    (skipped ≡ Err wire.ReadFault) × Appends old new []
-Responds store close v skipped old new (Err ended.Memory) = Appends old new []
-Responds store close v skipped old new (Err end) = ⊥
+Responds store close v taken old new (Ok sent) = IsOk taken × Appends old new (reply_bytes store close v)
+Responds store close v taken old new (Err ended.BadMessage) =
+    (taken ≡ Err wire.Truncated) × Appends old new (refusal_reply true denial.BadMessage)
+Responds store close v taken old new (Err ended.WriteFault) =
+    (IsOk taken × AppendsPart old new (reply_bytes store close v))
+    ⊎ ((taken ≡ Err wire.Truncated) × AppendsPart old new (refusal_reply true denial.BadMessage))
+Responds store close v taken old new (Err ended.ReadFault) =
+    (taken ≡ Err wire.ReadFault) × Appends old new []
+Responds store close v taken old new (Err ended.Memory) = Appends old new []
+Responds store close v taken old new (Err end) = ⊥
 
 -- what was granted was sent where the answer was written
 abbrev pub outcome_of : {T : Type 0} → Result T Ended → Outcome

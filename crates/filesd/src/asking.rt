@@ -1,9 +1,13 @@
 //! What the site says of a message: the Begin and the End of its request, by the one seat of a session.
 
-ghost use Rattle.std.specs.Prelude.{◌≡◌, ◌⊎◌, ℕ, IfOk, OnErr, IsNone, IsSome};
+ghost use Rattle.std.specs.Prelude.{◌≡◌, ◌⊎◌, ℕ, length, IfOk, OnErr, IsNone, IsSome};
+ghost use Rattle.nf_words.specs.History.{MayWant};
 ghost use Rattle.nf_words.specs.State.{ticket_of};
 ghost use Rattle.nf_site.specs.Held.{HasRoom};
-ghost use Rattle.filesd.specs.Turn.{Judges, Closes, Begins, MayRead, HoldsTicket, after_end};
+ghost use Rattle.filesd.specs.Turn.{MayRead};
+ghost use Rattle.filesd.specs.Verdicts.{Judges, Closes, Begins, HoldsTicket, IsClosing, after_event};
+ghost use Rattle.filesd.specs.declared.verdict.Verdict.TheVariants as verdict;
+ghost use Rattle.nf_words.specs.declared.history.Event.TheVariants.{End};
 
 use crate::requests::{Unasked, request};
 use crate::verdict::Verdict;
@@ -11,11 +15,11 @@ use nf_base::Moment;
 use nf_http::Message;
 use nf_outside::Clock;
 use nf_site::{RoomFault, Site};
-use nf_words::{Event, Goal, Outcome, Reply, Request};
+use nf_words::{Event, Outcome, Request};
 use std::alloc::{AllocError, Global};
 
 /// The number of a session's seat.
-const SEAT: u64 = 1;
+pub const SEAT: u64 = 1;
 
 /// The verdict on a message, whose request is begun. For want of memory nothing is.
 pub fn ask<C: Clock>(
@@ -32,7 +36,7 @@ pub fn ask<C: Clock>(
 {
     let request = match request(alloc, message) {
         Ok(request) => request,
-        Err(Unasked::NotBuilt) => return Ok(Verdict::NotBuilt),
+        Err(Unasked::Refused(denial)) => return Ok(Verdict::Unasked(denial)),
         Err(Unasked::Memory) => return Err(AllocError),
     };
     let now = Moment::new(clock.now());
@@ -50,6 +54,7 @@ fn begin(
     request: Request,
 ) -> Result<Verdict, AllocError>
     requires idle { IsNone (ticket_of site.old.kept.state 1) }
+    requires wants { MayWant request.wanted }
     requires room { HasRoom site.old }
     ensures ok { IfOk result (Begins site.old.kept site.new.kept now request) }
     ensures err { OnErr result (site.new.kept ≡ site.old.kept) }
@@ -58,14 +63,10 @@ fn begin(
 {
     let event = Event::Begin(request);
     let plan = site.plan(alloc, SEAT, now, &event)?;
-    match site.adopt(plan, event) {
-        Ok(Reply::Granted(Goal::Serve(content))) => Ok(Verdict::Granted(content)),
-        Ok(Reply::Closed) => unreachable!(),
-        Err(denial) => Ok(Verdict::Denied(denial)),
-    }
+    Ok(Verdict::of(site.adopt(plan, event)))
 }
 
-/// The End of what a verdict granted.
+/// The End of what a verdict granted and no body came for.
 pub fn close<C: Clock>(
     alloc: Global,
     site: &mut Site,
@@ -73,20 +74,25 @@ pub fn close<C: Clock>(
     verdict: &Verdict,
     outcome: Outcome,
 )
-    requires { HoldsTicket site.old.kept verdict.now }
+    requires holds { HoldsTicket site.old.kept verdict.now }
+    requires closing { IsClosing outcome }
     ensures closed { Closes C.reads outcome site.old.kept site.new.kept clock.old clock.new verdict.now }
     ensures idle { IsNone (ticket_of site.new.kept.state 1) }
     ensures opening { site.new.kept.opening ≡ site.old.kept.opening }
 {
-    if let Verdict::Granted(_) = verdict {
-        let now = Moment::new(clock.now());
-        end(alloc, site, now, outcome);
+    match verdict {
+        Verdict::Serve(_) | Verdict::Store { .. } => {
+            let now = Moment::new(clock.now());
+            end(alloc, site, now, outcome);
+        }
+        _ => {}
     }
 }
 
 fn end(alloc: Global, site: &mut Site, now: Moment, outcome: Outcome)
-    requires { IsSome (ticket_of site.old.kept.state 1) }
-    ensures closed { site.new.kept ≡ after_end site.old.kept now outcome }
+    requires holds { IsSome (ticket_of site.old.kept.state 1) }
+    requires closing { IsClosing outcome }
+    ensures closed { site.new.kept ≡ after_event site.old.kept now (End outcome) }
     ensures idle { IsNone (ticket_of site.new.kept.state 1) }
     ensures opening { site.new.kept.opening ≡ site.old.kept.opening }
 {

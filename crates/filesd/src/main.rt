@@ -7,6 +7,7 @@ mod requests;
 mod running;
 mod session;
 mod store;
+mod taking;
 #[cfg(test)]
 mod tests;
 mod verdict;

@@ -110,10 +110,10 @@ pub fn run<S: Source, O: Sink, C: Clock>(
 ) -> (Status, Option<Site>)
     ensures words { (result.0 ≡ exit.Words) ↔ (IsBatch (map string_bytes words.now) → ⊥) }
     ensures session { IsBatch (map string_bytes words.now) → Runs C.reads
-        (record { input = S.left input.old; output = O.written output.old; site = first_site; clock = clock.old })
+        (record { input = S.left input.old; output = O.written output.old; site = first_site; blobs = demo_store; clock = clock.old })
         (S.left input.new) (O.written output.new) clock.new result.0 result.1 }
     ensures nothing { (IsBatch (map string_bytes words.now) → ⊥) → DoesNothing
-        (record { input = S.left input.old; output = O.written output.old; site = first_site; clock = clock.old })
+        (record { input = S.left input.old; output = O.written output.old; site = first_site; blobs = demo_store; clock = clock.old })
         (S.left input.new) (O.written output.new) clock.new result.1 }
 
     ensures one_file { IsBatch (map string_bytes words.now) → ServesOneFile result.0
@@ -151,7 +151,7 @@ fn is_batch(words: &[String]) -> bool
 // The demonstration rows and their bytes.
 fn open(alloc: Global) -> Result<Backend, AllocError>
     ensures site { IfOk result (λ backend. backend.site.kept ≡ first_site) }
-    ensures store { IfOk result (λ backend. backend.store ≡ demo_store) }
+    ensures store { IfOk result (λ backend. backend.store.blobs ≡ demo_store) }
 {
     Ok(Backend {
         alloc,

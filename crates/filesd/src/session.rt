@@ -11,14 +11,16 @@ ghost use Rattle.nf_http.specs.declared.wire.WireFault.TheVariants as wire;
 ghost use Rattle.nf_words.specs.State.{ticket_of};
 ghost use Rattle.filesd.specs.Parts.{Sends, Responds, EndsBy, EndsSo, end_by, outcome_of as spec_outcome};
 ghost use Rattle.filesd.specs.Session.{Session};
-ghost use Rattle.filesd.specs.Turn.{Turn, end_of as verdict_end, taken_length as spec_length};
+ghost use Rattle.filesd.specs.Turn.{Turn};
+ghost use Rattle.filesd.specs.Verdicts.{IsClosing, end_of as verdict_end, end_of_denial as denial_end};
 ghost use Rattle.filesd.specs.declared.session.Ended.TheVariants as ended;
 
 use crate::asking::{ask, close};
-use crate::replies::{refusal, reply};
+use crate::replies::{ends_session, refusal, reply};
 use crate::store::Store;
+use crate::taking::take_body;
 use crate::verdict::Verdict;
-use nf_http::{Buffer, Message, WireFault, next_message, send, skip_body};
+use nf_http::{Buffer, Message, WireFault, next_message, send};
 use nf_outside::{Clock, Sink, Source};
 use nf_site::Site;
 use nf_words::{Denial, Outcome};
@@ -64,19 +66,19 @@ fn write<O: Sink>(output: &mut O, bytes: &[u8]) -> Result<(), Ended>
     }
 }
 
-// Answers a verdict, once the body was skipped.
+// Answers a verdict, once the body was taken.
 fn respond<O: Sink>(
     backend: &Backend,
     output: &mut O,
     verdict: &Verdict,
     close: bool,
-    skipped: Result<(), WireFault>,
+    taken: Result<(), WireFault>,
 ) -> Result<(), Ended>
-    ensures responds { Responds backend.now.store close verdict.now skipped (O.written output.old) (O.written output.new) result }
+    ensures responds { Responds backend.now.store.blobs close verdict.now taken (O.written output.old) (O.written output.new) result }
     ensures fault { result ≡ Err ended.WriteFault → Rose (O.write_faults output.old) (O.write_faults output.new) }
     ensures later { O.write_faults output.old ≤ O.write_faults output.new }
 {
-    match skipped {
+    match taken {
         Ok(()) => match reply(backend.alloc, &backend.store, verdict, close) {
             Ok(bytes) => write(output, &bytes),
             Err(_) => Err(Ended::Memory),
@@ -88,7 +90,8 @@ fn respond<O: Sink>(
 }
 
 fn outcome_of(responded: &Result<(), Ended>) -> Outcome
-    ensures { result ≡ spec_outcome responded.now }
+    ensures outcome { result ≡ spec_outcome responded.now }
+    ensures closing { IsClosing result }
 {
     match responded {
         Ok(()) => Outcome::Sent,
@@ -103,21 +106,22 @@ fn end_of(responded: Result<(), Ended>, closes: bool, verdict: &Verdict) -> Opti
     match responded {
         Err(ended) => Some(ended),
         Ok(()) => match verdict {
-            Verdict::NotBuilt => Some(Ended::NotBuilt),
             Verdict::RunFull => Some(Ended::RunFull),
-            Verdict::Denied(_) | Verdict::Granted(_) => closes.then_some(Ended::Closed),
+            Verdict::Unasked(denial) | Verdict::Denied(denial) => end_of_denial(closes, *denial),
+            Verdict::Made | Verdict::Done | Verdict::Serve(_) | Verdict::Store { .. } => {
+                closes.then_some(Ended::Closed)
+            }
         },
     }
 }
 
-// The bytes of the body to skip: a sender that waits for an answer hasn't sent them.
-fn taken_length(message: &Message) -> usize
-    ensures { result ≡ spec_length message.now }
+fn end_of_denial(closes: bool, denial: Denial) -> Option<Ended>
+    ensures { result ≡ denial_end closes denial }
 {
-    if message.expects_continue() {
-        0
+    if ends_session(denial) {
+        Some(Ended::NotBuilt)
     } else {
-        message.length()
+        closes.then_some(Ended::Closed)
     }
 }
 
@@ -134,11 +138,10 @@ fn answer<S: Source, O: Sink, C: Clock>(
     requires { IsNone (ticket_of backend.old.site.kept.state 1) }
     ensures turn { (start : Option (List ℕ)) (h : RequestHead)
         → message.now ≡ head_of h → TakesHead start (stream buffer.old (S.left input.old)) h
-        → Turn backend.old.store C.reads last
-        (record { input = start; output = O.written output.old; site = backend.old.site.kept; clock = clock.old })
-        (record { input = stream buffer.new (S.left input.new); output = O.written output.new; site = backend.new.site.kept; clock = clock.new })
+        → Turn C.reads last
+        (record { input = start; output = O.written output.old; site = backend.old.site.kept; blobs = backend.old.store.blobs; clock = clock.old })
+        (record { input = stream buffer.new (S.left input.new); output = O.written output.new; site = backend.new.site.kept; blobs = backend.new.store.blobs; clock = clock.new })
         result }
-    ensures store { backend.new.store ≡ backend.old.store }
     ensures idle { IsNone (ticket_of backend.new.site.kept.state 1) }
     ensures opening { backend.new.site.kept.opening ≡ backend.old.site.kept.opening }
     ensures read { result ≡ Some ended.ReadFault → Rose (S.read_faults input.old) (S.read_faults input.new) }
@@ -147,11 +150,11 @@ fn answer<S: Source, O: Sink, C: Clock>(
     ensures output_later { O.write_faults output.old ≤ O.write_faults output.new }
 {
     let closes = message.closes_session();
-    let Ok(verdict) = ask(backend.alloc, &mut backend.site, clock, message) else {
+    let Ok(first) = ask(backend.alloc, &mut backend.site, clock, message) else {
         return Some(Ended::Memory);
     };
-    let skipped = skip_body(input, buffer, taken_length(message));
-    let responded = respond(backend, output, &verdict, last || closes, skipped);
+    let (verdict, taken) = take_body(backend, message, buffer, input, clock, first);
+    let responded = respond(backend, output, &verdict, last || closes, taken);
     close(
         backend.alloc,
         &mut backend.site,
@@ -172,11 +175,10 @@ fn exchange<S: Source, O: Sink, C: Clock>(
     last: bool,
 ) -> Option<Ended>
     requires { IsNone (ticket_of backend.old.site.kept.state 1) }
-    ensures turn { Turn backend.old.store C.reads last
-        (record { input = stream buffer.old (S.left input.old); output = O.written output.old; site = backend.old.site.kept; clock = clock.old })
-        (record { input = stream buffer.new (S.left input.new); output = O.written output.new; site = backend.new.site.kept; clock = clock.new })
+    ensures turn { Turn C.reads last
+        (record { input = stream buffer.old (S.left input.old); output = O.written output.old; site = backend.old.site.kept; blobs = backend.old.store.blobs; clock = clock.old })
+        (record { input = stream buffer.new (S.left input.new); output = O.written output.new; site = backend.new.site.kept; blobs = backend.new.store.blobs; clock = clock.new })
         result }
-    ensures store { backend.new.store ≡ backend.old.store }
     ensures idle { IsNone (ticket_of backend.new.site.kept.state 1) }
     ensures opening { backend.new.site.kept.opening ≡ backend.old.site.kept.opening }
     ensures read { result ≡ Some ended.ReadFault → Rose (S.read_faults input.old) (S.read_faults input.new) }
@@ -233,9 +235,9 @@ pub fn session<S: Source, O: Sink, C: Clock>(
     clock: &mut C,
 ) -> Ended
     requires { IsNone (ticket_of backend.old.site.kept.state 1) }
-    ensures session { Session backend.old.store C.reads
-        (record { input = stream buffer.old (S.left input.old); output = O.written output.old; site = backend.old.site.kept; clock = clock.old })
-        (record { input = stream buffer.new (S.left input.new); output = O.written output.new; site = backend.new.site.kept; clock = clock.new })
+    ensures session { Session C.reads
+        (record { input = stream buffer.old (S.left input.old); output = O.written output.old; site = backend.old.site.kept; blobs = backend.old.store.blobs; clock = clock.old })
+        (record { input = stream buffer.new (S.left input.new); output = O.written output.new; site = backend.new.site.kept; blobs = backend.new.store.blobs; clock = clock.new })
         result }
     ensures opening { backend.new.site.kept.opening ≡ backend.old.site.kept.opening }
     ensures read { result ≡ ended.ReadFault → Rose (S.read_faults input.old) (S.read_faults input.new) }

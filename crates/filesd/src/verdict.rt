@@ -1,7 +1,11 @@
 //! What the site says of a message.
 
+ghost use Rattle.std.specs.Prelude.{◌≢◌, Ok};
+ghost use Rattle.nf_words.specs.declared.answer.Reply.TheVariants.{Closed};
+ghost use Rattle.filesd.specs.Verdicts.{IsVerdict};
+
 use nf_base::Content;
-use nf_words::Denial;
+use nf_words::{Answer, Denial, Goal, Reply};
 
 /// What becomes of a message that was read without a fault.
 #[derive(Debug, Drop)]
@@ -20,4 +24,21 @@ pub enum Verdict {
     Serve(Content),
     /// The site grants it, and a body of that many bytes is to be stored.
     Store { length: u64 },
+}
+
+impl Verdict {
+    /// The verdict of a step's answer, but for the End of what was sent.
+    pub fn of(answer: Answer) -> Self
+        requires { answer ≢ Ok Closed }
+        ensures { IsVerdict answer result }
+    {
+        match answer {
+            Ok(Reply::Made) => Verdict::Made,
+            Ok(Reply::Done) => Verdict::Done,
+            Ok(Reply::Granted(Goal::Serve(content))) => Verdict::Serve(content),
+            Ok(Reply::Granted(Goal::Store { length, .. })) => Verdict::Store { length },
+            Ok(Reply::Closed) => unreachable!(),
+            Err(denial) => Verdict::Denied(denial),
+        }
+    }
 }

@@ -92,7 +92,7 @@ both_none : (a b : Option Denial) → option_or a b ≡ None → (a ≡ None) ×
 both_none None b none = (refl, none)
 both_none (Some refusal) b none = absurd (cc)
 
-each_passes : (all : List Rule) (call : Call) → first_that_holds all call ≡ None → Pass all call
+pub each_passes : (all : List Rule) (call : Call) → first_that_holds all call ≡ None → Pass all call
 each_passes [] call none = tt
 each_passes (rule ∷ others) call none =
     let h = both_none (rule call) (first_that_holds others call) none in (h.0, each_passes others call h.1)

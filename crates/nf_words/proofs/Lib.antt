@@ -1,4 +1,5 @@
 pub mod Histories
 pub mod Known
+pub mod Opens
 pub mod Orders
 pub mod Steps

@@ -166,7 +166,7 @@ granted_decided s seat now (Ok change) goal none is =
     ∙ goal_found s.tickets seat goal none
 granted_decided s seat now (Err refusal) goal none is = cc
 
-never_granted : (decision : Result Allowed Denial) (goal : Goal) → GrantsNothing decision → answered_by decision ≡ Ok (Granted goal) → ⊥
+pub never_granted : (decision : Result Allowed Denial) (goal : Goal) → GrantsNothing decision → answered_by decision ≡ Ok (Granted goal) → ⊥
 never_granted (Ok change) goal nothing is = none_some goal (sym nothing ∙ granted_goal change goal is)
   where
     none_some : (goal : Goal) → ◌≡◌ {A = Option Goal} None (Some goal) → ⊥

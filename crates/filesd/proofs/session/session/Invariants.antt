@@ -8,10 +8,9 @@ use Rattle.filesd.proofs.session.session.Given as goal
 
 abbrev pub invariant-loop-turn : goal.invariant-loop-turn
 invariant-loop-turn g l =
-    SoFar l.fn.backend.store g.C.Clock.reads
-    (scene (stream l.fn.buffer (g.S.Ends.left l.fn.input)) (g.O.Ends.written l.fn.output) l.fn.backend.site.kept l.fn.clock)
-    (scene (stream l.buffer (g.S.Ends.left l.input)) (g.O.Ends.written l.output) l.backend.site.kept l.clock) l.turn
-    × (l.backend.store ≡ l.fn.backend.store)
+    SoFar g.C.Clock.reads
+    (scene (stream l.fn.buffer (g.S.Ends.left l.fn.input)) (g.O.Ends.written l.fn.output) l.fn.backend.site.kept l.fn.backend.store.blobs l.fn.clock)
+    (scene (stream l.buffer (g.S.Ends.left l.input)) (g.O.Ends.written l.output) l.backend.site.kept l.backend.store.blobs l.clock) l.turn
     × (l.backend.site.kept.opening ≡ l.fn.backend.site.kept.opening)
     × IsNone (ticket_of l.backend.site.kept.state 1)
     × (g.S.Ends.read_faults l.fn.input ≤ g.S.Ends.read_faults l.input)
