@@ -1,5 +1,5 @@
 -- The way up from a node, folder by folder.
-use Rattle.std.proofs.Common.{ℕ, zero, suc, ◌+◌, ◌-◌, ◌<◌, ◌≡◌, Bool, true, false, ◌==◌, List, Option, None, Some, refl, sym, ◌∙◌, ap, arith}
+use Rattle.std.proofs.Common.{ℕ, zero, suc, ◌+◌, ◌≤◌, ◌≡◌, Bool, true, false, ◌==◌, List, Option, None, Some, refl, arith}
 use Rattle.nf_base.specs.declared.rows.NodeRow.{NodeRow}
 use Rattle.nf_defs.specs.Tree.{parent_of, depth, depth_within, is_under, is_under_within}
 
@@ -18,6 +18,19 @@ depth_up k (suc j) rows at parent more up = let e : j ≡ k = omega arith in rw 
 pub depth_zero : (k : ℕ) (rows : List NodeRow) (at : ℕ) → k ≡ 0 → depth_within k rows at ≡ 0
 unfolding depth_within
 depth_zero k rows at none = rw none refl
+
+depth_within_few : (k : ℕ) (rows : List NodeRow) (at : ℕ) → depth_within k rows at ≤ k
+unfolding depth_within
+depth_within_few zero rows at = omega arith
+depth_within_few (suc k) rows at = here (parent_of rows at) refl (depth_within_few k rows)
+  where
+    here : (up : Option ℕ) → parent_of rows at ≡ up → ((parent : ℕ) → depth_within k rows parent ≤ k) → depth_within (suc k) rows at ≤ suc k
+    here None e few = rw e (omega arith)
+    here (Some parent) e few = let h = few parent in rw e (omega arith)
+
+pub depth_few : (rows : List NodeRow) (node : ℕ) → depth rows node ≤ 64
+unfolding depth
+depth_few rows node = depth_within_few 64 rows node
 
 -- whether a node is under a top, from whether its folder is
 pub under_zero : (k : ℕ) (rows : List NodeRow) (at top : ℕ) → k ≡ 0 → is_under_within k rows at top ≡ (at == top)
