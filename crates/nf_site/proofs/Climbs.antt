@@ -1,5 +1,5 @@
 -- The way up from a node, folder by folder.
-use Rattle.std.proofs.Common.{ℕ, zero, suc, ◌+◌, ◌≤◌, ◌≡◌, Bool, true, false, ◌==◌, List, Option, None, Some, refl, arith}
+use Rattle.std.proofs.Common.{ℕ, zero, suc, ◌+◌, ◌≤◌, ◌≡◌, true, false, ◌==◌, List, Option, None, Some, refl, arith}
 use Rattle.nf_base.specs.declared.rows.NodeRow.{NodeRow}
 use Rattle.nf_defs.specs.Tree.{parent_of, depth, depth_within, is_under, is_under_within}
 
@@ -19,6 +19,7 @@ pub depth_zero : (k : ℕ) (rows : List NodeRow) (at : ℕ) → k ≡ 0 → dept
 unfolding depth_within
 depth_zero k rows at none = rw none refl
 
+-- no node is deeper than 64
 depth_within_few : (k : ℕ) (rows : List NodeRow) (at : ℕ) → depth_within k rows at ≤ k
 unfolding depth_within
 depth_within_few zero rows at = omega arith

@@ -183,14 +183,14 @@ pub(crate) fn subtree(alloc: Global, rows: &[NodeRow], top: NodeId) -> Result<No
 pub(crate) fn replace(rows: &mut [NodeRow], moment: Moment, node: NodeId, content: Content)
     ensures { rows.new ≡ with_content rows.old moment node content }
 {
-    if let Some(at) = place_of(rows, node) {
+    if let Some(at) = index_of(rows, node) {
         let row = &mut rows[at];
         row.content = content;
         row.changed = moment;
     }
 }
 
-fn place_of(rows: &[NodeRow], node: NodeId) -> Option<usize>
+fn index_of(rows: &[NodeRow], node: NodeId) -> Option<usize>
     ensures { result ≡ position (λ row. row.id == node) rows.now }
 {
     rows.iter().position(|row| row.id == node)

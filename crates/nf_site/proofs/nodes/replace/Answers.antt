@@ -6,7 +6,7 @@ use Rattle.nf_site.proofs.nodes.replace.Goals as goal
 
 pub returns-in-Some : goal.returns-in-Some
 returns-in-Some c =
-    let p = position-Some _ c.args.rows.now c.in-Some.at c.index-rows-at.result (sym c.place_of.ensures ∙ c.in-Some.is) in
+    let p = position-Some _ c.args.rows.now c.in-Some.at c.index-rows-at.result (sym c.index_of.ensures ∙ c.in-Some.is) in
     content_at c.args.rows.now c.in-Some.at c.index-rows-at.result c.args.moment c.args.node c.args.content p.0 p.1 p.2
 
 pub returns-in_default : goal.returns-in_default
