@@ -40,7 +40,7 @@ fn limit_passed(tables: &Tables, nodes: u64, deep: u32, pieces: u64) -> Option<L
     if deep > MOST_DEPTH {
         return Some(Limit::Depth);
     }
-    let all_pieces = piece_count(tables.nodes()) + u128::from(pieces);
+    let all_pieces = piece_count(tables.nodes()).saturating_add(u128::from(pieces));
     if all_pieces > MOST_PIECES || meta.next_blob.number() > u64::MAX - pieces {
         return Some(Limit::Pieces);
     }

@@ -1,6 +1,7 @@
 //! Nodes and their places, by scans of their rows.
 
-ghost use Rattle.std.specs.Prelude.{◌≡◌, not, filter, IfOk, option_copied};
+ghost use Rattle.std.specs.Prelude.{◌≡◌, ◌==◌, not, filter, IfOk, option_copied};
+ghost use Rattle.std.specs.List.{position};
 ghost use Rattle.nf_defs.specs.Tree.{node_row, child_of, is_in, is_folder, is_file, is_root, owner_of, content_of, piece_count, folder_of, parent_of, is_under, subtree_of, depth, found_from};
 ghost use Rattle.nf_words.specs.Changes.{is_among, with_content};
 
@@ -182,11 +183,17 @@ pub(crate) fn subtree(alloc: Global, rows: &[NodeRow], top: NodeId) -> Result<No
 pub(crate) fn replace(rows: &mut [NodeRow], moment: Moment, node: NodeId, content: Content)
     ensures { rows.new ≡ with_content rows.old moment node content }
 {
-    let at = rows.iter().position(|row| row.id == node);
-    if let Some(at) = at {
-        rows[at].content = content;
-        rows[at].changed = moment;
+    if let Some(at) = index_of(rows, node) {
+        let row = &mut rows[at];
+        row.content = content;
+        row.changed = moment;
     }
+}
+
+fn index_of(rows: &[NodeRow], node: NodeId) -> Option<usize>
+    ensures { result ≡ position (λ row. row.id == node) rows.now }
+{
+    rows.iter().position(|row| row.id == node)
 }
 
 /// Takes those nodes out.
