@@ -1,9 +1,9 @@
--- An entry that comes keeps what a site holds, and a decision finds its room.
-use Rattle.std.proofs.Common.{ℕ, ◌+◌, ◌≤◌, ◌≡◌, ◌≢◌, Bool, true, false, not, ◌==◌, List, [], ◌∷◌, ◌++◌, Option, IsSome, find, filter, length, vec_capacity, Result, Ok, Err, refl, sym, ap, subst, ◌∙◌, arith, length-append}
+-- An entry that may come keeps what a site holds, and a planned step finds its numbers.
+use Rattle.std.proofs.Common.{ℕ, ◌+◌, ◌≤◌, ◌≡◌, Bool, true, false, not, ◌==◌, List, [], ◌∷◌, Option, IsSome, find, filter, length, vec_capacity, Result, Ok, Err, refl, sym, ap, subst, ◌∙◌, arith, length-append}
 use Rattle.std.specs.Prelude.{None, Some}
 use Rattle.nf_defs.specs.Tables.{Tables}
 use Rattle.nf_words.specs.Changes.{with_goal, goal_of}
-use Rattle.nf_words.specs.History.{MayAsk, MayBear, MayCome, MayEnd, LeavesRoom, after, failed, replay}
+use Rattle.nf_words.specs.History.{MayAsk, MayBear, MayCome, MayEnd, LeavesRoom, after, replay}
 use Rattle.nf_words.specs.State.{State, opened, ticket_of, without_ticket}
 use Rattle.nf_words.specs.Step.{decision_of, decided}
 use Rattle.nf_words.specs.declared.answer.Allowed.{Allowed}
@@ -22,7 +22,7 @@ use Rattle.nf_words.proofs.Histories.{legal_more, replay_more}
 use Rattle.nf_words.proofs.Known.{Known, known_change}
 use Rattle.nf_words.proofs.Steps.{end_tickets}
 use Rattle.nf_site.specs.Current.{Counts}
-use Rattle.nf_site.specs.Held.{Held, HasEntryRoom, HasRoomFor}
+use Rattle.nf_site.specs.Held.{Held, HasEntryRoom}
 use Rattle.nf_site.specs.Kept.{Kept, IsHistory, entered, entry}
 use Rattle.nf_site.specs.Plans.{plan_at}
 use Rattle.nf_site.specs.View.{IsHeld, held_of, kept_of}
@@ -129,18 +129,7 @@ held_step old new site e is held before asked marked room kept capacity =
       );
     }
 
--- a step that is recorded as failed
-pub after_failed : (s : State) (seat moment : ℕ) (event : Event) (mark : Mark) → mark ≢ Answered
-    → after s (entry seat moment event mark) ≡ failed s seat moment event
-after_failed s seat moment event Answered differs = absurd (differs refl)
-after_failed s seat moment event mark differs = refl
-
 -- ---- a decision
-
--- a step that finds its room finds that of its entry
-pub entry_room : (site : Held) (event : Event) → HasRoomFor site event → HasEntryRoom site event
-entry_room site (Begin request) room = room
-entry_room site (End outcome) room = tt
 
 known_counts : (t : Tables) (now : ℕ) (decision : Result Allowed Denial)
     → ((change : Allowed) → decision ≡ Ok change → Known t now change) → Counts t decision

@@ -1,6 +1,6 @@
 use Rattle.std.proofs.Common.{rules}
 use Rattle.nf_site.specs.Kept.{answered}
-use Rattle.nf_site.proofs.Steps.{held_step, counts_step, entry_room}
+use Rattle.nf_site.proofs.Steps.{held_step, counts_step}
 use Rattle.nf_site.proofs.site.Site.adopt.Goals as goal
 
 pub change-requires-clause-counts : goal.change-requires-clause-counts
@@ -11,4 +11,4 @@ pub invariant_of-self : goal.invariant_of-self
 invariant_of-self c =
     let plan = c.args.plan in
     held_step c.self.inside _ c.args.self.now (answered plan.seat plan.moment c.args.event) c.self.view_is c.self.invariant
-    c.requires.not_before c.requires.asked tt (entry_room c.args.self.now c.args.event c.requires.room) (search rules) c.push_reserved.ensures.capacity
+    c.requires.not_before c.requires.asked tt (search rules) (search rules) c.push_reserved.ensures.capacity
