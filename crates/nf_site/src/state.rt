@@ -101,10 +101,7 @@ impl State {
         requires counts { Counts self.old.state.tables decision }
         ensures { self.new.state ≡ stepped_by self.old.state seat moment event.now decision }
     {
-        self.seen = moment;
-        if let Event::End(_) = event {
-            free(&mut self.tickets, seat);
-        }
+        self.leave(seat, moment, event);
         match decision {
             Ok(allowed) => self.apply(seat, moment, allowed),
             Err(_) => {}
@@ -136,6 +133,16 @@ impl State {
     /// Makes the step of a seat's event whose store failed or that found no memory: no row changes.
     pub(crate) fn fail(&mut self, seat: u64, moment: Moment, event: &Event)
         ensures { self.new.state ≡ failed self.old.state seat moment event.now }
+    {
+        self.leave(seat, moment, event);
+    }
+
+    /// Takes from the state what a seat's event takes, whatever it answers.
+    fn leave(&mut self, seat: u64, moment: Moment, event: &Event)
+        ensures state { self.new.state ≡ failed self.old.state seat moment event.now }
+        ensures tables { self.new.state.tables ≡ self.old.state.tables }
+        ensures fewer { length self.new.state.tickets ≤ length self.old.state.tickets }
+        ensures room { self.new.room ≡ self.old.room }
     {
         self.seen = moment;
         if let Event::End(_) = event {

@@ -4,4 +4,4 @@ use Rattle.nf_site.proofs.tables.Tables.of.Given as goal
 
 -- the rows that are left complete the tables
 abbrev pub invariant-loop-row : goal.invariant-loop-row
-invariant-loop-row l = with_rows l.tables (drop l.row-index l.rows) ≡ tables_of l.rows
+invariant-loop-row l = with_rows l.tables.tables (drop l.row-index l.rows) ≡ tables_of l.rows
