@@ -20,6 +20,7 @@ use Rattle.nf_words.specs.declared.history.Event.TheVariants.{Begin}
 use Rattle.nf_words.specs.declared.history.Outcome.{Outcome}
 use Rattle.nf_words.specs.declared.history.Outcome.TheVariants.{Sent}
 use Rattle.nf_words.specs.declared.request.Request.{Request}
+use Rattle.filesd.specs.Asked.{request_of}
 use Rattle.filesd.specs.OneFile.{AsksForFile, ServesOneFile}
 use Rattle.filesd.specs.Reply.{file_reply, reply_bytes}
 use Rattle.filesd.specs.Session.{Through, Session, Runs, first_site, status_of}

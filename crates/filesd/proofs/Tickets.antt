@@ -71,17 +71,20 @@ begin_step k moment r (verdict.Store length) none may is = (
 )
 
 -- a Begin leaves its seat what its verdict says
-pub begin_holds : (k l : Kept) (moment : ℕ) (r : Request) (v : Verdict) → IsNone (ticket_of k.state 1) → MayWant r.wanted
-    → IsVerdict (answer_to k.state 1 moment (Begin r)) v → l ≡ stepped k 1 moment (Begin r) → HoldsTicket l v
-begin_holds k l moment r v none may is steps =
-    subst (λ (z : Kept). HoldsTicket z v) (sym steps) (begin_step k moment r v none may is)
+pub begin_holds : (k l : Kept) (seat moment : ℕ) (r : Request) (v : Verdict) → seat ≡ 1 → IsNone (ticket_of k.state 1) → MayWant r.wanted
+    → IsVerdict (answer_to k.state seat moment (Begin r)) v → l ≡ stepped k seat moment (Begin r) → HoldsTicket l v
+begin_holds k l seat moment r v one none may is steps =
+    let one_step = subst (λ n. l ≡ stepped k n moment (Begin r)) one steps in
+    let one_is = subst (λ n. IsVerdict (answer_to k.state n moment (Begin r)) v) one is in
+    subst (λ (z : Kept). HoldsTicket z v) (sym one_step) (begin_step k moment r v none may one_is)
 
 -- ---- after an End
 
 -- an End leaves it none
-pub end_none : (k l : Kept) (moment : ℕ) (how : Outcome) → l ≡ stepped k 1 moment (End how) → IsNone (ticket_of l.state 1)
-end_none k l moment how steps =
-    subst (λ (z : Kept). IsNone (ticket_of z.state 1)) (sym steps) (is_none _ (end_frees k.state 1 moment how))
+pub end_none : (k l : Kept) (seat moment : ℕ) (how : Outcome) → seat ≡ 1 → l ≡ stepped k seat moment (End how) → IsNone (ticket_of l.state 1)
+end_none k l seat moment how one steps =
+    let one_step = subst (λ n. l ≡ stepped k n moment (End how)) one steps in
+    subst (λ (z : Kept). IsNone (ticket_of z.state 1)) (sym one_step) (is_none _ (end_frees k.state 1 moment how))
 
 -- nor does one that finds no memory
 pub fail_none : (k l : Kept) (moment : ℕ) (how : Outcome) → l ≡ entered k (entry 1 moment (End how) mark.Memory) → IsNone (ticket_of l.state 1)
@@ -93,8 +96,8 @@ pub end_holds : (k l : Kept) (moment : ℕ) (how : Outcome) (v : Verdict) → Is
     → l ≡ stepped k 1 moment (End how) → HoldsTicket l v
 end_holds k l moment how (verdict.Unasked refusal) is steps = absurd is
 end_holds k l moment how verdict.RunFull is steps = absurd is
-end_holds k l moment how (verdict.Denied refusal) is steps = end_none k l moment how steps
-end_holds k l moment how verdict.Made is steps = end_none k l moment how steps
-end_holds k l moment how verdict.Done is steps = end_none k l moment how steps
+end_holds k l moment how (verdict.Denied refusal) is steps = end_none k l 1 moment how refl steps
+end_holds k l moment how verdict.Made is steps = end_none k l 1 moment how refl steps
+end_holds k l moment how verdict.Done is steps = end_none k l 1 moment how refl steps
 end_holds k l moment how (verdict.Serve content) is steps = absurd (ends_grant_nothing k.state 1 moment how (Serve content) is)
 end_holds k l moment how (verdict.Store length) is steps = absurd (ends_grant_nothing k.state 1 moment how (Store is.0 length) is.1)
