@@ -52,7 +52,7 @@ pub fn request(alloc: Global, message: &Message) -> Result<Request, Unasked>
     if !is_built(message) {
         return Err(Unasked::Refused(Denial::NotBuilt));
     }
-    let Some(method) = method(message.method()) else {
+    let Some(method) = method_named(message.method()) else {
         return Err(Unasked::Refused(Denial::NotBuilt));
     };
     let Some(rest) = behind_files(message.target()) else {
@@ -75,7 +75,7 @@ fn is_built(message: &Message) -> bool
     message.field(b"Expect").is_none() && !has_special(message.target())
 }
 
-fn method(bytes: &[u8]) -> Option<Method>
+fn method_named(bytes: &[u8]) -> Option<Method>
     ensures { result ≡ method_of bytes.now }
 {
     if bytes == b"GET".as_slice() {
