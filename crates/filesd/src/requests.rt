@@ -1,12 +1,12 @@
 //! The request of a message.
 
-ghost use Rattle.std.specs.Prelude.{◌≡◌, ◌<◌, ℕ, List, Option, None, Some, Result, Ok, Err, IfOk, IfSome, [], ◌∷◌, ◌++◌, codes, length, map, option_copied, option_map, position, if◌then◌else◌};
+ghost use Rattle.std.specs.Prelude.{◌≡◌, ◌<◌, None, Some, IfOk, IfSome, [], ◌∷◌, codes, length, map, option_copied, option_map, position, if◌then◌else◌};
 ghost use Rattle.std.specs.List.{list_any, slice_split};
 ghost use Rattle.std.specs.Option.{option_map_or};
 ghost use Rattle.nf_base.specs.Naming.{same_ignoring_case};
 ghost use Rattle.nf_words.specs.History.{MayWant};
 ghost use Rattle.nf_words.specs.declared.answer.Denial.TheVariants.{Body};
-ghost use Rattle.filesd.specs.Asked.{GivesRequest, GivesSpot, GivesName, GivesPath, request_of, method_of, wanted_of, body_refusal, files_segments, path_in, from_slash, without_slash, is_built as built, is_slash, is_special, caller_of_value};
+ghost use Rattle.filesd.specs.Asked.{GivesRequest, GivesSpot, GivesName, GivesPath, method_of, wanted_of, body_refusal, files_segments, path_in, from_slash, without_slash, is_built as built, is_slash, is_special, caller_of_value};
 
 use nf_base::{Name, NameFault, Path};
 use nf_http::Message;
