@@ -64,8 +64,7 @@ fn made(alloc: Global, close: bool) -> Result<Vec<u8>, AllocError>
     ensures { IfOk result (λ reply. reply.items ≡ made_reply close) }
 {
     let close = close_line(close);
-    let head =
-        format!(in alloc; "HTTP/1.1 201 Created\r\n{close}Content-Length: 0\r\n\r\n")?;
+    let head = format!(in alloc; "HTTP/1.1 201 Created\r\n{close}Content-Length: 0\r\n\r\n")?;
     Ok(head.into_bytes())
 }
 

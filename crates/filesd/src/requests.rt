@@ -1,11 +1,12 @@
 //! The request of a message.
 
-ghost use Rattle.std.specs.Prelude.{◌≡◌, ◌<◌, ℕ, List, Option, None, Some, Result, Ok, Err, IfOk, IfSome, [], ◌∷◌, ◌++◌, codes, length, map, option_copied, option_map, position, if◌then◌else◌};
+ghost use Rattle.std.specs.Prelude.{◌≡◌, ◌<◌, None, Some, IfOk, IfSome, [], ◌∷◌, codes, length, map, option_copied, option_map, position, if◌then◌else◌};
 ghost use Rattle.std.specs.List.{list_any, slice_split};
+ghost use Rattle.std.specs.Option.{option_map_or};
 ghost use Rattle.nf_base.specs.Naming.{same_ignoring_case};
 ghost use Rattle.nf_words.specs.History.{MayWant};
 ghost use Rattle.nf_words.specs.declared.answer.Denial.TheVariants.{Body};
-ghost use Rattle.filesd.specs.Asked.{GivesRequest, GivesSpot, GivesName, GivesPath, request_of, method_of, wanted_of, body_refusal, files_segments, path_in, from_slash, without_slash, is_built as built, is_slash, is_special, caller_of_value};
+ghost use Rattle.filesd.specs.Asked.{GivesRequest, GivesSpot, GivesName, GivesPath, method_of, wanted_of, body_refusal, files_segments, path_in, from_slash, without_slash, is_built as built, is_slash, is_special, caller_of_value};
 
 use nf_base::{Name, NameFault, Path};
 use nf_http::Message;
@@ -52,7 +53,7 @@ pub fn request(alloc: Global, message: &Message) -> Result<Request, Unasked>
     if !is_built(message) {
         return Err(Unasked::Refused(Denial::NotBuilt));
     }
-    let Some(method) = method(message.method()) else {
+    let Some(method) = method_named(message.method()) else {
         return Err(Unasked::Refused(Denial::NotBuilt));
     };
     let Some(rest) = behind_files(message.target()) else {
@@ -75,7 +76,7 @@ fn is_built(message: &Message) -> bool
     message.field(b"Expect").is_none() && !has_special(message.target())
 }
 
-fn method(bytes: &[u8]) -> Option<Method>
+fn method_named(bytes: &[u8]) -> Option<Method>
     ensures { result ≡ method_of bytes.now }
 {
     if bytes == b"GET".as_slice() {
@@ -160,23 +161,35 @@ fn without_slash(path: &[u8]) -> &[u8]
 fn spot(alloc: Global, rest: &[u8]) -> Result<Spot, Unasked>
     ensures { GivesSpot (slice_split is_slash rest.now) result }
 {
-    let segments = segments(alloc, rest)?;
-    let [user, names @ ..] = segments.as_slice() else {
-        unreachable!()
-    };
+    let (user, behind) = first_segment(rest);
     let user = name(alloc, user)?;
-    let path = path(alloc, names)?;
+    let names = segments(alloc, behind)?;
+    let path = path(alloc, &names)?;
     Ok(Spot {
         user: Some(user),
         path,
     })
 }
 
-fn segments(alloc: Global, rest: &[u8]) -> Result<Vec<Vec<u8>>, AllocError>
-    ensures { IfOk result (λ segments. map (λ segment. segment.items) segments.items ≡ slice_split is_slash rest.now) }
+// The bytes before the first slash, and those behind it.
+fn first_segment(bytes: &[u8]) -> (&[u8], Option<&[u8]>)
+    ensures { slice_split is_slash bytes.now ≡ result.0.now ∷ option_map_or (slice_split is_slash) (option_copied result.1) [] }
+{
+    match first_slash(bytes) {
+        Some(at) => (&bytes[..at], Some(&bytes[at + 1..])),
+        None => (bytes, None),
+    }
+}
+
+// The segments behind a slash, none where there is no slash.
+fn segments(alloc: Global, behind: Option<&[u8]>) -> Result<Vec<Vec<u8>>, AllocError>
+    ensures { IfOk result (λ segments. map (λ segment. segment.items) segments.items ≡ option_map_or (slice_split is_slash) (option_copied behind.entry) []) }
 {
     let mut segments = Vec::new(alloc);
-    for segment in rest.split(|byte| *byte == b'/') {
+    let Some(bytes) = behind else {
+        return Ok(segments);
+    };
+    for segment in bytes.split(|byte| *byte == b'/') {
         segments.push(segment.to_vec(alloc)?)?;
     }
     Ok(segments)

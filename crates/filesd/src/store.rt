@@ -1,6 +1,6 @@
 //! The bytes of blobs, by their numbers.
 
-ghost use Rattle.std.specs.Prelude.{◌≡◌, ◌≤◌, ◌+◌, ◌++◌, [], ◌∷◌, ℕ, List, length, map, IfOk, OnOk};
+ghost use Rattle.std.specs.Prelude.{◌≡◌, ◌≤◌, ◌+◌, ◌++◌, [], ◌∷◌, length, map, IfOk, OnOk};
 ghost use Rattle.filesd.specs.Store.{blob_bytes, body_of, demo_store};
 
 use nf_base::{BlobId, Piece};
