@@ -17,7 +17,7 @@ use Rattle.filesd.specs.Parts.{Responds, EndsBy, EndsSo, denial_of, end_by, outc
 use Rattle.filesd.specs.Reply.{ends_session, refusal_reply, reply_bytes}
 use Rattle.filesd.specs.Store.{Store}
 use Rattle.filesd.specs.Taken.{TakesIn}
-use Rattle.filesd.specs.Turn.{Answers, AnswersSo, CutsShort, Writes, Turn, GivesUp, LeavesOff}
+use Rattle.filesd.specs.Turn.{AnswersSo, CutsShort, Writes, Turn, GivesUp}
 use Rattle.filesd.specs.Verdicts.{Scene, Judges, Passes, Closes, Decides, Drops, taken_length, end_of, end_of_denial}
 use Rattle.filesd.specs.declared.verdict.Verdict.{Verdict}
 use Rattle.filesd.specs.declared.verdict.Verdict.TheVariants as verdict
