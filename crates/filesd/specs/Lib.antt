@@ -9,3 +9,4 @@ pub mod Store
 pub mod Taken
 pub mod Turn
 pub mod Verdicts
+pub mod Whole
