@@ -44,7 +44,11 @@ pub fn take_body<S: Source, C: Clock>(
     ensures later { S.read_faults input.old ≤ S.read_faults input.new }
 {
     let Verdict::Store { length } = first else {
-        let length = if message.expects_continue() { 0 } else { message.length() };
+        let length = if message.expects_continue() {
+            0
+        } else {
+            message.length()
+        };
         let skipped = skip_body(input, buffer, length);
         return (first, skipped);
     };

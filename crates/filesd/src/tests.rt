@@ -73,7 +73,7 @@ fn hello_with(alloc: Global, lines: &str) -> Result<Vec<u8>, AllocError> {
 }
 
 /// Inputs with their outputs and statuses, each read whole and byte by byte.
-const RUNS: [(&str, &str, Status); 19] = [
+const RUNS: [(&str, &str, Status); 23] = [
     ("", "", Status::Done),
     (GET_HELLO, HELLO, Status::Done),
     (
@@ -105,18 +105,38 @@ const RUNS: [(&str, &str, Status); 19] = [
     ("\r\n", BAD_MESSAGE, Status::BadMessage),
     (
         "PUT /remote.php/dav/files/alice/x HTTP/1.1\r\n\r\n",
+        TOKEN,
+        Status::Done,
+    ),
+    (
+        "GET /remote.php/dav/files/alice/ HTTP/1.1\r\nAuthorization: Bearer alice-1\r\n\r\n",
         NOT_BUILT,
         Status::NotBuilt,
     ),
     (
-        "GET /remote.php/dav/files/alice/ HTTP/1.1\r\n\r\n",
+        "GET https://club.example/remote.php/dav/files/alice/hello.txt HTTP/1.1\r\nAuthorization: Bearer alice-1\r\n\r\n",
+        HELLO,
+        Status::Done,
+    ),
+    (
+        "GET http://club.example HTTP/1.1\r\n\r\n",
         NOT_BUILT,
         Status::NotBuilt,
     ),
     (
-        "GET /remote.php/dav/files/alice/.HtAccess HTTP/1.1\r\n\r\n",
+        "POST /remote.php/dav/files/alice/x HTTP/1.1\r\n\r\n",
         NOT_BUILT,
         Status::NotBuilt,
+    ),
+    (
+        "GET /remote.php/dav/files/ HTTP/1.1\r\n\r\n",
+        NOT_BUILT,
+        Status::NotBuilt,
+    ),
+    (
+        "GET /remote.php/dav/files//x HTTP/1.1\r\n\r\n",
+        "HTTP/1.1 400 Bad Request\r\nContent-Type: application/json\r\nContent-Length: 37\r\n\r\n{\"fault\":\"empty\",\"reason\":\"bad-name\"}",
+        Status::Done,
     ),
     (
         "GET /remote.php/dav/files/alice/a%20b HTTP/1.1\r\n\r\n",
@@ -134,7 +154,7 @@ const RUNS: [(&str, &str, Status); 19] = [
         Status::BadMessage,
     ),
     (
-        "PUT /x HTTP/1.1\r\nContent-Length: 3\r\n\r\nab",
+        "PUT /remote.php/dav/files/alice/x HTTP/1.1\r\nAuthorization: Bearer alice-1\r\nContent-Length: 3\r\n\r\nab",
         BAD_MESSAGE,
         Status::BadMessage,
     ),
@@ -380,5 +400,242 @@ fn the_ten_thousandth_message_may_end_the_session(rt: HostRuntime) -> Result<(),
     let (ended, written) = served(alloc, input, 8192)?;
     assert_eq!(rt; ended, Status::Done);
     assert_eq!(rt; written.len(), 10_000 * 125 + 19);
+    Ok(())
+}
+
+/// What a step of a script is answered.
+#[derive(Clone, Copy, Debug)]
+enum Expected {
+    Made,
+    Done,
+    File(&'static str),
+    /// The status and the JSON body.
+    Refused(&'static str, &'static str),
+}
+
+/// The bytes of an answer.
+fn answer_bytes(alloc: Global, answer: Expected) -> Result<Vec<u8>, AllocError> {
+    match answer {
+        Expected::Made => text(
+            alloc,
+            &["HTTP/1.1 201 Created\r\nContent-Length: 0\r\n\r\n"],
+        ),
+        Expected::Done => text(alloc, &["HTTP/1.1 204 No Content\r\n\r\n"]),
+        Expected::File(body) => {
+            let length = format!(in alloc; "{}", body.len())?;
+            text(
+                alloc,
+                &[
+                    "HTTP/1.1 200 OK\r\nContent-Type: application/octet-stream\r\nContent-Length: ",
+                    length.as_str(),
+                    "\r\n\r\n",
+                    body,
+                ],
+            )
+        }
+        Expected::Refused(status, body) => {
+            let length = format!(in alloc; "{}", body.len())?;
+            text(
+                alloc,
+                &[
+                    "HTTP/1.1 ",
+                    status,
+                    "\r\nContent-Type: application/json\r\nContent-Length: ",
+                    length.as_str(),
+                    "\r\n\r\n",
+                    body,
+                ],
+            )
+        }
+    }
+}
+
+/// A message of alice's about a path of hers.
+fn message(alloc: Global, method: &str, path: &str, body: &[u8]) -> Result<Vec<u8>, AllocError> {
+    let length = format!(in alloc; "{}", body.len())?;
+    let mut bytes = text(
+        alloc,
+        &[
+            method,
+            " /remote.php/dav/files/alice",
+            path,
+            " HTTP/1.1\r\nAuthorization: Bearer alice-1\r\nContent-Length: ",
+            length.as_str(),
+            "\r\n\r\n",
+        ],
+    )?;
+    bytes.extend_from_slice(body)?;
+    Ok(bytes)
+}
+
+const NO_FILE: Expected = Expected::Refused("404 Not Found", "{\"reason\":\"not-found\"}");
+
+const NO_PARENT: Expected = Expected::Refused("409 Conflict", "{\"reason\":\"no-parent\"}");
+
+const EXISTS: Expected = Expected::Refused(
+    "405 Method Not Allowed\r\nAllow: GET, PUT, MKCOL, DELETE, MOVE, COPY",
+    "{\"reason\":\"exists\"}",
+);
+
+const ROOT: Expected = Expected::Refused(
+    "403 Forbidden",
+    "{\"cause\":\"root\",\"reason\":\"bad-target\"}",
+);
+
+const FORBIDDEN: Expected = Expected::Refused("403 Forbidden", "{\"reason\":\"forbidden-name\"}");
+
+const BODY: Expected = Expected::Refused("415 Unsupported Media Type", "{\"reason\":\"body\"}");
+
+const EMPTY_NAME: Expected = Expected::Refused(
+    "400 Bad Request",
+    "{\"fault\":\"empty\",\"reason\":\"bad-name\"}",
+);
+
+const SLASH: Expected = Expected::Refused(
+    "400 Bad Request",
+    "{\"fault\":\"slash\",\"reason\":\"bad-name\"}",
+);
+
+const DOTS: Expected = Expected::Refused(
+    "400 Bad Request",
+    "{\"fault\":\"dots\",\"reason\":\"bad-name\"}",
+);
+
+const LONG: Expected = Expected::Refused(
+    "400 Bad Request",
+    "{\"fault\":\"long\",\"reason\":\"bad-name\"}",
+);
+
+const DEEP: Expected = Expected::Refused(
+    "400 Bad Request",
+    "{\"fault\":\"deep\",\"reason\":\"bad-name\"}",
+);
+
+/// A name of 241 bytes.
+const LONG_NAME: &str =
+    "/aaaaaaaaaaaaaaaaaaaaaaaaaaaaaaaaaaaaaaaaaaaaaaaaaaaaaaaaaaaaaaaaaaaaaaaaaaaaaaaaaaaaaaaaaaaaaaaaaaaaaaaaaaaaaaaaaaaaaaaaaaaaaaaaaaaaaaaaaaaaaaaaaaaaaaaaaaaaaaaaaaaaaaaaaaaaaaaaaaaaaaaaaaaaaaaaaaaaaaaaaaaaaaaaaaaaaaaaaaaaaaaaaaaaaaaaaaaaaaaaa";
+
+/// Alice's messages in their order: the method, the path, the body and the answer.
+const SCRIPT: [(&str, &str, &str, Expected); 48] = [
+    // An empty file.
+    ("PUT", "/e", "", Expected::Made),
+    ("GET", "/e", "", Expected::File("")),
+    // Missing parents, and folders made twice.
+    ("PUT", "/a/b.txt", "x", NO_PARENT),
+    ("MKCOL", "/a/b", "", NO_PARENT),
+    ("MKCOL", "/a", "", Expected::Made),
+    ("MKCOL", "/a", "", EXISTS),
+    ("PUT", "/hello.txt/x", "x", NO_PARENT),
+    ("GET", "/hello.txt/x", "", NO_FILE),
+    // A file stored, replaced and read.
+    ("PUT", "/a/b", "ab", Expected::Made),
+    ("GET", "/a/b", "", Expected::File("ab")),
+    ("PUT", "/a/b", "xyz", Expected::Done),
+    ("GET", "/a/b", "", Expected::File("xyz")),
+    ("PUT", "/a/b", "", Expected::Done),
+    ("GET", "/a/b", "", Expected::File("")),
+    ("PUT", "/a/b", "ab", Expected::Done),
+    ("GET", "/hello.txt", "", Expected::File("hello\n")),
+    // A folder isn't stored over, with a slash behind it or without.
+    ("PUT", "/a", "x", EXISTS),
+    ("PUT", "/a/", "x", EXISTS),
+    ("MKCOL", "/a/c/", "", Expected::Made),
+    ("PUT", "/a/c/d", "deep", Expected::Made),
+    ("GET", "/a/c/d/", "", Expected::File("deep")),
+    ("GET", "/a/c/x", "", NO_FILE),
+    // Removed with all under it.
+    ("DELETE", "/a/x", "", NO_FILE),
+    ("DELETE", "/a", "", Expected::Done),
+    ("GET", "/a/b", "", NO_FILE),
+    ("GET", "/a/c/d", "", NO_FILE),
+    ("DELETE", "/a", "", NO_FILE),
+    ("MKCOL", "/a", "", Expected::Made),
+    ("GET", "/a/b", "", NO_FILE),
+    ("DELETE", "/hello.txt", "", Expected::Done),
+    ("GET", "/hello.txt", "", NO_FILE),
+    ("GET", "/e", "", Expected::File("")),
+    // The root.
+    ("DELETE", "/", "", ROOT),
+    ("DELETE", "", "", ROOT),
+    ("MKCOL", "/", "", EXISTS),
+    ("PUT", "", "x", EXISTS),
+    // A forbidden name comes before the place.
+    ("PUT", "/.HtAccess", "x", FORBIDDEN),
+    ("GET", "/x/.htaccess/y", "", FORBIDDEN),
+    ("DELETE", "/x/y/.HTACCESS", "", FORBIDDEN),
+    // A body comes before the names, and the first bad name counts.
+    ("MKCOL", "/b", "x", BODY),
+    ("MKCOL", "/..", "x", BODY),
+    ("PUT", "//x", "x", EMPTY_NAME),
+    ("MKCOL", "/x//", "", EMPTY_NAME),
+    ("GET", "/../a//b", "", DOTS),
+    ("DELETE", "/a/.", "", DOTS),
+    ("PUT", "/a\\b/..", "x", SLASH),
+    ("GET", LONG_NAME, "", LONG),
+    // And after all that the session goes on.
+    ("GET", "/e", "", Expected::File("")),
+];
+
+#[test]
+fn a_script_of_stores_and_removals(rt: HostRuntime) -> Result<(), Fail> {
+    let alloc = rt.alloc();
+    for piece in [1, 8192] {
+        let mut input = Vec::new(alloc);
+        let mut output = Vec::new(alloc);
+        for (method, path, body, answer) in SCRIPT {
+            input.extend_from_slice(&message(alloc, method, path, body.as_bytes())?)?;
+            output.extend_from_slice(&answer_bytes(alloc, answer)?)?;
+        }
+        let (ended, written) = served(alloc, input, piece)?;
+        assert_eq!(rt; ended, Status::Done);
+        assert_eq!(rt; written.as_slice(), output.as_slice());
+    }
+    Ok(())
+}
+
+#[test]
+fn paths_of_64_and_65_names(rt: HostRuntime) -> Result<(), Fail> {
+    let alloc = rt.alloc();
+    let mut input = Vec::new(alloc);
+    let mut output = Vec::new(alloc);
+    let mut path = String::new(alloc);
+    for _ in 0..63 {
+        path.push_str("/d")?;
+        input.extend_from_slice(&message(alloc, "MKCOL", path.as_str(), b"")?)?;
+        output.extend_from_slice(&answer_bytes(alloc, Expected::Made)?)?;
+    }
+    path.push_str("/f")?;
+    input.extend_from_slice(&message(alloc, "PUT", path.as_str(), b"low")?)?;
+    output.extend_from_slice(&answer_bytes(alloc, Expected::Made)?)?;
+    input.extend_from_slice(&message(alloc, "GET", path.as_str(), b"")?)?;
+    output.extend_from_slice(&answer_bytes(alloc, Expected::File("low"))?)?;
+    path.push_str("/g")?;
+    input.extend_from_slice(&message(alloc, "PUT", path.as_str(), b"x")?)?;
+    output.extend_from_slice(&answer_bytes(alloc, DEEP)?)?;
+    input.extend_from_slice(&message(alloc, "DELETE", "/d", b"")?)?;
+    output.extend_from_slice(&answer_bytes(alloc, Expected::Done)?)?;
+    let (ended, written) = served(alloc, input, 8192)?;
+    assert_eq!(rt; ended, Status::Done);
+    assert_eq!(rt; written.as_slice(), output.as_slice());
+    Ok(())
+}
+
+#[test]
+fn the_longest_body_is_stored_and_read(rt: HostRuntime) -> Result<(), Fail> {
+    let alloc = rt.alloc();
+    let mut body = Vec::new(alloc);
+    for i in 0..16_777_216u32 {
+        body.push((i % 251) as u8)?;
+    }
+    let mut input = message(alloc, "PUT", "/big", &body)?;
+    input.extend_from_slice(&message(alloc, "GET", "/big", b"")?)?;
+    let mut output = answer_bytes(alloc, Expected::Made)?;
+    output.extend_from_slice(
+        b"HTTP/1.1 200 OK\r\nContent-Type: application/octet-stream\r\nContent-Length: 16777216\r\n\r\n",
+    )?;
+    output.extend_from_slice(&body)?;
+    let (ended, written) = served(alloc, input, 65_536)?;
+    assert_eq!(rt; ended, Status::Done);
+    assert!(rt; written.as_slice() == output.as_slice());
     Ok(())
 }
