@@ -1,3 +1,4 @@
+pub mod Demo
 pub mod Tickets
 pub mod Turns
 pub mod Sessions

@@ -5,6 +5,7 @@ ghost use Rattle.std.specs.String.{string_bytes};
 ghost use Rattle.nf_outside.specs.Causes.{Rose};
 ghost use Rattle.nf_site.specs.Demo.{demo_rows};
 ghost use Rattle.nf_site.specs.Kept.{IsHistory};
+ghost use Rattle.nf_words.specs.Sound.{IsSound};
 ghost use Rattle.filesd.specs.Command.{IsBatch};
 ghost use Rattle.filesd.specs.OneFile.{ServesOneFile};
 ghost use Rattle.filesd.specs.Session.{Runs, DoesNothing, first_site, status_of};
@@ -119,9 +120,10 @@ pub fn run<S: Source, O: Sink, C: Clock>(
     ensures one_file { IsBatch (map string_bytes words.now) → ServesOneFile result.0
         (S.left input.old) (O.written output.old) (O.written output.new) }
 
-    // The entries are one legal history from the demonstration rows, and the site is what they made.
+    // The entries are one legal history from the demonstration rows, the site is what they made, and its state is sound.
     ensures opening { IfSome result.1 (λ site. site.kept.opening ≡ demo_rows) }
     ensures history { IfSome result.1 (λ site. IsHistory site.kept) }
+    ensures sound { IfSome result.1 (λ site. IsSound site.kept.state) }
 
     ensures read { result.0 ≡ exit.ReadFault → Rose (S.read_faults input.old) (S.read_faults input.new) }
     ensures write { result.0 ≡ exit.WriteFault → Rose (O.write_faults output.old) (O.write_faults output.new) }

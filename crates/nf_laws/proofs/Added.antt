@@ -64,8 +64,8 @@ depth_climbed k rows node root climbs top few = climbs_deep k 64 rows node root 
 
 -- ---- the rows with one more
 
-all_kept : (rows : List NodeRow) (row : NodeRow) → AreKept rows (rows ++ row ∷ [])
-all_kept rows row node old is = record {
+kept_added : (rows : List NodeRow) (row : NodeRow) → AreKept rows (rows ++ row ∷ [])
+kept_added rows row node old is = record {
   row = old;
   there =
       find-append (λ row. row.id == node) rows (row ∷ [])
@@ -117,7 +117,7 @@ new_sound : (t : Tables) (now : ℕ) (row : NodeRow) → AreSound t → KnownNew
 new_sound t now row sound known =
     let made = created t now row in
     let folder = folder_sound t known.folder sound known.in_folder in
-    let h = folder_kept t.nodes made.nodes known.folder (all_kept t.nodes row) known.in_folder in
+    let h = folder_kept t.nodes made.nodes known.folder (kept_added t.nodes row) known.in_folder in
     let id : row.id ≡ t.meta.next_node = ap (λ (r : NodeRow). r.id) known.is_new in
     let owner : row.owner ≡ owner_of t.nodes known.folder = ap (λ (r : NodeRow). r.owner) known.is_new in
     let place : row.place ≡ Inside known.folder = ap (λ (r : NodeRow). r.place) known.is_new in
@@ -140,7 +140,7 @@ new_sound t now row sound known =
           ap (option_and_then (climb made.nodes steps))
           (ap (option_and_then (λ row. folder_of row.place)) (new_there t.nodes row (less_than_new t now row sound known))
           ∙ ap folder_of place)
-          ∙ climb_kept steps t.nodes made.nodes known.folder (root_of_user t folder.0.owner) (all_kept t.nodes row) climbs
+          ∙ climb_kept steps t.nodes made.nodes known.folder (root_of_user t folder.0.owner) (kept_added t.nodes row) climbs
           ∙ ap (λ (user : ℕ). Some (root_of_user t user)) (folder.2 ∙ sym owner);
     }
 
@@ -149,7 +149,7 @@ new_sound t now row sound known =
 pub created_sound : (t : Tables) (now : ℕ) (row : NodeRow) → AreSound t → t.meta.last ≤ now → KnownNew t now row → AreSound (created t now row)
 created_sound t now row sound later known =
     let made = created t now row in
-    let kept = all_kept t.nodes row in
+    let kept = kept_added t.nodes row in
     record {
       rising = all_pairs_push (λ (a b : NodeRow). a.id < b.id) t.nodes row sound.rising (less_than_new t now row sound known);
       nodes = All-push (IsNodeSound made) t.nodes row

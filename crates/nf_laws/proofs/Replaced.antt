@@ -19,10 +19,10 @@ abbrev brought : ℕ → List Piece → NodeRow → NodeRow
 brought now content row = record row { content = content; changed = now }
 
 -- each node keeps its owner, place, name and kind
-all_kept : (rows : List NodeRow) (now node : ℕ) (content : List Piece) → AreKept rows (with_content rows now node content)
-all_kept [] now node content other old is = absurd (none-some old is)
-all_kept (row ∷ rows) now node content other old is =
-    here (row.id == node) (row.id == other) refl refl is (all_kept rows now node content other old)
+kept_replaced : (rows : List NodeRow) (now node : ℕ) (content : List Piece) → AreKept rows (with_content rows now node content)
+kept_replaced [] now node content other old is = absurd (none-some old is)
+kept_replaced (row ∷ rows) now node content other old is =
+    here (row.id == node) (row.id == other) refl refl is (kept_replaced rows now node content other old)
   where
     here : (a b : Bool) → (row.id == node) ≡ a → (row.id == other) ≡ b → node_row (row ∷ rows) other ≡ Some old
         → (node_row rows other ≡ Some old → Kept (with_content rows now node content) other old)
@@ -93,7 +93,7 @@ brought_sound : (t : Tables) (now node : ℕ) (content : List Piece) (old : Node
     → node_row t.nodes node ≡ Some old → IsNodeSound t old → IsNodeSound (replaced t now node content) (brought now content old)
 brought_sound t now node content old later known is sound =
     let made = replaced t now node content in
-    let kept = node_kept t made.meta made.nodes old (all_kept t.nodes now node content) (omega arith) (omega arith) later sound in
+    let kept = node_kept t made.meta made.nodes old (kept_replaced t.nodes now node content) (omega arith) (omega arith) later sound in
     let file : not (is_folder_kind old.kind) ≡ true =
     sym (ap (λ (o : Option NodeRow). option_map_or (λ row. not (is_folder_kind row.kind)) o false) is) ∙ known.file in
     record {
@@ -114,7 +114,7 @@ either_sound : (t : Tables) (now node : ℕ) (content : List Piece) (old row : N
 either_sound t now node content old row later known sound (inl e) =
     let made = replaced t now node content in
     subst (λ (r : NodeRow). IsNodeSound made r) (sym e)
-    (node_kept t made.meta made.nodes old (all_kept t.nodes now node content) (omega arith) (omega arith) later sound)
+    (node_kept t made.meta made.nodes old (kept_replaced t.nodes now node content) (omega arith) (omega arith) later sound)
 either_sound t now node content old row later known sound (inr h) =
     subst (λ (r : NodeRow). IsNodeSound (replaced t now node content) r) (sym h.1) (brought_sound t now node content old later known h.0 sound)
 
@@ -132,7 +132,7 @@ replaced_sound t now node content sound later known =
           (sound.nodes k d (omega (arith, counts.0))) (either k d);
       names = λ i j d before within place name. sound.names i j d before (omega (arith, counts.0))
           (sym (same i d).1 ∙ place ∙ (same j d).1) (sym (same i d).2 ∙ name ∙ (same j d).2);
-      roots = All-weaker (HasRoot t) (HasRoot made) (root_kept t made.meta made.nodes (all_kept t.nodes now node content)) t.users sound.roots;
+      roots = All-weaker (HasRoot t) (HasRoot made) (root_kept t made.meta made.nodes (kept_replaced t.nodes now node content)) t.users sound.roots;
       few_nodes = omega (arith, counts.0, sound.few_nodes);
       few_pieces = omega (arith, counts.1, known.pieces);
     }

@@ -116,10 +116,11 @@ place_kept t meta others row (Inside folder) kept sound =
     let h = folder_kept t.nodes others folder kept sound.0 in (h.0, h.1 ∙ sound.1)
 place_kept t meta others row Trash kept sound = sound
 
-pub pieces_kept : (t : Tables) (meta : MetaRow) (others : List NodeRow) (pieces : List Piece) → t.meta.next_blob ≤ meta.next_blob
-    → All (IsPieceSound t) pieces → All (IsPieceSound (with_nodes t meta others)) pieces
-pieces_kept t meta others pieces grows =
-    All-weaker (IsPieceSound t) (IsPieceSound (with_nodes t meta others))
+-- pieces stay sound in other tables, where no given blob's number is taken back
+pub pieces_kept : (t made : Tables) (pieces : List Piece) → t.meta.next_blob ≤ made.meta.next_blob
+    → All (IsPieceSound t) pieces → All (IsPieceSound made) pieces
+pieces_kept t made pieces grows =
+    All-weaker (IsPieceSound t) (IsPieceSound made)
     (λ piece sound. record { some = sound.some; few = sound.few; given = omega (arith, sound.given) }) pieces
 
 pub node_kept : (t : Tables) (meta : MetaRow) (others : List NodeRow) (row : NodeRow) → AreKept t.nodes others
@@ -129,7 +130,7 @@ node_kept t meta others row kept nodes blobs later sound = record {
   some = sound.some;
   given = omega (arith, sound.given);
   changed = omega (arith, sound.changed);
-  pieces = pieces_kept t meta others row.content blobs sound.pieces;
+  pieces = pieces_kept t (with_nodes t meta others) row.content blobs sound.pieces;
   folder = sound.folder;
   place = place_kept t meta others row row.place kept sound.place;
   steps = sound.steps;

@@ -28,7 +28,7 @@ use Rattle.nf_words.proofs.Steps.{differ_replay}
 use Rattle.nf_laws.proofs.Added.{created_sound}
 use Rattle.nf_laws.proofs.Gone.{removed_sound}
 use Rattle.nf_laws.proofs.Replaced.{replaced_sound}
-use Rattle.nf_laws.proofs.Rows.{found_has}
+use Rattle.nf_laws.proofs.Rows.{found_has, pieces_kept}
 
 -- ---- the rows
 
@@ -60,9 +60,7 @@ blobs_given t now allowed.Close = omega arith
 -- ---- the tickets
 
 goal_stays : (t : Tables) (now : ℕ) (change : Allowed) (goal : Goal) → IsGoalSound t goal → IsGoalSound (changed t now change) goal
-goal_stays t now change (Serve content) h =
-    All-weaker (IsPieceSound t) (IsPieceSound (changed t now change))
-    (λ piece p. record { some = p.some; few = p.few; given = omega (arith, p.given, blobs_given t now change) }) content h
+goal_stays t now change (Serve content) h = pieces_kept t (changed t now change) content (blobs_given t now change) h
 goal_stays t now change (Store key length) h = h
 
 content_sound : (t : Tables) (node : ℕ) → AreSound t → All (IsPieceSound t) (content_of t.nodes node)

@@ -1,3 +1,5 @@
+use Rattle.std.proofs.Common.{rules}
+use Rattle.filesd.proofs.Demo.{sound_kept}
 use Rattle.filesd.proofs.OneFile.{serves_one}
 use Rattle.filesd.proofs.Sessions.{runs_from}
 use Rattle.filesd.proofs.running.run.Goals as goal
@@ -17,3 +19,6 @@ returns-in-Ok-clause-one_file g c = λ batch.
     (g.S.Ends.left c.session-ended.new.input) (g.O.Ends.written c.session-ended.new.output)
     c.args.clock.now c.session-ended.new.clock c.finished.result.0 c.finished.result.1
     (returns-in-Ok-clause-session g c batch)
+
+pub returns-in-Ok-clause-sound : goal.returns-in-Ok-clause-sound
+returns-in-Ok-clause-sound g c = search (rules, sound_kept)
