@@ -1,7 +1,6 @@
 -- What an event isn't answered.
-use Rattle.std.proofs.Common.{◌≡◌, ◌≢◌, ℕ, List, Result, Ok, Err, refl, sym, ap, subst, ◌∙◌}
-use Rattle.std.specs.Prelude.{Bool, true, false, Option, None, Some, if◌then◌else◌}
-use Rattle.nf_base.specs.declared.rows.NodeRow.{NodeRow}
+use Rattle.std.proofs.Common.{◌≡◌, ◌≢◌, ℕ, List, Result, Ok, Err, refl, sym, ap, subst}
+use Rattle.std.specs.Prelude.{Option, None, Some}
 use Rattle.nf_defs.specs.Tables.{Tables}
 use Rattle.nf_defs.specs.declared.Found.{Found}
 use Rattle.nf_defs.specs.declared.Found.TheVariants.{At, Free, Missing}
@@ -20,7 +19,7 @@ use Rattle.nf_words.specs.declared.answer.Goal.TheVariants.{Serve, Store}
 use Rattle.nf_words.specs.declared.answer.LockKey.{LockKey}
 use Rattle.nf_words.specs.declared.answer.LockKey.TheVariants.{Node, Slot}
 use Rattle.nf_words.specs.declared.answer.Reply.{Reply}
-use Rattle.nf_words.specs.declared.answer.Reply.TheVariants.{Made, Done, Closed, Granted}
+use Rattle.nf_words.specs.declared.answer.Reply.TheVariants.{Closed, Granted}
 use Rattle.nf_words.specs.declared.history.Event.TheVariants.{Begin, End}
 use Rattle.nf_words.specs.declared.history.Outcome.{Outcome}
 use Rattle.nf_words.specs.declared.history.Outcome.TheVariants.{Body}
