@@ -3,3 +3,4 @@ pub mod Tickets
 pub mod Turns
 pub mod Sessions
 pub mod OneFile
+pub mod Wholes

@@ -211,7 +211,7 @@ pub serves_one : {C : Type 0} (reads : C → ℕ → C → Type 0) (input before
     → Runs reads (scene input before first_site demo_store c) rest output d status site → ServesOneFile status input before output
 serves_one reads (Some input) (Some before) rest (Some output) c d exit.Done (Some site) runs = λ h content asks is.
     let end = done_is runs.0 runs.1 in
-    let session = subst (λ (z : Ended). Session reads (scene (Some input) (Some before) first_site demo_store c) (scene (stream runs.2 rest) (Some output) site.kept runs.3 d) z) end runs.4 in
+    let session = subst (λ (z : Ended). Session reads (scene (Some input) (Some before) first_site demo_store c) (scene (stream runs.2 rest) (Some output) site.kept runs.3 d) z) end runs.5 in
     closed_one reads h content before c d (stream runs.2 rest) output site.kept runs.3 session.scenes session.before _ asks
     (subst (λ (z : List ℕ). Through reads (scene (Some z) (Some before) first_site demo_store c) session.scenes session.before) is session.through)
     session.turn

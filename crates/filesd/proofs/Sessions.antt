@@ -9,6 +9,7 @@ use Rattle.filesd.specs.Store.{Store, demo_store}
 use Rattle.filesd.specs.Turn.{Turn}
 use Rattle.filesd.specs.Verdicts.{Scene}
 use Rattle.filesd.specs.Session.{Through, EndsAfter, Session, Runs, first_site, status_of}
+use Rattle.filesd.specs.Whole.{IsWhole}
 use Rattle.filesd.specs.declared.running.Status.{Status}
 use Rattle.filesd.proofs.Turns.{scene}
 use Rattle.filesd.specs.declared.session.Ended.{Ended}
@@ -83,12 +84,13 @@ stream_of_source (Some bytes) = refl
 pub runs_from : {C : Type 0} (reads : C → ℕ → C → Type 0) (blobs : Store) (k : Kept) (held : List ℕ)
     (left out rest more : Option (List ℕ)) (back : List ℕ) (kept : Store) (c d : C) (site : Held) (end : Ended) (status : Status) (handed : Option Held)
     → blobs ≡ demo_store → k ≡ first_site → held ≡ [] → status ≡ status_of end → handed ≡ Some site
+    → IsWhole site.kept.state.tables kept
     → Session reads (scene (stream held left) out k blobs c) (scene (stream back rest) more site.kept kept d) end
     → Runs reads (scene left out first_site demo_store c) rest more d status handed
-runs_from reads blobs k held left out rest more back kept c d site end status handed blobs_is k_is held_is status_is handed_is session =
+runs_from reads blobs k held left out rest more back kept c d site end status handed blobs_is k_is held_is status_is handed_is whole session =
     let b = scene (stream back rest) more site.kept kept d in
     let s1 = subst (λ (z : Store). Session reads (scene (stream held left) out k z c) b end) blobs_is session in
     let s2 = subst (λ (z : Kept). Session reads (scene (stream held left) out z demo_store c) b end) k_is s1 in
     let s3 = subst (λ (z : List ℕ). Session reads (scene (stream z left) out first_site demo_store c) b end) held_is s2 in
     let s4 = subst (λ (z : Option (List ℕ)). Session reads (scene z out first_site demo_store c) b end) (stream_of_source left) s3 in
-    subst (λ (z : Option Held). Runs reads (scene left out first_site demo_store c) rest more d status z) (sym handed_is) (end, status_is, back, kept, s4)
+    subst (λ (z : Option Held). Runs reads (scene left out first_site demo_store c) rest more d status z) (sym handed_is) (end, status_is, back, kept, whole, s4)

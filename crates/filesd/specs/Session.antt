@@ -7,6 +7,7 @@ use Rattle.nf_site.specs.Held.{Held}
 use Rattle.filesd.specs.Store.{Store}
 use Rattle.filesd.specs.Turn.{Turn}
 use Rattle.filesd.specs.Verdicts.{Scene}
+use Rattle.filesd.specs.Whole.{IsWhole}
 use Rattle.filesd.specs.declared.session.Ended.{Ended}
 use Rattle.filesd.specs.declared.session.Ended.TheVariants as ended
 use Rattle.filesd.specs.declared.running.Status.{Status}
@@ -47,13 +48,14 @@ abbrev pub first_site : Kept
 first_site = opened_over demo_rows
 
 -- a whole run: a session over the demonstration rows, whose site is handed out, or want of memory before it.
--- What the session has left is what it holds back and what the input has left; its blobs begin with those of the demonstration rows
+-- What the session has left is what it holds back and what the input has left; its blobs begin with those of the demonstration rows,
+-- and those that it ends with are whole for the site's rows
 abbrev pub Runs : {C : Type 0} → (C → ℕ → C → Type 0) → Scene C
     → Option (List ℕ) → Option (List ℕ) → C → Status → Option Held → Type 0
 Runs reads a left output clock status None =
     (status ≡ exit.Memory) × (left ≡ a.input) × (output ≡ a.output) × (clock ≡ a.clock)
 Runs reads a left output clock status (Some site) =
-    (end : Ended) × (status ≡ status_of end) × (held : List ℕ) × (blobs : Store)
+    (end : Ended) × (status ≡ status_of end) × (held : List ℕ) × (blobs : Store) × IsWhole site.kept.state.tables blobs
     × Session reads a
     (record { input = stream held left; output = output; site = site.kept; blobs = blobs; clock = clock }) end
 

@@ -1,5 +1,5 @@
 -- What the site says of a message: its Begin, what its body makes of it, and its End.
-use Rattle.std.specs.Prelude.{◌≡◌, ◌⊎◌, ℕ, ◌<◌, ◌≤◌, Bool, List, length, if◌then◌else◌, Option, None, Some, Result, Ok, Err, IsSome, IsNone}
+use Rattle.std.specs.Prelude.{◌≡◌, ◌⊎◌, ℕ, ◌<◌, ◌≤◌, All, Bool, List, length, if◌then◌else◌, Option, None, Some, Result, Ok, Err, IsSome, IsNone}
 use Rattle.sha2.specs.Sha256.{sha256}
 use Rattle.nf_http.specs.Head.{Head, length_of, expects_continue}
 use Rattle.nf_words.specs.State.{ticket_of}
@@ -89,6 +89,9 @@ pub record Stores (k l : Kept) (blobs more : Store) (now : ℕ) (body : List ℕ
   pub verdict : IsVerdict (answer_of k now (end_with body)) v
   pub site : l ≡ after_event k now (end_with body)
   pub stored : more ≡ with_blob blobs (blob_to k.state 1 (moment_of k.state now) (end_with body)) body
+  -- the number is new
+  pub fresh : (id : ℕ) → blob_to k.state 1 (moment_of k.state now) (end_with body) ≡ Some id
+      → All (λ (blob : ℕ × List ℕ). blob.0 < id) blobs
 
 -- or there is no memory for it: nothing is stored, and the history says so
 pub record FindsNoMemory (k l : Kept) (blobs more : Store) (now : ℕ) (body : List ℕ) (v : Verdict) : Type 0 where

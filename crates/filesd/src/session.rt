@@ -13,6 +13,7 @@ ghost use Rattle.filesd.specs.Parts.{Sends, Responds, EndsBy, EndsSo, end_by, ou
 ghost use Rattle.filesd.specs.Session.{Session};
 ghost use Rattle.filesd.specs.Turn.{Turn};
 ghost use Rattle.filesd.specs.Verdicts.{IsClosing, end_of as verdict_end, end_of_denial as denial_end};
+ghost use Rattle.filesd.specs.Whole.{IsWhole};
 ghost use Rattle.filesd.specs.declared.session.Ended.TheVariants as ended;
 
 use crate::asking::{ask, close};
@@ -135,7 +136,8 @@ fn answer<S: Source, O: Sink, C: Clock>(
     clock: &mut C,
     last: bool,
 ) -> Option<Ended>
-    requires { IsNone (ticket_of backend.old.site.kept.state 1) }
+    requires idle { IsNone (ticket_of backend.old.site.kept.state 1) }
+    requires whole { IsWhole backend.old.site.kept.state.tables backend.old.store.blobs }
     ensures turn { (start : Option (List ℕ)) (h : RequestHead)
         → message.now ≡ head_of h → TakesHead start (stream buffer.old (S.left input.old)) h
         → Turn C.reads last
@@ -143,6 +145,7 @@ fn answer<S: Source, O: Sink, C: Clock>(
         (record { input = stream buffer.new (S.left input.new); output = O.written output.new; site = backend.new.site.kept; blobs = backend.new.store.blobs; clock = clock.new })
         result }
     ensures idle { IsNone (ticket_of backend.new.site.kept.state 1) }
+    ensures whole { IsWhole backend.new.site.kept.state.tables backend.new.store.blobs }
     ensures opening { backend.new.site.kept.opening ≡ backend.old.site.kept.opening }
     ensures read { result ≡ Some ended.ReadFault → Rose (S.read_faults input.old) (S.read_faults input.new) }
     ensures write { result ≡ Some ended.WriteFault → Rose (O.write_faults output.old) (O.write_faults output.new) }
@@ -174,12 +177,14 @@ fn exchange<S: Source, O: Sink, C: Clock>(
     clock: &mut C,
     last: bool,
 ) -> Option<Ended>
-    requires { IsNone (ticket_of backend.old.site.kept.state 1) }
+    requires idle { IsNone (ticket_of backend.old.site.kept.state 1) }
+    requires whole { IsWhole backend.old.site.kept.state.tables backend.old.store.blobs }
     ensures turn { Turn C.reads last
         (record { input = stream buffer.old (S.left input.old); output = O.written output.old; site = backend.old.site.kept; blobs = backend.old.store.blobs; clock = clock.old })
         (record { input = stream buffer.new (S.left input.new); output = O.written output.new; site = backend.new.site.kept; blobs = backend.new.store.blobs; clock = clock.new })
         result }
     ensures idle { IsNone (ticket_of backend.new.site.kept.state 1) }
+    ensures whole { IsWhole backend.new.site.kept.state.tables backend.new.store.blobs }
     ensures opening { backend.new.site.kept.opening ≡ backend.old.site.kept.opening }
     ensures read { result ≡ Some ended.ReadFault → Rose (S.read_faults input.old) (S.read_faults input.new) }
     ensures write { result ≡ Some ended.WriteFault → Rose (O.write_faults output.old) (O.write_faults output.new) }
@@ -234,11 +239,13 @@ pub fn session<S: Source, O: Sink, C: Clock>(
     output: &mut O,
     clock: &mut C,
 ) -> Ended
-    requires { IsNone (ticket_of backend.old.site.kept.state 1) }
+    requires idle { IsNone (ticket_of backend.old.site.kept.state 1) }
+    requires whole { IsWhole backend.old.site.kept.state.tables backend.old.store.blobs }
     ensures session { Session C.reads
         (record { input = stream buffer.old (S.left input.old); output = O.written output.old; site = backend.old.site.kept; blobs = backend.old.store.blobs; clock = clock.old })
         (record { input = stream buffer.new (S.left input.new); output = O.written output.new; site = backend.new.site.kept; blobs = backend.new.store.blobs; clock = clock.new })
         result }
+    ensures whole { IsWhole backend.new.site.kept.state.tables backend.new.store.blobs }
     ensures opening { backend.new.site.kept.opening ≡ backend.old.site.kept.opening }
     ensures read { result ≡ ended.ReadFault → Rose (S.read_faults input.old) (S.read_faults input.new) }
     ensures write { result ≡ ended.WriteFault → Rose (O.write_faults output.old) (O.write_faults output.new) }

@@ -13,6 +13,7 @@ ghost use Rattle.nf_site.specs.Plans.{plan_at, plan_of};
 ghost use Rattle.filesd.specs.Store.{with_blob};
 ghost use Rattle.filesd.specs.Taken.{TakesIn};
 ghost use Rattle.filesd.specs.Verdicts.{HoldsTicket, IsVerdict, Stores, FindsNoMemory, taken_length};
+ghost use Rattle.filesd.specs.Whole.{IsWhole};
 ghost use Rattle.filesd.specs.declared.verdict.Verdict.TheVariants as verdict;
 
 use crate::asking::SEAT;
@@ -35,10 +36,12 @@ pub fn take_body<S: Source, C: Clock>(
     clock: &mut C,
     first: Verdict,
 ) -> (Verdict, Result<(), WireFault>)
-    requires { HoldsTicket backend.old.site.kept first }
+    requires holds { HoldsTicket backend.old.site.kept first }
+    requires whole { IsWhole backend.old.site.kept.state.tables backend.old.store.blobs }
     ensures takes { TakesIn C.reads (taken_length message.now first) (stream buffer.old (S.left input.old)) (stream buffer.new (S.left input.new))
         backend.old.site.kept backend.new.site.kept backend.old.store.blobs backend.new.store.blobs clock.old clock.new first result.0 result.1 }
     ensures ticket { HoldsTicket backend.new.site.kept result.0 }
+    ensures whole { IsWhole backend.new.site.kept.state.tables backend.new.store.blobs }
     ensures opening { backend.new.site.kept.opening ≡ backend.old.site.kept.opening }
     ensures read { result.1 ≡ Err wire.ReadFault → Rose (S.read_faults input.old) (S.read_faults input.new) }
     ensures later { S.read_faults input.old ≤ S.read_faults input.new }
@@ -63,10 +66,12 @@ pub fn take_body<S: Source, C: Clock>(
 
 // The End of a PUT with its body.
 fn store(backend: &mut Backend, now: Moment, body: Vec<u8>) -> Verdict
-    requires { HoldsTicket backend.old.site.kept (verdict.Store (length body.items)) }
+    requires holds { HoldsTicket backend.old.site.kept (verdict.Store (length body.items)) }
+    requires whole { IsWhole backend.old.site.kept.state.tables backend.old.store.blobs }
     ensures stored { Stores backend.old.site.kept backend.new.site.kept backend.old.store.blobs backend.new.store.blobs now body.items result
         ⊎ FindsNoMemory backend.old.site.kept backend.new.site.kept backend.old.store.blobs backend.new.store.blobs now body.items result }
     ensures ticket { HoldsTicket backend.new.site.kept result }
+    ensures whole { IsWhole backend.new.site.kept.state.tables backend.new.store.blobs }
     ensures opening { backend.new.site.kept.opening ≡ backend.old.site.kept.opening }
 {
     let event = Event::End(Outcome::Body {

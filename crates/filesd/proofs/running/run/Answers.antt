@@ -2,7 +2,12 @@ use Rattle.std.proofs.Common.{rules}
 use Rattle.filesd.proofs.Demo.{sound_kept}
 use Rattle.filesd.proofs.OneFile.{serves_one}
 use Rattle.filesd.proofs.Sessions.{runs_from}
+use Rattle.filesd.proofs.Wholes.{opening_whole}
 use Rattle.filesd.proofs.running.run.Goals as goal
+
+pub session-ended-requires-clause-whole : goal.session-ended-requires-clause-whole
+session-ended-requires-clause-whole g c =
+    opening_whole c.in-Ok.backend.site.kept c.in-Ok.backend.store.blobs c.in-Ok.ensures.site c.in-Ok.ensures.store
 
 pub returns-in-Ok-clause-session : goal.returns-in-Ok-clause-session
 returns-in-Ok-clause-session g c = λ batch.
@@ -11,7 +16,7 @@ returns-in-Ok-clause-session g c = λ batch.
     (g.O.Ends.written c.session-ended.new.output) c.session-ended.new.buffer c.session-ended.new.backend.store.blobs c.args.clock.now c.session-ended.new.clock c.session-ended.new.backend.site
     c.session-ended.result c.finished.result.0 c.finished.result.1
     c.in-Ok.ensures.store c.in-Ok.ensures.site c.new-buffer.ensures c.finished.ensures.status c.finished.ensures.site
-    c.session-ended.ensures.session
+    c.session-ended.ensures.whole c.session-ended.ensures.session
 
 pub returns-in-Ok-clause-one_file : goal.returns-in-Ok-clause-one_file
 returns-in-Ok-clause-one_file g c = λ batch.

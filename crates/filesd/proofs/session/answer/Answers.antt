@@ -2,6 +2,7 @@ use Rattle.std.proofs.Common.{◌≡◌, sym, ◌∙◌}
 use Rattle.std.specs.Prelude.{◌||◌}
 use Rattle.nf_http.specs.Told.{stream}
 use Rattle.filesd.proofs.Turns.{scene, turn_from}
+use Rattle.filesd.proofs.Wholes.{closed_whole, judged_whole}
 use Rattle.filesd.proofs.session.answer.Goals.{then-last, else-last}
 use Rattle.filesd.proofs.session.answer.Goals as goal
 
@@ -20,3 +21,14 @@ returns-clause-turn g c = λ start h is takes.
     c.in-Ok.ensures.ok c.take_body-verdict.ensures.takes c.close.ensures.closed
     c.respond-responded.ensures.responds
     (sym c.end_of.ensures)
+
+pub take_body-verdict-requires-clause-whole : goal.take_body-verdict-requires-clause-whole
+take_body-verdict-requires-clause-whole g c =
+    judged_whole g.C.Clock.reads c.args.message.now c.args.backend.now.site.kept c.ask.new.site.kept c.args.clock.now c.ask.new.clock c.in-Ok.first
+    c.args.backend.now.store.blobs c.in-Ok.ensures.ok c.requires.whole
+
+pub returns-clause-whole : goal.returns-clause-whole
+returns-clause-whole g c =
+    closed_whole g.C.Clock.reads c.outcome_of.result c.take_body-verdict.new.backend.site.kept c.close.new.site.kept
+    c.take_body-verdict.new.clock c.close.new.clock c.take_body-verdict.result.0 c.take_body-verdict.new.backend.store.blobs
+    c.outcome_of.ensures.closing c.close.ensures.closed c.take_body-verdict.ensures.whole

@@ -23,6 +23,7 @@ loop-turn-preserved g c = (
       c.loop-turn.turn c.loop-turn.invariant.0 c.in_default.ensures.turn,
   c.in_default.ensures.opening ∙ c.loop-turn.invariant.1,
   c.in_default.ensures.idle,
+  c.in_default.ensures.whole,
   omega (arith, c.in_default.ensures.input_later),
   omega (arith, c.in_default.ensures.output_later),
 )
