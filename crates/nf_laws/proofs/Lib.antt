@@ -4,3 +4,4 @@ pub mod Gone
 pub mod Replaced
 pub mod Rows
 pub mod Stays
+pub mod Words

@@ -1,7 +1,13 @@
-//! Laws of the site's states. The function does nothing: it stands for the fact that it ensures.
+//! Laws of the site's states. The functions do nothing: each stands for the fact that it ensures.
 #![tactic(auto)]
 
+mod tree;
+
 ghost use Rattle.nf_laws.specs.Sound.{StaysSound};
+
+pub use tree::{
+    depth_is_climbed, names_are_taken, nodes_are_present, removal_takes_all_under, under_is_derived,
+};
 
 /// A sound state stays sound by every step of a legal history.
 pub fn stays_sound()

@@ -1,0 +1,152 @@
+-- The words about the tree, against plain ones.
+use Rattle.std.proofs.Common.{ℕ, suc, zero, ◌==◌, ◌≡◌, ◌≤◌, Bool, true, false, not, List, [], ◌∷◌, Option, None, Some, filter, get_or, refl, sym, ap, subst, arith}
+use Rattle.std.specs.Prelude.{bytes_eq, is_some}
+use Rattle.std.specs.List.{All, list_any}
+use Rattle.std.specs.Option.{option_map_or}
+use Rattle.std.proofs.lemmas.Bool.{eq-eqb, eqb-true}
+use Rattle.std.proofs.lemmas.List.Elements.{All-head, All-tail}
+use Rattle.std.proofs.lemmas.List.Folds.{list_any_at}
+use Rattle.std.proofs.lemmas.Option.{none-some, option_and_then_some, same_Some}
+use Rattle.nf_base.specs.FreeNames.{is_taken}
+use Rattle.nf_base.specs.declared.rows.NodeRow.{NodeRow}
+use Rattle.nf_base.specs.declared.rows.Place.{Place}
+use Rattle.nf_base.specs.declared.rows.Place.TheVariants.{Root, Inside, Trash}
+use Rattle.nf_base.specs.declared.rows.UserRow.{UserRow}
+use Rattle.nf_defs.specs.People.{user_row}
+use Rattle.nf_defs.specs.Tables.{Tables}
+use Rattle.nf_defs.specs.Tree.{child_of, climb, depth, depth_within, folder_of, is_folder, is_in, is_present, is_under, node_row, parent_of, subtree_of, taken_names}
+use Rattle.nf_laws.proofs.Climbs.{among_those, climb_under, climbs_no_further, under_climb}
+use Rattle.nf_laws.proofs.Rows.{folder_there, found_has, none_above}
+use Rattle.nf_laws.specs.Tree.{DepthIsClimbed, NamesAreTaken, NodesArePresent, RemovalTakesAllUnder, Under, UnderIsDerived, itself, inside}
+use Rattle.nf_words.specs.Changes.{is_among}
+use Rattle.nf_words.specs.Sound.{AreSound, IsNodeSound, IsPlaceSound, root_of_user}
+
+-- ---- under
+
+derived : (j : ℕ) (rows : List NodeRow) (top node : ℕ) → climb rows j node ≡ Some top → Under rows top node
+derived zero rows top node is = subst (λ (n : ℕ). Under rows n node) (same_Some node top is) itself
+derived (suc j) rows top node is =
+    option_and_then_some (climb rows j) (parent_of rows node) top is
+    (λ parent above is. inside node parent above (derived j rows top parent is))
+
+climbed : (rows : List NodeRow) (top node : ℕ) → Under rows top node → (j : ℕ) × (climb rows j node ≡ Some top)
+climbed rows top _ itself = (0, refl)
+climbed rows top _ (inside node parent above under) = let r = climbed rows top parent under in (suc r.0, rw above r.1)
+
+pub under_derived : UnderIsDerived
+under_derived t top sound k d within =
+    let row : NodeRow = get_or t.nodes k d in
+    let h : IsNodeSound t row = sound.nodes k d within in (
+      λ is. let c = under_climb t.nodes row.id top is in derived c.0 t.nodes top row.id c.2,
+      λ under.
+          let c = climbed t.nodes top row.id under in
+          let few = climbs_no_further h.steps c.0 t.nodes row.id (root_of_user t row.owner) top (none_above t row.owner sound) h.present c.1 in
+          climb_under c.0 t.nodes row.id top (omega (arith, few, h.shallow)) c.1,
+    )
+
+-- ---- present
+
+some_number : (t : Tables) (node : ℕ) (row : NodeRow) → AreSound t → node_row t.nodes node ≡ Some row → 1 ≤ node
+some_number t node row sound there =
+    let h = found_has (IsNodeSound t) (λ row. row.id == node) t.nodes row sound.nodes there in
+    omega (arith, h.1.some, eqb-true row.id node h.0)
+
+-- a folder that a place is in is there
+folder_is : (t : Tables) (row : NodeRow) (place : Place) (parent : ℕ)
+    → IsPlaceSound t row place → folder_of place ≡ Some parent → is_folder t.nodes parent ≡ true
+folder_is t row Root parent sound is = absurd (none-some parent is)
+folder_is t row (Inside folder) parent sound is = subst (λ (n : ℕ). is_folder t.nodes n ≡ true) (same_Some folder parent is) sound.0
+folder_is t row Trash parent sound is = absurd sound
+
+-- no climb ends at 0, the number of no node
+climb_ends : (k : ℕ) (t : Tables) (node top : ℕ) → AreSound t → 1 ≤ node → climb t.nodes k node ≡ Some top → 1 ≤ top
+climb_ends zero t node top sound some is = omega (arith, same_Some node top is)
+climb_ends (suc k) t node top sound some is =
+    option_and_then_some (climb t.nodes k) (parent_of t.nodes node) top is (λ parent above is.
+    option_and_then_some (λ row. folder_of row.place) (node_row t.nodes node) parent above (λ row there place.
+    let h = found_has (IsNodeSound t) (λ row. row.id == node) t.nodes row sound.nodes there in
+    let f = folder_there t.nodes parent (folder_is t row row.place parent h.1.place place) in
+    climb_ends k t parent top sound (some_number t parent f.0 sound f.1) is))
+
+pub nodes_present : NodesArePresent
+nodes_present t sound k d within = here (user_row t.users row.owner) refl h.present
+  where
+    row : NodeRow
+    row = get_or t.nodes k d
+
+    h : IsNodeSound t row
+    h = sound.nodes k d within
+
+    passes : UserRow → Bool
+    passes user = is_under t.nodes row.id user.root
+
+    here : (o : Option UserRow) → user_row t.users row.owner ≡ o → climb t.nodes h.steps row.id ≡ Some (option_map_or (λ user. user.root) o 0)
+        → is_present t.users t.nodes row.id ≡ true
+    here None e is = absurd (omega (arith, climb_ends h.steps t row.id 0 sound h.some is))
+    here (Some user) e is =
+        (found_has (λ user. passes user ≡ true → list_any passes t.users ≡ true) (λ user. user.id == row.owner) t.users user
+        (λ k d within is. list_any_at passes t.users k d within is) e).1
+        (climb_under h.steps t.nodes row.id user.root h.shallow is)
+
+-- ---- names
+
+pub names_taken : NamesAreTaken
+names_taken [] folder name = refl
+names_taken (x ∷ rows) folder name = here (is_in folder x) (bytes_eq x.name name) refl refl (names_taken rows folder name)
+  where
+    here : (a b : Bool) → is_in folder x ≡ a → bytes_eq x.name name ≡ b
+        → is_some (child_of rows folder name) ≡ is_taken name (taken_names rows folder)
+        → is_some (child_of (x ∷ rows) folder name) ≡ is_taken name (taken_names (x ∷ rows) folder)
+    here true true e f rest = simp (e, f)
+    here true false e f rest = simp (e, f) rest
+    here false b e f rest = simp e rest
+
+-- ---- depth
+
+-- the depth of a node that climbs to one in no folder
+depth_steps : (k m : ℕ) (rows : List NodeRow) (node root : ℕ) → parent_of rows root ≡ None → k ≤ m → climb rows k node ≡ Some root
+    → depth_within m rows node ≡ k
+unfolding depth_within
+depth_steps zero zero rows node root ends few is = refl
+depth_steps zero (suc m) rows node root ends few is = rw (same_Some node root is, ends)
+depth_steps (suc k) zero rows node root ends few is = absurd (omega arith)
+depth_steps (suc k) (suc m) rows node root ends few is =
+    option_and_then_some (climb rows k) (parent_of rows node) root is
+    (λ parent above is. rw above (omega (arith, depth_steps k m rows parent root ends (omega arith) is)))
+
+pub depth_climbed : DepthIsClimbed
+unfolding depth
+depth_climbed t sound k d within =
+    let row : NodeRow = get_or t.nodes k d in
+    let h : IsNodeSound t row = sound.nodes k d within in
+    let e = depth_steps h.steps 64 t.nodes row.id (root_of_user t row.owner) (none_above t row.owner sound) h.shallow h.present in
+    (rw e h.present, omega (arith, e, h.shallow))
+
+-- ---- what is removed
+
+-- each row is among them by its number
+row_there : (rows : List NodeRow) → All (λ (row : NodeRow). is_some (node_row rows row.id) ≡ true) rows
+row_there [] k d within = absurd (omega arith)
+row_there (x ∷ rows) zero d within = rw (eq-eqb x.id x.id refl)
+row_there (x ∷ rows) (suc k) d within = here (x.id == (get_or rows k d).id) refl (row_there rows k d (omega arith))
+  where
+    here : (a : Bool) → (x.id == (get_or rows k d).id) ≡ a → is_some (node_row rows (get_or rows k d).id) ≡ true
+        → is_some (node_row (x ∷ rows) (get_or rows k d).id) ≡ true
+    here true e rest = simp e
+    here false e rest = simp e rest
+
+-- two tests that agree at each row keep the same rows
+filter_alike : (p q : NodeRow → Bool) (rows : List NodeRow) → All (λ (row : NodeRow). p row ≡ q row) rows → filter p rows ≡ filter q rows
+filter_alike p q [] alike = refl
+filter_alike p q (x ∷ rows) alike =
+    here (p x) refl (sym (All-head (λ (row : NodeRow). p row ≡ q row) x rows alike))
+    (filter_alike p q rows (All-tail (λ (row : NodeRow). p row ≡ q row) x rows alike))
+  where
+    here : (a : Bool) → p x ≡ a → q x ≡ p x → filter p rows ≡ filter q rows → filter p (x ∷ rows) ≡ filter q (x ∷ rows)
+    here true e same rest = simp (same, e) (ap (λ (rows : List NodeRow). x ∷ rows) rest)
+    here false e same rest = simp (same, e) rest
+
+pub removal_takes : RemovalTakesAllUnder
+removal_takes t now top =
+    filter_alike (λ row. not (is_among (subtree_of t.nodes top) row.id)) (λ row. not (is_under t.nodes row.id top)) t.nodes
+    (λ k d within. ap not (rw (row_there t.nodes k d within) at (among_those (λ n. is_under t.nodes n top) t.nodes (get_or t.nodes k d).id)))
