@@ -1,16 +1,21 @@
 //! Tests of what the contracts don't say: that the words mean what they should.
 
-ghost use Rattle.std.specs.Prelude.{◌≡◌, IfOk, OnOk, IsNone, IsSome};
-ghost use Rattle.nf_words.specs.State.{ticket_of};
+ghost use Rattle.std.specs.Prelude.{◌≡◌, ℕ, List, [], ◌∷◌, ◌++◌, Some, IfOk, OnOk, IsNone, IsSome};
+ghost use Rattle.nf_words.specs.History.{MayWant};
+ghost use Rattle.nf_words.specs.State.{ticket_of, without_ticket};
 ghost use Rattle.nf_words.specs.Step.{answer_to};
-ghost use Rattle.nf_words.specs.declared.history.Event.TheVariants.{Begin, End};
+ghost use Rattle.nf_words.specs.declared.history.Event.TheVariants.{Begin};
+ghost use Rattle.nf_words.specs.declared.history.Outcome.TheVariants.{Body};
 ghost use Rattle.nf_site.specs.Kept.{moment_of, stepped};
 
 use crate::deciding::Call;
 use crate::state::State;
 use crate::{Site, digest_of};
 use nf_base::{BlobId, Digest, Moment, Name, Path, Row, RowList, TokenRow, UserId};
-use nf_words::{Answer, Caller, Denial, Event, Goal, Mark, Outcome, Reply, Request, Spot, Wanted};
+use nf_words::{
+    Allowed, Answer, Caller, Denial, Event, Goal, Mark, Outcome, Reply, Request, Spot, TargetFault,
+    Wanted,
+};
 use std::alloc::{AllocError, Global};
 use std::test::Fail;
 
@@ -51,16 +56,46 @@ fn digests(rt: HostRuntime) {
     }
 }
 
-fn get(alloc: Global, caller: Caller, user: &str, name: &str) -> Result<Request, Fail> {
-    let names = vec![in alloc; Name::read(alloc, name.as_bytes())?]?;
+/// What is asked for. A PUT is of a body of so many bytes.
+#[derive(Clone, Copy, Debug)]
+enum Act {
+    Get,
+    Put(u8),
+    Mkcol,
+    Delete,
+}
+
+fn path(alloc: Global, names: &[&str]) -> Result<Path, Fail> {
+    let mut segments = Vec::new(alloc);
+    for name in names {
+        segments.push(name.as_bytes().to_vec(alloc)?)?;
+    }
+    Ok(Path::read(alloc, &segments)?)
+}
+
+fn request(
+    alloc: Global,
+    caller: Caller,
+    act: Act,
+    user: &str,
+    names: &[&str],
+) -> Result<Request, Fail>
+    ensures { IfOk result (λ request. MayWant request.wanted) }
+{
     let spot = Spot {
         user: Some(Name::read(alloc, user.as_bytes())?),
-        path: Path::new(names),
+        path: path(alloc, names)?,
     };
-    Ok(Request {
-        caller,
-        wanted: Wanted::Get(spot),
-    })
+    let wanted = match act {
+        Act::Get => Wanted::Get(spot),
+        Act::Put(length) => Wanted::Put {
+            spot,
+            length: u64::from(length),
+        },
+        Act::Mkcol => Wanted::Mkcol(spot),
+        Act::Delete => Wanted::Delete(spot),
+    };
+    Ok(Request { caller, wanted })
 }
 
 fn by(token: [u8; 32]) -> Caller {
@@ -74,7 +109,8 @@ fn begin(
     now: u64,
     request: Request,
 ) -> Result<Answer, Fail>
-    requires { IsNone (ticket_of site.old.kept.state seat) }
+    requires idle { IsNone (ticket_of site.old.kept.state seat) }
+    requires may { MayWant request.wanted }
     ensures answer { IfOk result (λ answer. answer ≡ answer_to site.old.kept.state seat (moment_of site.old.kept.state now) (Begin request)) }
     ensures kept { OnOk result (site.new.kept ≡ stepped site.old.kept seat (moment_of site.old.kept.state now) (Begin request)) }
 {
@@ -84,106 +120,276 @@ fn begin(
     Ok(site.adopt(plan, event))
 }
 
-fn end(
-    alloc: Global,
-    site: &mut Site,
-    seat: u64,
-    now: u64,
-    outcome: Outcome,
-) -> Result<Answer, AllocError>
+/// The End of what was granted, without a body.
+#[tactic(auto, using(nf_words::proofs::Steps::end_tickets))]
+fn end(alloc: Global, site: &mut Site, seat: u64, now: u64) -> Result<Answer, AllocError>
     requires { IsSome (ticket_of site.old.kept.state seat) }
-    ensures { OnOk result (site.new.kept ≡ stepped site.old.kept seat (moment_of site.old.kept.state now) (End outcome)) }
+    ensures { OnOk result (site.new.kept.state.tickets ≡ (without_ticket site.old.kept.state seat).tickets) }
 {
-    let event = Event::End(outcome);
+    let event = Event::End(Outcome::Gone);
     let plan = site.plan(alloc, seat, Moment::new(now), &event)?;
     Ok(site.adopt(plan, event))
 }
 
+/// A body of so many bytes.
+fn body(length: u8) -> Outcome
+    ensures { (digest : List ℕ) × (result ≡ Body digest length) }
+{
+    Outcome::Body {
+        digest: Digest::new([length; 32]),
+        length: u64::from(length),
+    }
+}
+
+/// What a step comes to, with the blob in which it stores bytes.
+#[derive(Debug, PartialEq, Drop)]
+enum Said {
+    Refused(Denial),
+    Made(Option<BlobId>),
+    Done(Option<BlobId>),
+    Nothing,
+}
+
+fn told(answer: Answer, blob: Option<BlobId>) -> Said {
+    match answer {
+        Ok(Reply::Made) => Said::Made(blob),
+        Ok(Reply::Done) => Said::Done(blob),
+        Ok(_) => Said::Nothing,
+        Err(denial) => Said::Refused(denial),
+    }
+}
+
+/// The Begin of alice's that is granted.
+fn start(alloc: Global, site: &mut Site, seat: u64, act: Act, names: &[&str]) -> Result<Goal, Fail>
+    requires { IsNone (ticket_of site.old.kept.state seat) }
+    ensures { IfOk result (λ goal. site.new.kept.state.tickets ≡ site.old.kept.state.tickets ++ record { seat = seat; goal = goal } ∷ []) }
+{
+    let event = Event::Begin(request(alloc, by(ALICE), act, "alice", names)?);
+    site.room()?;
+    let plan = site.plan(alloc, seat, Moment::new(5), &event)?;
+    match &plan.decision {
+        Ok(Allowed::Get { .. }) => match site.adopt(plan, event) {
+            Ok(Reply::Granted(goal)) => Ok(goal),
+            _ => Err("not granted")?,
+        },
+        Ok(Allowed::Put { .. }) => match site.adopt(plan, event) {
+            Ok(Reply::Granted(goal)) => Ok(goal),
+            _ => Err("not granted")?,
+        },
+        _ => Err("not granted")?,
+    }
+}
+
+/// The End of a granted PUT.
+#[tactic(auto, using(nf_words::proofs::Steps::end_tickets))]
+fn store(alloc: Global, site: &mut Site, seat: u64, goal: &Goal) -> Result<Said, Fail>
+    requires { ticket_of site.old.kept.state seat ≡ Some (record { seat = seat; goal = goal.now }) }
+    ensures { OnOk result (site.new.kept.state.tickets ≡ (without_ticket site.old.kept.state seat).tickets) }
+{
+    let Goal::Store { length, .. } = goal else {
+        return Err("nothing to store")?;
+    };
+    let event = Event::End(body(u8::try_from(*length)?));
+    let plan = site.plan(alloc, seat, Moment::new(5), &event)?;
+    let blob = plan.blob();
+    Ok(told(site.adopt(plan, event), blob))
+}
+
+/// A whole PUT of alice's.
+fn put(alloc: Global, site: &mut Site, length: u8, names: &[&str]) -> Result<Said, Fail>
+    requires { site.old.kept.state.tickets ≡ [] }
+    ensures { OnOk result (site.new.kept.state.tickets ≡ []) }
+{
+    let goal = start(alloc, site, 1, Act::Put(length), names)?;
+    store(alloc, site, 1, &goal)
+}
+
+/// A Begin of alice's that is granted nothing.
+fn ask(alloc: Global, site: &mut Site, seat: u64, act: Act, names: &[&str]) -> Result<Said, Fail>
+    requires { IsNone (ticket_of site.old.kept.state seat) }
+    ensures { OnOk result (site.new.kept.state.tickets ≡ site.old.kept.state.tickets) }
+{
+    let event = Event::Begin(request(alloc, by(ALICE), act, "alice", names)?);
+    site.room()?;
+    let plan = site.plan(alloc, seat, Moment::new(5), &event)?;
+    let blob = plan.blob();
+    match &plan.decision {
+        Ok(Allowed::Create(_)) => Ok(told(site.adopt(plan, event), blob)),
+        Ok(Allowed::Remove(_)) => Ok(told(site.adopt(plan, event), blob)),
+        Err(_) => Ok(told(site.adopt(plan, event), blob)),
+        _ => Err("granted")?,
+    }
+}
+
+/// The End of a granted PUT that finds no memory.
+fn lose(site: &mut Site, seat: u64, goal: &Goal) -> Result<(), Fail>
+    requires { ticket_of site.old.kept.state seat ≡ Some (record { seat = seat; goal = goal.now }) }
+    ensures { OnOk result (site.new.kept.state.tickets ≡ (without_ticket site.old.kept.state seat).tickets) }
+{
+    let Goal::Store { length, .. } = goal else {
+        return Err("nothing to store")?;
+    };
+    let event = Event::End(body(u8::try_from(*length)?));
+    site.fail(seat, Moment::new(5), event, Mark::Memory);
+    Ok(())
+}
+
 #[test]
 fn refuses_by_the_first_rule(rt: HostRuntime) -> Result<(), Fail> {
+    let alloc = rt.alloc();
     let stranger = [7; 32];
+    let put = Act::Put(2);
+    let hello = ["hello.txt"].as_slice();
+    let none = ["none"].as_slice();
+    let root = [].as_slice();
+    let deep = ["none", "x"].as_slice();
+    let below = ["hello.txt", "x"].as_slice();
+    let inside = ["none", ".HtAccess", "x"].as_slice();
+    let last = ["hello.txt", ".HtAccess"].as_slice();
     let cases = [
-        ("absent", None, "alice", "hello.txt", Denial::Token),
+        (None, Act::Get, "alice", hello, Denial::Token),
+        (Some(stranger), Act::Get, "alice", none, Denial::Token),
+        (Some(stranger), put, "alice", inside, Denial::Token),
+        (None, Act::Mkcol, "bob", hello, Denial::Token),
+        (Some(stranger), Act::Delete, "alice", root, Denial::Token),
+        (Some(BOB), Act::Get, "alice", none, Denial::NotYou),
+        (Some(ALICE), Act::Get, "nobody", hello, Denial::NotYou),
+        (Some(BOB), put, "alice", last, Denial::NotYou),
+        (Some(BOB), Act::Mkcol, "alice", deep, Denial::NotYou),
+        (Some(BOB), Act::Delete, "alice", root, Denial::NotYou),
+        (Some(ALICE), Act::Get, "alice", last, Denial::ForbiddenName),
+        (Some(ALICE), put, "alice", inside, Denial::ForbiddenName),
         (
-            "unknown token",
-            Some(stranger),
-            "alice",
-            "hello.txt",
-            Denial::Token,
-        ),
-        (
-            "another's token",
-            Some(BOB),
-            "alice",
-            "hello.txt",
-            Denial::NotYou,
-        ),
-        (
-            "no such user",
             Some(ALICE),
-            "nobody",
-            "hello.txt",
-            Denial::NotYou,
+            Act::Mkcol,
+            "alice",
+            last,
+            Denial::ForbiddenName,
         ),
         (
-            "missing file",
             Some(ALICE),
+            Act::Delete,
             "alice",
-            "hello",
-            Denial::NotFound,
+            inside,
+            Denial::ForbiddenName,
         ),
+        (Some(ALICE), Act::Get, "alice", none, Denial::NotFound),
+        (Some(CAROL), Act::Get, "carol", hello, Denial::NotFound),
+        (Some(ALICE), Act::Get, "alice", below, Denial::NotFound),
+        (Some(ALICE), Act::Delete, "alice", none, Denial::NotFound),
+        (Some(ALICE), Act::Delete, "alice", below, Denial::NotFound),
+        (Some(ALICE), put, "alice", deep, Denial::NoParent),
+        (Some(ALICE), put, "alice", below, Denial::NoParent),
+        (Some(ALICE), Act::Mkcol, "alice", deep, Denial::NoParent),
+        (Some(ALICE), Act::Mkcol, "alice", below, Denial::NoParent),
+        (Some(ALICE), Act::Get, "alice", root, Denial::NotBuilt),
+        (Some(ALICE), Act::Mkcol, "alice", hello, Denial::Exists),
+        (Some(ALICE), Act::Mkcol, "alice", root, Denial::Exists),
+        (Some(ALICE), put, "alice", root, Denial::Exists),
         (
-            "another's file",
-            Some(CAROL),
-            "carol",
-            "hello.txt",
-            Denial::NotFound,
-        ),
-        (
-            "unknown token and missing file",
-            Some(stranger),
+            Some(ALICE),
+            Act::Delete,
             "alice",
-            "none",
-            Denial::Token,
-        ),
-        (
-            "another's token and missing file",
-            Some(BOB),
-            "alice",
-            "none",
-            Denial::NotYou,
+            root,
+            Denial::BadTarget(TargetFault::Root),
         ),
     ];
-    for (case, token, user, name, denial) in cases {
+    for (token, act, user, names, denial) in cases {
         let caller = match token {
             Some(token) => by(token),
             None => Caller::Absent,
         };
-        let mut site = Site::demo(rt.alloc())?;
-        let request = get(rt.alloc(), caller, user, name)?;
-        let answer = begin(rt.alloc(), &mut site, 1, 5, request)?;
+        let mut site = Site::demo(alloc)?;
+        let request = request(alloc, caller, act, user, names)?;
+        let answer = begin(alloc, &mut site, 1, 5, request)?;
         assert!(rt;
             matches!(answer, Err(refusal) if refusal == denial),
-            "{case}"
+            "{act:?} of {user}'s {names:?}"
         );
     }
     Ok(())
 }
 
 #[test]
-fn grants_the_content(rt: HostRuntime) -> Result<(), Fail> {
-    let mut site = Site::demo(rt.alloc())?;
-    let request = get(rt.alloc(), by(ALICE), "alice", "hello.txt")?;
-    match begin(rt.alloc(), &mut site, 1, 5, request)? {
-        Ok(Reply::Granted(Goal::Serve(content))) => {
+fn stores_and_serves(rt: HostRuntime) -> Result<(), Fail> {
+    let alloc = rt.alloc();
+    let mut site = Site::demo(alloc)?;
+    let file = ["a", "b"].as_slice();
+    let said = ask(alloc, &mut site, 1, Act::Mkcol, &["a"])?;
+    assert_eq!(rt; said, Said::Made(None));
+    let said = put(alloc, &mut site, 2, file)?;
+    assert_eq!(rt; said, Said::Made(Some(BlobId::new(2))));
+    match start(alloc, &mut site, 1, Act::Get, file)? {
+        Goal::Serve(content) => {
             assert_eq!(rt; content.pieces().len(), 1);
             let piece = content.pieces()[0];
-            assert_eq!(rt; piece.blob, BlobId::new(1));
-            assert_eq!(rt; piece.size, 6);
-            assert_eq!(rt; piece.digest, Digest::new(HELLO));
+            assert_eq!(rt; piece.blob, BlobId::new(2));
+            assert_eq!(rt; piece.size, 2);
+            assert_eq!(rt; piece.digest, Digest::new([2; 32]));
         }
-        _ => assert!(rt; false, "not granted"),
+        _ => assert!(rt; false, "nothing to serve"),
     }
+    let _ = end(alloc, &mut site, 1, 5)?;
+    let said = put(alloc, &mut site, 3, file)?;
+    assert_eq!(rt; said, Said::Done(Some(BlobId::new(3))));
+    let said = put(alloc, &mut site, 0, file)?;
+    assert_eq!(rt; said, Said::Done(None));
+    let said = ask(alloc, &mut site, 1, Act::Delete, &["a"])?;
+    assert_eq!(rt; said, Said::Done(None));
+    let said = ask(alloc, &mut site, 1, Act::Get, file)?;
+    assert_eq!(rt; said, Said::Refused(Denial::NotFound));
+    Ok(())
+}
+
+/// Two seats store under one free name.
+#[test]
+fn stores_the_first_of_two(rt: HostRuntime) -> Result<(), Fail> {
+    let alloc = rt.alloc();
+    let mut site = Site::demo(alloc)?;
+    let first = start(alloc, &mut site, 1, Act::Put(2), &["x"])?;
+    let second = start(alloc, &mut site, 2, Act::Put(3), &["x"])?;
+    let said = store(alloc, &mut site, 1, &first)?;
+    assert_eq!(rt; said, Said::Made(Some(BlobId::new(2))));
+    let said = store(alloc, &mut site, 2, &second)?;
+    assert_eq!(rt; said, Said::Refused(Denial::NotFound));
+    let third = start(alloc, &mut site, 2, Act::Put(3), &["x"])?;
+    let said = store(alloc, &mut site, 2, &third)?;
+    assert_eq!(rt; said, Said::Done(Some(BlobId::new(3))));
+    Ok(())
+}
+
+/// A seat stores over a file that another removes meanwhile.
+#[test]
+fn stores_nothing_over_what_is_gone(rt: HostRuntime) -> Result<(), Fail> {
+    let alloc = rt.alloc();
+    let mut site = Site::demo(alloc)?;
+    let goal = start(alloc, &mut site, 1, Act::Put(2), &["hello.txt"])?;
+    let said = ask(alloc, &mut site, 2, Act::Delete, &["hello.txt"])?;
+    assert_eq!(rt; said, Said::Done(None));
+    let said = store(alloc, &mut site, 1, &goal)?;
+    assert_eq!(rt; said, Said::Refused(Denial::NotFound));
+    let said = ask(alloc, &mut site, 1, Act::Get, &["hello.txt"])?;
+    assert_eq!(rt; said, Said::Refused(Denial::NotFound));
+    Ok(())
+}
+
+#[test]
+fn an_end_without_memory_changes_no_row(rt: HostRuntime) -> Result<(), Fail> {
+    let alloc = rt.alloc();
+    let mut site = Site::demo(alloc)?;
+    let goal = start(alloc, &mut site, 1, Act::Put(2), &["x"])?;
+    lose(&mut site, 1, &goal)?;
+    match site.history() {
+        [_, entry] => {
+            assert_eq!(rt; entry.mark, Mark::Memory);
+            assert!(rt; matches!(entry.event, Event::End(Outcome::Body { length: 2, .. })));
+        }
+        _ => assert!(rt; false, "not two entries"),
+    }
+    let said = ask(alloc, &mut site, 1, Act::Get, &["x"])?;
+    assert_eq!(rt; said, Said::Refused(Denial::NotFound));
+    let said = put(alloc, &mut site, 2, &["x"])?;
+    assert_eq!(rt; said, Said::Made(Some(BlobId::new(2))));
     Ok(())
 }
 
@@ -191,10 +397,10 @@ fn grants_the_content(rt: HostRuntime) -> Result<(), Fail> {
 #[test]
 fn ends_what_it_granted(rt: HostRuntime) -> Result<(), Fail> {
     let mut site = Site::demo(rt.alloc())?;
-    let request = get(rt.alloc(), by(ALICE), "alice", "hello.txt")?;
+    let request = request(rt.alloc(), by(ALICE), Act::Get, "alice", &["hello.txt"])?;
     match begin(rt.alloc(), &mut site, 3, 50, request)? {
         Ok(Reply::Granted(_)) => {
-            let answer = end(rt.alloc(), &mut site, 3, 40, Outcome::Gone)?;
+            let answer = end(rt.alloc(), &mut site, 3, 40)?;
             assert!(rt; matches!(answer, Ok(Reply::Closed)));
         }
         _ => assert!(rt; false, "not granted"),
@@ -220,7 +426,7 @@ fn knows_a_token_without_its_user(rt: HostRuntime) -> Result<(), Fail> {
         user: UserId::new(9),
     }))?;
     let state = State::open(rt.alloc(), rows.rows())?;
-    let request = get(rt.alloc(), by(ALICE), "alice", "hello.txt")?;
+    let request = request(rt.alloc(), by(ALICE), Act::Get, "alice", &["hello.txt"])?;
     let call = Call {
         state: &state,
         seat: 1,
