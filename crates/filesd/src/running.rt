@@ -1,6 +1,6 @@
 //! The top call.
 
-ghost use Rattle.std.specs.Prelude.{◌≡◌, ◌↔◌, List, ℕ, None, Some, Option, map, IfOk, IfSome, IsTrue};
+ghost use Rattle.std.specs.Prelude.{◌≡◌, ◌↔◌, List, ℕ, None, Some, Option, map, IfOk, IfSome, IsNone, IsTrue};
 ghost use Rattle.std.specs.String.{string_bytes};
 ghost use Rattle.nf_outside.specs.Causes.{Rose};
 ghost use Rattle.nf_site.specs.Demo.{demo_rows};
@@ -11,6 +11,8 @@ ghost use Rattle.filesd.specs.OneFile.{ServesOneFile};
 ghost use Rattle.filesd.specs.Session.{Runs, DoesNothing, first_site, status_of};
 ghost use Rattle.filesd.specs.Statuses.{code_of, word_of};
 ghost use Rattle.filesd.specs.Store.{demo_store};
+ghost use Rattle.filesd.specs.Whole.{IsWhole};
+ghost use Rattle.nf_words.specs.State.{ticket_of};
 ghost use Rattle.filesd.specs.declared.running.Status.TheVariants as exit;
 
 use crate::session::{Backend, Ended, session};
@@ -124,6 +126,8 @@ pub fn run<S: Source, O: Sink, C: Clock>(
     ensures opening { IfSome result.1 (λ site. site.kept.opening ≡ demo_rows) }
     ensures history { IfSome result.1 (λ site. IsHistory site.kept) }
     ensures sound { IfSome result.1 (λ site. IsSound site.kept.state) }
+    // What was granted is ended, however the run ended.
+    ensures idle { IfSome result.1 (λ site. IsNone (ticket_of site.kept.state 1)) }
 
     ensures read { result.0 ≡ exit.ReadFault → Rose (S.read_faults input.old) (S.read_faults input.new) }
     ensures write { result.0 ≡ exit.WriteFault → Rose (O.write_faults output.old) (O.write_faults output.new) }
@@ -150,10 +154,12 @@ fn is_batch(words: &[String]) -> bool
     }
 }
 
-// The demonstration rows and their bytes.
-fn open(alloc: Global) -> Result<Backend, AllocError>
+/// The demonstration rows and their bytes.
+pub(crate) fn open(alloc: Global) -> Result<Backend, AllocError>
     ensures site { IfOk result (λ backend. backend.site.kept ≡ first_site) }
     ensures store { IfOk result (λ backend. backend.store.blobs ≡ demo_store) }
+    ensures idle { IfOk result (λ backend. IsNone (ticket_of backend.site.kept.state 1)) }
+    ensures whole { IfOk result (λ backend. IsWhole backend.site.kept.state.tables backend.store.blobs) }
 {
     Ok(Backend {
         alloc,

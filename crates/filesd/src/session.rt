@@ -245,6 +245,7 @@ pub fn session<S: Source, O: Sink, C: Clock>(
         (record { input = stream buffer.old (S.left input.old); output = O.written output.old; site = backend.old.site.kept; blobs = backend.old.store.blobs; clock = clock.old })
         (record { input = stream buffer.new (S.left input.new); output = O.written output.new; site = backend.new.site.kept; blobs = backend.new.store.blobs; clock = clock.new })
         result }
+    ensures idle { IsNone (ticket_of backend.new.site.kept.state 1) }
     ensures whole { IsWhole backend.new.site.kept.state.tables backend.new.store.blobs }
     ensures opening { backend.new.site.kept.opening ≡ backend.old.site.kept.opening }
     ensures read { result ≡ ended.ReadFault → Rose (S.read_faults input.old) (S.read_faults input.new) }

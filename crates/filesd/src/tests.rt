@@ -1,6 +1,8 @@
 //! Whole runs, from bytes to bytes. Expected bytes are written out by hand from the standards and the user's guide.
 
-use crate::running::{Status, run};
+use crate::running::{Status, open, run};
+use crate::session::{Ended, session};
+use nf_http::Buffer;
 use nf_outside::{ListClock, MemSink, MemSource};
 use std::alloc::{AllocError, Global};
 use std::test::Fail;
@@ -637,5 +639,40 @@ fn the_longest_body_is_stored_and_read(rt: HostRuntime) -> Result<(), Fail> {
     let (ended, written) = served(alloc, input, 65_536)?;
     assert_eq!(rt; ended, Status::Done);
     assert!(rt; written.as_slice() == output.as_slice());
+    Ok(())
+}
+
+#[test]
+fn a_put_that_is_cut_stores_nothing(rt: HostRuntime) -> Result<(), Fail> {
+    let alloc = rt.alloc();
+    let mut backend = open(alloc)?;
+    let mut clock = ListClock::new(vec![in alloc; MOMENT]?);
+    let put = message(alloc, "PUT", "/hello.txt", b"good bye\n")?;
+    let cut = put[..put.len() - 1].to_vec(alloc)?;
+    let mut input = MemSource::new(cut, Vec::new(alloc), Vec::new(alloc));
+    let mut output = MemSink::new(alloc, Vec::new(alloc));
+    let mut buffer = Buffer::new();
+    let ended = session(
+        &mut backend,
+        &mut buffer,
+        &mut input,
+        &mut output,
+        &mut clock,
+    );
+    assert_eq!(rt; ended, Ended::BadMessage);
+    assert_eq!(rt; output.bytes(), BAD_MESSAGE.as_bytes());
+    let get = message(alloc, "GET", "/hello.txt", b"")?;
+    let mut input = MemSource::new(get, Vec::new(alloc), Vec::new(alloc));
+    let mut output = MemSink::new(alloc, Vec::new(alloc));
+    let mut buffer = Buffer::new();
+    let ended = session(
+        &mut backend,
+        &mut buffer,
+        &mut input,
+        &mut output,
+        &mut clock,
+    );
+    assert_eq!(rt; ended, Ended::Closed);
+    assert_eq!(rt; output.bytes(), HELLO.as_bytes());
     Ok(())
 }

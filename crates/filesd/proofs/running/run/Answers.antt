@@ -2,12 +2,7 @@ use Rattle.std.proofs.Common.{rules}
 use Rattle.filesd.proofs.Demo.{sound_kept}
 use Rattle.filesd.proofs.OneFile.{serves_one}
 use Rattle.filesd.proofs.Sessions.{runs_from}
-use Rattle.filesd.proofs.Wholes.{opening_whole}
 use Rattle.filesd.proofs.running.run.Goals as goal
-
-pub session-ended-requires-clause-whole : goal.session-ended-requires-clause-whole
-session-ended-requires-clause-whole g c =
-    opening_whole c.in-Ok.backend.site.kept c.in-Ok.backend.store.blobs c.in-Ok.ensures.site c.in-Ok.ensures.store
 
 pub returns-in-Ok-clause-session : goal.returns-in-Ok-clause-session
 returns-in-Ok-clause-session g c = λ batch.
