@@ -517,8 +517,12 @@ const DEEP: Expected = Expected::Refused(
 const LONG_NAME: &str =
     "/aaaaaaaaaaaaaaaaaaaaaaaaaaaaaaaaaaaaaaaaaaaaaaaaaaaaaaaaaaaaaaaaaaaaaaaaaaaaaaaaaaaaaaaaaaaaaaaaaaaaaaaaaaaaaaaaaaaaaaaaaaaaaaaaaaaaaaaaaaaaaaaaaaaaaaaaaaaaaaaaaaaaaaaaaaaaaaaaaaaaaaaaaaaaaaaaaaaaaaaaaaaaaaaaaaaaaaaaaaaaaaaaaaaaaaaaaaaaaaaaa";
 
+/// The same between two others.
+const LONG_PATH: &str =
+    "/a/aaaaaaaaaaaaaaaaaaaaaaaaaaaaaaaaaaaaaaaaaaaaaaaaaaaaaaaaaaaaaaaaaaaaaaaaaaaaaaaaaaaaaaaaaaaaaaaaaaaaaaaaaaaaaaaaaaaaaaaaaaaaaaaaaaaaaaaaaaaaaaaaaaaaaaaaaaaaaaaaaaaaaaaaaaaaaaaaaaaaaaaaaaaaaaaaaaaaaaaaaaaaaaaaaaaaaaaaaaaaaaaaaaaaaaaaaaaaaaaaa/..";
+
 /// Alice's messages in their order: the method, the path, the body and the answer.
-const SCRIPT: [(&str, &str, &str, Expected); 48] = [
+const SCRIPT: [(&str, &str, &str, Expected); 50] = [
     // An empty file.
     ("PUT", "/e", "", Expected::Made),
     ("GET", "/e", "", Expected::File("")),
@@ -573,7 +577,9 @@ const SCRIPT: [(&str, &str, &str, Expected); 48] = [
     ("GET", "/../a//b", "", DOTS),
     ("DELETE", "/a/.", "", DOTS),
     ("PUT", "/a\\b/..", "x", SLASH),
+    ("MKCOL", "/a/b\\c", "", SLASH),
     ("GET", LONG_NAME, "", LONG),
+    ("PUT", LONG_PATH, "x", LONG),
     // And after all that the session goes on.
     ("GET", "/e", "", Expected::File("")),
 ];

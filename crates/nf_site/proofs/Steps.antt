@@ -21,7 +21,7 @@ use Rattle.nf_words.specs.declared.request.Request.{Request}
 use Rattle.nf_words.proofs.Histories.{legal_more, replay_more}
 use Rattle.nf_words.proofs.Known.{Known, known_change}
 use Rattle.nf_words.proofs.Steps.{end_tickets}
-use Rattle.nf_site.specs.Current.{Counts}
+use Rattle.nf_decide.specs.Current.{Counts}
 use Rattle.nf_site.specs.Held.{Held, HasEntryRoom}
 use Rattle.nf_site.specs.Kept.{Kept, IsHistory, entered, entry}
 use Rattle.nf_site.specs.Plans.{plan_at}

@@ -1,17 +1,10 @@
-//! The site: its rows, the tickets of its seats, and its history. A step is planned and then adopted.
+//! The site: its state, and the history that led there. A step is planned and then adopted.
 #![tactic(auto)]
 
-mod deciding;
 mod demo;
 mod digests;
-mod ending;
-mod limits;
-mod nodes;
-mod people;
 mod plan;
 mod site;
-mod state;
-mod tables;
 #[cfg(test)]
 mod tests;
 

@@ -14,12 +14,9 @@ ghost use Rattle.nf_words.specs.declared.history.Mark.TheVariants.{Answered};
 ghost use Rattle.nf_site.specs.declared.site.RoomFault.TheVariants.{Full};
 
 use crate::Plan;
-use crate::deciding::Call;
 use crate::demo::demo_rows;
-use crate::ending::decide_end;
-use crate::nodes::copy;
-use crate::state::State;
 use nf_base::{Moment, RowList};
+use nf_decide::{Call, State, copy_content, decide_end};
 use nf_words::{
     Allowed, Answer, Denial, Entry, Event, Goal, LockKey, Mark, Outcome, Reply, Request,
 };
@@ -269,7 +266,7 @@ fn reply(alloc: Global, allowed: &Allowed) -> Result<Reply, AllocError>
     ensures { IfOk result (λ reply. reply ≡ reply_to allowed.now) }
 {
     match allowed {
-        Allowed::Get { content } => Ok(Reply::Granted(Goal::Serve(copy(alloc, content)?))),
+        Allowed::Get { content } => Ok(Reply::Granted(Goal::Serve(copy_content(alloc, content)?))),
         Allowed::Put { key, length } => Ok(Reply::Granted(Goal::Store {
             key: copy_key(key)?,
             length: *length,

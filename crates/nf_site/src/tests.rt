@@ -8,10 +8,9 @@ ghost use Rattle.nf_words.specs.declared.history.Event.TheVariants.{Begin};
 ghost use Rattle.nf_words.specs.declared.history.Outcome.TheVariants.{Body};
 ghost use Rattle.nf_site.specs.Kept.{moment_of, stepped};
 
-use crate::deciding::Call;
-use crate::state::State;
 use crate::{Site, digest_of};
 use nf_base::{BlobId, Digest, Moment, Name, Path, Row, RowList, TokenRow, UserId};
+use nf_decide::{Call, State};
 use nf_words::{
     Allowed, Answer, Caller, Denial, Event, Goal, Mark, Outcome, Reply, Request, Spot, TargetFault,
     Wanted,

@@ -1,7 +1,0 @@
-use Rattle.std.proofs.Common.{◌≡◌, drop}
-use Rattle.nf_defs.specs.Tables.{with_rows, tables_of}
-use Rattle.nf_site.proofs.tables.Tables.of.Given as goal
-
--- the rows that are left complete the tables
-abbrev pub invariant-loop-row : goal.invariant-loop-row
-invariant-loop-row l = with_rows l.tables.tables (drop l.row-index l.rows) ≡ tables_of l.rows
