@@ -9,6 +9,9 @@ use crate::BlobId;
 use std::alloc::{AllocError, Global};
 use std::marker::Model;
 
+/// The most bytes that the body of a message, a piece or a blob has.
+pub const MAX_BODY: u64 = 16_777_216;
+
 /// The SHA-256 digest of some bytes (FIPS 180-4).
 #[derive(Clone, Copy, Debug, PartialEq, Eq)]
 pub struct Digest {

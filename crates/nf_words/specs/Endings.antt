@@ -2,7 +2,6 @@
 use Rattle.std.specs.Prelude.{ℕ, ◌==◌, ◌&&◌, List, [], ◌∷◌, Option, None, Some, is_none, option_map, Result, Ok, Err, if◌then◌else◌}
 use Rattle.std.specs.Option.{option_or}
 use Rattle.nf_base.specs.declared.content.Piece.{Piece}
-use Rattle.nf_base.specs.declared.rows.MetaRow.{MetaRow}
 use Rattle.nf_base.specs.declared.rows.NodeKind.TheVariants.{File}
 use Rattle.nf_defs.specs.Tables.{Tables}
 use Rattle.nf_defs.specs.Tree.{child_of, is_file, is_folder}
@@ -24,8 +23,8 @@ use Rattle.nf_words.specs.declared.history.Outcome.TheVariants.{Sent, Gone, Body
 use Rattle.nf_words.specs.declared.history.Ticket.{Ticket}
 
 abbrev pub unless_refused : Option Denial → Allowed → Result Allowed Denial
-unless_refused None change = Ok change
-unless_refused (Some refusal) change = Err refusal
+unless_refused None act = Ok act
+unless_refused (Some refusal) act = Err refusal
 
 -- the place of what is stored
 abbrev pub place_of : LockKey → Found
@@ -40,18 +39,23 @@ key_lost t (Slot folder name) =
 
 -- the first rule that refuses the End of a PUT: `not-found`, `limit`
 abbrev pub end_refusal : Tables → LockKey → ℕ → Option Denial
-end_refusal t key length = option_or (key_lost t key) (option_map denial.Limit (limit_at t (place_of key) (pieces_of length)))
+end_refusal t key length = option_or (key_lost t key) (option_map denial.Limit (limit_at t (pieces_of length) (place_of key)))
 
--- the content of a body, in the next blob; an empty body has no piece
-abbrev pub content_of_body : MetaRow → List ℕ → ℕ → List Piece
-content_of_body meta digest length =
-    if length == 0 then [] else record { blob = meta.next_blob; size = length; digest = digest } ∷ []
+-- the blob of a body: the next one, or none for an empty body
+abbrev pub blob_for : ℕ → ℕ → Option ℕ
+blob_for next length = if length == 0 then None else Some next
 
--- what storing a body changes
+-- the content of a body in its blob
+abbrev pub content_in : Option ℕ → List ℕ → ℕ → List Piece
+content_in None digest length = []
+content_in (Some blob) digest length = record { blob = blob; size = length; digest = digest } ∷ []
+
+-- what storing a body does
 abbrev pub stored_at : Tables → ℕ → LockKey → List ℕ → ℕ → Allowed
-stored_at t now (Node node) digest length = allowed.Replace node (content_of_body t.meta digest length)
+stored_at t now (Node node) digest length =
+    let blob = blob_for t.meta.next_blob length in allowed.StoreOver node (content_in blob digest length) blob
 stored_at t now (Slot folder name) digest length =
-    allowed.Create (new_node t now folder name File (content_of_body t.meta digest length))
+    let blob = blob_for t.meta.next_blob length in allowed.StoreNew (new_node t now folder name File (content_in blob digest length)) blob
 
 abbrev pub stores : Tables → ℕ → LockKey → List ℕ → ℕ → Result Allowed Denial
 stores t now key digest length = unless_refused (end_refusal t key length) (stored_at t now key digest length)
@@ -61,7 +65,7 @@ abbrev pub ends_goal : Tables → ℕ → Outcome → Goal → Result Allowed De
 ends_goal t now Sent goal = Ok allowed.Close
 ends_goal t now Gone goal = Ok allowed.Close
 ends_goal t now (Body digest length) (Serve content) = Ok allowed.Close
-ends_goal t now (Body digest length) (Store key wanted) = stores t now key digest length
+ends_goal t now (Body digest length) (Store who key wanted) = stores t now key digest length
 
 abbrev pub ends_ticket : Tables → ℕ → Outcome → Option Ticket → Result Allowed Denial
 ends_ticket t now outcome None = Ok allowed.Close

@@ -1,7 +1,9 @@
 -- Legal histories: lists of entries, each of which may come in the state that those before it made.
-use Rattle.std.specs.Prelude.{◌≡◌, ◌≢◌, ℕ, ◌+◌, ◌≤◌, List, [], ◌∷◌, length, Option, None, Some, IsNone, Result, Err}
+use Rattle.std.specs.Prelude.{◌≡◌, ◌≢◌, ℕ, ◌+◌, ◌≤◌, Bool, false, not, List, [], ◌∷◌, length, Option, None, Some, IsNone, IfSome, is_some, Result, Err}
+use Rattle.nf_base.specs.declared.content.TheConstants.{MAX_BODY}
+use Rattle.nf_words.specs.Calls.{source_of, target_of}
 use Rattle.nf_words.specs.State.{State, ticket_of}
-use Rattle.nf_words.specs.Step.{step, answer_to, without}
+use Rattle.nf_words.specs.Step.{step, answer_to, changes_to, without}
 use Rattle.nf_words.specs.declared.answer.Denial.{Denial}
 use Rattle.nf_words.specs.declared.answer.Denial.TheVariants as denial
 use Rattle.nf_words.specs.declared.answer.Reply.{Reply}
@@ -15,6 +17,10 @@ use Rattle.nf_words.specs.declared.history.Outcome.TheVariants.{Sent, Gone, Body
 use Rattle.nf_words.specs.declared.history.Ticket.{Ticket}
 use Rattle.nf_words.specs.declared.answer.Goal.{Goal}
 use Rattle.nf_words.specs.declared.answer.Goal.TheVariants.{Serve, Store}
+use Rattle.nf_words.specs.declared.request.Caller.{Caller}
+use Rattle.nf_words.specs.declared.request.Caller.TheVariants.{Absent, Token}
+use Rattle.nf_words.specs.declared.request.Request.{Request}
+use Rattle.nf_words.specs.declared.request.Spot.{Spot}
 use Rattle.nf_words.specs.declared.request.Wanted.{Wanted}
 use Rattle.nf_words.specs.declared.request.Wanted.TheVariants.{Get, Put, Mkcol, Delete}
 
@@ -37,29 +43,44 @@ answer_at s e mark.Answered = answer_to s e.seat e.moment e.event
 answer_at s e mark.Store = Err denial.Store
 answer_at s e mark.Memory = Err denial.Memory
 
--- the answers of some entries, in their order
-abbrev pub answers_from : State → List Entry → List (Result Reply Denial)
-answers_from s [] = []
-answers_from s (e ∷ es) = answer_at s e e.mark ∷ answers_from (after s e) es
-
 -- the state after some entries
 abbrev pub replay : State → List Entry → State
 replay s [] = s
 replay s (e ∷ es) = replay (after s e) es
 
--- a body that is to be stored has at most 16,777,216 bytes
-abbrev pub MayWant : Wanted → Type 0
-MayWant (Put spot length) = length ≤ 16777216
-MayWant (Get spot) = Unit {0}
-MayWant (Mkcol spot) = Unit {0}
-MayWant (Delete spot) = Unit {0}
+-- how many entries a run may have
+abbrev pub most_entries : ℕ
+most_entries = 262144
+
+-- ---- what may be asked
+
+-- a body that is to be stored isn't too long
+abbrev pub IsShort : Wanted → Type 0
+IsShort (Get spot) = Unit {0}
+IsShort (Put spot length) = length ≤ MAX_BODY
+IsShort (Mkcol spot) = Unit {0}
+IsShort (Delete spot) = Unit {0}
+
+-- who asks by a link; nobody does yet
+abbrev pub is_link : Caller → Bool
+is_link Absent = false
+is_link (Token digest) = false
+
+-- a place names its user exactly where the caller isn't a link
+abbrev pub NamesUser : Caller → Spot → Type 0
+NamesUser caller spot = is_some spot.user ≡ not (is_link caller)
+
+pub record MayWant (request : Request) : Type 0 where
+  pub short : IsShort request.wanted
+  pub source : IfSome (source_of request.wanted) (NamesUser request.caller)
+  pub target : IfSome (target_of request.wanted) (NamesUser request.caller)
 
 -- a body is for a goal that stores one, and has its length
 abbrev pub MayBring : Goal → Outcome → Type 0
 MayBring goal Sent = Unit {0}
 MayBring goal Gone = Unit {0}
 MayBring (Serve content) (Body digest length) = ⊥
-MayBring (Store key wanted) (Body digest length) = (length ≡ wanted) × (length ≤ 16777216)
+MayBring (Store who key wanted) (Body digest length) = length ≡ wanted
 
 -- the End of what the seat has
 abbrev pub MayEnd : Option Ticket → Outcome → Type 0
@@ -68,26 +89,28 @@ MayEnd (Some ticket) outcome = MayBring ticket.goal outcome
 
 -- the event may come from the seat: a Begin where it has no ticket, an End where it has one
 abbrev pub MayAsk : State → ℕ → Event → Type 0
-MayAsk s seat (Begin request) = IsNone (ticket_of s seat) × MayWant request.wanted
+MayAsk s seat (Begin words request) = IsNone (ticket_of s seat) × MayWant request
 MayAsk s seat (End outcome) = MayEnd (ticket_of s seat) outcome
 
 -- an End brings a body
 abbrev pub HasBody : Event → Type 0
-HasBody (Begin request) = ⊥
+HasBody (Begin words request) = ⊥
 HasBody (End Sent) = ⊥
 HasBody (End Gone) = ⊥
 HasBody (End (Body digest length)) = Unit {0}
 
 -- a Begin leaves room for the Ends of all tickets and its own two entries, after n entries
 abbrev pub LeavesRoom : ℕ → State → Event → Type 0
-LeavesRoom n s (Begin request) = n + length s.tickets + 2 ≤ 262144
+LeavesRoom n s (Begin words request) = n + length s.tickets + 2 ≤ most_entries
 LeavesRoom n s (End outcome) = Unit {0}
 
--- the step may be marked so
+-- the step may be marked so: a store fails only where it has something to change
 abbrev pub MayBear : State → Entry → Mark → Type 0
 MayBear s e mark.Answered = Unit {0}
-MayBear s e mark.Store = (step s e.seat e.moment e.event).tables ≢ s.tables
+MayBear s e mark.Store = changes_to s e.seat e.moment e.event ≢ []
 MayBear s e mark.Memory = HasBody e.event
+
+-- ---- legal histories
 
 -- the entry may come after n entries that led to the state
 pub record MayCome (n : ℕ) (s : State) (e : Entry) : Type 0 where

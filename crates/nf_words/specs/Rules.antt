@@ -1,15 +1,16 @@
 -- The order of the rules that refuse a request. Adding one is a line here and its definition.
 use Rattle.std.specs.Prelude.{List, [], ◌∷◌, Option, None}
 use Rattle.std.specs.Option.{option_or}
+use Rattle.nf_defs.specs.Access.{Access}
 use Rattle.nf_words.specs.Calls.{Call}
 use Rattle.nf_words.specs.Callers.{token_rule, not_you_rule}
 use Rattle.nf_words.specs.Places.{forbidden_rule, place_rule, built_rule, exists_rule, target_rule}
 use Rattle.nf_words.specs.Limits.{limit_rule}
 use Rattle.nf_words.specs.declared.answer.Denial.{Denial}
 
--- a test of a call, which refuses it or passes
+-- a test of a call by what shares let their seekers do, which refuses it or passes. None reads the shares yet
 abbrev pub Rule : Type 0
-Rule = Call → Option Denial
+Rule = Access → Call → Option Denial
 
 -- the order in which they are tried
 abbrev pub rules : List Rule
@@ -25,9 +26,9 @@ rules =
     ∷ []
 
 -- the answer of the first rule that holds
-abbrev pub first_that_holds : List Rule → Call → Option Denial
-first_that_holds [] call = None
-first_that_holds (rule ∷ others) call = option_or (rule call) (first_that_holds others call)
+abbrev pub first_that_holds : List Rule → Access → Call → Option Denial
+first_that_holds [] access call = None
+first_that_holds (rule ∷ others) access call = option_or (rule access call) (first_that_holds others access call)
 
-abbrev pub refusal_of : Call → Option Denial
-refusal_of call = first_that_holds rules call
+abbrev pub refusal_of : Access → Call → Option Denial
+refusal_of access call = first_that_holds rules access call

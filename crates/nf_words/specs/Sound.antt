@@ -3,6 +3,8 @@ use Rattle.std.specs.Prelude.{◌≡◌, ◌≢◌, ℕ, ◌<◌, ◌≤◌, All
 use Rattle.std.specs.List.{AllPairs}
 use Rattle.std.specs.Option.{option_map_or}
 use Rattle.nf_base.specs.declared.content.Piece.{Piece}
+use Rattle.nf_base.specs.declared.content.TheConstants.{MAX_BODY}
+use Rattle.nf_base.specs.declared.rows.MetaRow.{MetaRow}
 use Rattle.nf_base.specs.declared.rows.NodeRow.{NodeRow}
 use Rattle.nf_base.specs.declared.rows.Place.{Place}
 use Rattle.nf_base.specs.declared.rows.Place.TheVariants.{Root, Inside, Trash}
@@ -10,17 +12,32 @@ use Rattle.nf_base.specs.declared.rows.UserRow.{UserRow}
 use Rattle.nf_defs.specs.People.{user_row}
 use Rattle.nf_defs.specs.Tables.{Tables}
 use Rattle.nf_defs.specs.Tree.{climb, is_folder, is_folder_kind, node_row, owner_of, piece_count}
+use Rattle.nf_defs.specs.declared.Seeker.{Seeker}
+use Rattle.nf_defs.specs.declared.Seeker.TheVariants as seeker
 use Rattle.nf_words.specs.Limits.{count_of}
 use Rattle.nf_words.specs.State.{State}
 use Rattle.nf_words.specs.declared.answer.Goal.{Goal}
 use Rattle.nf_words.specs.declared.answer.Goal.TheVariants.{Serve, Store}
 use Rattle.nf_words.specs.declared.answer.Limit.TheVariants as limit
+use Rattle.nf_words.specs.declared.answer.LockKey.{LockKey}
+use Rattle.nf_words.specs.declared.answer.LockKey.TheVariants.{Node, Slot}
 use Rattle.nf_words.specs.declared.history.Ticket.{Ticket}
+
+-- ---- rows
+
+-- numbers are given from 1 on
+pub record AreCounters (meta : MetaRow) : Type 0 where
+  pub users : 1 ≤ meta.next_user
+  pub groups : 1 ≤ meta.next_group
+  pub nodes : 1 ≤ meta.next_node
+  pub shares : 1 ≤ meta.next_share
+  pub blobs : 1 ≤ meta.next_blob
 
 -- a piece has from 1 to 16,777,216 bytes, in a blob whose number was given
 pub record IsPieceSound (t : Tables) (piece : Piece) : Type 0 where
   pub some : 1 ≤ piece.size
-  pub few : piece.size ≤ 16777216
+  pub few : piece.size ≤ MAX_BODY
+  pub first : 1 ≤ piece.blob
   pub given : piece.blob < t.meta.next_blob
 
 -- the root of a user
@@ -54,11 +71,12 @@ pub record HasRoot (t : Tables) (user : UserRow) : Type 0 where
   pub owner : row.owner ≡ user.id
   pub name : row.name ≡ user.name
 
--- two nodes have different names, where they are in one folder or both roots
+-- two nodes of one folder have different names
 abbrev pub AreApart : NodeRow → NodeRow → Type 0
-AreApart a b = a.place ≡ b.place → a.name ≢ b.name
+AreApart a b = (folder : ℕ) → a.place ≡ Inside folder → b.place ≡ Inside folder → a.name ≢ b.name
 
 pub record AreSound (t : Tables) : Type 0 where
+  pub counters : AreCounters t.meta
   pub rising : AllPairs (λ (a b : NodeRow). a.id < b.id) t.nodes
   pub nodes : All (IsNodeSound t) t.nodes
   pub names : AllPairs AreApart t.nodes
@@ -66,10 +84,29 @@ pub record AreSound (t : Tables) : Type 0 where
   pub few_nodes : length t.nodes ≤ count_of limit.Nodes
   pub few_pieces : piece_count t.nodes ≤ count_of limit.Pieces
 
--- what is sent is in blobs whose numbers were given; what is stored isn't too long
+-- ---- tickets
+
+-- the node that is stored over, or the folder of the free name
+abbrev pub node_of_key : LockKey → ℕ
+node_of_key (Node node) = node
+node_of_key (Slot folder name) = folder
+
+-- a node's number was given, and as long as the node is there it is that user's
+pub record IsOwn (t : Tables) (user node : ℕ) : Type 0 where
+  pub given : node < t.meta.next_node
+  pub owner : (row : NodeRow) → node_row t.nodes node ≡ Some row → row.owner ≡ user
+
+-- who stores owns what is stored over; nothing is shared yet
+abbrev pub MayStoreAt : Tables → Seeker → ℕ → Type 0
+MayStoreAt t (seeker.User user) node = IsOwn t user node
+MayStoreAt t (seeker.Link share) node = ⊥
+
+-- what is sent is in blobs whose numbers were given; what is stored is stored by an owner and isn't too long
 abbrev pub IsGoalSound : Tables → Goal → Type 0
 IsGoalSound t (Serve content) = All (IsPieceSound t) content
-IsGoalSound t (Store key length) = length ≤ 16777216
+IsGoalSound t (Store who key length) = (length ≤ MAX_BODY) × MayStoreAt t who (node_of_key key)
+
+-- ---- states
 
 pub record IsSound (s : State) : Type 0 where
   pub rows : AreSound s.tables

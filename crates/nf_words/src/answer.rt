@@ -1,12 +1,14 @@
 //! Answers.
 
 ghost use Rattle.std.specs.Prelude.{◌≡◌};
+ghost use Rattle.nf_words.specs.Limits.{count_of};
 
-use nf_base::{Content, Name, NameFault, NodeId, NodeRow};
+use nf_base::{BlobId, Content, Name, NameFault, NodeId, NodeRow};
+use nf_defs::Seeker;
 use std::marker::Model;
 
 /// Why a request is refused. Each has a status of RFC 9110 or RFC 4918 and a reason of its own.
-#[derive(Clone, Copy, Debug, PartialEq, Eq)]
+#[derive(Drop)]
 pub enum Denial {
     /// 400: the bytes are no message, or end inside one.
     BadMessage,
@@ -47,14 +49,14 @@ pub enum Denial {
 }
 
 /// Why a target can't be acted upon.
-#[derive(Clone, Copy, Debug, PartialEq, Eq)]
+#[derive(Clone, Copy, PartialEq, Eq)]
 pub enum TargetFault {
     /// It is a root.
     Root,
 }
 
 /// A limit of the site.
-#[derive(Clone, Copy, Debug, PartialEq, Eq)]
+#[derive(Clone, Copy, PartialEq, Eq)]
 pub enum Limit {
     /// 262,144 nodes, and 2^64 - 1 numbers of nodes ever given.
     Nodes,
@@ -64,8 +66,21 @@ pub enum Limit {
     Pieces,
 }
 
+impl Limit {
+    /// How many there may be.
+    pub fn count(self) -> u32
+        ensures { result ≡ count_of self }
+    {
+        match self {
+            Limit::Nodes => 262_144,
+            Limit::Depth => 64,
+            Limit::Pieces => 1_048_576,
+        }
+    }
+}
+
 /// What a granted PUT is to change.
-#[derive(Debug, Drop)]
+#[derive(Drop)]
 pub enum LockKey {
     /// A file that is there.
     Node(NodeId),
@@ -74,16 +89,20 @@ pub enum LockKey {
 }
 
 /// What a granted request may do between its Begin and its End.
-#[derive(Debug, Drop)]
+#[derive(Drop)]
 pub enum Goal {
     /// Send this content.
     Serve(Content),
-    /// Store a body of that many bytes.
-    Store { key: LockKey, length: u64 },
+    /// Store a body of that many bytes for who asked.
+    Store {
+        seeker: Seeker,
+        key: LockKey,
+        length: u64,
+    },
 }
 
 /// What a request that isn't refused is answered.
-#[derive(Debug, Drop)]
+#[derive(Drop)]
 pub enum Reply {
     /// What was asked for was made.
     Made,
@@ -98,7 +117,7 @@ pub enum Reply {
 pub type Answer = Result<Reply, Denial>;
 
 /// Nodes by their numbers.
-#[derive(Debug, Drop)]
+#[derive(Drop)]
 pub struct NodeIds {
     ids: Vec<NodeId>,
 }
@@ -125,19 +144,32 @@ impl NodeIds {
     }
 }
 
-/// What a step that isn't refused changes.
-#[derive(Debug, Drop)]
+/// What a step that isn't refused does: one variant an act. A blob is one that the act stores, not one that it names again.
+#[derive(Drop)]
 pub enum Allowed {
-    /// The seat is given a ticket to send this content.
-    Get { content: Content },
-    /// The seat is given a ticket to store a body of that many bytes.
-    Put { key: LockKey, length: u64 },
-    /// A folder or a file is made, with the next number.
-    Create(NodeRow),
-    /// A file's content is replaced.
-    Replace { node: NodeId, content: Content },
-    /// Nodes are removed for good.
-    Remove(NodeIds),
-    /// Nothing but, at an End, the ticket.
+    /// GET of a file: the seat is given a ticket to send its content.
+    Get { node: NodeId, content: Content },
+    /// PUT, at its Begin: the seat is given a ticket to store a body of that many bytes.
+    Put {
+        seeker: Seeker,
+        key: LockKey,
+        length: u64,
+    },
+    /// PUT to a free name, at its End: a file is made, with the next number.
+    StoreNew {
+        row: NodeRow,
+        blob: Option<BlobId>,
+    },
+    /// PUT over a file, at its End: its content is replaced.
+    StoreOver {
+        node: NodeId,
+        content: Content,
+        blob: Option<BlobId>,
+    },
+    /// MKCOL: a folder is made, with the next number.
+    Mkcol(NodeRow),
+    /// DELETE: these nodes are removed for good.
+    Delete(NodeIds),
+    /// The End of a request that stores nothing.
     Close,
 }

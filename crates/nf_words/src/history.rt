@@ -1,10 +1,12 @@
 //! Events, and the entries that record them.
 
-use crate::{Goal, Request};
+ghost use Rattle.std.specs.Prelude.{◌≡◌};
+
+use crate::{Goal, Request, Words};
 use nf_base::{Digest, Moment};
 
 /// How a granted request ended.
-#[derive(Clone, Copy, Debug, PartialEq, Eq)]
+#[derive(Clone, Copy)]
 pub enum Outcome {
     /// The content was sent.
     Sent,
@@ -15,14 +17,14 @@ pub enum Outcome {
 }
 
 /// What one step of the site is about.
-#[derive(Debug, Drop)]
+#[derive(Drop)]
 pub enum Event {
-    Begin(Request),
+    Begin { words: Words, request: Request },
     End(Outcome),
 }
 
 /// What became of a step.
-#[derive(Clone, Copy, Debug, PartialEq, Eq)]
+#[derive(Clone, Copy)]
 pub enum Mark {
     /// It was made and answered.
     Answered,
@@ -33,7 +35,7 @@ pub enum Mark {
 }
 
 /// A step that was taken. A seat is the number of a session.
-#[derive(Debug, Drop)]
+#[derive(Drop)]
 pub struct Entry {
     pub seat: u64,
     pub moment: Moment,
@@ -42,8 +44,18 @@ pub struct Entry {
 }
 
 /// What a granted request holds from its Begin to its End; at most one a seat.
-#[derive(Debug, Drop)]
+#[derive(Drop)]
 pub struct Ticket {
     pub seat: u64,
     pub goal: Goal,
+}
+
+impl Ticket {
+    ghost use Rattle.nf_words.specs.State.{ticket_for};
+
+    pub fn new(seat: u64, goal: Goal) -> Self
+        ensures { result ≡ ticket_for seat goal }
+    {
+        Ticket { seat, goal }
+    }
 }

@@ -1,6 +1,6 @@
 //! Laws of the step and of legal histories. The functions do nothing: each stands for the fact that it ensures.
 
-ghost use Rattle.nf_words.specs.Laws.{RefusedBeginsKeep, RefusedEndsKeep, FailuresKeep, ClosingsKeep, EndsFree, FailedEndsFree, GrantsTicket, OthersKeep, FirstRuleRefuses, AllowedByAll, SeatsDiffer};
+ghost use Rattle.nf_words.specs.Laws.{RefusedBeginsKeep, RefusedEndsKeep, FailuresKeep, ClosingsKeep, EndsFree, FailedEndsFree, GrantsTicket, OthersKeep, MarksAnswer, FirstRuleRefuses, AllowedByAll, SeatsDiffer};
 ghost use Rattle.nf_words.specs.declared.history.Outcome.TheVariants.{Sent, Gone};
 
 /// What is refused, or failed, changes no row; a refused Begin changes no ticket.
@@ -23,9 +23,14 @@ pub fn grants_ticket()
     ensures { GrantsTicket }
 {}
 
-/// A step touches no ticket of another seat.
+/// An entry touches no ticket of another seat.
 pub fn others_keep()
     ensures { OthersKeep }
+{}
+
+/// An entry is answered as its mark says.
+pub fn marks_answer()
+    ensures { MarksAnswer }
 {}
 
 /// Where several rules hold, the first in their order is answered.

@@ -1,9 +1,10 @@
 //! Requests.
 
 use nf_base::{Digest, Name, Path};
+use nf_defs::Found;
 
 /// Who asks.
-#[derive(Clone, Debug, PartialEq, Eq, Drop)]
+#[derive(Drop)]
 pub enum Caller {
     /// Nobody who shows a token.
     Absent,
@@ -12,18 +13,18 @@ pub enum Caller {
 }
 
 /// A place in a user's files. There is no user on the public route, where a link leads to the place.
-#[derive(Debug, Drop)]
+#[derive(Drop)]
 pub struct Spot {
     pub user: Option<Name>,
     pub path: Path,
 }
 
 /// What is asked for.
-#[derive(Debug, Drop)]
+#[derive(Drop)]
 pub enum Wanted {
     /// What is there.
     Get(Spot),
-    /// That a body of that many bytes, at most 16,777,216, is stored there.
+    /// That a body of that many bytes is stored there.
     Put { spot: Spot, length: u64 },
     /// A new folder there.
     Mkcol(Spot),
@@ -31,8 +32,22 @@ pub enum Wanted {
     Delete(Spot),
 }
 
-#[derive(Debug, Drop)]
+#[derive(Drop)]
 pub struct Request {
     pub caller: Caller,
     pub wanted: Wanted,
+}
+
+/// Two words of chance, which are drawn at every Begin.
+#[derive(Clone, Copy)]
+pub struct Words {
+    pub first: u64,
+    pub second: u64,
+}
+
+/// Where a request's paths lead: that of what it acts upon, and that of what it makes or stores.
+#[derive(Clone, Copy)]
+pub struct Places {
+    pub source: Option<Found>,
+    pub target: Option<Found>,
 }
