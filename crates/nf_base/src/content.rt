@@ -4,8 +4,10 @@ ghost use Rattle.std.specs.Prelude.{◌≡◌, [], length};
 ghost use Rattle.std.specs.Cmp.{partial_equiv_from_equiv};
 ghost use Rattle.std.specs.Cmp.Rules.{comparing};
 ghost use Rattle.std.proofs.Common.{rules};
+ghost use Rattle.sha2.specs.Sha256.{sha256};
 
 use crate::BlobId;
+use sha2::{Digest as _, Sha256};
 use std::alloc::{AllocError, Global};
 use std::marker::Model;
 
@@ -33,6 +35,17 @@ impl Digest {
         ensures { result ≡ bytes }
     {
         Digest { bytes }
+    }
+
+    /// The digest of these bytes.
+    pub fn of(bytes: &[u8]) -> Self
+        ensures { result ≡ sha256 bytes.now }
+    {
+        let mut hasher = Sha256::new();
+        hasher.update(bytes);
+        Digest {
+            bytes: hasher.finalize(),
+        }
     }
 
     pub fn as_bytes(&self) -> &[u8]
