@@ -1,9 +1,9 @@
 -- What was stored is what is read.
-use Rattle.std.specs.Prelude.{◌≡◌, ℕ, ◌+◌, ◌≤◌, List, [], ◌∷◌, ◌++◌, length, take, None, Some, Ok, IsOk}
+use Rattle.std.specs.Prelude.{◌≡◌, ℕ, ◌+◌, ◌≤◌, List, [], ◌∷◌, ◌++◌, length, take, Some, Ok, IsOk}
 use Rattle.nf_base.specs.declared.content.Piece.{Piece}
 use Rattle.nf_base.specs.declared.rows.NodeRow.{NodeRow}
 use Rattle.nf_defs.specs.Access.{unshared}
-use Rattle.nf_defs.specs.Tree.{Leads, child_of, is_file, is_folder, node_row}
+use Rattle.nf_defs.specs.Tree.{Leads, node_row}
 use Rattle.nf_defs.specs.declared.Seeker.{Seeker}
 use Rattle.nf_words.specs.Callers.{not_you_rule, token_rule}
 use Rattle.nf_words.specs.Calls.{root_of}
@@ -46,7 +46,7 @@ pub record IsStored (n : ℕ) (s : State) (e : Entry) (root : ℕ) (path : List 
   pub brought : e.event ≡ End (Body digest size)
   pub accepted : IsOk (answer_to s e.seat e.moment e.event)
   pub led : LeadsToKey s.tables.nodes root path key
-  pub content : content ≡ content_in (blob_for s.tables.meta.next_blob size) digest size
+  pub body : content ≡ content_in (blob_for s.tables.meta.next_blob size) digest size
 
 -- each node to which a front of a path leads is as it was
 abbrev pub PathStays : List NodeRow → List NodeRow → ℕ → List (List ℕ) → Type 0
