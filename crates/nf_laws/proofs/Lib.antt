@@ -7,4 +7,5 @@ pub mod Replaced
 pub mod Rows
 pub mod Stays
 pub mod Walks
+pub mod Blobs
 pub mod Words
