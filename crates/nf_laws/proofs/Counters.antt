@@ -58,7 +58,7 @@ failed_up : (s : State) (seat now : ℕ) (event : Event) → AreHigher s.tables.
 failed_up s seat now (Begin words request) = same s.tables.meta
 failed_up s seat now (End outcome) = same s.tables.meta
 
-after_up : (s : State) (e : Entry) (m : Mark) → AreHigher s.tables.meta (after_mark s e m).tables.meta
+pub after_up : (s : State) (e : Entry) (m : Mark) → AreHigher s.tables.meta (after_mark s e m).tables.meta
 after_up s e mark.Answered = step_up s e.seat e.moment e.event
 after_up s e mark.Store = failed_up s e.seat e.moment e.event
 after_up s e mark.Memory = failed_up s e.seat e.moment e.event

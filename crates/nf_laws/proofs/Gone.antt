@@ -22,7 +22,7 @@ use Rattle.nf_laws.proofs.Rows.{found_is, none_above, pieces_kept, stamp}
 abbrev is_left : List NodeRow → ℕ → ℕ → Bool
 is_left rows top node = not (is_among (subtree_of rows top) node)
 
-gone_is_under : (rows : List NodeRow) (top node : ℕ) → is_among (subtree_of rows top) node ≡ true → is_under rows node top ≡ true
+pub gone_is_under : (rows : List NodeRow) (top node : ℕ) → is_among (subtree_of rows top) node ≡ true → is_under rows node top ≡ true
 gone_is_under rows top node is =
     (and_parts (is_some (node_row rows node)) (is_under rows node top) (sym (among_those (λ n. is_under rows n top) rows node) ∙ is)).1
 

@@ -1,5 +1,6 @@
 -- The tables with another content of a file are sound.
 use Rattle.std.proofs.Common.{ℕ, suc, zero, ◌+◌, ◌==◌, ◌≡◌, ◌⊎◌, ◌≤◌, Bool, true, false, not, List, [], ◌∷◌, Option, None, Some, option_map, if◌then◌else◌, length, get_or, refl, sym, ap, subst, ◌∙◌, inl, inr, arith, le_refl}
+use Rattle.std.specs.List.{All}
 use Rattle.std.specs.Option.{option_map_or}
 use Rattle.std.proofs.lemmas.Bool.{both_ways, eq-eqb, eqb-true, false≢true, ne_eqb, not-true}
 use Rattle.std.proofs.lemmas.List.Elements.{All-weaker}
@@ -176,3 +177,10 @@ replaced_sound t now node content blob sound later known =
       few_nodes = omega (arith, counts.0, sound.few_nodes);
       few_pieces = omega (arith, counts.1, known.pieces);
     }
+
+-- what all numbers of nodes have
+pub numbers_kept : (P : ℕ → Type 0) (rows : List NodeRow) (now node : ℕ) (content : List Piece) → All (λ (row : NodeRow). P row.id) rows
+    → All (λ (row : NodeRow). P row.id) (with_content rows now node content)
+numbers_kept P rows now node content all k d within =
+    let same = same_either rows now node content (get_or rows k d) _ (each_either rows now node content k d) in
+    subst P (sym same.0) (all k d (omega (arith, (counts_kept rows now node content).0)))

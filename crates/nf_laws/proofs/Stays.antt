@@ -37,7 +37,7 @@ use Rattle.nf_laws.proofs.Gone.{removed_sound}
 use Rattle.nf_laws.proofs.Owned.{KeepsOwners, owners_kept}
 use Rattle.nf_laws.proofs.Replaced.{replaced_sound}
 use Rattle.nf_laws.proofs.Rows.{found_is, pieces_kept, stamped_has}
-use Rattle.nf_laws.proofs.Walks.{IsFor, is_own, path_own}
+use Rattle.nf_laws.proofs.Paths.{IsFor, is_own, path_own}
 
 -- ---- the rows
 

@@ -7,7 +7,7 @@ use Rattle.nf_defs.specs.Tables.{Tables}
 use Rattle.nf_defs.specs.Tree.{Leads, node_row}
 use Rattle.nf_words.specs.Actors.{actor_of}
 use Rattle.nf_words.specs.Calls.{Call, root_of, user_of}
-use Rattle.nf_words.specs.History.{MayCome, after}
+use Rattle.nf_words.specs.History.{MayCome, MayWant, after}
 use Rattle.nf_words.specs.Sound.{IsSound}
 use Rattle.nf_words.specs.State.{State}
 use Rattle.nf_words.specs.Step.{answer_to, call_of}
@@ -37,7 +37,7 @@ pub record IsServed (call : Call) (content : List Piece) : Type 0 where
 -- what is served is the caller's own
 abbrev pub ServesOwn : Type 0
 ServesOwn =
-    (s : State) (seat now : ℕ) (words : Words) (request : Request) (content : List Piece) → IsSound s
+    (s : State) (seat now : ℕ) (words : Words) (request : Request) (content : List Piece) → IsSound s → MayWant request
     → answer_to s seat now (Begin words request) ≡ Ok (Granted (Serve content))
     → IsServed (call_of s seat now words request) content
 

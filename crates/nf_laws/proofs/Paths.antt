@@ -169,12 +169,19 @@ pub record IsOf (t : Tables) (user node : ℕ) : Type 0 where
   pub owner : row.owner ≡ user
 
 -- a child has the owner of its folder
-child_owner : (t : Tables) (row : NodeRow) (place : Place) (folder : ℕ) → IsPlaceSound t row place → place ≡ Inside folder
+pub child_owner : (t : Tables) (row : NodeRow) (place : Place) (folder : ℕ) → IsPlaceSound t row place → place ≡ Inside folder
     → owner_of t.nodes folder ≡ row.owner
 child_owner t row Root folder sound is = absurd (cc)
 child_owner t row (Inside parent) folder sound is =
     let e : parent ≡ folder = cc in subst (λ (n : ℕ). owner_of t.nodes n ≡ row.owner) e sound.1
 child_owner t row Trash folder sound is = absurd sound
+
+pub child_folder : (t : Tables) (row : NodeRow) (place : Place) (folder : ℕ) → IsPlaceSound t row place → place ≡ Inside folder
+    → is_folder t.nodes folder ≡ true
+child_folder t row Root folder sound is = absurd (cc)
+child_folder t row (Inside parent) folder sound is =
+    let e : parent ≡ folder = cc in subst (λ (n : ℕ). is_folder t.nodes n ≡ true) e sound.0
+child_folder t row Trash folder sound is = absurd sound
 
 pub leads_own : (t : Tables) (user from : ℕ) (names : List (List ℕ)) (node : ℕ) → AreSound t
     → Leads t.nodes from names node → IsOf t user from → IsOf t user node
