@@ -333,19 +333,13 @@ impl Eq for RowList {
 #[cfg(test)]
 mod tests {
     use super::*;
+    use crate::{Change, Changes, RowKey};
     use std::test::Fail;
 
     #[test]
     fn copies_rows(rt: HostRuntime) -> Result<(), Fail> {
         let mut rows = RowList::new(rt.alloc());
-        let user = UserRow {
-            id: UserId::new(1),
-            name: Name::read(rt.alloc(), b"ann")?,
-            quota: 1000,
-            root: NodeId::new(1),
-        };
-        rows.push(Row::User(user))?;
-        let root = NodeRow {
+        rows.push(Row::Node(NodeRow {
             id: NodeId::new(1),
             owner: UserId::new(1),
             place: Place::Root,
@@ -353,16 +347,23 @@ mod tests {
             kind: NodeKind::Folder,
             content: Content::empty(rt.alloc()),
             changed: Moment::new(5),
-        };
-        rows.push(Row::Node(root))?;
-        let copy = rows.copy(rt.alloc())?;
-        assert_eq!(rt; copy.rows().len(), 2);
-        assert!(rt; copy == rows);
+        }))?;
         rows.push(Row::Member(MemberRow {
             group: GroupId::new(1),
-            user: UserId::new(1),
+            user: UserId::new(2),
         }))?;
-        assert!(rt; copy != rows);
+        let copy = rows.copy(rt.alloc())?;
+        assert!(rt; copy == rows);
+        let mut changes = Changes::new(rt.alloc());
+        assert!(rt; changes.is_empty());
+        for row in copy.into_rows() {
+            changes.push(Change::Drop(row.key()?))?;
+            changes.push(Change::Put(row))?;
+        }
+        assert!(rt;
+            matches!(&changes.as_slice()[0], Change::Drop(RowKey::Node(id)) if id.number() == 1)
+        );
+        assert_eq!(rt; changes.into_vec().len(), 2 * rows.rows().len());
         Ok(())
     }
 }
