@@ -4,6 +4,8 @@ use Rattle.std.specs.Prelude.{map, ◌||◌, IfOk, MatchResult}
 use Rattle.std.specs.List.{flat_map, AllByRecursion}
 use Rattle.std.specs.Int.{w16, w32, w64, to_be_bytes}
 use Rattle.std.proofs.lemmas.List.Concat.{flat_map-cons}
+use Rattle.nf_base.specs.declared.changes.RowKey.{RowKey}
+use Rattle.nf_base.specs.declared.changes.RowKey.TheVariants as keys
 use Rattle.nf_base.specs.declared.rows.Row.{Row}
 use Rattle.nf_base.specs.declared.rows.Row.TheVariants as rows
 use Rattle.nf_rows.specs.declared.fault.RowFault.{RowFault}
@@ -11,12 +13,12 @@ use Rattle.nf_rows.specs.declared.fault.RowFault.TheVariants as faults
 use Rattle.nf_rows.specs.declared.parts.TheConstants.{FORMAT}
 use Rattle.nf_rows.specs.Fields.{Field, field_of, key_fields, body_fields}
 use Rattle.nf_rows.specs.Fields as fields
-use Rattle.nf_rows.specs.Spelling.{Value, Valued, Raw, AreFit, spelled, FitsValue, body_values, values_of, spelling_of, Fits}
+use Rattle.nf_rows.specs.Spelling.{Value, Valued, Keyed, Raw, AreFit, spelled, FitsValue, FitsKey, kind_of, key_values, body_values, values_of, key_spelling, spelling_of, Fits}
 use Rattle.nf_rows.specs.Spelling as values
 use Rattle.nf_rows.specs.Faults.{◌>>=◌, Gives, as_value, format_at, value_at, values_at, row_at, reading}
 use Rattle.nf_rows.proofs.Front.{IsBytes, bind_ok, before_ok, ok_is, Takes, IsPart, bytes_part, part16, part32, part64}
-use Rattle.nf_rows.proofs.OneRow.{same_row}
-use Rattle.nf_rows.proofs.Laws.{name_part, path_part, place_part, share_kind_part, optional_part, flag_part, permissions_part, format_takes, format_again, content_part, what_part}
+use Rattle.nf_rows.proofs.OneRow.{same_key, same_row}
+use Rattle.nf_rows.proofs.FieldLaws.{name_part, path_part, place_part, share_kind_part, optional_part, flag_part, permissions_part, format_takes, format_again, content_part, what_part}
 
 abbrev TakesValue : List ℕ → Value × List ℕ → Type 0
 TakesValue bytes v = Takes bytes (spelled v.0) v.1 × FitsValue v.0
@@ -86,6 +88,9 @@ values_again (v ∷ vs) end fits =
 
 -- Of rows:
 
+behind_format : (bytes rest text : List ℕ) → bytes ≡ FORMAT ∷ rest → rest ≡ text → bytes ≡ FORMAT ∷ text
+behind_format bytes rest text parts same = parts ∙ ap (λ (t : List ℕ). FORMAT ∷ t) same
+
 row_takes : (kind : ℕ) (key body : List ℕ) (v : Valued) → IsBytes key → IsBytes body → row_at kind key body ≡ Ok v
     → (v.kind ≡ kind) × (key ≡ flat_map spelled v.key) × (body ≡ FORMAT ∷ flat_map spelled v.body) × AreFit v.key × AreFit v.body
 row_takes kind key body v key_fits body_fits e =
@@ -96,8 +101,8 @@ row_takes kind key body v key_fits body_fits e =
     let format = format_takes (length key) body f.0 body_fits f.1 in
     let t = values_take (body_fields f.0.0 kind) (length key + length body) f.0.1 b.0 format.0.rest_fits b.1 in
     let made : Valued = record { kind = kind; key = a.0; format = f.0.0; body = b.0 } in
-    subst (λ (w : Valued). (w.kind ≡ kind) × (key ≡ flat_map spelled w.key) × (body ≡ FORMAT ∷ flat_map spelled w.body) × AreFit w.key × AreFit w.body)
-    (ok_is made v b.2) (refl, k.0, format.0.parts ∙ ap (λ (bytes : List ℕ). FORMAT ∷ bytes) t.0, k.1, t.1)
+    subst (λ (w : Valued). (w.kind ≡ kind) × (key ≡ flat_map spelled w.key) × (body ≡ FORMAT ∷ flat_map spelled w.body) × AreFit w.key × AreFit w.body) {x = made} {y = v}
+    (ok_is made v b.2) (refl, k.0, behind_format body f.0.1 (flat_map spelled b.0) format.0.parts t.0, k.1, t.1)
 
 pub found : (kind : ℕ) (key body : List ℕ) (row : Row) → IsBytes key → IsBytes body → reading kind key body ≡ Ok (values_of FORMAT row) → Fits row × (spelling_of row ≡ record { kind = kind; key = key; body = body })
 found kind key body row key_fits body_fits e =
@@ -154,3 +159,27 @@ is_only kind key body (Err (faults.Value at)) row given fits same = absurd (give
 pub one_row : (a b : Row) → Fits a → Fits b → spelling_of a ≡ spelling_of b → a ≡ b
 one_row a b a_fits b_fits same =
     same_row a b (ok_is (values_of FORMAT a) (values_of FORMAT b) (sym (read_again a a_fits) ∙ ap (λ (raw : Raw). reading raw.kind raw.key raw.body) same ∙ read_again b b_fits))
+
+key_fields_of : (key : RowKey) → key_fields (kind_of key) ≡ map field_of (key_values key)
+key_fields_of keys.Meta = refl
+key_fields_of (keys.User id) = refl
+key_fields_of (keys.Token digest) = refl
+key_fields_of (keys.Group id) = refl
+key_fields_of (keys.Member group user) = refl
+key_fields_of (keys.Node id) = refl
+key_fields_of (keys.Share id) = refl
+key_fields_of (keys.Mount user node) = refl
+key_fields_of (keys.Version node at) = refl
+key_fields_of (keys.Item node) = refl
+key_fields_of (keys.Upload user dir) = refl
+key_fields_of (keys.Chunk user dir number) = refl
+
+-- a key's bytes are read as its values
+key_again : (key : RowKey) → FitsKey key → values_at (key_fields (kind_of key)) 0 (flat_map spelled (key_values key)) ≡ Ok (key_values key)
+key_again key fits = rw key_fields_of (values_again (key_values key) 0 fits)
+
+-- the same bytes are the same key
+pub one_key : (a b : RowKey) → FitsKey a → FitsKey b → key_spelling a ≡ key_spelling b → a ≡ b
+one_key a b a_fits b_fits same =
+    let kinds : kind_of a ≡ kind_of b = ap (λ (key : Keyed). key.kind) same in
+    same_key a b kinds (ok_is (key_values a) (key_values b) (sym (key_again a a_fits) ∙ ap (λ (key : Keyed). values_at (key_fields key.kind) 0 key.bytes) same ∙ key_again b b_fits))

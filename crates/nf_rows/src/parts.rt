@@ -9,8 +9,8 @@ ghost use Rattle.nf_rows.specs.Faults.{Gives, bytes_at, number_at, byte_at, many
 
 use crate::fault::RowFault;
 use nf_base::{
-    BlobId, Content, Digest, GroupId, Name, NameFault, NodeId, NodeKind, Path, Perms, Piece, Place,
-    ShareKind, UserId, MAX_BODY,
+    BlobId, Content, Digest, GroupId, MAX_BODY, Name, NameFault, NodeId, NodeKind, Path, Perms,
+    Piece, Place, ShareKind, UserId,
 };
 use std::alloc::Global;
 
