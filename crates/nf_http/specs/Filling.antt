@@ -10,8 +10,8 @@ abbrev pub Fills : List ℕ → List ℕ → Option (List ℕ) → Option (List 
 Fills old new left rest n =
     (got : List ℕ) × (length got ≡ n) × (new ≡ old ++ got) × (length new ≤ 8192) × Consumes left rest got × (n ≡ 0 → IsAtEnd rest)
 
--- the count of faults didn't fall, and rose at a fault of reading
+-- the count of faults rose by one at a fault of reading, and else is as before
 abbrev pub HasReadCause : {T : Type 0} → ℕ → ℕ → Result T WireFault → Type 0
-HasReadCause before now (Ok x) = before ≤ now
-HasReadCause before now (Err ReadFault) = (before ≤ now) × Rose before now
-HasReadCause before now (Err fault) = before ≤ now
+HasReadCause before now (Ok x) = now ≡ before
+HasReadCause before now (Err ReadFault) = Rose before now
+HasReadCause before now (Err fault) = now ≡ before

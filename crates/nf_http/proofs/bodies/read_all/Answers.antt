@@ -15,7 +15,7 @@ loop-at-preserved g c =
     record {
       inside = omega (arith, h);
       taken = subst (Consumes (g.S.Ends.left c.args.source.now) (g.S.Ends.left c.read.new.self)) (sym grown) (Consumes-trans _ _ _ _ _ l.invariant.taken h.bytes.0);
-      later = omega arith;
+      same = search rules;
       other_bytes = search rules;
       other_faults = search rules;
     }

@@ -15,7 +15,7 @@ loop-rest-init g c =
         portion_counts [] held c.args.length c.args.length n (omega arith) h.count,
         rw h.held (Consumes_held held n (g.S.Ends.left c.args.source.now)),
       );
-      later = omega arith;
+      same = search rules;
       other_bytes = search rules;
       other_faults = search rules;
     }
@@ -36,7 +36,7 @@ loop-rest-preserved g c =
         portion_counts before.0 held l.rest c.args.length n before.1 h.count,
         rw h.held (Consumes-trans _ _ _ _ _ filled (Consumes_held held n (g.S.Ends.left c.fill.new.source))),
       );
-      later = omega arith;
+      same = search rules;
       other_bytes = search rules;
       other_faults = search rules;
     }

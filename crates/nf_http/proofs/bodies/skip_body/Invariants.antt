@@ -8,7 +8,7 @@ invariant-loop-rest g l = record {
   empty : 0 < l.rest → length l.buffer ≡ 0;
   taken : (part : List ℕ) × (length part + l.rest ≡ l.fn.length)
       × Consumes (stream l.fn.buffer (g.S.Ends.left l.fn.source)) (stream l.buffer (g.S.Ends.left l.source)) part;
-  later : g.S.Ends.read_faults l.fn.source ≤ g.S.Ends.read_faults l.source;
+  same : g.S.Ends.read_faults l.source ≡ g.S.Ends.read_faults l.fn.source;
   other_bytes : g.S.Ends.written l.source ≡ g.S.Ends.written l.fn.source;
   other_faults : g.S.Ends.write_faults l.source ≡ g.S.Ends.write_faults l.fn.source;
 }

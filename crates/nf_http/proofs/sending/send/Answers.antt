@@ -16,7 +16,7 @@ pub loop-at-init : goal.loop-at-init
 loop-at-init g c = record {
   inside = search rules;
   sent = Appends-nil (g.O.Ends.written c.args.sink.now);
-  later = omega arith;
+  same = search rules;
   other_bytes = search rules;
   other_faults = search rules;
 }
@@ -28,7 +28,7 @@ loop-at-preserved g c =
     record {
       inside = omega arith;
       sent = sends_more c.args.bytes.now l.at c.in_ok-at.field-0 _ _ _ l.invariant.sent h.bytes;
-      later = omega arith;
+      same = search rules;
       other_bytes = search rules;
       other_faults = search rules;
     }

@@ -6,7 +6,7 @@ abbrev pub invariant-loop-at : goal.invariant-loop-at
 invariant-loop-at g l = record {
   inside : l.at ≤ length l.bytes;
   sent : Appends (g.O.Ends.written l.fn.sink) (g.O.Ends.written l.sink) (take l.at l.bytes);
-  later : g.O.Ends.write_faults l.fn.sink ≤ g.O.Ends.write_faults l.sink;
+  same : g.O.Ends.write_faults l.sink ≡ g.O.Ends.write_faults l.fn.sink;
   other_bytes : g.O.Ends.left l.sink ≡ g.O.Ends.left l.fn.sink;
   other_faults : g.O.Ends.read_faults l.sink ≡ g.O.Ends.read_faults l.fn.sink;
 }

@@ -6,7 +6,7 @@ use Rattle.nf_http.proofs.wire.read_head.Given as goal
 abbrev pub invariant-loop-head : goal.invariant-loop-head
 invariant-loop-head g l = record {
   keeps : Keeps (stream l.fn.buffer (g.S.Ends.left l.fn.source)) (stream l.buffer (g.S.Ends.left l.source));
-  later : g.S.Ends.read_faults l.fn.source ≤ g.S.Ends.read_faults l.source;
+  same : g.S.Ends.read_faults l.source ≡ g.S.Ends.read_faults l.fn.source;
   room : length l.spans ≡ 2731;
   other_bytes : g.S.Ends.written l.source ≡ g.S.Ends.written l.fn.source;
   other_faults : g.S.Ends.write_faults l.source ≡ g.S.Ends.write_faults l.fn.source;

@@ -1,0 +1,123 @@
+-- The bytes of answers (RFC 9110, section 15; RFC 9112, sections 4 to 6).
+use Rattle.std.specs.Prelude.{ℕ, Bool, List, [], ◌++◌, if◌then◌else◌, length, codes, decimal}
+use Rattle.serde_json.specs.Data.{Data, number, string, object, member, no_members, unsigned}
+use Rattle.serde_json.specs.Written.{compact_text}
+use Rattle.nf_base.specs.declared.name.NameFault.{NameFault}
+use Rattle.nf_base.specs.declared.name.NameFault.TheVariants as fault
+use Rattle.nf_words.specs.Limits.{count_of}
+use Rattle.nf_words.specs.declared.answer.Denial.{Denial}
+use Rattle.nf_words.specs.declared.answer.Denial.TheVariants as denial
+use Rattle.nf_words.specs.declared.answer.Limit.{Limit}
+use Rattle.nf_words.specs.declared.answer.Limit.TheVariants as limit
+use Rattle.nf_words.specs.declared.answer.TargetFault.{TargetFault}
+use Rattle.nf_words.specs.declared.answer.TargetFault.TheVariants as target
+
+-- the status of a denial and its phrase
+abbrev pub status_of : Denial → List ℕ
+status_of denial.BadMessage = codes "400 Bad Request"
+status_of (denial.BadName fault) = codes "400 Bad Request"
+status_of denial.Token = codes "401 Unauthorized"
+status_of denial.NotYou = codes "403 Forbidden"
+status_of denial.ForbiddenName = codes "403 Forbidden"
+status_of (denial.BadTarget cause) = codes "403 Forbidden"
+status_of denial.NotFound = codes "404 Not Found"
+status_of denial.Exists = codes "405 Method Not Allowed"
+status_of denial.NoParent = codes "409 Conflict"
+status_of denial.TooLarge = codes "413 Payload Too Large"
+status_of denial.Body = codes "415 Unsupported Media Type"
+status_of denial.Head = codes "431 Request Header Fields Too Large"
+status_of denial.Store = codes "500 Internal Server Error"
+status_of denial.RunFull = codes "500 Internal Server Error"
+status_of denial.Coding = codes "501 Not Implemented"
+status_of denial.NotBuilt = codes "501 Not Implemented"
+status_of denial.Memory = codes "503 Service Unavailable"
+status_of (denial.Limit limit) = codes "507 Insufficient Storage"
+
+-- its reason
+abbrev pub reason_of : Denial → List ℕ
+reason_of denial.BadMessage = codes "bad-message"
+reason_of (denial.BadName fault) = codes "bad-name"
+reason_of denial.Token = codes "token"
+reason_of denial.NotYou = codes "not-you"
+reason_of denial.ForbiddenName = codes "forbidden-name"
+reason_of (denial.BadTarget cause) = codes "bad-target"
+reason_of denial.NotFound = codes "not-found"
+reason_of denial.Exists = codes "exists"
+reason_of denial.NoParent = codes "no-parent"
+reason_of denial.TooLarge = codes "too-large"
+reason_of denial.Body = codes "body"
+reason_of denial.Head = codes "head"
+reason_of denial.Store = codes "store"
+reason_of denial.RunFull = codes "run-full"
+reason_of denial.Coding = codes "coding"
+reason_of denial.NotBuilt = codes "not-built"
+reason_of denial.Memory = codes "memory"
+reason_of (denial.Limit limit) = codes "limit"
+
+-- the word of a bad name's fault
+abbrev pub fault_word : NameFault → List ℕ
+fault_word fault.Empty = codes "empty"
+fault_word fault.Long = codes "long"
+fault_word fault.NotUtf8 = codes "not-utf8"
+fault_word fault.Slash = codes "slash"
+fault_word fault.Zero = codes "zero"
+fault_word fault.Dots = codes "dots"
+fault_word fault.Deep = codes "deep"
+fault_word fault.Memory = codes "memory"
+
+-- the word of what makes a target unfit
+abbrev pub cause_word : TargetFault → List ℕ
+cause_word target.Root = codes "root"
+
+-- the word of a limit
+abbrev pub limit_word : Limit → List ℕ
+limit_word limit.Nodes = codes "nodes"
+limit_word limit.Depth = codes "depth"
+limit_word limit.Pieces = codes "pieces"
+
+-- the line that only some denials have: the methods of the files route (RFC 9110, section 10.2.1), and how to be known (section 11.6.1)
+abbrev pub own_line : Denial → List ℕ
+own_line denial.Exists = codes "Allow: GET, PUT, MKCOL, DELETE, MOVE, COPY\r\n"
+own_line denial.Token = codes "WWW-Authenticate: Bearer\r\n"
+own_line other = []
+
+-- the line that ends the session
+abbrev pub close_line : Bool → List ℕ
+close_line close = if close then codes "Connection: close\r\n" else []
+
+-- the head of an answer with a body of n bytes
+abbrev pub head_bytes : List ℕ → Bool → List ℕ → List ℕ → ℕ → List ℕ
+head_bytes status close own kind n =
+    codes "HTTP/1.1 " ++ status ++ codes "\r\n" ++ close_line close ++ own
+    ++ codes "Content-Type: " ++ kind ++ codes "\r\nContent-Length: " ++ decimal n ++ codes "\r\n\r\n"
+
+-- the object of a denial: its reason and what only some denials say, by rising key
+abbrev pub refusal_object : Denial → Data
+refusal_object (denial.BadName f) =
+    object (member (codes "fault") (string (fault_word f)) (member (codes "reason") (string (codes "bad-name")) no_members))
+refusal_object (denial.BadTarget cause) =
+    object (member (codes "cause") (string (cause_word cause)) (member (codes "reason") (string (codes "bad-target")) no_members))
+refusal_object (denial.Limit l) =
+    object
+    (member (codes "count") (number (unsigned (count_of l)))
+    (member (codes "reason") (string (codes "limit")) (member (codes "which") (string (limit_word l)) no_members)))
+refusal_object other = object (member (codes "reason") (string (reason_of other)) no_members)
+
+abbrev pub refusal_body : Denial → List ℕ
+refusal_body d = compact_text (refusal_object d)
+
+abbrev pub refusal_reply : Bool → Denial → List ℕ
+refusal_reply close d =
+    head_bytes (status_of d) close (own_line d) (codes "application/json") (length (refusal_body d)) ++ refusal_body d
+
+-- the head of an answer with a file of that size
+abbrev pub file_head : Bool → ℕ → List ℕ
+file_head close size = head_bytes (codes "200 OK") close [] (codes "application/octet-stream") size
+
+-- the answer to what was made, which has no body
+abbrev pub made_reply : Bool → List ℕ
+made_reply close = codes "HTTP/1.1 201 Created\r\n" ++ close_line close ++ codes "Content-Length: 0\r\n\r\n"
+
+-- and to what was done, which has no length either (RFC 9110, section 15.3.5)
+abbrev pub done_reply : Bool → List ℕ
+done_reply close = codes "HTTP/1.1 204 No Content\r\n" ++ close_line close ++ codes "\r\n"
