@@ -38,9 +38,10 @@ use Rattle.nf_words.specs.declared.request.Places.{Places}
 use Rattle.nf_words.specs.declared.request.Wanted.{Wanted}
 use Rattle.nf_words.specs.declared.request.Wanted.TheVariants.{Get, Put, Mkcol, Delete}
 
--- a denial that says that a step failed
-abbrev is_failure : Denial → Bool
+-- a denial that no rule gives: the step failed, or there was no room for it
+abbrev pub is_failure : Denial → Bool
 is_failure denial.Store = true
+is_failure denial.RunFull = true
 is_failure denial.Memory = true
 is_failure other = false
 
@@ -182,8 +183,11 @@ no_failure (Err other) refusal fine fails is = let e : other ≡ refusal = cc in
     no_both true is not = cc
     no_both false is not = cc
 
+pub never_failed : (s : State) (seat now : ℕ) (event : Event) (refusal : Denial) → is_failure refusal ≡ true → answer_to s seat now event ≡ Err refusal → ⊥
+never_failed s seat now event refusal fails is = no_failure (decision_of s seat now event) refusal (decides s seat now event) fails is
+
 never : (s : State) (e : Entry) (refusal : Denial) → is_failure refusal ≡ true → answer_to s e.seat e.moment e.event ≡ Err refusal → ⊥
-never s e refusal fails is = no_failure (decision_of s e.seat e.moment e.event) refusal (decides s e.seat e.moment e.event) fails is
+never s e refusal fails is = never_failed s e.seat e.moment e.event refusal fails is
 
 store_marked : (s : State) (e : Entry) (m : Mark) → (answer_at s e m ≡ Err denial.Store) ↔ (m ≡ mark.Store)
 store_marked s e mark.Answered = (λ is. absurd (never s e denial.Store refl is), λ is. cc)
