@@ -1,6 +1,1 @@
-pub mod Demo
-pub mod Tickets
-pub mod Turns
-pub mod Sessions
-pub mod OneFile
-pub mod Wholes
+pub mod Desks

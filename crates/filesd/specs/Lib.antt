@@ -1,12 +1,4 @@
-pub mod Asked
 pub mod Command
-pub mod OneFile
-pub mod Parts
-pub mod Reply
-pub mod Session
+pub mod Desk
 pub mod Statuses
 pub mod Store
-pub mod Taken
-pub mod Turn
-pub mod Verdicts
-pub mod Whole

@@ -1,9 +1,10 @@
-//! The bytes of blobs, by their numbers.
+//! The bytes of blobs in memory, by their numbers.
 
-ghost use Rattle.std.specs.Prelude.{◌≡◌, ◌≤◌, ◌+◌, ◌++◌, [], ◌∷◌, length, map, IfOk, OnOk};
-ghost use Rattle.filesd.specs.Store.{blob_bytes, body_of, demo_store};
+ghost use Rattle.std.specs.Prelude.{◌≡◌, ◌≤◌, ◌+◌, ◌++◌, [], ◌∷◌, length, map, IfOk, OnOk, option_copied};
+ghost use Rattle.nf_laws.specs.Wholes.{blob_at};
+ghost use Rattle.filesd.specs.Store.{demo_blobs};
 
-use nf_base::{BlobId, Piece};
+use nf_base::BlobId;
 use std::alloc::{AllocError, Global};
 use std::marker::Model;
 
@@ -34,7 +35,7 @@ impl Model for Store {
 impl Store {
     /// The one blob of the demonstration rows.
     pub fn demo(alloc: Global) -> Result<Store, AllocError>
-        ensures { IfOk result (λ store. store.blobs ≡ demo_store) }
+        ensures { IfOk result (λ store. store.blobs ≡ demo_blobs) }
     {
         let bytes = b"hello\n".to_vec(alloc)?;
         let id = BlobId::new(1);
@@ -59,31 +60,21 @@ impl Store {
         self.blobs.push_reserved(Blob { id, bytes });
     }
 
-    /// The bytes of some pieces, one after the other.
-    pub fn body(&self, alloc: Global, pieces: &[Piece]) -> Result<Vec<u8>, AllocError>
-        ensures { IfOk result (λ body. body.items ≡ body_of self.now.blobs pieces.now) }
+    /// The bytes of a blob.
+    pub fn get(&self, id: BlobId) -> Option<&[u8]>
+        ensures { option_copied result ≡ blob_at self.now.blobs id }
     {
-        let mut body = Vec::new(alloc);
-        for piece in pieces {
-            self.append(piece.blob, &mut body)?;
-        }
-        Ok(body)
-    }
-
-    fn append(&self, id: BlobId, out: &mut Vec<u8>) -> Result<(), AllocError>
-        ensures { OnOk result (out.new.items ≡ out.old.items ++ blob_bytes self.now.blobs id) }
-    {
-        append_blob(&self.blobs, id, out)
+        bytes_of(&self.blobs, id)
     }
 }
 
-fn append_blob(blobs: &[Blob], id: BlobId, out: &mut Vec<u8>) -> Result<(), AllocError>
-    ensures { OnOk result (out.new.items ≡ out.old.items ++ blob_bytes (map (λ blob. (blob.id, blob.bytes.items)) blobs.now) id) }
+fn bytes_of(blobs: &[Blob], id: BlobId) -> Option<&[u8]>
+    ensures { option_copied result ≡ blob_at (map (λ blob. (blob.id, blob.bytes.items)) blobs.now) id }
 {
     for blob in blobs {
         if blob.id == id {
-            return out.extend_from_slice(&blob.bytes);
+            return Some(&blob.bytes);
         }
     }
-    Ok(())
+    None
 }
