@@ -1,10 +1,12 @@
 //! The bytes of blobs in memory, by their numbers.
 
-ghost use Rattle.std.specs.Prelude.{◌≡◌, ◌≤◌, ◌+◌, ◌++◌, [], ◌∷◌, length, map, IfOk, OnOk, option_copied};
-ghost use Rattle.nf_laws.specs.Wholes.{blob_at};
+ghost use Rattle.std.specs.Prelude.{◌≡◌, ◌≤◌, ◌+◌, ◌++◌, [], ◌∷◌, length, map, IfOk, OnOk, OnErr, Err, Some, option_copied};
+ghost use Rattle.nf_laws.specs.Wholes.{IsThere, blob_at};
+ghost use Rattle.nf_server.specs.declared.backend.PieceFault.TheVariants.{Memory};
 ghost use Rattle.filesd.specs.Store.{demo_blobs};
 
-use nf_base::BlobId;
+use nf_base::{BlobId, Piece};
+use nf_server::PieceFault;
 use std::alloc::{AllocError, Global};
 use std::marker::Model;
 
@@ -60,8 +62,21 @@ impl Store {
         self.blobs.push_reserved(Blob { id, bytes });
     }
 
+    /// A copy of the bytes of a piece, which are there.
+    pub fn piece(&self, alloc: Global, piece: &Piece) -> Result<Vec<u8>, PieceFault>
+        requires { IsThere self.now.blobs piece.now }
+        ensures bytes { IfOk result (λ bytes. blob_at self.now.blobs piece.now.blob ≡ Some bytes.items) }
+        ensures fault { OnErr result (result ≡ Err Memory) }
+    {
+        let bytes = self.get(piece.blob).unwrap();
+        match bytes.to_vec(alloc) {
+            Ok(copy) => Ok(copy),
+            Err(_) => Err(PieceFault::Memory),
+        }
+    }
+
     /// The bytes of a blob.
-    pub fn get(&self, id: BlobId) -> Option<&[u8]>
+    fn get(&self, id: BlobId) -> Option<&[u8]>
         ensures { option_copied result ≡ blob_at self.now.blobs id }
     {
         bytes_of(&self.blobs, id)

@@ -44,6 +44,8 @@ use Rattle.nf_words.specs.declared.history.Outcome.{Outcome}
 use Rattle.nf_words.specs.declared.history.Outcome.TheVariants.{Sent, Gone, Body}
 use Rattle.nf_words.specs.declared.history.Ticket.{Ticket}
 use Rattle.nf_words.specs.declared.request.Places.{Places}
+use Rattle.nf_words.specs.declared.request.Request.{Request}
+use Rattle.nf_words.specs.declared.request.Words.{Words}
 use Rattle.nf_words.specs.declared.request.Wanted.{Wanted}
 use Rattle.nf_words.specs.declared.request.Wanted.TheVariants as wanted
 use Rattle.nf_words.proofs.Known.{Known, IsOfBody, found_has, known_change}
@@ -68,6 +70,20 @@ still_there (blob ∷ blobs) id other bytes more is = here (blob.0 == other) ref
         → blob_at ((blob ∷ blobs) ++ (id, bytes) ∷ []) other ≡ Some more
     here true e is rest = simp e (simp e at is)
     here false e is rest = simp e (rest (simp e at is))
+
+-- what stood under a number stands there still
+pub still_at : (blobs : Blobs) (blob : Option ℕ) (body : List ℕ) (id : ℕ) (bytes : List ℕ) → blob_at blobs id ≡ Some bytes
+    → blob_at (with_blob blobs blob body) id ≡ Some bytes
+still_at blobs None body id bytes is = is
+still_at blobs (Some new) body id bytes is = still_there blobs new id body bytes is
+
+-- and a new blob's bytes under its number
+pub new_at : (blobs : Blobs) (blob : Option ℕ) (body : List ℕ) (id : ℕ) → blob ≡ Some id → AreBelow id blobs
+    → blob_at (with_blob blobs blob body) id ≡ Some body
+new_at blobs None body id is below = absurd (none-some id is)
+new_at blobs (Some new) body id is below =
+    let same = same_Some new id is in
+    subst (λ (n : ℕ). blob_at (with_blob blobs (Some n) body) id ≡ Some body) (sym same) (new_there blobs id body below)
 
 -- what was there is there still
 pub kept_there : (blobs : Blobs) (blob : Option ℕ) (body : List ℕ) (piece : Piece) → IsThere blobs piece → IsThere (with_blob blobs blob body) piece
@@ -439,3 +455,53 @@ marked_new s e mark.Memory blobs id sound asked whole is = absurd (none-some id 
 
 pub blobs_are_new : BlobsAreNew
 blobs_are_new n s e blobs id sound may whole is = marked_new s e e.mark blobs id sound may.asked whole is
+
+-- ---- what stores no blob
+
+served_none : (t : Tables) (o : Option ℕ) → blob_of (served t o) ≡ None
+served_none t None = refl
+served_none t (Some node) = refl
+
+deleted_none : (t : Tables) (o : Option ℕ) → blob_of (deleted t o) ≡ None
+deleted_none t None = refl
+deleted_none t (Some node) = refl
+
+put_none : (by : Seeker) (name : List ℕ) (size : ℕ) (o : Option Found) → blob_of (stored by name size o) ≡ None
+put_none by name size None = refl
+put_none by name size (Some (At node)) = refl
+put_none by name size (Some (Free folder)) = refl
+put_none by name size (Some (Missing deep)) = refl
+
+folder_none : (t : Tables) (now : ℕ) (name : List ℕ) (o : Option Found) → blob_of (made_folder t now name o) ≡ None
+folder_none t now name None = refl
+folder_none t now name (Some (At node)) = refl
+folder_none t now name (Some (Free folder)) = refl
+folder_none t now name (Some (Missing deep)) = refl
+
+given_none : (t : Tables) (now user : ℕ) (asked : Wanted) (places : Places) → blob_of (given t now user asked places) ≡ None
+given_none t now user (wanted.Get spot) places = served_none t (node_at places.source)
+given_none t now user (wanted.Put spot size) places = put_none (seeker.User user) (last_name spot) size places.target
+given_none t now user (wanted.Mkcol spot) places = folder_none t now (last_name spot) places.target
+given_none t now user (wanted.Delete spot) places = deleted_none t (node_at places.source)
+
+unless_none : (refusal : Option Denial) (act : Allowed) → blob_of act ≡ None → blob_by (unless_refused refusal act) ≡ None
+unless_none None act none = none
+unless_none (Some refusal) act none = refl
+
+-- a Begin
+pub begin_none : (s : State) (seat now : ℕ) (words : Words) (request : Request) → blob_by (decision_of s seat now (Begin words request)) ≡ None
+begin_none s seat now words request =
+    let call = call_of s seat now words request in
+    unless_none (refusal_of unshared call) (allowed_of call) (given_none s.tables now (asker_of call) request.wanted (places_of call))
+
+-- an End that brings nothing
+ticket_none : (t : Tables) (now : ℕ) (outcome : Outcome) (ticket : Option Ticket)
+    → ((goal : Goal) → ends_goal t now outcome goal ≡ Ok allowed.Close) → blob_by (ends_ticket t now outcome ticket) ≡ None
+ticket_none t now outcome None closes = refl
+ticket_none t now outcome (Some ticket) closes = ap blob_by (closes ticket.goal)
+
+pub sent_none : (s : State) (seat now : ℕ) → blob_by (decision_of s seat now (End Sent)) ≡ None
+sent_none s seat now = ticket_none s.tables now Sent (ticket_of s seat) (λ goal. refl)
+
+pub gone_none : (s : State) (seat now : ℕ) → blob_by (decision_of s seat now (End Gone)) ≡ None
+gone_none s seat now = ticket_none s.tables now Gone (ticket_of s seat) (λ goal. refl)
