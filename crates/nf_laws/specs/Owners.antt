@@ -1,4 +1,4 @@
--- Whose is what a step serves, lists or changes: nobody is shown or changes what isn't the own, since nothing is shared yet.
+-- Whose is what a step serves or changes: nobody is shown or changes what isn't the own, since nothing is shared yet.
 use Rattle.std.specs.Prelude.{◌≡◌, ℕ, false, ◌==◌, not, List, filter, Option, Some, Ok}
 use Rattle.std.specs.Option.{option_map_or}
 use Rattle.nf_base.specs.declared.content.Piece.{Piece}
