@@ -1,4 +1,5 @@
 pub mod Added
+pub mod Blobs
 pub mod Climbs
 pub mod Contents
 pub mod Counters

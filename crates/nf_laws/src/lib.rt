@@ -7,6 +7,7 @@ mod reads;
 mod tells;
 mod tree;
 mod walks;
+mod wholes;
 
 pub use history::{counters_rise, numbers_are_new, stays_sound};
 pub use owners::{changes_only_own, serves_only_own};
@@ -16,3 +17,4 @@ pub use tree::{
     depth_is_climbed, names_are_taken, nodes_are_present, removal_takes_all_under, under_is_derived,
 };
 pub use walks::walk_follows;
+pub use wholes::{blobs_are_new, stays_whole};
