@@ -34,7 +34,7 @@ pub record IsServed (call : Call) (content : List Piece) : Type 0 where
   pub own : row.owner ≡ user
   pub sent : row.content ≡ content
 
--- what is served is the caller's own
+-- what is served of a request that may be asked is the caller's own
 abbrev pub ServesOwn : Type 0
 ServesOwn =
     (s : State) (seat now : ℕ) (words : Words) (request : Request) (content : List Piece) → IsSound s → MayWant request
