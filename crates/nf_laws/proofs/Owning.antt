@@ -1,15 +1,13 @@
 -- What is served or changed is its caller's own.
-use Rattle.std.proofs.Common.{ℕ, suc, zero, ◌==◌, ◌≡◌, ◌++◌, Bool, true, false, not, List, [], ◌∷◌, Option, None, Some, Result, Ok, Err, filter, option_map, get_or, refl, sym, ap, subst, ◌∙◌}
+use Rattle.std.proofs.Common.{ℕ, suc, zero, ◌==◌, ◌≡◌, ◌≢◌, ◌++◌, Bool, true, false, not, List, [], ◌∷◌, Option, None, Some, Result, Ok, Err, filter, option_map, get_or, refl, sym, ap, subst, ◌∙◌}
 use Rattle.std.specs.List.{All}
 use Rattle.std.specs.Option.{option_and_then, option_map_or}
 use Rattle.std.proofs.lemmas.Bool.{eq-eqb, eqb-true, not-false}
 use Rattle.std.proofs.lemmas.List.{append-nil}
 use Rattle.std.proofs.lemmas.List.Elements.{All-head, All-tail, filter-append}
-use Rattle.std.proofs.lemmas.Option.{none-some, option_and_then_some, same_Some}
+use Rattle.std.proofs.lemmas.Option.{option_and_then_some, same_Some}
 use Rattle.nf_base.specs.declared.content.Piece.{Piece}
 use Rattle.nf_base.specs.declared.rows.NodeRow.{NodeRow}
-use Rattle.nf_base.specs.declared.rows.Place.{Place}
-use Rattle.nf_base.specs.declared.rows.Place.TheVariants.{Root, Inside, Trash}
 use Rattle.nf_defs.specs.Tables.{Tables}
 use Rattle.nf_defs.specs.Tree.{climb, content_of, folder_of, node_row, owner_of, parent_of, subtree_of}
 use Rattle.nf_defs.specs.declared.Found.{Found}
@@ -17,13 +15,16 @@ use Rattle.nf_defs.specs.declared.Found.TheVariants.{At, Free, Missing}
 use Rattle.nf_laws.proofs.Climbs.{node_row_each, under_climb}
 use Rattle.nf_laws.proofs.Entries.{after_has}
 use Rattle.nf_laws.proofs.Gone.{gone_is_under}
-use Rattle.nf_laws.proofs.Rows.{folder_there, found_is, stamped_has}
-use Rattle.nf_laws.proofs.Paths.{IsOf, child_folder, child_owner, found_leads, path_own}
+use Rattle.nf_laws.proofs.Rows.{child_folder, child_owner, folder_there, found_is, inside_folder, stamped_has}
+use Rattle.nf_laws.proofs.Paths.{IsOf, found_leads, path_own}
 use Rattle.nf_laws.specs.Owners.{ChangesOnlyOwn, ChangesOwn, ServesOwn, nodes_of_others}
 use Rattle.nf_words.proofs.Known.{Known, KnownGone, KnownNew, call_known, call_passes, found_passes}
 use Rattle.nf_words.specs.Actors.{actor_of}
-use Rattle.nf_words.specs.Calls.{asker_of, found, root_of, source_of, target_of, user_of}
-use Rattle.nf_words.specs.Changes.{altered, changed, given, is_among, told, with_content}
+use Rattle.nf_words.specs.Calls.{asker_of, found, last_name, root_of, source_of, target_of, user_of}
+use Rattle.nf_words.specs.Changes.{altered, changed, deleted, given, is_among, made_folder, served, stored, told, with_content}
+use Rattle.nf_defs.specs.declared.Seeker.{Seeker}
+use Rattle.nf_defs.specs.declared.Seeker.TheVariants as seeker
+use Rattle.nf_words.specs.Places.{node_found}
 use Rattle.nf_words.specs.Sound.{AreSound, IsNodeSound}
 use Rattle.nf_words.specs.Step.{answered_by, call_of, call_decision}
 use Rattle.nf_words.specs.declared.answer.Allowed.{Allowed}
@@ -50,6 +51,34 @@ got (Ok (allowed.Delete nodes)) content is = absurd (cc)
 got (Ok allowed.Close) content is = absurd (cc)
 got (Err refusal) content is = absurd (cc)
 
+-- an act that isn't a GET's gives no content
+no_put : (who : Seeker) (name : List ℕ) (length : ℕ) (place : Option Found) (node : ℕ) (content : List Piece)
+    → stored who name length place ≢ allowed.Get node content
+no_put who name length None node content = λ is. cc
+no_put who name length (Some (At other)) node content = λ is. cc
+no_put who name length (Some (Free folder)) node content = λ is. cc
+no_put who name length (Some (Missing depth)) node content = λ is. cc
+
+no_folder : (t : Tables) (now : ℕ) (name : List ℕ) (place : Option Found) (node : ℕ) (content : List Piece)
+    → made_folder t now name place ≢ allowed.Get node content
+no_folder t now name None node content = λ is. cc
+no_folder t now name (Some (At other)) node content = λ is. cc
+no_folder t now name (Some (Free folder)) node content = λ is. cc
+no_folder t now name (Some (Missing depth)) node content = λ is. cc
+
+no_deletion : (t : Tables) (place : Option ℕ) (node : ℕ) (content : List Piece) → deleted t place ≢ allowed.Get node content
+no_deletion t None node content = λ is. cc
+no_deletion t (Some other) node content = λ is. cc
+
+-- a GET gives that of the node at its place
+get_at : (t : Tables) (place : Found) (node : ℕ) (content : List Piece) → served t (node_found place) ≡ allowed.Get node content
+    → (place ≡ At node) × (content ≡ content_of t.nodes node)
+get_at t (At other) node content is =
+    let same : other ≡ node = cc in
+    let sent : content_of t.nodes other ≡ content = cc in (ap At same, sym sent ∙ ap (content_of t.nodes) same)
+get_at t (Free folder) node content is = absurd (cc)
+get_at t (Missing depth) node content is = absurd (cc)
+
 abbrev places_for : Wanted → (Spot → Found) → Places
 places_for wanted leads = record { source = option_map leads (source_of wanted); target = option_map leads (target_of wanted) }
 
@@ -57,41 +86,12 @@ places_for wanted leads = record { source = option_map leads (source_of wanted);
 asked_get : (t : Tables) (now user : ℕ) (wanted : Wanted) (leads : Spot → Found) (node : ℕ) (content : List Piece)
     → given t now user wanted (places_for wanted leads) ≡ allowed.Get node content
     → (spot : Spot) × (wanted ≡ Get spot) × (leads spot ≡ At node) × (content ≡ content_of t.nodes node)
-asked_get t now user (Get spot) leads node content is = here (leads spot) refl is
-  where
-    here : (f : Found) → leads spot ≡ f → given t now user (Get spot) (record { source = Some f; target = None }) ≡ allowed.Get node content
-        → (other : Spot) × (Get spot ≡ Get other) × (leads other ≡ At node) × (content ≡ content_of t.nodes node)
-    here (At other) e is =
-        let same : other ≡ node = cc in
-        let sent : content_of t.nodes other ≡ content = cc in (
-          spot,
-          refl,
-          e ∙ ap At same,
-          sym sent ∙ ap (content_of t.nodes) same,
-        )
-    here (Free folder) e is = absurd (cc)
-    here (Missing depth) e is = absurd (cc)
-asked_get t now user (Put spot length) leads node content is = here (leads spot) is
-  where
-    here : (f : Found) → given t now user (Put spot length) (record { source = None; target = Some f }) ≡ allowed.Get node content
-        → (other : Spot) × (Put spot length ≡ Get other) × (leads other ≡ At node) × (content ≡ content_of t.nodes node)
-    here (At other) is = absurd (cc)
-    here (Free folder) is = absurd (cc)
-    here (Missing depth) is = absurd (cc)
-asked_get t now user (Mkcol spot) leads node content is = here (leads spot) is
-  where
-    here : (f : Found) → given t now user (Mkcol spot) (record { source = None; target = Some f }) ≡ allowed.Get node content
-        → (other : Spot) × (Mkcol spot ≡ Get other) × (leads other ≡ At node) × (content ≡ content_of t.nodes node)
-    here (At other) is = absurd (cc)
-    here (Free folder) is = absurd (cc)
-    here (Missing depth) is = absurd (cc)
-asked_get t now user (Delete spot) leads node content is = here (leads spot) is
-  where
-    here : (f : Found) → given t now user (Delete spot) (record { source = Some f; target = None }) ≡ allowed.Get node content
-        → (other : Spot) × (Delete spot ≡ Get other) × (leads other ≡ At node) × (content ≡ content_of t.nodes node)
-    here (At other) is = absurd (cc)
-    here (Free folder) is = absurd (cc)
-    here (Missing depth) is = absurd (cc)
+asked_get t now user (Get spot) leads node content is =
+    let h = get_at t (leads spot) node content is in (spot, refl, h.0, h.1)
+asked_get t now user (Put spot length) leads node content is =
+    absurd (no_put (seeker.User user) (last_name spot) length (Some (leads spot)) node content is)
+asked_get t now user (Mkcol spot) leads node content is = absurd (no_folder t now (last_name spot) (Some (leads spot)) node content is)
+asked_get t now user (Delete spot) leads node content is = absurd (no_deletion t (node_found (leads spot)) node content is)
 
 pub serves_own : ServesOwn
 serves_own s seat now words request content sound may is =
@@ -179,11 +179,6 @@ climb_own (suc j) t user node top row sound is of there =
     sym (child_owner t row row.place parent h.place inside)
     ∙ ap (λ (o : Option NodeRow). option_map_or (λ row. row.owner) o 0) folder.1
     ∙ climb_own j t user parent top folder.0 sound is of folder.1)
-  where
-    inside_folder : (place : Place) (parent : ℕ) → folder_of place ≡ Some parent → place ≡ Inside parent
-    inside_folder Root parent is = absurd (none-some parent is)
-    inside_folder (Inside folder) parent is = ap Inside (same_Some folder parent is)
-    inside_folder Trash parent is = absurd (none-some parent is)
 
 gone_own : (t : Tables) (who : Option ℕ) (nodes : List ℕ) → AreSound t → KnownGone t who nodes
     → All (λ (row : NodeRow). not (is_among nodes row.id) ≡ false → is_of_other who row ≡ false) t.nodes

@@ -1,8 +1,10 @@
 -- Where a path leads: the walk against the derivation, and whose is what it leads to.
-use Rattle.std.proofs.Common.{ℕ, suc, ◌+◌, ◌==◌, ◌≡◌, ◌&&◌, Bool, true, false, List, [], ◌∷◌, Option, None, Some, bytes_eq, find, option_map, if◌then◌else◌, refl, sym, ap, subst, ◌∙◌, inl, inr, arith}
+use Rattle.std.proofs.Common.{ℕ, suc, ◌+◌, ◌==◌, ◌≡◌, ◌&&◌, Bool, true, false, List, [], ◌∷◌, Option, None, Some, bytes_eq, find, option_map, if◌then◌else◌, refl, sym, ap, subst, ◌∙◌, ⊎_elim, inl, inr, arith, ◌++◌, ◌⊎◌, ◌<◌, ◌≤◌, drop, get_or, length, take}
 use Rattle.std.specs.List.{AllPairs}
 use Rattle.std.specs.Option.{option_map_or}
 use Rattle.std.proofs.lemmas.Bool.{and_parts, false≢true, eq-eqb, eqb-true}
+use Rattle.std.proofs.Math.Seq.{drop-cons}
+use Rattle.std.proofs.lemmas.List.{append-nil, length-drop, length-take-le, take-append-drop}
 use Rattle.std.proofs.lemmas.Option.{none-some, same_Some}
 use Rattle.std.proofs.lemmas.Slice.Eq.{bytes_eq-Decides}
 use Rattle.nf_base.specs.declared.rows.NodeRow.{NodeRow}
@@ -15,10 +17,10 @@ use Rattle.nf_defs.specs.Tree.{Leads, stays, leads_on, child_of, found_from, is_
 use Rattle.nf_defs.specs.declared.Found.{Found}
 use Rattle.nf_defs.specs.declared.Found.TheVariants.{At, Free, Missing}
 use Rattle.nf_laws.proofs.Climbs.{node_row_each}
-use Rattle.nf_laws.proofs.Rows.{found_is}
+use Rattle.nf_laws.proofs.Rows.{child_owner, found_is}
 use Rattle.nf_laws.specs.Walks.{LeadsNoFurther, LeadsToFree, WalkFollows}
 use Rattle.nf_words.proofs.Known.{KnownPath}
-use Rattle.nf_words.specs.Sound.{AreApart, AreSound, HasRoot, IsNodeSound, IsOwn, IsPlaceSound}
+use Rattle.nf_words.specs.Sound.{AreApart, AreSound, HasRoot, IsNodeSound, IsOwn}
 
 -- ---- a folder's child of a name
 
@@ -112,9 +114,10 @@ further t before from name names child (Missing depth) folds is (more, counted, 
   omega arith,
   record {
     node = stuck.node;
+    within = omega (arith, stuck.within);
     led = leads_on from name _ is.row stuck.node folds is.there is.place is.named
         (subst (λ (n : ℕ). Leads t.nodes n _ stuck.node) (sym is.id) stuck.led);
-    stuck = stuck.stuck;
+    stuck = ⊎_elim (λ no_folder. inl no_folder) (λ none. inr (none.0, omega (arith, none.1))) stuck.stuck;
   },
 )
 
@@ -127,20 +130,62 @@ walk t before from (name ∷ names) sound =
         → ((child : ℕ) → Means t (before + 1) child names (found_from t.nodes (before + 1) child names))
         → Means t before from (name ∷ names)
         (if folds then onward before from names child (λ child. found_from t.nodes (before + 1) child names) else Missing before)
-    here false child names folds is rest = (0, omega arith, record { node = from; led = stays from; stuck = inl folds })
+    here false child names folds is rest = (0, omega arith, record { node = from; within = omega arith; led = stays from; stuck = inl folds })
     here true None [] folds is rest = record { front = []; last = name; parts = refl; led = stays from; there = folds; free = is }
-    here true None (n ∷ names) folds is rest = (0, omega arith, record { node = from; led = stays from; stuck = inr is })
+    here true None (n ∷ names) folds is rest =
+        (0, omega arith, record { node = from; within = omega arith; led = stays from; stuck = inr (is, omega arith) })
     here true (Some child) names folds is rest =
         further t before from name names child (found_from t.nodes (before + 1) child names) folds (child_is t from name child sound is) (rest child)
+
+-- a walk goes on from where its first names lead
+walks_on : (t : Tables) (before from : ℕ) (front rest : List (List ℕ)) (node : ℕ) → AreSound t → Leads t.nodes from front node
+    → found_from t.nodes before from (front ++ rest) ≡ found_from t.nodes (before + length front) node rest
+walks_on t before _ _ rest _ sound (stays at) =
+    let same : before ≡ before + 0 = omega arith in ap (λ (n : ℕ). found_from t.nodes n at rest) same
+walks_on t before _ _ rest _ sound (leads_on at name names child node folds there place named led) =
+    let is : child_of t.nodes at name ≡ Some child.id =
+    subst (λ (n : List ℕ). child_of t.nodes at n ≡ Some child.id) named (child_there t.nodes at child sound.names there place) in
+    let same : before + 1 + length names ≡ before + length (name ∷ names) = omega arith in
+    rw (folds, is) (walks_on t (before + 1) child.id names rest node sound led ∙ ap (λ (n : ℕ). found_from t.nodes n node rest) same)
 
 -- what leads there is found there
 pub leads_found : (t : Tables) (before from : ℕ) (names : List (List ℕ)) (node : ℕ) → AreSound t
     → Leads t.nodes from names node → found_from t.nodes before from names ≡ At node
-leads_found t before _ _ _ sound (stays at) = refl
-leads_found t before _ _ _ sound (leads_on at name names child node folds there place named led) =
-    let is : child_of t.nodes at name ≡ Some child.id =
-    subst (λ (n : List ℕ). child_of t.nodes at n ≡ Some child.id) named (child_there t.nodes at child sound.names there place) in
-    rw (folds, is) (leads_found t (before + 1) child.id names node sound led)
+leads_found t before from names node sound led =
+    ap (found_from t.nodes before from) (sym (append-nil names)) ∙ walks_on t before from names [] node sound led
+
+free_found : (t : Tables) (from : ℕ) (names : List (List ℕ)) (folder : ℕ) → AreSound t
+    → LeadsToFree t.nodes from names folder → found_from t.nodes 0 from names ≡ Free folder
+free_found t from names folder sound free =
+    ap (found_from t.nodes 0 from) free.parts ∙ walks_on t 0 from free.front (free.last ∷ []) folder sound free.led ∙ rw (free.there, free.free)
+
+-- a walk stops at a node that is no folder, or has no child of the next name, where that isn't the last
+stops : (t : Tables) (depth node : ℕ) (name : List ℕ) (names : List (List ℕ))
+    → (is_folder t.nodes node ≡ false) ⊎ ((child_of t.nodes node name ≡ None) × (0 < length names))
+    → found_from t.nodes depth node (name ∷ names) ≡ Missing depth
+stops t depth node name names (inl none) = rw none
+stops t depth node name [] (inr none) = absurd (omega (arith, none.1))
+stops t depth node name (n ∷ names) (inr none) = here (is_folder t.nodes node)
+  where
+    here : (folds : Bool)
+        → (if folds then onward depth node (n ∷ names) (child_of t.nodes node name) (λ child. found_from t.nodes (depth + 1) child (n ∷ names))
+        else Missing depth) ≡ Missing depth
+    here true = rw none.0
+    here false = refl
+
+missing_found : (t : Tables) (from : ℕ) (names : List (List ℕ)) (depth : ℕ) → AreSound t
+    → LeadsNoFurther t.nodes from names depth → found_from t.nodes 0 from names ≡ Missing depth
+missing_found t from names depth sound missing =
+    let next = get_or names depth [] in
+    let rest = drop (suc depth) names in
+    let parts : names ≡ take depth names ++ next ∷ rest =
+    sym (take-append-drop depth names) ∙ ap (λ (behind : List (List ℕ)). take depth names ++ behind) (drop-cons names depth [] missing.within) in
+    let few : depth ≤ length names = omega (arith, missing.within) in
+    let counted : 0 + length (take depth names) ≡ depth = omega (arith, length-take-le depth names few) in
+    let stuck : (is_folder t.nodes missing.node ≡ false) ⊎ ((child_of t.nodes missing.node next ≡ None) × (0 < length rest)) =
+    ⊎_elim (λ none. inl none) (λ none. inr (none.0, omega (arith, none.1, length-drop (suc depth) names))) missing.stuck in
+    ap (found_from t.nodes 0 from) parts ∙ walks_on t 0 from (take depth names) (next ∷ rest) missing.node sound missing.led
+    ∙ ap (λ (n : ℕ). found_from t.nodes n missing.node (next ∷ rest)) counted ∙ stops t depth missing.node next rest stuck
 
 pub found_leads : (t : Tables) (from : ℕ) (names : List (List ℕ)) (node : ℕ) → AreSound t
     → found_from t.nodes 0 from names ≡ At node → Leads t.nodes from names node
@@ -150,14 +195,18 @@ pub found_free : (t : Tables) (from : ℕ) (names : List (List ℕ)) (folder : �
     → found_from t.nodes 0 from names ≡ Free folder → LeadsToFree t.nodes from names folder
 found_free t from names folder sound is = subst (λ (f : Found). Means t 0 from names f) is (walk t 0 from names sound)
 
+found_missing : (t : Tables) (from : ℕ) (names : List (List ℕ)) (depth : ℕ) → AreSound t
+    → found_from t.nodes 0 from names ≡ Missing depth → LeadsNoFurther t.nodes from names depth
+found_missing t from names depth sound is =
+    let h = subst (λ (f : Found). Means t 0 from names f) is (walk t 0 from names sound) in
+    let e : h.0 ≡ depth = omega (arith, h.1) in
+    subst (λ (n : ℕ). LeadsNoFurther t.nodes from names n) e h.2
+
 pub walk_follows : WalkFollows
 walk_follows = record {
   at = λ t from names node sound. (found_leads t from names node sound, leads_found t 0 from names node sound);
-  free = λ t from names folder sound. found_free t from names folder sound;
-  missing = λ t from names depth sound is.
-      let h = subst (λ (f : Found). Means t 0 from names f) is (walk t 0 from names sound) in
-      let e : h.0 ≡ depth = omega (arith, h.1) in
-      subst (λ (n : ℕ). LeadsNoFurther t.nodes from names n) e h.2;
+  free = λ t from names folder sound. (found_free t from names folder sound, free_found t from names folder sound);
+  missing = λ t from names depth sound. (found_missing t from names depth sound, missing_found t from names depth sound);
 }
 
 -- ---- whose is what a path leads to
@@ -167,21 +216,6 @@ pub record IsOf (t : Tables) (user node : ℕ) : Type 0 where
   pub row : NodeRow
   pub there : node_row t.nodes node ≡ Some row
   pub owner : row.owner ≡ user
-
--- a child has the owner of its folder
-pub child_owner : (t : Tables) (row : NodeRow) (place : Place) (folder : ℕ) → IsPlaceSound t row place → place ≡ Inside folder
-    → owner_of t.nodes folder ≡ row.owner
-child_owner t row Root folder sound is = absurd (cc)
-child_owner t row (Inside parent) folder sound is =
-    let e : parent ≡ folder = cc in subst (λ (n : ℕ). owner_of t.nodes n ≡ row.owner) e sound.1
-child_owner t row Trash folder sound is = absurd sound
-
-pub child_folder : (t : Tables) (row : NodeRow) (place : Place) (folder : ℕ) → IsPlaceSound t row place → place ≡ Inside folder
-    → is_folder t.nodes folder ≡ true
-child_folder t row Root folder sound is = absurd (cc)
-child_folder t row (Inside parent) folder sound is =
-    let e : parent ≡ folder = cc in subst (λ (n : ℕ). is_folder t.nodes n ≡ true) e sound.0
-child_folder t row Trash folder sound is = absurd sound
 
 pub leads_own : (t : Tables) (user from : ℕ) (names : List (List ℕ)) (node : ℕ) → AreSound t
     → Leads t.nodes from names node → IsOf t user from → IsOf t user node

@@ -4,7 +4,7 @@ use Rattle.std.specs.List.{All}
 use Rattle.std.specs.Option.{IfSome, option_and_then, option_map_or}
 use Rattle.std.proofs.lemmas.Bool.{false≢true, eqb-true}
 use Rattle.std.proofs.lemmas.List.Elements.{All-cons, All-nil, All-weaker}
-use Rattle.std.proofs.lemmas.Option.{none-some}
+use Rattle.std.proofs.lemmas.Option.{none-some, same_Some}
 use Rattle.nf_base.specs.declared.changes.Change.{Change}
 use Rattle.nf_base.specs.declared.content.Piece.{Piece}
 use Rattle.nf_base.specs.declared.rows.MetaRow.{MetaRow}
@@ -52,6 +52,29 @@ none_above t user sound = of_user (user_row t.users user) refl
     of_user (Some row) e =
         let root = (found_is (HasRoot t) (λ row. row.id == user) t.users row sound.roots e).1 in
         ap (option_and_then (λ row. folder_of row.place)) root.there ∙ ap folder_of root.place
+
+-- ---- what is in a folder
+
+pub inside_folder : (place : Place) (parent : ℕ) → folder_of place ≡ Some parent → place ≡ Inside parent
+inside_folder Root parent is = absurd (none-some parent is)
+inside_folder (Inside folder) parent is = ap Inside (same_Some folder parent is)
+inside_folder Trash parent is = absurd (none-some parent is)
+
+-- its folder is there
+pub child_folder : (t : Tables) (row : NodeRow) (place : Place) (folder : ℕ) → IsPlaceSound t row place → place ≡ Inside folder
+    → is_folder t.nodes folder ≡ true
+child_folder t row Root folder sound is = absurd (cc)
+child_folder t row (Inside parent) folder sound is =
+    let e : parent ≡ folder = cc in subst (λ (n : ℕ). is_folder t.nodes n ≡ true) e sound.0
+child_folder t row Trash folder sound is = absurd sound
+
+-- and has its owner
+pub child_owner : (t : Tables) (row : NodeRow) (place : Place) (folder : ℕ) → IsPlaceSound t row place → place ≡ Inside folder
+    → owner_of t.nodes folder ≡ row.owner
+child_owner t row Root folder sound is = absurd (cc)
+child_owner t row (Inside parent) folder sound is =
+    let e : parent ≡ folder = cc in subst (λ (n : ℕ). owner_of t.nodes n ≡ row.owner) e sound.1
+child_owner t row Trash folder sound is = absurd sound
 
 -- ---- what stays where each node keeps its owner, place, name and kind
 

@@ -6,20 +6,18 @@ use Rattle.std.specs.Option.{option_map_or}
 use Rattle.std.proofs.lemmas.Bool.{eq-eqb, eqb-true}
 use Rattle.std.proofs.lemmas.List.Elements.{All-head, All-tail}
 use Rattle.std.proofs.lemmas.List.Folds.{list_any_at}
-use Rattle.std.proofs.lemmas.Option.{none-some, option_and_then_some, same_Some}
+use Rattle.std.proofs.lemmas.Option.{option_and_then_some, same_Some}
 use Rattle.nf_base.specs.FreeNames.{is_taken}
 use Rattle.nf_base.specs.declared.rows.NodeRow.{NodeRow}
-use Rattle.nf_base.specs.declared.rows.Place.{Place}
-use Rattle.nf_base.specs.declared.rows.Place.TheVariants.{Root, Inside, Trash}
 use Rattle.nf_base.specs.declared.rows.UserRow.{UserRow}
 use Rattle.nf_defs.specs.People.{user_row}
 use Rattle.nf_defs.specs.Tables.{Tables}
-use Rattle.nf_defs.specs.Tree.{child_of, climb, folder_of, is_folder, is_in, is_present, is_under, node_row, parent_of, subtree_of, taken_names}
+use Rattle.nf_defs.specs.Tree.{child_of, climb, folder_of, is_in, is_present, is_under, node_row, parent_of, subtree_of, taken_names}
 use Rattle.nf_laws.proofs.Climbs.{among_those, climb_under, climbs_no_further, depth_is, under_climb}
-use Rattle.nf_laws.proofs.Rows.{folder_there, found_is, none_above}
+use Rattle.nf_laws.proofs.Rows.{child_folder, folder_there, found_is, inside_folder, none_above}
 use Rattle.nf_laws.specs.Tree.{DepthIsClimbed, NamesAreTaken, NodesArePresent, RemovalTakesAllUnder, Under, UnderIsDerived, itself, inside}
 use Rattle.nf_words.specs.Changes.{is_among}
-use Rattle.nf_words.specs.Sound.{AreSound, IsNodeSound, IsPlaceSound, root_of_user}
+use Rattle.nf_words.specs.Sound.{AreSound, IsNodeSound, root_of_user}
 
 -- ---- under
 
@@ -51,13 +49,6 @@ some_number t node row sound there =
     let h = found_is (IsNodeSound t) (λ row. row.id == node) t.nodes row sound.nodes there in
     omega (arith, h.1.some, eqb-true row.id node h.0)
 
--- a folder that a place is in is there
-folder_is : (t : Tables) (row : NodeRow) (place : Place) (parent : ℕ)
-    → IsPlaceSound t row place → folder_of place ≡ Some parent → is_folder t.nodes parent ≡ true
-folder_is t row Root parent sound is = absurd (none-some parent is)
-folder_is t row (Inside folder) parent sound is = subst (λ (n : ℕ). is_folder t.nodes n ≡ true) (same_Some folder parent is) sound.0
-folder_is t row Trash parent sound is = absurd sound
-
 -- no climb ends at 0, the number of no node
 climb_ends : (k : ℕ) (t : Tables) (node top : ℕ) → AreSound t → 1 ≤ node → climb t.nodes k node ≡ Some top → 1 ≤ top
 climb_ends zero t node top sound some is = omega (arith, same_Some node top is)
@@ -65,7 +56,7 @@ climb_ends (suc k) t node top sound some is =
     option_and_then_some (climb t.nodes k) (parent_of t.nodes node) top is (λ parent above is.
     option_and_then_some (λ row. folder_of row.place) (node_row t.nodes node) parent above (λ row there place.
     let h = found_is (IsNodeSound t) (λ row. row.id == node) t.nodes row sound.nodes there in
-    let f = folder_there t.nodes parent (folder_is t row row.place parent h.1.place place) in
+    let f = folder_there t.nodes parent (child_folder t row row.place parent h.1.place (inside_folder row.place parent place)) in
     climb_ends k t parent top sound (some_number t parent f.0 sound f.1) is))
 
 pub nodes_present : NodesArePresent

@@ -1,4 +1,4 @@
--- Whose is what a step serves, lists or changes: nobody is shown or changes what isn't the own, since nothing is shared yet.
+-- Whose is what a step serves or changes: nobody is shown or changes what isn't the own, since nothing is shared yet.
 use Rattle.std.specs.Prelude.{◌≡◌, ℕ, false, ◌==◌, not, List, filter, Option, Some, Ok}
 use Rattle.std.specs.Option.{option_map_or}
 use Rattle.nf_base.specs.declared.content.Piece.{Piece}
@@ -34,7 +34,7 @@ pub record IsServed (call : Call) (content : List Piece) : Type 0 where
   pub own : row.owner ≡ user
   pub sent : row.content ≡ content
 
--- what is served is the caller's own
+-- what is served of a request that may be asked is the caller's own
 abbrev pub ServesOwn : Type 0
 ServesOwn =
     (s : State) (seat now : ℕ) (words : Words) (request : Request) (content : List Piece) → IsSound s → MayWant request

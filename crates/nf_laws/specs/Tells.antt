@@ -8,7 +8,7 @@ use Rattle.nf_words.specs.State.{State}
 use Rattle.nf_words.specs.Step.{changes_to, step}
 use Rattle.nf_words.specs.declared.history.Event.{Event}
 
--- in sound states, where the event may come at a moment that isn't before the greatest seen
+-- in sound states, where the event may come, at whatever moment
 pub record ChangesTell : Type 0 where
   -- the tables after a step are those before it with its changes put into them
   pub put : (s : State) (seat now : ℕ) (event : Event) → IsSound s → MayAsk s seat event
