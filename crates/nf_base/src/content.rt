@@ -1,19 +1,21 @@
 //! What a file contains: pieces, each a blob with its size and its digest.
 
-ghost use Rattle.std.specs.Prelude.{◌≡◌, ◌≤◌, [], length};
+ghost use Rattle.std.specs.Prelude.{◌≡◌, [], length};
 ghost use Rattle.std.specs.Cmp.{partial_equiv_from_equiv};
 ghost use Rattle.std.specs.Cmp.Rules.{comparing};
 ghost use Rattle.std.proofs.Common.{rules};
+ghost use Rattle.sha2.specs.Sha256.{sha256};
 
 use crate::BlobId;
+use sha2::{Digest as _, Sha256};
 use std::alloc::{AllocError, Global};
 use std::marker::Model;
 
-/// The most bytes that the body of a message, a piece or a blob has.
+/// The most bytes that the body of a message may have, and so a piece.
 pub const MAX_BODY: u64 = 16_777_216;
 
-/// The SHA-256 digest of some bytes (FIPS 180-4).
-#[derive(Clone, Copy, Debug, PartialEq, Eq)]
+/// The SHA-256 digest of some bytes (FIPS 180-4). Digests are ordered by their bytes.
+#[derive(Clone, Copy, Debug, PartialEq, Eq, PartialOrd, Ord)]
 pub struct Digest {
     bytes: [u8; 32],
 }
@@ -35,8 +37,20 @@ impl Digest {
         Digest { bytes }
     }
 
+    /// The digest of these bytes.
+    pub fn of(bytes: &[u8]) -> Self
+        ensures { result ≡ sha256 bytes.now }
+    {
+        let mut hasher = Sha256::new();
+        hasher.update(bytes);
+        Digest {
+            bytes: hasher.finalize(),
+        }
+    }
+
     pub fn as_bytes(&self) -> &[u8]
-        ensures { result.now ≡ self.now }
+        ensures bytes { result.now ≡ self.now }
+        ensures whole { length self.now ≡ 32 }
     {
         &self.bytes
     }
@@ -46,7 +60,7 @@ impl Digest {
 #[derive(Clone, Copy, Debug, PartialEq, Eq)]
 pub struct Piece {
     pub blob: BlobId,
-    /// From 1 to 16,777,216.
+    /// From 1 to `MAX_BODY` in a content.
     pub size: u32,
     pub digest: Digest,
 }
@@ -58,18 +72,20 @@ pub struct Content {
 }
 
 impl Model for Content {
-    ghost use Rattle.std.specs.Prelude.{List, ◌≤◌, length};
+    ghost use Rattle.std.specs.Prelude.{List};
+    ghost use Rattle.nf_base.specs.Kept.{IsContent};
     ghost use Rattle.nf_base.specs.declared.content.Piece.{Piece};
 
     ghost Value = { List Piece };
 
     ghost view = { λ content. content.pieces.items };
 
-    ghost invariant = { λ content. length content.pieces.items ≤ 10000 };
+    ghost invariant = { λ content. IsContent content.pieces.items };
 }
 
 impl Content {
     ghost use Rattle.nf_base.specs.Content.{size_of};
+    ghost use Rattle.nf_base.specs.Kept.{IsContent};
 
     /// The content of an empty file, and of a folder.
     pub fn empty(alloc: Global) -> Self
@@ -81,7 +97,7 @@ impl Content {
     }
 
     pub fn new(pieces: Vec<Piece>) -> Self
-        requires { length pieces.items ≤ 10000 }
+        requires { IsContent pieces.items }
         ensures { result ≡ pieces.items }
     {
         Content { pieces }
@@ -89,7 +105,7 @@ impl Content {
 
     pub fn pieces(&self) -> &[Piece]
         ensures pieces { result.now ≡ self.now }
-        ensures few { length self.now ≤ 10000 }
+        ensures kept { IsContent self.now }
     {
         &self.pieces
     }

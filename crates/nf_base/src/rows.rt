@@ -78,6 +78,30 @@ pub struct NodeRow {
     pub changed: Moment,
 }
 
+impl Model for NodeRow {
+    ghost use Rattle.nf_base.specs.Kept.{IsPlain};
+    ghost use Rattle.nf_base.specs.NodeValue.{NodeValue};
+
+    ghost Value = { NodeValue };
+
+    ghost view = { λ row. record { id = row.id; owner = row.owner; place = row.place; name = row.name; kind = row.kind; content = row.content; changed = row.changed } };
+
+    ghost invariant = { λ row. IsPlain row.kind row.content };
+
+    ghost inverse = { λ row. record { id = row.id; owner = row.owner; place = row.place; name = row.name; kind = row.kind; content = row.content; changed = row.changed } };
+}
+
+impl NodeRow {
+    ghost use Rattle.nf_base.specs.Kept.{IsPlain};
+
+    /// Tells callers what every such row keeps; it does nothing.
+    pub fn keeps(&self)
+        ensures { IsPlain self.now.kind self.now.content }
+    {
+        let _ = &self.kind;
+    }
+}
+
 /// Whom a share is for: a user, a group, or whoever knows the link's token.
 #[derive(Clone, Debug, PartialEq, Eq, Drop)]
 pub enum ShareKind {
@@ -147,6 +171,30 @@ pub struct ChunkRow {
     pub content: Content,
 }
 
+impl Model for ChunkRow {
+    ghost use Rattle.std.specs.Prelude.{◌≤◌, length};
+    ghost use Rattle.nf_base.specs.ChunkValue.{ChunkValue};
+
+    ghost Value = { ChunkValue };
+
+    ghost view = { λ row. record { user = row.user; dir = row.dir; number = row.number; content = row.content } };
+
+    ghost invariant = { λ row. length row.content ≤ 1 };
+
+    ghost inverse = { λ row. record { user = row.user; dir = row.dir; number = row.number; content = row.content } };
+}
+
+impl ChunkRow {
+    ghost use Rattle.std.specs.Prelude.{◌≤◌, length};
+
+    /// Tells callers what every such row keeps; it does nothing.
+    pub fn keeps(&self)
+        ensures { length self.now.content ≤ 1 }
+    {
+        let _ = &self.content;
+    }
+}
+
 /// A row of any kind.
 #[derive(Clone, Debug, PartialEq, Eq, Drop)]
 pub enum Row {
@@ -165,6 +213,28 @@ pub enum Row {
 }
 
 impl Row {
+    ghost use Rattle.nf_base.specs.KeptRows.{IsKept};
+
+    /// Tells callers what every row keeps; it does nothing.
+    pub fn keeps(&self)
+        ensures { IsKept self.now }
+    {
+        match self {
+            Row::Node(row) => {
+                let _ = row.content.pieces();
+                row.keeps();
+            }
+            Row::Version(row) => {
+                let _ = row.content.pieces();
+            }
+            Row::Chunk(row) => {
+                let _ = row.content.pieces();
+                row.keeps();
+            }
+            _ => {}
+        }
+    }
+
     /// An equal row.
     pub fn copy(&self) -> Result<Row, AllocError>
         ensures { IfOk result (λ copy. copy ≡ self.now) }
@@ -185,10 +255,18 @@ impl Model for RowList {
 
     ghost Value = { List Row };
 
+    ghost use Rattle.std.specs.Prelude.{All};
+    ghost use Rattle.nf_base.specs.KeptRows.{IsKept};
+
     ghost view = { λ list. list.rows.items };
+
+    ghost invariant = { λ list. All IsKept list.rows.items };
 }
 
 impl RowList {
+    ghost use Rattle.std.specs.Prelude.{All};
+    ghost use Rattle.nf_base.specs.KeptRows.{IsKept};
+
     pub fn new(alloc: Global) -> Self
         ensures { result ≡ [] }
     {
@@ -198,9 +276,18 @@ impl RowList {
     }
 
     pub fn rows(&self) -> &[Row]
-        ensures { result.now ≡ self.now }
+        ensures rows { result.now ≡ self.now }
+        ensures kept { All IsKept self.now }
     {
         &self.rows
+    }
+
+    /// The rows themselves, in their order.
+    pub fn into_rows(self) -> Vec<Row>
+        ensures rows { result.items ≡ self }
+        ensures kept { All IsKept self }
+    {
+        self.rows
     }
 
     /// Puts a row at the end. For want of memory the list stays as it was.
@@ -208,6 +295,7 @@ impl RowList {
         ensures ok { OnOk result (self.new ≡ self.old ++ row ∷ []) }
         ensures err { OnErr result (self.new ≡ self.old) }
     {
+        row.keeps();
         self.rows.push(row)?;
         Ok(())
     }

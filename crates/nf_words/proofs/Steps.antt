@@ -7,7 +7,7 @@ use Rattle.std.proofs.lemmas.List.Kept.{AllPairs-filter}
 use Rattle.std.proofs.lemmas.List.Quantifiers.{all_pairs_push}
 use Rattle.std.proofs.lemmas.Grind.{common_steps}
 use Rattle.nf_defs.specs.Tables.{Tables}
-use Rattle.nf_words.specs.State.{State, ticket_of, without_ticket}
+use Rattle.nf_words.specs.State.{State, ticket_for, ticket_of, without_ticket}
 use Rattle.nf_words.specs.Step.{step, without, decision_of, decided, answered_by, answer_to}
 use Rattle.nf_words.specs.Changes.{goal_of, with_goal, reply_to}
 use Rattle.nf_words.specs.Endings.{unless_refused, stored_at, end_refusal, ends_goal, ends_ticket, end_decision}
@@ -65,7 +65,7 @@ pub freed : (s : State) (seat : ℕ) → ticket_of (without_ticket s seat) seat 
 freed s seat = find-filter-not (λ ticket. ticket.seat == seat) s.tickets
 
 other_without : (s : State) (seat : ℕ) (event : Event) (other : ℕ) → other ≢ seat → ticket_of (without s seat event) other ≡ ticket_of s other
-other_without s seat (Begin request) other differ = refl
+other_without s seat (Begin words request) other differ = refl
 other_without s seat (End outcome) other differ =
     find-filter (λ ticket. ticket.seat == other) (λ ticket. not (ticket.seat == seat)) (λ ticket is. grind (arith, common_steps)) s.tickets
 
@@ -76,18 +76,29 @@ other_goal tickets seat other (Some goal) differ = find-append (λ ticket. ticke
 
 other_decided : (s : State) (seat now other : ℕ) (decision : Result Allowed Denial)
     → other ≢ seat → ticket_of (decided s seat now decision) other ≡ ticket_of s other
-other_decided s seat now other (Ok change) differ = other_goal s.tickets seat other (goal_of change) differ
+other_decided s seat now other (Ok act) differ = other_goal s.tickets seat other (goal_of act) differ
 other_decided s seat now other (Err refusal) differ = refl
 
 pub other_step : (s : State) (seat now : ℕ) (event : Event) (other : ℕ) → other ≢ seat → ticket_of (step s seat now event) other ≡ ticket_of s other
 other_step s seat now event other differ =
     other_decided (without s seat event) seat now other (decision_of s seat now event) differ ∙ other_without s seat event other differ
 
+other_failed : (s : State) (seat now : ℕ) (event : Event) (other : ℕ) → other ≢ seat → ticket_of (failed s seat now event) other ≡ ticket_of s other
+other_failed s seat now event other differ = other_without s seat event other differ
+
+other_mark : (s : State) (e : Entry) (m : Mark) (other : ℕ) → other ≢ e.seat → ticket_of (after_mark s e m) other ≡ ticket_of s other
+other_mark s e mark.Answered other differ = other_step s e.seat e.moment e.event other differ
+other_mark s e mark.Store other differ = other_failed s e.seat e.moment e.event other differ
+other_mark s e mark.Memory other differ = other_failed s e.seat e.moment e.event other differ
+
+pub other_after : (s : State) (e : Entry) (other : ℕ) → other ≢ e.seat → ticket_of (after s e) other ≡ ticket_of s other
+other_after s e other differ = other_mark s e e.mark other differ
+
 -- ---- what an End grants
 
 -- the decision grants nothing
 abbrev GrantsNothing : Result Allowed Denial → Type 0
-GrantsNothing (Ok change) = goal_of change ≡ None
+GrantsNothing (Ok act) = goal_of act ≡ None
 GrantsNothing (Err refusal) = Unit {0}
 
 stores_nothing : (refusal : Option Denial) (t : Tables) (now : ℕ) (key : LockKey) (digest : List ℕ) (length : ℕ)
@@ -100,7 +111,7 @@ goal_nothing : (t : Tables) (now : ℕ) (outcome : Outcome) (goal : Goal) → Gr
 goal_nothing t now Sent goal = refl
 goal_nothing t now Gone goal = refl
 goal_nothing t now (Body digest length) (Serve content) = refl
-goal_nothing t now (Body digest length) (Store key wanted) = stores_nothing (end_refusal t key length) t now key digest length
+goal_nothing t now (Body digest length) (Store by key wanted) = stores_nothing (end_refusal t key length) t now key digest length
 
 ticket_nothing : (t : Tables) (now : ℕ) (outcome : Outcome) (ticket : Option Ticket) → GrantsNothing (ends_ticket t now outcome ticket)
 ticket_nothing t now outcome None = refl
@@ -112,7 +123,7 @@ end_nothing s seat now outcome = ticket_nothing s.tables now outcome (ticket_of 
 
 nothing_more : (s : State) (seat now : ℕ) (decision : Result Allowed Denial) → GrantsNothing decision
     → (decided s seat now decision).tickets ≡ s.tickets
-nothing_more s seat now (Ok change) nothing = ap (λ (g : Option Goal). with_goal s.tickets seat g) nothing
+nothing_more s seat now (Ok act) nothing = ap (λ (g : Option Goal). with_goal s.tickets seat g) nothing
 nothing_more s seat now (Err refusal) nothing = refl
 
 -- an End leaves the tickets of the others
@@ -140,34 +151,35 @@ gone_keeps s seat now = ticket_keeps s seat now Gone (ticket_of s seat) (λ goal
 
 -- ---- a granted step
 
-goal_of_reply : (change : Allowed) (goal : Goal) → reply_to change ≡ Granted goal → goal_of change ≡ Some goal
-goal_of_reply (allowed.Get content) goal is = cc
-goal_of_reply (allowed.Put key length) goal is = cc
-goal_of_reply (allowed.Create row) goal is = cc
-goal_of_reply (allowed.Replace node content) goal is = cc
-goal_of_reply (allowed.Remove nodes) goal is = cc
+goal_of_reply : (act : Allowed) (goal : Goal) → reply_to act ≡ Granted goal → goal_of act ≡ Some goal
+goal_of_reply (allowed.Get node content) goal is = cc
+goal_of_reply (allowed.Put by key length) goal is = cc
+goal_of_reply (allowed.StoreNew row blob) goal is = cc
+goal_of_reply (allowed.StoreOver node content blob) goal is = cc
+goal_of_reply (allowed.Mkcol row) goal is = cc
+goal_of_reply (allowed.Delete nodes) goal is = cc
 goal_of_reply allowed.Close goal is = cc
 
 ok_reply : (x y : Reply) → ◌≡◌ {A = Result Reply Denial} (Ok x) (Ok y) → x ≡ y
 ok_reply x y e = cc
 
-pub granted_goal : (change : Allowed) (goal : Goal) → answered_by (Ok change) ≡ Ok (Granted goal) → goal_of change ≡ Some goal
-granted_goal change goal is = goal_of_reply change goal (ok_reply (reply_to change) (Granted goal) is)
+pub granted_goal : (act : Allowed) (goal : Goal) → answered_by (Ok act) ≡ Ok (Granted goal) → goal_of act ≡ Some goal
+granted_goal act goal is = goal_of_reply act goal (ok_reply (reply_to act) (Granted goal) is)
 
 goal_found : (tickets : List Ticket) (seat : ℕ) (goal : Goal) → IsNone (find (λ ticket. ticket.seat == seat) tickets)
-    → find (λ ticket. ticket.seat == seat) (with_goal tickets seat (Some goal)) ≡ Some (record { seat = seat; goal = goal })
+    → find (λ ticket. ticket.seat == seat) (with_goal tickets seat (Some goal)) ≡ Some (ticket_for seat goal)
 goal_found tickets seat goal none = find-append (λ ticket. ticket.seat == seat) tickets _ ∙ grind (arith, common_steps)
 
 granted_decided : (s : State) (seat now : ℕ) (decision : Result Allowed Denial) (goal : Goal)
     → IsNone (ticket_of s seat) → answered_by decision ≡ Ok (Granted goal)
-    → ticket_of (decided s seat now decision) seat ≡ Some (record { seat = seat; goal = goal })
-granted_decided s seat now (Ok change) goal none is =
-    ap (λ (g : Option Goal). find (λ ticket. ticket.seat == seat) (with_goal s.tickets seat g)) (granted_goal change goal is)
+    → ticket_of (decided s seat now decision) seat ≡ Some (ticket_for seat goal)
+granted_decided s seat now (Ok act) goal none is =
+    ap (λ (g : Option Goal). find (λ ticket. ticket.seat == seat) (with_goal s.tickets seat g)) (granted_goal act goal is)
     ∙ goal_found s.tickets seat goal none
 granted_decided s seat now (Err refusal) goal none is = cc
 
 pub never_granted : (decision : Result Allowed Denial) (goal : Goal) → GrantsNothing decision → answered_by decision ≡ Ok (Granted goal) → ⊥
-never_granted (Ok change) goal nothing is = none_some goal (sym nothing ∙ granted_goal change goal is)
+never_granted (Ok act) goal nothing is = none_some goal (sym nothing ∙ granted_goal act goal is)
   where
     none_some : (goal : Goal) → ◌≡◌ {A = Option Goal} None (Some goal) → ⊥
     none_some goal e = cc
@@ -175,8 +187,8 @@ never_granted (Err refusal) goal nothing is = cc
 
 pub granted_step : (s : State) (seat now : ℕ) (event : Event) (goal : Goal)
     → IsNone (ticket_of s seat) → answer_to s seat now event ≡ Ok (Granted goal)
-    → ticket_of (step s seat now event) seat ≡ Some (record { seat = seat; goal = goal })
-granted_step s seat now (Begin request) goal none is = granted_decided s seat now (decision_of s seat now (Begin request)) goal none is
+    → ticket_of (step s seat now event) seat ≡ Some (ticket_for seat goal)
+granted_step s seat now (Begin words request) goal none is = granted_decided s seat now (decision_of s seat now (Begin words request)) goal none is
 granted_step s seat now (End outcome) goal none is =
     absurd (never_granted (end_decision s seat now outcome) goal (end_nothing s seat now outcome) is)
 
@@ -199,16 +211,16 @@ differ_goal tickets seat (Some goal) none h =
 
 differ_decided : (s : State) (seat now : ℕ) (decision : Result Allowed Denial)
     → IsNone (ticket_of s seat) → Differ s → Differ (decided s seat now decision)
-differ_decided s seat now (Ok change) none h = differ_goal s.tickets seat (goal_of change) none h
+differ_decided s seat now (Ok act) none h = differ_goal s.tickets seat (goal_of act) none h
 differ_decided s seat now (Err refusal) none h = h
 
 differ_step : (s : State) (seat now : ℕ) (event : Event) → MayAsk s seat event → Differ s → Differ (step s seat now event)
-differ_step s seat now (Begin request) asked h = differ_decided s seat now (decision_of s seat now (Begin request)) asked.0 h
+differ_step s seat now (Begin words request) asked h = differ_decided s seat now (decision_of s seat now (Begin words request)) asked.0 h
 differ_step s seat now (End outcome) asked h =
     subst (λ (ts : List Ticket). AllPairs OfTwoSeats ts) (sym (end_tickets s seat now outcome)) (differ_without s seat h)
 
 differ_failed : (s : State) (seat now : ℕ) (event : Event) → Differ s → Differ (failed s seat now event)
-differ_failed s seat now (Begin request) h = h
+differ_failed s seat now (Begin words request) h = h
 differ_failed s seat now (End outcome) h = differ_without s seat h
 
 differ_after : (s : State) (e : Entry) (mark : Mark) → MayAsk s e.seat e.event → Differ s → Differ (after_mark s e mark)

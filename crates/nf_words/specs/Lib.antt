@@ -7,6 +7,7 @@ pub mod Rules
 pub mod Changes
 pub mod Endings
 pub mod Step
+pub mod Actors
 pub mod History
 pub mod Laws
 pub mod Sound

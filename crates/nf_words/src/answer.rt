@@ -148,7 +148,10 @@ impl NodeIds {
 #[derive(Drop)]
 pub enum Allowed {
     /// GET of a file: the seat is given a ticket to send its content.
-    Get { node: NodeId, content: Content },
+    Get {
+        node: NodeId,
+        content: Content,
+    },
     /// PUT, at its Begin: the seat is given a ticket to store a body of that many bytes.
     Put {
         seeker: Seeker,

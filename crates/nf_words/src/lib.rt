@@ -10,6 +10,7 @@ mod request;
 pub use answer::{Allowed, Answer, Denial, Goal, Limit, LockKey, NodeIds, Reply, TargetFault};
 pub use history::{Entry, Event, Mark, Outcome, Ticket};
 pub use laws::{
-    ends_free, grants_ticket, marks_answer, others_keep, refusals_keep, rules_in_order, seats_differ,
+    ends_free, grants_ticket, marks_answer, others_keep, refusals_keep, rules_in_order,
+    seats_differ,
 };
 pub use request::{Caller, Places, Request, Spot, Wanted, Words};

@@ -1,19 +1,8 @@
 //! The file server's program.
 #![tactic(auto)]
 
-mod asking;
-mod replies;
-mod requests;
-mod running;
-mod session;
-mod store;
-mod taking;
-#[cfg(test)]
-mod tests;
-mod verdict;
-
+use filesd::{Status, run};
 use nf_outside::{Input, Output, RealClock};
-use running::{Status, run};
 use std::env;
 use std::process::ExitCode;
 
