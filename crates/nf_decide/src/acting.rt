@@ -1,7 +1,7 @@
 //! What each act may do where its paths lead. Where a rule refuses it, nothing.
 
-ghost use Rattle.std.specs.Prelude.{◌≡◌, ◌≤◌, ℕ, IfOk, Some, length};
-ghost use Rattle.nf_base.specs.declared.rows.NodeKind.{NodeKind};
+ghost use Rattle.std.specs.Prelude.{◌≡◌, ◌≢◌, ℕ, IfOk, Some, []};
+ghost use Rattle.nf_base.specs.Kept.{IsPlain};
 ghost use Rattle.nf_defs.specs.declared.Found.TheVariants.{Free};
 ghost use Rattle.nf_words.specs.Calls.{last_name};
 ghost use Rattle.nf_words.specs.Changes.{deleted, made_folder, new_node, served, stored};
@@ -37,16 +37,19 @@ pub(crate) fn stored(
     length: u64,
     place: Option<Found>,
 ) -> Result<Allowed, AllocError>
-    requires { (folder : ℕ) → place ≡ Some (Free folder) → 1 ≤ length spot.now.path }
+    requires { (folder : ℕ) → place ≡ Some (Free folder) → spot.now.path ≢ [] }
     ensures { IfOk result (λ allowed. allowed ≡ stored seeker (last_name spot.now) length place) }
 {
+    let Some(place) = place else {
+        return Ok(Allowed::Close);
+    };
     let key = match place {
-        Some(Found::At(node)) => LockKey::Node(node),
-        Some(Found::Free { folder }) => LockKey::Slot {
+        Found::At(node) => LockKey::Node(node),
+        Found::Free { folder } => LockKey::Slot {
             folder,
             name: last_name(spot)?,
         },
-        Some(Found::Missing { .. }) | None => return Ok(Allowed::Close),
+        Found::Missing { .. } => return Ok(Allowed::Close),
     };
     Ok(Allowed::Put {
         seeker,
@@ -63,17 +66,20 @@ pub(crate) fn made_folder(
     spot: &Spot,
     place: Option<Found>,
 ) -> Result<Allowed, AllocError>
-    requires { (folder : ℕ) → place ≡ Some (Free folder) → 1 ≤ length spot.now.path }
+    requires { (folder : ℕ) → place ≡ Some (Free folder) → spot.now.path ≢ [] }
     ensures { IfOk result (λ allowed. allowed ≡ made_folder tables.now.tables moment (last_name spot.now) place) }
 {
+    let Some(place) = place else {
+        return Ok(Allowed::Close);
+    };
     match place {
-        Some(Found::Free { folder }) => {
+        Found::Free { folder } => {
             let name = last_name(spot)?;
             let content = Content::empty(alloc);
             let row = new_node(tables, moment, folder, name, NodeKind::Folder, content);
             Ok(Allowed::Mkcol(row))
         }
-        Some(Found::At(_) | Found::Missing { .. }) | None => Ok(Allowed::Close),
+        Found::At(_) | Found::Missing { .. } => Ok(Allowed::Close),
     }
 }
 
@@ -100,6 +106,7 @@ pub(crate) fn new_node(
     kind: NodeKind,
     content: Content,
 ) -> NodeRow
+    requires { IsPlain kind content }
     ensures { result ≡ new_node tables.now.tables moment folder name kind content }
 {
     NodeRow {
@@ -115,7 +122,7 @@ pub(crate) fn new_node(
 
 /// The last name of a path that has one.
 fn last_name(spot: &Spot) -> Result<Name, AllocError>
-    requires { 1 ≤ length spot.now.path }
+    requires { spot.now.path ≢ [] }
     ensures { IfOk result (λ name. name ≡ last_name spot.now) }
 {
     spot.path.names().last().unwrap().copy()

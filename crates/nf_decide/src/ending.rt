@@ -99,7 +99,7 @@ fn stored_at(
     ensures { IfOk result (λ allowed. allowed ≡ stored_at tables.now.tables moment key.now digest.now length) }
 {
     let blob = blob_for(tables.meta().next_blob, length);
-    let content = content_in(alloc, blob, digest, length)?;
+    let content = content_in(alloc, &blob, digest, length)?;
     match key {
         LockKey::Node(node) => Ok(Allowed::StoreOver {
             node: *node,
@@ -124,18 +124,18 @@ fn blob_for(next: BlobId, length: u64) -> Option<BlobId>
 /// The content of a body in its blob.
 fn content_in(
     alloc: Global,
-    blob: Option<BlobId>,
+    blob: &Option<BlobId>,
     digest: &Digest,
     length: u64,
 ) -> Result<Content, AllocError>
     requires { length ≤ MAX_BODY }
-    ensures { IfOk result (λ content. content ≡ content_in blob digest.now length) }
+    ensures { IfOk result (λ content. content ≡ content_in blob.now digest.now length) }
 {
     let Some(blob) = blob else {
         return Ok(Content::empty(alloc));
     };
     let piece = Piece {
-        blob,
+        blob: *blob,
         size: length as u32,
         digest: *digest,
     };

@@ -1,6 +1,6 @@
 //! Rows by rising key.
 
-ghost use Rattle.std.specs.Prelude.{◌≡◌, ℕ, List, OnOk};
+ghost use Rattle.std.specs.Prelude.{◌≡◌, ◌∷◌, ℕ, List, OnOk, length};
 ghost use Rattle.nf_defs.specs.Keys.{user_key, token_key, group_key, member_key, node_key, share_key, mount_key, version_key, item_key, upload_key, chunk_key};
 ghost use Rattle.nf_defs.specs.Puts.{key_cmp, put};
 ghost use Rattle.nf_decide.specs.Rising.{IsRising};
@@ -35,6 +35,7 @@ pub(crate) fn put<R: Keyed + Drop>(rows: &mut Vec<R>, row: R) -> Result<(), Allo
 
 /// How names stand in keys: by their lengths first, then by their bytes.
 fn compare_names(name: &Name, other: &Name) -> Ordering
+    ensures { result ≡ key_cmp (length name.now ∷ name.now) (length other.now ∷ other.now) }
 {
     let bytes = name.as_bytes();
     let others = other.as_bytes();

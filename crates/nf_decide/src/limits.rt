@@ -10,7 +10,7 @@ use nf_words::Limit;
 
 /// The limit that is passed where a content of so many pieces is put there.
 pub(crate) fn limit_at(tables: &Tables, place: &Found, pieces: u64) -> Option<Limit>
-    ensures { result ≡ limit_at tables.now.tables place.now pieces }
+    ensures { result ≡ limit_at tables.now.tables pieces place.now }
 {
     match place {
         Found::At(_) => limit_passed(tables, 0, 0, pieces, pieces),
