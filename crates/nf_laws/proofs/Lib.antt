@@ -1,7 +1,11 @@
 pub mod Added
 pub mod Climbs
+pub mod Counters
 pub mod Gone
+pub mod Owned
 pub mod Replaced
 pub mod Rows
 pub mod Stays
+pub mod Walks
+pub mod Blobs
 pub mod Words
