@@ -1,5 +1,5 @@
 -- The state of the site as the program holds it.
-use Rattle.std.specs.Prelude.{◌≡◌, ℕ, ◌+◌, ◌≤◌, true, length, Option, None, Result, Ok, Err}
+use Rattle.std.specs.Prelude.{◌≡◌, ℕ, ◌+◌, ◌≤◌, true, length, Option, None}
 use Rattle.nf_defs.specs.Tables.{Tables}
 use Rattle.nf_defs.specs.Tree.{is_file}
 use Rattle.nf_words.specs.Changes.{blob_after}
@@ -7,7 +7,6 @@ use Rattle.nf_words.specs.Limits.{last_number}
 use Rattle.nf_words.specs.State.{State}
 use Rattle.nf_words.specs.declared.answer.Allowed.{Allowed}
 use Rattle.nf_words.specs.declared.answer.Allowed.TheVariants as allowed
-use Rattle.nf_words.specs.declared.answer.Denial.{Denial}
 use Rattle.nf_decide.specs.Rows.{FitsNode}
 
 -- how many tickets and nodes fit without more memory

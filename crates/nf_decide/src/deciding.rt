@@ -22,9 +22,7 @@ use crate::state::State;
 use crate::tables::Tables;
 use nf_base::{Moment, Name, NodeId, UserId, UserRow};
 use nf_defs::{Found, Seeker};
-use nf_words::{
-    Allowed, Caller, Denial, Limit, Places, Request, Spot, TargetFault, Wanted, Words,
-};
+use nf_words::{Allowed, Caller, Denial, Limit, Places, Request, Spot, TargetFault, Wanted, Words};
 use std::alloc::{AllocError, Global};
 use std::marker::Model;
 

@@ -1,6 +1,7 @@
 //! The End of a request in two steps, decided by the tables of its own moment.
 
 ghost use Rattle.std.specs.Prelude.{◌≡◌, ◌≤◌, IfOk, None, Some, if◌then◌else◌, option_copied};
+ghost use Rattle.std.specs.Option.{ForSome};
 ghost use Rattle.nf_base.specs.declared.content.TheConstants.{MAX_BODY};
 ghost use Rattle.nf_words.specs.Endings.{blob_for, content_in, end_refusal, ends_goal, key_lost, place_of, stored_at, stores};
 ghost use Rattle.nf_words.specs.History.{MayBring};
@@ -128,7 +129,8 @@ fn content_in(
     digest: &Digest,
     length: u64,
 ) -> Result<Content, AllocError>
-    requires { length ≤ MAX_BODY }
+    requires some { ForSome blob.now (λ _. 1 ≤ length) }
+    requires few { length ≤ MAX_BODY }
     ensures { IfOk result (λ content. content ≡ content_in blob.now digest.now length) }
 {
     let Some(blob) = blob else {

@@ -1,6 +1,7 @@
 //! The rows of the site in memory, each kind in the order of its keys.
 
-ghost use Rattle.std.specs.Prelude.{◌≡◌, ◌≤◌, IfOk, OnOk};
+ghost use Rattle.std.specs.Prelude.{◌≡◌, ◌+◌, ◌≤◌, IfOk, OnOk};
+ghost use Rattle.std.specs.Option.{ForSome};
 ghost use Rattle.nf_defs.specs.Tables.{put_row, tables_of, no_rows};
 ghost use Rattle.nf_words.specs.Changes.{blob_after, changed};
 ghost use Rattle.nf_words.specs.Limits.{last_number};
@@ -206,7 +207,7 @@ impl Tables {
 
 /// The next blob, where that one is stored or none.
 pub(crate) fn blob_after(next: BlobId, blob: Option<BlobId>) -> BlobId
-    requires { blob_after next blob ≤ last_number }
+    requires { ForSome blob (λ _. next + 1 ≤ last_number) }
     ensures { result ≡ blob_after next blob }
 {
     match blob {

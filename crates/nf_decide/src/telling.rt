@@ -5,7 +5,7 @@ ghost use Rattle.nf_base.specs.declared.changes.Change.TheVariants as change;
 ghost use Rattle.nf_base.specs.declared.changes.RowKey.TheVariants as keys;
 ghost use Rattle.nf_base.specs.declared.rows.Row.TheVariants as rows;
 ghost use Rattle.nf_defs.specs.Tree.{is_file, node_row};
-ghost use Rattle.nf_words.specs.Changes.{blob_of, changes_of, meta_after, refilled, told};
+ghost use Rattle.nf_words.specs.Changes.{blob_of, changes_of, meta_after, refilled, told, with_meta};
 ghost use Rattle.nf_decide.specs.Current.{BearsAct};
 
 use crate::nodes::node_row;
@@ -24,11 +24,19 @@ pub fn changes(
     requires { BearsAct tables.now.tables act.now }
     ensures { IfOk result (λ changes. changes ≡ changes_of tables.now.tables moment act.now) }
 {
-    let mut changes = told(alloc, tables, moment, act)?;
+    let changes = told(alloc, tables, moment, act)?;
     let meta = meta_after(tables, moment, act);
-    if !changes.is_empty() && meta != *tables.meta() {
-        changes.push(Change::Put(Row::Meta(meta)))?;
+    with_meta(changes, tables.meta(), meta)
+}
+
+/// The meta row is told where another row is, and where it is another.
+fn with_meta(mut changes: Changes, old: &MetaRow, meta: MetaRow) -> Result<Changes, AllocError>
+    ensures { IfOk result (λ all. all ≡ with_meta old.now meta changes) }
+{
+    if changes.is_empty() || *old == meta {
+        return Ok(changes);
     }
+    changes.push(Change::Put(Row::Meta(meta)))?;
     Ok(changes)
 }
 
@@ -74,7 +82,8 @@ fn refilled(
     ensures { IfOk result (λ changes. changes ≡ refilled (node_row tables.now.tables.nodes node) moment content.now) }
 {
     match node_row(tables.nodes(), node) {
-        Some(row) if row.content != *content || row.changed != moment => put(
+        Some(row) if row.content == *content && row.changed == moment => Ok(Changes::new(alloc)),
+        Some(row) => put(
             alloc,
             NodeRow {
                 name: row.name.copy()?,
@@ -83,7 +92,7 @@ fn refilled(
                 ..*row
             },
         ),
-        Some(_) | None => Ok(Changes::new(alloc)),
+        None => Ok(Changes::new(alloc)),
     }
 }
 
