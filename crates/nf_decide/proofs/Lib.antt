@@ -1,2 +1,4 @@
 pub mod Climbs
 pub mod Contents
+pub mod Loads
+pub mod Puts

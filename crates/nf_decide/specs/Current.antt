@@ -1,11 +1,13 @@
 -- The state of the site as the program holds it.
-use Rattle.std.specs.Prelude.{ℕ, ◌+◌, ◌≤◌, length, Result, Ok, Err}
+use Rattle.std.specs.Prelude.{◌≡◌, ℕ, ◌+◌, ◌≤◌, true, length, Option, None}
 use Rattle.nf_defs.specs.Tables.{Tables}
+use Rattle.nf_defs.specs.Tree.{is_file}
+use Rattle.nf_words.specs.Changes.{blob_after}
 use Rattle.nf_words.specs.Limits.{last_number}
 use Rattle.nf_words.specs.State.{State}
 use Rattle.nf_words.specs.declared.answer.Allowed.{Allowed}
 use Rattle.nf_words.specs.declared.answer.Allowed.TheVariants as allowed
-use Rattle.nf_words.specs.declared.answer.Denial.{Denial}
+use Rattle.nf_decide.specs.Rows.{FitsNode}
 
 -- how many tickets and nodes fit without more memory
 pub record Room : Type 0 where
@@ -17,36 +19,35 @@ pub record Current : Type 0 where
   pub room : Room
 
 -- one ticket more fits
-abbrev pub FitsTicket : Current → Type 0
-FitsTicket current = length current.state.tickets + 1 ≤ current.room.tickets
+abbrev pub FitsTicket : State → Room → Type 0
+FitsTicket s room = length s.tickets + 1 ≤ room.tickets
 
--- one node more fits
-abbrev pub FitsNode : Current → Type 0
-FitsNode current = length current.state.tables.nodes + 1 ≤ current.room.nodes
+-- what an act adds fits
+abbrev pub FitsAct : State → Room → Allowed → Type 0
+FitsAct s room (allowed.Get node content) = FitsTicket s room
+FitsAct s room (allowed.Put who key length) = FitsTicket s room
+FitsAct s room (allowed.StoreNew row blob) = FitsNode s.tables room.nodes
+FitsAct s room (allowed.StoreOver node content blob) = Unit {0}
+FitsAct s room (allowed.Mkcol row) = FitsNode s.tables room.nodes
+FitsAct s room (allowed.Delete nodes) = Unit {0}
+FitsAct s room allowed.Close = Unit {0}
 
--- what an act changes fits
-abbrev pub FitsAct : Current → Allowed → Type 0
-FitsAct current (allowed.Get content) = FitsTicket current
-FitsAct current (allowed.Put key length) = FitsTicket current
-FitsAct current (allowed.Create row) = FitsNode current
-FitsAct current (allowed.Replace node content) = Unit {0}
-FitsAct current (allowed.Remove nodes) = Unit {0}
-FitsAct current allowed.Close = Unit {0}
+-- the counters have the numbers that a new node and its body need
+pub record HasNumbers (t : Tables) (blob : Option ℕ) : Type 0 where
+  pub next_node : t.meta.next_node + 1 ≤ last_number
+  pub next_blob : blob_after t.meta.next_blob blob ≤ last_number
 
-abbrev pub Fits : Current → Result Allowed Denial → Type 0
-Fits current (Ok change) = FitsAct current change
-Fits current (Err refusal) = Unit {0}
+-- a body may be stored over the node: it is a file, and the counter has the body's number
+pub record TakesBody (t : Tables) (node : ℕ) (blob : Option ℕ) : Type 0 where
+  pub file : is_file t.nodes node ≡ true
+  pub next_blob : blob_after t.meta.next_blob blob ≤ last_number
 
--- the counters have the numbers that an act needs
-abbrev pub CountsAct : Tables → Allowed → Type 0
-CountsAct t (allowed.Get content) = Unit {0}
-CountsAct t (allowed.Put key length) = Unit {0}
-CountsAct t (allowed.Create row) =
-    (t.meta.next_node + 1 ≤ last_number) × (t.meta.next_blob + length row.content ≤ last_number)
-CountsAct t (allowed.Replace node content) = t.meta.next_blob + length content ≤ last_number
-CountsAct t (allowed.Remove nodes) = Unit {0}
-CountsAct t allowed.Close = Unit {0}
-
-abbrev pub Counts : Tables → Result Allowed Denial → Type 0
-Counts t (Ok change) = CountsAct t change
-Counts t (Err refusal) = Unit {0}
+-- the tables can bear an act
+abbrev pub BearsAct : Tables → Allowed → Type 0
+BearsAct t (allowed.Get node content) = Unit {0}
+BearsAct t (allowed.Put who key length) = Unit {0}
+BearsAct t (allowed.StoreNew row blob) = HasNumbers t blob
+BearsAct t (allowed.StoreOver node content blob) = TakesBody t node blob
+BearsAct t (allowed.Mkcol row) = HasNumbers t None
+BearsAct t (allowed.Delete nodes) = Unit {0}
+BearsAct t allowed.Close = Unit {0}

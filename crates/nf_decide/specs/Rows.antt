@@ -7,6 +7,6 @@ pub record Rows : Type 0 where
   pub tables : Tables
   pub room : ℕ
 
--- one node more fits
-abbrev pub FitsNode : Rows → Type 0
-FitsNode rows = length rows.tables.nodes + 1 ≤ rows.room
+-- one node more fits where there is room for so many
+abbrev pub FitsNode : Tables → ℕ → Type 0
+FitsNode t room = length t.nodes + 1 ≤ room

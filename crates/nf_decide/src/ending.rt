@@ -1,15 +1,18 @@
 //! The End of a request in two steps, decided by the tables of its own moment.
 
-ghost use Rattle.std.specs.Prelude.{◌≡◌, ◌≤◌, IfOk, None, Some, if◌then◌else◌};
-ghost use Rattle.nf_words.specs.Changes.{new_node};
-ghost use Rattle.nf_words.specs.Endings.{ends_goal, stores, key_lost, end_refusal, stored_at, content_of_body, place_of};
+ghost use Rattle.std.specs.Prelude.{◌≡◌, ◌≤◌, IfOk, None, Some, if◌then◌else◌, option_copied};
+ghost use Rattle.std.specs.Option.{ForSome};
+ghost use Rattle.nf_base.specs.declared.content.TheConstants.{MAX_BODY};
+ghost use Rattle.nf_words.specs.Endings.{blob_for, content_in, end_refusal, ends_goal, key_lost, place_of, stored_at, stores};
 ghost use Rattle.nf_words.specs.History.{MayBring};
+ghost use Rattle.nf_words.specs.Sound.{IsGoalSound};
 ghost use Rattle.nf_words.specs.declared.answer.Denial.TheVariants.{NotFound};
 
+use crate::acting::new_node;
 use crate::limits::{limit_at, pieces_of};
-use crate::nodes::{child_of, is_file, is_folder, owner_of};
+use crate::nodes::{child_of, is_file, is_folder};
 use crate::tables::Tables;
-use nf_base::{Content, Digest, MetaRow, Moment, Name, NodeId, NodeKind, NodeRow, Piece, Place};
+use nf_base::{BlobId, Content, Digest, Moment, NodeKind, Piece};
 use nf_defs::Found;
 use nf_words::{Allowed, Denial, Goal, LockKey, Outcome};
 use std::alloc::{AllocError, Global};
@@ -22,14 +25,16 @@ pub fn decide_end(
     goal: &Goal,
     outcome: &Outcome,
 ) -> Result<Result<Allowed, Denial>, AllocError>
-    requires { MayBring goal.now outcome.now }
+    requires sound { IsGoalSound tables.now.tables goal.now }
+    requires brought { MayBring goal.now outcome.now }
     ensures { IfOk result (λ decision. decision ≡ ends_goal tables.now.tables moment outcome.now goal.now) }
 {
-    match (outcome, goal) {
-        (Outcome::Body { digest, length }, Goal::Store { key, .. }) => {
-            store(alloc, tables, moment, key, digest, *length)
-        }
-        _ => Ok(Ok(Allowed::Close)),
+    match outcome {
+        Outcome::Sent | Outcome::Gone => Ok(Ok(Allowed::Close)),
+        Outcome::Body { digest, length } => match goal {
+            Goal::Serve(_) => Ok(Ok(Allowed::Close)),
+            Goal::Store { key, .. } => store(alloc, tables, moment, key, digest, *length),
+        },
     }
 }
 
@@ -41,7 +46,7 @@ fn store(
     digest: &Digest,
     length: u64,
 ) -> Result<Result<Allowed, Denial>, AllocError>
-    requires { length ≤ 16777216 }
+    requires { length ≤ MAX_BODY }
     ensures { IfOk result (λ decision. decision ≡ stores tables.now.tables moment key.now digest.now length) }
 {
     match end_refusal(tables, key, length) {
@@ -78,11 +83,11 @@ fn place_of(key: &LockKey) -> Found
 {
     match key {
         LockKey::Node(node) => Found::At(*node),
-        LockKey::Slot { folder, .. } => Found::Free(*folder),
+        LockKey::Slot { folder, name: _ } => Found::Free { folder: *folder },
     }
 }
 
-/// What storing a body changes.
+/// What storing a body does.
 fn stored_at(
     alloc: Global,
     tables: &Tables,
@@ -91,62 +96,50 @@ fn stored_at(
     digest: &Digest,
     length: u64,
 ) -> Result<Allowed, AllocError>
-    requires { length ≤ 16777216 }
+    requires { length ≤ MAX_BODY }
     ensures { IfOk result (λ allowed. allowed ≡ stored_at tables.now.tables moment key.now digest.now length) }
 {
-    let content = content_of_body(alloc, tables.meta(), digest, length)?;
+    let blob = blob_for(tables.meta().next_blob, length);
+    let content = content_in(alloc, &blob, digest, length)?;
     match key {
-        LockKey::Node(node) => Ok(Allowed::Replace {
+        LockKey::Node(node) => Ok(Allowed::StoreOver {
             node: *node,
             content,
+            blob,
         }),
         LockKey::Slot { folder, name } => {
             let name = name.copy()?;
             let row = new_node(tables, moment, *folder, name, NodeKind::File, content);
-            Ok(Allowed::Create(row))
+            Ok(Allowed::StoreNew { row, blob })
         }
     }
 }
 
-/// The content of a body, whose bytes are in the next blob.
-fn content_of_body(
+/// The blob of a body: the next one, or none for an empty body.
+fn blob_for(next: BlobId, length: u64) -> Option<BlobId>
+    ensures { result ≡ blob_for next length }
+{
+    if length == 0 { None } else { Some(next) }
+}
+
+/// The content of a body in its blob.
+fn content_in(
     alloc: Global,
-    meta: &MetaRow,
+    blob: &Option<BlobId>,
     digest: &Digest,
     length: u64,
 ) -> Result<Content, AllocError>
-    requires { length ≤ 16777216 }
-    ensures { IfOk result (λ content. content ≡ content_of_body meta.now digest.now length) }
+    requires some { ForSome blob.now (λ _. 1 ≤ length) }
+    requires few { length ≤ MAX_BODY }
+    ensures { IfOk result (λ content. content ≡ content_in blob.now digest.now length) }
 {
-    if length == 0 {
+    let Some(blob) = blob else {
         return Ok(Content::empty(alloc));
-    }
+    };
     let piece = Piece {
-        blob: meta.next_blob,
+        blob: *blob,
         size: length as u32,
         digest: *digest,
     };
     Ok(Content::new(vec![in alloc; piece]?))
-}
-
-/// A new node in a folder, with the next number and the folder's owner.
-pub(crate) fn new_node(
-    tables: &Tables,
-    moment: Moment,
-    folder: NodeId,
-    name: Name,
-    kind: NodeKind,
-    content: Content,
-) -> NodeRow
-    ensures { result ≡ new_node tables.now.tables moment folder name kind content }
-{
-    NodeRow {
-        id: tables.meta().next_node,
-        owner: owner_of(tables.nodes(), folder),
-        place: Place::Inside(folder),
-        name,
-        kind,
-        content,
-        changed: moment,
-    }
 }

@@ -1,16 +1,20 @@
 //! The state of the site: its rows and tickets, what a step may do by them, and the changes that steps make.
 #![tactic(auto)]
 
+mod acting;
+mod asked;
 mod deciding;
 mod ending;
+mod keyed;
 mod limits;
 mod nodes;
 mod people;
 mod state;
 mod tables;
+mod telling;
 
 pub use deciding::Call;
 pub use ending::decide_end;
-pub use nodes::copy_content;
 pub use state::State;
 pub use tables::Tables;
+pub use telling::{blob_of, changes};

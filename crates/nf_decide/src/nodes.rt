@@ -1,9 +1,9 @@
 //! Nodes and their places, by scans of their rows.
 
-ghost use Rattle.std.specs.Prelude.{◌≡◌, ◌==◌, not, filter, IfOk, option_copied};
+ghost use Rattle.std.specs.Prelude.{◌≡◌, ◌↔◌, ◌==◌, true, not, filter, [], IfOk, IsTrue, option_copied};
 ghost use Rattle.std.specs.List.{position};
 ghost use Rattle.nf_defs.specs.Tree.{node_row, child_of, is_in, is_folder, is_file, is_root, owner_of, content_of, piece_count, folder_of, parent_of, is_under, subtree_of, depth, found_from};
-ghost use Rattle.nf_words.specs.Changes.{is_among, with_content};
+ghost use Rattle.nf_words.specs.Changes.{is_among, refilled, with_content};
 
 use nf_base::{Content, Moment, Name, NodeId, NodeKind, NodeRow, Place, UserId};
 use nf_defs::Found;
@@ -29,7 +29,7 @@ fn is_in(folder: NodeId, row: &NodeRow) -> bool
 {
     match row.place {
         Place::Inside(parent) => parent == folder,
-        _ => false,
+        Place::Root | Place::Trash => false,
     }
 }
 
@@ -76,12 +76,12 @@ pub(crate) fn find(rows: &[NodeRow], from: NodeId, names: &[Name]) -> Found
     let mut at = from;
     for (depth, name) in names.iter().enumerate() {
         if !is_folder(rows, at) {
-            return Found::Missing(depth);
+            return Found::Missing { depth };
         }
         at = match child_of(rows, at, name) {
             Some(child) => child,
-            None if depth + 1 == names.len() => return Found::Free(at),
-            None => return Found::Missing(depth),
+            None if depth + 1 == names.len() => return Found::Free { folder: at },
+            None => return Found::Missing { depth },
         };
     }
     Found::At(at)
@@ -95,16 +95,9 @@ pub(crate) fn content_of(
     ensures { IfOk result (λ content. content ≡ content_of rows.now node) }
 {
     match node_row(rows, node) {
-        Some(row) => copy_content(alloc, &row.content),
+        Some(row) => row.content.clone(),
         None => Ok(Content::empty(alloc)),
     }
-}
-
-/// An equal content.
-pub fn copy_content(alloc: Global, content: &Content) -> Result<Content, AllocError>
-    ensures { IfOk result (λ copy. copy ≡ content.now) }
-{
-    Ok(Content::new(content.pieces().to_vec(alloc)?))
 }
 
 /// How many pieces the nodes have, with repeats. No sum of these passes a u128.
@@ -179,8 +172,19 @@ pub(crate) fn subtree(alloc: Global, rows: &[NodeRow], top: NodeId) -> Result<No
     Ok(NodeIds::new(nodes))
 }
 
+/// Whether a node's row wouldn't change if it were given that content: it has it from that moment, or isn't there.
+pub(crate) fn is_filled(rows: &[NodeRow], moment: Moment, node: NodeId, content: &Content) -> bool
+    ensures { IsTrue result ↔ (refilled (node_row rows.now node) moment content.now ≡ []) }
+{
+    match node_row(rows, node) {
+        Some(row) => row.content == *content && row.changed == moment,
+        None => true,
+    }
+}
+
 /// Gives that node another content, which became current at the moment. The old one is dropped.
 pub(crate) fn replace(rows: &mut [NodeRow], moment: Moment, node: NodeId, content: Content)
+    requires { is_file rows.old node ≡ true }
     ensures { rows.new ≡ with_content rows.old moment node content }
 {
     if let Some(at) = index_of(rows, node) {

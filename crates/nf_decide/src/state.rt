@@ -1,15 +1,16 @@
 //! The state of the site, and the changes that steps make to it.
 
-ghost use Rattle.std.specs.Prelude.{◌≡◌, ◌≤◌, ◌==◌, not, filter, vec_capacity, length, [], ◌∷◌, ◌++◌, find, IfOk, OnOk, option_copied};
+ghost use Rattle.std.specs.Prelude.{◌≡◌, ◌≤◌, ◌==◌, not, filter, vec_capacity, length, [], ◌∷◌, ◌++◌, find, IfOk, OnOk, Ok, option_copied};
 ghost use Rattle.nf_words.specs.Changes.{applied};
 ghost use Rattle.nf_words.specs.History.{failed};
-ghost use Rattle.nf_words.specs.State.{opened, ticket_of};
+ghost use Rattle.nf_words.specs.State.{opened, ticket_for, ticket_of};
 ghost use Rattle.nf_words.specs.Step.{stepped_by};
-ghost use Rattle.nf_decide.specs.Current.{FitsNode, FitsTicket, FitsAct, Fits, CountsAct, Counts};
+ghost use Rattle.nf_decide.specs.Current.{BearsAct, FitsAct, FitsTicket};
+ghost use Rattle.nf_decide.specs.Rows.{FitsNode};
 
 use crate::tables::Tables;
 use nf_base::{Moment, Row};
-use nf_words::{Allowed, Denial, Event, Goal, Ticket};
+use nf_words::{Allowed, Event, Goal, Ticket};
 use std::alloc::{AllocError, Global};
 use std::marker::Model;
 
@@ -38,7 +39,7 @@ impl State {
         ensures { IfOk result (λ current. current.state ≡ opened rows.now) }
     {
         let tables = Tables::of(alloc, rows)?;
-        let seen = tables.last();
+        let seen = tables.meta().last;
         Ok(State {
             tables,
             tickets: Vec::new(alloc),
@@ -73,8 +74,8 @@ impl State {
 
     /// Makes room for one ticket and one node more.
     pub fn reserve(&mut self) -> Result<(), AllocError>
-        ensures ticket { OnOk result (FitsTicket self.new) }
-        ensures node { OnOk result (FitsNode self.new) }
+        ensures ticket { OnOk result (FitsTicket self.new.state self.new.room) }
+        ensures node { OnOk result (FitsNode self.new.state.tables self.new.room.nodes) }
         ensures same { self.new.state ≡ self.old.state }
     {
         self.tickets.reserve(1)?;
@@ -83,55 +84,62 @@ impl State {
 
     /// Makes room for one node more.
     pub fn reserve_node(&mut self) -> Result<(), AllocError>
-        ensures node { OnOk result (FitsNode self.new) }
+        ensures node { OnOk result (FitsNode self.new.state.tables self.new.room.nodes) }
         ensures same { self.new.state ≡ self.old.state }
     {
         self.tables.reserve_node()
     }
 
-    /// Makes the step of a seat's event. It takes no memory.
-    pub fn change(
-        &mut self,
-        seat: u64,
-        moment: Moment,
-        event: &Event,
-        decision: Result<Allowed, Denial>,
-    )
-        requires fits { Fits self.old decision }
-        requires counts { Counts self.old.state.tables decision }
-        ensures { self.new.state ≡ stepped_by self.old.state seat moment event.now decision }
+    /// Makes the step of a seat's event that no rule refuses. It takes no memory.
+    pub fn change(&mut self, seat: u64, moment: Moment, event: &Event, act: Allowed)
+        requires fits { FitsAct self.old.state self.old.room act }
+        requires bears { BearsAct self.old.state.tables act }
+        ensures { self.new.state ≡ stepped_by self.old.state seat moment event.now (Ok act) }
     {
         self.leave(seat, moment, event);
-        match decision {
-            Ok(allowed) => self.apply(seat, moment, allowed),
-            Err(_) => {}
-        }
+        self.apply(seat, moment, act);
     }
 
-    fn apply(&mut self, seat: u64, moment: Moment, allowed: Allowed)
-        requires fits { FitsAct self.old allowed }
-        requires counts { CountsAct self.old.state.tables allowed }
-        ensures { self.new.state ≡ applied self.old.state seat moment allowed }
+    fn apply(&mut self, seat: u64, moment: Moment, act: Allowed)
+        requires fits { FitsAct self.old.state self.old.room act }
+        requires bears { BearsAct self.old.state.tables act }
+        ensures { self.new.state ≡ applied self.old.state seat moment act }
     {
-        match allowed {
-            Allowed::Get { content } => self.grant(seat, Goal::Serve(content)),
-            Allowed::Put { key, length } => self.grant(seat, Goal::Store { key, length }),
-            Allowed::Create(row) => self.tables.create(moment, row),
-            Allowed::Replace { node, content } => self.tables.replace(moment, node, content),
-            Allowed::Remove(nodes) => self.tables.remove(moment, &nodes),
+        match act {
+            Allowed::Get { node: _, content } => self.grant(seat, Goal::Serve(content)),
+            Allowed::Put {
+                seeker,
+                key,
+                length,
+            } => self.grant(
+                seat,
+                Goal::Store {
+                    seeker,
+                    key,
+                    length,
+                },
+            ),
+            Allowed::StoreNew { row, blob } => self.tables.create(moment, row, blob),
+            Allowed::StoreOver {
+                node,
+                content,
+                blob,
+            } => self.tables.replace(moment, node, content, blob),
+            Allowed::Mkcol(row) => self.tables.create(moment, row, None),
+            Allowed::Delete(nodes) => self.tables.remove(moment, &nodes),
             Allowed::Close => {}
         }
     }
 
     fn grant(&mut self, seat: u64, goal: Goal)
-        requires { FitsTicket self.old }
-        ensures { self.new.state ≡ record self.old.state { tickets = self.old.state.tickets ++ record { seat = seat; goal = goal } ∷ [] } }
+        requires { FitsTicket self.old.state self.old.room }
+        ensures { self.new.state ≡ record self.old.state { tickets = self.old.state.tickets ++ ticket_for seat goal ∷ [] } }
     {
-        self.tickets.push_reserved(Ticket { seat, goal });
+        self.tickets.push_reserved(Ticket::new(seat, goal));
     }
 
-    /// Makes the step of a seat's event whose store failed or that found no memory: no row changes.
-    pub fn fail(&mut self, seat: u64, moment: Moment, event: &Event)
+    /// Makes the step of a seat's event that changes no row: it was refused, or its store failed, or it found no memory.
+    pub fn pass(&mut self, seat: u64, moment: Moment, event: &Event)
         ensures { self.new.state ≡ failed self.old.state seat moment event.now }
     {
         self.leave(seat, moment, event);
@@ -145,8 +153,9 @@ impl State {
         ensures room { self.new.room ≡ self.old.room }
     {
         self.seen = moment;
-        if let Event::End(_) = event {
-            free(&mut self.tickets, seat);
+        match event {
+            Event::Begin { .. } => {}
+            Event::End(_) => free(&mut self.tickets, seat),
         }
     }
 }

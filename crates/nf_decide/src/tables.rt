@@ -1,12 +1,17 @@
 //! The rows of the site in memory, each kind in the order of its keys.
 
-ghost use Rattle.std.specs.Prelude.{◌≡◌, ◌≤◌, ◌+◌, length, IfOk, OnOk};
-ghost use Rattle.nf_defs.specs.Tables.{with_row, tables_of, no_rows};
-ghost use Rattle.nf_words.specs.Changes.{created, replaced, removed};
+ghost use Rattle.std.specs.Prelude.{◌≡◌, ◌+◌, ◌≤◌, IfOk, OnOk};
+ghost use Rattle.std.specs.Option.{ForSome};
+ghost use Rattle.nf_defs.specs.Tables.{put_row, tables_of, no_rows};
+ghost use Rattle.nf_words.specs.Changes.{blob_after, changed};
 ghost use Rattle.nf_words.specs.Limits.{last_number};
+ghost use Rattle.nf_words.specs.declared.answer.Allowed.TheVariants as allowed;
+ghost use Rattle.nf_decide.specs.Current.{HasNumbers, TakesBody};
+ghost use Rattle.nf_decide.specs.Rising.{AreRising};
 ghost use Rattle.nf_decide.specs.Rows.{FitsNode};
 
-use crate::nodes::{remove, replace};
+use crate::keyed::put;
+use crate::nodes::{is_filled, remove, replace};
 use nf_base::{
     BlobId, ChunkRow, Content, GroupId, GroupRow, ItemRow, MemberRow, MetaRow, Moment, MountRow,
     NodeId, NodeRow, Row, ShareId, ShareRow, TokenRow, UploadRow, UserId, UserRow, VersionRow,
@@ -83,12 +88,13 @@ impl Tables {
         }
     }
 
+    /// The tables of some rows, in whatever order they are.
     pub(crate) fn of(alloc: Global, rows: &[Row]) -> Result<Self, AllocError>
         ensures { IfOk result (λ held. held.tables ≡ tables_of rows.now) }
     {
         let mut tables = Tables::new(alloc);
         for row in rows {
-            tables.take_in(row)?;
+            tables.put(row.copy()?)?;
         }
         Ok(tables)
     }
@@ -117,78 +123,95 @@ impl Tables {
         &self.nodes
     }
 
-    pub(crate) fn last(&self) -> Moment
-        ensures { result ≡ self.now.tables.meta.last }
-    {
-        self.meta.last
-    }
-
     /// Makes room for one node more.
     pub(crate) fn reserve_node(&mut self) -> Result<(), AllocError>
-        ensures ok { OnOk result (FitsNode self.new) }
+        ensures ok { OnOk result (FitsNode self.new.tables self.new.room) }
         ensures same { self.new.tables ≡ self.old.tables }
     {
         self.nodes.reserve(1)
     }
 
-    /// Puts a new node in, whose pieces have the next blobs. It takes no memory.
-    pub(crate) fn create(&mut self, moment: Moment, row: NodeRow)
-        requires room { FitsNode self.old }
-        requires node { self.old.tables.meta.next_node + 1 ≤ last_number }
-        requires blob { self.old.tables.meta.next_blob + length row.content ≤ last_number }
-        ensures { self.new.tables ≡ created self.old.tables moment row }
+    /// Puts a new node in, with the next number, and its body in that blob. It takes no memory.
+    pub(crate) fn create(&mut self, moment: Moment, row: NodeRow, blob: Option<BlobId>)
+        requires room { FitsNode self.old.tables self.old.room }
+        requires numbers { HasNumbers self.old.tables blob }
+        ensures { self.new.tables ≡ changed self.old.tables moment (allowed.StoreNew row blob) }
     {
         self.meta.next_node = NodeId::new(self.meta.next_node.number() + 1);
-        self.count_blobs(row.content.pieces().len());
-        self.meta.last = moment;
+        self.meta.next_blob = blob_after(self.meta.next_blob, blob);
         self.nodes.push_reserved(row);
+        self.stamp(moment);
     }
 
-    /// Gives a node another content, whose pieces have the next blobs. It takes no memory.
-    pub(crate) fn replace(&mut self, moment: Moment, node: NodeId, content: Content)
-        requires { self.old.tables.meta.next_blob + length content ≤ last_number }
-        ensures { self.new.tables ≡ replaced self.old.tables moment node content }
+    /// Gives a node another content, whose body is in that blob. It takes no memory.
+    pub(crate) fn replace(
+        &mut self,
+        moment: Moment,
+        node: NodeId,
+        content: Content,
+        blob: Option<BlobId>,
+    )
+        requires { TakesBody self.old.tables node blob }
+        ensures { self.new.tables ≡ changed self.old.tables moment (allowed.StoreOver node content blob) }
     {
-        self.count_blobs(content.pieces().len());
-        self.meta.last = moment;
+        if is_filled(&self.nodes, moment, node, &content) {
+            return;
+        }
+        self.meta.next_blob = blob_after(self.meta.next_blob, blob);
         replace(&mut self.nodes, moment, node, content);
+        self.stamp(moment);
     }
 
     /// Takes nodes out for good. It takes no memory.
     pub(crate) fn remove(&mut self, moment: Moment, nodes: &NodeIds)
-        ensures { self.new.tables ≡ removed self.old.tables moment nodes.now }
+        ensures { self.new.tables ≡ changed self.old.tables moment (allowed.Delete nodes.now) }
+    {
+        if nodes.ids().is_empty() {
+            return;
+        }
+        remove(&mut self.nodes, nodes);
+        self.stamp(moment);
+    }
+
+    /// Records when a row was last changed.
+    fn stamp(&mut self, moment: Moment)
+        ensures { self.new.tables ≡ record self.old.tables { meta = record self.old.tables.meta { last = moment } } }
     {
         self.meta.last = moment;
-        remove(&mut self.nodes, nodes);
     }
 
-    /// Counts so many blobs more.
-    fn count_blobs(&mut self, count: usize)
-        requires { self.old.tables.meta.next_blob + count ≤ last_number }
-        ensures tables { self.new.tables ≡ record self.old.tables { meta = record self.old.tables.meta { next_blob = self.old.tables.meta.next_blob + count } } }
-        ensures room { self.new.room ≡ self.old.room }
+    /// Puts a row at its place, in place of the one with its key if there is one.
+    fn put(&mut self, row: Row) -> Result<(), AllocError>
+        requires { AreRising self.old.tables }
+        ensures { OnOk result (self.new.tables ≡ put_row self.old.tables row) }
     {
-        self.meta.next_blob = BlobId::new(self.meta.next_blob.number() + count as u64);
-    }
-
-    /// Puts a copy of a row at the end of its kind. The meta row replaces the one before.
-    fn take_in(&mut self, row: &Row) -> Result<(), AllocError>
-        ensures { OnOk result (self.new.tables ≡ with_row self.old.tables row.now) }
-    {
-        match row.copy()? {
-            Row::Meta(row) => self.meta = row,
-            Row::User(row) => self.users.push(row)?,
-            Row::Token(row) => self.tokens.push(row)?,
-            Row::Group(row) => self.groups.push(row)?,
-            Row::Member(row) => self.members.push(row)?,
-            Row::Node(row) => self.nodes.push(row)?,
-            Row::Share(row) => self.shares.push(row)?,
-            Row::Mount(row) => self.mounts.push(row)?,
-            Row::Version(row) => self.versions.push(row)?,
-            Row::Item(row) => self.items.push(row)?,
-            Row::Upload(row) => self.uploads.push(row)?,
-            Row::Chunk(row) => self.chunks.push(row)?,
+        match row {
+            Row::Meta(row) => {
+                self.meta = row;
+                Ok(())
+            }
+            Row::User(row) => put(&mut self.users, row),
+            Row::Token(row) => put(&mut self.tokens, row),
+            Row::Group(row) => put(&mut self.groups, row),
+            Row::Member(row) => put(&mut self.members, row),
+            Row::Node(row) => put(&mut self.nodes, row),
+            Row::Share(row) => put(&mut self.shares, row),
+            Row::Mount(row) => put(&mut self.mounts, row),
+            Row::Version(row) => put(&mut self.versions, row),
+            Row::Item(row) => put(&mut self.items, row),
+            Row::Upload(row) => put(&mut self.uploads, row),
+            Row::Chunk(row) => put(&mut self.chunks, row),
         }
-        Ok(())
+    }
+}
+
+/// The next blob, where that one is stored or none.
+pub(crate) fn blob_after(next: BlobId, blob: Option<BlobId>) -> BlobId
+    requires { ForSome blob (λ _. next + 1 ≤ last_number) }
+    ensures { result ≡ blob_after next blob }
+{
+    match blob {
+        Some(_) => BlobId::new(next.number() + 1),
+        None => next,
     }
 }

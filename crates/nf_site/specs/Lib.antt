@@ -1,5 +1,6 @@
 pub mod Kept
 pub mod Held
 pub mod Plans
+pub mod PlanView
 pub mod Demo
 pub mod View

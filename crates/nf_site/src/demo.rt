@@ -4,9 +4,8 @@ ghost use Rattle.std.specs.Prelude.{◌≡◌, IfOk};
 ghost use Rattle.nf_base.specs.declared.rows.Row.TheVariants as row;
 ghost use Rattle.nf_site.specs.Demo.{demo_rows, hello_file, root, token, user};
 
-use crate::digest_of;
 use nf_base::{
-    BlobId, Content, GroupId, GroupRow, MemberRow, MetaRow, Moment, Name, NodeId, NodeKind,
+    BlobId, Content, Digest, GroupId, GroupRow, MemberRow, MetaRow, Moment, Name, NodeId, NodeKind,
     NodeRow, Piece, Place, Row, RowList, ShareId, TokenRow, UserId, UserRow,
 };
 use std::alloc::{AllocError, Global};
@@ -68,7 +67,7 @@ fn token(id: u32, secret: &str) -> Row
     ensures { result ≡ token id secret.now }
 {
     Row::Token(TokenRow {
-        digest: digest_of(secret.as_bytes()),
+        digest: Digest::of(secret.as_bytes()),
         user: UserId::new(id),
     })
 }
@@ -102,7 +101,7 @@ fn hello_file(alloc: Global) -> Result<Row, AllocError>
     let piece = Piece {
         blob: BlobId::new(1),
         size: 6,
-        digest: digest_of(b"hello\n"),
+        digest: Digest::of(b"hello\n"),
     };
     Ok(Row::Node(NodeRow {
         id: NodeId::new(4),

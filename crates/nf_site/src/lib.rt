@@ -2,12 +2,8 @@
 #![tactic(auto)]
 
 mod demo;
-mod digests;
 mod plan;
 mod site;
-#[cfg(test)]
-mod tests;
 
-pub use digests::digest_of;
 pub use plan::Plan;
 pub use site::{RoomFault, Site};

@@ -1,52 +1,140 @@
-//! Plans.
+//! Plans: steps before they are made.
 
-ghost use Rattle.std.specs.Prelude.{◌≡◌};
-ghost use Rattle.nf_words.specs.Changes.{blob_of, first_blob};
+ghost use Rattle.std.specs.Prelude.{◌≡◌, [], IfOk, Ok};
+ghost use Rattle.nf_words.specs.Changes.{reply_to};
 ghost use Rattle.nf_words.specs.Step.{blob_by};
+ghost use Rattle.nf_words.specs.declared.answer.Allowed.TheVariants.{Close};
 
-use nf_base::{BlobId, Content, Moment};
-use nf_words::{Allowed, Answer, Denial};
+use nf_base::{BlobId, Changes, Moment};
+use nf_decide::blob_of;
+use nf_words::{Allowed, Denial, Event, Goal, LockKey, Reply};
+use std::alloc::{AllocError, Global};
+use std::marker::Model;
 
-/// A step before it is made: what it may do, and its answer.
-#[derive(Debug, Drop)]
+/// An act with its reply.
+#[derive(Drop)]
+pub(crate) struct Deed {
+    pub(crate) act: Allowed,
+    pub(crate) reply: Reply,
+    ghost replies: { reply ≡ reply_to act },
+}
+
+/// A step of a seat's event before it is made: what it does, its answer, and the rows that it changes.
+#[derive(Drop)]
 pub struct Plan {
-    pub seat: u64,
-    pub moment: Moment,
-    pub decision: Result<Allowed, Denial>,
-    pub answer: Answer,
+    pub(crate) seat: u64,
+    pub(crate) moment: Moment,
+    pub(crate) event: Event,
+    pub(crate) decided: Result<Deed, Denial>,
+    pub(crate) changes: Changes,
+}
+
+impl Model for Plan {
+    ghost use Rattle.nf_site.specs.Plans.{Planned};
+
+    ghost Value = { Planned };
+
+    ghost use Rattle.nf_site.specs.PlanView.{planned_in};
+
+    ghost view = { planned_in };
 }
 
 impl Plan {
-    pub fn answer(&self) -> &Answer
-        ensures { result.now ≡ self.now.answer }
+    ghost use Rattle.nf_site.specs.PlanView.{decision_in};
+
+    /// An End that brings no body.
+    pub(crate) fn closing(alloc: Global, seat: u64, moment: Moment, event: Event) -> Plan
+        ensures { result ≡ record { seat = seat; moment = moment; event = event; decision = Ok Close; changes = [] } }
     {
-        &self.answer
+        let deed = Deed {
+            act: Allowed::Close,
+            reply: Reply::Closed,
+        };
+        Plan::new(seat, moment, event, Ok(deed), Changes::new(alloc))
+    }
+
+    pub(crate) fn new(
+        seat: u64,
+        moment: Moment,
+        event: Event,
+        decided: Result<Deed, Denial>,
+        changes: Changes,
+    ) -> Plan
+        ensures { result ≡ record { seat = seat; moment = moment; event = event; decision = decision_in decided; changes = changes } }
+    {
+        Plan {
+            seat,
+            moment,
+            event,
+            decided,
+            changes,
+        }
+    }
+
+    /// The rows that the step changes, which a store is told before the plan is adopted.
+    pub fn changes(&self) -> &Changes
+        ensures { result.now ≡ self.now.changes }
+    {
+        &self.changes
     }
 
     /// The blob in which the step stores bytes, if it does.
     pub fn blob(&self) -> Option<BlobId>
         ensures { result ≡ blob_by self.now.decision }
     {
-        match &self.decision {
-            Ok(allowed) => blob_of(allowed),
+        match &self.decided {
+            Ok(deed) => blob_of(&deed.act),
             Err(_) => None,
         }
     }
-}
 
-fn blob_of(allowed: &Allowed) -> Option<BlobId>
-    ensures { result ≡ blob_of allowed.now }
-{
-    match allowed {
-        Allowed::Create(row) => first_blob(&row.content),
-        Allowed::Replace { content, .. } => first_blob(content),
-        Allowed::Get { .. } | Allowed::Put { .. } | Allowed::Remove(_) | Allowed::Close => None,
+    /// The event alone, where the step isn't made.
+    pub fn into_event(self) -> Event
+        ensures { result ≡ self.event }
+    {
+        self.event
     }
 }
 
-fn first_blob(content: &Content) -> Option<BlobId>
-    ensures { result ≡ first_blob content.now }
+impl Deed {
+    /// It copies what the reply hands out.
+    pub(crate) fn new(alloc: Global, act: Allowed) -> Result<Deed, AllocError>
+        ensures { IfOk result (λ deed. deed.act ≡ act) }
+    {
+        let reply = reply_to(alloc, &act)?;
+        Ok(Deed { act, reply })
+    }
+}
+
+/// The reply of an act.
+fn reply_to(alloc: Global, act: &Allowed) -> Result<Reply, AllocError>
+    ensures { IfOk result (λ reply. reply ≡ reply_to act.now) }
 {
-    let piece = content.pieces().first()?;
-    Some(piece.blob)
+    match act {
+        Allowed::Get { node: _, content } => Ok(Reply::Granted(Goal::Serve(content.clone()?))),
+        Allowed::Put {
+            seeker,
+            key,
+            length,
+        } => Ok(Reply::Granted(Goal::Store {
+            seeker: *seeker,
+            key: copy_key(key)?,
+            length: *length,
+        })),
+        Allowed::StoreNew { .. } | Allowed::Mkcol(_) => Ok(Reply::Made),
+        Allowed::StoreOver { .. } | Allowed::Delete(_) => Ok(Reply::Done),
+        Allowed::Close => Ok(Reply::Closed),
+    }
+}
+
+fn copy_key(key: &LockKey) -> Result<LockKey, AllocError>
+    ensures { IfOk result (λ copy. copy ≡ key.now) }
+{
+    match key {
+        LockKey::Node(node) => Ok(LockKey::Node(*node)),
+        LockKey::Slot { folder, name } => Ok(LockKey::Slot {
+            folder: *folder,
+            name: name.copy()?,
+        }),
+    }
 }

@@ -1,25 +1,24 @@
 //! The site.
 
-ghost use Rattle.std.specs.Prelude.{◌≡◌, ◌≢◌, ◌<◌, ◌≤◌, ◌↔◌, Err, IfOk, OnOk};
+ghost use Rattle.std.specs.Prelude.{◌≡◌, ◌≢◌, ◌<◌, ◌↔◌, Err, IfOk, OnOk};
 ghost use Rattle.nf_site.specs.Demo.{demo_rows};
-ghost use Rattle.nf_site.specs.Held.{HasRoom, HasRoomFor, HasEntryRoom, HasNodeRoom, MakesRoom, entries_wanted};
+ghost use Rattle.nf_site.specs.Held.{HasEntryRoom, HasNodeRoom, HasRoom, entries_wanted};
 ghost use Rattle.nf_site.specs.Kept.{IsHistory, entry, entered, moment_of, opened_over, stepped};
-ghost use Rattle.nf_site.specs.Plans.{IsPlannedAtEnd, plan_at, plan_of};
-ghost use Rattle.nf_words.specs.Changes.{reply_to};
+ghost use Rattle.nf_site.specs.Plans.{IsPlannedAtEnd, IsReady, plan_at, plan_of};
 ghost use Rattle.nf_words.specs.Endings.{end_decision};
-ghost use Rattle.nf_words.specs.History.{MayAsk, MayBear};
-ghost use Rattle.nf_words.specs.Step.{answer_to, answered_by};
+ghost use Rattle.nf_words.specs.History.{MayAsk, MayBear, most_entries};
+ghost use Rattle.nf_words.specs.Sound.{IsSound};
+ghost use Rattle.nf_words.specs.Step.{answer_to, decision_of};
 ghost use Rattle.nf_words.specs.declared.history.Event.TheVariants.{Begin, End};
 ghost use Rattle.nf_words.specs.declared.history.Mark.TheVariants.{Answered};
 ghost use Rattle.nf_site.specs.declared.site.RoomFault.TheVariants.{Full};
 
 use crate::Plan;
 use crate::demo::demo_rows;
-use nf_base::{Moment, RowList};
-use nf_decide::{Call, State, copy_content, decide_end};
-use nf_words::{
-    Allowed, Answer, Denial, Entry, Event, Goal, LockKey, Mark, Outcome, Reply, Request,
-};
+use crate::plan::Deed;
+use nf_base::{Changes, Moment, RowList};
+use nf_decide::{Call, State, changes, decide_end};
+use nf_words::{Allowed, Answer, Denial, Entry, Event, Mark, Outcome};
 use std::alloc::{AllocError, Global};
 use std::marker::Model;
 
@@ -27,7 +26,7 @@ use std::marker::Model;
 const MOST_ENTRIES: usize = 262_144;
 
 /// Why a Begin finds no room.
-#[derive(Clone, Copy, Debug, PartialEq, Eq)]
+#[derive(Clone, Copy, PartialEq, Eq)]
 pub enum RoomFault {
     /// The run has no room for two more entries.
     Full,
@@ -81,7 +80,7 @@ impl Site {
 
     /// Makes room for a Begin and for its End.
     pub fn room(&mut self) -> Result<(), RoomFault>
-        ensures full { (result ≡ Err Full) ↔ (262144 < entries_wanted self.old.kept) }
+        ensures full { (result ≡ Err Full) ↔ (most_entries < entries_wanted self.old.kept) }
         ensures ok { OnOk result (HasRoom self.new) }
         ensures same { self.new.kept ≡ self.old.kept }
     {
@@ -100,24 +99,46 @@ impl Site {
         alloc: Global,
         seat: u64,
         now: Moment,
-        event: &Event,
+        event: Event,
     ) -> Result<Plan, AllocError>
-        requires { MayAsk self.old.kept.state seat event.now }
-        ensures planned { IfOk result (λ plan. plan ≡ plan_of self.old.kept.state seat now event.now) }
-        ensures room { OnOk result (MakesRoom self.old self.new event.now) }
-        ensures ends { IsPlannedAtEnd event.now result }
+        requires asked { MayAsk self.old.kept.state seat event }
+        requires room { HasEntryRoom self.old event }
+        ensures planned { IfOk result (λ plan. plan ≡ plan_of self.old.kept.state seat now event) }
+        ensures ready { IfOk result (IsReady self.new) }
+        ensures ends { IsPlannedAtEnd event result }
         ensures same { self.new.kept ≡ self.old.kept }
     {
         let moment = self.moment(now);
-        match event {
-            Event::Begin(request) => self.plan_begin(alloc, seat, moment, request),
-            Event::End(Outcome::Sent | Outcome::Gone) => Ok(Plan {
-                seat,
-                moment,
-                decision: Ok(Allowed::Close),
-                answer: Ok(Reply::Closed),
-            }),
-            Event::End(outcome) => self.plan_end(alloc, seat, moment, outcome),
+        match &event {
+            Event::End(Outcome::Sent | Outcome::Gone) => {
+                return Ok(Plan::closing(alloc, seat, moment, event));
+            }
+            Event::End(Outcome::Body { .. }) => self.current.reserve_node()?,
+            Event::Begin { .. } => {}
+        }
+        self.plan_step(alloc, seat, moment, event)
+    }
+
+    fn plan_step(
+        &self,
+        alloc: Global,
+        seat: u64,
+        moment: Moment,
+        event: Event,
+    ) -> Result<Plan, AllocError>
+        requires { MayAsk self.now.kept.state seat event }
+        ensures { IfOk result (λ plan. plan ≡ plan_at self.entry.now.kept.state seat moment event) }
+    {
+        match self.decide(alloc, seat, moment, &event)? {
+            Ok(act) => {
+                let changes = changes(alloc, self.current.tables(), moment, &act)?;
+                let deed = Deed::new(alloc, act)?;
+                Ok(Plan::new(seat, moment, event, Ok(deed), changes))
+            }
+            Err(refusal) => {
+                let changes = Changes::new(alloc);
+                Ok(Plan::new(seat, moment, event, Err(refusal), changes))
+            }
         }
     }
 
@@ -128,52 +149,27 @@ impl Site {
         Moment::new(self.current.seen().seconds().max(now.seconds()))
     }
 
-    fn plan_begin(
+    fn decide(
         &self,
         alloc: Global,
         seat: u64,
         moment: Moment,
-        request: &Request,
-    ) -> Result<Plan, AllocError>
-        ensures { IfOk result (λ plan. plan ≡ plan_at self.now.kept.state seat moment (Begin request.now)) }
+        event: &Event,
+    ) -> Result<Result<Allowed, Denial>, AllocError>
+        requires { MayAsk self.now.kept.state seat event.now }
+        ensures { IfOk result (λ decision. decision ≡ decision_of self.entry.now.kept.state seat moment event.now) }
     {
-        let call = Call {
-            state: &self.current,
-            seat,
-            now: moment,
-            request,
-        };
-        let decision = call.decide(alloc)?;
-        let answer = answer(alloc, &decision)?;
-        Ok(Plan {
-            seat,
-            moment,
-            decision,
-            answer,
-        })
-    }
-
-    fn plan_end(
-        &mut self,
-        alloc: Global,
-        seat: u64,
-        moment: Moment,
-        outcome: &Outcome,
-    ) -> Result<Plan, AllocError>
-        requires { MayAsk self.old.kept.state seat (End outcome.now) }
-        ensures planned { IfOk result (λ plan. plan ≡ plan_at self.old.kept.state seat moment (End outcome.now)) }
-        ensures room { OnOk result (HasNodeRoom self.new) }
-        ensures same { self.new.kept ≡ self.old.kept }
-    {
-        self.current.reserve_node()?;
-        let decision = self.decide_end(alloc, seat, moment, outcome)?;
-        let answer = answer(alloc, &decision)?;
-        Ok(Plan {
-            seat,
-            moment,
-            decision,
-            answer,
-        })
+        match event {
+            Event::Begin { words, request } => Call {
+                state: &self.current,
+                seat,
+                now: moment,
+                words: *words,
+                request,
+            }
+            .decide(alloc),
+            Event::End(outcome) => self.decide_end(alloc, seat, moment, outcome),
+        }
     }
 
     fn decide_end(
@@ -193,21 +189,28 @@ impl Site {
     }
 
     /// Makes the planned step. It takes no memory.
-    pub fn adopt(&mut self, plan: Plan, event: Event) -> Answer
-        requires planned { plan ≡ plan_at self.old.kept.state plan.seat plan.moment event }
-        requires not_before { self.old.kept.state.seen ≤ plan.moment }
-        requires asked { MayAsk self.old.kept.state plan.seat event }
-        requires room { HasRoomFor self.old event }
-        ensures answer { result ≡ answer_to self.old.kept.state plan.seat plan.moment event }
-        ensures kept { self.new.kept ≡ stepped self.old.kept plan.seat plan.moment event }
+    pub fn adopt(&mut self, plan: Plan) -> Answer
+        requires { IsReady self.old plan }
+        ensures answer { result ≡ answer_to self.old.kept.state plan.seat plan.moment plan.event }
+        ensures kept { self.new.kept ≡ stepped self.old.kept plan.seat plan.moment plan.event }
     {
         let Plan {
             seat,
             moment,
-            decision,
-            answer,
+            event,
+            decided,
+            changes: _,
         } = plan;
-        self.current.change(seat, moment, &event, decision);
+        let answer = match decided {
+            Ok(deed) => {
+                self.current.change(seat, moment, &event, deed.act);
+                Ok(deed.reply)
+            }
+            Err(refusal) => {
+                self.current.pass(seat, moment, &event);
+                Err(refusal)
+            }
+        };
         self.history.push_reserved(Entry {
             seat,
             moment,
@@ -227,7 +230,7 @@ impl Site {
         ensures { self.new.kept ≡ entered self.old.kept (entry seat (moment_of self.old.kept.state now) event mark) }
     {
         let moment = self.moment(now);
-        self.current.fail(seat, moment, &event);
+        self.current.pass(seat, moment, &event);
         self.history.push_reserved(Entry {
             seat,
             moment,
@@ -246,45 +249,8 @@ impl Site {
     pub fn history(&self) -> &[Entry]
         ensures entries { result.now ≡ self.now.kept.history }
         ensures legal { IsHistory self.now.kept }
+        ensures sound { IsSound self.now.kept.state }
     {
         &self.history
-    }
-}
-
-/// The answer of a decided step.
-fn answer(alloc: Global, decision: &Result<Allowed, Denial>) -> Result<Answer, AllocError>
-    ensures { IfOk result (λ answer. answer ≡ answered_by decision.now) }
-{
-    match decision {
-        Ok(allowed) => Ok(Ok(reply(alloc, allowed)?)),
-        Err(refusal) => Ok(Err(*refusal)),
-    }
-}
-
-/// The reply of an act.
-fn reply(alloc: Global, allowed: &Allowed) -> Result<Reply, AllocError>
-    ensures { IfOk result (λ reply. reply ≡ reply_to allowed.now) }
-{
-    match allowed {
-        Allowed::Get { content } => Ok(Reply::Granted(Goal::Serve(copy_content(alloc, content)?))),
-        Allowed::Put { key, length } => Ok(Reply::Granted(Goal::Store {
-            key: copy_key(key)?,
-            length: *length,
-        })),
-        Allowed::Create(_) => Ok(Reply::Made),
-        Allowed::Replace { .. } | Allowed::Remove(_) => Ok(Reply::Done),
-        Allowed::Close => Ok(Reply::Closed),
-    }
-}
-
-fn copy_key(key: &LockKey) -> Result<LockKey, AllocError>
-    ensures { IfOk result (λ copy. copy ≡ key.now) }
-{
-    match key {
-        LockKey::Node(node) => Ok(LockKey::Node(*node)),
-        LockKey::Slot { folder, name } => Ok(LockKey::Slot {
-            folder: *folder,
-            name: name.copy()?,
-        }),
     }
 }
