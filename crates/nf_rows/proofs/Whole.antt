@@ -20,38 +20,38 @@ use Rattle.nf_rows.proofs.Front.{IsBytes, bind_ok, before_ok, ok_is, Takes, IsPa
 use Rattle.nf_rows.proofs.OneRow.{same_key, same_row}
 use Rattle.nf_rows.proofs.FieldLaws.{name_part, path_part, place_part, share_kind_part, optional_part, flag_part, permissions_part, format_takes, format_again, content_part, what_part}
 
-abbrev TakesValue : List ℕ → Value × List ℕ → Type 0
-TakesValue bytes v = Takes bytes (spelled v.0) v.1 × FitsValue v.0
+abbrev pub TakesValue : Field → List ℕ → Value × List ℕ → Type 0
+TakesValue f bytes v = Takes bytes (spelled v.0) v.1 × FitsValue v.0 × (field_of v.0 ≡ f)
 
 -- a part's law, for the values that it is read as
-value_takes_by : {X : Type 0} (text : X → List ℕ) (Fit : X → Type 0) (read : List ℕ → Result (X × List ℕ) RowFault) (part : IsPart text Fit read) (view : X → Value)
-    → ((x : X) → spelled (view x) ≡ text x) → ((x : X) → Fit x → FitsValue (view x))
-    → (bytes : List ℕ) (v : Value × List ℕ) → IsBytes bytes → as_value view (read bytes) ≡ Ok v → TakesValue bytes v
-value_takes_by text Fit read part view same as_fits bytes v fits e =
+value_takes_by : {X : Type 0} (text : X → List ℕ) (Fit : X → Type 0) (read : List ℕ → Result (X × List ℕ) RowFault) (part : IsPart text Fit read) (view : X → Value) (f : Field)
+    → ((x : X) → spelled (view x) ≡ text x) → ((x : X) → Fit x → FitsValue (view x)) → ((x : X) → field_of (view x) ≡ f)
+    → (bytes : List ℕ) (v : Value × List ℕ) → IsBytes bytes → as_value view (read bytes) ≡ Ok v → TakesValue f bytes v
+value_takes_by text Fit read part view f same as_fits of_field bytes v fits e =
     let b = bind_ok (read bytes) (λ x. Ok (view x.0, x.1)) v e in
     let t = part.takes bytes b.0 fits b.1 in
-    subst (λ (y : Value × List ℕ). TakesValue bytes y) (ok_is (view b.0.0, b.0.1) v b.2) (subst (λ (text : List ℕ). Takes bytes text b.0.1) (sym (same b.0.0)) t.0, as_fits b.0.0 t.1)
+    subst (λ (y : Value × List ℕ). TakesValue f bytes y) (ok_is (view b.0.0, b.0.1) v b.2) (subst (λ (text : List ℕ). Takes bytes text b.0.1) (sym (same b.0.0)) t.0, as_fits b.0.0 t.1, of_field b.0.0)
 
-value_takes : (f : Field) (end : ℕ) (bytes : List ℕ) (v : Value × List ℕ) → IsBytes bytes → value_at f end bytes ≡ Ok v → TakesValue bytes v
+pub value_takes : (f : Field) (end : ℕ) (bytes : List ℕ) (v : Value × List ℕ) → IsBytes bytes → value_at f end bytes ≡ Ok v → TakesValue f bytes v
 unfolding value_at spelled
-value_takes fields.U16 end bytes v fits e = value_takes_by _ _ _ (part16 (end - length bytes)) values.U16 (λ x. refl) (λ x fit. fit) bytes v fits e
-value_takes fields.U32 end bytes v fits e = value_takes_by _ _ _ (part32 (end - length bytes)) values.U32 (λ x. refl) (λ x fit. fit) bytes v fits e
-value_takes fields.U64 end bytes v fits e = value_takes_by _ _ _ (part64 (end - length bytes)) values.U64 (λ x. refl) (λ x fit. fit) bytes v fits e
-value_takes fields.Digest end bytes v fits e = value_takes_by _ _ _ (bytes_part 32 (end - length bytes)) values.Digest (λ x. refl) (λ x fit. fit) bytes v fits e
-value_takes fields.Name end bytes v fits e = value_takes_by _ _ _ (name_part (end - length bytes)) values.Name (λ x. refl) (λ x fit. fit) bytes v fits e
-value_takes fields.Path end bytes v fits e = value_takes_by _ _ _ (path_part (end - length bytes)) values.Path (λ x. refl) (λ x fit. fit) bytes v fits e
-value_takes fields.Where end bytes v fits e = value_takes_by _ _ _ (place_part (end - length bytes)) values.Where (λ x. refl) (λ x fit. fit) bytes v fits e
-value_takes fields.What end bytes v fits e = value_takes_by _ _ _ (what_part end) (λ x. values.What x.0 x.1) (λ x. refl) (λ x fit. fit) bytes v fits e
-value_takes fields.Whom end bytes v fits e = value_takes_by _ _ _ (share_kind_part (end - length bytes)) values.Whom (λ x. refl) (λ x fit. fit) bytes v fits e
-value_takes fields.Optional end bytes v fits e = value_takes_by _ _ _ (optional_part (end - length bytes)) values.Optional (λ x. refl) (λ x fit. fit) bytes v fits e
-value_takes fields.Permissions end bytes v fits e = value_takes_by _ _ _ (permissions_part (end - length bytes)) values.Permissions (λ x. refl) (λ x fit. fit) bytes v fits e
-value_takes fields.Flag end bytes v fits e = value_takes_by _ _ _ (flag_part (end - length bytes)) values.Flag (λ x. refl) (λ x fit. tt) bytes v fits e
-value_takes (fields.Pieces most) end bytes v fits e = value_takes_by _ _ _ (content_part most (end - length bytes)) (values.Pieces most) (λ x. refl) (λ x fit. fit) bytes v fits e
+value_takes fields.U16 end bytes v fits e = value_takes_by _ _ _ (part16 (end - length bytes)) values.U16 fields.U16 (λ x. refl) (λ x fit. fit) (λ x. refl) bytes v fits e
+value_takes fields.U32 end bytes v fits e = value_takes_by _ _ _ (part32 (end - length bytes)) values.U32 fields.U32 (λ x. refl) (λ x fit. fit) (λ x. refl) bytes v fits e
+value_takes fields.U64 end bytes v fits e = value_takes_by _ _ _ (part64 (end - length bytes)) values.U64 fields.U64 (λ x. refl) (λ x fit. fit) (λ x. refl) bytes v fits e
+value_takes fields.Digest end bytes v fits e = value_takes_by _ _ _ (bytes_part 32 (end - length bytes)) values.Digest fields.Digest (λ x. refl) (λ x fit. fit) (λ x. refl) bytes v fits e
+value_takes fields.Name end bytes v fits e = value_takes_by _ _ _ (name_part (end - length bytes)) values.Name fields.Name (λ x. refl) (λ x fit. fit) (λ x. refl) bytes v fits e
+value_takes fields.Path end bytes v fits e = value_takes_by _ _ _ (path_part (end - length bytes)) values.Path fields.Path (λ x. refl) (λ x fit. fit) (λ x. refl) bytes v fits e
+value_takes fields.Where end bytes v fits e = value_takes_by _ _ _ (place_part (end - length bytes)) values.Where fields.Where (λ x. refl) (λ x fit. fit) (λ x. refl) bytes v fits e
+value_takes fields.What end bytes v fits e = value_takes_by _ _ _ (what_part end) (λ x. values.What x.0 x.1) fields.What (λ x. refl) (λ x fit. fit) (λ x. refl) bytes v fits e
+value_takes fields.Whom end bytes v fits e = value_takes_by _ _ _ (share_kind_part (end - length bytes)) values.Whom fields.Whom (λ x. refl) (λ x fit. fit) (λ x. refl) bytes v fits e
+value_takes fields.Optional end bytes v fits e = value_takes_by _ _ _ (optional_part (end - length bytes)) values.Optional fields.Optional (λ x. refl) (λ x fit. fit) (λ x. refl) bytes v fits e
+value_takes fields.Permissions end bytes v fits e = value_takes_by _ _ _ (permissions_part (end - length bytes)) values.Permissions fields.Permissions (λ x. refl) (λ x fit. fit) (λ x. refl) bytes v fits e
+value_takes fields.Flag end bytes v fits e = value_takes_by _ _ _ (flag_part (end - length bytes)) values.Flag fields.Flag (λ x. refl) (λ x fit. tt) (λ x. refl) bytes v fits e
+value_takes (fields.Pieces most) end bytes v fits e = value_takes_by _ _ _ (content_part most (end - length bytes)) (values.Pieces most) (fields.Pieces most) (λ x. refl) (λ x fit. fit) (λ x. refl) bytes v fits e
 
 value_again_by : {X : Type 0} (text : X → List ℕ) (Fit : X → Type 0) (read : List ℕ → Result (X × List ℕ) RowFault) (part : IsPart text Fit read) (view : X → Value) (x : X) (rest : List ℕ) → Fit x → as_value view (read (text x ++ rest)) ≡ Ok (view x, rest)
 value_again_by text Fit read part view x rest fit = rw (part.again x rest fit) refl
 
-value_again : (v : Value) (end : ℕ) (rest : List ℕ) → FitsValue v → value_at (field_of v) end (spelled v ++ rest) ≡ Ok (v, rest)
+pub value_again : (v : Value) (end : ℕ) (rest : List ℕ) → FitsValue v → value_at (field_of v) end (spelled v ++ rest) ≡ Ok (v, rest)
 unfolding value_at spelled
 value_again (values.U16 n) end rest fit = value_again_by _ _ _ (part16 (end - length (to_be_bytes w16 n ++ rest))) values.U16 n rest fit
 value_again (values.U32 n) end rest fit = value_again_by _ _ _ (part32 (end - length (to_be_bytes w32 n ++ rest))) values.U32 n rest fit
@@ -69,7 +69,7 @@ value_again (values.Pieces most pieces) end rest fit = value_again_by _ _ _ (con
 
 -- Of lists of fields:
 
-values_take : (fs : List Field) (end : ℕ) (bytes : List ℕ) (vs : List Value) → IsBytes bytes → values_at fs end bytes ≡ Ok vs → (bytes ≡ flat_map spelled vs) × AllByRecursion FitsValue vs
+pub values_take : (fs : List Field) (end : ℕ) (bytes : List ℕ) (vs : List Value) → IsBytes bytes → values_at fs end bytes ≡ Ok vs → (bytes ≡ flat_map spelled vs) × AllByRecursion FitsValue vs
 values_take [] end [] vs fits e = subst (λ (ws : List Value). ([] ≡ flat_map spelled ws) × AllByRecursion FitsValue ws) (ok_is [] vs e) (refl, tt)
 values_take [] end (b ∷ bytes) vs fits e = absurd cc
 values_take (f ∷ fs) end bytes vs fits e =

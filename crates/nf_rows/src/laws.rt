@@ -1,14 +1,14 @@
 //! What follows from the definitions. Each function does nothing, and its clause is the law.
 
-ghost use Rattle.std.specs.Prelude.{◌≡◌, ◌↔◌, Result, MatchResult};
+ghost use Rattle.std.specs.Prelude.{◌≡◌, ◌-◌, ◌<◌, ◌≤◌, ℕ, List, [], length, take, Result, Err, IsOk, MatchResult};
 ghost use Rattle.std.specs.Cmp.{IsTotalOrder};
 ghost use Rattle.std.specs.declared.cmp.Ordering.TheVariants.{Equal};
 ghost use Rattle.nf_base.specs.declared.changes.RowKey.{RowKey};
 ghost use Rattle.nf_base.specs.declared.rows.Row.{Row};
 ghost use Rattle.nf_rows.specs.declared.fault.RowFault.{RowFault};
-ghost use Rattle.nf_rows.specs.declared.fault.RowFault.TheVariants.{Memory};
+ghost use Rattle.nf_rows.specs.declared.fault.RowFault.TheVariants.{Long, Memory, Short, Value};
 ghost use Rattle.nf_rows.specs.declared.parts.TheConstants.{FORMAT};
-ghost use Rattle.nf_rows.specs.Faults.{Gives, reading};
+ghost use Rattle.nf_rows.specs.Faults.{AreBytes, Gives, reading};
 ghost use Rattle.nf_rows.specs.Spelling.{Fits, FitsKey, Keyed, Raw, key_cmp, key_spelling, spelling_of, values_of};
 
 /// What `write` put is read as the row, but for want of memory. The premises are what `write` and `read` tell.
@@ -32,4 +32,18 @@ pub fn one_key()
 pub fn keys_are_ordered()
     ensures total { IsTotalOrder key_cmp }
     ensures ties { (a b : Keyed) → key_cmp a b ≡ Equal → a ≡ b }
+{}
+
+/// What stands before a bad value is the front of a row: cut there, the row is short there.
+pub fn bad_values_begin_there()
+    ensures { (kind at : ℕ) (key body : List ℕ) → AreBytes key → AreBytes body → reading kind key body ≡ Err (Value at)
+        → reading kind (take at key) (take (at - length key) body) ≡ Err (Short at) }
+{}
+
+/// What stands before a byte too many is a row where it is in the body, and in the key a whole key.
+pub fn rows_are_whole_before_more()
+    ensures row { (kind at : ℕ) (key body : List ℕ) → AreBytes key → AreBytes body → length key ≤ at
+        → reading kind key body ≡ Err (Long at) → IsOk (reading kind key (take (at - length key) body)) }
+    ensures key { (kind at : ℕ) (key body : List ℕ) → AreBytes key → AreBytes body → at < length key
+        → reading kind key body ≡ Err (Long at) → reading kind (take at key) [] ≡ Err (Short at) }
 {}
