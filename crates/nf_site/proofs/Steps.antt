@@ -1,11 +1,12 @@
--- An entry that may come keeps what a site holds, and a planned step finds its numbers.
-use Rattle.std.proofs.Common.{ℕ, ◌+◌, ◌≤◌, ◌≡◌, Bool, true, false, not, ◌==◌, List, [], ◌∷◌, Option, IsSome, find, filter, length, vec_capacity, Result, Ok, Err, refl, sym, ap, subst, ◌∙◌, arith, length-append}
+-- An entry that may come keeps what a site holds, and the tables bear what is decided.
+use Rattle.std.proofs.Common.{ℕ, ◌+◌, ◌≤◌, ◌≡◌, Bool, true, false, not, ◌==◌, List, [], ◌∷◌, ◌++◌, Option, IsSome, find, filter, length, vec_capacity, Result, Ok, Err, refl, sym, ap, subst, ◌∙◌, arith, length-append}
 use Rattle.std.specs.Prelude.{None, Some}
+use Rattle.nf_base.specs.declared.rows.Row.{Row}
 use Rattle.nf_defs.specs.Tables.{Tables}
 use Rattle.nf_words.specs.Changes.{with_goal, goal_of}
 use Rattle.nf_words.specs.History.{MayAsk, MayBear, MayCome, MayEnd, LeavesRoom, after, replay}
 use Rattle.nf_words.specs.State.{State, opened, ticket_of, without_ticket}
-use Rattle.nf_words.specs.Step.{decision_of, decided}
+use Rattle.nf_words.specs.Step.{decision_of, decided, stepped_by}
 use Rattle.nf_words.specs.declared.answer.Allowed.{Allowed}
 use Rattle.nf_words.specs.declared.answer.Allowed.TheVariants as allowed
 use Rattle.nf_words.specs.declared.answer.Denial.{Denial}
@@ -18,15 +19,20 @@ use Rattle.nf_words.specs.declared.history.Mark.TheVariants.{Answered}
 use Rattle.nf_words.specs.declared.history.Outcome.{Outcome}
 use Rattle.nf_words.specs.declared.history.Ticket.{Ticket}
 use Rattle.nf_words.specs.declared.request.Request.{Request}
+use Rattle.nf_words.specs.declared.request.Words.{Words}
+use Rattle.nf_words.specs.Actors.{actor_of}
+use Rattle.nf_words.specs.Sound.{IsSound}
+use Rattle.nf_laws.proofs.Stays.{sound_after}
 use Rattle.nf_words.proofs.Histories.{legal_more, replay_more}
 use Rattle.nf_words.proofs.Known.{Known, known_change}
 use Rattle.nf_words.proofs.Steps.{end_tickets}
-use Rattle.nf_decide.specs.Current.{Counts}
-use Rattle.nf_site.specs.Held.{Held, HasEntryRoom}
-use Rattle.nf_site.specs.Kept.{Kept, IsHistory, entered, entry}
-use Rattle.nf_site.specs.Plans.{plan_at}
+use Rattle.nf_decide.specs.Current.{BearsAct}
+use Rattle.nf_site.specs.Held.{Held, HasEntryRoom, HasRoomFor}
+use Rattle.nf_site.specs.Kept.{Kept, IsHistory, answered, entered, entry, opened_over}
+use Rattle.nf_site.specs.PlanView.{decision_in, planned_in}
+use Rattle.nf_site.specs.Plans.{IsReady, Planned}
 use Rattle.nf_site.specs.View.{IsHeld, held_of, kept_of}
-use Rattle.nf_site.specs.declared.plan.Plan.{Plan}
+use Rattle.nf_site.specs.declared.plan.Plan.TheInside.{Inside as PlanInside}
 use Rattle.nf_site.specs.declared.site.Site.TheInside.{Inside}
 
 -- ---- the tickets after an entry
@@ -58,10 +64,10 @@ decided_tickets : (s : State) (seat now : ℕ) (decision : Result Allowed Denial
 decided_tickets s seat now (Ok change) = goal_tickets s.tickets seat (goal_of change)
 decided_tickets s seat now (Err refusal) = omega arith
 
-begin_adds : (s : State) (seat moment : ℕ) (request : Request) (mark : Mark)
-    → length (after s (entry seat moment (Begin request) mark)).tickets ≤ length s.tickets + 1
-begin_adds s seat moment request Answered = decided_tickets s seat moment (decision_of s seat moment (Begin request))
-begin_adds s seat moment request mark = omega arith
+begin_adds : (s : State) (seat moment : ℕ) (words : Words) (request : Request) (mark : Mark)
+    → length (after s (entry seat moment (Begin words request) mark)).tickets ≤ length s.tickets + 1
+begin_adds s seat moment words request Answered = decided_tickets s seat moment (decision_of s seat moment (Begin words request))
+begin_adds s seat moment words request mark = omega arith
 
 -- an End takes one away
 end_leaves : (s : State) (seat moment : ℕ) (outcome : Outcome) (mark : Mark)
@@ -75,11 +81,11 @@ has_ticket (Some ticket) outcome may = refl
 
 -- each ticket that is left has room for the entry of its End
 ends_left : (site : Held) (seat moment : ℕ) (event : Event) (mark : Mark)
-    → length site.kept.history + length site.kept.state.tickets ≤ site.room.entries
+    → length site.kept.history + length site.kept.state.tickets ≤ site.entries
     → MayAsk site.kept.state seat event → HasEntryRoom site event
-    → length site.kept.history + 1 + length (after site.kept.state (entry seat moment event mark)).tickets ≤ site.room.entries
-ends_left site seat moment (Begin request) mark ends asked room =
-    omega (arith, room.entries, begin_adds site.kept.state seat moment request mark)
+    → length site.kept.history + 1 + length (after site.kept.state (entry seat moment event mark)).tickets ≤ site.entries
+ends_left site seat moment (Begin words request) mark ends asked room =
+    omega (arith, room.entries, begin_adds site.kept.state seat moment words request mark)
 ends_left site seat moment (End outcome) mark ends asked room =
     let s = site.kept.state in
     omega (
@@ -91,7 +97,7 @@ ends_left site seat moment (End outcome) mark ends asked room =
 -- ---- an entry
 
 leaves_room : (site : Held) (event : Event) → HasEntryRoom site event → LeavesRoom (length site.kept.history) site.kept.state event
-leaves_room site (Begin request) room = room.run
+leaves_room site (Begin words request) room = room.run
 leaves_room site (End outcome) room = tt
 
 history_more : (k : Kept) (e : Entry) → IsHistory k → MayCome (length k.history) k.state e → IsHistory (entered k e)
@@ -113,17 +119,19 @@ held_step old new site e is held before asked marked room kept capacity =
     let may : MayCome (length site.kept.history) site.kept.state e =
     record { not_before = before; asked = asked; room = leaves_room site e.event room; marked = marked } in
     let more = history_more site.kept e (subst (λ (x : Held). IsHistory x.kept) is held.history) may in
-    let ends : length site.kept.history + length site.kept.state.tickets ≤ site.room.entries =
-    subst (λ (x : Held). length x.kept.history + length x.kept.state.tickets ≤ x.room.entries) is held.ends in
+    let sound = sound_after (length site.kept.history) site.kept.state e (subst (λ (x : Held). IsSound x.kept.state) is held.sound) may in
+    let ends : length site.kept.history + length site.kept.state.tickets ≤ site.entries =
+    subst (λ (x : Held). length x.kept.history + length x.kept.state.tickets ≤ x.entries) is held.ends in
     let left = ends_left site e.seat e.moment e.event e.mark ends asked room in
     record {
       history = subst IsHistory (sym kept) more;
+      sound = subst (λ (k : Kept). IsSound k.state) (sym kept) sound;
       ends = omega (
         arith,
         ap (λ (k : Kept). length k.history) kept,
         ap (λ (k : Kept). length k.state.tickets) kept,
         length-append site.kept.history (e ∷ []),
-        ap (λ (x : Held). x.room.entries) is,
+        ap (λ (x : Held). x.entries) is,
         capacity,
         left,
       );
@@ -131,17 +139,65 @@ held_step old new site e is held before asked marked room kept capacity =
 
 -- ---- a decision
 
-known_counts : (t : Tables) (now : ℕ) (decision : Result Allowed Denial)
-    → ((change : Allowed) → decision ≡ Ok change → Known t now change) → Counts t decision
-known_counts t now (Ok (allowed.Create row)) known = let new = known (allowed.Create row) refl in (new.next_node, new.next_blob)
-known_counts t now (Ok (allowed.Replace node content)) known = (known (allowed.Replace node content) refl).next_blob
-known_counts t now decision known = tt
+-- what is known of an act that no rule refuses is what the tables need
+known_bears : (t : Tables) (now : ℕ) (who : Option ℕ) (act : Allowed) → Known t now who act → BearsAct t act
+known_bears t now who (allowed.Get node content) known = tt
+known_bears t now who (allowed.Put by key length) known = tt
+known_bears t now who (allowed.StoreNew row blob) known = record { next_node = known.new.next_node; next_blob = known.new.next_blob }
+known_bears t now who (allowed.StoreOver node content blob) known = record { file = known.brought.file; next_blob = known.brought.next_blob }
+known_bears t now who (allowed.Mkcol row) known = record { next_node = known.new.next_node; next_blob = known.new.next_blob }
+known_bears t now who (allowed.Delete nodes) known = tt
+known_bears t now who allowed.Close known = tt
 
--- the counters have the numbers that a planned step needs
-pub counts_step : (old : Inside) (site : Held) (plan : Plan) (event : Event)
-    → held_of old ≡ site → plan ≡ plan_at site.kept.state plan.seat plan.moment event → MayAsk site.kept.state plan.seat event
-    → Counts old.current.state.tables plan.decision
-counts_step old site plan event is planned asked =
-    known_counts old.current.state.tables plan.moment plan.decision (λ change decides.
-    subst (λ (x : Held). Known x.kept.state.tables plan.moment change) (sym is)
-    (known_change site.kept.state plan.seat plan.moment event change asked (sym (ap (λ (p : Plan). p.decision) planned) ∙ decides)))
+-- the tables bear an act that is decided
+pub bears_step : (s : State) (seat now : ℕ) (event : Event) (act : Allowed) → IsSound s → MayAsk s seat event
+    → decision_of s seat now event ≡ Ok act → BearsAct s.tables act
+bears_step s seat now event act sound asked decides =
+    known_bears s.tables now (actor_of s seat event) act (known_change s seat now event act sound asked decides)
+
+-- ---- a site's fields
+
+-- a site that was just opened over rows that are sound
+pub opened_held : (site : Inside) (rows : List Row) → IsSound (opened rows)
+    → site.opening ≡ rows → site.current.state ≡ opened rows → site.history.items ≡ [] → IsHeld site
+opened_held site rows sound opening state none =
+    let kept : kept_of site ≡ opened_over rows = λ i. record { opening = opening i; state = state i; history = none i } in
+    record {
+      history = subst IsHistory (sym kept) (record { legal = tt; replayed = refl });
+      sound = subst IsSound (sym state) sound;
+      ends = omega (arith, ap (λ (es : List Entry). length es) none, ap (λ (s : State). length s.tickets) state);
+    }
+
+-- the tables bear what is decided
+pub bears_held : (old : Inside) (site : Held) (seat now : ℕ) (event : Event) (act : Allowed) → held_of old ≡ site → IsHeld old
+    → MayAsk site.kept.state seat event → decision_of site.kept.state seat now event ≡ Ok act → BearsAct old.current.state.tables act
+bears_held old site seat now event act is held asked decides =
+    bears_step old.current.state seat now event act held.sound
+    (subst (λ (x : Held). MayAsk x.kept.state seat event) (sym is) asked)
+    (subst (λ (x : Held). decision_of x.kept.state seat now event ≡ Ok act) (sym is) decides)
+
+-- and what a plan does that is ready
+pub bears_plan : (old : Inside) (site : Held) (plan : PlanInside) (act : Allowed) → held_of old ≡ site → IsHeld old
+    → IsReady site (planned_in plan) → decision_in plan.decided ≡ Ok act → BearsAct old.current.state.tables act
+bears_plan old site plan act is held ready decides =
+    bears_held old site plan.seat plan.moment plan.event act is held ready.asked
+    (sym (ap (λ (p : Planned). p.decision) ready.planned) ∙ decides)
+
+entry_room : (site : Held) (event : Event) → HasRoomFor site event → HasEntryRoom site event
+entry_room site (Begin words request) room = room
+entry_room site (End outcome) room = tt
+
+-- the fields after a plan was adopted
+pub adopted : (old new : Inside) (site : Held) (plan : PlanInside) → held_of old ≡ site → IsHeld old → IsReady site (planned_in plan)
+    → new.opening ≡ old.opening
+    → new.current.state ≡ stepped_by old.current.state plan.seat plan.moment plan.event (decision_in plan.decided)
+    → new.history.items ≡ old.history.items ++ answered plan.seat plan.moment plan.event ∷ []
+    → vec_capacity new.history ≡ vec_capacity old.history
+    → IsHeld new
+adopted old new site plan is held ready opening state history capacity =
+    let e = answered plan.seat plan.moment plan.event in
+    let here : IsReady (held_of old) (planned_in plan) = subst (λ (x : Held). IsReady x (planned_in plan)) (sym is) ready in
+    let stepped : new.current.state ≡ after old.current.state e =
+    state ∙ ap (λ (p : Planned). stepped_by old.current.state plan.seat plan.moment plan.event p.decision) here.planned in
+    let kept : kept_of new ≡ entered (kept_of old) e = λ i. record { opening = opening i; state = stepped i; history = history i } in
+    held_step old new (held_of old) e refl held here.not_before here.asked tt (entry_room (held_of old) plan.event here.room) kept capacity

@@ -1,14 +1,37 @@
-use Rattle.std.proofs.Common.{rules}
+use Rattle.std.proofs.Common.{sym, ap, subst, ◌∙◌, ◌++◌, ◌∷◌, [], vec_capacity, Result}
+use Rattle.nf_words.specs.Step.{stepped_by}
+use Rattle.nf_words.specs.declared.answer.Denial.{Denial}
 use Rattle.nf_site.specs.Kept.{answered}
-use Rattle.nf_site.proofs.Steps.{held_step, counts_step}
+use Rattle.nf_site.specs.PlanView.{decision_in}
+use Rattle.nf_site.specs.Plans.{IsReady, Planned}
+use Rattle.nf_site.specs.declared.plan.Deed.{Deed}
+use Rattle.nf_site.specs.declared.site.Site.TheInside.{Inside}
+use Rattle.nf_site.proofs.Steps.{adopted, bears_plan}
 use Rattle.nf_site.proofs.site.Site.adopt.Goals as goal
+use Rattle.nf_site.proofs.site.Site.adopt.Goals.{in-Ok, in-Err}
 
-pub change-requires-clause-counts : goal.change-requires-clause-counts
-change-requires-clause-counts c =
-    counts_step c.self.inside c.args.self.now c.args.plan c.args.event c.self.view_is c.requires.planned c.requires.asked
+pub change-requires-clause-bears : goal.change-requires-clause-bears
+change-requires-clause-bears c =
+    bears_plan c.self.inside c.args.self.now c.plan.inside c.in-Ok.deed.act c.self.view_is c.self.invariant
+    (subst (λ (p : Planned). IsReady c.args.self.now p) (sym c.plan.view_is) c.requires)
+    (ap decision_in c.in-Ok.is)
 
 pub invariant_of-self : goal.invariant_of-self
 invariant_of-self c =
-    let plan = c.args.plan in
-    held_step c.self.inside _ c.args.self.now (answered plan.seat plan.moment c.args.event) c.self.view_is c.self.invariant
-    c.requires.not_before c.requires.asked tt (search rules) (search rules) c.push_reserved.ensures.capacity
+    let old = c.self.inside in
+    let plan = c.plan.inside in
+    let ready = subst (λ (p : Planned). IsReady c.args.self.now p) (sym c.plan.view_is) c.requires in
+    let step = λ (d : Result Deed Denial). stepped_by old.current.state plan.seat plan.moment plan.event (decision_in d) in
+    let more = λ (x : Inside). x.history.items ++ answered plan.seat plan.moment plan.event ∷ [] in
+    elim c.match-decided.branch [
+      | in-Ok w ↦ adopted old _ c.args.self.now plan c.self.view_is c.self.invariant ready
+          (ap (λ (x : Inside). x.opening) w.self-inside-is)
+          (ap (λ (x : Inside). x.current.state) w.self-inside-is ∙ w.change.ensures ∙ ap step (sym w.in-Ok.is))
+          (c.push_reserved.ensures.items ∙ ap more w.self-inside-is)
+          (c.push_reserved.ensures.capacity ∙ ap (λ (x : Inside). vec_capacity x.history) w.self-inside-is)
+      | in-Err w ↦ adopted old _ c.args.self.now plan c.self.view_is c.self.invariant ready
+          (ap (λ (x : Inside). x.opening) w.self-inside-is)
+          (ap (λ (x : Inside). x.current.state) w.self-inside-is ∙ w.pass.ensures ∙ ap step (sym w.in-Err.is))
+          (c.push_reserved.ensures.items ∙ ap more w.self-inside-is)
+          (c.push_reserved.ensures.capacity ∙ ap (λ (x : Inside). vec_capacity x.history) w.self-inside-is)
+    ]
