@@ -1,13 +1,13 @@
 -- The head that spans cover.
-use Rattle.std.proofs.Common.{◌≡◌, ℕ, List, [], ◌∷◌, refl, ◌∙◌, ap, subst, arith, ◌+◌, ◌-◌, ◌≤◌, length, take, drop, map, All}
-use Rattle.std.proofs.lemmas.List.{drop-take, take-take, length-take-le}
+use Rattle.std.proofs.Common.{◌≡◌, ℕ, List, [], ◌∷◌, refl, ◌∙◌, ap, subst, arith, ◌+◌, ◌-◌, take, drop, map, All}
+use Rattle.std.proofs.lemmas.List.{drop-take, take-take}
 use Rattle.std.proofs.lemmas.List.Elements.{All-head, All-tail}
 use Rattle.httparse.specs.declared.spans.HeaderSpan.{HeaderSpan}
 use Rattle.httparse.specs.declared.spans.RequestSpans.{RequestSpans}
 use Rattle.httparse.specs.declared.spans.Span.{Span}
 use Rattle.httparse.specs.Grammar.{RequestHead}
 use Rattle.httparse.specs.Spans.{span_bytes, header_bytes, IsWithin, IsHeaderWithin, IsRequestWithin, IsRequestAt}
-use Rattle.nf_http.specs.Head.{Head, head_of, head_at}
+use Rattle.nf_http.specs.Head.{head_of, head_at}
 
 -- ---- spans in a front of the bytes
 
@@ -43,15 +43,3 @@ pub head_is : (bytes : List ℕ) (spans : List HeaderSpan) (r : RequestSpans) (h
 head_is bytes spans r h within at =
     head_front bytes r.len r.method r.path r.version (take r.headers spans) within.method within.path within.section.headers_fit
     ∙ cc (at.method, at.path, at.version, at.fields)
-
-pub within_front : (bytes : List ℕ) (spans : List HeaderSpan) (r : RequestSpans) → IsRequestWithin bytes spans r
-    → IsRequestWithin (take r.len bytes) spans r
-within_front bytes spans r within =
-    let section = within.section in
-    let fits : r.len ≤ length (take r.len bytes) = omega (arith, length-take-le r.len bytes section.len_fits) in
-    record {
-      method = within.method;
-      path = within.path;
-      version = within.version;
-      section = record { len_fits = fits; count_fits = section.count_fits; headers_fit = section.headers_fit };
-    }

@@ -1,4 +1,4 @@
-use Rattle.std.proofs.Common.{◌≡◌, sym, subst, take}
+use Rattle.std.proofs.Common.{subst, take}
 use Rattle.std.specs.declared.result.Result.TheVariants.{Ok, Err}
 use Rattle.nf_http.specs.Head.{head_at}
 use Rattle.nf_http.specs.Found.{BuildsMessage}
