@@ -1,4 +1,4 @@
-use Rattle.std.proofs.Common.{ℕ, List, length, ◌+◌, ◌≤◌, ◌<◌, ◌≡◌}
+use Rattle.std.proofs.Common.{ℕ, List, length, ◌+◌, ◌<◌, ◌≡◌}
 use Rattle.std.specs.Io.KnownBytes.{Consumes}
 use Rattle.nf_http.specs.Told.{stream}
 use Rattle.nf_http.proofs.bodies.skip_body.Given as goal
