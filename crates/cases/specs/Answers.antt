@@ -1,0 +1,24 @@
+-- What a run must write, and where what it wrote first differs.
+use Rattle.std.specs.Prelude.{◌≡◌, ◌≢◌, ℕ, List, [], ◌∷◌, ◌++◌, take, drop}
+use Rattle.cases.specs.declared.case.Exchange.{Exchange}
+use Rattle.cases.specs.declared.case.Run.{Run}
+use Rattle.cases.specs.declared.running.Outcome.{Outcome}
+
+-- the answers one after the other
+abbrev pub answers : List Exchange → List ℕ
+answers [] = []
+answers (exchange ∷ more) = exchange.answer.items ++ answers more
+
+-- what was written gave `got` where the answer to the first of these exchanges, and of all behind it, was wanted; with none left it should have ended
+abbrev pub Differs : List Exchange → List ℕ → Type 0
+Differs [] got = got ≢ []
+Differs (exchange ∷ more) got = (behind : List ℕ) → got ≢ exchange.answer.items ++ behind
+
+pub record IsFirstDifference (exchanges : List Exchange) (written : List ℕ) (index : ℕ) (got : List ℕ) : Type 0 where
+  pub before : written ≡ answers (take index exchanges) ++ got
+  pub here : Differs (drop index exchanges) got
+
+-- a run gave the bytes and the status that are wanted
+pub record IsAsWanted (run : Run) (outcome : Outcome) : Type 0 where
+  pub output : outcome.output.items ≡ answers run.exchanges.items
+  pub status : outcome.status ≡ run.status

@@ -1,0 +1,84 @@
+//! Runs the cases of a folder through the server's top call, and tells which of them differ.
+#![tactic(auto)]
+
+mod case;
+mod folder;
+mod judging;
+mod reading;
+mod running;
+mod showing;
+mod tally;
+mod texts;
+
+use case::Unread;
+use judging::judge;
+use reading::runs_of;
+use running::serve;
+use std::process::ExitCode;
+use std::{env, fs, io};
+use tally::{Judged, Tally};
+
+/// Where the cases lie if no argument names another folder: where the program is run.
+const HERE: &str = ".";
+
+/// What the program ends with where the cases can't be looked for.
+const NO_CASES: u8 = 2;
+
+fn main(rt: HostRuntime) -> ExitCode {
+    match check_all(&rt) {
+        Ok(tally) => ExitCode::from(tally.code()),
+        Err(error) => {
+            let _ = eprintln!(rt; "cases: {error}");
+            ExitCode::from(NO_CASES)
+        }
+    }
+}
+
+fn check_all(rt: &HostRuntime) -> io::Result<Tally> {
+    let folder = folder_named(rt)?;
+    let names = folder::names(rt, folder.as_str())?;
+    let mut judged = Vec::new(rt.alloc());
+    for name in &names {
+        check_case(rt, folder.as_str(), name.as_str(), &mut judged)?;
+    }
+    let tally = Tally::of(&judged);
+    let (passed, differing, not_run) = (tally.passed, tally.differing, tally.not_run);
+    println!(rt;
+        "{} cases, {passed} runs passed, {differing} differ, {not_run} not run",
+        names.len()
+    )?;
+    Ok(tally)
+}
+
+fn folder_named(rt: &HostRuntime) -> io::Result<String> {
+    match env::args(rt)?.nth(1) {
+        Some(folder) => Ok(folder),
+        None => Ok(String::from_str(rt.alloc(), HERE)?),
+    }
+}
+
+// Runs one case, and prints a line for each of its runs that differs.
+fn check_case(
+    rt: &HostRuntime,
+    folder: &str,
+    name: &str,
+    judged: &mut Vec<Judged>,
+) -> io::Result<()> {
+    let text = fs::read_to_string(rt, folder::path(rt.alloc(), folder, name)?)?;
+    let runs = match runs_of(rt.alloc(), text.as_str()) {
+        Ok(runs) => runs,
+        Err(why) => {
+            println!(rt; "{name}: not run: {}", why.word())?;
+            return Ok(judged.push(Judged::NotRun)?);
+        }
+    };
+    for (index, run) in runs.iter().enumerate() {
+        let (whole, cut) = serve(rt.alloc(), run)?;
+        let line = judge(rt.alloc(), run, &whole, &cut)?;
+        judged.push(Judged::of(&line))?;
+        if let Some(line) = line {
+            println!(rt; "{name}: run {}, {line}", index + 1)?;
+        }
+    }
+    Ok(())
+}
