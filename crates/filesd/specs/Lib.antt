@@ -1,4 +1,6 @@
 pub mod Command
 pub mod Desk
+pub mod Session
 pub mod Statuses
+pub mod Stepping
 pub mod Store

@@ -1,13 +1,14 @@
 //! The site and the bytes of its blobs, behind the one seat of a session.
 
 ghost use Rattle.std.specs.Prelude.{◌≡◌, ◌<◌, ◌≤◌, ◌+◌, length, slice_get, IfOk, OnOk, OnErr, Ok, Some};
-ghost use Rattle.nf_laws.specs.Wholes.{with_blob};
+ghost use Rattle.nf_laws.specs.Wholes.{IsWhole, with_blob};
 ghost use Rattle.nf_server.specs.Book.{event_of_body};
 ghost use Rattle.nf_site.specs.Demo.{demo_rows};
 ghost use Rattle.nf_site.specs.Held.{HasEntryRoom};
 ghost use Rattle.nf_site.specs.Kept.{IsHistory, moment_of, opened_over};
 ghost use Rattle.nf_site.specs.Plans.{IsReady, plan_of};
 ghost use Rattle.nf_words.specs.History.{MayAsk};
+ghost use Rattle.nf_words.specs.Sound.{IsSound};
 ghost use Rattle.nf_words.specs.declared.answer.Reply.TheVariants.{Closed};
 ghost use Rattle.nf_words.specs.declared.history.Event.TheVariants.{Begin, End};
 ghost use Rattle.nf_words.specs.declared.history.Mark.TheVariants as mark;
@@ -55,6 +56,22 @@ impl Desk {
         let site = Site::demo(alloc)?;
         let store = Store::demo(alloc)?;
         Ok(Desk { alloc, site, store })
+    }
+
+    /// The site, without the bytes of its blobs. Its history is legal, its state is sound, and those bytes were whole for it.
+    pub fn into_site(self) -> Site
+        ensures site { result ≡ self.site }
+        ensures history { IsHistory result.kept }
+        ensures sound { IsSound result.kept.state }
+        ensures whole { IsWhole result.kept.state self.store.blobs }
+    {
+        let Desk {
+            alloc: _,
+            site,
+            store: _,
+        } = self;
+        let _ = site.history();
+        site
     }
 }
 

@@ -1,9 +1,9 @@
 //! What no case of the suite can say: other words, faults of the outside, a PUT that is cut and read again, and the longest body.
 
-use crate::running::{Status, open, run};
-use crate::session::{Ended, session};
-use nf_http::Buffer;
+use crate::desk::Desk;
+use crate::running::{Status, run};
 use nf_outside::{ListClock, MemSink, MemSource};
+use nf_server::{Ended, serve_session};
 use std::alloc::{AllocError, Global};
 use std::test::Fail;
 
@@ -71,34 +71,24 @@ fn faults_of_the_outside(rt: HostRuntime) -> Result<(), Fail> {
     Ok(())
 }
 
+/// One session over a desk, to its end.
+fn served(alloc: Global, desk: &mut Desk, text: &str) -> Result<(Option<Ended>, Vec<u8>), Fail> {
+    let mut input = source(alloc, text)?;
+    let mut output = MemSink::new(alloc, Vec::new(alloc));
+    let mut clock = ListClock::new(Vec::new(alloc));
+    let end = serve_session(alloc, &mut input, &mut output, &mut clock, desk);
+    Ok((end, output.bytes().to_vec(alloc)?))
+}
+
 #[test]
 fn a_put_that_is_cut_stores_nothing(rt: HostRuntime) -> Result<(), Fail> {
     let alloc = rt.alloc();
-    let mut backend = open(alloc)?;
-    let mut clock = ListClock::new(Vec::new(alloc));
-    let mut input = source(alloc, PUT_HELLO)?;
-    let mut output = MemSink::new(alloc, Vec::new(alloc));
-    let mut buffer = Buffer::new();
-    let ended = session(
-        &mut backend,
-        &mut buffer,
-        &mut input,
-        &mut output,
-        &mut clock,
-    );
-    assert_eq!(rt; ended, Ended::BadMessage);
-    let mut input = source(alloc, GET_HELLO)?;
-    let mut output = MemSink::new(alloc, Vec::new(alloc));
-    let mut buffer = Buffer::new();
-    let ended = session(
-        &mut backend,
-        &mut buffer,
-        &mut input,
-        &mut output,
-        &mut clock,
-    );
-    assert_eq!(rt; ended, Ended::Closed);
-    assert_eq!(rt; output.bytes(), HELLO.as_bytes());
+    let mut desk = Desk::demo(alloc)?;
+    let (end, _) = served(alloc, &mut desk, PUT_HELLO)?;
+    assert_eq!(rt; end, Some(Ended::BadMessage));
+    let (end, bytes) = served(alloc, &mut desk, GET_HELLO)?;
+    assert_eq!(rt; end, Some(Ended::Closed));
+    assert_eq!(rt; &bytes, HELLO.as_bytes());
     Ok(())
 }
 
