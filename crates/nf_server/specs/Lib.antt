@@ -1,0 +1,6 @@
+pub mod Book
+pub mod Steps
+pub mod Files
+pub mod Turn
+pub mod Session
+pub mod Connections
