@@ -8,7 +8,7 @@ use Rattle.nf_words.specs.declared.answer.Denial.{Denial}
 use Rattle.nf_words.specs.declared.answer.Denial.TheVariants as denial
 use Rattle.nf_server.specs.Laws.{LosesBody, ReadFaultsStoreNothing}
 use Rattle.nf_server.specs.Steps.{Scene, Heads, Cuts, Judges, Closes, EndsBy, cutting, is_granted, taken_length}
-use Rattle.nf_server.specs.Turn.{Answers, CutsShort, Meets, Responds, Turn, Writes, end_by, end_of, end_of_close, end_of_denial}
+use Rattle.nf_server.specs.Turn.{Answers, CutsShort, Meets, Responds, Turn, Writes, end_by, end_of, end_of_close, end_of_denial, says_close}
 use Rattle.nf_server.specs.declared.backend.Ending.TheVariants as ending
 use Rattle.nf_server.specs.declared.begun.Begun.{Begun}
 use Rattle.nf_server.specs.declared.response.Response.{Response}
@@ -58,7 +58,8 @@ answered_no_read : {C : Type 0} (last : Bool) (head : Head) (v : Response) (a b 
     → Responds last head v a b result → Some ended.ReadFault ≡ end_by result → ⊥
 answered_no_read last head v a b (Ok end) responds e = end_no_read (closes_session head) v (sym responds.0 ∙ sym e)
 answered_no_read last head v a b (Err by) responds e =
-    writes_no_read (Unit {0}) _ v a b (subst (λ (z : Ended). Writes {T = Unit {0}} _ v a b (Err z)) (same by e) responds)
+    writes_no_read (Unit {0}) (says_close last head v) v a b
+    (subst (λ (z : Ended). Writes {T = Unit {0}} (says_close last head v) v a b (Err z)) (same by e) responds)
   where
     same : (z : Ended) → ◌≡◌ {A = Option Ended} (Some ended.ReadFault) (Some z) → z ≡ ended.ReadFault
     same z e = cc
@@ -87,9 +88,9 @@ read_fault reads last a b (inl ends) = absurd (never ends.1)
 read_fault reads last a b (inr (inl (m, fault, by, heads, ends, is))) =
     let by_read = ends_read m b fault (subst (λ (z : Ended). EndsBy fault m b z) (read_by by is) ends) in
     inl (subst (λ (z : Scene _). Heads a z (Err wire.ReadFault)) (sym by_read.1) (subst (λ (z : WireFault). Heads a m (Err z)) by_read.0 heads))
-read_fault reads last a b (inr (inr (m, head, heads, opened, begun, judged, inl answers))) =
+read_fault reads last a b (inr (inr (m, head, heads, (opened, begun, judged, inl answers)))) =
     absurd (answered_no_read last head answers.response answers.taken answers.sent answers.result answers.responds answers.ends)
-read_fault reads last a b (inr (inr (m, head, heads, opened, begun, judged, inr cut))) =
+read_fault reads last a b (inr (inr (m, head, heads, (opened, begun, judged, inr cut)))) =
     let by_read = ends_read cut.cut cut.sent cut.fault (subst (λ (z : Ended). EndsBy cut.fault cut.cut cut.sent z) (read_by cut.by cut.ends) cut.responds) in
     inr (record {
       headed = m;

@@ -5,7 +5,6 @@ ghost use Rattle.nf_server.specs.Laws.{HeldIsTicket, OwnGrows, ReadFaultsStoreNo
 use nf_outside::Clock;
 
 /// A fault of reading stores nothing: no body that wasn't taken whole comes to an End.
-#[tactic(auto, using(crate::proofs::Faults::read_fault))]
 pub fn read_faults_store_nothing<C: Clock>()
     ensures { ReadFaultsStoreNothing C.reads }
 {}

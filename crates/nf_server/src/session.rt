@@ -42,8 +42,12 @@ pub struct Connection<'r, 'i, 'o, 'c, 'b, S: Source, O: Sink, C: Clock, B: Backe
     pub backend: &'b mut B,
 }
 
-impl<'r, 'i, 'o, 'c, 'b, S: Source, O: Sink, C: Clock, B: Backend>
-    Connection<'r, 'i, 'o, 'c, 'b, S, O, C, B>
+impl<'r, 'i, 'o, 'c, 'b, S, O, C, B> Connection<'r, 'i, 'o, 'c, 'b, S, O, C, B>
+where
+    S: Source,
+    O: Sink,
+    C: Clock,
+    B: Backend,
 {
     fn next(&mut self) -> Result<Option<Message>, WireFault>
         ensures same { IsSame self.old self.new }
