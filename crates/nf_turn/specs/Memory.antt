@@ -1,0 +1,49 @@
+-- What the holder of a seat knows.
+use Rattle.std.specs.Prelude.{◌≡◌, ℕ, ◌+◌, ◌-◌, ◌<◌, ◌≤◌, ◌==◌, ◌||◌, ◌&&◌, nat_lt, nat_le, if◌then◌else◌, List, [], ◌∷◌, ◌++◌, length, Bool, false, IsTrue}
+use Rattle.nf_turn.specs.Book.{Meanings}
+use Rattle.nf_turn.specs.declared.view.Memory.{Memory}
+
+module _ {W : Type 0} where
+  -- that of a seat that did nothing, which knows of a value, of the first one, and of those that it is told of
+  abbrev pub newcomer : ℕ → ℕ → W → W → List W → Memory W
+  newcomer seats number first known told = record { seats = seats; number = number; next = 0; left = 0; first = first; known = known; last = first; passed = []; told = told; joined = [] }
+
+  -- that of the first seat: number 1, with all others left
+  abbrev pub of_the_first : ℕ → W → Memory W
+  of_the_first seats value = record { seats = seats; number = 1; next = 2; left = seats - 1; first = value; known = value; last = value; passed = []; told = value ∷ []; joined = [] }
+
+  -- after the seat passed the turn on with this value
+  abbrev pub having_passed : W → Memory W → Memory W
+  having_passed value k = record { seats = k.seats; number = k.number; next = k.next; left = k.left; first = k.first; known = value; last = value; passed = value ∷ k.passed; told = k.told; joined = k.joined }
+
+  -- of a seat from which another was split off, and of that other one, which has the first number that was left
+  abbrev pub having_split : Memory W → Memory W
+  having_split k = record { seats = k.seats; number = k.number; next = k.next + 1; left = k.left - 1; first = k.first; known = k.known; last = k.last; passed = k.passed; told = k.told; joined = k.joined }
+
+  abbrev pub split_from : Memory W → Memory W
+  split_from k = newcomer k.seats k.next k.first k.known (k.passed ++ k.told)
+
+  -- after another seat was joined into it; `longer` picks one of two values
+  abbrev pub having_joined : (W → W → W) → Memory W → Memory W → Memory W
+  having_joined longer k other = record { seats = k.seats; number = k.number; next = if k.left == 0 then other.next else k.next; left = k.left + other.left; first = k.first; known = longer k.known other.known; last = k.last; passed = k.passed; told = k.told; joined = (other.number, other.last) ∷ (other.joined ++ k.joined) }
+
+  -- n is one of the numbers that the seat has left
+  abbrev pub is_left : Memory W → ℕ → Bool
+  is_left k n = nat_le k.next n && nat_lt n (k.next + k.left)
+
+  -- n was the number of a seat that was joined into this one, or into one that was
+  abbrev pub is_joined : ℕ → List (ℕ × W) → Bool
+  is_joined n [] = false
+  is_joined n (seat ∷ seats) = (seat.0 == n) || is_joined n seats
+
+  -- n is the seat's own number, is left with it, or was joined into it
+  abbrev pub has_number : Memory W → ℕ → Bool
+  has_number k n = (n == k.number) || (is_left k n || is_joined n k.joined)
+
+  -- no number of the lock is with another seat
+  abbrev pub IsWhole : Memory W → Type 0
+  IsWhole k = (n : ℕ) → 0 < n → n ≤ k.seats → IsTrue (has_number k n)
+
+-- of two values the one with more entries
+abbrev pub longer : {E O W : Type 0} → Meanings E O W → W → W → W
+longer book a b = if nat_lt (length (book.entries a)) (length (book.entries b)) then b else a
