@@ -2,6 +2,7 @@
 use Rattle.std.proofs.Common.{◌≡◌, ◌⊎◌, ⊎_elim, inl, inr, ℕ, ◌+◌, ◌<◌, ◌≤◌, List, [], ◌∷◌, ◌++◌, Option, refl, sym, ap, ◌∙◌, subst, arith}
 use Rattle.nf_turn.specs.Book.{Meanings, entries_of, HasNothing, IsFresh, GrowsWithout}
 use Rattle.nf_turn.specs.declared.view.Memory.{Memory}
+use Rattle.nf_turn.specs.Numbers.{numbers_of}
 use Rattle.nf_turn.specs.Agreeing.{AllAreKept, Agrees}
 use Rattle.nf_turn.specs.Turns.{Line, AreJoined, IsKnown, InOrder}
 use Rattle.nf_turn.proofs.Left.{left_test}
@@ -25,7 +26,7 @@ module _ {E O W : Type 0} (book : Meanings E O W) where
         strikes = h.own.strikes;
         joined = joined_are_kept line id k.number k.joined h.joined;
         left = λ n left.
-            let is = left_test k n left in let low = is.0 in let up = is.1 in
+            let is = left_test (numbers_of k) n left in let low = is.0 in let up = is.1 in
             let next = (h.left (omega arith)).1 in
             nothing n origin line.value fresh (order.unused n (inr (omega arith)));
         outside = λ n out.

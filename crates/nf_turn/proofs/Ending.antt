@@ -10,7 +10,7 @@ use Rattle.nf_turn.specs.Book.{Meanings}
 use Rattle.nf_turn.specs.declared.view.Memory.{Memory}
 use Rattle.nf_turn.specs.declared.view.View.{View}
 use Rattle.nf_turn.specs.declared.view.View.TheVariants.{Idle}
-use Rattle.nf_turn.specs.Memory.{IsWhole, is_joined}
+use Rattle.nf_turn.specs.Numbers.{numbers_of, IsWhole, is_joined}
 use Rattle.nf_turn.specs.Agreeing.{Agrees}
 use Rattle.nf_turn.specs.Turns.{Line, AreJoined, IsInTurn}
 use Rattle.nf_turn.proofs.Agreed.{agrees}
@@ -28,20 +28,20 @@ module _ {E O W : Type 0} (book : Meanings E O W) where
 
   module _ (seats : ℕ) (origin : W) where
     -- who has the turn waits, and no number of a whole seat that is idle does
-    none_holds : (s : State (Option W) (View W)) (rule : IsInTurn book seats origin s) (id : ℕ) (k : Memory W) → get_elem? s.views id ≡ some (Idle k) → IsWhole k → rule.line.holder ≡ 0
+    none_holds : (s : State (Option W) (View W)) (rule : IsInTurn book seats origin s) (id : ℕ) (k : Memory W) → get_elem? s.views id ≡ some (Idle k) → IsWhole (numbers_of k) → rule.line.holder ≡ 0
     none_holds s rule id k at whole =
         let line = rule.line in let mine = rule.views id (Idle k) at in let h = mine.0 in
         dite (ℕ_discrete line.holder 0) (λ e. e) (λ some_holder.
         let waits = (rule.order.served (omega arith)).0 in let within = rule.order.within line.holder waits in let low = within.0 in let given = within.1 in let few = rule.order.few.2 in let all = h.all in
         absurd (⊎_elim
         (λ (e : line.holder ≡ k.number). let none : line.waits line.holder ≡ 0 = ap line.waits e ∙ mine.1 in let no : ⊥ = omega arith in no)
-        (λ (e : IsLeft k line.holder ⊎ (is_joined line.holder k.joined ≡ true)). ⊎_elim
-        (λ (f : IsLeft k line.holder). let low' = f.0 in let up = f.1 in let next = (h.left (omega arith)).1 in let no : ⊥ = omega arith in no)
+        (λ (e : IsLeft (numbers_of k) line.holder ⊎ (is_joined line.holder k.joined ≡ true)). ⊎_elim
+        (λ (f : IsLeft (numbers_of k) line.holder). let low' = f.0 in let up = f.1 in let next = (h.left (omega arith)).1 in let no : ⊥ = omega arith in no)
         (λ (f : is_joined line.holder k.joined ≡ true). let none = joined_dont_wait line id k.number line.holder k.joined h.joined f in let no : ⊥ = omega arith in no)
         e)
-        (ways k line.holder (whole line.holder low (omega arith)))))
+        (ways (numbers_of k) line.holder (whole line.holder low (omega arith)))))
 
-    pub ends : (s : State (Option W) (View W)) (rule : IsInTurn book seats origin s) (id : ℕ) (view : View W) (k : Memory W) → view ≡ Idle k → get_elem? s.views id ≡ some view → IsWhole k
+    pub ends : (s : State (Option W) (View W)) (rule : IsInTurn book seats origin s) (id : ℕ) (view : View W) (k : Memory W) → view ≡ Idle k → get_elem? s.views id ≡ some view → IsWhole (numbers_of k)
         → (value : W) × (get_elem? s.homes 0 ≡ some (some (Some value))) × Agrees book k value
     ends s rule id view k is at whole =
         let at' : get_elem? s.views id ≡ some (Idle k) = at ∙ ap (λ (v : View W). some v) is in

@@ -11,8 +11,8 @@ use Rattle.nf_turn.specs.declared.view.Memory.{Memory}
 use Rattle.nf_turn.specs.declared.view.View.{View}
 use Rattle.nf_turn.specs.declared.view.View.TheVariants.{Spent, Idle}
 use Rattle.nf_turn.specs.Memory.{having_joined, longer}
-use Rattle.nf_turn.specs.Turns.{Line, IsOther, AreJoined, IsKnown, Knows, InOrder, IsInTurn}
-use Rattle.nf_turn.specs.Sound.{IsSound}
+use Rattle.nf_turn.specs.Turns.{Line, AreJoined, IsKnown, Knows, InOrder, IsInTurn}
+use Rattle.nf_turn.specs.Numbers.{IsOther, numbers_of, AreSound}
 use Rattle.nf_turn.specs.Steps.{Place, after_join}
 use Rattle.nf_turn.proofs.Numbers.{redirect, redirect_hit, redirect_miss}
 use Rattle.nf_turn.proofs.Sounding.{few_numbers}
@@ -140,8 +140,8 @@ pub both_known : {W : Type 0} (picks : W → W → W) (mine theirs after : Place
 both_known picks mine theirs after k q is is' step = step ∙ (λ i. (after_join picks ((is i).0) ((is' i).0), (is i).1))
 
 -- how many numbers it has is small
-pub both_are_few : {W : Type 0} (picks : W → W → W) (k q : Memory W) → IsSound (having_joined picks k q) → 1 + (k.left + q.left) + (length k.joined + (length q.joined + 1)) < 2 ^ 63
-both_are_few picks k q sound = let few = few_numbers (having_joined picks k q) sound in let small = sound.few in let e = length-append q.joined k.joined in omega arith
+pub both_are_few : {W : Type 0} (picks : W → W → W) (k q : Memory W) → AreSound (numbers_of (having_joined picks k q)) → 1 + (k.left + q.left) + (length k.joined + (length q.joined + 1)) < 2 ^ 63
+both_are_few picks k q sound = let few = few_numbers (numbers_of (having_joined picks k q)) sound in let small = sound.few in let e = length-append q.joined k.joined in omega arith
 
 pub both_joined_count : {W : Type 0} (picks : W → W → W) (k q : Memory W) → length (having_joined picks k q).joined ≡ length k.joined + (length q.joined + 1)
 both_joined_count picks k q = let e = length-append q.joined k.joined in let s : suc (length (q.joined ++ k.joined)) ≡ length k.joined + (length q.joined + 1) = omega arith in s

@@ -1,10 +1,9 @@
 -- The test whether a seat has a number left, as a fact.
 use Rattle.std.proofs.Common.{◌≡◌, ℕ, ◌+◌, ◌<◌, ◌≤◌, true, ◌&&◌, nat_le, nat_lt, arith}
 use Rattle.std.proofs.lemmas.Bool.Decides.{nat_tests}
-use Rattle.nf_turn.specs.declared.view.Memory.{Memory}
-use Rattle.nf_turn.specs.Memory.{is_left}
+use Rattle.nf_turn.specs.Numbers.{Numbers, is_left}
 
-module _ {W : Type 0} (k : Memory W) (n : ℕ) where
+module _ {W : Type 0} (k : Numbers W) (n : ℕ) where
   abbrev pub IsLeft : Type 0
   IsLeft = (k.next ≤ n) × (n < k.next + k.left)
 

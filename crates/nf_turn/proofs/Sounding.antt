@@ -9,9 +9,9 @@ use Rattle.atomic_table.specs.Table.{step, keeps, Allows}
 use Rattle.nf_turn.specs.Book.{Meanings}
 use Rattle.nf_turn.specs.declared.view.Memory.{Memory}
 use Rattle.nf_turn.specs.declared.view.View.TheVariants.{Idle}
-use Rattle.nf_turn.specs.Memory.{IsWhole, has_number, is_joined}
-use Rattle.nf_turn.specs.Sound.{AreApart, IsSound}
-use Rattle.nf_turn.specs.Turns.{total, Line, IsOther, AreJoined, IsKnown, InOrder, IsInTurn}
+use Rattle.nf_turn.specs.Numbers.{Numbers, numbers_of, IsWhole, has_number, is_joined}
+use Rattle.nf_turn.specs.Numbers.{IsOther, AreApart, AreSound}
+use Rattle.nf_turn.specs.Turns.{total, Line, AreJoined, IsKnown, InOrder, IsInTurn}
 use Rattle.nf_turn.specs.Steps.{Place, Counts}
 use Rattle.nf_turn.specs.Views.{memory_in}
 use Rattle.nf_turn.proofs.Numbers.{put, put_at, put_else, put_small, total_put, total_le, total_all, total_zero}
@@ -22,7 +22,7 @@ module _ {E O W : Type 0} (book : Meanings E O W) (seats : ℕ) (origin : W) whe
   apart line id n [] low h = tt
   apart line id n (seat ∷ others) low h = let below = h.2 in (h.0, h.1, omega arith, h.6, apart line id n others low h.7)
 
-  pub is_sound : (line : Line W) (id : ℕ) (k : Memory W) → InOrder book seats origin line → IsKnown book seats origin line id k → IsSound k
+  pub is_sound : (line : Line W) (id : ℕ) (k : Memory W) → InOrder book seats origin line → IsKnown book seats origin line id k → AreSound (numbers_of k)
   is_sound line id k order h = let few = order.few in let few₀ = few.0 in let few₁ = few.1 in let few₂ = few.2 in let all = h.all in let given = h.given in record {
     few = omega arith;
     top = line.fresh - 1;
@@ -38,7 +38,7 @@ module _ {E O W : Type 0} (book : Meanings E O W) (seats : ℕ) (origin : W) whe
         keeps,
         tt,
         reads book seats origin s rule 0 id (Idle k) at,
-        (refl, λ k' is. subst (λ (z : Memory W). IsSound z) (ap (λ (m : Place W). memory_in origin m) is) sound),
+        (refl, λ k' is. subst (λ (z : Memory W). AreSound (numbers_of z)) (ap (λ (m : Place W). memory_in origin m) is) sound),
       )
 
   -- an idle seat may be counted
@@ -85,14 +85,14 @@ module _ {W : Type 0} where
   own_unmarked n top (seat ∷ seats) h = put_else (marks seats) seat.0 1 n (λ e. h.0 (sym e)) ∙ own_unmarked n top seats h.4
 
   -- 1 at the seat's own number and at each that was joined into it
-  abbrev pub had : Memory W → ℕ → ℕ
+  abbrev pub had : Numbers W → ℕ → ℕ
   had k = put (marks k.joined) k.number 1
 
-  pub had_count : (k : Memory W) (sound : IsSound k) → total (had k) sound.top ≡ length k.joined + 1
+  pub had_count : (k : Numbers W) (sound : AreSound k) → total (had k) sound.top ≡ length k.joined + 1
   had_count k sound = let within = sound.within in
       let sum = total_put (marks k.joined) k.number 1 sound.top within.0 within.1 in let none = own_unmarked k.number sound.top k.joined sound.apart in let joined = joined_count k.number sound.top k.joined sound.apart in omega arith
 
-  pub few_numbers : (k : Memory W) → IsSound k → 1 + k.left + length k.joined ≤ k.seats
+  pub few_numbers : (k : Numbers W) → AreSound k → 1 + k.left + length k.joined ≤ k.seats
   few_numbers k sound =
       let count = had_count k sound in let most = total_le (had k) sound.top (put_small (marks k.joined) k.number 1 (omega arith) (marks_small k.joined)) in let top = sound.within.2 in
       dite (ℕ_discrete k.left 0) (λ none_left. omega arith) (λ some_left. let left = sound.left (omega arith) in let next = left.0 in let sum = left.1 in omega arith)

@@ -3,7 +3,7 @@ use Rattle.std.specs.Prelude.{◌≡◌, ◌⊎◌, ℕ, ◌<◌, nat_lt, if◌t
 use Rattle.std.specs.Option.{option_or}
 use Rattle.nf_turn.specs.Book.{Shelf, Meanings, entries_of, HasNothing}
 use Rattle.nf_turn.specs.declared.view.Memory.{Memory}
-use Rattle.nf_turn.specs.Memory.{is_left}
+use Rattle.nf_turn.specs.Numbers.{numbers_of, is_left}
 
 -- the bytes under the number m, where it is below the next one
 abbrev pub bytes_under : Option Shelf → ℕ → Option (List ℕ)
@@ -68,7 +68,7 @@ pub record Agrees {E O W : Type 0} (book : Meanings E O W) (k : Memory W) (value
   -- under each number that was joined into the seat stands what was kept with it
   pub joined : AllAreKept book value k.joined
   -- nothing stands under the numbers that the seat has left, nor outside 1 to the number of seats
-  pub left : (n : ℕ) → IsTrue (is_left k n) → HasNothing book n value
+  pub left : (n : ℕ) → IsTrue (is_left (numbers_of k) n) → HasNothing book n value
   pub outside : (n : ℕ) → (n ≡ 0) ⊎ (k.seats < n) → HasNothing book n value
   pub opening : book.opening value ≡ opening book k
   -- it tells a shelf exactly where the first value did; under each number that the seat saw it has the same bytes or none

@@ -1,5 +1,5 @@
 -- What the holder of a seat knows.
-use Rattle.std.specs.Prelude.{◌≡◌, ℕ, ◌+◌, ◌-◌, ◌<◌, ◌≤◌, ◌==◌, ◌||◌, ◌&&◌, nat_lt, nat_le, if◌then◌else◌, List, [], ◌∷◌, ◌++◌, length, Bool, false, IsTrue}
+use Rattle.std.specs.Prelude.{ℕ, ◌+◌, ◌-◌, ◌==◌, nat_lt, if◌then◌else◌, List, [], ◌∷◌, ◌++◌, length}
 use Rattle.nf_turn.specs.Book.{Meanings}
 use Rattle.nf_turn.specs.declared.view.Memory.{Memory}
 
@@ -26,23 +26,6 @@ module _ {W : Type 0} where
   -- after another seat was joined into it; `longer` picks one of two values
   abbrev pub having_joined : (W → W → W) → Memory W → Memory W → Memory W
   having_joined longer k other = record { seats = k.seats; number = k.number; next = if k.left == 0 then other.next else k.next; left = k.left + other.left; first = k.first; known = longer k.known other.known; last = k.last; passed = k.passed; told = k.told; joined = (other.number, other.last) ∷ (other.joined ++ k.joined) }
-
-  -- n is one of the numbers that the seat has left
-  abbrev pub is_left : Memory W → ℕ → Bool
-  is_left k n = nat_le k.next n && nat_lt n (k.next + k.left)
-
-  -- n was the number of a seat that was joined into this one, or into one that was
-  abbrev pub is_joined : ℕ → List (ℕ × W) → Bool
-  is_joined n [] = false
-  is_joined n (seat ∷ seats) = (seat.0 == n) || is_joined n seats
-
-  -- n is the seat's own number, is left with it, or was joined into it
-  abbrev pub has_number : Memory W → ℕ → Bool
-  has_number k n = (n == k.number) || (is_left k n || is_joined n k.joined)
-
-  -- no number of the lock is with another seat
-  abbrev pub IsWhole : Memory W → Type 0
-  IsWhole k = (n : ℕ) → 0 < n → n ≤ k.seats → IsTrue (has_number k n)
 
 -- of two values the one with more entries
 abbrev pub longer : {E O W : Type 0} → Meanings E O W → W → W → W

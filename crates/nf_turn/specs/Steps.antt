@@ -7,7 +7,7 @@ use Rattle.nf_turn.specs.declared.view.View.TheVariants.{Spent, Idle, Waiting, H
 use Rattle.nf_turn.specs.Book.{Meanings}
 use Rattle.nf_turn.specs.Memory.{having_passed, having_split, split_from, having_joined}
 use Rattle.nf_turn.specs.Agreeing.{Agrees}
-use Rattle.nf_turn.specs.Sound.{IsSound}
+use Rattle.nf_turn.specs.Numbers.{numbers_of, AreSound}
 
 abbrev pub Place : Type 0 → Type 0
 Place W = Me (Option W) (View W)
@@ -20,7 +20,7 @@ module _ {W : Type 0} where
   PassesOn step old found new = (k : Memory W) (taken value : W) → old ≡ (Holding taken k, (0, Some value) ∷ []) → new ≡ (Idle (having_passed value k), [])
 
   abbrev pub Counts : Step (Option W) → Place W → ℕ → Place W → Type 0
-  Counts step old found new = (new ≡ old) × ((k : Memory W) → old ≡ (Idle k, []) → IsSound k)
+  Counts step old found new = (new ≡ old) × ((k : Memory W) → old ≡ (Idle k, []) → AreSound (numbers_of k))
 
   abbrev pub after_split : View W → View W
   after_split (Idle k) = Idle (having_split k)

@@ -8,6 +8,7 @@ use Rattle.atomic_table.specs.Table.{State}
 use Rattle.nf_turn.specs.declared.view.Memory.{Memory}
 use Rattle.nf_turn.specs.declared.view.View.{View}
 use Rattle.nf_turn.specs.declared.view.View.TheVariants.{Spent, Idle, Waiting, Holding}
+use Rattle.nf_turn.specs.Numbers.{IsOther}
 use Rattle.nf_turn.specs.Book.{Meanings, IsFresh, Grows, GrowsWithout}
 
 -- f 1 + .. + f k
@@ -35,11 +36,6 @@ pub record Line (W : Type 0) : Type 0 where
 abbrev pub home_of : {W : Type 0} → ℕ → W → List (maybe.Option (Option W))
 home_of zero value = some (Some value) ∷ []
 home_of (suc n) value = none ∷ []
-
--- the number is none of these seats'
-abbrev pub IsOther : {W : Type 0} → ℕ → List (ℕ × W) → Type 0
-IsOther n [] = Unit {0}
-IsOther n (seat ∷ seats) = (n ≢ seat.0) × IsOther n seats
 
 module _ {E O W : Type 0} (book : Meanings E O W) where
   -- the value grew from each of these

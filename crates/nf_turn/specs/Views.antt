@@ -2,8 +2,16 @@
 use Rattle.std.specs.Prelude.{◌≡◌, ℕ, List, [], ◌∷◌, Option, None}
 use Rattle.nf_turn.specs.declared.view.Memory.{Memory}
 use Rattle.nf_turn.specs.declared.view.View.TheVariants.{Spent, Idle, Waiting, Holding}
+use Rattle.nf_turn.specs.Numbers.{Numbers, numbers_of}
 use Rattle.nf_turn.specs.Memory.{newcomer}
 use Rattle.nf_turn.specs.Steps.{Place}
+
+-- the numbers of the seat; a spent seat, which nobody has, has none
+abbrev pub numbers_in : {W : Type 0} → Place W → Numbers W
+numbers_in (Spent, slots) = record { seats = 0; number = 0; next = 0; left = 0; joined = [] }
+numbers_in (Idle k, slots) = numbers_of k
+numbers_in (Waiting turn k, slots) = numbers_of k
+numbers_in (Holding taken k, slots) = numbers_of k
 
 module _ {W : Type 0} (value : W) where
   -- what the holder knows; of a spent seat, which nobody has, it is made up from the value

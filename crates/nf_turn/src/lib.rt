@@ -6,6 +6,8 @@ mod book;
 mod lock;
 mod plays;
 mod seat;
+#[cfg(test)]
+mod tests;
 mod turns;
 mod view;
 

@@ -15,23 +15,23 @@ use std::sync::Wait;
 #[derive(Drop)]
 pub struct TurnLock<W: Book> {
     table: Table<Option<W>, View<W>, Start<W>, TurnRule, Global>,
-    start: Start<W>,
     ghost sized: { (table.shared.table_id.words ≡ 2) × (table.shared.table_id.slots ≡ 1) },
 }
 
 impl<W: Book> TurnLock<W> {
     ghost use Rattle.std.specs.Prelude.{◌+◌, ◌<◌, ◌^◌, ◌↔◌, IfOk, IfErr, IfSome, IfNone, IsNone};
     ghost use Rattle.nf_turn.specs.Book.{IsFresh, AddsAlone};
-    ghost use Rattle.nf_turn.specs.Memory.{of_the_first, having_passed, having_split, split_from, having_joined, longer, IsWhole};
+    ghost use Rattle.nf_turn.specs.Memory.{of_the_first, having_passed, having_split, split_from, having_joined, longer};
+    ghost use Rattle.nf_turn.specs.Numbers.{IsWhole};
     ghost use Rattle.nf_turn.specs.Agreeing.{Agrees};
-    ghost use Rattle.nf_turn.specs.Seats.{memory, taken, IsIdle, HasTurn, IsSeatOf};
+    ghost use Rattle.nf_turn.specs.Seats.{numbers, memory, taken, IsIdle, HasTurn, IsSeatOf};
 
     /// A lock with this many seats, from 1 to 64. The value comes back for want of memory.
     pub fn new(alloc: Global, value: W, seats: usize) -> Result<(TurnLock<W>, Seat<W>), W>
         requires seats { (0 < seats) × (seats ≤ 64) }
         requires fresh { IsFresh W.book value }
         // The first seat has number 1, and all others left to give.
-        ensures seat { IfOk result (λ made. IsSeatOf made.0 made.1 × IsIdle made.1 × (memory made.1 ≡ of_the_first seats value)) }
+        ensures seat { IfOk result (λ made. IsSeatOf made.0 made.1 × IsIdle made.0 made.1 × (memory made.0 made.1 ≡ of_the_first seats value)) }
         ensures err { IfErr result (λ same. same ≡ value) }
     {
         TurnLock::at_turn(alloc, value, seats, 0)
@@ -46,7 +46,7 @@ impl<W: Book> TurnLock<W> {
     ) -> Result<(TurnLock<W>, Seat<W>), W>
         requires seats { (0 < seats) × (seats ≤ 64) }
         requires fresh { IsFresh W.book value }
-        ensures seat { IfOk result (λ made. IsSeatOf made.0 made.1 × IsIdle made.1 × (memory made.1 ≡ of_the_first seats value)) }
+        ensures seat { IfOk result (λ made. IsSeatOf made.0 made.1 × IsIdle made.0 made.1 × (memory made.0 made.1 ≡ of_the_first seats value)) }
         ensures err { IfErr result (λ same. same ≡ value) }
     {
         let start = Start {
@@ -63,14 +63,13 @@ impl<W: Book> TurnLock<W> {
             Ok((table, place)) => {
                 let seat = Seat {
                     place,
-                    start: Snapshot::of(&start),
                     seats,
                     number: 1,
                     next: 2,
                     left: seats - 1,
                     joined: 0,
                 };
-                Ok((TurnLock { table, start }, seat))
+                Ok((TurnLock { table }, seat))
             }
             Err(Refused { mut slots }) => {
                 let value = slots.pop().unwrap().unwrap();
@@ -83,11 +82,12 @@ impl<W: Book> TurnLock<W> {
     /// Waits for the seat's turn.
     pub fn take<R: Wait>(&self, rt: &R, seat: &mut Seat<W>) -> W
         requires own { IsSeatOf self.now seat.old }
-        requires idle { IsIdle seat.old }
+        requires idle { IsIdle self.now seat.old }
         ensures own { IsSeatOf self.now seat.new }
-        ensures turn { HasTurn seat.new × (taken seat.new ≡ result) }
-        ensures memory { memory seat.new ≡ memory seat.old }
-        ensures value { Agrees W.book (memory seat.old) result }
+        ensures turn { HasTurn self.now seat.new × (taken self.now seat.new ≡ result) }
+        ensures memory { memory self.now seat.new ≡ memory self.now seat.old }
+        ensures numbers { numbers seat.new ≡ numbers seat.old }
+        ensures value { Agrees W.book (memory self.now seat.old) result }
     {
         wait_for_turn(rt, &self.table.shared, &mut seat.place)
     }
@@ -95,11 +95,12 @@ impl<W: Book> TurnLock<W> {
     /// Puts the value back, and passes the turn on. It waits for nobody.
     pub fn give(&self, seat: &mut Seat<W>, value: W)
         requires own { IsSeatOf self.now seat.old }
-        requires turn { HasTurn seat.old }
-        requires value { AddsAlone W.book (memory seat.old).number (taken seat.old) value }
+        requires turn { HasTurn self.now seat.old }
+        requires value { AddsAlone W.book (numbers seat.old).number (taken self.now seat.old) value }
         ensures own { IsSeatOf self.now seat.new }
-        ensures idle { IsIdle seat.new }
-        ensures memory { memory seat.new ≡ having_passed value (memory seat.old) }
+        ensures idle { IsIdle self.now seat.new }
+        ensures memory { memory self.now seat.new ≡ having_passed value (memory self.now seat.old) }
+        ensures numbers { numbers seat.new ≡ numbers seat.old }
     {
         pass_on(&self.table.shared, &mut seat.place, value)
     }
@@ -107,11 +108,11 @@ impl<W: Book> TurnLock<W> {
     /// Splits off a seat with the first number that is left.
     pub fn split(&self, seat: &mut Seat<W>) -> Option<Seat<W>>
         requires own { IsSeatOf self.now seat.old }
-        requires idle { IsIdle seat.old }
-        ensures own { IsSeatOf self.now seat.new × IsIdle seat.new }
-        ensures none { IsNone result ↔ ((memory seat.old).left ≡ 0) }
+        requires idle { IsIdle self.now seat.old }
+        ensures own { IsSeatOf self.now seat.new × IsIdle self.now seat.new }
+        ensures none { IsNone result ↔ ((numbers seat.old).left ≡ 0) }
         ensures unchanged { IfNone result (seat.new ≡ seat.old) }
-        ensures some { IfSome result (λ new. IsSeatOf self.now new × IsIdle new × (memory new ≡ split_from (memory seat.old)) × (memory seat.new ≡ having_split (memory seat.old))) }
+        ensures some { IfSome result (λ new. IsSeatOf self.now new × IsIdle self.now new × (memory self.now new ≡ split_from (memory self.now seat.old)) × (memory self.now seat.new ≡ having_split (memory self.now seat.old))) }
     {
         if seat.left == 0 {
             return None;
@@ -121,10 +122,10 @@ impl<W: Book> TurnLock<W> {
 
     fn split_off(&self, seat: &mut Seat<W>) -> Seat<W>
         requires own { IsSeatOf self.now seat.old }
-        requires idle { IsIdle seat.old }
-        requires left { 0 < (memory seat.old).left }
-        ensures own { IsSeatOf self.now seat.new × IsIdle seat.new × (memory seat.new ≡ having_split (memory seat.old)) }
-        ensures new { IsSeatOf self.now result × IsIdle result × (memory result ≡ split_from (memory seat.old)) }
+        requires idle { IsIdle self.now seat.old }
+        requires left { 0 < (numbers seat.old).left }
+        ensures own { IsSeatOf self.now seat.new × IsIdle self.now seat.new × (memory self.now seat.new ≡ having_split (memory self.now seat.old)) }
+        ensures new { IsSeatOf self.now result × IsIdle self.now result × (memory self.now result ≡ split_from (memory self.now seat.old)) }
     {
         let place = self.table.shared.split_seat::<SplitOff>(&mut seat.place);
         let number = seat.next;
@@ -132,7 +133,6 @@ impl<W: Book> TurnLock<W> {
         seat.left -= 1;
         Seat {
             place,
-            start: Snapshot::of(&self.start),
             seats: seat.seats,
             number,
             next: 0,
@@ -144,13 +144,12 @@ impl<W: Book> TurnLock<W> {
     /// Takes another seat in, with the numbers that it has left.
     pub fn join(&self, seat: &mut Seat<W>, other: Seat<W>)
         requires own { IsSeatOf self.now seat.old × IsSeatOf self.now other }
-        requires idle { IsIdle seat.old × IsIdle other }
-        ensures own { IsSeatOf self.now seat.new × IsIdle seat.new }
-        ensures memory { memory seat.new ≡ having_joined (longer W.book) (memory seat.old) (memory other) }
+        requires idle { IsIdle self.now seat.old × IsIdle self.now other }
+        ensures own { IsSeatOf self.now seat.new × IsIdle self.now seat.new }
+        ensures memory { memory self.now seat.new ≡ having_joined (longer W.book) (memory self.now seat.old) (memory self.now other) }
     {
         let Seat {
             place,
-            start: _,
             seats: _,
             number: _,
             next,
@@ -169,15 +168,14 @@ impl<W: Book> TurnLock<W> {
     /// Ends the lock, and gives its value.
     pub fn close(self, seat: Seat<W>) -> W
         requires own { IsSeatOf self seat }
-        requires idle { IsIdle seat }
+        requires idle { IsIdle self seat }
         // No other seat is out.
-        requires whole { IsWhole (memory seat) }
-        ensures value { Agrees W.book (memory seat) result }
+        requires whole { IsWhole (numbers seat) }
+        ensures value { Agrees W.book (memory self seat) result }
     {
-        let TurnLock { table, start: _ } = self;
+        let TurnLock { table } = self;
         let Seat {
             place,
-            start: _,
             seats: _,
             number: _,
             next: _,

@@ -3,7 +3,7 @@ ghost use Rattle.std.specs.Prelude.{◌≡◌, [], ◌∷◌, None};
 ghost use Rattle.nf_turn.specs.Book.{AddsAlone};
 ghost use Rattle.nf_turn.specs.Memory.{having_passed};
 ghost use Rattle.nf_turn.specs.Agreeing.{Agrees};
-ghost use Rattle.nf_turn.specs.Views.{memory_in, taken_in, Rests, Holds};
+ghost use Rattle.nf_turn.specs.Views.{numbers_in, memory_in, taken_in, Rests, Holds};
 ghost use Rattle.nf_turn.specs.declared.view.View.TheVariants.{Idle, Holding};
 
 use crate::book::Book;
@@ -52,7 +52,7 @@ pub(crate) fn wait_for_turn<W: Book, R: Wait>(
 pub(crate) fn pass_on<W: Book>(counter: &Counter<W>, place: &mut Place<W>, value: W)
     requires own { (place.old.table_id ≡ counter.now.table_id) × (counter.now.table_id.words ≡ 2) × (counter.now.table_id.slots ≡ 1) }
     requires turn { Holds counter.now.key.first.value place.old.me }
-    requires value { AddsAlone W.book (memory_in counter.now.key.first.value place.old.me).number (taken_in counter.now.key.first.value place.old.me) value }
+    requires value { AddsAlone W.book (numbers_in place.old.me).number (taken_in counter.now.key.first.value place.old.me) value }
     ensures place { (place.new.table_id ≡ place.old.table_id) × (place.new.id ≡ place.old.id) }
     ensures idle { place.new.me ≡ (Idle (having_passed value (memory_in counter.now.key.first.value place.old.me)), []) }
 {
