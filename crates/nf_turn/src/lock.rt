@@ -38,7 +38,7 @@ impl<W: Book> TurnLock<W> {
     }
 
     // A lock whose first turn has this number.
-    fn at_turn(
+    pub(crate) fn at_turn(
         alloc: Global,
         value: W,
         seats: usize,
