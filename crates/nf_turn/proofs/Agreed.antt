@@ -1,5 +1,5 @@
 -- What the rule says of a seat, in the words of `Agrees`.
-use Rattle.std.proofs.Common.{◌≡◌, ◌⊎◌, ⊎_elim, inl, inr, ℕ, ◌+◌, ◌<◌, ◌≤◌, List, [], ◌∷◌, ◌++◌, Option, refl, sym, ap, ◌∙◌, subst, arith}
+use Rattle.std.proofs.Common.{◌≡◌, ⊎_elim, inl, inr, ℕ, ◌<◌, List, [], ◌∷◌, ◌++◌, refl, sym, ap, ◌∙◌, arith}
 use Rattle.nf_turn.specs.Book.{Meanings, entries_of, HasNothing, IsFresh, GrowsWithout}
 use Rattle.nf_turn.specs.declared.view.Memory.{Memory}
 use Rattle.nf_turn.specs.Numbers.{numbers_of}

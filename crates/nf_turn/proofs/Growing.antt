@@ -1,5 +1,5 @@
 -- How a value grows over several turns.
-use Rattle.std.proofs.Common.{◌≡◌, ◌≢◌, ◌⊎◌, ⊎_elim, inl, inr, ℕ, ◌<◌, ◌≤◌, ◌==◌, cond, false, arith, List, [], ◌∷◌, ◌++◌, All, filter, Option, Some, None, refl, sym, ap, ◌∙◌, subst, append-nil, append_assoc, ne_eqb}
+use Rattle.std.proofs.Common.{◌≡◌, ◌≢◌, ⊎_elim, inl, inr, ℕ, ◌==◌, cond, false, arith, List, [], ◌∷◌, ◌++◌, All, Option, Some, None, refl, sym, ap, ◌∙◌, append-nil, append_assoc, ne_eqb}
 use Rattle.std.proofs.lemmas.List.Elements.{filter-append, All-head, All-tail}
 use Rattle.nf_turn.specs.Book.{Shelf, Meanings, KeepsShelf, Keeps, entries_of, AddsAlone, Grows, GrowsWithout}
 

@@ -1,17 +1,17 @@
 -- Joining a seat into another.
-use Rattle.std.proofs.Common.{◌≡◌, ◌≢◌, ◌⊎◌, ⊎_elim, ℕ, suc, ◌+◌, ◌^◌, ◌<◌, ◌≤◌, Bool, true, false, inl, inr, length, cond, ltb, eqb, eq-eqb, ne_eqb, List, [], ◌∷◌, ◌++◌, append-nil, length-append, set, Option, refl, sym, ap, ◌∙◌, subst, arith}
+use Rattle.std.proofs.Common.{◌≡◌, ◌≢◌, ◌⊎◌, ⊎_elim, ℕ, suc, ◌+◌, ◌^◌, ◌<◌, Bool, true, false, inl, inr, length, cond, ltb, eqb, eq-eqb, ne_eqb, List, [], ◌∷◌, ◌++◌, append-nil, length-append, set, refl, sym, ap, ◌∙◌, subst, arith}
 use mathlib.Core.Logic.{dite}
 use mathlib.Core.Option.{some}
 use native.Mathlib.Decide.{ℕ_discrete}
 use lib.ListN.{get_elem?}
-use Rattle.atomic_table.specs.Table.{State, Joins}
+use Rattle.atomic_table.specs.Table.{Joins}
 use Rattle.atomic_table.proofs.Lists.{at_set}
 use Rattle.nf_turn.specs.Book.{Meanings, Grows}
 use Rattle.nf_turn.specs.declared.view.Memory.{Memory}
 use Rattle.nf_turn.specs.declared.view.View.{View}
 use Rattle.nf_turn.specs.declared.view.View.TheVariants.{Spent, Idle}
 use Rattle.nf_turn.specs.Memory.{having_joined, longer}
-use Rattle.nf_turn.specs.Turns.{Line, AreJoined, IsKnown, Knows, InOrder, IsInTurn}
+use Rattle.nf_turn.specs.Turns.{Line, AreJoined, IsKnown, Knows, IsInTurn}
 use Rattle.nf_turn.specs.Numbers.{IsOther, numbers_of, AreSound}
 use Rattle.nf_turn.specs.Steps.{Place, after_join}
 use Rattle.nf_turn.proofs.Numbers.{redirect, redirect_hit, redirect_miss}

@@ -1,5 +1,5 @@
 -- Looking at the number that is served.
-use Rattle.std.proofs.Common.{◌≡◌, ◌≢◌, ℕ, zero, suc, ◌+◌, ◌%◌, ◌^◌, ◌<◌, ◌≤◌, List, [], ◌∷◌, set, get_or, Option, Some, refl, sym, ap, ◌∙◌, subst, arith}
+use Rattle.std.proofs.Common.{◌≡◌, ◌≢◌, ℕ, zero, suc, ◌%◌, ◌^◌, ◌<◌, [], ◌∷◌, set, get_or, Option, Some, refl, sym, ap, ◌∙◌, subst, arith}
 use mathlib.Core.Logic.{dite}
 use mathlib.Core.Option.{none, some}
 use native.Mathlib.Decide.{ℕ_discrete}
@@ -9,7 +9,7 @@ use Rattle.atomic_table.specs.Table.{State, step, keeps, takes, Allows}
 use Rattle.nf_turn.specs.Book.{Meanings}
 use Rattle.nf_turn.specs.declared.view.Memory.{Memory}
 use Rattle.nf_turn.specs.declared.view.View.{View}
-use Rattle.nf_turn.specs.declared.view.View.TheVariants.{Idle, Waiting, Holding}
+use Rattle.nf_turn.specs.declared.view.View.TheVariants.{Waiting, Holding}
 use Rattle.nf_turn.specs.Agreeing.{Agrees}
 use Rattle.nf_turn.specs.Turns.{home_of, Line, InOrder, IsInTurn}
 use Rattle.nf_turn.specs.Steps.{Place, Looks}

@@ -1,8 +1,6 @@
 -- Passing the turn on.
-use Rattle.std.proofs.Common.{◌≡◌, ◌≢◌, ◌⊎◌, ⊎_elim, ℕ, zero, suc, ◌+◌, ◌%◌, ◌^◌, ◌<◌, ◌≤◌, List, [], ◌∷◌, set, get_or, Option, Some, None, refl, sym, ap, ◌∙◌, subst, arith}
-use mathlib.Core.Logic.{dite}
+use Rattle.std.proofs.Common.{◌≡◌, ◌≢◌, ⊎_elim, ℕ, zero, suc, ◌+◌, ◌%◌, ◌^◌, ◌<◌, ◌≤◌, [], ◌∷◌, set, get_or, Some, None, refl, sym, ap, ◌∙◌, subst, arith}
 use mathlib.Core.Option.{none, some}
-use native.Mathlib.Decide.{ℕ_discrete}
 use Rattle.atomic_table.specs.Table.{step, gives, Allows}
 use Rattle.nf_turn.specs.Book.{Meanings, AddsAlone, Grows}
 use Rattle.nf_turn.specs.declared.view.Memory.{Memory}

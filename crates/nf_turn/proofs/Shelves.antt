@@ -1,10 +1,10 @@
 -- The shelf that a seat saw, against that of a value that grew since.
-use Rattle.std.proofs.Common.{◌≡◌, ◌⊎◌, ⊎_elim, inl, inr, ℕ, ◌<◌, Bool, true, false, true≢false, cond, ltb, List, [], ◌∷◌, ◌++◌, ◌≤◌, Option, Some, None, refl, sym, ap, ◌∙◌, subst}
+use Rattle.std.proofs.Common.{◌≡◌, ◌⊎◌, ⊎_elim, inl, inr, ℕ, ◌<◌, cond, List, [], ◌∷◌, ◌++◌, ◌≤◌, Option, Some, None, refl, sym, ap, ◌∙◌}
 use Rattle.std.specs.Option.{option_or}
 use Rattle.std.specs.Prelude.{is_some}
 use Rattle.std.proofs.lemmas.Bool.{cases_lt, lt-ltb, le-ltb}
 use Rattle.std.proofs.Common.{arith}
-use Rattle.nf_turn.specs.Book.{Shelf, Meanings, KeepsShelf, Grows}
+use Rattle.nf_turn.specs.Book.{Shelf, Meanings, KeepsShelf}
 use Rattle.nf_turn.specs.Turns.{GrewFrom}
 use Rattle.nf_turn.specs.Agreeing.{bytes_under, Lacks, HasOrLacks, last_bytes, OneLacks}
 

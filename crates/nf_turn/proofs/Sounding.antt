@@ -1,20 +1,18 @@
 -- The numbers of a seat are distinct, and how many there are tells whether they are all.
-use Rattle.std.proofs.Common.{◌≡◌, ◌≢◌, ◌⊎◌, ⊎_elim, inl, inr, ℕ, suc, ◌+◌, ◌-◌, ◌^◌, ◌<◌, ◌≤◌, Bool, true, false, true≢false, ◌||◌, ◌&&◌, ◌==◌, eq-eqb, ne_eqb, nat_le, nat_lt, List, [], ◌∷◌, length, refl, sym, ap, ◌∙◌, subst, arith}
+use Rattle.std.proofs.Common.{◌≡◌, ℕ, ◌+◌, ◌-◌, ◌<◌, ◌≤◌, true, false, true≢false, ◌||◌, eq-eqb, ne_eqb, List, [], ◌∷◌, length, refl, sym, ap, ◌∙◌, subst, arith}
 use mathlib.Core.Logic.{dite}
 use mathlib.Core.Option.{none}
 use native.Mathlib.Decide.{ℕ_discrete}
-use Rattle.std.proofs.lemmas.Bool.{eqb-true}
-use Rattle.std.proofs.lemmas.Bool.Decides.{nat_tests}
 use Rattle.atomic_table.specs.Table.{step, keeps, Allows}
 use Rattle.nf_turn.specs.Book.{Meanings}
 use Rattle.nf_turn.specs.declared.view.Memory.{Memory}
 use Rattle.nf_turn.specs.declared.view.View.TheVariants.{Idle}
-use Rattle.nf_turn.specs.Numbers.{Numbers, numbers_of, IsWhole, has_number, is_joined}
+use Rattle.nf_turn.specs.Numbers.{Numbers, numbers_of, is_joined}
 use Rattle.nf_turn.specs.Numbers.{IsOther, AreApart, AreSound}
 use Rattle.nf_turn.specs.Turns.{total, Line, AreJoined, IsKnown, InOrder, IsInTurn}
 use Rattle.nf_turn.specs.Steps.{Place, Counts}
 use Rattle.nf_turn.specs.Views.{memory_in}
-use Rattle.nf_turn.proofs.Numbers.{put, put_at, put_else, put_small, total_put, total_le, total_all, total_zero}
+use Rattle.nf_turn.proofs.Numbers.{put, put_at, put_else, put_small, total_put, total_le, total_zero}
 use Rattle.nf_turn.proofs.Staying.{reads}
 
 module _ {E O W : Type 0} (book : Meanings E O W) (seats : ℕ) (origin : W) where

@@ -1,5 +1,5 @@
 -- Whether a seat has all numbers.
-use Rattle.std.proofs.Common.{◌≡◌, ◌≢◌, ◌⊎◌, ⊎_elim, inl, inr, ℕ, suc, ◌+◌, ◌-◌, ◌^◌, ◌<◌, ◌≤◌, Bool, true, false, true≢false, ◌||◌, ◌&&◌, ◌↔◌, ◌==◌, eq-eqb, nat_le, nat_lt, List, [], ◌∷◌, length, refl, sym, ap, ◌∙◌, subst, arith}
+use Rattle.std.proofs.Common.{◌≡◌, ◌⊎◌, ⊎_elim, inl, inr, ℕ, ◌+◌, ◌-◌, ◌<◌, ◌≤◌, Bool, true, false, true≢false, ◌||◌, ◌↔◌, ◌==◌, eq-eqb, List, [], ◌∷◌, length, refl, sym, ◌∙◌, arith}
 use mathlib.Core.Logic.{dite}
 use Rattle.std.proofs.Math.Logic.{∥∥₁_elim}
 use mathlib.Core.Bool.{Bool-set}
@@ -10,7 +10,7 @@ use Rattle.nf_turn.specs.Numbers.{Numbers, IsWhole, is_left, has_number, is_join
 use Rattle.nf_turn.proofs.Left.{IsLeft, left_test, left_tests}
 use Rattle.nf_turn.specs.Numbers.{AreApart, AreSound}
 use Rattle.nf_turn.specs.Turns.{total}
-use Rattle.nf_turn.proofs.Numbers.{put, put_at, put_here, put_else, put_small, total_put, total_le, total_all}
+use Rattle.nf_turn.proofs.Numbers.{put, put_at, put_else, put_small, total_put, total_le, total_all}
 use Rattle.nf_turn.proofs.Sounding.{marks, marks_small, marked, not_marked, had, had_count}
 
 pub one_of : (a b : Bool) → (a || b) ≡ true → (a ≡ true) ⊎ (b ≡ true)

@@ -1,5 +1,5 @@
 -- What the seat of the table shows.
-use Rattle.std.specs.Prelude.{◌≡◌, ℕ, List, [], ◌∷◌, Option, None}
+use Rattle.std.specs.Prelude.{◌≡◌, [], ◌∷◌, None}
 use Rattle.nf_turn.specs.declared.view.Memory.{Memory}
 use Rattle.nf_turn.specs.declared.view.View.TheVariants.{Spent, Idle, Waiting, Holding}
 use Rattle.nf_turn.specs.Numbers.{Numbers, numbers_of}

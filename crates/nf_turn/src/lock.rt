@@ -156,10 +156,9 @@ impl<W: Book> TurnLock<W> {
             left,
             joined,
         } = other;
-        self.table
-            .shared
-            .join_seat::<JoinIn>(&mut seat.place, place);
-        self.table.shared.load::<Count>(&mut seat.place, DRAWN);
+        let shared = &self.table.shared;
+        shared.join_seat::<JoinIn>(&mut seat.place, place);
+        shared.load::<Count>(&mut seat.place, DRAWN);
         seat.next = next_of(seat.left, seat.next, next);
         seat.left += left;
         seat.joined += joined + 1;

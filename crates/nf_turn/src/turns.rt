@@ -11,6 +11,7 @@ use crate::plays::{Draw, Look, PassOn};
 use crate::seat::Place;
 use crate::view::{Start, TurnRule, View};
 use atomic_table::Shared;
+use std::hint;
 use std::sync::Wait;
 
 /// The word with the turn number that is drawn next.
@@ -21,6 +22,9 @@ const SERVED: usize = 1;
 
 /// The one slot, which has the value.
 const VALUE: usize = 0;
+
+/// How often a thread looks whether the turn is passed on, before it sleeps.
+const LOOKS: u32 = 100;
 
 /// What the threads share.
 pub(crate) type Counter<W> = Shared<Option<W>, View<W>, Start<W>, TurnRule>;
@@ -43,9 +47,22 @@ pub(crate) fn wait_for_turn<W: Book, R: Wait>(
         if served == mine {
             return counter.exchange(place, VALUE, None).unwrap();
         }
-        counter.park(rt, SERVED, (served & 0xffff_ffff) as u32);
+        sleep(rt, counter, served);
     }
     unreachable!()
+}
+
+/// Looks for a short while whether the turn is passed on, and then sleeps until it is.
+fn sleep<W: Book, R: Wait>(rt: &R, counter: &Counter<W>, served: u64)
+    requires sized { counter.now.table_id.words ≡ 2 }
+{
+    for _ in 0..LOOKS {
+        if counter.peek(SERVED) != served {
+            return;
+        }
+        hint::spin_loop();
+    }
+    counter.park(rt, SERVED, (served & 0xffff_ffff) as u32);
 }
 
 /// Puts the value back, and lets the next turn number be served.

@@ -1,7 +1,6 @@
-use Rattle.std.proofs.Common.{rules, ◌≡◌, ℕ, [], ◌∷◌, None, Some, refl, sym, ap, ◌∙◌, subst}
+use Rattle.std.proofs.Common.{rules, ℕ, ◌∷◌, Some, sym, ap, ◌∙◌, subst}
 use Rattle.atomic_table.specs.Table.{rest}
 use Rattle.nf_turn.specs.Views.{memory_in, taken_in}
-use Rattle.nf_turn.specs.declared.view.View.TheVariants.{Holding}
 use Rattle.nf_turn.specs.Book.{AddsAlone}
 use Rattle.nf_turn.proofs.Poses.{numbers_known}
 use Rattle.nf_turn.proofs.Passing.{may_pass}

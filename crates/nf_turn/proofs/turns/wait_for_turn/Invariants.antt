@@ -1,4 +1,4 @@
-use Rattle.std.proofs.Common.{◌≡◌, [], ◌∷◌}
+use Rattle.std.proofs.Common.{◌≡◌, []}
 use Rattle.nf_turn.specs.Views.{memory_in}
 use Rattle.nf_turn.specs.declared.view.View.TheVariants.{Waiting}
 use Rattle.nf_turn.proofs.turns.wait_for_turn.Given as goal

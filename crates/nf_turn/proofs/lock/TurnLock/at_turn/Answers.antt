@@ -1,4 +1,4 @@
-use Rattle.std.proofs.Common.{rules, arith, ◌≡◌, List, [], ◌∷◌, Option, Some, sym, subst}
+use Rattle.std.proofs.Common.{rules, arith, ◌≡◌, [], ◌∷◌, Some, sym, subst}
 use Rattle.std.proofs.lemmas.Grind.{common_steps}
 use Rattle.atomic_table.specs.Table.{opening}
 use Rattle.nf_turn.specs.Book.{IsFresh}

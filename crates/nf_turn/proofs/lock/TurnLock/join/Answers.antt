@@ -1,4 +1,4 @@
-use Rattle.std.proofs.Common.{rules, ◌≡◌, ◌+◌, ◌<◌, ◌==◌, if◌then◌else◌, [], length, sym, ap, ◌∙◌, subst, arith}
+use Rattle.std.proofs.Common.{rules, ◌≡◌, ◌+◌, ◌==◌, if◌then◌else◌, length, sym, ap, ◌∙◌, subst, arith}
 use Rattle.nf_turn.specs.Memory.{having_joined, longer}
 use Rattle.nf_turn.specs.Numbers.{Numbers, numbers_of, AreSound}
 use Rattle.nf_turn.specs.Seats.{memory}
