@@ -15,7 +15,7 @@ use Rattle.nf_turn.proofs.Staying.{LeavesAlone, LeavesJoined, joined_stay, steps
 
 module _ {E O W : Type 0} (book : Meanings E O W) (seats : ℕ) (origin : W) where
   abbrev drawing : Line W → ℕ → Line W
-  drawing line n = record { drawn = line.drawn + 1; passed_on = line.passed_on; waits = put line.waits n 1; turn = put line.turn n line.drawn; place = line.place; fresh = line.fresh; giver = line.giver; holder = line.holder; value = line.value }
+  drawing line n = record line { drawn = line.drawn + 1; waits = put line.waits n 1; turn = put line.turn n line.drawn }
 
   leaves_others : (line : Line W) (id n : ℕ) → line.place n ≡ id → (j : ℕ) → j ≢ id → LeavesAlone book line (drawing line n) j
   leaves_others line id n its j other = record {

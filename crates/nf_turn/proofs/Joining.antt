@@ -42,7 +42,7 @@ module _ {E O W : Type 0} (book : Meanings E O W) where
 
   -- the table's seat `other` is joined into `id`
   abbrev joining : Line W → ℕ → ℕ → Line W
-  joining line id other = record { drawn = line.drawn; passed_on = line.passed_on; waits = line.waits; turn = line.turn; place = redirect line.place other id; fresh = line.fresh; giver = redirect (λ z. z) other id line.giver; holder = line.holder; value = line.value }
+  joining line id other = record line { place = redirect line.place other id; giver = redirect (λ z. z) other id line.giver }
 
   leaves_others : (line : Line W) (id other : ℕ) → (j : ℕ) → j ≢ id → j ≢ other → LeavesAlone book line (joining line id other) j
   leaves_others line id other j apart apart' = record {

@@ -24,7 +24,7 @@ turn_in (view, slots) = 0
 
 module _ {E O W : Type 0} (book : Meanings E O W) (seats : ℕ) (origin : W) where
   abbrev holding : Line W → ℕ → Line W
-  holding line n = record { drawn = line.drawn; passed_on = line.passed_on; waits = line.waits; turn = line.turn; place = line.place; fresh = line.fresh; giver = line.giver; holder = n; value = line.value }
+  holding line n = record line { holder = n }
 
   leaves_others : (line : Line W) (id n : ℕ) → line.place n ≡ id → line.holder ≡ 0 → (j : ℕ) → j ≢ id → LeavesAlone book line (holding line n) j
   leaves_others line id n its none_holds j other = record {

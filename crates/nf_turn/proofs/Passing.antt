@@ -20,7 +20,7 @@ value_out value (view, (slot, Some out) ∷ slots) = out
 
 module _ {E O W : Type 0} (book : Meanings E O W) (seats : ℕ) (origin : W) where
   abbrev passing : Line W → ℕ → W → Line W
-  passing line n value = record { drawn = line.drawn; passed_on = line.passed_on + 1; waits = put line.waits n 0; turn = line.turn; place = line.place; fresh = line.fresh; giver = line.giver; holder = 0; value = value }
+  passing line n value = record line { passed_on = line.passed_on + 1; waits = put line.waits n 0; holder = 0; value = value }
 
   leaves_others : (line : Line W) (id n : ℕ) (value : W) → line.place n ≡ id → line.holder ≡ n → AddsAlone book n line.value value → (j : ℕ) → j ≢ id → LeavesAlone book line (passing line n value) j
   leaves_others line id n value its holds added j other = record {

@@ -25,7 +25,7 @@ at_end {V} (x ∷ xs) a b (suc j) e = ⊎_elim (λ (h : get_elem? xs j ≡ some 
 module _ {E O W : Type 0} (book : Meanings E O W) (seats : ℕ) (origin : W) where
   -- the table's seat `added` gets the first number that was left
   abbrev splitting : Line W → ℕ → Line W
-  splitting line added = record { drawn = line.drawn; passed_on = line.passed_on; waits = line.waits; turn = line.turn; place = put line.place line.fresh added; fresh = line.fresh + 1; giver = line.giver; holder = line.holder; value = line.value }
+  splitting line added = record line { place = put line.place line.fresh added; fresh = line.fresh + 1 }
 
   leaves_others : (line : Line W) (id added : ℕ) → line.giver ≡ id → (j : ℕ) → j ≢ id → LeavesAlone book line (splitting line added) j
   leaves_others line id added giver j other = record {

@@ -112,7 +112,8 @@ impl<W: Book> TurnLock<W> {
         ensures own { IsSeatOf self.now seat.new × IsIdle self.now seat.new }
         ensures none { IsNone result ↔ ((numbers seat.old).left ≡ 0) }
         ensures unchanged { IfNone result (seat.new ≡ seat.old) }
-        ensures some { IfSome result (λ new. IsSeatOf self.now new × IsIdle self.now new × (memory self.now new ≡ split_from (memory self.now seat.old)) × (memory self.now seat.new ≡ having_split (memory self.now seat.old))) }
+        ensures new { IfSome result (λ new. IsSeatOf self.now new × IsIdle self.now new × (memory self.now new ≡ split_from (memory self.now seat.old))) }
+        ensures kept { IfSome result (λ _. memory self.now seat.new ≡ having_split (memory self.now seat.old)) }
     {
         if seat.left == 0 {
             return None;

@@ -22,7 +22,7 @@ pub struct Seat<W> {
     ghost next_is: { next ≡ (numbers_in place.me).next },
     ghost left_is: { left ≡ (numbers_in place.me).left },
     ghost joined_is: { joined ≡ length (numbers_in place.me).joined },
-    ghost sound: { ∥ AreSound (numbers_in place.me) ∥₁ },
+    pub ghost sound: { ∥ AreSound (numbers_in place.me) ∥₁ },
 }
 
 impl<W> Seat<W> {
