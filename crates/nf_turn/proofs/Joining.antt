@@ -1,0 +1,147 @@
+-- Joining a seat into another.
+use Rattle.std.proofs.Common.{◌≡◌, ◌≢◌, ◌⊎◌, ⊎_elim, ℕ, suc, ◌+◌, ◌^◌, ◌<◌, Bool, true, false, inl, inr, length, cond, ltb, eqb, eq-eqb, ne_eqb, List, [], ◌∷◌, ◌++◌, append-nil, length-append, set, refl, sym, ap, ◌∙◌, subst, arith}
+use mathlib.Core.Logic.{dite}
+use mathlib.Core.Option.{some}
+use native.Mathlib.Decide.{ℕ_discrete}
+use lib.ListN.{get_elem?}
+use Rattle.atomic_table.specs.Table.{Joins}
+use Rattle.atomic_table.proofs.Lists.{at_set}
+use Rattle.nf_turn.specs.Book.{Meanings, Grows}
+use Rattle.nf_turn.specs.declared.view.Memory.{Memory}
+use Rattle.nf_turn.specs.declared.view.View.{View}
+use Rattle.nf_turn.specs.declared.view.View.TheVariants.{Spent, Idle}
+use Rattle.nf_turn.specs.Memory.{having_joined, longer}
+use Rattle.nf_turn.specs.Turns.{Line, AreJoined, IsKnown, Knows, IsInTurn}
+use Rattle.nf_turn.specs.Numbers.{IsOther, numbers_of, AreSound}
+use Rattle.nf_turn.specs.Steps.{Place, after_join}
+use Rattle.nf_turn.proofs.Numbers.{redirect, redirect_hit, redirect_miss}
+use Rattle.nf_turn.proofs.Sounding.{few_numbers}
+use Rattle.nf_turn.proofs.Staying.{LeavesAlone, views_stay, others_stay}
+
+IsOther-append : {W : Type 0} (n : ℕ) (seats more : List (ℕ × W)) → IsOther n seats → IsOther n more → IsOther n (seats ++ more)
+IsOther-append n [] more h h' = h'
+IsOther-append {W} n (seat ∷ seats) more h h' = (h.0, IsOther-append n seats more h.1 h')
+
+one_of : {W : Type 0} (t : Bool) (a b : W) → (cond t b a ≡ a) ⊎ (cond t b a ≡ b)
+one_of true a b = inr refl
+one_of false a b = inl refl
+
+module _ {E O W : Type 0} (book : Meanings E O W) where
+  longer_picks : (a b : W) → (longer book a b ≡ a) ⊎ (longer book a b ≡ b)
+  longer_picks a b = one_of (ltb (length (book.entries a)) (length (book.entries b))) a b
+
+  -- a number of another seat of the table is none of these
+  elsewhere : (line : Line W) (m there id n : ℕ) → line.place m ≡ there → there ≢ id → (joined : List (ℕ × W)) → AreJoined book line id n joined → IsOther m joined
+  elsewhere line m there id n at apart [] h = tt
+  elsewhere line m there id n at apart (seat ∷ seats) h = ((λ e. apart (sym at ∙ ap line.place e ∙ h.4)), elsewhere line m there id n at apart seats h.7)
+
+  -- nor is the seat's own number
+  own_is_other : (line : Line W) (id n : ℕ) → (joined : List (ℕ × W)) → AreJoined book line id n joined → IsOther n joined
+  own_is_other line id n [] h = tt
+  own_is_other line id n (seat ∷ seats) h = ((λ e. h.0 (sym e)), own_is_other line id n seats h.7)
+
+  -- the table's seat `other` is joined into `id`
+  abbrev joining : Line W → ℕ → ℕ → Line W
+  joining line id other = record line { place = redirect line.place other id; giver = redirect (λ z. z) other id line.giver }
+
+  leaves_others : (line : Line W) (id other : ℕ) → (j : ℕ) → j ≢ id → j ≢ other → LeavesAlone book line (joining line id other) j
+  leaves_others line id other j apart apart' = record {
+    numbers = λ m _ at. (redirect_miss line.place other id m (λ e. apart' (sym at ∙ e)) ∙ at, refl, refl);
+    fresh = omega arith;
+    gives = λ h. (h ∙ sym (redirect_miss (λ z. z) other id line.giver (λ e. apart' (h ∙ e))), refl);
+    free = λ m _ _ _ h. h;
+    holds = λ m _ _ _ h. (h, refl);
+    grew = λ w h. h;
+    without = λ m w _ _ h. h;
+  }
+
+  -- those that were joined into the seat `there`, before those that are already with `id`
+  both_joined : (line : Line W) (id other there n n' : ℕ) → ((m : ℕ) → line.place m ≡ there → (redirect line.place other id m ≡ id) × (m ≢ n → m ≢ n'))
+      → (joined more : List (ℕ × W)) → ((m : ℕ) → line.place m ≡ there → IsOther m more)
+      → AreJoined book line there n joined → AreJoined book (joining line id other) id n' more → AreJoined book (joining line id other) id n' (joined ++ more)
+  both_joined line id other there n n' to [] more apart h rest = rest
+  both_joined line id other there n n' to (seat ∷ seats) more apart h rest =
+      let is = to seat.0 h.4 in
+      (is.1 h.0, h.1, h.2, h.3, is.0, h.5, IsOther-append seat.0 seats more h.6 (apart seat.0 h.4), both_joined line id other there n n' to seats more apart h.7 rest)
+
+  module _ (seats : ℕ) (origin : W) where
+    -- the numbers that are left are with one of the two, and are with the one that stays now
+    left_with_both : (line : Line W) (id other : ℕ) (k q : Memory W) → other ≢ id → IsKnown book seats origin line id k → IsKnown book seats origin line other q → 0 < k.left + q.left
+        → (id ≡ redirect (λ z. z) other id line.giver) × (line.fresh ≡ cond (eqb k.left 0) q.next k.next) × (cond (eqb k.left 0) q.next k.next + (k.left + q.left) ≡ seats + 1)
+    left_with_both line id other k q apart h t some_left = dite (ℕ_discrete k.left 0)
+        (λ none_left.
+        let has = t.left (omega arith) in let sum = has.2 in
+        let picked : cond (eqb k.left 0) q.next k.next ≡ q.next = ap (λ b. cond b q.next k.next) (eq-eqb k.left 0 none_left) in
+        (sym (redirect_hit (λ z. z) other id line.giver (sym has.0)), has.1 ∙ sym picked, omega arith))
+        (λ mine_left.
+        let has = h.left (omega arith) in let sum = has.2 in
+        let picked : cond (eqb k.left 0) q.next k.next ≡ k.next = ap (λ b. cond b q.next k.next) (ne_eqb k.left 0 mine_left) in
+        let none_left : q.left ≡ 0 = dite (ℕ_discrete q.left 0) (λ z. z) (λ z. absurd (apart ((t.left (omega arith)).0 ∙ sym has.0))) in
+        (has.0 ∙ sym (redirect_miss (λ z. z) other id line.giver (λ z. apart (sym z ∙ sym has.0))), has.1 ∙ sym picked, omega arith))
+
+    joined_of_both : (line : Line W) (id other : ℕ) (k q : Memory W) → other ≢ id → line.waits q.number ≡ 0 → IsKnown book seats origin line id k → IsKnown book seats origin line other q
+        → AreJoined book (joining line id other) id k.number ((q.number, q.last) ∷ (q.joined ++ k.joined))
+    joined_of_both line id other k q apart idle h t = (
+      (λ e. apart (sym t.its ∙ ap line.place e ∙ h.its)),
+      t.low,
+      t.given,
+      idle,
+      redirect_hit line.place other id q.number t.its,
+      t.own,
+      IsOther-append q.number q.joined k.joined (own_is_other line other q.number q.joined t.joined) (elsewhere line q.number other id k.number t.its apart k.joined h.joined),
+      both_joined line id other other q.number k.number (λ m at. (redirect_hit line.place other id m at, λ _ e. apart (sym at ∙ ap line.place e ∙ h.its))) q.joined k.joined
+          (λ m at. elsewhere line m other id k.number at apart k.joined h.joined) t.joined
+          (subst (λ (l : List (ℕ × W)). AreJoined book (joining line id other) id k.number l) (append-nil k.joined)
+          (both_joined line id other id k.number k.number (λ m at. (redirect_miss line.place other id m (λ e. apart (sym e ∙ at)) ∙ at, λ z. z)) k.joined [] (λ _ _. tt) h.joined tt)),
+    )
+
+    known_of_both : (line : Line W) (id other : ℕ) (k q : Memory W) → other ≢ id → line.waits q.number ≡ 0 → IsKnown book seats origin line id k → IsKnown book seats origin line other q
+        → IsKnown book seats origin (joining line id other) id (having_joined (longer book) k q)
+    known_of_both line id other k q apart idle h t = record {
+      low = h.low;
+      given = h.given;
+      its = redirect_miss line.place other id k.number (λ e. apart (sym e ∙ h.its)) ∙ h.its;
+      all = h.all;
+      first = h.first;
+      known = ⊎_elim (λ (e : longer book k.known q.known ≡ k.known). subst (λ (w : W). Grows book w line.value) (sym e) h.known) (λ (e : longer book k.known q.known ≡ q.known). subst (λ (w : W). Grows book w line.value) (sym e) t.known) (longer_picks k.known q.known);
+      own = h.own;
+      passed = h.passed;
+      told = h.told;
+      left = left_with_both line id other k q apart h t;
+      joined = joined_of_both line id other k q apart idle h t;
+    }
+
+    joins : (id other : ℕ) (k q : Memory W) → Joins (IsInTurn book seats origin) id (Idle k) other (Idle q) (after_join (longer book) (Idle k) (Idle q)) Spent
+    joins id other k q s rule at apart there =
+        let line = rule.line in
+        let both : View W = Idle (having_joined (longer book) k q) in
+        let was : get_elem? s.views other ≡ some (Idle q) = ⊎_elim (λ (t : (other ≡ id) × (both ≡ Idle q)). absurd (apart t.0)) (λ (t : (other ≢ id) × (get_elem? s.views other ≡ some (Idle q))). t.1) (at_set s.views id other both (Idle q) there) in
+        let mine = rule.views id (Idle k) at in
+        let theirs = rule.views other (Idle q) was in
+        let new = joining line id other in
+        let order = rule.order in
+        let known : Knows book seats origin new id both = (known_of_both line id other k q apart theirs.1 mine.0 theirs.0, mine.1) in record {
+          fresh = rule.fresh;
+          line = new;
+          words = rule.words;
+          home = rule.home;
+          order = record { few = order.few; count = order.count; once = order.once; within = order.within; apart = order.apart; served = order.served; unused = order.unused };
+          views = views_stay (Knows book seats origin new) (set s.views id both) other Spent tt
+              (λ j view off at'. views_stay (λ i v. i ≢ other → Knows book seats origin new i v) s.views id both (λ _. known)
+              (λ i v off' at'' off''. others_stay book seats origin line new i (leaves_others line id other i off' off'') v (rule.views i v at'')) j view at' off);
+        }
+
+    -- an idle seat may be joined into another that is idle
+    pub may_join : (id other : ℕ) (view view' : View W) (k q : Memory W) → view ≡ Idle k → view' ≡ Idle q → Joins (IsInTurn book seats origin) id view other view' (after_join (longer book) view view') Spent
+    may_join id other view view' k q is is' = subst (λ (v : View W × View W). Joins (IsInTurn book seats origin) id v.0 other v.1 (after_join (longer book) v.0 v.1) Spent) (λ i. (sym is i, sym is' i)) (joins id other k q)
+
+-- what the seat that stays knows after the step
+pub both_known : {W : Type 0} (picks : W → W → W) (mine theirs after : Place W) (k q : Memory W) → mine ≡ (Idle k, []) → theirs ≡ (Idle q, []) → after ≡ (after_join picks mine.0 theirs.0, mine.1) → after ≡ (Idle (having_joined picks k q), [])
+both_known picks mine theirs after k q is is' step = step ∙ (λ i. (after_join picks ((is i).0) ((is' i).0), (is i).1))
+
+-- how many numbers it has is small
+pub both_are_few : {W : Type 0} (picks : W → W → W) (k q : Memory W) → AreSound (numbers_of (having_joined picks k q)) → 1 + (k.left + q.left) + (length k.joined + (length q.joined + 1)) < 2 ^ 63
+both_are_few picks k q sound = let few = few_numbers (numbers_of (having_joined picks k q)) sound in let small = sound.few in let e = length-append q.joined k.joined in omega arith
+
+pub both_joined_count : {W : Type 0} (picks : W → W → W) (k q : Memory W) → length (having_joined picks k q).joined ≡ length k.joined + (length q.joined + 1)
+both_joined_count picks k q = let e = length-append q.joined k.joined in let s : suc (length (q.joined ++ k.joined)) ≡ length k.joined + (length q.joined + 1) = omega arith in s

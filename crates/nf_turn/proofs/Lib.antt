@@ -1,0 +1,17 @@
+pub mod Numbers
+pub mod Growing
+pub mod Shelves
+pub mod Left
+pub mod Agreed
+pub mod Poses
+pub mod Staying
+pub mod Drawing
+pub mod Looking
+pub mod Passing
+pub mod Splitting
+pub mod Joining
+pub mod Starting
+pub mod Sounding
+pub mod Whole
+pub mod Ending
+pub mod Numbering

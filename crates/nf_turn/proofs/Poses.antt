@@ -1,0 +1,24 @@
+-- Views with different values at hand for a spent seat.
+use Rattle.std.proofs.Common.{◌≡◌, ℕ, List, [], ◌∷◌, Option, Some, sym, refl, ap, ◌∙◌}
+use Rattle.atomic_table.specs.Table.{rest}
+use Rattle.nf_turn.specs.Steps.{Place}
+use Rattle.nf_turn.specs.declared.view.Memory.{Memory}
+use Rattle.nf_turn.specs.declared.view.View.TheVariants.{Spent, Idle, Waiting, Holding}
+use Rattle.nf_turn.specs.Numbers.{numbers_of}
+use Rattle.nf_turn.specs.Views.{numbers_in, memory_in}
+
+abbrev first_out : {W : Type 0} → Option W → List (ℕ × Option W) → Option W
+first_out found [] = found
+first_out found (slot ∷ slots) = slot.1
+
+-- the numbers of what the holder knows are the seat's, whatever value is at hand
+pub numbers_known : {W : Type 0} (value : W) (place : Place W) → numbers_of (memory_in value place) ≡ numbers_in place
+numbers_known value (Spent, slots) = refl
+numbers_known value (Idle k, slots) = refl
+numbers_known value (Waiting turn k, slots) = refl
+numbers_known {W} value (Holding taken k, slots) = refl
+
+module _ {W : Type 0} where
+  -- what an exchange finds in the hand of the seat that took the value
+  pub found_out : (value : W) (k : Memory W) (place : Place W) (found : Option W) → place ≡ (Holding value k, (0, Some value) ∷ []) → place.1 ≡ (0, found) ∷ rest place.1 → found ≡ Some value
+  found_out value k place found is hand = ap (first_out found) (sym hand ∙ ap (λ (m : Place W). m.1) is)

@@ -1,0 +1,115 @@
+-- Splitting a seat off.
+use Rattle.std.proofs.Common.{◌≡◌, ◌≢◌, ◌⊎◌, ⊎_elim, inl, inr, ℕ, zero, suc, ◌+◌, ◌<◌, ◌≤◌, List, [], ◌∷◌, ◌++◌, length, set, length-set, refl, sym, ap, ◌∙◌, subst, arith}
+use mathlib.Core.Logic.{dite}
+use mathlib.Core.Option.{some, some-ne-none, some-injective}
+use native.Mathlib.Decide.{ℕ_discrete}
+use lib.ListN.{get_elem?}
+use Rattle.atomic_table.specs.Table.{Splits}
+use Rattle.nf_turn.specs.Book.{Meanings, GrowsWithout}
+use Rattle.nf_turn.specs.declared.view.Memory.{Memory}
+use Rattle.nf_turn.specs.declared.view.View.{View}
+use Rattle.nf_turn.specs.declared.view.View.TheVariants.{Idle}
+use Rattle.nf_turn.specs.Memory.{having_split, split_from}
+use Rattle.nf_turn.specs.Turns.{Line, AreJoined, IsKnown, Knows, InOrder, IsInTurn}
+use Rattle.nf_turn.specs.Steps.{after_split, split_off}
+use Rattle.nf_turn.proofs.Numbers.{put, put_here, put_else}
+use Rattle.nf_turn.proofs.Shelves.{grew_append}
+use Rattle.nf_turn.proofs.Staying.{LeavesAlone, views_stay, others_stay}
+
+at_end : {V : Type 0} (views : List V) (a b : V) (j : ℕ) → get_elem? (views ++ a ∷ []) j ≡ some b → (get_elem? views j ≡ some b) ⊎ ((j ≡ length views) × (a ≡ b))
+at_end [] a b zero e = inr (refl, some-injective a b e)
+at_end [] a b (suc j) e = absurd (some-ne-none b (sym e))
+at_end (x ∷ xs) a b zero e = inl e
+at_end {V} (x ∷ xs) a b (suc j) e = ⊎_elim (λ (h : get_elem? xs j ≡ some b). inl h) (λ (h : (j ≡ length xs) × (a ≡ b)). inr (ap suc h.0, h.1)) (at_end xs a b j e)
+
+module _ {E O W : Type 0} (book : Meanings E O W) (seats : ℕ) (origin : W) where
+  -- the table's seat `added` gets the first number that was left
+  abbrev splitting : Line W → ℕ → Line W
+  splitting line added = record line { place = put line.place line.fresh added; fresh = line.fresh + 1 }
+
+  leaves_others : (line : Line W) (id added : ℕ) → line.giver ≡ id → (j : ℕ) → j ≢ id → LeavesAlone book line (splitting line added) j
+  leaves_others line id added giver j other = record {
+    numbers = λ m below at. (put_else line.place line.fresh added m (λ e. omega arith) ∙ at, refl, refl);
+    fresh = omega arith;
+    gives = λ h. absurd (other (h ∙ giver));
+    free = λ m _ _ _ h. h;
+    holds = λ m _ _ _ h. (h, refl);
+    grew = λ w h. h;
+    without = λ m w _ _ h. h;
+  }
+
+  in_order : (line : Line W) (added : ℕ) → InOrder book seats origin line → line.fresh < seats + 1 → InOrder book seats origin (splitting line added)
+  in_order line added h room = record {
+    few = (h.few.0, omega arith, omega arith);
+    count = h.count;
+    once = h.once;
+    within = λ m waits. let b = h.within m waits in let b₁ = b.1 in (b.0, omega arith, b.2, b.3);
+    apart = h.apart;
+    served = h.served;
+    unused = λ m out. h.unused m (⊎_elim (λ (z : m ≡ 0). inl z) (λ (z : line.fresh + 1 ≤ m). inr (omega arith)) out);
+  }
+
+  joined_stay : (line : Line W) (id added n : ℕ) → (joined : List (ℕ × W)) → AreJoined book line id n joined → AreJoined book (splitting line added) id n joined
+  joined_stay line id added n [] h = tt
+  joined_stay line id added n (seat ∷ seats) h =
+      let below = h.2 in
+      (h.0, h.1, omega arith, h.3, put_else line.place line.fresh added seat.0 (λ e. omega arith) ∙ h.4, h.5, h.6, joined_stay line id added n seats h.7)
+
+  kept : (line : Line W) (id added : ℕ) (k : Memory W) → 0 < k.left → IsKnown book seats origin line id k → IsKnown book seats origin (splitting line added) id (having_split k)
+  kept line id added k some_left h = let given = h.given in let has = h.left some_left in let fresh = has.1 in let sum = has.2 in record {
+    low = h.low;
+    given = omega arith;
+    its = put_else line.place line.fresh added k.number (λ e. omega arith) ∙ h.its;
+    all = h.all;
+    first = h.first;
+    known = h.known;
+    own = h.own;
+    passed = h.passed;
+    told = h.told;
+    left = λ _. (has.0, omega arith, omega arith);
+    joined = joined_stay line id added k.number k.joined h.joined;
+  }
+
+  given : (line : Line W) (id added : ℕ) (k : Memory W) → 0 < k.left → InOrder book seats origin line → IsKnown book seats origin line id k → IsKnown book seats origin (splitting line added) added (split_from k)
+  given line id added k some_left order h = let fresh : line.fresh ≡ k.next = (h.left some_left).1 in record {
+    low = (let few = order.few.1 in omega arith);
+    given = omega arith;
+    its = ap (put line.place line.fresh added) (sym fresh) ∙ put_here line.place line.fresh added;
+    all = h.all;
+    first = h.first;
+    known = h.known;
+    own = subst (λ (z : W). GrowsWithout book k.next z line.value) (sym h.first) (order.unused k.next (inr (omega arith)));
+    passed = tt;
+    told = grew_append book line.value k.passed k.told h.passed h.told;
+    left = λ none_left. absurd (omega arith);
+    joined = tt;
+  }
+
+  splits : (id : ℕ) (k : Memory W) → 0 < k.left → Splits (IsInTurn book seats origin) id (Idle k) (after_split (Idle k)) (split_off (Idle k))
+  splits id k some_left s rule at =
+      let line = rule.line in
+      let mine = rule.views id (Idle k) at in
+      let h = mine.0 in
+      let has = h.left some_left in
+      let fresh : line.fresh ≡ k.next = has.1 in
+      let sum : k.next + k.left ≡ seats + 1 = has.2 in
+      let added : ℕ = length s.views in
+      let new = splitting line added in
+      let old_view : View W = Idle (having_split k) in
+      let new_view : View W = Idle (split_from k) in
+      let idle : line.waits k.next ≡ 0 = dite (ℕ_discrete (line.waits k.next) 0) (λ z. z) (λ z. let below = (rule.order.within k.next (omega arith)).1 in absurd (omega arith)) in
+      let others = λ (j : ℕ) (view : View W) (other : j ≢ id) (there : get_elem? s.views j ≡ some view). others_stay book seats origin line new j (leaves_others line id added (sym has.0) j other) view (rule.views j view there) in record {
+        fresh = rule.fresh;
+        line = new;
+        words = rule.words;
+        home = rule.home;
+        order = in_order line added rule.order (omega arith);
+        views = λ j view there. ⊎_elim
+            (λ (t : get_elem? (set s.views id old_view) j ≡ some view). views_stay (Knows book seats origin new) s.views id old_view (kept line id added k some_left h, mine.1) others j view t)
+            (λ (t : (j ≡ length (set s.views id old_view)) × (new_view ≡ view)). subst (λ (z : ℕ × View W). Knows book seats origin new z.0 z.1) (λ i. (sym (t.0 ∙ length-set s.views id old_view) i, t.1 i)) (given line id added k some_left rule.order h, idle))
+            (at_end (set s.views id old_view) new_view view j there);
+      }
+
+  -- an idle seat that has numbers left may be split
+  pub may_split : (id : ℕ) (view : View W) (k : Memory W) → view ≡ Idle k → 0 < k.left → Splits (IsInTurn book seats origin) id view (after_split view) (split_off view)
+  may_split id view k is some_left = subst (λ (v : View W). Splits (IsInTurn book seats origin) id v (after_split v) (split_off v)) (sym is) (splits id k some_left)

@@ -1,0 +1,51 @@
+use Rattle.std.proofs.Common.{rules, ◌≡◌, ◌+◌, ◌-◌, ◌<◌, [], length, sym, ap, ◌∙◌, subst, arith}
+use Rattle.std.proofs.Math.Logic.{∥∥₁_map}
+use Rattle.nf_turn.specs.Memory.{having_split, split_from}
+use Rattle.nf_turn.specs.Numbers.{Numbers, numbers_of, AreSound}
+use Rattle.nf_turn.specs.Seats.{memory}
+use Rattle.nf_turn.specs.Steps.{after_split, split_off}
+use Rattle.nf_turn.specs.Views.{numbers_in}
+use Rattle.nf_turn.proofs.Numbering.{kept_is_sound, split_is_sound, next_is_small}
+use Rattle.nf_turn.proofs.Splitting.{may_split}
+use Rattle.nf_turn.proofs.lock.TurnLock.split_off.Goals as goal
+
+pub split_seat-place-requires : goal.split_seat-place-requires
+split_seat-place-requires g c =
+    let key = c.args.self.now.table.shared.key in let seat = c.args.seat.now in let k = memory c.args.self.now seat in
+    let left : 0 < k.left = subst (λ (m : Numbers g.row.W.Denot). 0 < m.left) (ap numbers_in c.requires.idle) c.requires.left in
+    (search rules, search rules, may_split g.W.Book.book key.seats key.first.value _ _ k (ap (λ m. m.0) c.requires.idle) left)
+
+pub overflow_add-seat : goal.overflow_add-seat
+overflow_add-seat g c =
+    let seat = c.args.seat.now in let next : seat.next ≡ (numbers_in seat.place.me).next = seat.next_is in
+    let small = next_is_small (numbers_in seat.place.me) seat.sound c.requires.left in omega arith
+
+pub invariant_of-seat : goal.invariant_of-seat
+invariant_of-seat g c =
+    let seat = c.args.seat.now in let k = memory c.args.self.now seat in
+    let was : numbers_in seat.place.me ≡ numbers_of k = ap numbers_in c.requires.idle in
+    let left : 0 < k.left = subst (λ (m : Numbers g.row.W.Denot). 0 < m.left) was c.requires.left in
+    let now : numbers_in c.split_seat-place.new.seat.me ≡ numbers_of (having_split k) = ap numbers_in (c.split_seat-place.ensures.2 ∙ ap (λ m. (after_split m.0, m.1)) c.requires.idle) in
+    record {
+      seats_is = seat.seats_is ∙ ap (λ m. m.seats) was ∙ sym (ap (λ m. m.seats) now);
+      number_is = seat.number_is ∙ ap (λ m. m.number) was ∙ sym (ap (λ m. m.number) now);
+      next_is = ap (λ n. n + 1) (seat.next_is ∙ ap (λ m. m.next) was) ∙ sym (ap (λ m. m.next) now);
+      left_is = ap (λ n. n - 1) (seat.left_is ∙ ap (λ m. m.left) was) ∙ sym (ap (λ m. m.left) now);
+      joined_is = seat.joined_is ∙ ap (λ m. length m.joined) was ∙ sym (ap (λ m. length m.joined) now);
+      sound = subst (λ (m : Numbers g.row.W.Denot). ∥ AreSound m ∥₁) (sym now) (∥∥₁_map (subst (λ (m : Numbers g.row.W.Denot). ∥ AreSound m ∥₁) was seat.sound) (λ h. kept_is_sound k left h));
+    }
+
+pub invariant_of-result : goal.invariant_of-result
+invariant_of-result g c =
+    let seat = c.args.seat.now in let k = memory c.args.self.now seat in
+    let was : numbers_in seat.place.me ≡ numbers_of k = ap numbers_in c.requires.idle in
+    let left : 0 < k.left = subst (λ (m : Numbers g.row.W.Denot). 0 < m.left) was c.requires.left in
+    let now : numbers_in c.split_seat-place.result.me ≡ numbers_of (split_from k) = ap numbers_in (c.split_seat-place.ensures.4 ∙ ap (λ m. (split_off m.0, [])) c.requires.idle) in
+    record {
+      seats_is = seat.seats_is ∙ ap (λ m. m.seats) was ∙ sym (ap (λ m. m.seats) now);
+      number_is = seat.next_is ∙ ap (λ m. m.next) was ∙ sym (ap (λ m. m.number) now);
+      next_is = sym (ap (λ m. m.next) now);
+      left_is = sym (ap (λ m. m.left) now);
+      joined_is = sym (ap (λ m. length m.joined) now);
+      sound = subst (λ (m : Numbers g.row.W.Denot). ∥ AreSound m ∥₁) (sym now) (∥∥₁_map (subst (λ (m : Numbers g.row.W.Denot). ∥ AreSound m ∥₁) was seat.sound) (λ h. split_is_sound k left h));
+    }

@@ -1,0 +1,19 @@
+use Rattle.std.proofs.Common.{rules, ℕ, ◌∷◌, Some, sym, ap, ◌∙◌, subst}
+use Rattle.atomic_table.specs.Table.{rest}
+use Rattle.nf_turn.specs.Views.{memory_in, taken_in}
+use Rattle.nf_turn.specs.Book.{AddsAlone}
+use Rattle.nf_turn.proofs.Poses.{numbers_known}
+use Rattle.nf_turn.proofs.Passing.{may_pass}
+use Rattle.nf_turn.proofs.turns.pass_on.Goals as goal
+
+pub fetch_add-passed-requires : goal.fetch_add-passed-requires
+fetch_add-passed-requires g c =
+    let key = c.args.counter.now.key in let value = c.args.value in
+    let holds = c.exchange-empty.ensures.3 ∙ ap (λ m. (m.0, (0, Some value) ∷ rest m.1)) c.requires.turn in
+    (search rules, search rules, may_pass g.W.Book.book key.seats key.first.value _ _ _ (taken_in key.first.value c.args.place.now.me) value (memory_in key.first.value c.args.place.now.me) holds (subst (λ (n : ℕ). AddsAlone g.W.Book.book n (taken_in key.first.value c.args.place.now.me) value) (ap (λ m. m.number) (sym (numbers_known key.first.value c.args.place.now.me))) c.requires.value))
+
+pub returns-then-peek-passed-clause-idle : goal.returns-then-peek-passed-clause-idle
+returns-then-peek-passed-clause-idle g c = c.fetch_add-passed.ensures.2 _ _ _ (c.exchange-empty.ensures.3 ∙ ap (λ m. (m.0, (0, Some c.args.value) ∷ rest m.1)) c.requires.turn)
+
+pub returns-else-peek-passed-clause-idle : goal.returns-else-peek-passed-clause-idle
+returns-else-peek-passed-clause-idle g c = c.fetch_add-passed.ensures.2 _ _ _ (c.exchange-empty.ensures.3 ∙ ap (λ m. (m.0, (0, Some c.args.value) ∷ rest m.1)) c.requires.turn)

@@ -1,0 +1,52 @@
+//! What each step on the table tells.
+ghost use Rattle.nf_turn.specs.Memory.{longer};
+ghost use Rattle.nf_turn.specs.Steps.{Draws, Looks, PassesOn, Counts, after_split, split_off, after_join};
+ghost use Rattle.nf_turn.specs.declared.view.View.TheVariants.{Spent};
+
+use crate::book::Book;
+use crate::view::View;
+use atomic_table::{Join, Play, Split};
+
+/// Draws a turn number.
+pub(crate) struct Draw;
+
+impl<W> Play<Option<W>, View<W>> for Draw {
+    ghost then = { Draws };
+}
+
+/// Looks which turn number is served, and takes the value where it is the seat's own.
+pub(crate) struct Look;
+
+impl<W: Book> Play<Option<W>, View<W>> for Look {
+    ghost then = { Looks W.book };
+}
+
+/// Puts the value back, and lets the next number be served.
+pub(crate) struct PassOn;
+
+impl<W> Play<Option<W>, View<W>> for PassOn {
+    ghost then = { PassesOn };
+}
+
+/// Changes nothing, and tells what the rule says of the seat's numbers.
+pub(crate) struct Count;
+
+impl<W> Play<Option<W>, View<W>> for Count {
+    ghost then = { Counts };
+}
+
+pub(crate) struct SplitOff;
+
+impl<W> Split<View<W>> for SplitOff {
+    ghost left = { after_split };
+
+    ghost right = { split_off };
+}
+
+pub(crate) struct JoinIn;
+
+impl<W: Book> Join<View<W>> for JoinIn {
+    ghost both = { after_join (longer W.book) };
+
+    ghost spent = { Spent };
+}
