@@ -1,13 +1,11 @@
 -- Books that are one legal history: what is held is the ticket's goal.
-use Rattle.std.proofs.Common.{◌≡◌, ◌≢◌, ℕ, ◌+◌, List, [], ◌∷◌, ◌++◌, refl, sym, ◌∙◌, ap, subst, Result, Ok, Err}
+use Rattle.std.proofs.Common.{◌≡◌, ℕ, ◌+◌, List, [], ◌∷◌, ◌++◌, refl, sym, ◌∙◌, ap, subst, Ok, Err}
 use Rattle.std.proofs.lemmas.Bool.{eqb-true, eqb-false}
 use Rattle.std.specs.Prelude.{Bool, true, false, ◌==◌, if◌then◌else◌, Option, None, Some, IsNone, find, option_map}
-use Rattle.nf_words.specs.State.{State, opened, ticket_for, ticket_of}
+use Rattle.nf_words.specs.State.{State, opened, ticket_of}
 use Rattle.nf_words.specs.Step.{answer_to, step}
-use Rattle.nf_words.specs.History.{IsLegalFrom, MayAsk, MayCome, after, after_mark, answer_at, failed, replay}
-use Rattle.nf_words.specs.declared.answer.Denial.{Denial}
+use Rattle.nf_words.specs.History.{IsLegalFrom, MayAsk, after, after_mark, answer_at, failed, replay}
 use Rattle.nf_words.specs.declared.answer.Goal.{Goal}
-use Rattle.nf_words.specs.declared.answer.Reply.{Reply}
 use Rattle.nf_words.specs.declared.answer.Reply.TheVariants as reply
 use Rattle.nf_words.specs.declared.history.Entry.{Entry}
 use Rattle.nf_words.specs.declared.history.Event.{Event}
@@ -19,7 +17,7 @@ use Rattle.nf_words.specs.declared.request.Request.{Request}
 use Rattle.nf_words.specs.declared.request.Words.{Words}
 use Rattle.nf_words.proofs.Opens.{IsPlain, ends_grant_nothing, plain_keeps}
 use Rattle.nf_words.proofs.Steps.{end_frees, freed, granted_step, other_after}
-use Rattle.nf_server.specs.Book.{Answer, Book, IsBook, granted, held, held_after, own_from, state_of}
+use Rattle.nf_server.specs.Book.{Answer, granted, held_after, own_from}
 use Rattle.nf_server.specs.Laws.{HeldIsTicket, OwnGrows, goal_in, own_at}
 
 -- ---- the seat's own entries

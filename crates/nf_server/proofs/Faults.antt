@@ -1,16 +1,15 @@
 -- What a turn that ends by a fault of reading did.
-use Rattle.std.proofs.Common.{◌≡◌, ◌⊎◌, ℕ, List, refl, sym, ◌∙◌, subst, inl, inr, Result, Ok, Err}
-use Rattle.std.specs.Prelude.{Bool, true, false, Option, None, Some}
+use Rattle.std.proofs.Common.{◌≡◌, ℕ, refl, sym, ◌∙◌, subst, inl, inr, Result, Ok, Err}
+use Rattle.std.specs.Prelude.{Bool, true, false, Option, Some}
 use Rattle.nf_http.specs.Head.{Head, closes_session}
 use Rattle.nf_http.specs.declared.wire.WireFault.{WireFault}
 use Rattle.nf_http.specs.declared.wire.WireFault.TheVariants as wire
 use Rattle.nf_words.specs.declared.answer.Denial.{Denial}
 use Rattle.nf_words.specs.declared.answer.Denial.TheVariants as denial
-use Rattle.nf_server.specs.Laws.{LosesBody, ReadFaultsStoreNothing}
-use Rattle.nf_server.specs.Steps.{Scene, Heads, Cuts, Judges, Closes, EndsBy, cutting, is_granted, taken_length}
-use Rattle.nf_server.specs.Turn.{Answers, CutsShort, Meets, Responds, Turn, Writes, end_by, end_of, end_of_close, end_of_denial, says_close}
+use Rattle.nf_server.specs.Laws.{ReadFaultsStoreNothing}
+use Rattle.nf_server.specs.Steps.{Scene, Heads, Cuts, Closes, EndsBy, cutting, is_granted, taken_length}
+use Rattle.nf_server.specs.Turn.{Responds, Writes, end_by, end_of, end_of_close, end_of_denial, says_close}
 use Rattle.nf_server.specs.declared.backend.Ending.TheVariants as ending
-use Rattle.nf_server.specs.declared.begun.Begun.{Begun}
 use Rattle.nf_server.specs.declared.response.Response.{Response}
 use Rattle.nf_server.specs.declared.response.Response.TheVariants as response
 use Rattle.nf_server.specs.declared.ended.Ended.{Ended}

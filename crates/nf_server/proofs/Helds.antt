@@ -1,7 +1,6 @@
 -- What a seat holds after a step.
-use Rattle.std.proofs.Common.{◌≡◌, ℕ, List, [], ◌∷◌, ◌++◌, refl, sym, ◌∙◌, ap, subst, Result, Ok, Err}
-use Rattle.std.specs.Prelude.{Bool, true, false, Option, None, Some, is_some, MatchBool}
-use Rattle.nf_words.specs.declared.answer.Denial.{Denial}
+use Rattle.std.proofs.Common.{◌≡◌, ℕ, List, [], ◌∷◌, ◌++◌, refl, sym, ◌∙◌, ap, subst, Ok, Err}
+use Rattle.std.specs.Prelude.{Bool, true, false, Option, None, is_some, MatchBool}
 use Rattle.nf_words.specs.declared.answer.Goal.{Goal}
 use Rattle.nf_words.specs.declared.answer.Reply.TheVariants as reply
 use Rattle.nf_words.specs.declared.history.Entry.{Entry}

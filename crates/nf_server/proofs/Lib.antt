@@ -3,5 +3,6 @@ pub mod Same
 pub mod Takes
 pub mod Turns
 pub mod Sendings
+pub mod Causes
 pub mod Faults
 pub mod Books

@@ -1,5 +1,5 @@
 -- The same connection, twice.
-use Rattle.std.proofs.Common.{◌≡◌, ◌∙◌}
+use Rattle.std.proofs.Common.{◌∙◌}
 use Rattle.nf_server.specs.Connections.{IsSame}
 use Rattle.nf_server.specs.declared.session.Connection.{Connection}
 

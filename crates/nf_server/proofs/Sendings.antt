@@ -1,9 +1,9 @@
 -- A file that is sent piece by piece.
-use Rattle.std.proofs.Common.{◌≡◌, ℕ, ◌+◌, ◌<◌, ◌≤◌, List, [], ◌∷◌, ◌++◌, length, take, refl, sym, ◌∙◌, ap, subst, inl, inr, arith, rules, append-nil, append_assoc, length-append, Result, Ok, Err}
+use Rattle.std.proofs.Common.{◌≡◌, ℕ, ◌+◌, ◌<◌, List, [], ◌∷◌, ◌++◌, length, take, refl, sym, ◌∙◌, ap, subst, inl, inr, arith, append-nil, append_assoc, length-append, Result, Ok, Err}
 use Rattle.std.proofs.Math.Seq.{take-append-add}
 use Rattle.std.proofs.lemmas.List.{take-append-le}
 use Rattle.std.proofs.lemmas.List.Folds.{concat-append}
-use Rattle.std.proofs.KnownBytes.{Appends-trans, Appends-nil}
+use Rattle.std.proofs.KnownBytes.{Appends-trans}
 use Rattle.std.specs.Prelude.{Bool, min, Option, None, Some, IfSome, slice_get, Vec}
 use Rattle.std.specs.List.{concat}
 use Rattle.std.specs.declared.alloc.Global.{Global}
@@ -14,9 +14,9 @@ use Rattle.nf_base.specs.declared.content.Piece.{Piece}
 use Rattle.nf_words.specs.declared.history.Entry.{Entry}
 use Rattle.nf_dav.specs.Reply.{file_head}
 use Rattle.nf_laws.specs.Wholes.{Blobs, blob_at}
-use Rattle.nf_server.specs.Book.{Book, FailsPiece, GivesPiece, IsPiece, Lasts, Struck, TellsStill, Waits, held}
-use Rattle.nf_server.specs.Files.{AreGiven, BreaksOff, IsStarted, Lacks, SendsFile, SendsPiece, SendsPieces, TakesPiece, WritesPieces, file_front, taken_first}
-use Rattle.nf_server.specs.Steps.{Scene, Says, Sends, Wrote, WrotePart}
+use Rattle.nf_server.specs.Book.{Book, FailsPiece, IsPiece, TellsStill, Waits, held}
+use Rattle.nf_server.specs.Files.{AreGiven, IsStarted, Lacks, SendsFile, SendsPiece, SendsPieces, TakesPiece, WritesPieces, file_front, taken_first}
+use Rattle.nf_server.specs.Steps.{Scene, Says, Sends, Wrote}
 use Rattle.nf_server.specs.declared.backend.PieceFault.{PieceFault}
 use Rattle.nf_server.specs.declared.backend.PieceFault.TheVariants as fault
 use Rattle.nf_server.specs.declared.ended.Ended.{Ended}

@@ -1,5 +1,5 @@
 -- What the body makes of what was begun, by its cases.
-use Rattle.std.proofs.Common.{◌≡◌, ℕ, List, refl, sym, ◌∙◌, ap, subst, Result, Ok, Err}
+use Rattle.std.proofs.Common.{◌≡◌, ℕ, List, refl, sym, ◌∙◌, ap, subst, Ok, Err}
 use Rattle.nf_base.specs.declared.content.Piece.{Piece}
 use Rattle.nf_defs.specs.declared.Seeker.{Seeker}
 use Rattle.nf_http.specs.Head.{Head}

@@ -1,12 +1,12 @@
 -- A turn and a session, from what their parts ensure.
-use Rattle.std.proofs.Common.{◌≡◌, ℕ, ◌<◌, ◌≤◌, ◌+◌, List, [], ◌∷◌, ◌++◌, refl, sym, ◌∙◌, ap, subst, inl, inr, arith, length, length-append, Result, Ok, Err}
+use Rattle.std.proofs.Common.{◌≡◌, ℕ, ◌<◌, ◌+◌, List, [], ◌∷◌, ◌++◌, refl, sym, ◌∙◌, ap, subst, inl, inr, arith, length, length-append, Result, Ok, Err}
 use Rattle.std.proofs.lemmas.Bool.Decides.{nat_tests}
-use Rattle.std.specs.Prelude.{Bool, true, false, ◌||◌, ◌==◌, Option, None, Some, IfOk, OnErr, is_some}
-use Rattle.nf_http.specs.Head.{Head, closes_session}
+use Rattle.std.specs.Prelude.{Bool, true, false, ◌==◌, Option, None, Some, IfOk, OnErr}
+use Rattle.nf_http.specs.Head.{Head}
 use Rattle.nf_http.specs.declared.wire.WireFault.{WireFault}
 use Rattle.nf_server.specs.Session.{Session, Through}
 use Rattle.nf_server.specs.Steps.{Scene, Heads, Judges, TakesIn, Closes, EndsBy, Says, Sends, is_granted}
-use Rattle.nf_server.specs.Turn.{Meets, Responds, Turn, Writes, end_by, end_of, how_of, stays_granted}
+use Rattle.nf_server.specs.Turn.{Meets, Responds, Turn, end_by, how_of, stays_granted}
 use Rattle.nf_server.specs.declared.backend.Ending.{Ending}
 use Rattle.nf_server.specs.declared.backend.Ending.TheVariants as ending
 use Rattle.nf_server.specs.declared.begun.Begun.{Begun}

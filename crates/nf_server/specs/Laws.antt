@@ -1,5 +1,5 @@
 -- What follows from the relation of a turn, and from a book that is one legal history.
-use Rattle.std.specs.Prelude.{◌≡◌, ◌⊎◌, ℕ, ◌==◌, Bool, List, [], ◌∷◌, ◌++◌, Option, Some, Ok, Err, option_map, if◌then◌else◌}
+use Rattle.std.specs.Prelude.{◌≡◌, ◌⊎◌, ℕ, ◌==◌, Bool, List, [], ◌∷◌, ◌++◌, Option, None, Some, Ok, Err, option_map, if◌then◌else◌}
 use Rattle.nf_http.specs.Head.{Head}
 use Rattle.nf_http.specs.declared.wire.WireFault.{WireFault}
 use Rattle.nf_http.specs.declared.wire.WireFault.TheVariants as wire
@@ -7,11 +7,14 @@ use Rattle.nf_words.specs.State.{State, ticket_of}
 use Rattle.nf_words.specs.History.{answer_at, replay}
 use Rattle.nf_words.specs.declared.answer.Goal.{Goal}
 use Rattle.nf_words.specs.declared.history.Entry.{Entry}
-use Rattle.nf_server.specs.Book.{Answer, Book, IsBook, held, own_from, state_of}
+use Rattle.nf_outside.specs.Causes.{Rose}
+use Rattle.nf_server.specs.Book.{Answer, Book, IsBook, Lasts, held, own_from, state_of}
 use Rattle.nf_server.specs.Steps.{Scene, Heads, Cuts, Judges, Closes, cutting, is_granted, taken_length}
+use Rattle.nf_server.specs.Session.{Session}
 use Rattle.nf_server.specs.Turn.{Turn}
 use Rattle.nf_server.specs.declared.backend.Ending.TheVariants as ending
 use Rattle.nf_server.specs.declared.begun.Begun.{Begun}
+use Rattle.nf_server.specs.declared.ended.Ended.{Ended}
 use Rattle.nf_server.specs.declared.ended.Ended.TheVariants as ended
 
 -- a head was taken and less than its body, and what was granted is gone
@@ -31,6 +34,20 @@ abbrev pub ReadFaultsStoreNothing : {C : Type 0} → (C → ℕ → C → Type 0
 ReadFaultsStoreNothing {C} reads =
     (last : Bool) (a b : Scene C) → Turn reads last a b (Some ended.ReadFault)
     → Heads a b (Err wire.ReadFault) ⊎ LosesBody reads a b wire.ReadFault
+
+-- how often an input and an output failed, before and after: that by whose fault it ended once more, and none else
+abbrev pub CountsFault : Option Ended → ℕ → ℕ → ℕ → ℕ → Type 0
+CountsFault (Some ended.ReadFault) read read_then write write_then = Rose read read_then × (write_then ≡ write)
+CountsFault (Some ended.WriteFault) read read_then write write_then = (read_then ≡ read) × Rose write write_then
+CountsFault end read read_then write write_then = (read_then ≡ read) × (write_then ≡ write)
+
+-- what a seat knows goes on, and a fault of an end is counted where it is named
+pub record Follows {C : Type 0} (a b : Scene C) (end : Option Ended) : Type 0 where
+  pub lasts : Lasts a.book b.book
+  pub counts : CountsFault end a.read_faults b.read_faults a.write_faults b.write_faults
+
+abbrev pub SessionsFollow : {C : Type 0} → (C → ℕ → C → Type 0) → Type 0
+SessionsFollow {C} reads = (a b : Scene C) (end : Option Ended) → Session reads a b end → Follows a b end
 
 -- the goal of a seat's ticket
 abbrev pub goal_in : State → ℕ → Option Goal

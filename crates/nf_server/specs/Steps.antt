@@ -1,5 +1,5 @@
 -- Scenes, and the steps of a turn, each from one scene to the next.
-use Rattle.std.specs.Prelude.{◌≡◌, ◌⊎◌, ℕ, ◌<◌, Bool, true, false, List, [], ◌∷◌, length, min, take, if◌then◌else◌, Option, None, Some, IsSome, Result, Ok, Err}
+use Rattle.std.specs.Prelude.{◌≡◌, ◌⊎◌, ℕ, ◌<◌, Bool, true, false, List, [], ◌∷◌, length, take, if◌then◌else◌, Option, None, Some, Result, Ok, Err}
 use Rattle.std.specs.Io.KnownBytes.{Appends}
 use Rattle.nf_outside.specs.Causes.{Rose}
 use Rattle.nf_base.specs.declared.content.Piece.{Piece}
@@ -21,7 +21,6 @@ use Rattle.nf_dav.specs.Reply.{refusal_reply}
 use Rattle.nf_server.specs.Book.{Answer, Book, Begins, Ends, EndsBody, FailsPiece, IsOfBegin, IsPiece, Waits, granted, held}
 use Rattle.nf_server.specs.declared.backend.Ending.{Ending}
 use Rattle.nf_server.specs.declared.backend.Ending.TheVariants as ending
-use Rattle.nf_server.specs.declared.backend.PieceFault.{PieceFault}
 use Rattle.nf_server.specs.declared.begun.Begun.{Begun}
 use Rattle.nf_server.specs.declared.begun.Begun.TheVariants as begun
 use Rattle.nf_server.specs.declared.ended.Ended.{Ended}

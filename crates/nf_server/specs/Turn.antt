@@ -1,5 +1,5 @@
 -- One turn of a session: a message, and its answer.
-use Rattle.std.specs.Prelude.{◌≡◌, ◌⊎◌, ℕ, Bool, true, false, ◌||◌, List, Option, None, Some, is_some, Result, Ok, Err, if◌then◌else◌}
+use Rattle.std.specs.Prelude.{◌≡◌, ◌⊎◌, ℕ, Bool, true, false, ◌||◌, Option, None, Some, is_some, Result, Ok, Err, if◌then◌else◌}
 use Rattle.nf_http.specs.Head.{Head, closes_session}
 use Rattle.nf_http.specs.declared.wire.WireFault.{WireFault}
 use Rattle.nf_words.specs.declared.answer.Denial.{Denial}

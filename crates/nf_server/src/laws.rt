@@ -1,12 +1,18 @@
 //! What follows from the definitions. Each function does nothing, and its clause is the law.
 
-ghost use Rattle.nf_server.specs.Laws.{HeldIsTicket, OwnGrows, ReadFaultsStoreNothing};
+ghost use Rattle.nf_server.specs.Laws.{HeldIsTicket, OwnGrows, ReadFaultsStoreNothing, SessionsFollow};
 
 use nf_outside::Clock;
 
 /// A fault of reading stores nothing: no body that wasn't taken whole comes to an End.
 pub fn read_faults_store_nothing<C: Clock>()
     ensures { ReadFaultsStoreNothing C.reads }
+{}
+
+/// A session counts a fault of its input or output where it ends by that, and nowhere else; what its seat knows only goes on.
+#[tactic(auto, using(crate::proofs::Causes::session_follows))]
+pub fn sessions_follow<C: Clock>()
+    ensures { SessionsFollow C.reads }
 {}
 
 /// What a seat holds by its own entries is its ticket in the state of all that it has seen.
