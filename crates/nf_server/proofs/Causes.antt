@@ -35,8 +35,14 @@ use Rattle.nf_server.proofs.Sendings.{waits_refl, waits_then}
 
 lasts_then : (a m b : Book) → Lasts a m → Lasts m b → Lasts a b
 lasts_then a m b p q =
-    (waits_then a (record m { own = a.own; known = a.known }) (record b { own = a.own; known = a.known })
-    (record (waits_refl a) { lasts = p }) (record (waits_refl (record m { own = a.own; known = a.known })) { lasts = q })).lasts
+    let bare : Book → Book = λ (z : Book). record z { own = []; known = [] } in
+    let waits : (x y : Book) → Lasts x y → Waits (bare x) (bare y) = λ (x y : Book) (z : Lasts x y). record {
+      lasts = record { opening = z.opening; seat = z.seat; damaged = z.damaged; strikes = z.strikes; told = z.told };
+      own = refl;
+      known = ([], refl);
+    } in
+    let all = (waits_then (bare a) (bare m) (bare b) (waits a m p) (waits m b q)).lasts in
+    record { opening = all.opening; seat = all.seat; damaged = all.damaged; strikes = all.strikes; told = all.told }
 
 -- nothing failed
 record Calm {C : Type 0} (a b : Scene C) : Type 0 where
@@ -74,26 +80,26 @@ follows_calm a m b end p q = record {
 }
 
 -- the ends by a fault of an end
-is_fault : Option Ended → Bool
+abbrev pub is_fault : Option Ended → Bool
 is_fault (Some ended.ReadFault) = true
 is_fault (Some ended.WriteFault) = true
 is_fault end = false
 
 counts_none : (end : Option Ended) (r s w v : ℕ) → is_fault end ≡ false → s ≡ r → v ≡ w → CountsFault end r s w v
-counts_none None r s w v no p q = (p, q)
-counts_none (Some ended.Closed) r s w v no p q = (p, q)
-counts_none (Some ended.BadMessage) r s w v no p q = (p, q)
-counts_none (Some ended.NotBuilt) r s w v no p q = (p, q)
-counts_none (Some ended.RunFull) r s w v no p q = (p, q)
-counts_none (Some (ended.Cut why)) r s w v no p q = (p, q)
-counts_none (Some ended.ReadFault) r s w v no p q = cc
-counts_none (Some ended.WriteFault) r s w v no p q = cc
-counts_none (Some ended.Memory) r s w v no p q = (p, q)
+counts_none None r s w v calm p q = (p, q)
+counts_none (Some ended.Closed) r s w v calm p q = (p, q)
+counts_none (Some ended.BadMessage) r s w v calm p q = (p, q)
+counts_none (Some ended.NotBuilt) r s w v calm p q = (p, q)
+counts_none (Some ended.RunFull) r s w v calm p q = (p, q)
+counts_none (Some (ended.Cut why)) r s w v calm p q = (p, q)
+counts_none (Some ended.ReadFault) r s w v calm p q = cc
+counts_none (Some ended.WriteFault) r s w v calm p q = cc
+counts_none (Some ended.Memory) r s w v calm p q = (p, q)
 
 calm_ends : {C : Type 0} (a b : Scene C) (end : Option Ended) → is_fault end ≡ false → Calm a b → Follows a b end
-calm_ends a b end no calm = record {
+calm_ends a b end none calm = record {
   lasts = calm.lasts;
-  counts = counts_none end a.read_faults b.read_faults a.write_faults b.write_faults no calm.read calm.write;
+  counts = counts_none end a.read_faults b.read_faults a.write_faults b.write_faults none calm.read calm.write;
 }
 
 -- ---- a response ends a session by no fault
@@ -219,15 +225,15 @@ closes_calm reads how false a b same = calm_same a b same
 
 -- ---- responses
 
-says_follows : {C T : Type 0} (a b : Scene C) (bytes : List ℕ) (by : Ended) → Says {T = T} a b bytes (Err by) → Follows a b (Some by)
-says_follows a b bytes ended.Memory says = calm_ends a b (Some ended.Memory) refl (calm_same a b says)
-says_follows a b bytes ended.WriteFault says = part_follows a b bytes says
-says_follows a b bytes ended.Closed says = absurd says
-says_follows a b bytes ended.BadMessage says = absurd says
-says_follows a b bytes ended.NotBuilt says = absurd says
-says_follows a b bytes ended.RunFull says = absurd says
-says_follows a b bytes (ended.Cut why) says = absurd says
-says_follows a b bytes ended.ReadFault says = absurd says
+says_follows : {C : Type 0} (T : Type 0) (a b : Scene C) (bytes : List ℕ) (by : Ended) → Says {T = T} a b bytes (Err by) → Follows a b (Some by)
+says_follows T a b bytes ended.Memory says = calm_ends a b (Some ended.Memory) refl (calm_same a b says)
+says_follows T a b bytes ended.WriteFault says = part_follows a b bytes says
+says_follows T a b bytes ended.Closed says = absurd says
+says_follows T a b bytes ended.BadMessage says = absurd says
+says_follows T a b bytes ended.NotBuilt says = absurd says
+says_follows T a b bytes ended.RunFull says = absurd says
+says_follows T a b bytes (ended.Cut why) says = absurd says
+says_follows T a b bytes ended.ReadFault says = absurd says
 
 pieces_calm : {C : Type 0} (close : Bool) (content : List Piece) (first : Option (Vec ℕ Global)) (a b : Scene C) (given : List (List ℕ))
     → WritesPieces close content first a b given → Calm a b
@@ -237,44 +243,44 @@ pieces_calm close content first a b given writes = record {
   write = writes.no_fault;
 }
 
-file_follows : {C T : Type 0} (close : Bool) (content : List Piece) (first : Option (Vec ℕ Global)) (a b : Scene C) (by : Ended)
+file_follows : {C : Type 0} (T : Type 0) (close : Bool) (content : List Piece) (first : Option (Vec ℕ Global)) (a b : Scene C) (by : Ended)
     → SendsFile {T = T} close content first a b (Err by) → Follows a b (Some by)
-file_follows close content first a b (ended.Cut why) (given, writes, more) =
+file_follows T close content first a b (ended.Cut why) (given, writes, lacks, other) =
     calm_ends a b (Some (ended.Cut why)) refl (pieces_calm close content first a b given writes)
-file_follows close content first a b ended.Memory (inl same) = calm_ends a b (Some ended.Memory) refl (calm_same a b same)
-file_follows close content first a b ended.Memory (inr (given, writes, lacks)) =
+file_follows T close content first a b ended.Memory (inl same) = calm_ends a b (Some ended.Memory) refl (calm_same a b same)
+file_follows T close content first a b ended.Memory (inr (given, writes, lacks)) =
     calm_ends a b (Some ended.Memory) refl (pieces_calm close content first a b given writes)
-file_follows close content first a b ended.WriteFault (given, breaks) = record {
+file_follows T close content first a b ended.WriteFault (given, breaks) = record {
   lasts = breaks.pieces.waits.lasts;
   counts = (ap (λ (s : Scene _). s.read_faults) breaks.pieces.only, breaks.cause);
 }
-file_follows close content first a b ended.Closed sends = absurd sends
-file_follows close content first a b ended.BadMessage sends = absurd sends
-file_follows close content first a b ended.NotBuilt sends = absurd sends
-file_follows close content first a b ended.RunFull sends = absurd sends
-file_follows close content first a b ended.ReadFault sends = absurd sends
+file_follows T close content first a b ended.Closed sends = absurd sends
+file_follows T close content first a b ended.BadMessage sends = absurd sends
+file_follows T close content first a b ended.NotBuilt sends = absurd sends
+file_follows T close content first a b ended.RunFull sends = absurd sends
+file_follows T close content first a b ended.ReadFault sends = absurd sends
 
-writes_follows : {C T : Type 0} (close : Bool) (v : Response) (a b : Scene C) (by : Ended) → Writes {T = T} close v a b (Err by) → Follows a b (Some by)
-writes_follows {C = C} {T = T} close (response.Denied d) a b by writes = says_follows {C = C} {T = T} a b _ by writes
-writes_follows {C = C} {T = T} close (response.Lost fault) a b by writes = says_follows {C = C} {T = T} a b _ by writes
-writes_follows {C = C} {T = T} close (response.File content first) a b by writes = file_follows {C = C} {T = T} close content first a b by writes
-writes_follows {C = C} {T = T} close response.Made a b by writes = says_follows {C = C} {T = T} a b _ by writes
-writes_follows {C = C} {T = T} close response.Done a b by writes = says_follows {C = C} {T = T} a b _ by writes
+writes_follows : {C : Type 0} (T : Type 0) (close : Bool) (v : Response) (a b : Scene C) (by : Ended) → Writes {T = T} close v a b (Err by) → Follows a b (Some by)
+writes_follows T close (response.Denied d) a b by writes = says_follows T a b _ by writes
+writes_follows T close (response.Lost fault) a b by writes = says_follows T a b _ by writes
+writes_follows T close (response.File content first) a b by writes = file_follows T close content first a b by writes
+writes_follows T close response.Made a b by writes = says_follows T a b _ by writes
+writes_follows T close response.Done a b by writes = says_follows T a b _ by writes
 
-writes_calm : {C T : Type 0} (close : Bool) (v : Response) (a b : Scene C) (sent : T) → Writes {T = T} close v a b (Ok sent) → Calm a b
-writes_calm close (response.Denied d) a b sent writes = wrote_calm a b _ writes
-writes_calm close (response.Lost fault) a b sent writes = wrote_calm a b _ writes
-writes_calm close (response.File content first) a b sent (given, writes, all) = pieces_calm close content first a b given writes
-writes_calm close response.Made a b sent writes = wrote_calm a b _ writes
-writes_calm close response.Done a b sent writes = wrote_calm a b _ writes
+writes_calm : {C : Type 0} (T : Type 0) (close : Bool) (v : Response) (a b : Scene C) (sent : T) → Writes {T = T} close v a b (Ok sent) → Calm a b
+writes_calm T close (response.Denied d) a b sent writes = wrote_calm a b _ writes
+writes_calm T close (response.Lost fault) a b sent writes = wrote_calm a b _ writes
+writes_calm T close (response.File content first) a b sent (given, writes, all) = pieces_calm close content first a b given writes
+writes_calm T close response.Made a b sent writes = wrote_calm a b _ writes
+writes_calm T close response.Done a b sent writes = wrote_calm a b _ writes
 
 responds_follows : {C : Type 0} (last : Bool) (head : Head) (v : Response) (a b : Scene C) (result : Result (Option Ended) Ended)
     → Responds last head v a b result → Follows a b (end_by result)
 responds_follows {C = C} last head v a b (Ok end) responds =
     subst (λ (z : Option Ended). Follows a b z) (sym responds.0)
     (calm_ends a b (end_of (closes_session head) v) (end_is_none (closes_session head) v)
-    (writes_calm {C = C} {T = Unit {0}} (says_close last head v) v a b tt responds.1))
-responds_follows {C = C} last head v a b (Err by) responds = writes_follows {C = C} {T = Unit {0}} (says_close last head v) v a b by responds
+    (writes_calm (Unit {0}) (says_close last head v) v a b tt responds.1))
+responds_follows {C = C} last head v a b (Err by) responds = writes_follows (Unit {0}) (says_close last head v) v a b by responds
 
 -- ---- no message
 
@@ -289,22 +295,22 @@ so_follows d a b (ended.Cut why) ends = absurd ends
 so_follows d a b ended.ReadFault ends = absurd ends
 
 -- bytes were refused by a fault of the input, or of its bytes
-refused_follows : {C T : Type 0} (a m b : Scene C) (fault : WireFault) (by : Ended) → OnlyReads a m
+refused_follows : {C : Type 0} (T : Type 0) (a m b : Scene C) (fault : WireFault) (by : Ended) → OnlyReads a m
     → HasReadCause {T = T} a.read_faults m.read_faults (Err fault) → EndsBy fault m b by → Follows a b (Some by)
-refused_follows a m b wire.ReadFault by only cause ends =
+refused_follows T a m b wire.ReadFault by only cause ends =
     subst (λ (z : Option Ended). Follows a b z) (sym (ap (λ (e : Ended). Some e) ends.0))
     (subst (λ (z : Scene _). Follows a z (Some ended.ReadFault)) (sym ends.1) (record {
       lasts = subst (λ (z : Book). Lasts a.book z) (sym (ap (λ (s : Scene _). s.book) only)) (waits_refl a.book).lasts;
       counts = (cause, ap (λ (s : Scene _). s.write_faults) only);
     }))
-refused_follows a m b wire.Memory by only cause ends =
+refused_follows T a m b wire.Memory by only cause ends =
     subst (λ (z : Option Ended). Follows a b z) (sym (ap (λ (e : Ended). Some e) ends.0))
     (subst (λ (z : Scene _). Follows a z (Some ended.Memory)) (sym ends.1) (calm_ends a m (Some ended.Memory) refl (reads_calm a m only cause)))
-refused_follows a m b wire.Bad by only cause ends = calm_follows a m b (Some by) (reads_calm a m only cause) (so_follows _ m b by ends)
-refused_follows a m b wire.HeadLong by only cause ends = calm_follows a m b (Some by) (reads_calm a m only cause) (so_follows _ m b by ends)
-refused_follows a m b wire.Coding by only cause ends = calm_follows a m b (Some by) (reads_calm a m only cause) (so_follows _ m b by ends)
-refused_follows a m b (wire.TooLarge n) by only cause ends = calm_follows a m b (Some by) (reads_calm a m only cause) (so_follows _ m b by ends)
-refused_follows a m b wire.Truncated by only cause ends = calm_follows a m b (Some by) (reads_calm a m only cause) (so_follows _ m b by ends)
+refused_follows T a m b wire.Bad by only cause ends = calm_follows a m b (Some by) (reads_calm a m only cause) (so_follows (denial_of wire.Bad) m b by ends)
+refused_follows T a m b wire.HeadLong by only cause ends = calm_follows a m b (Some by) (reads_calm a m only cause) (so_follows (denial_of wire.HeadLong) m b by ends)
+refused_follows T a m b wire.Coding by only cause ends = calm_follows a m b (Some by) (reads_calm a m only cause) (so_follows (denial_of wire.Coding) m b by ends)
+refused_follows T a m b (wire.TooLarge n) by only cause ends = calm_follows a m b (Some by) (reads_calm a m only cause) (so_follows (denial_of (wire.TooLarge n)) m b by ends)
+refused_follows T a m b wire.Truncated by only cause ends = calm_follows a m b (Some by) (reads_calm a m only cause) (so_follows (denial_of wire.Truncated) m b by ends)
 
 -- ---- a turn
 
@@ -326,14 +332,14 @@ short_follows : {C : Type 0} (reads : C → ℕ → C → Type 0) (head : Head) 
 short_follows {C = C} reads head u a b end cut =
     subst (λ (z : Option Ended). Follows a b z) (sym cut.ends)
     (follows_calm a cut.sent b (Some cut.by)
-    (refused_follows {C = C} {T = ℕ} a cut.cut cut.sent cut.fault cut.by cut.takes.only cut.takes.cause cut.responds)
+    (refused_follows ℕ a cut.cut cut.sent cut.fault cut.by cut.takes.only cut.takes.cause cut.responds)
     (closes_calm reads ending.Gone _ cut.sent b cut.closes))
 
 turn_follows : {C : Type 0} (reads : C → ℕ → C → Type 0) (last : Bool) (a b : Scene C) (end : Option Ended) → Turn reads last a b end → Follows a b end
 turn_follows reads last a b end (inl (heads, is)) =
     subst (λ (z : Option Ended). Follows a b z) (sym is) (calm_ends a b (Some ended.Closed) refl (reads_calm a b heads.only heads.cause))
 turn_follows {C = C} reads last a b end (inr (inl (m, fault, by, heads, ends, is))) =
-    subst (λ (z : Option Ended). Follows a b z) (sym is) (refused_follows {C = C} {T = Option Head} a m b fault by heads.only heads.cause ends)
+    subst (λ (z : Option Ended). Follows a b z) (sym is) (refused_follows (Option Head) a m b fault by heads.only heads.cause ends)
 turn_follows reads last a b end (inr (inr (m, head, heads, (opened, u, judged, inl answers)))) =
     calm_follows a m b end (reads_calm a m heads.only heads.cause)
     (calm_follows m opened b end (judges_calm reads head m opened u judged) (answers_follows reads last head u opened b end answers))
