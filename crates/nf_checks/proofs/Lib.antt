@@ -1,0 +1,7 @@
+pub mod Basics
+pub mod Books
+pub mod Scenes
+pub mod Bodies
+pub mod Responses
+pub mod Turns
+pub mod Sessions

@@ -1,0 +1,6 @@
+//! What follows from the contracts of the server. The functions do nothing: each stands for the fact that it ensures.
+#![tactic(auto)]
+
+mod alike;
+
+pub use alike::sessions_end_alike;
