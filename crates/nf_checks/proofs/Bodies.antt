@@ -1,10 +1,11 @@
 -- Bodies that are taken in two scenes that are the same, and what they make of what was begun.
-use Rattle.std.proofs.Common.{◌≡◌, ◌⊎◌, ℕ, ◌+◌, ◌<◌, ◌≤◌, Bool, true, false, List, [], ◌∷◌, ◌++◌, refl, sym, ◌∙◌, ap, subst, arith, length, inl, inr, Ok, Err, Result, append-nil, length-append}
-use Rattle.std.specs.Io.KnownBytes.{Consumes, IsAtEnd}
+use Rattle.std.proofs.Common.{◌≡◌, ◌⊎◌, ℕ, List, [], ◌∷◌, refl, sym, ◌∙◌, ap, subst, inl, inr, Ok, Err}
+use Rattle.std.specs.Io.KnownBytes.{IsAtEnd}
 use Rattle.std.specs.declared.option.Option.{Option}
 use Rattle.std.specs.declared.option.Option.TheVariants.{None, Some}
 use Rattle.nf_base.specs.declared.content.Piece.{Piece}
-use Rattle.nf_http.specs.Bodies.{CutsBody, CutsRead, TakesLess}
+use Rattle.nf_http.specs.Bodies.{CutsBody, CutsRead, TakesBody}
+use Rattle.nf_http.proofs.Wholes.{whole_or_cut}
 use Rattle.nf_http.specs.Head.{Head}
 use Rattle.nf_http.specs.Next.{IsOfBytes}
 use Rattle.nf_http.specs.declared.wire.WireFault.{WireFault}
@@ -18,10 +19,10 @@ use Rattle.nf_server.specs.declared.begun.Begun.{Begun}
 use Rattle.nf_server.specs.declared.begun.Begun.TheVariants as begun
 use Rattle.nf_server.specs.declared.response.Response.{Response}
 use Rattle.nf_server.specs.declared.response.Response.TheVariants as response
-use Rattle.nf_checks.specs.Alike.{AreAlike, AreSame, IsAlone, IsCalmAnswer, IsCalmDenial, IsCalmResponse, IsSteady, KnowSame, TellSame}
+use Rattle.nf_checks.specs.Alike.{AreSame, IsAlone, IsCalmAnswer, IsCalmResponse, IsSteady, KnowSame, TellSame}
 use Rattle.nf_checks.proofs.Basics.{Left, left_of, told_moved, told_taken}
 use Rattle.nf_checks.proofs.Books.{Grows, enters_grow, enters_same, grows_self, know_next, know_self, lone_waits, waits_grow}
-use Rattle.nf_checks.proofs.Scenes.{Stays, alike_stays, asks_same, reads_stay, readings_same, same_self}
+use Rattle.nf_checks.proofs.Scenes.{Stays, asks_same, reads_stay, readings_same, same_self, same_stays}
 
 -- ---- responses
 
@@ -82,17 +83,17 @@ starts_same : {C : Type 0} (a b c d : Scene C) (content : List Piece) (v w : Res
     → IsAlone a.book b.book → IsAlone c.book d.book → Similar v w × AreSame b d
 starts_same {C = C} a b c d content v w same p q calm still alone also =
     let one : Started a.book b.book content v = started a.book b.book content v p.starts calm in
-    let other : Started c.book d.book content w = started c.book d.book content w q.starts still in
-    (files_similar content v w one.file other.file, record {
-      input = told_moved a.input b.input c.input d.input same.input (ap (λ (z : Scene C). z.input) p.only) (ap (λ (z : Scene C). z.input) q.only);
-      alike = record {
-        output = told_moved a.output b.output c.output d.output same.alike.output
-          (ap (λ (z : Scene C). z.output) p.only) (ap (λ (z : Scene C). z.output) q.only);
-        book = know_next a.book b.book c.book d.book same.alike.book
-          (lone_waited a.book b.book one.waits alone) (lone_waited c.book d.book other.waits also);
-        clock = ap (λ (z : Scene C). z.clock) q.only ∙ same.alike.clock ∙ sym (ap (λ (z : Scene C). z.clock) p.only);
-      };
-    })
+    let other : Started c.book d.book content w = started c.book d.book content w q.starts still in (
+      files_similar content v w one.file other.file,
+      record {
+        input = told_moved a.input b.input c.input d.input same.input (ap (λ (z : Scene C). z.input) p.only) (ap (λ (z : Scene C). z.input) q.only);
+        output = told_moved a.output b.output c.output d.output same.output
+            (ap (λ (z : Scene C). z.output) p.only) (ap (λ (z : Scene C). z.output) q.only);
+        book = know_next a.book b.book c.book d.book same.book
+            (lone_waited a.book b.book one.waits alone) (lone_waited c.book d.book other.waits also);
+        clock = ap (λ (z : Scene C). z.clock) q.only ∙ same.clock ∙ sym (ap (λ (z : Scene C). z.clock) p.only);
+      },
+    )
 
 -- ---- the body that is stored
 
@@ -103,8 +104,8 @@ stores_same reads body a b c d v w steady same (now1, x, read1, ends1, is1, only
     let read : (now1 ≡ now2) × (b.clock ≡ d.clock) = readings_same reads a b c d now1 now2 steady same read1 read2 in
     let ends : EndsBody c.book d.book now1 body y = subst (λ z. EndsBody c.book d.book z body y) (sym read.0) ends2 in
     let made : (y ≡ x) × KnowSame b.book d.book =
-      enters_same a.book b.book c.book d.book now1 (event_of_body body) x y same.alike.book ends1.enters ends.enters alone also
-      (calm_answer x v is1 calm) (calm_answer y w is2 still) in
+    enters_same a.book b.book c.book d.book now1 (event_of_body body) x y same.book ends1.enters ends.enters alone also
+    (calm_answer x v is1 calm) (calm_answer y w is2 still) in
     (similar x v w is1 (subst (λ z. IsResponse z w) made.0 is2), asks_same a b c d same only1 only2 made.1 read.1)
 
 -- ---- what the body makes of what was begun
@@ -141,17 +142,19 @@ passes_grow {C = C} reads body a b (begun.Asked (Err refusal)) v p calm = grows_
 
 -- ---- the body itself
 
+bodies_stay : {C : Type 0} (a b : Scene C) (n : ℕ) (p : List ℕ) → Bodies a b n p → Stays a b
+bodies_stay {C = C} a b n p x = record {
+  output = ap (λ (z : Scene C). z.output) x.only;
+  book = ap (λ (z : Scene C). z.book) x.only;
+  clock = ap (λ (z : Scene C). z.clock) x.only;
+}
+
 pub bodies_same : {C : Type 0} (a b c d : Scene C) (n : ℕ) (p q : List ℕ)
     → AreSame a c → Bodies a b n p → Bodies c d n q → (p ≡ q) × AreSame b d
-bodies_same {C = C} a b c d n p q same x y =
-    let taken : TellSame b.input d.input × (p ≡ q) =
-      told_taken a.input b.input c.input d.input p q same.input x.taken.1 y.taken.1 (x.taken.0 ∙ sym y.taken.0) in
-    (taken.1, record {
-      input = taken.0;
-      alike = alike_stays a b c d same.alike
-        (ap (λ (z : Scene C). z.output) x.only, ap (λ (z : Scene C). z.book) x.only, ap (λ (z : Scene C). z.clock) x.only)
-        (ap (λ (z : Scene C). z.output) y.only, ap (λ (z : Scene C). z.book) y.only, ap (λ (z : Scene C). z.clock) y.only);
-    })
+bodies_same a b c d n p q same x y =
+    let taken : (p ≡ q) × TellSame b.input d.input =
+    told_taken a.input b.input c.input d.input n p q same.input x.taken y.taken in
+    (taken.0, same_stays a b c d same (bodies_stay a b n p x) (bodies_stay c d n q y) taken.1)
 
 pub takes_same : {C : Type 0} (reads : C → ℕ → C → Type 0) (head : Head) (a b c d : Scene C) (x : Begun) (v w : Response)
     → IsSteady reads → AreSame a c → TakesIn reads head a b x (Ok v) → TakesIn reads head c d x (Ok w)
@@ -174,50 +177,43 @@ takes_grow {C = C} reads head a b x v (m, p, bodies, passes) calm =
 pub record IsCut {C : Type 0} (a b : Scene C) (n : ℕ) (fault : WireFault) : Type 0 where
   pub fault_is : fault ≡ wire.Truncated
   pub stays : Stays a b
-  pub less : TakesLess a.input b.input n
-  pub ended : IsAtEnd b.input
+  pub cut : CutsRead a.input b.input n wire.Truncated
 
 cut_read : (a b : Option (List ℕ)) (n : ℕ) (fault : WireFault) → CutsRead a b n fault → IsOfBytes (Err fault)
-    → (fault ≡ wire.Truncated) × TakesLess a b n × IsAtEnd b
-cut_read a b n wire.Truncated cut calm = (refl, cut.0, cut.1)
+    → (fault ≡ wire.Truncated) × CutsRead a b n wire.Truncated
+cut_read a b n wire.Truncated cut calm = (refl, cut)
 cut_read a b n wire.ReadFault cut calm = absurd calm
 cut_read a b n fault cut calm = absurd cut
 
 cut_body : (a b : Option (List ℕ)) (n : ℕ) (fault : WireFault) → CutsBody a b n fault → IsOfBytes (Err fault)
-    → (fault ≡ wire.Truncated) × TakesLess a b n × IsAtEnd b
+    → (fault ≡ wire.Truncated) × CutsRead a b n wire.Truncated
 cut_body a b n wire.Memory cut calm = absurd calm
 cut_body a b n fault cut calm = cut_read a b n fault cut calm
 
 cut_by : (x : Begun) (a b : Option (List ℕ)) (n : ℕ) (fault : WireFault) → cutting x a b n fault → IsOfBytes (Err fault)
-    → (fault ≡ wire.Truncated) × TakesLess a b n × IsAtEnd b
+    → (fault ≡ wire.Truncated) × CutsRead a b n wire.Truncated
 cut_by (begun.Asked (Ok (reply.Granted (goal.Store who key size)))) a b n fault cut calm = cut_body a b n fault cut calm
 cut_by other a b n fault cut calm = cut_read a b n fault cut calm
 
 pub cut_of : {C : Type 0} (a b : Scene C) (x : Begun) (n : ℕ) (fault : WireFault)
     → Cuts (cutting x) a b n fault → IsOfBytes (Err fault) → IsCut a b n fault
 cut_of a b x n fault cuts calm =
-    let cut : (fault ≡ wire.Truncated) × TakesLess a.input b.input n × IsAtEnd b.input = cut_by x a.input b.input n fault cuts.cut calm in
-    record { fault_is = cut.0; stays = reads_stay a b cuts.only; less = cut.1; ended = cut.2 }
+    let cut : (fault ≡ wire.Truncated) × CutsRead a.input b.input n wire.Truncated = cut_by x a.input b.input n fault cuts.cut calm in
+    record { fault_is = cut.0; stays = reads_stay a b cuts.only; cut = cut.1 }
 
-ended_is : (rest : List ℕ) (b : Option (List ℕ)) → b ≡ Some rest → IsAtEnd b → rest ≡ []
-ended_is rest b e end = subst (λ z. IsAtEnd z) e end
+-- nothing is left
+nothing_left : (a b : Option (List ℕ)) (xs : List ℕ) (n : ℕ) → a ≡ Some xs → CutsRead a b n wire.Truncated → b ≡ Some []
+nothing_left a b xs n e cut =
+    let left : Left b = left_of a b xs cut.0.0 e cut.0.2 in
+    left.1 ∙ ap (λ z. Some z) (subst (λ z. IsAtEnd z) left.1 cut.1)
 
 pub cuts_same : {C : Type 0} (a b c d : Scene C) (n : ℕ) (x y : WireFault)
     → AreSame a c → IsCut a b n x → IsCut c d n y → AreSame b d
-cuts_same a b c d n x y same p q =
-    let l : Left same.input.0 p.less.0 b.input = left_of a.input b.input same.input.0 p.less.0 same.input.1 p.less.2 in
-    let r : Left same.input.0 q.less.0 d.input = left_of c.input d.input same.input.0 q.less.0 same.input.2 q.less.2 in
-    record {
-      input = ([], l.1 ∙ ap (λ z. Some z) (ended_is l.0 b.input l.1 p.ended), r.1 ∙ ap (λ z. Some z) (ended_is r.0 d.input r.1 q.ended));
-      alike = alike_stays a b c d same.alike p.stays q.stays;
-    }
+cuts_same a b c d n x y same p q = same_stays a b c d same p.stays q.stays
+    ([], nothing_left a.input b.input same.input.0 n same.input.1 p.cut, nothing_left c.input d.input same.input.0 n same.input.2 q.cut)
 
 -- a body that is there whole isn't cut
-pub whole_or_cut : {C : Type 0} (a b c d : Scene C) (n : ℕ) (body : List ℕ) (y : WireFault)
+pub never_cut : {C : Type 0} (a b c d : Scene C) (n : ℕ) (body : List ℕ) (y : WireFault)
     → AreSame a c → Bodies a b n body → IsCut c d n y → ⊥
-whole_or_cut a b c d n body y same p q =
-    let l : Left same.input.0 body b.input = left_of a.input b.input same.input.0 body same.input.1 p.taken.1 in
-    let r : Left same.input.0 q.less.0 d.input = left_of c.input d.input same.input.0 q.less.0 same.input.2 q.less.2 in
-    let none : length r.0 ≡ 0 = ap (λ (z : List ℕ). length z) (ended_is r.0 d.input r.1 q.ended) in
-    let bytes : length (body ++ l.0) ≡ length (q.less.0 ++ r.0) = ap (λ (z : List ℕ). length z) (sym l.2 ∙ r.2) in
-    absurd (omega (arith, length-append body l.0, length-append q.less.0 r.0, p.taken.0, q.less.1))
+never_cut a b c d n body y same p q = whole_or_cut same.input.0 b.input d.input n body
+    (subst (λ z. TakesBody z b.input n body) same.input.1 p.taken) (subst (λ z. CutsRead z d.input n wire.Truncated) same.input.2 q.cut)

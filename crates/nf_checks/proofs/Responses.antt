@@ -1,7 +1,6 @@
 -- Responses that are written in two scenes that are the same.
-use Rattle.std.proofs.Common.{◌≡◌, ◌≢◌, ◌⊎◌, ℕ, ◌||◌, Bool, true, false, List, [], ◌∷◌, ◌++◌, refl, sym, ◌∙◌, ap, subst, arith, length, inl, inr, Ok, Err, Result, is_some}
+use Rattle.std.proofs.Common.{◌≡◌, ◌≢◌, ◌⊎◌, ℕ, Bool, true, false, List, [], ◌∷◌, refl, sym, ◌∙◌, ap, subst, arith, length, inl, inr, Ok, Err, Result}
 use Rattle.std.specs.declared.option.Option.{Option}
-use Rattle.std.specs.declared.option.Option.TheVariants.{None, Some}
 use Rattle.std.specs.Io.KnownBytes.{Appends}
 use Rattle.std.specs.declared.alloc.Global.{Global}
 use Rattle.std.specs.Prelude.{Vec, bytes_eq}
@@ -12,23 +11,19 @@ use Rattle.nf_http.specs.declared.wire.WireFault.{WireFault}
 use Rattle.nf_http.specs.declared.wire.WireFault.TheVariants as wire
 use Rattle.nf_http.specs.Next.{IsOfBytes}
 use Rattle.nf_words.specs.declared.answer.Denial.{Denial}
-use Rattle.nf_words.specs.declared.answer.Denial.TheVariants as denial
 use Rattle.nf_dav.specs.Reply.{done_reply, made_reply, refusal_reply}
 use Rattle.nf_server.specs.Book.{Book, IsPiece, denial_of_piece}
 use Rattle.nf_server.specs.Files.{AreGiven, SendsFile, WritesPieces, file_front}
 use Rattle.nf_server.specs.Steps.{EndsBy, EndsSo, Says, Scene, Wrote, denial_of}
 use Rattle.nf_server.specs.Turn.{Responds, Writes, end_by, end_of, how_of, says_close, stays_granted}
-use Rattle.nf_server.specs.declared.backend.Ending.{Ending}
-use Rattle.nf_server.specs.declared.backend.Ending.TheVariants as ending
-use Rattle.nf_server.specs.declared.backend.PieceFault.{PieceFault}
 use Rattle.nf_server.specs.declared.ended.Ended.{Ended}
 use Rattle.nf_server.specs.declared.ended.Ended.TheVariants as ended
 use Rattle.nf_server.specs.declared.response.Response.{Response}
 use Rattle.nf_server.specs.declared.response.Response.TheVariants as response
-use Rattle.nf_checks.specs.Alike.{AreSame, Clash, IsAlone, IsCalmEnd, IsCalmEnded, IsCalmResponse, KnowSame, TellSame}
+use Rattle.nf_checks.specs.Alike.{AreSame, Clash, IsAlone, IsCalmEnd, IsCalmEnded}
 use Rattle.nf_checks.proofs.Basics.{told_appended, told_moved}
 use Rattle.nf_checks.proofs.Bodies.{Similar}
-use Rattle.nf_checks.proofs.Books.{Grows, grows_self, know_next, lone_waits, waits_grow}
+use Rattle.nf_checks.proofs.Books.{Grows, know_next, lone_waits, waits_grow}
 use Rattle.nf_checks.proofs.Scenes.{wrote_grows, wrote_same}
 
 -- ---- the bytes of pieces
@@ -38,15 +33,15 @@ decided x y true e = inl ((bytes_eq-Decides x y).0 e)
 decided x y false e = inr (λ same. cc (e, (bytes_eq-Decides x y).1 same))
 
 -- bytes of one piece are the same, or clash
-piece_same : (b d : Book) (piece : Piece) (x y : List ℕ) → IsPiece b piece x → IsPiece d piece y → (x ≡ y) ⊎ Clash
+piece_same : (b d : Book) (piece : Piece) (x y : List ℕ) → IsPiece b piece x → IsPiece d piece y → (x ≡ y) ⊎ Clash b d
 piece_same b d piece x y p q = check (decided x y (bytes_eq x y) refl)
   where
-    check : (x ≡ y) ⊎ (x ≢ y) → (x ≡ y) ⊎ Clash
+    check : (x ≡ y) ⊎ (x ≢ y) → (x ≡ y) ⊎ Clash b d
     check (inl same) = inl same
-    check (inr differ) = inr (record { one = x; other = y; differ = differ; size = p.size ∙ sym q.size; digest = p.digest ∙ sym q.digest })
+    check (inr differ) = inr (record { piece = piece; one = x; other = y; given = p; also = q; differ = differ })
 
 given_same : (b d : Book) (content : List Piece) (xs ys : List (List ℕ))
-    → AreGiven b content xs → AreGiven d content ys → length xs ≡ length ys → (xs ≡ ys) ⊎ Clash
+    → AreGiven b content xs → AreGiven d content ys → length xs ≡ length ys → (xs ≡ ys) ⊎ Clash b d
 given_same b d content [] [] p q n = inl refl
 given_same b d content [] (y ∷ ys) p q n = absurd (omega arith)
 given_same b d content (x ∷ xs) [] p q n = absurd (omega arith)
@@ -54,7 +49,7 @@ given_same b d [] (x ∷ xs) (y ∷ ys) p q n = absurd p
 given_same b d (piece ∷ content) (x ∷ xs) (y ∷ ys) p q n =
     both (piece_same b d piece x y p.0 q.0) (given_same b d content xs ys p.1 q.1 (omega arith))
   where
-    both : (x ≡ y) ⊎ Clash → (xs ≡ ys) ⊎ Clash → (x ∷ xs ≡ y ∷ ys) ⊎ Clash
+    both : (x ≡ y) ⊎ Clash b d → (xs ≡ ys) ⊎ Clash b d → (x ∷ xs ≡ y ∷ ys) ⊎ Clash b d
     both (inl here) (inl there) = inl (λ i. here i ∷ there i)
     both (inl here) (inr clash) = inr clash
     both (inr clash) there = inr clash
@@ -66,16 +61,14 @@ pieces_same : {C : Type 0} (a b c d : Scene C) (close : Bool) (content : List Pi
     → IsAlone a.book b.book → IsAlone c.book d.book → AreSame b d
 pieces_same {C = C} a b c d close content first other xs ys same p q e alone also =
     let bytes : Appends c.output d.output (file_front close content xs) =
-      subst (λ z. Appends c.output d.output (file_front close content z)) (sym e) q.bytes_are in
+    subst (λ z. Appends c.output d.output (file_front close content z)) (sym e) q.bytes_are in
     record {
       input = told_moved a.input b.input c.input d.input same.input
-        (ap (λ (z : Scene C). z.input) p.pieces.only) (ap (λ (z : Scene C). z.input) q.pieces.only);
-      alike = record {
-        output = told_appended a.output b.output c.output d.output (file_front close content xs) same.alike.output p.bytes_are bytes;
-        book = know_next a.book b.book c.book d.book same.alike.book
+          (ap (λ (z : Scene C). z.input) p.pieces.only) (ap (λ (z : Scene C). z.input) q.pieces.only);
+      output = told_appended a.output b.output c.output d.output (file_front close content xs) same.output p.bytes_are bytes;
+      book = know_next a.book b.book c.book d.book same.book
           (lone_waits a.book b.book p.pieces.waits alone) (lone_waits c.book d.book q.pieces.waits also);
-        clock = ap (λ (z : Scene C). z.clock) q.pieces.only ∙ same.alike.clock ∙ sym (ap (λ (z : Scene C). z.clock) p.pieces.only);
-      };
+      clock = ap (λ (z : Scene C). z.clock) q.pieces.only ∙ same.clock ∙ sym (ap (λ (z : Scene C). z.clock) p.pieces.only);
     }
 
 -- a file that is sent whole
@@ -84,11 +77,11 @@ Whole close content first a b = (given : List (List ℕ)) × WritesPieces close 
 
 files_same : {C : Type 0} (a b c d : Scene C) (close : Bool) (content : List Piece) (first other : Option (Vec ℕ Global))
     → AreSame a c → Whole close content first a b → Whole close content other c d
-    → IsAlone a.book b.book → IsAlone c.book d.book → AreSame b d ⊎ Clash
+    → IsAlone a.book b.book → IsAlone c.book d.book → AreSame b d ⊎ Clash b.book d.book
 files_same a b c d close content first other same (xs, p, n) (ys, q, m) alone also =
     end (given_same b.book d.book content xs ys p.pieces.are_given q.pieces.are_given (n ∙ sym m))
   where
-    end : (xs ≡ ys) ⊎ Clash → AreSame b d ⊎ Clash
+    end : (xs ≡ ys) ⊎ Clash b.book d.book → AreSame b d ⊎ Clash b.book d.book
     end (inl e) = inl (pieces_same a b c d close content first other xs ys same p q e alone also)
     end (inr clash) = inr clash
 
@@ -96,7 +89,7 @@ files_same a b c d close content first other same (xs, p, n) (ys, q, m) alone al
 
 pub writes_same : {C : Type 0} (a b c d : Scene C) (close : Bool) (v w : Response)
     → Similar v w → AreSame a c → Writes {T = Unit {0}} close v a b (Ok tt) → Writes {T = Unit {0}} close w c d (Ok tt)
-    → IsAlone a.book b.book → IsAlone c.book d.book → AreSame b d ⊎ Clash
+    → IsAlone a.book b.book → IsAlone c.book d.book → AreSame b d ⊎ Clash b.book d.book
 writes_same a b c d close (response.Denied r) (response.Denied s) is same p q alone also =
     let bytes : Wrote c d (refusal_reply close r) = subst (λ z. Wrote c d (refusal_reply close z)) (sym is) q in
     inl (wrote_same a b c d (refusal_reply close r) same p bytes)

@@ -1,14 +1,14 @@
 -- Two sessions, turn by turn.
-use Rattle.std.proofs.Common.{◌≡◌, ◌⊎◌, ℕ, ◌+◌, ◌<◌, ◌≤◌, ◌==◌, Bool, true, false, List, [], ◌∷◌, refl, sym, ◌∙◌, ap, subst, arith, length, inl, inr}
+use Rattle.std.proofs.Common.{◌≡◌, ◌⊎◌, ℕ, ◌+◌, ◌<◌, ◌≤◌, ◌==◌, Bool, false, List, [], ◌∷◌, refl, sym, ap, subst, arith, length, inl, inr}
 use Rattle.std.specs.declared.option.Option.{Option}
-use Rattle.std.specs.declared.option.Option.TheVariants.{None, Some}
+use Rattle.std.specs.declared.option.Option.TheVariants.{None}
 use Rattle.std.proofs.lemmas.Bool.{ne_eqb}
 use Rattle.nf_server.specs.Session.{Session, Through}
 use Rattle.nf_server.specs.Steps.{Scene}
 use Rattle.nf_server.specs.Turn.{Turn}
 use Rattle.nf_server.specs.declared.ended.Ended.{Ended}
-use Rattle.nf_checks.specs.Alike.{AreAlike, AreCalmTurns, AreSame, Clash, IsAlone, IsCalmEnd, IsCalmTurn, IsSteady, IsUndisturbed}
-use Rattle.nf_checks.proofs.Books.{Grows, alone_first, alone_then, grows_on, grows_self}
+use Rattle.nf_checks.specs.Alike.{AreCalmTurns, AreSame, Clash, IsAlone, IsCalmEnd, IsCalmTurn, IsSteady, IsUndisturbed, SessionsEndAlike, StoresAgree, ToldSessionsEndAlike}
+use Rattle.nf_checks.proofs.Books.{Grows, alone_first, alone_then, clash_back, clash_on, grows_on, grows_self, no_clash}
 use Rattle.nf_checks.proofs.Scenes.{same_back}
 use Rattle.nf_checks.proofs.Turns.{EndsSame, turn_grows, turns_same}
 
@@ -24,10 +24,10 @@ record Rest {C : Type 0} (reads : C → ℕ → C → Type 0) (n : ℕ) (a : Sce
   pub alone : IsAlone a.book b.book
 
 abbrev Alike : {C : Type 0} → Scene C → Scene C → Option Ended → Option Ended → Type 0
-Alike b d end also = ((also ≡ end) × AreAlike b d) ⊎ Clash
+Alike b d end also = ((also ≡ end) × AreSame b d) ⊎ Clash b.book d.book
 
-alike_of : {C : Type 0} (b d : Scene C) (end also : Option Ended) → EndsSame b d end also ⊎ Clash → Alike b d end also
-alike_of b d end also (inl same) = inl (same.end_is, same.alike)
+alike_of : {C : Type 0} (b d : Scene C) (end also : Option Ended) → EndsSame b d end also ⊎ Clash b.book d.book → Alike b d end also
+alike_of b d end also (inl same) = inl (same.end_is, same.scene)
 alike_of b d end also (inr clash) = inr clash
 
 through_grows : {C : Type 0} (reads : C → ℕ → C → Type 0) (a : Scene C) (scenes : List (Scene C)) (m : Scene C)
@@ -43,6 +43,10 @@ rest_grows : {C : Type 0} (reads : C → ℕ → C → Type 0) (n : ℕ) (a : Sc
 rest_grows reads n a scenes m b end through turns turn calm well =
     grows_on a.book m.book b.book (through_grows reads a scenes m through turns) (turn_grows reads (n == 9999) m b end turn calm well)
 
+next_grows : {C : Type 0} (reads : C → ℕ → C → Type 0) (n : ℕ) (a next : Scene C) (scenes : List (Scene C)) (m b : Scene C) (end : Option Ended)
+    → Rest reads n a (next ∷ scenes) m b end → Grows next.book b.book
+next_grows reads n a next scenes m b end p = rest_grows reads n next scenes m b end p.through.1 p.turns.1 p.turn p.calm p.end_is
+
 -- what follows the first turn
 next_of : {C : Type 0} (reads : C → ℕ → C → Type 0) (n : ℕ) (a next : Scene C) (scenes : List (Scene C)) (m b : Scene C) (end : Option Ended)
     → Rest reads n a (next ∷ scenes) m b end → Rest reads n next scenes m b end
@@ -55,14 +59,14 @@ next_of reads n a next scenes m b end p = record {
   few = p.few;
   full = p.full;
   alone = alone_then a.book next.book b.book (turn_grows reads false a next None p.through.0 p.turns.0 tt)
-    (rest_grows reads n next scenes m b end p.through.1 p.turns.1 p.turn p.calm p.end_is) p.alone;
+      (next_grows reads n a next scenes m b end p) p.alone;
 }
 
 first_alone : {C : Type 0} (reads : C → ℕ → C → Type 0) (n : ℕ) (a next : Scene C) (scenes : List (Scene C)) (m b : Scene C) (end : Option Ended)
     → Rest reads n a (next ∷ scenes) m b end → IsAlone a.book next.book
 first_alone reads n a next scenes m b end p =
     alone_first a.book next.book b.book (turn_grows reads false a next None p.through.0 p.turns.0 tt)
-    (rest_grows reads n next scenes m b end p.through.1 p.turns.1 p.turn p.calm p.end_is) p.alone
+    (next_grows reads n a next scenes m b end p) p.alone
 
 -- a turn that is the session's last
 record Last {C : Type 0} (reads : C → ℕ → C → Type 0) (last : Bool) (a b : Scene C) (end : Option Ended) : Type 0 where
@@ -77,30 +81,32 @@ last_of reads n a m b end p =
 
 lasts_same : {C : Type 0} (reads : C → ℕ → C → Type 0) (last : Bool) (a b c d : Scene C) (end also : Option Ended)
     → IsSteady reads → AreSame a c → Last reads last a b end → Last reads last c d also → IsCalmEnd end → IsCalmEnd also
-    → IsAlone a.book b.book → IsAlone c.book d.book → EndsSame b d end also ⊎ Clash
+    → IsAlone a.book b.book → IsAlone c.book d.book → EndsSame b d end also ⊎ Clash b.book d.book
 lasts_same reads last a b c d end also steady same p q well good alone lone =
     turns_same reads last a b c d end also p.turn q.turn steady same p.calm q.calm well good alone lone
 
 -- no session goes on where the other ended
 longer : {C : Type 0} (reads : C → ℕ → C → Type 0) (n : ℕ) (a m b : Scene C) (c next d : Scene C) (end : Option Ended)
     (turn : Turn reads false c next None) → IsSteady reads → AreSame a c → Rest reads n a [] m b end → n < 9999
-    → IsCalmTurn reads false c next None turn → IsAlone c.book next.book → Clash
+    → IsCalmTurn reads false c next None turn → IsAlone c.book next.book → Clash b.book next.book
 longer reads n a m b c next d end turn steady same p less calm lone =
     end_of (lasts_same reads false a b c next end None steady same last (record { turn = turn; calm = calm }) p.end_is tt p.alone lone)
   where
     early : (n == 9999) ≡ false
     early = ne_eqb n 9999 (λ e. absurd (omega arith))
+
     last : Last reads false a b end
     last = subst (λ z. Last reads z a b end) early (last_of reads n a m b end p)
-    end_of : EndsSame b next end None ⊎ Clash → Clash
+
+    end_of : EndsSame b next end None ⊎ Clash b.book next.book → Clash b.book next.book
     end_of (inl ended) = let full : n ≡ 9999 = p.full (sym ended.end_is) in absurd (omega arith)
     end_of (inr clash) = clash
 
 -- from turns that went on, to what follows
-go_on : {C : Type 0} (a c b d : Scene C) (end also : Option Ended)
-    → EndsSame a c None None ⊎ Clash → (AreSame a c → Alike b d end also) → Alike b d end also
-go_on a c b d end also (inl ends) then = then (record { input = ends.left refl; alike = ends.alike })
-go_on a c b d end also (inr clash) then = inr clash
+go_on : {C : Type 0} (a c b d : Scene C) (end also : Option Ended) → Grows a.book b.book → Grows c.book d.book
+    → EndsSame a c None None ⊎ Clash a.book c.book → (AreSame a c → Alike b d end also) → Alike b d end also
+go_on a c b d end also g h (inl ends) then = then ends.scene
+go_on a c b d end also g h (inr clash) then = inr (clash_on a.book b.book c.book d.book g h clash)
 
 -- after k turns
 rests_same : {C : Type 0} (reads : C → ℕ → C → Type 0) (k n also_n : ℕ) (a c : Scene C) (scenes others : List (Scene C)) (m b l d : Scene C)
@@ -109,17 +115,19 @@ rests_same : {C : Type 0} (reads : C → ℕ → C → Type 0) (k n also_n : ℕ
 rests_same reads k n also_n a c [] [] m b l d end also steady same p q e f =
     let count : also_n ≡ n = omega arith in
     let last : Last reads (n == 9999) c d also =
-      subst (λ z. Last reads (z == 9999) c d also) count (last_of reads also_n c l d also q) in
+    subst (λ z. Last reads (z == 9999) c d also) count (last_of reads also_n c l d also q) in
     alike_of b d end also
     (lasts_same reads (n == 9999) a b c d end also steady same (last_of reads n a m b end p) last p.end_is q.end_is p.alone q.alone)
 rests_same reads k n also_n a c [] (next ∷ others) m b l d end also steady same p q e f =
-    inr (longer reads n a m b c next d end q.through.0 steady same p (omega (arith, q.few)) q.turns.0
-    (first_alone reads also_n c next others l d also q))
+    inr (clash_on b.book b.book next.book d.book (grows_self b.book b.book refl) (next_grows reads also_n c next others l d also q)
+    (longer reads n a m b c next d end q.through.0 steady same p (omega (arith, q.few)) q.turns.0
+    (first_alone reads also_n c next others l d also q)))
 rests_same reads k n also_n a c (next ∷ scenes) [] m b l d end also steady same p q e f =
-    inr (longer reads also_n c l d a next b also p.through.0 steady (same_back a c same) q (omega (arith, p.few)) p.turns.0
-    (first_alone reads n a next scenes m b end p))
+    inr (clash_on next.book b.book d.book d.book (next_grows reads n a next scenes m b end p) (grows_self d.book d.book refl)
+    (clash_back d.book next.book (longer reads also_n c l d a next b also p.through.0 steady (same_back a c same) q
+    (omega (arith, p.few)) p.turns.0 (first_alone reads n a next scenes m b end p))))
 rests_same reads k n also_n a c (next ∷ scenes) (other ∷ others) m b l d end also steady same p q e f =
-    go_on next other b d end also
+    go_on next other b d end also (next_grows reads n a next scenes m b end p) (next_grows reads also_n c other others l d also q)
     (turns_same reads false a next c other None None p.through.0 q.through.0 steady same p.turns.0 q.turns.0 tt tt
     (first_alone reads n a next scenes m b end p) (first_alone reads also_n c other others l d also q))
     (λ same_next. rests_same reads (k + 1) n also_n next other scenes others m b l d end also steady same_next
@@ -138,9 +146,16 @@ rest_of reads a b end session calm = record {
   alone = calm.alone;
 }
 
-pub sessions_same : {C : Type 0} (reads : C → ℕ → C → Type 0) (a b c d : Scene C) (end also : Option Ended)
-    (one : Session reads a b end) (other : Session reads c d also) → IsSteady reads → AreSame a c
-    → IsUndisturbed reads a b end one → IsUndisturbed reads c d also other → ((also ≡ end) × AreAlike b d) ⊎ Clash
+pub sessions_same : {C : Type 0} (reads : C → ℕ → C → Type 0) → SessionsEndAlike reads
 sessions_same reads a b c d end also one other steady same calm still =
     rests_same reads 0 (length one.scenes) (length other.scenes) a c one.scenes other.scenes one.before b other.before d end also steady same
     (rest_of reads a b end one calm) (rest_of reads c d also other still) (omega arith) (omega arith)
+
+unless_clash : {C : Type 0} (b d : Scene C) (end also : Option Ended) → StoresAgree b.book d.book → Alike b d end also
+    → (also ≡ end) × AreSame b d
+unless_clash b d end also agree (inl same) = same
+unless_clash b d end also agree (inr clash) = absurd (no_clash b.book d.book agree clash)
+
+pub told_sessions_same : {C : Type 0} (reads : C → ℕ → C → Type 0) → ToldSessionsEndAlike reads
+told_sessions_same reads a b c d end also one other steady same calm still agree =
+    unless_clash b d end also agree (sessions_same reads a b c d end also one other steady same calm still)

@@ -1,28 +1,24 @@
 -- A turn in two scenes that are the same.
-use Rattle.std.proofs.Common.{◌≡◌, ◌≢◌, ◌⊎◌, ℕ, ◌+◌, ◌<◌, ◌≤◌, ◌||◌, Bool, true, false, List, [], ◌∷◌, refl, sym, ◌∙◌, ap, subst, arith, length, inl, inr, Ok, Err, Result, is_some}
+use Rattle.std.proofs.Common.{◌≡◌, ◌⊎◌, ℕ, ◌||◌, Bool, true, sym, ◌∙◌, ap, subst, inl, inr, Ok, Err, is_some}
 use Rattle.std.specs.declared.option.Option.{Option}
 use Rattle.std.specs.declared.option.Option.TheVariants.{None, Some}
 use Rattle.nf_http.specs.Head.{Head, closes_session}
 use Rattle.nf_http.specs.Next.{IsOfBytes}
 use Rattle.nf_http.specs.declared.wire.WireFault.{WireFault}
-use Rattle.nf_http.specs.declared.wire.WireFault.TheVariants as wire
-use Rattle.nf_words.specs.declared.answer.Denial.{Denial}
 use Rattle.nf_words.specs.declared.answer.Denial.TheVariants as denial
 use Rattle.nf_dav.specs.Reply.{refusal_reply}
-use Rattle.nf_server.specs.Book.{Book}
-use Rattle.nf_server.specs.Steps.{Closes, EndsBy, Heads, Judges, OnlyReads, Scene, TakesIn, Wrote, denial_of, is_granted, taken_length}
-use Rattle.nf_server.specs.Turn.{Answers, CutsShort, Meets, Turn, Writes, end_of, how_of, says_close, stays_granted}
-use Rattle.nf_server.specs.declared.backend.Ending.{Ending}
+use Rattle.nf_server.specs.Steps.{Closes, Heads, Judges, Scene, TakesIn, Wrote, denial_of, is_granted, taken_length}
+use Rattle.nf_server.specs.Turn.{Answers, CutsShort, Turn, Writes, end_of, how_of, says_close, stays_granted}
 use Rattle.nf_server.specs.declared.backend.Ending.TheVariants as ending
 use Rattle.nf_server.specs.declared.begun.Begun.{Begun}
 use Rattle.nf_server.specs.declared.ended.Ended.{Ended}
 use Rattle.nf_server.specs.declared.ended.Ended.TheVariants as ended
 use Rattle.nf_server.specs.declared.response.Response.{Response}
-use Rattle.nf_checks.specs.Alike.{AreAlike, AreSame, Clash, IsAlone, IsCalmBegun, IsCalmEnd, IsCalmEnded, IsCalmResponse, IsCalmTurn, IsSteady, KnowSame, TellSame}
-use Rattle.nf_checks.proofs.Bodies.{IsCut, Similar, cut_of, cuts_same, takes_grow, takes_same, whole_or_cut}
-use Rattle.nf_checks.proofs.Books.{Grows, alone_first, alone_then, grows_on, grows_self}
+use Rattle.nf_checks.specs.Alike.{AreSame, Clash, IsAlone, IsCalmBegun, IsCalmEnd, IsCalmResponse, IsCalmTurn, IsSteady}
+use Rattle.nf_checks.proofs.Bodies.{IsCut, Similar, cut_of, cuts_same, takes_grow, takes_same, never_cut}
+use Rattle.nf_checks.proofs.Books.{Grows, alone_first, alone_then, clash_on, grows_on, grows_self}
 use Rattle.nf_checks.proofs.Responses.{IsDenied, IsWritten, denied_of, ends_similar, how_similar, stays_similar, writes_grow, writes_same, written_of}
-use Rattle.nf_checks.proofs.Scenes.{alike_stays, closes_grow, closes_same, faults_same, heads_agree, heads_same, judges_grow, judges_same, reads_stay, same_back, wrote_grows, wrote_same}
+use Rattle.nf_checks.proofs.Scenes.{closes_grow, closes_same, heads_same, judges_grow, judges_same, reads_stay, same_back, wrote_grows, wrote_same}
 
 -- ---- what a calm turn is
 
@@ -57,7 +53,7 @@ answered_of : {C : Type 0} (reads : C → ℕ → C → Type 0) (last : Bool) (h
     (p : Answers reads last head begun a b end) → IsCalmResponse p.response → IsCalmEnd end → IsAnswered reads last head begun a b end
 answered_of reads last head begun a b end p calm well =
     let w : IsWritten last head p.response p.taken p.sent p.result end =
-      written_of last head p.response p.taken p.sent p.result end p.responds p.ends well in
+    written_of last head p.response p.taken p.sent p.result end p.responds p.ends well in
     record {
       taken = p.taken;
       sent = p.sent;
@@ -88,23 +84,25 @@ cut_short_of reads head begun a b end p well =
 
 answered_grows : {C : Type 0} (reads : C → ℕ → C → Type 0) (last : Bool) (head : Head) (begun : Begun) (a b : Scene C) (end : Option Ended)
     (p : IsAnswered reads last head begun a b end) → Grows a.book p.taken.book × Grows p.taken.book p.sent.book × Grows p.sent.book b.book
-answered_grows reads last head begun a b end p =
-    (takes_grow reads head a p.taken begun p.response p.takes p.calm,
-    writes_grow p.taken p.sent (says_close last head p.response) p.response p.written,
-    closes_grow reads (how_of {T = Option Ended} p.response (Ok end)) (stays_granted p.response) p.sent b p.closes)
+answered_grows reads last head begun a b end p = (
+  takes_grow reads head a p.taken begun p.response p.takes p.calm,
+  writes_grow p.taken p.sent (says_close last head p.response) p.response p.written,
+  closes_grow reads (how_of {T = Option Ended} p.response (Ok end)) (stays_granted p.response) p.sent b p.closes,
+)
 
 cut_short_grows : {C : Type 0} (reads : C → ℕ → C → Type 0) (head : Head) (begun : Begun) (a b : Scene C) (end : Option Ended)
     (p : IsCutShort reads head begun a b end) → Grows a.book p.sent.book × Grows p.sent.book b.book
-cut_short_grows reads head begun a b end p =
-    (grows_on a.book p.left.book p.sent.book (grows_self a.book p.left.book p.cut.stays.1)
-    (wrote_grows p.left p.sent (refusal_reply true denial.BadMessage) p.wrote),
-    closes_grow reads ending.Gone (is_granted begun) p.sent b p.closes)
+cut_short_grows reads head begun a b end p = (
+  grows_on a.book p.left.book p.sent.book (grows_self a.book p.left.book p.cut.stays.book)
+      (wrote_grows p.left p.sent (refusal_reply true denial.BadMessage) p.wrote),
+  closes_grow reads ending.Gone (is_granted begun) p.sent b p.closes,
+)
 
 becomes_grows : {C : Type 0} (reads : C → ℕ → C → Type 0) (last : Bool) (head : Head) (begun : Begun) (a b : Scene C) (end : Option Ended)
     → Becomes reads last head begun a b end → Grows a.book b.book
 becomes_grows reads last head begun a b end (inl p) =
     let g : Grows a.book p.taken.book × Grows p.taken.book p.sent.book × Grows p.sent.book b.book =
-      answered_grows reads last head begun a b end p in
+    answered_grows reads last head begun a b end p in
     grows_on a.book p.taken.book b.book g.0 (grows_on p.taken.book p.sent.book b.book g.1 g.2)
 becomes_grows reads last head begun a b end (inr p) =
     let g : Grows a.book p.sent.book × Grows p.sent.book b.book = cut_short_grows reads head begun a b end p in
@@ -112,48 +110,55 @@ becomes_grows reads last head begun a b end (inr p) =
 
 -- ---- both become the same
 
--- two turns end alike, and where they don't end the session, leave the same to read
+-- two turns end in the same way, in scenes that are the same
 pub record EndsSame {C : Type 0} (b d : Scene C) (end also : Option Ended) : Type 0 where
   pub end_is : also ≡ end
-  pub alike : AreAlike b d
-  pub left : end ≡ None → TellSame b.input d.input
-
-ends_same : {C : Type 0} (b d : Scene C) (end also : Option Ended) → also ≡ end → AreSame b d → EndsSame b d end also
-ends_same b d end also is same = record { end_is = is; alike = same.alike; left = λ none. same.input }
+  pub scene : AreSame b d
 
 answers_same : {C : Type 0} (reads : C → ℕ → C → Type 0) (last : Bool) (head : Head) (begun : Begun) (a b c d : Scene C) (end also : Option Ended)
     → IsSteady reads → AreSame a c → IsAnswered reads last head begun a b end → IsAnswered reads last head begun c d also
-    → IsAlone a.book b.book → IsAlone c.book d.book → EndsSame b d end also ⊎ Clash
+    → IsAlone a.book b.book → IsAlone c.book d.book → EndsSame b d end also ⊎ Clash b.book d.book
 answers_same reads last head begun a b c d end also steady same p q alone lone =
     wrote (writes_same p.taken p.sent q.taken q.sent close p.response q.response taken.0 taken.1 p.written written
     (alone_first p.taken.book p.sent.book b.book g.1 g.2 alone1) (alone_first q.taken.book q.sent.book d.book h.1 h.2 lone1))
   where
     g : Grows a.book p.taken.book × Grows p.taken.book p.sent.book × Grows p.sent.book b.book
     g = answered_grows reads last head begun a b end p
+
     h : Grows c.book q.taken.book × Grows q.taken.book q.sent.book × Grows q.sent.book d.book
     h = answered_grows reads last head begun c d also q
+
     alone1 : IsAlone p.taken.book b.book
     alone1 = alone_then a.book p.taken.book b.book g.0 (grows_on p.taken.book p.sent.book b.book g.1 g.2) alone
+
     lone1 : IsAlone q.taken.book d.book
     lone1 = alone_then c.book q.taken.book d.book h.0 (grows_on q.taken.book q.sent.book d.book h.1 h.2) lone
+
     taken : Similar p.response q.response × AreSame p.taken q.taken
     taken = takes_same reads head a p.taken c q.taken begun p.response q.response steady same p.takes q.takes p.calm q.calm
-      (alone_first a.book p.taken.book b.book g.0 (grows_on p.taken.book p.sent.book b.book g.1 g.2) alone)
-      (alone_first c.book q.taken.book d.book h.0 (grows_on q.taken.book q.sent.book d.book h.1 h.2) lone)
+        (alone_first a.book p.taken.book b.book g.0 (grows_on p.taken.book p.sent.book b.book g.1 g.2) alone)
+        (alone_first c.book q.taken.book d.book h.0 (grows_on q.taken.book q.sent.book d.book h.1 h.2) lone)
+
     close : Bool
     close = says_close last head p.response
+
     by_response : end_of (closes_session head) p.response ≡ end_of (closes_session head) q.response
     by_response = ends_similar (closes_session head) p.response q.response taken.0
+
     written : Writes {T = Unit {0}} (says_close last head p.response) q.response q.taken q.sent (Ok tt)
     written = subst (λ z. Writes {T = Unit {0}} (last || is_some z) q.response q.taken q.sent (Ok tt)) (sym by_response) q.written
+
     closes : Closes reads (how_of {T = Option Ended} p.response (Ok end)) (stays_granted p.response) q.sent d
     closes = subst (λ z. Closes reads z (stays_granted p.response) q.sent d) (sym (how_similar p.response q.response end also taken.0))
-      (subst (λ z. Closes reads (how_of {T = Option Ended} q.response (Ok also)) z q.sent d) (sym (stays_similar p.response q.response taken.0)) q.closes)
-    wrote : AreSame p.sent q.sent ⊎ Clash → EndsSame b d end also ⊎ Clash
-    wrote (inr clash) = inr clash
-    wrote (inl sent) = inl (ends_same b d end also (q.end_is ∙ sym by_response ∙ sym p.end_is)
-      (closes_same reads (how_of {T = Option Ended} p.response (Ok end)) (stays_granted p.response) p.sent b q.sent d steady sent p.closes closes
-      (alone_then p.taken.book p.sent.book b.book g.1 g.2 alone1) (alone_then q.taken.book q.sent.book d.book h.1 h.2 lone1)))
+        (subst (λ z. Closes reads (how_of {T = Option Ended} q.response (Ok also)) z q.sent d) (sym (stays_similar p.response q.response taken.0)) q.closes)
+
+    wrote : AreSame p.sent q.sent ⊎ Clash p.sent.book q.sent.book → EndsSame b d end also ⊎ Clash b.book d.book
+    wrote (inr clash) = inr (clash_on p.sent.book b.book q.sent.book d.book g.2 h.2 clash)
+    wrote (inl sent) = inl (record {
+      end_is = q.end_is ∙ sym by_response ∙ sym p.end_is;
+      scene = closes_same reads (how_of {T = Option Ended} p.response (Ok end)) (stays_granted p.response) p.sent b q.sent d steady sent p.closes closes
+          (alone_then p.taken.book p.sent.book b.book g.1 g.2 alone1) (alone_then q.taken.book q.sent.book d.book h.1 h.2 lone1);
+    })
 
 cut_shorts_same : {C : Type 0} (reads : C → ℕ → C → Type 0) (head : Head) (begun : Begun) (a b c d : Scene C) (end also : Option Ended)
     → IsSteady reads → AreSame a c → IsCutShort reads head begun a b end → IsCutShort reads head begun c d also
@@ -163,19 +168,21 @@ cut_shorts_same reads head begun a b c d end also steady same p q alone lone =
     let h : Grows c.book q.sent.book × Grows q.sent.book d.book = cut_short_grows reads head begun c d also q in
     let left : AreSame p.left q.left = cuts_same a p.left c q.left (taken_length head begun) p.fault q.fault same p.cut q.cut in
     let sent : AreSame p.sent q.sent = wrote_same p.left p.sent q.left q.sent (refusal_reply true denial.BadMessage) left p.wrote q.wrote in
-    ends_same b d end also (q.end_is ∙ sym p.end_is)
-    (closes_same reads ending.Gone (is_granted begun) p.sent b q.sent d steady sent p.closes q.closes
-    (alone_then a.book p.sent.book b.book g.0 g.1 alone) (alone_then c.book q.sent.book d.book h.0 h.1 lone))
+    record {
+      end_is = q.end_is ∙ sym p.end_is;
+      scene = closes_same reads ending.Gone (is_granted begun) p.sent b q.sent d steady sent p.closes q.closes
+          (alone_then a.book p.sent.book b.book g.0 g.1 alone) (alone_then c.book q.sent.book d.book h.0 h.1 lone);
+    }
 
 -- a body that one of them took whole isn't cut in the other
 never_both : {C : Type 0} (reads : C → ℕ → C → Type 0) (last : Bool) (head : Head) (begun : Begun) (a b c d : Scene C) (end also : Option Ended)
     → AreSame a c → IsAnswered reads last head begun a b end → IsCutShort reads head begun c d also → ⊥
 never_both reads last head begun a b c d end also same p q =
-    whole_or_cut a p.takes.0 c q.left (taken_length head begun) p.takes.1 q.fault same p.takes.2 q.cut
+    never_cut a p.takes.0 c q.left (taken_length head begun) p.takes.1 q.fault same p.takes.2 q.cut
 
 become_same : {C : Type 0} (reads : C → ℕ → C → Type 0) (last : Bool) (head : Head) (begun : Begun) (a b c d : Scene C) (end also : Option Ended)
     → IsSteady reads → AreSame a c → Becomes reads last head begun a b end → Becomes reads last head begun c d also
-    → IsAlone a.book b.book → IsAlone c.book d.book → EndsSame b d end also ⊎ Clash
+    → IsAlone a.book b.book → IsAlone c.book d.book → EndsSame b d end also ⊎ Clash b.book d.book
 become_same reads last head begun a b c d end also steady same (inl p) (inl q) alone lone =
     answers_same reads last head begun a b c d end also steady same p q alone lone
 become_same reads last head begun a b c d end also steady same (inr p) (inr q) alone lone =
@@ -218,16 +225,33 @@ calm_of reads last a b end (inl over) calm well = inl (record { heads = over.0; 
 calm_of reads last a b end (inr (inl (m, fault, by, heads, ends, is))) calm well =
     let d : IsDenied fault m b by = denied_of fault m b by ends (subst (λ z. IsCalmEnd z) is well) in
     inr (inl (record {
-      read = m; fault = fault; heads = heads; bytes = d.bytes; wrote = d.wrote; end_is = is ∙ ap (λ z. Some z) d.end_is;
+      read = m;
+      fault = fault;
+      heads = heads;
+      bytes = d.bytes;
+      wrote = d.wrote;
+      end_is = is ∙ ap (λ z. Some z) d.end_is;
     }))
 calm_of reads last a b end (inr (inr (m, head, heads, (n, begun, judges, inl answers)))) calm well =
     inr (inr (record {
-      read = m; head = head; heads = heads; asked = n; begun = begun; judges = judges; calm = calm.0;
+      read = m;
+      head = head;
+      heads = heads;
+      asked = n;
+      begun = begun;
+      judges = judges;
+      calm = calm.0;
       becomes = inl (answered_of reads last head begun n b end answers calm.1 well);
     }))
 calm_of reads last a b end (inr (inr (m, head, heads, (n, begun, judges, inr cut)))) calm well =
     inr (inr (record {
-      read = m; head = head; heads = heads; asked = n; begun = begun; judges = judges; calm = calm;
+      read = m;
+      head = head;
+      heads = heads;
+      asked = n;
+      begun = begun;
+      judges = judges;
+      calm = calm;
       becomes = inr (cut_short_of reads head begun n b end cut well);
     }))
 
@@ -238,74 +262,79 @@ met_grows reads last a b end p =
 
 calm_grows : {C : Type 0} (reads : C → ℕ → C → Type 0) (last : Bool) (a b : Scene C) (end : Option Ended)
     → IsCalm reads last a b end → Grows a.book b.book
-calm_grows reads last a b end (inl over) = grows_self a.book b.book (reads_stay a b over.heads.only).1
+calm_grows reads last a b end (inl over) = grows_self a.book b.book (reads_stay a b over.heads.only).book
 calm_grows reads last a b end (inr (inl p)) =
-    grows_on a.book p.read.book b.book (grows_self a.book p.read.book (reads_stay a p.read p.heads.only).1)
+    grows_on a.book p.read.book b.book (grows_self a.book p.read.book (reads_stay a p.read p.heads.only).book)
     (wrote_grows p.read b (refusal_reply true (denial_of p.fault)) p.wrote)
 calm_grows reads last a b end (inr (inr p)) =
     let g : Grows p.read.book p.asked.book × Grows p.asked.book b.book = met_grows reads last a b end p in
-    grows_on a.book p.read.book b.book (grows_self a.book p.read.book (reads_stay a p.read p.heads.only).1)
+    grows_on a.book p.read.book b.book (grows_self a.book p.read.book (reads_stay a p.read p.heads.only).book)
     (grows_on p.read.book p.asked.book b.book g.0 g.1)
 
 overs_same : {C : Type 0} (a b c d : Scene C) (end also : Option Ended)
     → AreSame a c → IsOver a b end → IsOver c d also → EndsSame b d end also
 overs_same a b c d end also same p q = record {
   end_is = q.end_is ∙ sym p.end_is;
-  alike = alike_stays a b c d same.alike (reads_stay a b p.heads.only) (reads_stay c d q.heads.only);
-  left = λ none. absurd (cc (none, p.end_is));
+  scene = (heads_same a b c d (Ok None) (Ok None) same p.heads q.heads tt tt).1;
 }
 
 refuseds_same : {C : Type 0} (a b c d : Scene C) (end also : Option Ended)
     → AreSame a c → IsRefused a b end → IsRefused c d also → EndsSame b d end also
 refuseds_same a b c d end also same p q =
-    let agree : Err p.fault ≡ Err q.fault = heads_agree a p.read c q.read (Err p.fault) (Err q.fault) same.input p.heads q.heads p.bytes q.bytes in
+    let heads : (Err p.fault ≡ Err q.fault) × AreSame p.read q.read =
+    heads_same a p.read c q.read (Err p.fault) (Err q.fault) same p.heads q.heads p.bytes q.bytes in
+    let agree : Err p.fault ≡ Err q.fault = heads.0 in
     let fault : q.fault ≡ p.fault = cc in
     let wrote : Wrote q.read d (refusal_reply true (denial_of p.fault)) =
-      subst (λ z. Wrote q.read d (refusal_reply true (denial_of z))) fault q.wrote in
-    ends_same b d end also (q.end_is ∙ sym p.end_is)
-    (wrote_same p.read b q.read d (refusal_reply true (denial_of p.fault))
-    (faults_same a p.read c q.read p.fault q.fault same p.heads q.heads) p.wrote wrote)
+    subst (λ z. Wrote q.read d (refusal_reply true (denial_of z))) fault q.wrote in
+    record {
+      end_is = q.end_is ∙ sym p.end_is;
+      scene = wrote_same p.read b q.read d (refusal_reply true (denial_of p.fault)) heads.1 p.wrote wrote;
+    }
 
 mets_same : {C : Type 0} (reads : C → ℕ → C → Type 0) (last : Bool) (a b c d : Scene C) (end also : Option Ended)
     → IsSteady reads → AreSame a c → IsMet reads last a b end → IsMet reads last c d also
-    → IsAlone a.book b.book → IsAlone c.book d.book → EndsSame b d end also ⊎ Clash
+    → IsAlone a.book b.book → IsAlone c.book d.book → EndsSame b d end also ⊎ Clash b.book d.book
 mets_same reads last a b c d end also steady same p q alone lone =
-    let heads : (p.head ≡ q.head) × AreSame p.read q.read = heads_same a p.read c q.read p.head q.head same p.heads q.heads in
+    let heads : (Ok (Some p.head) ≡ Ok (Some q.head)) × AreSame p.read q.read =
+    heads_same a p.read c q.read (Ok (Some p.head)) (Ok (Some q.head)) same p.heads q.heads tt tt in
+    let agree : Ok (Some p.head) ≡ Ok (Some q.head) = heads.0 in
+    let head : p.head ≡ q.head = cc in
     let g : Grows p.read.book p.asked.book × Grows p.asked.book b.book = met_grows reads last a b end p in
     let h : Grows q.read.book q.asked.book × Grows q.asked.book d.book = met_grows reads last c d also q in
-    let alone1 : IsAlone p.read.book b.book = subst (λ z. IsAlone z b.book) (sym (reads_stay a p.read p.heads.only).1) alone in
-    let lone1 : IsAlone q.read.book d.book = subst (λ z. IsAlone z d.book) (sym (reads_stay c q.read q.heads.only).1) lone in
-    let judges : Judges reads p.head q.read q.asked q.begun = subst (λ z. Judges reads z q.read q.asked q.begun) (sym heads.0) q.judges in
+    let alone1 : IsAlone p.read.book b.book = subst (λ z. IsAlone z b.book) (sym (reads_stay a p.read p.heads.only).book) alone in
+    let lone1 : IsAlone q.read.book d.book = subst (λ z. IsAlone z d.book) (sym (reads_stay c q.read q.heads.only).book) lone in
+    let judges : Judges reads p.head q.read q.asked q.begun = subst (λ z. Judges reads z q.read q.asked q.begun) (sym head) q.judges in
     let asked : (q.begun ≡ p.begun) × AreSame p.asked q.asked =
-      judges_same reads p.head p.read p.asked q.read q.asked p.begun q.begun steady heads.1 p.judges judges p.calm q.calm
-      (alone_first p.read.book p.asked.book b.book g.0 g.1 alone1) (alone_first q.read.book q.asked.book d.book h.0 h.1 lone1) in
+    judges_same reads p.head p.read p.asked q.read q.asked p.begun q.begun steady heads.1 p.judges judges p.calm q.calm
+    (alone_first p.read.book p.asked.book b.book g.0 g.1 alone1) (alone_first q.read.book q.asked.book d.book h.0 h.1 lone1) in
     let becomes : Becomes reads last p.head p.begun q.asked d also =
-      subst (λ z. Becomes reads last z p.begun q.asked d also) (sym heads.0)
-      (subst (λ z. Becomes reads last q.head z q.asked d also) asked.0 q.becomes) in
+    subst (λ z. Becomes reads last z p.begun q.asked d also) (sym head)
+    (subst (λ z. Becomes reads last q.head z q.asked d also) asked.0 q.becomes) in
     become_same reads last p.head p.begun p.asked b q.asked d end also steady asked.1 p.becomes becomes
     (alone_then p.read.book p.asked.book b.book g.0 g.1 alone1) (alone_then q.read.book q.asked.book d.book h.0 h.1 lone1)
 
 calms_same : {C : Type 0} (reads : C → ℕ → C → Type 0) (last : Bool) (a b c d : Scene C) (end also : Option Ended)
     → IsSteady reads → AreSame a c → IsCalm reads last a b end → IsCalm reads last c d also
-    → IsAlone a.book b.book → IsAlone c.book d.book → EndsSame b d end also ⊎ Clash
+    → IsAlone a.book b.book → IsAlone c.book d.book → EndsSame b d end also ⊎ Clash b.book d.book
 calms_same reads last a b c d end also steady same (inl p) (inl q) alone lone = inl (overs_same a b c d end also same p q)
 calms_same reads last a b c d end also steady same (inr (inl p)) (inr (inl q)) alone lone = inl (refuseds_same a b c d end also same p q)
 calms_same reads last a b c d end also steady same (inr (inr p)) (inr (inr q)) alone lone =
     mets_same reads last a b c d end also steady same p q alone lone
 calms_same reads last a b c d end also steady same (inl p) (inr (inl q)) alone lone =
-    let agree : Ok None ≡ Err q.fault = heads_agree a b c q.read (Ok None) (Err q.fault) same.input p.heads q.heads tt q.bytes in absurd (cc)
+    let agree : Ok None ≡ Err q.fault = (heads_same a b c q.read (Ok None) (Err q.fault) same p.heads q.heads tt q.bytes).0 in absurd (cc)
 calms_same reads last a b c d end also steady same (inl p) (inr (inr q)) alone lone =
-    let agree : Ok None ≡ Ok (Some q.head) = heads_agree a b c q.read (Ok None) (Ok (Some q.head)) same.input p.heads q.heads tt tt in absurd (cc)
+    let agree : Ok None ≡ Ok (Some q.head) = (heads_same a b c q.read (Ok None) (Ok (Some q.head)) same p.heads q.heads tt tt).0 in absurd (cc)
 calms_same reads last a b c d end also steady same (inr (inl p)) (inl q) alone lone =
-    let agree : Err p.fault ≡ Ok None = heads_agree a p.read c d (Err p.fault) (Ok None) same.input p.heads q.heads p.bytes tt in absurd (cc)
+    let agree : Err p.fault ≡ Ok None = (heads_same a p.read c d (Err p.fault) (Ok None) same p.heads q.heads p.bytes tt).0 in absurd (cc)
 calms_same reads last a b c d end also steady same (inr (inl p)) (inr (inr q)) alone lone =
     let agree : Err p.fault ≡ Ok (Some q.head) =
-      heads_agree a p.read c q.read (Err p.fault) (Ok (Some q.head)) same.input p.heads q.heads p.bytes tt in absurd (cc)
+    (heads_same a p.read c q.read (Err p.fault) (Ok (Some q.head)) same p.heads q.heads p.bytes tt).0 in absurd (cc)
 calms_same reads last a b c d end also steady same (inr (inr p)) (inl q) alone lone =
-    let agree : Ok (Some p.head) ≡ Ok None = heads_agree a p.read c d (Ok (Some p.head)) (Ok None) same.input p.heads q.heads tt tt in absurd (cc)
+    let agree : Ok (Some p.head) ≡ Ok None = (heads_same a p.read c d (Ok (Some p.head)) (Ok None) same p.heads q.heads tt tt).0 in absurd (cc)
 calms_same reads last a b c d end also steady same (inr (inr p)) (inr (inl q)) alone lone =
     let agree : Ok (Some p.head) ≡ Err q.fault =
-      heads_agree a p.read c q.read (Ok (Some p.head)) (Err q.fault) same.input p.heads q.heads tt q.bytes in absurd (cc)
+    (heads_same a p.read c q.read (Ok (Some p.head)) (Err q.fault) same p.heads q.heads tt q.bytes).0 in absurd (cc)
 
 -- ---- for sessions
 
@@ -316,6 +345,6 @@ turn_grows reads last a b end turn calm well = calm_grows reads last a b end (ca
 pub turns_same : {C : Type 0} (reads : C → ℕ → C → Type 0) (last : Bool) (a b c d : Scene C) (end also : Option Ended)
     (one : Turn reads last a b end) (other : Turn reads last c d also) → IsSteady reads → AreSame a c
     → IsCalmTurn reads last a b end one → IsCalmTurn reads last c d also other → IsCalmEnd end → IsCalmEnd also
-    → IsAlone a.book b.book → IsAlone c.book d.book → EndsSame b d end also ⊎ Clash
+    → IsAlone a.book b.book → IsAlone c.book d.book → EndsSame b d end also ⊎ Clash b.book d.book
 turns_same reads last a b c d end also one other steady same calm still well good alone lone =
     calms_same reads last a b c d end also steady same (calm_of reads last a b end one calm well) (calm_of reads last c d also other still good) alone lone

@@ -1,10 +1,10 @@
 -- What makes two sessions alike: the bytes that they read, what is known, the readings of the clock, and that nothing failed.
-use Rattle.std.specs.Prelude.{◌≡◌, ◌≢◌, ◌⊎◌, ℕ, ◌+◌, ◌==◌, Bool, false, List, [], ◌∷◌, length, Option, None, Some, Result, Ok, Err}
+use Rattle.std.specs.Prelude.{◌≡◌, ◌≢◌, ◌⊎◌, ℕ, ◌+◌, ◌==◌, Bool, false, List, [], ◌∷◌, length, Option, None, Some, Ok, Err}
 use mathlib.Core.Logic.{inl, inr}
-use Rattle.sha2.specs.Sha256.{sha256}
+use Rattle.nf_base.specs.declared.content.Piece.{Piece}
 use Rattle.nf_words.specs.declared.answer.Denial.{Denial}
 use Rattle.nf_words.specs.declared.answer.Denial.TheVariants as denial
-use Rattle.nf_server.specs.Book.{Answer, Book}
+use Rattle.nf_server.specs.Book.{Answer, Book, IsPiece, Shelf, blob_at}
 use Rattle.nf_server.specs.Session.{Session, Through}
 use Rattle.nf_server.specs.Steps.{Scene}
 use Rattle.nf_server.specs.Turn.{Turn}
@@ -28,16 +28,12 @@ pub record KnowSame (a b : Book) : Type 0 where
   pub known : b.known ≡ a.known
   pub own : b.own ≡ a.own
 
--- the same was written, is known, and will be read of the clock
-pub record AreAlike {C : Type 0} (a b : Scene C) : Type 0 where
+-- the same is left to read, was written, is known, and will be read of the clock
+pub record AreSame {C : Type 0} (a b : Scene C) : Type 0 where
+  pub input : TellSame a.input b.input
   pub output : TellSame a.output b.output
   pub book : KnowSame a.book b.book
   pub clock : b.clock ≡ a.clock
-
--- and the same is left to read
-pub record AreSame {C : Type 0} (a b : Scene C) : Type 0 where
-  pub input : TellSame a.input b.input
-  pub alike : AreAlike a b
 
 -- ---- sessions in which nothing failed
 
@@ -109,19 +105,34 @@ pub record IsUndisturbed {C : Type 0} (reads : C → ℕ → C → Type 0) (a b 
   pub end_is : IsCalmEnd end
   pub alone : IsAlone a.book b.book
 
--- ---- the law
+-- ---- the laws
 
--- two different lists of bytes of one length with one SHA-256 digest (FIPS 180-4)
-pub record Clash : Type 0 where
+-- a piece of which two backends gave different bytes: both of its size and SHA-256 digest (FIPS 180-4), and each told by its store,
+-- if that tells
+pub record Clash (b d : Book) : Type 0 where
+  pub piece : Piece
   pub one : List ℕ
   pub other : List ℕ
+  pub given : IsPiece b piece one
+  pub also : IsPiece d piece other
   pub differ : one ≢ other
-  pub size : length one ≡ length other
-  pub digest : sha256 one ≡ sha256 other
 
--- two such sessions, begun in scenes that are the same, end in the same way in scenes that are alike; or a clash of digests is shown
+-- two such sessions, begun in scenes that are the same, end so too, and in the same way; or a piece is shown that clashes
 abbrev pub SessionsEndAlike : {C : Type 0} → (C → ℕ → C → Type 0) → Type 0
 SessionsEndAlike {C} reads =
     (a b c d : Scene C) (end also : Option Ended) (one : Session reads a b end) (other : Session reads c d also)
     → IsSteady reads → AreSame a c → IsUndisturbed reads a b end one → IsUndisturbed reads c d also other
-    → ((also ≡ end) × AreAlike b d) ⊎ Clash
+    → ((also ≡ end) × AreSame b d) ⊎ Clash b.book d.book
+
+-- both stores tell, and wherever both tell a blob of a number, it is the same
+abbrev pub StoresAgree : Book → Book → Type 0
+StoresAgree b d =
+    (one : Shelf) × (other : Shelf) × (b.told ≡ Some one) × (d.told ≡ Some other)
+    × ((id : ℕ) (x y : List ℕ) → blob_at one id ≡ Some x → blob_at other id ≡ Some y → x ≡ y)
+
+-- no piece clashes where the stores agree at the end
+abbrev pub ToldSessionsEndAlike : {C : Type 0} → (C → ℕ → C → Type 0) → Type 0
+ToldSessionsEndAlike {C} reads =
+    (a b c d : Scene C) (end also : Option Ended) (one : Session reads a b end) (other : Session reads c d also)
+    → IsSteady reads → AreSame a c → IsUndisturbed reads a b end one → IsUndisturbed reads c d also other
+    → StoresAgree b.book d.book → (also ≡ end) × AreSame b d

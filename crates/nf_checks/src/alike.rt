@@ -1,13 +1,18 @@
 //! Sessions over one input.
 
-ghost use Rattle.nf_checks.specs.Alike.{SessionsEndAlike};
+ghost use Rattle.nf_checks.specs.Alike.{SessionsEndAlike, ToldSessionsEndAlike};
 
 use nf_outside::Clock;
 
-/// Two sessions over the same input, with the same readings of the clock and the same seat's knowledge, in which nothing
-/// of the outside failed, memory didn't want and no other seat made an entry, end in the same way: they wrote the same
-/// bytes, and made the same entries with the same answers. Where they don't, they served two pieces of one SHA-256 digest
-/// whose bytes differ.
+/// Two sessions of one seat's knowledge over one told input, with the same readings of the clock, in which nothing of the
+/// outside failed, memory didn't want and no other seat made an entry, end in the same way: they wrote the same bytes,
+/// left the same to read, and made the same entries with the same answers. Where they don't, there is a piece of which
+/// different bytes were given, with one SHA-256 digest.
 pub fn sessions_end_alike<C: Clock>()
     ensures { SessionsEndAlike C.reads }
+{}
+
+/// There is no such piece where the stores tell, and at the end don't tell different bytes under one number.
+pub fn told_sessions_end_alike<C: Clock>()
+    ensures { ToldSessionsEndAlike C.reads }
 {}
