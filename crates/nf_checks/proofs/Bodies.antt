@@ -21,8 +21,9 @@ use Rattle.nf_server.specs.declared.response.Response.{Response}
 use Rattle.nf_server.specs.declared.response.Response.TheVariants as response
 use Rattle.nf_checks.specs.Alike.{AreSame, IsAlone, IsCalmAnswer, IsCalmResponse, IsSteady, KnowSame, TellSame}
 use Rattle.nf_checks.proofs.Basics.{Left, left_of, told_moved, told_taken}
+use Rattle.nf_checks.proofs.Goes.{Goes, goes_on, goes_quietly, goes_self}
 use Rattle.nf_checks.proofs.Books.{Grows, enters_grow, enters_same, grows_self, know_next, know_self, lone_waits, waits_grow}
-use Rattle.nf_checks.proofs.Scenes.{Stays, asks_same, reads_stay, readings_same, same_self, same_stays}
+use Rattle.nf_checks.proofs.Scenes.{Stays, asks_same, reads_stay, readings_same, same_self, same_stays, stays_go}
 
 -- ---- responses
 
@@ -128,17 +129,17 @@ passes_same reads body a b c d (begun.Asked (Ok reply.Done)) v w steady same p q
 passes_same reads body a b c d (begun.Asked (Ok reply.Closed)) v w steady same p q calm still alone also = absurd p.0
 passes_same reads body a b c d (begun.Asked (Err refusal)) v w steady same p q calm still alone also = plain_same a b c d (Err refusal) v w same p q
 
-pub passes_grow : {C : Type 0} (reads : C → ℕ → C → Type 0) (body : List ℕ) (a b : Scene C) (x : Begun) (v : Response)
-    → Passes reads body a b x v → IsCalmResponse v → Grows a.book b.book
-passes_grow {C = C} reads body a b (begun.Unasked refusal) v p calm = grows_self a.book b.book (ap (λ (z : Scene C). z.book) p.1)
-passes_grow reads body a b (begun.Asked (Ok (reply.Granted (goal.Serve content)))) v p calm =
-    waited_grows a.book b.book (started a.book b.book content v p.starts calm).waits
-passes_grow reads body a b (begun.Asked (Ok (reply.Granted (goal.Store who key size)))) v (now1, x, read1, ends1, is1, only1) calm =
-    enters_grow a.book b.book now1 (event_of_body body) x ends1.enters
-passes_grow {C = C} reads body a b (begun.Asked (Ok reply.Made)) v p calm = grows_self a.book b.book (ap (λ (z : Scene C). z.book) p.1)
-passes_grow {C = C} reads body a b (begun.Asked (Ok reply.Done)) v p calm = grows_self a.book b.book (ap (λ (z : Scene C). z.book) p.1)
-passes_grow {C = C} reads body a b (begun.Asked (Ok reply.Closed)) v p calm = absurd p.0
-passes_grow {C = C} reads body a b (begun.Asked (Err refusal)) v p calm = grows_self a.book b.book (ap (λ (z : Scene C). z.book) p.1)
+pub passes_go : {C : Type 0} (reads : C → ℕ → C → Type 0) (body : List ℕ) (a b : Scene C) (x : Begun) (v : Response)
+    → Passes reads body a b x v → IsCalmResponse v → Goes a b
+passes_go reads body a b (begun.Unasked refusal) v p calm = goes_self a b p.1
+passes_go {C = C} reads body a b (begun.Asked (Ok (reply.Granted (goal.Serve content)))) v p calm =
+    goes_quietly a b (ap (λ (z : Scene C). z.output) p.only) (waited_grows a.book b.book (started a.book b.book content v p.starts calm).waits)
+passes_go {C = C} reads body a b (begun.Asked (Ok (reply.Granted (goal.Store who key size)))) v (now1, x, read1, ends1, is1, only1) calm =
+    goes_quietly a b (ap (λ (z : Scene C). z.output) only1) (enters_grow a.book b.book now1 (event_of_body body) x ends1.enters)
+passes_go reads body a b (begun.Asked (Ok reply.Made)) v p calm = goes_self a b p.1
+passes_go reads body a b (begun.Asked (Ok reply.Done)) v p calm = goes_self a b p.1
+passes_go reads body a b (begun.Asked (Ok reply.Closed)) v p calm = absurd p.0
+passes_go reads body a b (begun.Asked (Err refusal)) v p calm = goes_self a b p.1
 
 -- ---- the body itself
 
@@ -166,10 +167,10 @@ takes_same {C = C} reads head a b c d x v w steady same (m, p, bodies1, passes1)
     (subst (λ z. IsAlone z b.book) (sym (ap (λ (z : Scene C). z.book) bodies1.only)) alone)
     (subst (λ z. IsAlone z d.book) (sym (ap (λ (z : Scene C). z.book) bodies2.only)) also)
 
-pub takes_grow : {C : Type 0} (reads : C → ℕ → C → Type 0) (head : Head) (a b : Scene C) (x : Begun) (v : Response)
-    → TakesIn reads head a b x (Ok v) → IsCalmResponse v → Grows a.book b.book
-takes_grow {C = C} reads head a b x v (m, p, bodies, passes) calm =
-    subst (λ z. Grows z b.book) (ap (λ (z : Scene C). z.book) bodies.only) (passes_grow reads p m b x v passes calm)
+pub takes_go : {C : Type 0} (reads : C → ℕ → C → Type 0) (head : Head) (a b : Scene C) (x : Begun) (v : Response)
+    → TakesIn reads head a b x (Ok v) → IsCalmResponse v → Goes a b
+takes_go reads head a b x v (m, p, bodies, passes) calm =
+    goes_on a m b (stays_go a m (bodies_stay a m (taken_length head x) p bodies)) (passes_go reads p m b x v passes calm)
 
 -- ---- a body that is cut
 

@@ -15,7 +15,7 @@ use Rattle.nf_words.specs.declared.history.Mark.TheVariants as mark
 use Rattle.nf_words.specs.declared.request.Request.{Request}
 use Rattle.nf_words.specs.declared.request.Words.{Words}
 use Rattle.nf_server.specs.Book.{Answer, Begins, Book, Enters, IsPiece, Shelf, TellsStill, Waits, blob_at, entries_wanted, state_after, state_of}
-use Rattle.nf_checks.specs.Alike.{Clash, IsAlone, IsCalmAnswer, KnowSame, StoresAgree}
+use Rattle.nf_checks.specs.Alike.{IsAlone, IsCalmAnswer, KnowSame}
 
 -- ---- one book
 
@@ -64,12 +64,6 @@ grows_on a m b p q = record {
   told = tells_on a.told m.told b.told p.told q.told;
 }
 
-pub alone_first : (a m b : Book) → Grows a m → Grows m b → IsAlone a b → IsAlone a m
-alone_first a m b p q alone = omega (arith, p.counts, q.counts, alone)
-
-pub alone_then : (a m b : Book) → Grows a m → Grows m b → IsAlone a b → IsAlone m b
-alone_then a m b p q alone = omega (arith, p.counts, q.counts, alone)
-
 pub waits_grow : (a b : Book) → Waits a b → Grows a b
 waits_grow a b w = record {
   counts = omega (arith, ap length w.own, ap length w.known.1, length-append a.known w.known.0);
@@ -89,7 +83,7 @@ enters_grow a b now event answer e = record {
   told = e.lasts.told;
 }
 
--- a clash stays one
+-- so a piece stays one
 piece_told : (a b : Option Shelf) (id : ℕ) (bytes : List ℕ) → TellsStill a b
     → IfSome a (λ shelf. blob_at shelf id ≡ Some bytes) → IfSome b (λ shelf. blob_at shelf id ≡ Some bytes)
 piece_told None None id bytes still there = tt
@@ -103,35 +97,6 @@ piece_on a b piece bytes g p = record {
   digest = p.digest;
   told = piece_told a.told b.told piece.blob bytes g.told p.told;
 }
-
-pub clash_on : (a b c d : Book) → Grows a b → Grows c d → Clash a c → Clash b d
-clash_on a b c d g h clash = record {
-  piece = clash.piece;
-  one = clash.one;
-  other = clash.other;
-  given = piece_on a b clash.piece clash.one g clash.given;
-  also = piece_on c d clash.piece clash.other h clash.also;
-  differ = clash.differ;
-}
-
-pub clash_back : (b d : Book) → Clash b d → Clash d b
-clash_back b d clash = record {
-  piece = clash.piece;
-  one = clash.other;
-  other = clash.one;
-  given = clash.also;
-  also = clash.given;
-  differ = λ same. clash.differ (sym same);
-}
-
--- there is none where the stores agree
-pub no_clash : (b d : Book) → StoresAgree b d → Clash b d → ⊥
-no_clash b d (one, other, e, f, agree) clash =
-    let given : blob_at one clash.piece.blob ≡ Some clash.one =
-    subst (λ z. IfSome z (λ shelf. blob_at shelf clash.piece.blob ≡ Some clash.one)) e clash.given.told in
-    let also : blob_at other clash.piece.blob ≡ Some clash.other =
-    subst (λ z. IfSome z (λ shelf. blob_at shelf clash.piece.blob ≡ Some clash.other)) f clash.also.told in
-    clash.differ (agree clash.piece.blob clash.one clash.other given also)
 
 -- ---- alone
 

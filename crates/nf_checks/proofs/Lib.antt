@@ -1,5 +1,6 @@
 pub mod Basics
 pub mod Books
+pub mod Goes
 pub mod Scenes
 pub mod Bodies
 pub mod Responses

@@ -1,17 +1,20 @@
 -- Responses that are written in two scenes that are the same.
-use Rattle.std.proofs.Common.{◌≡◌, ◌≢◌, ◌⊎◌, ℕ, Bool, true, false, List, [], ◌∷◌, refl, sym, ◌∙◌, ap, subst, arith, length, inl, inr, Ok, Err, Result}
+use Rattle.std.proofs.Common.{append_assoc, ◌++◌, ◌≡◌, ◌≢◌, ◌⊎◌, ℕ, Bool, true, false, List, [], ◌∷◌, refl, sym, ◌∙◌, ap, subst, arith, length, inl, inr, Ok, Err, Result}
 use Rattle.std.specs.declared.option.Option.{Option}
 use Rattle.std.specs.Io.KnownBytes.{Appends}
 use Rattle.std.specs.declared.alloc.Global.{Global}
 use Rattle.std.specs.Prelude.{Vec, bytes_eq}
 use Rattle.std.proofs.lemmas.Slice.Eq.{bytes_eq-Decides}
+use Rattle.std.specs.declared.option.Option.TheVariants.{Some}
+use Rattle.std.specs.List.{concat}
+use Rattle.nf_base.specs.Content.{size_of}
 use Rattle.nf_base.specs.declared.content.Piece.{Piece}
 use Rattle.nf_http.specs.Head.{Head, closes_session}
 use Rattle.nf_http.specs.declared.wire.WireFault.{WireFault}
 use Rattle.nf_http.specs.declared.wire.WireFault.TheVariants as wire
 use Rattle.nf_http.specs.Next.{IsOfBytes}
 use Rattle.nf_words.specs.declared.answer.Denial.{Denial}
-use Rattle.nf_dav.specs.Reply.{done_reply, made_reply, refusal_reply}
+use Rattle.nf_dav.specs.Reply.{done_reply, file_head, made_reply, refusal_reply}
 use Rattle.nf_server.specs.Book.{Book, IsPiece, denial_of_piece}
 use Rattle.nf_server.specs.Files.{AreGiven, SendsFile, WritesPieces, file_front}
 use Rattle.nf_server.specs.Steps.{EndsBy, EndsSo, Says, Scene, Wrote, denial_of}
@@ -21,10 +24,11 @@ use Rattle.nf_server.specs.declared.ended.Ended.TheVariants as ended
 use Rattle.nf_server.specs.declared.response.Response.{Response}
 use Rattle.nf_server.specs.declared.response.Response.TheVariants as response
 use Rattle.nf_checks.specs.Alike.{AreSame, Clash, IsAlone, IsCalmEnd, IsCalmEnded}
-use Rattle.nf_checks.proofs.Basics.{told_appended, told_moved}
+use Rattle.nf_checks.proofs.Basics.{told_appended, told_more, told_moved}
 use Rattle.nf_checks.proofs.Bodies.{Similar}
-use Rattle.nf_checks.proofs.Books.{Grows, know_next, lone_waits, waits_grow}
-use Rattle.nf_checks.proofs.Scenes.{wrote_grows, wrote_same}
+use Rattle.nf_checks.proofs.Goes.{Goes}
+use Rattle.nf_checks.proofs.Books.{know_next, lone_waits, waits_grow}
+use Rattle.nf_checks.proofs.Scenes.{wrote_goes, wrote_same}
 
 -- ---- the bytes of pieces
 
@@ -32,27 +36,60 @@ decided : (x y : List ℕ) (t : Bool) → bytes_eq x y ≡ t → (x ≡ y) ⊎ (
 decided x y true e = inl ((bytes_eq-Decides x y).0 e)
 decided x y false e = inr (λ same. cc (e, (bytes_eq-Decides x y).1 same))
 
--- bytes of one piece are the same, or clash
-piece_same : (b d : Book) (piece : Piece) (x y : List ℕ) → IsPiece b piece x → IsPiece d piece y → (x ≡ y) ⊎ Clash b d
-piece_same b d piece x y p q = check (decided x y (bytes_eq x y) refl)
-  where
-    check : (x ≡ y) ⊎ (x ≢ y) → (x ≡ y) ⊎ Clash b d
-    check (inl same) = inl same
-    check (inr differ) = inr (record { piece = piece; one = x; other = y; given = p; also = q; differ = differ })
+-- bytes that were given are the same up to a piece of which they differ
+record Differ (b d : Book) (xs ys : List (List ℕ)) : Type 0 where
+  pub piece : Piece
+  pub one : List ℕ
+  pub other : List ℕ
+  pub given : IsPiece b piece one
+  pub also : IsPiece d piece other
+  pub differ : one ≢ other
+  pub front : List ℕ
+  pub rest : List ℕ
+  pub more : List ℕ
+  pub wrote : concat xs ≡ front ++ one ++ rest
+  pub wrote_also : concat ys ≡ front ++ other ++ more
+
+in_front : (x front one rest : List ℕ) → x ++ (front ++ one ++ rest) ≡ (x ++ front) ++ one ++ rest
+in_front x front one rest = simp append_assoc
 
 given_same : (b d : Book) (content : List Piece) (xs ys : List (List ℕ))
-    → AreGiven b content xs → AreGiven d content ys → length xs ≡ length ys → (xs ≡ ys) ⊎ Clash b d
+    → AreGiven b content xs → AreGiven d content ys → length xs ≡ length ys → (xs ≡ ys) ⊎ Differ b d xs ys
 given_same b d content [] [] p q n = inl refl
 given_same b d content [] (y ∷ ys) p q n = absurd (omega arith)
 given_same b d content (x ∷ xs) [] p q n = absurd (omega arith)
 given_same b d [] (x ∷ xs) (y ∷ ys) p q n = absurd p
 given_same b d (piece ∷ content) (x ∷ xs) (y ∷ ys) p q n =
-    both (piece_same b d piece x y p.0 q.0) (given_same b d content xs ys p.1 q.1 (omega arith))
+    both (decided x y (bytes_eq x y) refl) (given_same b d content xs ys p.1 q.1 (omega arith))
   where
-    both : (x ≡ y) ⊎ Clash b d → (xs ≡ ys) ⊎ Clash b d → (x ∷ xs ≡ y ∷ ys) ⊎ Clash b d
+    both : (x ≡ y) ⊎ (x ≢ y) → (xs ≡ ys) ⊎ Differ b d xs ys → (x ∷ xs ≡ y ∷ ys) ⊎ Differ b d (x ∷ xs) (y ∷ ys)
     both (inl here) (inl there) = inl (λ i. here i ∷ there i)
-    both (inl here) (inr clash) = inr clash
-    both (inr clash) there = inr clash
+    both (inl here) (inr f) = inr (record {
+      piece = f.piece;
+      one = f.one;
+      other = f.other;
+      given = f.given;
+      also = f.also;
+      differ = f.differ;
+      front = x ++ f.front;
+      rest = f.rest;
+      more = f.more;
+      wrote = ap (λ z. x ++ z) f.wrote ∙ in_front x f.front f.one f.rest;
+      wrote_also = (λ i. sym here i ++ f.wrote_also i) ∙ in_front x f.front f.other f.more;
+    })
+    both (inr differ) there = inr (record {
+      piece = piece;
+      one = x;
+      other = y;
+      given = p.0;
+      also = q.0;
+      differ = differ;
+      front = [];
+      rest = concat xs;
+      more = concat ys;
+      wrote = refl;
+      wrote_also = refl;
+    })
 
 -- ---- files
 
@@ -75,21 +112,49 @@ pieces_same {C = C} a b c d close content first other xs ys same p q e alone als
 abbrev Whole : {C : Type 0} → Bool → List Piece → Option (Vec ℕ Global) → Scene C → Scene C → Type 0
 Whole close content first a b = (given : List (List ℕ)) × WritesPieces close content first a b given × (length given ≡ length content)
 
+ahead : (out head front one rest : List ℕ) → out ++ (head ++ (front ++ one ++ rest)) ≡ (out ++ (head ++ front)) ++ one ++ rest
+ahead out head front one rest = simp append_assoc
+
+file_written : (a b : Option (List ℕ)) (close : Bool) (content : List Piece) (given : List (List ℕ)) (out front one rest : List ℕ)
+    → a ≡ Some out → Appends a b (file_front close content given) → concat given ≡ front ++ one ++ rest
+    → b ≡ Some ((out ++ (file_head close (size_of content) ++ front)) ++ one ++ rest)
+file_written a b close content given out front one rest e x is =
+    told_more out (file_front close content given) b (subst (λ z. Appends z b (file_front close content given)) e x)
+    ∙ ap (λ z. Some (out ++ (file_head close (size_of content) ++ z))) is
+    ∙ ap (λ z. Some z) (ahead out (file_head close (size_of content)) front one rest)
+
+files_clash : {C : Type 0} (a b c d : Scene C) (close : Bool) (content : List Piece) (first other : Option (Vec ℕ Global)) (xs ys : List (List ℕ))
+    → AreSame a c → WritesPieces close content first a b xs → WritesPieces close content other c d ys → Differ b.book d.book xs ys
+    → Clash b d
+files_clash a b c d close content first other xs ys same p q f = record {
+  piece = f.piece;
+  one = f.one;
+  other = f.other;
+  given = f.given;
+  also = f.also;
+  differ = f.differ;
+  front = same.output.0 ++ (file_head close (size_of content) ++ f.front);
+  rest = f.rest;
+  more = f.more;
+  wrote = file_written a.output b.output close content xs same.output.0 f.front f.one f.rest same.output.1 p.bytes_are f.wrote;
+  wrote_also = file_written c.output d.output close content ys same.output.0 f.front f.other f.more same.output.2 q.bytes_are f.wrote_also;
+}
+
 files_same : {C : Type 0} (a b c d : Scene C) (close : Bool) (content : List Piece) (first other : Option (Vec ℕ Global))
     → AreSame a c → Whole close content first a b → Whole close content other c d
-    → IsAlone a.book b.book → IsAlone c.book d.book → AreSame b d ⊎ Clash b.book d.book
+    → IsAlone a.book b.book → IsAlone c.book d.book → AreSame b d ⊎ Clash b d
 files_same a b c d close content first other same (xs, p, n) (ys, q, m) alone also =
     end (given_same b.book d.book content xs ys p.pieces.are_given q.pieces.are_given (n ∙ sym m))
   where
-    end : (xs ≡ ys) ⊎ Clash b.book d.book → AreSame b d ⊎ Clash b.book d.book
+    end : (xs ≡ ys) ⊎ Differ b.book d.book xs ys → AreSame b d ⊎ Clash b d
     end (inl e) = inl (pieces_same a b c d close content first other xs ys same p q e alone also)
-    end (inr clash) = inr clash
+    end (inr f) = inr (files_clash a b c d close content first other xs ys same p q f)
 
 -- ---- any response
 
 pub writes_same : {C : Type 0} (a b c d : Scene C) (close : Bool) (v w : Response)
     → Similar v w → AreSame a c → Writes {T = Unit {0}} close v a b (Ok tt) → Writes {T = Unit {0}} close w c d (Ok tt)
-    → IsAlone a.book b.book → IsAlone c.book d.book → AreSame b d ⊎ Clash b.book d.book
+    → IsAlone a.book b.book → IsAlone c.book d.book → AreSame b d ⊎ Clash b d
 writes_same a b c d close (response.Denied r) (response.Denied s) is same p q alone also =
     let bytes : Wrote c d (refusal_reply close r) = subst (λ z. Wrote c d (refusal_reply close z)) (sym is) q in
     inl (wrote_same a b c d (refusal_reply close r) same p bytes)
@@ -100,13 +165,17 @@ writes_same a b c d close response.Made response.Made is same p q alone also = i
 writes_same a b c d close response.Done response.Done is same p q alone also = inl (wrote_same a b c d (done_reply close) same p q)
 writes_same a b c d close one two is same p q alone also = absurd is
 
-pub writes_grow : {C : Type 0} (a b : Scene C) (close : Bool) (v : Response)
-    → Writes {T = Unit {0}} close v a b (Ok tt) → Grows a.book b.book
-writes_grow a b close (response.Denied r) p = wrote_grows a b (refusal_reply close r) p
-writes_grow a b close (response.Lost fault) p = wrote_grows a b (refusal_reply close (denial_of_piece fault)) p
-writes_grow a b close (response.File content first) p = waits_grow a.book b.book p.1.pieces.waits
-writes_grow a b close response.Made p = wrote_grows a b (made_reply close) p
-writes_grow a b close response.Done p = wrote_grows a b (done_reply close) p
+pub writes_go : {C : Type 0} (a b : Scene C) (close : Bool) (v : Response)
+    → Writes {T = Unit {0}} close v a b (Ok tt) → Goes a b
+writes_go a b close (response.Denied r) p = wrote_goes a b (refusal_reply close r) p
+writes_go a b close (response.Lost fault) p = wrote_goes a b (refusal_reply close (denial_of_piece fault)) p
+writes_go a b close (response.File content first) p = record {
+  book = waits_grow a.book b.book p.1.pieces.waits;
+  bytes = file_front close content p.0;
+  output = p.1.bytes_are;
+}
+writes_go a b close response.Made p = wrote_goes a b (made_reply close) p
+writes_go a b close response.Done p = wrote_goes a b (done_reply close) p
 
 -- ---- how the response ends the session
 

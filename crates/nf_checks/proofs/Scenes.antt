@@ -22,6 +22,7 @@ use Rattle.nf_server.specs.declared.begun.Begun.{Begun}
 use Rattle.nf_server.specs.declared.begun.Begun.TheVariants as begun
 use Rattle.nf_checks.specs.Alike.{AreSame, IsAlone, IsCalmBegun, IsCalmDenial, IsSteady, KnowSame, TellSame}
 use Rattle.nf_checks.proofs.Basics.{Left, left_of, told_appended, told_moved}
+use Rattle.nf_checks.proofs.Goes.{Goes, goes_quietly, goes_self}
 use Rattle.nf_checks.proofs.Books.{Grows, begins_grow, begins_same, enters_grow, enters_same, grows_self, know_next, know_self}
 
 -- ---- scenes that stay
@@ -49,6 +50,9 @@ reads_stay {C = C} a b e = record {
   book = ap (λ (z : Scene C). z.book) e;
   clock = ap (λ (z : Scene C). z.clock) e;
 }
+
+pub stays_go : {C : Type 0} (a b : Scene C) → Stays a b → Goes a b
+stays_go a b p = goes_quietly a b p.output (grows_self a.book b.book p.book)
 
 pub same_stays : {C : Type 0} (a b c d : Scene C) → AreSame a c → Stays a b → Stays c d → TellSame b.input d.input → AreSame b d
 same_stays a b c d s p q input = record {
@@ -93,8 +97,12 @@ wrote_same {C = C} a b c d bytes s p q = record {
   clock = ap (λ (z : Scene C). z.clock) q.only ∙ s.clock ∙ sym (ap (λ (z : Scene C). z.clock) p.only);
 }
 
-pub wrote_grows : {C : Type 0} (a b : Scene C) (bytes : List ℕ) → Wrote a b bytes → Grows a.book b.book
-wrote_grows {C = C} a b bytes p = grows_self a.book b.book (ap (λ (z : Scene C). z.book) p.only)
+pub wrote_goes : {C : Type 0} (a b : Scene C) (bytes : List ℕ) → Wrote a b bytes → Goes a b
+wrote_goes {C = C} a b bytes p = record {
+  book = grows_self a.book b.book (ap (λ (z : Scene C). z.book) p.only);
+  bytes = bytes;
+  output = p.bytes_are;
+}
 
 -- ---- asking
 
@@ -141,11 +149,11 @@ judges_same reads head a b c d (begun.Asked x) (begun.Asked y) steady same
     begins_same a.book b.book c.book d.book now1 no_words r1 x y same.book begins1 begins alone also calm still in
     (ap (λ z. begun.Asked z) asked.0, asks_same a b c d same only1 only2 asked.1 read.1)
 
-pub judges_grow : {C : Type 0} (reads : C → ℕ → C → Type 0) (head : Head) (a b : Scene C) (x : Begun)
-    → Judges reads head a b x → IsCalmBegun x → Grows a.book b.book
-judges_grow {C = C} reads head a b (begun.Unasked r) p calm = grows_self a.book b.book (ap (λ (z : Scene C). z.book) p.1)
-judges_grow reads head a b (begun.Asked x) (r1, now1, is1, read1, begins1, only1) calm =
-    begins_grow a.book b.book now1 no_words r1 x begins1 calm
+pub judges_go : {C : Type 0} (reads : C → ℕ → C → Type 0) (head : Head) (a b : Scene C) (x : Begun)
+    → Judges reads head a b x → IsCalmBegun x → Goes a b
+judges_go reads head a b (begun.Unasked r) p calm = goes_self a b p.1
+judges_go {C = C} reads head a b (begun.Asked x) (r1, now1, is1, read1, begins1, only1) calm =
+    goes_quietly a b (ap (λ (z : Scene C). z.output) only1) (begins_grow a.book b.book now1 no_words r1 x begins1 calm)
 
 -- ---- the End of what brings no body
 
@@ -172,7 +180,8 @@ closes_same reads how true a b c d steady same (now1, read1, ends1, only1) (now2
     subst (λ z. Ends c.book d.book z how (Ok reply.Closed)) (sym read.0) ends2 in
     asks_same a b c d same only1 only2 (ends_same a.book b.book c.book d.book now1 how same.book ends1 ends alone also) read.1
 
-pub closes_grow : {C : Type 0} (reads : C → ℕ → C → Type 0) (how : Ending) (granted : Bool) (a b : Scene C)
-    → Closes reads how granted a b → Grows a.book b.book
-closes_grow {C = C} reads how false a b p = grows_self a.book b.book (ap (λ (z : Scene C). z.book) p)
-closes_grow reads how true a b (now1, read1, ends1, only1) = ends_grow a.book b.book now1 how ends1
+pub closes_go : {C : Type 0} (reads : C → ℕ → C → Type 0) (how : Ending) (granted : Bool) (a b : Scene C)
+    → Closes reads how granted a b → Goes a b
+closes_go reads how false a b p = goes_self a b p
+closes_go {C = C} reads how true a b (now1, read1, ends1, only1) =
+    goes_quietly a b (ap (λ (z : Scene C). z.output) only1) (ends_grow a.book b.book now1 how ends1)

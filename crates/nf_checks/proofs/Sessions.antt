@@ -1,5 +1,5 @@
 -- Two sessions, turn by turn.
-use Rattle.std.proofs.Common.{◌≡◌, ◌⊎◌, ℕ, ◌+◌, ◌<◌, ◌≤◌, ◌==◌, Bool, false, List, [], ◌∷◌, refl, sym, ap, subst, arith, length, inl, inr}
+use Rattle.std.proofs.Common.{◌≡◌, ◌⊎◌, ℕ, ◌+◌, ◌<◌, ◌≤◌, ◌==◌, Bool, false, List, [], ◌∷◌, refl, sym, subst, arith, length, inl, inr}
 use Rattle.std.specs.declared.option.Option.{Option}
 use Rattle.std.specs.declared.option.Option.TheVariants.{None}
 use Rattle.std.proofs.lemmas.Bool.{ne_eqb}
@@ -8,9 +8,9 @@ use Rattle.nf_server.specs.Steps.{Scene}
 use Rattle.nf_server.specs.Turn.{Turn}
 use Rattle.nf_server.specs.declared.ended.Ended.{Ended}
 use Rattle.nf_checks.specs.Alike.{AreCalmTurns, AreSame, Clash, IsAlone, IsCalmEnd, IsCalmTurn, IsSteady, IsUndisturbed, SessionsEndAlike, StoresAgree, ToldSessionsEndAlike}
-use Rattle.nf_checks.proofs.Books.{Grows, alone_first, alone_then, clash_back, clash_on, grows_on, grows_self, no_clash}
+use Rattle.nf_checks.proofs.Goes.{Goes, alone_first, alone_then, clash_back, clash_on, goes_on, goes_self, no_clash}
 use Rattle.nf_checks.proofs.Scenes.{same_back}
-use Rattle.nf_checks.proofs.Turns.{EndsSame, turn_grows, turns_same}
+use Rattle.nf_checks.proofs.Turns.{EndsSame, turn_goes, turns_same}
 
 -- the last turn of a session of n messages, and those before it
 record Rest {C : Type 0} (reads : C → ℕ → C → Type 0) (n : ℕ) (a : Scene C) (scenes : List (Scene C)) (m b : Scene C) (end : Option Ended) : Type 0 where
@@ -24,28 +24,28 @@ record Rest {C : Type 0} (reads : C → ℕ → C → Type 0) (n : ℕ) (a : Sce
   pub alone : IsAlone a.book b.book
 
 abbrev Alike : {C : Type 0} → Scene C → Scene C → Option Ended → Option Ended → Type 0
-Alike b d end also = ((also ≡ end) × AreSame b d) ⊎ Clash b.book d.book
+Alike b d end also = ((also ≡ end) × AreSame b d) ⊎ Clash b d
 
-alike_of : {C : Type 0} (b d : Scene C) (end also : Option Ended) → EndsSame b d end also ⊎ Clash b.book d.book → Alike b d end also
+alike_of : {C : Type 0} (b d : Scene C) (end also : Option Ended) → EndsSame b d end also ⊎ Clash b d → Alike b d end also
 alike_of b d end also (inl same) = inl (same.end_is, same.scene)
 alike_of b d end also (inr clash) = inr clash
 
-through_grows : {C : Type 0} (reads : C → ℕ → C → Type 0) (a : Scene C) (scenes : List (Scene C)) (m : Scene C)
-    (through : Through reads a scenes m) → AreCalmTurns reads a scenes m through → Grows a.book m.book
-through_grows {C = C} reads a [] m through calm = grows_self a.book m.book (sym (ap (λ (z : Scene C). z.book) through))
-through_grows reads a (next ∷ scenes) m through calm =
-    grows_on a.book next.book m.book (turn_grows reads false a next None through.0 calm.0 tt)
-    (through_grows reads next scenes m through.1 calm.1)
+through_goes : {C : Type 0} (reads : C → ℕ → C → Type 0) (a : Scene C) (scenes : List (Scene C)) (m : Scene C)
+    (through : Through reads a scenes m) → AreCalmTurns reads a scenes m through → Goes a m
+through_goes reads a [] m through calm = goes_self a m (sym through)
+through_goes reads a (next ∷ scenes) m through calm =
+    goes_on a next m (turn_goes reads false a next None through.0 calm.0 tt)
+    (through_goes reads next scenes m through.1 calm.1)
 
-rest_grows : {C : Type 0} (reads : C → ℕ → C → Type 0) (n : ℕ) (a : Scene C) (scenes : List (Scene C)) (m b : Scene C) (end : Option Ended)
+rest_goes : {C : Type 0} (reads : C → ℕ → C → Type 0) (n : ℕ) (a : Scene C) (scenes : List (Scene C)) (m b : Scene C) (end : Option Ended)
     → (through : Through reads a scenes m) → AreCalmTurns reads a scenes m through → (turn : Turn reads (n == 9999) m b end)
-    → IsCalmTurn reads (n == 9999) m b end turn → IsCalmEnd end → Grows a.book b.book
-rest_grows reads n a scenes m b end through turns turn calm well =
-    grows_on a.book m.book b.book (through_grows reads a scenes m through turns) (turn_grows reads (n == 9999) m b end turn calm well)
+    → IsCalmTurn reads (n == 9999) m b end turn → IsCalmEnd end → Goes a b
+rest_goes reads n a scenes m b end through turns turn calm well =
+    goes_on a m b (through_goes reads a scenes m through turns) (turn_goes reads (n == 9999) m b end turn calm well)
 
-next_grows : {C : Type 0} (reads : C → ℕ → C → Type 0) (n : ℕ) (a next : Scene C) (scenes : List (Scene C)) (m b : Scene C) (end : Option Ended)
-    → Rest reads n a (next ∷ scenes) m b end → Grows next.book b.book
-next_grows reads n a next scenes m b end p = rest_grows reads n next scenes m b end p.through.1 p.turns.1 p.turn p.calm p.end_is
+next_goes : {C : Type 0} (reads : C → ℕ → C → Type 0) (n : ℕ) (a next : Scene C) (scenes : List (Scene C)) (m b : Scene C) (end : Option Ended)
+    → Rest reads n a (next ∷ scenes) m b end → Goes next b
+next_goes reads n a next scenes m b end p = rest_goes reads n next scenes m b end p.through.1 p.turns.1 p.turn p.calm p.end_is
 
 -- what follows the first turn
 next_of : {C : Type 0} (reads : C → ℕ → C → Type 0) (n : ℕ) (a next : Scene C) (scenes : List (Scene C)) (m b : Scene C) (end : Option Ended)
@@ -58,15 +58,15 @@ next_of reads n a next scenes m b end p = record {
   end_is = p.end_is;
   few = p.few;
   full = p.full;
-  alone = alone_then a.book next.book b.book (turn_grows reads false a next None p.through.0 p.turns.0 tt)
-      (next_grows reads n a next scenes m b end p) p.alone;
+  alone = alone_then a next b (turn_goes reads false a next None p.through.0 p.turns.0 tt)
+      (next_goes reads n a next scenes m b end p) p.alone;
 }
 
 first_alone : {C : Type 0} (reads : C → ℕ → C → Type 0) (n : ℕ) (a next : Scene C) (scenes : List (Scene C)) (m b : Scene C) (end : Option Ended)
     → Rest reads n a (next ∷ scenes) m b end → IsAlone a.book next.book
 first_alone reads n a next scenes m b end p =
-    alone_first a.book next.book b.book (turn_grows reads false a next None p.through.0 p.turns.0 tt)
-    (next_grows reads n a next scenes m b end p) p.alone
+    alone_first a next b (turn_goes reads false a next None p.through.0 p.turns.0 tt)
+    (next_goes reads n a next scenes m b end p) p.alone
 
 -- a turn that is the session's last
 record Last {C : Type 0} (reads : C → ℕ → C → Type 0) (last : Bool) (a b : Scene C) (end : Option Ended) : Type 0 where
@@ -81,14 +81,14 @@ last_of reads n a m b end p =
 
 lasts_same : {C : Type 0} (reads : C → ℕ → C → Type 0) (last : Bool) (a b c d : Scene C) (end also : Option Ended)
     → IsSteady reads → AreSame a c → Last reads last a b end → Last reads last c d also → IsCalmEnd end → IsCalmEnd also
-    → IsAlone a.book b.book → IsAlone c.book d.book → EndsSame b d end also ⊎ Clash b.book d.book
+    → IsAlone a.book b.book → IsAlone c.book d.book → EndsSame b d end also ⊎ Clash b d
 lasts_same reads last a b c d end also steady same p q well good alone lone =
     turns_same reads last a b c d end also p.turn q.turn steady same p.calm q.calm well good alone lone
 
 -- no session goes on where the other ended
 longer : {C : Type 0} (reads : C → ℕ → C → Type 0) (n : ℕ) (a m b : Scene C) (c next d : Scene C) (end : Option Ended)
     (turn : Turn reads false c next None) → IsSteady reads → AreSame a c → Rest reads n a [] m b end → n < 9999
-    → IsCalmTurn reads false c next None turn → IsAlone c.book next.book → Clash b.book next.book
+    → IsCalmTurn reads false c next None turn → IsAlone c.book next.book → Clash b next
 longer reads n a m b c next d end turn steady same p less calm lone =
     end_of (lasts_same reads false a b c next end None steady same last (record { turn = turn; calm = calm }) p.end_is tt p.alone lone)
   where
@@ -98,15 +98,15 @@ longer reads n a m b c next d end turn steady same p less calm lone =
     last : Last reads false a b end
     last = subst (λ z. Last reads z a b end) early (last_of reads n a m b end p)
 
-    end_of : EndsSame b next end None ⊎ Clash b.book next.book → Clash b.book next.book
+    end_of : EndsSame b next end None ⊎ Clash b next → Clash b next
     end_of (inl ended) = let full : n ≡ 9999 = p.full (sym ended.end_is) in absurd (omega arith)
     end_of (inr clash) = clash
 
 -- from turns that went on, to what follows
-go_on : {C : Type 0} (a c b d : Scene C) (end also : Option Ended) → Grows a.book b.book → Grows c.book d.book
-    → EndsSame a c None None ⊎ Clash a.book c.book → (AreSame a c → Alike b d end also) → Alike b d end also
-go_on a c b d end also g h (inl ends) then = then ends.scene
-go_on a c b d end also g h (inr clash) then = inr (clash_on a.book b.book c.book d.book g h clash)
+after_turns : {C : Type 0} (a c b d : Scene C) (end also : Option Ended) → Goes a b → Goes c d
+    → EndsSame a c None None ⊎ Clash a c → (AreSame a c → Alike b d end also) → Alike b d end also
+after_turns a c b d end also g h (inl ends) then = then ends.scene
+after_turns a c b d end also g h (inr clash) then = inr (clash_on a b c d g h clash)
 
 -- after k turns
 rests_same : {C : Type 0} (reads : C → ℕ → C → Type 0) (k n also_n : ℕ) (a c : Scene C) (scenes others : List (Scene C)) (m b l d : Scene C)
@@ -119,15 +119,15 @@ rests_same reads k n also_n a c [] [] m b l d end also steady same p q e f =
     alike_of b d end also
     (lasts_same reads (n == 9999) a b c d end also steady same (last_of reads n a m b end p) last p.end_is q.end_is p.alone q.alone)
 rests_same reads k n also_n a c [] (next ∷ others) m b l d end also steady same p q e f =
-    inr (clash_on b.book b.book next.book d.book (grows_self b.book b.book refl) (next_grows reads also_n c next others l d also q)
+    inr (clash_on b b next d (goes_self b b refl) (next_goes reads also_n c next others l d also q)
     (longer reads n a m b c next d end q.through.0 steady same p (omega (arith, q.few)) q.turns.0
     (first_alone reads also_n c next others l d also q)))
 rests_same reads k n also_n a c (next ∷ scenes) [] m b l d end also steady same p q e f =
-    inr (clash_on next.book b.book d.book d.book (next_grows reads n a next scenes m b end p) (grows_self d.book d.book refl)
-    (clash_back d.book next.book (longer reads also_n c l d a next b also p.through.0 steady (same_back a c same) q
+    inr (clash_on next b d d (next_goes reads n a next scenes m b end p) (goes_self d d refl)
+    (clash_back d next (longer reads also_n c l d a next b also p.through.0 steady (same_back a c same) q
     (omega (arith, p.few)) p.turns.0 (first_alone reads n a next scenes m b end p))))
 rests_same reads k n also_n a c (next ∷ scenes) (other ∷ others) m b l d end also steady same p q e f =
-    go_on next other b d end also (next_grows reads n a next scenes m b end p) (next_grows reads also_n c other others l d also q)
+    after_turns next other b d end also (next_goes reads n a next scenes m b end p) (next_goes reads also_n c other others l d also q)
     (turns_same reads false a next c other None None p.through.0 q.through.0 steady same p.turns.0 q.turns.0 tt tt
     (first_alone reads n a next scenes m b end p) (first_alone reads also_n c other others l d also q))
     (λ same_next. rests_same reads (k + 1) n also_n next other scenes others m b l d end also steady same_next
@@ -154,7 +154,7 @@ sessions_same reads a b c d end also one other steady same calm still =
 unless_clash : {C : Type 0} (b d : Scene C) (end also : Option Ended) → StoresAgree b.book d.book → Alike b d end also
     → (also ≡ end) × AreSame b d
 unless_clash b d end also agree (inl same) = same
-unless_clash b d end also agree (inr clash) = absurd (no_clash b.book d.book agree clash)
+unless_clash b d end also agree (inr clash) = absurd (no_clash b d agree clash)
 
 pub told_sessions_same : {C : Type 0} (reads : C → ℕ → C → Type 0) → ToldSessionsEndAlike reads
 told_sessions_same reads a b c d end also one other steady same calm still agree =

@@ -15,10 +15,10 @@ use Rattle.nf_server.specs.declared.ended.Ended.{Ended}
 use Rattle.nf_server.specs.declared.ended.Ended.TheVariants as ended
 use Rattle.nf_server.specs.declared.response.Response.{Response}
 use Rattle.nf_checks.specs.Alike.{AreSame, Clash, IsAlone, IsCalmBegun, IsCalmEnd, IsCalmResponse, IsCalmTurn, IsSteady}
-use Rattle.nf_checks.proofs.Bodies.{IsCut, Similar, cut_of, cuts_same, takes_grow, takes_same, never_cut}
-use Rattle.nf_checks.proofs.Books.{Grows, alone_first, alone_then, clash_on, grows_on, grows_self}
-use Rattle.nf_checks.proofs.Responses.{IsDenied, IsWritten, denied_of, ends_similar, how_similar, stays_similar, writes_grow, writes_same, written_of}
-use Rattle.nf_checks.proofs.Scenes.{closes_grow, closes_same, heads_same, judges_grow, judges_same, reads_stay, same_back, wrote_grows, wrote_same}
+use Rattle.nf_checks.proofs.Bodies.{IsCut, Similar, cut_of, cuts_same, takes_go, takes_same, never_cut}
+use Rattle.nf_checks.proofs.Goes.{Goes, alone_first, alone_then, clash_on, goes_on}
+use Rattle.nf_checks.proofs.Responses.{IsDenied, IsWritten, denied_of, ends_similar, how_similar, stays_similar, writes_go, writes_same, written_of}
+use Rattle.nf_checks.proofs.Scenes.{closes_go, closes_same, heads_same, judges_go, judges_same, reads_stay, same_back, stays_go, wrote_goes, wrote_same}
 
 -- ---- what a calm turn is
 
@@ -80,33 +80,33 @@ cut_short_of reads head begun a b end p well =
       end_is = p.ends ∙ ap (λ z. Some z) d.end_is;
     }
 
--- ---- the book only grows
+-- ---- how it goes on
 
-answered_grows : {C : Type 0} (reads : C → ℕ → C → Type 0) (last : Bool) (head : Head) (begun : Begun) (a b : Scene C) (end : Option Ended)
-    (p : IsAnswered reads last head begun a b end) → Grows a.book p.taken.book × Grows p.taken.book p.sent.book × Grows p.sent.book b.book
-answered_grows reads last head begun a b end p = (
-  takes_grow reads head a p.taken begun p.response p.takes p.calm,
-  writes_grow p.taken p.sent (says_close last head p.response) p.response p.written,
-  closes_grow reads (how_of {T = Option Ended} p.response (Ok end)) (stays_granted p.response) p.sent b p.closes,
+answered_goes : {C : Type 0} (reads : C → ℕ → C → Type 0) (last : Bool) (head : Head) (begun : Begun) (a b : Scene C) (end : Option Ended)
+    (p : IsAnswered reads last head begun a b end) → Goes a p.taken × Goes p.taken p.sent × Goes p.sent b
+answered_goes reads last head begun a b end p = (
+  takes_go reads head a p.taken begun p.response p.takes p.calm,
+  writes_go p.taken p.sent (says_close last head p.response) p.response p.written,
+  closes_go reads (how_of {T = Option Ended} p.response (Ok end)) (stays_granted p.response) p.sent b p.closes,
 )
 
-cut_short_grows : {C : Type 0} (reads : C → ℕ → C → Type 0) (head : Head) (begun : Begun) (a b : Scene C) (end : Option Ended)
-    (p : IsCutShort reads head begun a b end) → Grows a.book p.sent.book × Grows p.sent.book b.book
-cut_short_grows reads head begun a b end p = (
-  grows_on a.book p.left.book p.sent.book (grows_self a.book p.left.book p.cut.stays.book)
-      (wrote_grows p.left p.sent (refusal_reply true denial.BadMessage) p.wrote),
-  closes_grow reads ending.Gone (is_granted begun) p.sent b p.closes,
+cut_short_goes : {C : Type 0} (reads : C → ℕ → C → Type 0) (head : Head) (begun : Begun) (a b : Scene C) (end : Option Ended)
+    (p : IsCutShort reads head begun a b end) → Goes a p.sent × Goes p.sent b
+cut_short_goes reads head begun a b end p = (
+  goes_on a p.left p.sent (stays_go a p.left p.cut.stays)
+      (wrote_goes p.left p.sent (refusal_reply true denial.BadMessage) p.wrote),
+  closes_go reads ending.Gone (is_granted begun) p.sent b p.closes,
 )
 
-becomes_grows : {C : Type 0} (reads : C → ℕ → C → Type 0) (last : Bool) (head : Head) (begun : Begun) (a b : Scene C) (end : Option Ended)
-    → Becomes reads last head begun a b end → Grows a.book b.book
-becomes_grows reads last head begun a b end (inl p) =
-    let g : Grows a.book p.taken.book × Grows p.taken.book p.sent.book × Grows p.sent.book b.book =
-    answered_grows reads last head begun a b end p in
-    grows_on a.book p.taken.book b.book g.0 (grows_on p.taken.book p.sent.book b.book g.1 g.2)
-becomes_grows reads last head begun a b end (inr p) =
-    let g : Grows a.book p.sent.book × Grows p.sent.book b.book = cut_short_grows reads head begun a b end p in
-    grows_on a.book p.sent.book b.book g.0 g.1
+becomes_goes : {C : Type 0} (reads : C → ℕ → C → Type 0) (last : Bool) (head : Head) (begun : Begun) (a b : Scene C) (end : Option Ended)
+    → Becomes reads last head begun a b end → Goes a b
+becomes_goes reads last head begun a b end (inl p) =
+    let g : Goes a p.taken × Goes p.taken p.sent × Goes p.sent b =
+    answered_goes reads last head begun a b end p in
+    goes_on a p.taken b g.0 (goes_on p.taken p.sent b g.1 g.2)
+becomes_goes reads last head begun a b end (inr p) =
+    let g : Goes a p.sent × Goes p.sent b = cut_short_goes reads head begun a b end p in
+    goes_on a p.sent b g.0 g.1
 
 -- ---- both become the same
 
@@ -117,27 +117,27 @@ pub record EndsSame {C : Type 0} (b d : Scene C) (end also : Option Ended) : Typ
 
 answers_same : {C : Type 0} (reads : C → ℕ → C → Type 0) (last : Bool) (head : Head) (begun : Begun) (a b c d : Scene C) (end also : Option Ended)
     → IsSteady reads → AreSame a c → IsAnswered reads last head begun a b end → IsAnswered reads last head begun c d also
-    → IsAlone a.book b.book → IsAlone c.book d.book → EndsSame b d end also ⊎ Clash b.book d.book
+    → IsAlone a.book b.book → IsAlone c.book d.book → EndsSame b d end also ⊎ Clash b d
 answers_same reads last head begun a b c d end also steady same p q alone lone =
     wrote (writes_same p.taken p.sent q.taken q.sent close p.response q.response taken.0 taken.1 p.written written
-    (alone_first p.taken.book p.sent.book b.book g.1 g.2 alone1) (alone_first q.taken.book q.sent.book d.book h.1 h.2 lone1))
+    (alone_first p.taken p.sent b g.1 g.2 alone1) (alone_first q.taken q.sent d h.1 h.2 lone1))
   where
-    g : Grows a.book p.taken.book × Grows p.taken.book p.sent.book × Grows p.sent.book b.book
-    g = answered_grows reads last head begun a b end p
+    g : Goes a p.taken × Goes p.taken p.sent × Goes p.sent b
+    g = answered_goes reads last head begun a b end p
 
-    h : Grows c.book q.taken.book × Grows q.taken.book q.sent.book × Grows q.sent.book d.book
-    h = answered_grows reads last head begun c d also q
+    h : Goes c q.taken × Goes q.taken q.sent × Goes q.sent d
+    h = answered_goes reads last head begun c d also q
 
     alone1 : IsAlone p.taken.book b.book
-    alone1 = alone_then a.book p.taken.book b.book g.0 (grows_on p.taken.book p.sent.book b.book g.1 g.2) alone
+    alone1 = alone_then a p.taken b g.0 (goes_on p.taken p.sent b g.1 g.2) alone
 
     lone1 : IsAlone q.taken.book d.book
-    lone1 = alone_then c.book q.taken.book d.book h.0 (grows_on q.taken.book q.sent.book d.book h.1 h.2) lone
+    lone1 = alone_then c q.taken d h.0 (goes_on q.taken q.sent d h.1 h.2) lone
 
     taken : Similar p.response q.response × AreSame p.taken q.taken
     taken = takes_same reads head a p.taken c q.taken begun p.response q.response steady same p.takes q.takes p.calm q.calm
-        (alone_first a.book p.taken.book b.book g.0 (grows_on p.taken.book p.sent.book b.book g.1 g.2) alone)
-        (alone_first c.book q.taken.book d.book h.0 (grows_on q.taken.book q.sent.book d.book h.1 h.2) lone)
+        (alone_first a p.taken b g.0 (goes_on p.taken p.sent b g.1 g.2) alone)
+        (alone_first c q.taken d h.0 (goes_on q.taken q.sent d h.1 h.2) lone)
 
     close : Bool
     close = says_close last head p.response
@@ -152,26 +152,26 @@ answers_same reads last head begun a b c d end also steady same p q alone lone =
     closes = subst (λ z. Closes reads z (stays_granted p.response) q.sent d) (sym (how_similar p.response q.response end also taken.0))
         (subst (λ z. Closes reads (how_of {T = Option Ended} q.response (Ok also)) z q.sent d) (sym (stays_similar p.response q.response taken.0)) q.closes)
 
-    wrote : AreSame p.sent q.sent ⊎ Clash p.sent.book q.sent.book → EndsSame b d end also ⊎ Clash b.book d.book
-    wrote (inr clash) = inr (clash_on p.sent.book b.book q.sent.book d.book g.2 h.2 clash)
+    wrote : AreSame p.sent q.sent ⊎ Clash p.sent q.sent → EndsSame b d end also ⊎ Clash b d
+    wrote (inr clash) = inr (clash_on p.sent b q.sent d g.2 h.2 clash)
     wrote (inl sent) = inl (record {
       end_is = q.end_is ∙ sym by_response ∙ sym p.end_is;
       scene = closes_same reads (how_of {T = Option Ended} p.response (Ok end)) (stays_granted p.response) p.sent b q.sent d steady sent p.closes closes
-          (alone_then p.taken.book p.sent.book b.book g.1 g.2 alone1) (alone_then q.taken.book q.sent.book d.book h.1 h.2 lone1);
+          (alone_then p.taken p.sent b g.1 g.2 alone1) (alone_then q.taken q.sent d h.1 h.2 lone1);
     })
 
 cut_shorts_same : {C : Type 0} (reads : C → ℕ → C → Type 0) (head : Head) (begun : Begun) (a b c d : Scene C) (end also : Option Ended)
     → IsSteady reads → AreSame a c → IsCutShort reads head begun a b end → IsCutShort reads head begun c d also
     → IsAlone a.book b.book → IsAlone c.book d.book → EndsSame b d end also
 cut_shorts_same reads head begun a b c d end also steady same p q alone lone =
-    let g : Grows a.book p.sent.book × Grows p.sent.book b.book = cut_short_grows reads head begun a b end p in
-    let h : Grows c.book q.sent.book × Grows q.sent.book d.book = cut_short_grows reads head begun c d also q in
+    let g : Goes a p.sent × Goes p.sent b = cut_short_goes reads head begun a b end p in
+    let h : Goes c q.sent × Goes q.sent d = cut_short_goes reads head begun c d also q in
     let left : AreSame p.left q.left = cuts_same a p.left c q.left (taken_length head begun) p.fault q.fault same p.cut q.cut in
     let sent : AreSame p.sent q.sent = wrote_same p.left p.sent q.left q.sent (refusal_reply true denial.BadMessage) left p.wrote q.wrote in
     record {
       end_is = q.end_is ∙ sym p.end_is;
       scene = closes_same reads ending.Gone (is_granted begun) p.sent b q.sent d steady sent p.closes q.closes
-          (alone_then a.book p.sent.book b.book g.0 g.1 alone) (alone_then c.book q.sent.book d.book h.0 h.1 lone);
+          (alone_then a p.sent b g.0 g.1 alone) (alone_then c q.sent d h.0 h.1 lone);
     }
 
 -- a body that one of them took whole isn't cut in the other
@@ -182,7 +182,7 @@ never_both reads last head begun a b c d end also same p q =
 
 become_same : {C : Type 0} (reads : C → ℕ → C → Type 0) (last : Bool) (head : Head) (begun : Begun) (a b c d : Scene C) (end also : Option Ended)
     → IsSteady reads → AreSame a c → Becomes reads last head begun a b end → Becomes reads last head begun c d also
-    → IsAlone a.book b.book → IsAlone c.book d.book → EndsSame b d end also ⊎ Clash b.book d.book
+    → IsAlone a.book b.book → IsAlone c.book d.book → EndsSame b d end also ⊎ Clash b d
 become_same reads last head begun a b c d end also steady same (inl p) (inl q) alone lone =
     answers_same reads last head begun a b c d end also steady same p q alone lone
 become_same reads last head begun a b c d end also steady same (inr p) (inr q) alone lone =
@@ -255,21 +255,21 @@ calm_of reads last a b end (inr (inr (m, head, heads, (n, begun, judges, inr cut
       becomes = inr (cut_short_of reads head begun n b end cut well);
     }))
 
-met_grows : {C : Type 0} (reads : C → ℕ → C → Type 0) (last : Bool) (a b : Scene C) (end : Option Ended) (p : IsMet reads last a b end)
-    → Grows p.read.book p.asked.book × Grows p.asked.book b.book
-met_grows reads last a b end p =
-    (judges_grow reads p.head p.read p.asked p.begun p.judges p.calm, becomes_grows reads last p.head p.begun p.asked b end p.becomes)
+met_goes : {C : Type 0} (reads : C → ℕ → C → Type 0) (last : Bool) (a b : Scene C) (end : Option Ended) (p : IsMet reads last a b end)
+    → Goes p.read p.asked × Goes p.asked b
+met_goes reads last a b end p =
+    (judges_go reads p.head p.read p.asked p.begun p.judges p.calm, becomes_goes reads last p.head p.begun p.asked b end p.becomes)
 
-calm_grows : {C : Type 0} (reads : C → ℕ → C → Type 0) (last : Bool) (a b : Scene C) (end : Option Ended)
-    → IsCalm reads last a b end → Grows a.book b.book
-calm_grows reads last a b end (inl over) = grows_self a.book b.book (reads_stay a b over.heads.only).book
-calm_grows reads last a b end (inr (inl p)) =
-    grows_on a.book p.read.book b.book (grows_self a.book p.read.book (reads_stay a p.read p.heads.only).book)
-    (wrote_grows p.read b (refusal_reply true (denial_of p.fault)) p.wrote)
-calm_grows reads last a b end (inr (inr p)) =
-    let g : Grows p.read.book p.asked.book × Grows p.asked.book b.book = met_grows reads last a b end p in
-    grows_on a.book p.read.book b.book (grows_self a.book p.read.book (reads_stay a p.read p.heads.only).book)
-    (grows_on p.read.book p.asked.book b.book g.0 g.1)
+calm_goes : {C : Type 0} (reads : C → ℕ → C → Type 0) (last : Bool) (a b : Scene C) (end : Option Ended)
+    → IsCalm reads last a b end → Goes a b
+calm_goes reads last a b end (inl over) = stays_go a b (reads_stay a b over.heads.only)
+calm_goes reads last a b end (inr (inl p)) =
+    goes_on a p.read b (stays_go a p.read (reads_stay a p.read p.heads.only))
+    (wrote_goes p.read b (refusal_reply true (denial_of p.fault)) p.wrote)
+calm_goes reads last a b end (inr (inr p)) =
+    let g : Goes p.read p.asked × Goes p.asked b = met_goes reads last a b end p in
+    goes_on a p.read b (stays_go a p.read (reads_stay a p.read p.heads.only))
+    (goes_on p.read p.asked b g.0 g.1)
 
 overs_same : {C : Type 0} (a b c d : Scene C) (end also : Option Ended)
     → AreSame a c → IsOver a b end → IsOver c d also → EndsSame b d end also
@@ -294,29 +294,29 @@ refuseds_same a b c d end also same p q =
 
 mets_same : {C : Type 0} (reads : C → ℕ → C → Type 0) (last : Bool) (a b c d : Scene C) (end also : Option Ended)
     → IsSteady reads → AreSame a c → IsMet reads last a b end → IsMet reads last c d also
-    → IsAlone a.book b.book → IsAlone c.book d.book → EndsSame b d end also ⊎ Clash b.book d.book
+    → IsAlone a.book b.book → IsAlone c.book d.book → EndsSame b d end also ⊎ Clash b d
 mets_same reads last a b c d end also steady same p q alone lone =
     let heads : (Ok (Some p.head) ≡ Ok (Some q.head)) × AreSame p.read q.read =
     heads_same a p.read c q.read (Ok (Some p.head)) (Ok (Some q.head)) same p.heads q.heads tt tt in
     let agree : Ok (Some p.head) ≡ Ok (Some q.head) = heads.0 in
     let head : p.head ≡ q.head = cc in
-    let g : Grows p.read.book p.asked.book × Grows p.asked.book b.book = met_grows reads last a b end p in
-    let h : Grows q.read.book q.asked.book × Grows q.asked.book d.book = met_grows reads last c d also q in
+    let g : Goes p.read p.asked × Goes p.asked b = met_goes reads last a b end p in
+    let h : Goes q.read q.asked × Goes q.asked d = met_goes reads last c d also q in
     let alone1 : IsAlone p.read.book b.book = subst (λ z. IsAlone z b.book) (sym (reads_stay a p.read p.heads.only).book) alone in
     let lone1 : IsAlone q.read.book d.book = subst (λ z. IsAlone z d.book) (sym (reads_stay c q.read q.heads.only).book) lone in
     let judges : Judges reads p.head q.read q.asked q.begun = subst (λ z. Judges reads z q.read q.asked q.begun) (sym head) q.judges in
     let asked : (q.begun ≡ p.begun) × AreSame p.asked q.asked =
     judges_same reads p.head p.read p.asked q.read q.asked p.begun q.begun steady heads.1 p.judges judges p.calm q.calm
-    (alone_first p.read.book p.asked.book b.book g.0 g.1 alone1) (alone_first q.read.book q.asked.book d.book h.0 h.1 lone1) in
+    (alone_first p.read p.asked b g.0 g.1 alone1) (alone_first q.read q.asked d h.0 h.1 lone1) in
     let becomes : Becomes reads last p.head p.begun q.asked d also =
     subst (λ z. Becomes reads last z p.begun q.asked d also) (sym head)
     (subst (λ z. Becomes reads last q.head z q.asked d also) asked.0 q.becomes) in
     become_same reads last p.head p.begun p.asked b q.asked d end also steady asked.1 p.becomes becomes
-    (alone_then p.read.book p.asked.book b.book g.0 g.1 alone1) (alone_then q.read.book q.asked.book d.book h.0 h.1 lone1)
+    (alone_then p.read p.asked b g.0 g.1 alone1) (alone_then q.read q.asked d h.0 h.1 lone1)
 
 calms_same : {C : Type 0} (reads : C → ℕ → C → Type 0) (last : Bool) (a b c d : Scene C) (end also : Option Ended)
     → IsSteady reads → AreSame a c → IsCalm reads last a b end → IsCalm reads last c d also
-    → IsAlone a.book b.book → IsAlone c.book d.book → EndsSame b d end also ⊎ Clash b.book d.book
+    → IsAlone a.book b.book → IsAlone c.book d.book → EndsSame b d end also ⊎ Clash b d
 calms_same reads last a b c d end also steady same (inl p) (inl q) alone lone = inl (overs_same a b c d end also same p q)
 calms_same reads last a b c d end also steady same (inr (inl p)) (inr (inl q)) alone lone = inl (refuseds_same a b c d end also same p q)
 calms_same reads last a b c d end also steady same (inr (inr p)) (inr (inr q)) alone lone =
@@ -338,13 +338,13 @@ calms_same reads last a b c d end also steady same (inr (inr p)) (inr (inl q)) a
 
 -- ---- for sessions
 
-pub turn_grows : {C : Type 0} (reads : C → ℕ → C → Type 0) (last : Bool) (a b : Scene C) (end : Option Ended) (turn : Turn reads last a b end)
-    → IsCalmTurn reads last a b end turn → IsCalmEnd end → Grows a.book b.book
-turn_grows reads last a b end turn calm well = calm_grows reads last a b end (calm_of reads last a b end turn calm well)
+pub turn_goes : {C : Type 0} (reads : C → ℕ → C → Type 0) (last : Bool) (a b : Scene C) (end : Option Ended) (turn : Turn reads last a b end)
+    → IsCalmTurn reads last a b end turn → IsCalmEnd end → Goes a b
+turn_goes reads last a b end turn calm well = calm_goes reads last a b end (calm_of reads last a b end turn calm well)
 
 pub turns_same : {C : Type 0} (reads : C → ℕ → C → Type 0) (last : Bool) (a b c d : Scene C) (end also : Option Ended)
     (one : Turn reads last a b end) (other : Turn reads last c d also) → IsSteady reads → AreSame a c
     → IsCalmTurn reads last a b end one → IsCalmTurn reads last c d also other → IsCalmEnd end → IsCalmEnd also
-    → IsAlone a.book b.book → IsAlone c.book d.book → EndsSame b d end also ⊎ Clash b.book d.book
+    → IsAlone a.book b.book → IsAlone c.book d.book → EndsSame b d end also ⊎ Clash b d
 turns_same reads last a b c d end also one other steady same calm still well good alone lone =
     calms_same reads last a b c d end also steady same (calm_of reads last a b end one calm well) (calm_of reads last c d also other still good) alone lone

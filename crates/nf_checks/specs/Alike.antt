@@ -1,5 +1,5 @@
 -- What makes two sessions alike: the bytes that they read, what is known, the readings of the clock, and that nothing failed.
-use Rattle.std.specs.Prelude.{◌≡◌, ◌≢◌, ◌⊎◌, ℕ, ◌+◌, ◌==◌, Bool, false, List, [], ◌∷◌, length, Option, None, Some, Ok, Err}
+use Rattle.std.specs.Prelude.{◌≡◌, ◌≢◌, ◌⊎◌, ℕ, ◌+◌, ◌==◌, Bool, false, List, [], ◌∷◌, ◌++◌, length, Option, None, Some, Ok, Err}
 use mathlib.Core.Logic.{inl, inr}
 use Rattle.nf_base.specs.declared.content.Piece.{Piece}
 use Rattle.nf_words.specs.declared.answer.Denial.{Denial}
@@ -107,22 +107,27 @@ pub record IsUndisturbed {C : Type 0} (reads : C → ℕ → C → Type 0) (a b 
 
 -- ---- the laws
 
--- a piece of which two backends gave different bytes: both of its size and SHA-256 digest (FIPS 180-4), and each told by its store,
--- if that tells
-pub record Clash (b d : Book) : Type 0 where
+-- the outputs are the same up to a piece of which different bytes were written: in both they have its size and SHA-256 digest
+-- (FIPS 180-4), and are those that the store tells, if it tells
+pub record Clash {C : Type 0} (b d : Scene C) : Type 0 where
   pub piece : Piece
   pub one : List ℕ
   pub other : List ℕ
-  pub given : IsPiece b piece one
-  pub also : IsPiece d piece other
+  pub given : IsPiece b.book piece one
+  pub also : IsPiece d.book piece other
   pub differ : one ≢ other
+  pub front : List ℕ
+  pub rest : List ℕ
+  pub more : List ℕ
+  pub wrote : b.output ≡ Some (front ++ one ++ rest)
+  pub wrote_also : d.output ≡ Some (front ++ other ++ more)
 
--- two such sessions, begun in scenes that are the same, end so too, and in the same way; or a piece is shown that clashes
+-- two such sessions, begun in scenes that are the same, end so too, and in the same way; or pieces of one digest are shown in what they wrote
 abbrev pub SessionsEndAlike : {C : Type 0} → (C → ℕ → C → Type 0) → Type 0
 SessionsEndAlike {C} reads =
     (a b c d : Scene C) (end also : Option Ended) (one : Session reads a b end) (other : Session reads c d also)
     → IsSteady reads → AreSame a c → IsUndisturbed reads a b end one → IsUndisturbed reads c d also other
-    → ((also ≡ end) × AreSame b d) ⊎ Clash b.book d.book
+    → ((also ≡ end) × AreSame b d) ⊎ Clash b d
 
 -- both stores tell, and wherever both tell a blob of a number, it is the same
 abbrev pub StoresAgree : Book → Book → Type 0

@@ -6,13 +6,13 @@ use nf_outside::Clock;
 
 /// Two sessions of one seat's knowledge over one told input, with the same readings of the clock, in which nothing of the
 /// outside failed, memory didn't want and no other seat made an entry, end in the same way: they wrote the same bytes,
-/// left the same to read, and made the same entries with the same answers. Where they don't, there is a piece of which
-/// different bytes were given, with one SHA-256 digest.
+/// left the same to read, and made the same entries with the same answers. Where they don't, what they wrote is the same
+/// up to a piece of which they wrote different bytes with one SHA-256 digest.
 pub fn sessions_end_alike<C: Clock>()
     ensures { SessionsEndAlike C.reads }
 {}
 
-/// There is no such piece where the stores tell, and at the end don't tell different bytes under one number.
+/// There is no such piece where both stores tell, and at the end don't tell different bytes under one number.
 pub fn told_sessions_end_alike<C: Clock>()
     ensures { ToldSessionsEndAlike C.reads }
 {}
