@@ -65,7 +65,8 @@ record Started (a b : Book) (content : List Piece) (v : Response) : Type 0 where
   pub file : IsFileOf content v
   pub waits : (b ≡ a) ⊎ Waits a b
 
-started : (a b : Book) (content : List Piece) (v : Response) → Starts a b content v → IsCalmResponse v → Started a b content v
+started : (a b : Book) (content : List Piece) (v : Response) → Starts a b content v → IsCalmResponse v
+    → Started a b content v
 started a b [] (response.File content None) s calm = record { file = s.0; waits = inl s.1 }
 started a b (piece ∷ pieces) (response.File content (Some first)) s calm = record { file = s.0; waits = inr s.1 }
 started a b (piece ∷ pieces) (response.Lost fault) s calm = absurd calm
@@ -99,7 +100,8 @@ starts_same {C = C} a b c d content v w same p q calm still alone also =
 -- ---- the body that is stored
 
 stores_same : {C : Type 0} (reads : C → ℕ → C → Type 0) (body : List ℕ) (a b c d : Scene C) (v w : Response)
-    → IsSteady reads → AreSame a c → StoresBody reads body a b v → StoresBody reads body c d w → IsCalmResponse v → IsCalmResponse w
+    → IsSteady reads → AreSame a c → StoresBody reads body a b v → StoresBody reads body c d w → IsCalmResponse v
+    → IsCalmResponse w
     → IsAlone a.book b.book → IsAlone c.book d.book → Similar v w × AreSame b d
 stores_same reads body a b c d v w steady same (now1, x, read1, ends1, is1, only1) (now2, y, read2, ends2, is2, only2) calm still alone also =
     let read : (now1 ≡ now2) × (b.clock ≡ d.clock) = readings_same reads a b c d now1 now2 steady same read1 read2 in
@@ -115,8 +117,10 @@ plain_same : {C : Type 0} (a b c d : Scene C) (answer : Answer) (v w : Response)
     → AreSame a c → IsResponse answer v × (b ≡ a) → IsResponse answer w × (d ≡ c) → Similar v w × AreSame b d
 plain_same a b c d answer v w same p q = (similar answer v w p.0 q.0, same_self a b c d same p.1 q.1)
 
-pub passes_same : {C : Type 0} (reads : C → ℕ → C → Type 0) (body : List ℕ) (a b c d : Scene C) (x : Begun) (v w : Response)
-    → IsSteady reads → AreSame a c → Passes reads body a b x v → Passes reads body c d x w → IsCalmResponse v → IsCalmResponse w
+pub passes_same : {C : Type 0} (reads : C → ℕ → C → Type 0) (body : List ℕ) (a b c d : Scene C) (x : Begun)
+    (v w : Response)
+    → IsSteady reads → AreSame a c → Passes reads body a b x v → Passes reads body c d x w → IsCalmResponse v
+    → IsCalmResponse w
     → IsAlone a.book b.book → IsAlone c.book d.book → Similar v w × AreSame b d
 passes_same reads body a b c d (begun.Unasked refusal) v w steady same p q calm still alone also =
     (denied v w refusal p.0 q.0, same_self a b c d same p.1 q.1)
@@ -157,7 +161,8 @@ bodies_same a b c d n p q same x y =
     told_taken a.input b.input c.input d.input n p q same.input x.taken y.taken in
     (taken.0, same_stays a b c d same (bodies_stay a b n p x) (bodies_stay c d n q y) taken.1)
 
-pub takes_same : {C : Type 0} (reads : C → ℕ → C → Type 0) (head : Head) (a b c d : Scene C) (x : Begun) (v w : Response)
+pub takes_same : {C : Type 0} (reads : C → ℕ → C → Type 0) (head : Head) (a b c d : Scene C) (x : Begun)
+    (v w : Response)
     → IsSteady reads → AreSame a c → TakesIn reads head a b x (Ok v) → TakesIn reads head c d x (Ok w)
     → IsCalmResponse v → IsCalmResponse w → IsAlone a.book b.book → IsAlone c.book d.book → Similar v w × AreSame b d
 takes_same {C = C} reads head a b c d x v w steady same (m, p, bodies1, passes1) (n, q, bodies2, passes2) calm still alone also =

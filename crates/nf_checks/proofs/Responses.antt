@@ -93,7 +93,8 @@ given_same b d (piece ∷ content) (x ∷ xs) (y ∷ ys) p q n =
 
 -- ---- files
 
-pieces_same : {C : Type 0} (a b c d : Scene C) (close : Bool) (content : List Piece) (first other : Option (Vec ℕ Global)) (xs ys : List (List ℕ))
+pieces_same : {C : Type 0} (a b c d : Scene C) (close : Bool) (content : List Piece)
+    (first other : Option (Vec ℕ Global)) (xs ys : List (List ℕ))
     → AreSame a c → WritesPieces close content first a b xs → WritesPieces close content other c d ys → xs ≡ ys
     → IsAlone a.book b.book → IsAlone c.book d.book → AreSame b d
 pieces_same {C = C} a b c d close content first other xs ys same p q e alone also =
@@ -112,10 +113,12 @@ pieces_same {C = C} a b c d close content first other xs ys same p q e alone als
 abbrev Whole : {C : Type 0} → Bool → List Piece → Option (Vec ℕ Global) → Scene C → Scene C → Type 0
 Whole close content first a b = (given : List (List ℕ)) × WritesPieces close content first a b given × (length given ≡ length content)
 
-ahead : (out head front one rest : List ℕ) → out ++ (head ++ (front ++ one ++ rest)) ≡ (out ++ (head ++ front)) ++ one ++ rest
+ahead : (out head front one rest : List ℕ)
+    → out ++ (head ++ (front ++ one ++ rest)) ≡ (out ++ (head ++ front)) ++ one ++ rest
 ahead out head front one rest = simp append_assoc
 
-file_written : (a b : Option (List ℕ)) (close : Bool) (content : List Piece) (given : List (List ℕ)) (out front one rest : List ℕ)
+file_written : (a b : Option (List ℕ)) (close : Bool) (content : List Piece) (given : List (List ℕ))
+    (out front one rest : List ℕ)
     → a ≡ Some out → Appends a b (file_front close content given) → concat given ≡ front ++ one ++ rest
     → b ≡ Some ((out ++ (file_head close (size_of content) ++ front)) ++ one ++ rest)
 file_written a b close content given out front one rest e x is =
@@ -123,8 +126,10 @@ file_written a b close content given out front one rest e x is =
     ∙ ap (λ z. Some (out ++ (file_head close (size_of content) ++ z))) is
     ∙ ap (λ z. Some z) (ahead out (file_head close (size_of content)) front one rest)
 
-files_clash : {C : Type 0} (a b c d : Scene C) (close : Bool) (content : List Piece) (first other : Option (Vec ℕ Global)) (xs ys : List (List ℕ))
-    → AreSame a c → WritesPieces close content first a b xs → WritesPieces close content other c d ys → Differ b.book d.book xs ys
+files_clash : {C : Type 0} (a b c d : Scene C) (close : Bool) (content : List Piece)
+    (first other : Option (Vec ℕ Global)) (xs ys : List (List ℕ))
+    → AreSame a c → WritesPieces close content first a b xs → WritesPieces close content other c d ys
+    → Differ b.book d.book xs ys
     → Clash b d
 files_clash a b c d close content first other xs ys same p q f = record {
   piece = f.piece;
@@ -140,7 +145,8 @@ files_clash a b c d close content first other xs ys same p q f = record {
   wrote_also = file_written c.output d.output close content ys same.output.0 f.front f.other f.more same.output.2 q.bytes_are f.wrote_also;
 }
 
-files_same : {C : Type 0} (a b c d : Scene C) (close : Bool) (content : List Piece) (first other : Option (Vec ℕ Global))
+files_same : {C : Type 0} (a b c d : Scene C) (close : Bool) (content : List Piece)
+    (first other : Option (Vec ℕ Global))
     → AreSame a c → Whole close content first a b → Whole close content other c d
     → IsAlone a.book b.book → IsAlone c.book d.book → AreSame b d ⊎ Clash b d
 files_same a b c d close content first other same (xs, p, n) (ys, q, m) alone also =
@@ -237,7 +243,8 @@ stays_similar response.Made response.Made is = refl
 stays_similar response.Done response.Done is = refl
 stays_similar one two is = absurd is
 
-pub how_similar : (v w : Response) (one two : Option Ended) → Similar v w → how_of {T = Option Ended} v (Ok one) ≡ how_of {T = Option Ended} w (Ok two)
+pub how_similar : (v w : Response) (one two : Option Ended) → Similar v w
+    → how_of {T = Option Ended} v (Ok one) ≡ how_of {T = Option Ended} w (Ok two)
 how_similar (response.Denied r) (response.Denied s) one two is = refl
 how_similar (response.File a first) (response.File b other) one two is = refl
 how_similar response.Made response.Made one two is = refl
@@ -259,13 +266,15 @@ ends_so refusal a b ended.WriteFault p calm = absurd calm
 ends_so refusal a b ended.Memory p calm = absurd calm
 ends_so refusal a b by p calm = absurd p
 
-told_so : {C : Type 0} (fault : WireFault) (a b : Scene C) (by : Ended) → IsOfBytes (Err fault) → EndsSo (denial_of fault) a b by
+told_so : {C : Type 0} (fault : WireFault) (a b : Scene C) (by : Ended) → IsOfBytes (Err fault)
+    → EndsSo (denial_of fault) a b by
     → IsCalmEnded by → IsDenied fault a b by
 told_so fault a b by bytes p calm =
     let so : (by ≡ ended.BadMessage) × Wrote a b (refusal_reply true (denial_of fault)) = ends_so (denial_of fault) a b by p calm in
     record { end_is = so.0; bytes = bytes; wrote = so.1 }
 
-pub denied_of : {C : Type 0} (fault : WireFault) (a b : Scene C) (by : Ended) → EndsBy fault a b by → IsCalmEnded by → IsDenied fault a b by
+pub denied_of : {C : Type 0} (fault : WireFault) (a b : Scene C) (by : Ended) → EndsBy fault a b by → IsCalmEnded by
+    → IsDenied fault a b by
 denied_of wire.ReadFault a b by p calm = absurd (subst (λ z. IsCalmEnded z) p.0 calm)
 denied_of wire.Memory a b by p calm = absurd (subst (λ z. IsCalmEnded z) p.0 calm)
 denied_of wire.Bad a b by p calm = told_so wire.Bad a b by tt p calm

@@ -54,7 +54,8 @@ reads_stay {C = C} a b e = record {
 pub stays_go : {C : Type 0} (a b : Scene C) → Stays a b → Goes a b
 stays_go a b p = goes_quietly a b p.output (grows_self a.book b.book p.book)
 
-pub same_stays : {C : Type 0} (a b c d : Scene C) → AreSame a c → Stays a b → Stays c d → TellSame b.input d.input → AreSame b d
+pub same_stays : {C : Type 0} (a b c d : Scene C) → AreSame a c → Stays a b → Stays c d → TellSame b.input d.input
+    → AreSame b d
 same_stays a b c d s p q input = record {
   input = input;
   output = told_moved a.output b.output c.output d.output s.output p.output q.output;
@@ -69,7 +70,8 @@ told_kept xs None k = absurd k
 told_kept xs (Some ys) k = (ys, refl)
 
 -- the stream tells still
-told_next : (xs : List ℕ) (b : Option (List ℕ)) (x : Result (Option Head) WireFault) → IsNext (Some xs) b x → IsOfBytes x → Left b
+told_next : (xs : List ℕ) (b : Option (List ℕ)) (x : Result (Option Head) WireFault) → IsNext (Some xs) b x
+    → IsOfBytes x → Left b
 told_next xs b (Ok None) next calm = told_kept xs b next.1
 told_next xs b (Ok (Some head)) (h, _, taken) calm = left_of (Some xs) b xs (print_request h) refl taken.3
 told_next xs b (Err wire.ReadFault) next calm = absurd calm
@@ -108,7 +110,8 @@ wrote_goes {C = C} a b bytes p = record {
 
 -- readings of clocks that are the same
 pub readings_same : {C : Type 0} (reads : C → ℕ → C → Type 0) (a b c d : Scene C) (now also : ℕ)
-    → IsSteady reads → AreSame a c → reads a.clock now b.clock → reads c.clock also d.clock → (now ≡ also) × (b.clock ≡ d.clock)
+    → IsSteady reads → AreSame a c → reads a.clock now b.clock → reads c.clock also d.clock
+    → (now ≡ also) × (b.clock ≡ d.clock)
 readings_same reads a b c d now also steady s p q =
     steady a.clock now also b.clock d.clock p (subst (λ z. reads z also d.clock) s.clock q)
 
@@ -121,7 +124,8 @@ asks_same {C = C} a b c d s p q book clock = record {
   clock = sym clock;
 }
 
-unasked : (head : Head) (refusal : Denial) → IsUnasked head refusal → IsCalmDenial refusal → request_of head ≡ Err refusal
+unasked : (head : Head) (refusal : Denial) → IsUnasked head refusal → IsCalmDenial refusal
+    → request_of head ≡ Err refusal
 unasked head refusal (inl is) calm = is
 unasked head refusal (inr is) calm = absurd (subst (λ z. IsCalmDenial z) is calm)
 
@@ -157,7 +161,8 @@ judges_go {C = C} reads head a b (begun.Asked x) (r1, now1, is1, read1, begins1,
 
 -- ---- the End of what brings no body
 
-ends_same : (a b c d : Book) (now : ℕ) (how : Ending) → KnowSame a c → Ends a b now how (Ok reply.Closed) → Ends c d now how (Ok reply.Closed)
+ends_same : (a b c d : Book) (now : ℕ) (how : Ending) → KnowSame a c → Ends a b now how (Ok reply.Closed)
+    → Ends c d now how (Ok reply.Closed)
     → IsAlone a b → IsAlone c d → KnowSame b d
 ends_same a b c d now ending.Sent k p q alone also =
     (enters_same a b c d now (End Sent) (Ok reply.Closed) (Ok reply.Closed) k p.enters q.enters alone also tt tt).1

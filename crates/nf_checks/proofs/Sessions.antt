@@ -26,7 +26,8 @@ record Rest {C : Type 0} (reads : C → ℕ → C → Type 0) (n : ℕ) (a : Sce
 abbrev Alike : {C : Type 0} → Scene C → Scene C → Option Ended → Option Ended → Type 0
 Alike b d end also = ((also ≡ end) × AreSame b d) ⊎ Clash b d
 
-alike_of : {C : Type 0} (b d : Scene C) (end also : Option Ended) → EndsSame b d end also ⊎ Clash b d → Alike b d end also
+alike_of : {C : Type 0} (b d : Scene C) (end also : Option Ended) → EndsSame b d end also ⊎ Clash b d
+    → Alike b d end also
 alike_of b d end also (inl same) = inl (same.end_is, same.scene)
 alike_of b d end also (inr clash) = inr clash
 
@@ -37,18 +38,22 @@ through_goes reads a (next ∷ scenes) m through calm =
     goes_on a next m (turn_goes reads false a next None through.0 calm.0 tt)
     (through_goes reads next scenes m through.1 calm.1)
 
-rest_goes : {C : Type 0} (reads : C → ℕ → C → Type 0) (n : ℕ) (a : Scene C) (scenes : List (Scene C)) (m b : Scene C) (end : Option Ended)
-    → (through : Through reads a scenes m) → AreCalmTurns reads a scenes m through → (turn : Turn reads (n == 9999) m b end)
+rest_goes : {C : Type 0} (reads : C → ℕ → C → Type 0) (n : ℕ) (a : Scene C) (scenes : List (Scene C)) (m b : Scene C)
+    (end : Option Ended)
+    → (through : Through reads a scenes m) → AreCalmTurns reads a scenes m through
+    → (turn : Turn reads (n == 9999) m b end)
     → IsCalmTurn reads (n == 9999) m b end turn → IsCalmEnd end → Goes a b
 rest_goes reads n a scenes m b end through turns turn calm well =
     goes_on a m b (through_goes reads a scenes m through turns) (turn_goes reads (n == 9999) m b end turn calm well)
 
-next_goes : {C : Type 0} (reads : C → ℕ → C → Type 0) (n : ℕ) (a next : Scene C) (scenes : List (Scene C)) (m b : Scene C) (end : Option Ended)
+next_goes : {C : Type 0} (reads : C → ℕ → C → Type 0) (n : ℕ) (a next : Scene C) (scenes : List (Scene C))
+    (m b : Scene C) (end : Option Ended)
     → Rest reads n a (next ∷ scenes) m b end → Goes next b
 next_goes reads n a next scenes m b end p = rest_goes reads n next scenes m b end p.through.1 p.turns.1 p.turn p.calm p.end_is
 
 -- what follows the first turn
-next_of : {C : Type 0} (reads : C → ℕ → C → Type 0) (n : ℕ) (a next : Scene C) (scenes : List (Scene C)) (m b : Scene C) (end : Option Ended)
+next_of : {C : Type 0} (reads : C → ℕ → C → Type 0) (n : ℕ) (a next : Scene C) (scenes : List (Scene C)) (m b : Scene C)
+    (end : Option Ended)
     → Rest reads n a (next ∷ scenes) m b end → Rest reads n next scenes m b end
 next_of reads n a next scenes m b end p = record {
   through = p.through.1;
@@ -62,7 +67,8 @@ next_of reads n a next scenes m b end p = record {
       (next_goes reads n a next scenes m b end p) p.alone;
 }
 
-first_alone : {C : Type 0} (reads : C → ℕ → C → Type 0) (n : ℕ) (a next : Scene C) (scenes : List (Scene C)) (m b : Scene C) (end : Option Ended)
+first_alone : {C : Type 0} (reads : C → ℕ → C → Type 0) (n : ℕ) (a next : Scene C) (scenes : List (Scene C))
+    (m b : Scene C) (end : Option Ended)
     → Rest reads n a (next ∷ scenes) m b end → IsAlone a.book next.book
 first_alone reads n a next scenes m b end p =
     alone_first a next b (turn_goes reads false a next None p.through.0 p.turns.0 tt)
@@ -109,7 +115,8 @@ after_turns a c b d end also g h (inl ends) then = then ends.scene
 after_turns a c b d end also g h (inr clash) then = inr (clash_on a b c d g h clash)
 
 -- after k turns
-rests_same : {C : Type 0} (reads : C → ℕ → C → Type 0) (k n also_n : ℕ) (a c : Scene C) (scenes others : List (Scene C)) (m b l d : Scene C)
+rests_same : {C : Type 0} (reads : C → ℕ → C → Type 0) (k n also_n : ℕ) (a c : Scene C) (scenes others : List (Scene C))
+    (m b l d : Scene C)
     (end also : Option Ended) → IsSteady reads → AreSame a c → Rest reads n a scenes m b end → Rest reads also_n c others l d also
     → n ≡ k + length scenes → also_n ≡ k + length others → Alike b d end also
 rests_same reads k n also_n a c [] [] m b l d end also steady same p q e f =
@@ -133,7 +140,8 @@ rests_same reads k n also_n a c (next ∷ scenes) (other ∷ others) m b l d end
     (λ same_next. rests_same reads (k + 1) n also_n next other scenes others m b l d end also steady same_next
     (next_of reads n a next scenes m b end p) (next_of reads also_n c other others l d also q) (omega arith) (omega arith))
 
-rest_of : {C : Type 0} (reads : C → ℕ → C → Type 0) (a b : Scene C) (end : Option Ended) (session : Session reads a b end)
+rest_of : {C : Type 0} (reads : C → ℕ → C → Type 0) (a b : Scene C) (end : Option Ended)
+    (session : Session reads a b end)
     → IsUndisturbed reads a b end session → Rest reads (length session.scenes) a session.scenes session.before b end
 rest_of reads a b end session calm = record {
   through = session.through;

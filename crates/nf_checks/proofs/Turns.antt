@@ -49,7 +49,8 @@ abbrev Becomes : {C : Type 0} (reads : C → ℕ → C → Type 0) (last : Bool)
     (end : Option Ended) → Type 0
 Becomes reads last head begun a b end = IsAnswered reads last head begun a b end ⊎ IsCutShort reads head begun a b end
 
-answered_of : {C : Type 0} (reads : C → ℕ → C → Type 0) (last : Bool) (head : Head) (begun : Begun) (a b : Scene C) (end : Option Ended)
+answered_of : {C : Type 0} (reads : C → ℕ → C → Type 0) (last : Bool) (head : Head) (begun : Begun) (a b : Scene C)
+    (end : Option Ended)
     (p : Answers reads last head begun a b end) → IsCalmResponse p.response → IsCalmEnd end → IsAnswered reads last head begun a b end
 answered_of reads last head begun a b end p calm well =
     let w : IsWritten last head p.response p.taken p.sent p.result end =
@@ -65,7 +66,8 @@ answered_of reads last head begun a b end p calm well =
       end_is = w.end_is;
     }
 
-cut_short_of : {C : Type 0} (reads : C → ℕ → C → Type 0) (head : Head) (begun : Begun) (a b : Scene C) (end : Option Ended)
+cut_short_of : {C : Type 0} (reads : C → ℕ → C → Type 0) (head : Head) (begun : Begun) (a b : Scene C)
+    (end : Option Ended)
     → CutsShort reads head begun a b end → IsCalmEnd end → IsCutShort reads head begun a b end
 cut_short_of reads head begun a b end p well =
     let d : IsDenied p.fault p.cut p.sent p.by = denied_of p.fault p.cut p.sent p.by p.responds (subst (λ z. IsCalmEnd z) p.ends well) in
@@ -82,7 +84,8 @@ cut_short_of reads head begun a b end p well =
 
 -- ---- how it goes on
 
-answered_goes : {C : Type 0} (reads : C → ℕ → C → Type 0) (last : Bool) (head : Head) (begun : Begun) (a b : Scene C) (end : Option Ended)
+answered_goes : {C : Type 0} (reads : C → ℕ → C → Type 0) (last : Bool) (head : Head) (begun : Begun) (a b : Scene C)
+    (end : Option Ended)
     (p : IsAnswered reads last head begun a b end) → Goes a p.taken × Goes p.taken p.sent × Goes p.sent b
 answered_goes reads last head begun a b end p = (
   takes_go reads head a p.taken begun p.response p.takes p.calm,
@@ -90,7 +93,8 @@ answered_goes reads last head begun a b end p = (
   closes_go reads (how_of {T = Option Ended} p.response (Ok end)) (stays_granted p.response) p.sent b p.closes,
 )
 
-cut_short_goes : {C : Type 0} (reads : C → ℕ → C → Type 0) (head : Head) (begun : Begun) (a b : Scene C) (end : Option Ended)
+cut_short_goes : {C : Type 0} (reads : C → ℕ → C → Type 0) (head : Head) (begun : Begun) (a b : Scene C)
+    (end : Option Ended)
     (p : IsCutShort reads head begun a b end) → Goes a p.sent × Goes p.sent b
 cut_short_goes reads head begun a b end p = (
   goes_on a p.left p.sent (stays_go a p.left p.cut.stays)
@@ -98,7 +102,8 @@ cut_short_goes reads head begun a b end p = (
   closes_go reads ending.Gone (is_granted begun) p.sent b p.closes,
 )
 
-becomes_goes : {C : Type 0} (reads : C → ℕ → C → Type 0) (last : Bool) (head : Head) (begun : Begun) (a b : Scene C) (end : Option Ended)
+becomes_goes : {C : Type 0} (reads : C → ℕ → C → Type 0) (last : Bool) (head : Head) (begun : Begun) (a b : Scene C)
+    (end : Option Ended)
     → Becomes reads last head begun a b end → Goes a b
 becomes_goes reads last head begun a b end (inl p) =
     let g : Goes a p.taken × Goes p.taken p.sent × Goes p.sent b =
@@ -115,8 +120,10 @@ pub record EndsSame {C : Type 0} (b d : Scene C) (end also : Option Ended) : Typ
   pub end_is : also ≡ end
   pub scene : AreSame b d
 
-answers_same : {C : Type 0} (reads : C → ℕ → C → Type 0) (last : Bool) (head : Head) (begun : Begun) (a b c d : Scene C) (end also : Option Ended)
-    → IsSteady reads → AreSame a c → IsAnswered reads last head begun a b end → IsAnswered reads last head begun c d also
+answers_same : {C : Type 0} (reads : C → ℕ → C → Type 0) (last : Bool) (head : Head) (begun : Begun) (a b c d : Scene C)
+    (end also : Option Ended)
+    → IsSteady reads → AreSame a c → IsAnswered reads last head begun a b end
+    → IsAnswered reads last head begun c d also
     → IsAlone a.book b.book → IsAlone c.book d.book → EndsSame b d end also ⊎ Clash b d
 answers_same reads last head begun a b c d end also steady same p q alone lone =
     wrote (writes_same p.taken p.sent q.taken q.sent close p.response q.response taken.0 taken.1 p.written written
@@ -160,7 +167,8 @@ answers_same reads last head begun a b c d end also steady same p q alone lone =
           (alone_then p.taken p.sent b g.1 g.2 alone1) (alone_then q.taken q.sent d h.1 h.2 lone1);
     })
 
-cut_shorts_same : {C : Type 0} (reads : C → ℕ → C → Type 0) (head : Head) (begun : Begun) (a b c d : Scene C) (end also : Option Ended)
+cut_shorts_same : {C : Type 0} (reads : C → ℕ → C → Type 0) (head : Head) (begun : Begun) (a b c d : Scene C)
+    (end also : Option Ended)
     → IsSteady reads → AreSame a c → IsCutShort reads head begun a b end → IsCutShort reads head begun c d also
     → IsAlone a.book b.book → IsAlone c.book d.book → EndsSame b d end also
 cut_shorts_same reads head begun a b c d end also steady same p q alone lone =
@@ -175,12 +183,14 @@ cut_shorts_same reads head begun a b c d end also steady same p q alone lone =
     }
 
 -- a body that one of them took whole isn't cut in the other
-never_both : {C : Type 0} (reads : C → ℕ → C → Type 0) (last : Bool) (head : Head) (begun : Begun) (a b c d : Scene C) (end also : Option Ended)
+never_both : {C : Type 0} (reads : C → ℕ → C → Type 0) (last : Bool) (head : Head) (begun : Begun) (a b c d : Scene C)
+    (end also : Option Ended)
     → AreSame a c → IsAnswered reads last head begun a b end → IsCutShort reads head begun c d also → ⊥
 never_both reads last head begun a b c d end also same p q =
     never_cut a p.takes.0 c q.left (taken_length head begun) p.takes.1 q.fault same p.takes.2 q.cut
 
-become_same : {C : Type 0} (reads : C → ℕ → C → Type 0) (last : Bool) (head : Head) (begun : Begun) (a b c d : Scene C) (end also : Option Ended)
+become_same : {C : Type 0} (reads : C → ℕ → C → Type 0) (last : Bool) (head : Head) (begun : Begun) (a b c d : Scene C)
+    (end also : Option Ended)
     → IsSteady reads → AreSame a c → Becomes reads last head begun a b end → Becomes reads last head begun c d also
     → IsAlone a.book b.book → IsAlone c.book d.book → EndsSame b d end also ⊎ Clash b d
 become_same reads last head begun a b c d end also steady same (inl p) (inl q) alone lone =
@@ -219,7 +229,8 @@ record IsMet {C : Type 0} (reads : C → ℕ → C → Type 0) (last : Bool) (a 
 abbrev IsCalm : {C : Type 0} (reads : C → ℕ → C → Type 0) (last : Bool) (a b : Scene C) (end : Option Ended) → Type 0
 IsCalm reads last a b end = IsOver a b end ⊎ (IsRefused a b end ⊎ IsMet reads last a b end)
 
-calm_of : {C : Type 0} (reads : C → ℕ → C → Type 0) (last : Bool) (a b : Scene C) (end : Option Ended) (turn : Turn reads last a b end)
+calm_of : {C : Type 0} (reads : C → ℕ → C → Type 0) (last : Bool) (a b : Scene C) (end : Option Ended)
+    (turn : Turn reads last a b end)
     → IsCalmTurn reads last a b end turn → IsCalmEnd end → IsCalm reads last a b end
 calm_of reads last a b end (inl over) calm well = inl (record { heads = over.0; end_is = over.1 })
 calm_of reads last a b end (inr (inl (m, fault, by, heads, ends, is))) calm well =
@@ -255,7 +266,8 @@ calm_of reads last a b end (inr (inr (m, head, heads, (n, begun, judges, inr cut
       becomes = inr (cut_short_of reads head begun n b end cut well);
     }))
 
-met_goes : {C : Type 0} (reads : C → ℕ → C → Type 0) (last : Bool) (a b : Scene C) (end : Option Ended) (p : IsMet reads last a b end)
+met_goes : {C : Type 0} (reads : C → ℕ → C → Type 0) (last : Bool) (a b : Scene C) (end : Option Ended)
+    (p : IsMet reads last a b end)
     → Goes p.read p.asked × Goes p.asked b
 met_goes reads last a b end p =
     (judges_go reads p.head p.read p.asked p.begun p.judges p.calm, becomes_goes reads last p.head p.begun p.asked b end p.becomes)
@@ -338,7 +350,8 @@ calms_same reads last a b c d end also steady same (inr (inr p)) (inr (inl q)) a
 
 -- ---- for sessions
 
-pub turn_goes : {C : Type 0} (reads : C → ℕ → C → Type 0) (last : Bool) (a b : Scene C) (end : Option Ended) (turn : Turn reads last a b end)
+pub turn_goes : {C : Type 0} (reads : C → ℕ → C → Type 0) (last : Bool) (a b : Scene C) (end : Option Ended)
+    (turn : Turn reads last a b end)
     → IsCalmTurn reads last a b end turn → IsCalmEnd end → Goes a b
 turn_goes reads last a b end turn calm well = calm_goes reads last a b end (calm_of reads last a b end turn calm well)
 

@@ -1,4 +1,5 @@
--- What makes two sessions alike: the bytes that they read, what is known, the readings of the clock, and that nothing failed.
+-- What makes two sessions end the same: the bytes that they read, what is known, the readings of the clock, and that
+-- nothing failed.
 use Rattle.std.specs.Prelude.{◌≡◌, ◌≢◌, ◌⊎◌, ℕ, ◌+◌, ◌==◌, Bool, false, List, [], ◌∷◌, ◌++◌, length, Option, None, Some, Ok, Err}
 use mathlib.Core.Logic.{inl, inr}
 use Rattle.nf_base.specs.declared.content.Piece.{Piece}
@@ -78,7 +79,8 @@ IsCalmEnd None = Unit {0}
 IsCalmEnd (Some by) = IsCalmEnded by
 
 -- a turn in which neither the Begin of a message nor its response tells of one
-abbrev pub IsCalmTurn : {C : Type 0} (reads : C → ℕ → C → Type 0) (last : Bool) (a b : Scene C) (end : Option Ended)
+abbrev pub IsCalmTurn : {C : Type 0} (reads : C → ℕ → C → Type 0) (last : Bool) (a b : Scene C)
+    (end : Option Ended)
     → Turn reads last a b end → Type 0
 IsCalmTurn reads last a b end (inl ended) = Unit {0}
 IsCalmTurn reads last a b end (inr (inl refused)) = Unit {0}
@@ -87,7 +89,8 @@ IsCalmTurn reads last a b end (inr (inr (m, head, heads, (n, begun, judges, inl 
 IsCalmTurn reads last a b end (inr (inr (m, head, heads, (n, begun, judges, inr cut)))) = IsCalmBegun begun
 
 -- turns that all are
-abbrev pub AreCalmTurns : {C : Type 0} (reads : C → ℕ → C → Type 0) (a : Scene C) (scenes : List (Scene C)) (b : Scene C)
+abbrev pub AreCalmTurns : {C : Type 0} (reads : C → ℕ → C → Type 0) (a : Scene C) (scenes : List (Scene C))
+    (b : Scene C)
     → Through reads a scenes b → Type 0
 AreCalmTurns reads a [] b through = Unit {0}
 AreCalmTurns reads a (m ∷ scenes) b through =
@@ -107,8 +110,8 @@ pub record IsUndisturbed {C : Type 0} (reads : C → ℕ → C → Type 0) (a b 
 
 -- ---- the laws
 
--- the outputs are the same up to a piece of which different bytes were written: in both they have its size and SHA-256 digest
--- (FIPS 180-4), and are those that the store tells, if it tells
+-- the outputs are the same up to a piece of which different bytes were written: both have its size and SHA-256 digest
+-- (FIPS 180-4), and each is what its store tells under the piece's number, if it tells
 pub record Clash {C : Type 0} (b d : Scene C) : Type 0 where
   pub piece : Piece
   pub one : List ℕ
@@ -122,7 +125,8 @@ pub record Clash {C : Type 0} (b d : Scene C) : Type 0 where
   pub wrote : b.output ≡ Some (front ++ one ++ rest)
   pub wrote_also : d.output ≡ Some (front ++ other ++ more)
 
--- two such sessions, begun in scenes that are the same, end so too, and in the same way; or pieces of one digest are shown in what they wrote
+-- two such sessions, begun in scenes that are the same, end so too, and in the same way; or pieces of one digest are
+-- shown in what they wrote
 abbrev pub SessionsEndAlike : {C : Type 0} → (C → ℕ → C → Type 0) → Type 0
 SessionsEndAlike {C} reads =
     (a b c d : Scene C) (end also : Option Ended) (one : Session reads a b end) (other : Session reads c d also)

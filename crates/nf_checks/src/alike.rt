@@ -1,8 +1,8 @@
 //! Sessions over one input.
 
-ghost use Rattle.nf_checks.specs.Alike.{SessionsEndAlike, ToldSessionsEndAlike};
+ghost use Rattle.nf_checks.specs.Alike.{IsSteady, SessionsEndAlike, ToldSessionsEndAlike};
 
-use nf_outside::Clock;
+use nf_outside::{Clock, ListClock};
 
 /// Two sessions of one seat's knowledge over one told input, with the same readings of the clock, in which nothing of the
 /// outside failed, memory didn't want and no other seat made an entry, end in the same way: they wrote the same bytes,
@@ -15,4 +15,9 @@ pub fn sessions_end_alike<C: Clock>()
 /// There is no such piece where both stores tell, and at the end don't tell different bytes under one number.
 pub fn told_sessions_end_alike<C: Clock>()
     ensures { ToldSessionsEndAlike C.reads }
+{}
+
+/// A clock of listed moments has one reading at a time, as these laws want it.
+pub fn listed_moments_are_steady()
+    ensures { IsSteady ⟦<ListClock as Clock>⟧.reads }
 {}
