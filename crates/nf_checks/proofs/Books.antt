@@ -1,0 +1,215 @@
+-- What two books know after the same calls.
+use Rattle.std.proofs.Common.{◌≡◌, ℕ, ◌+◌, ◌<◌, ◌≤◌, List, [], ◌∷◌, ◌++◌, refl, sym, ◌∙◌, ap, subst, arith, length, max, Ok, Err, append-nil, length-append}
+use Rattle.std.specs.Option.{IfSome}
+use Rattle.std.specs.declared.option.Option.{Option}
+use Rattle.std.specs.declared.option.Option.TheVariants.{None, Some}
+use Rattle.nf_base.specs.declared.content.Piece.{Piece}
+use Rattle.nf_words.specs.History.{LeavesRoom, answer_at, most_entries, replay}
+use Rattle.nf_words.specs.State.{State, opened}
+use Rattle.nf_words.specs.declared.answer.Denial.TheVariants as denial
+use Rattle.nf_words.specs.declared.history.Entry.{Entry}
+use Rattle.nf_words.specs.declared.history.Event.{Event}
+use Rattle.nf_words.specs.declared.history.Event.TheVariants.{Begin}
+use Rattle.nf_words.specs.declared.history.Mark.{Mark}
+use Rattle.nf_words.specs.declared.history.Mark.TheVariants as mark
+use Rattle.nf_words.specs.declared.request.Request.{Request}
+use Rattle.nf_words.specs.declared.request.Words.{Words}
+use Rattle.nf_server.specs.Book.{Answer, Begins, Book, Enters, IsPiece, Shelf, TellsStill, Waits, blob_at, entries_wanted, state_after, state_of}
+use Rattle.nf_checks.specs.Alike.{IsAlone, IsCalmAnswer, KnowSame}
+
+-- ---- one book
+
+pub know_self : (a b : Book) → b ≡ a → KnowSame a b
+know_self a b e = record {
+  opening = ap (λ (z : Book). z.opening) e;
+  seat = ap (λ (z : Book). z.seat) e;
+  known = ap (λ (z : Book). z.known) e;
+  own = ap (λ (z : Book). z.own) e;
+}
+
+-- from one pair of books to the next
+pub know_next : (a b c d : Book) → KnowSame a c → KnowSame a b → KnowSame c d → KnowSame b d
+know_next a b c d k p q = record {
+  opening = q.opening ∙ k.opening ∙ sym p.opening;
+  seat = q.seat ∙ k.seat ∙ sym p.seat;
+  known = q.known ∙ k.known ∙ sym p.known;
+  own = q.own ∙ k.own ∙ sym p.own;
+}
+
+-- the seat's entries are among those that are known, and what the store told is told still
+pub record Grows (a b : Book) : Type 0 where
+  pub counts : length a.known + length b.own ≤ length b.known + length a.own
+  pub told : TellsStill a.told b.told
+
+tells_self : (told : Option Shelf) → TellsStill told told
+tells_self None = refl
+tells_self (Some shelf) = λ id bytes there. there
+
+tells_on : (a m b : Option Shelf) → TellsStill a m → TellsStill m b → TellsStill a b
+tells_on None None b p q = q
+tells_on None (Some m) b p q = absurd (cc)
+tells_on (Some a) None b p q = absurd p
+tells_on (Some a) (Some m) None p q = absurd q
+tells_on (Some a) (Some m) (Some b) p q = λ id bytes there. q id bytes (p id bytes there)
+
+pub grows_self : (a b : Book) → b ≡ a → Grows a b
+grows_self a b e =
+    let known = ap (λ (z : Book). length z.known) e in
+    let own = ap (λ (z : Book). length z.own) e in
+    record { counts = omega arith; told = subst (λ (z : Book). TellsStill a.told z.told) (sym e) (tells_self a.told) }
+
+pub grows_on : (a m b : Book) → Grows a m → Grows m b → Grows a b
+grows_on a m b p q = record {
+  counts = omega (arith, p.counts, q.counts);
+  told = tells_on a.told m.told b.told p.told q.told;
+}
+
+pub waits_grow : (a b : Book) → Waits a b → Grows a b
+waits_grow a b w = record {
+  counts = omega (arith, ap length w.own, ap length w.known.1, length-append a.known w.known.0);
+  told = w.lasts.told;
+}
+
+pub enters_grow : (a b : Book) (now : ℕ) (event : Event) (answer : Answer) → Enters a b now event answer → Grows a b
+enters_grow a b now event answer e = record {
+  counts = omega (
+    arith,
+    ap length e.own,
+    ap length e.known,
+    length-append a.own ((e.entry, answer) ∷ []),
+    length-append (a.known ++ e.others) (e.entry ∷ []),
+    length-append a.known e.others,
+  );
+  told = e.lasts.told;
+}
+
+-- so a piece stays one
+piece_told : (a b : Option Shelf) (id : ℕ) (bytes : List ℕ) → TellsStill a b
+    → IfSome a (λ shelf. blob_at shelf id ≡ Some bytes) → IfSome b (λ shelf. blob_at shelf id ≡ Some bytes)
+piece_told None None id bytes still there = tt
+piece_told None (Some b) id bytes still there = absurd (cc)
+piece_told (Some a) None id bytes still there = absurd still
+piece_told (Some a) (Some b) id bytes still there = still id bytes there
+
+pub piece_on : (a b : Book) (piece : Piece) (bytes : List ℕ) → Grows a b → IsPiece a piece bytes → IsPiece b piece bytes
+piece_on a b piece bytes g p = record {
+  size = p.size;
+  digest = p.digest;
+  told = piece_told a.told b.told piece.blob bytes g.told p.told;
+}
+
+-- ---- alone
+
+no_entries : (others : List Entry) → length others ≤ 0 → others ≡ []
+no_entries [] n = refl
+no_entries (e ∷ es) n = absurd (omega arith)
+
+pub lone_waits : (a b : Book) → Waits a b → IsAlone a b → KnowSame a b
+lone_waits a b w alone =
+    let none : w.known.0 ≡ [] = no_entries w.known.0
+    (omega (arith, ap length w.own, ap length w.known.1, length-append a.known w.known.0)) in
+    record {
+      opening = w.lasts.opening;
+      seat = w.lasts.seat;
+      known = w.known.1 ∙ ap (λ z. a.known ++ z) none ∙ append-nil a.known;
+      own = w.own;
+    }
+
+lone_enters : (a b : Book) (now : ℕ) (event : Event) (answer : Answer) (e : Enters a b now event answer)
+    → IsAlone a b → e.others ≡ []
+lone_enters a b now event answer e alone = no_entries e.others
+    (omega (
+      arith,
+      ap length e.own,
+      ap length e.known,
+      length-append a.own ((e.entry, answer) ∷ []),
+      length-append (a.known ++ e.others) (e.entry ∷ []),
+      length-append a.known e.others,
+    ))
+
+-- ---- an entry
+
+mark_is : (s : State) (e : Entry) (m : Mark) → IsCalmAnswer (answer_at s e m) → m ≡ mark.Answered
+mark_is s e mark.Answered calm = refl
+mark_is s e mark.Store calm = absurd calm
+mark_is s e mark.Memory calm = absurd calm
+
+answered : (a b : Book) (now : ℕ) (event : Event) (x : Answer) (p : Enters a b now event x)
+    → IsCalmAnswer x → p.entry.mark ≡ mark.Answered
+answered a b now event x p calm = mark_is (state_after a p.others) p.entry p.entry.mark (subst (λ z. IsCalmAnswer z) p.answer_is calm)
+
+pub enters_same : (a b c d : Book) (now : ℕ) (event : Event) (x y : Answer)
+    → KnowSame a c → Enters a b now event x → Enters c d now event y → IsAlone a b → IsAlone c d
+    → IsCalmAnswer x → IsCalmAnswer y → (y ≡ x) × KnowSame b d
+enters_same a b c d now event x y k p q alone also calm still =
+    let none : q.others ≡ p.others = lone_enters c d now event y q also ∙ sym (lone_enters a b now event x p alone) in
+    let state : state_after c q.others ≡ state_after a p.others = λ i. replay (opened (k.opening i)) (k.known i ++ none i) in
+    let seat : q.entry.seat ≡ p.entry.seat = q.seat_is ∙ k.seat ∙ sym p.seat_is in
+    let moment : q.entry.moment ≡ p.entry.moment = q.moment_is ∙ (λ i. max (state i).seen now) ∙ sym p.moment_is in
+    let event_is : q.entry.event ≡ p.entry.event = q.event_is ∙ sym p.event_is in
+    let mark_same : q.entry.mark ≡ p.entry.mark = answered c d now event y q still ∙ sym (answered a b now event x p calm) in
+    let entry : q.entry ≡ p.entry = λ i. record { seat = seat i; moment = moment i; event = event_is i; mark = mark_same i } in
+    let answer : y ≡ x = q.answer_is ∙ (λ i. answer_at (state i) (entry i) (entry i).mark) ∙ sym p.answer_is in (
+      answer,
+      record {
+        opening = q.lasts.opening ∙ k.opening ∙ sym p.lasts.opening;
+        seat = q.lasts.seat ∙ k.seat ∙ sym p.lasts.seat;
+        known = q.known ∙ (λ i. (k.known i ++ none i) ++ entry i ∷ []) ∙ sym p.known;
+        own = q.own ∙ (λ i. k.own i ++ (entry i, answer i) ∷ []) ∙ sym p.own;
+      },
+    )
+
+-- ---- the Begin
+
+-- a Begin that is calm made an entry, or found the run full
+data Fate (a b : Book) (now : ℕ) (words : Words) (request : Request) (x : Answer) : Type 0 where
+  unmade : x ≡ Err denial.RunFull → Waits a b → most_entries < entries_wanted b → Fate a b now words request x
+  made : Enters a b now (Begin words request) x → Fate a b now words request x
+
+fate : (a b : Book) (now : ℕ) (words : Words) (request : Request) (x : Answer)
+    → Begins a b now words request x → IsCalmAnswer x → Fate a b now words request x
+fate a b now words request (Ok reply) begins calm = made begins.entry
+fate a b now words request (Err denial.RunFull) begins calm = unmade refl begins.entry (begins.full refl)
+fate a b now words request (Err denial.Memory) begins calm = absurd calm
+fate a b now words request (Err refusal) begins calm = made begins.entry
+
+pub begins_grow : (a b : Book) (now : ℕ) (words : Words) (request : Request) (x : Answer)
+    → Begins a b now words request x → IsCalmAnswer x → Grows a b
+begins_grow a b now words request x begins calm = grows (fate a b now words request x begins calm)
+  where
+    grows : Fate a b now words request x → Grows a b
+    grows (unmade is waits full) = waits_grow a b waits
+    grows (made enters) = enters_grow a b now (Begin words request) x enters
+
+-- an entry that is made had room
+no_room : (a b c d : Book) (now : ℕ) (words : Words) (request : Request) (y : Answer)
+    → KnowSame a c → Waits a b → most_entries < entries_wanted b → Enters c d now (Begin words request) y
+    → IsAlone a b → IsAlone c d → ⊥
+no_room a b c d now words request y k waits full q alone also =
+    let stays : KnowSame a b = lone_waits a b waits alone in
+    let none : [] ≡ q.others = sym (lone_enters c d now (Begin words request) y q also) in
+    let open_is : b.opening ≡ c.opening = stays.opening ∙ sym k.opening in
+    let known_is : b.known ≡ c.known ++ q.others =
+    stays.known ∙ sym k.known ∙ sym (append-nil c.known) ∙ ap (λ z. c.known ++ z) none in
+    let state : state_of b ≡ state_after c q.others = λ i. replay (opened (open_is i)) (known_is i) in
+    let room : length (c.known ++ q.others) + length (state_after c q.others).tickets + 2 ≤ most_entries =
+    subst (λ z. LeavesRoom (length (c.known ++ q.others)) (state_after c q.others) z) q.event_is q.may_come.room in
+    let long : length b.known ≡ length (c.known ++ q.others) = ap length known_is in
+    let held : length (state_of b).tickets ≡ length (state_after c q.others).tickets = ap (λ (z : State). length z.tickets) state in
+    absurd (omega arith)
+
+pub begins_same : (a b c d : Book) (now : ℕ) (words : Words) (request : Request) (x y : Answer)
+    → KnowSame a c → Begins a b now words request x → Begins c d now words request y → IsAlone a b → IsAlone c d
+    → IsCalmAnswer x → IsCalmAnswer y → (y ≡ x) × KnowSame b d
+begins_same a b c d now words request x y k p q alone also calm still =
+    both (fate a b now words request x p calm) (fate c d now words request y q still)
+  where
+    back : KnowSame c a
+    back = record { opening = sym k.opening; seat = sym k.seat; known = sym k.known; own = sym k.own }
+
+    both : Fate a b now words request x → Fate c d now words request y → (y ≡ x) × KnowSame b d
+    both (unmade is waits full) (unmade is2 waits2 full2) =
+        (is2 ∙ sym is, know_next a b c d k (lone_waits a b waits alone) (lone_waits c d waits2 also))
+    both (unmade is waits full) (made enters) = absurd (no_room a b c d now words request y k waits full enters alone also)
+    both (made enters) (unmade is waits full) = absurd (no_room c d a b now words request x back waits full enters also alone)
+    both (made one) (made other) = enters_same a b c d now (Begin words request) x y k one other alone also calm still

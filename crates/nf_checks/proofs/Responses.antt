@@ -1,0 +1,284 @@
+-- Responses that are written in two scenes that are the same.
+use Rattle.std.proofs.Common.{append_assoc, ◌++◌, ◌≡◌, ◌≢◌, ◌⊎◌, ℕ, Bool, true, false, List, [], ◌∷◌, refl, sym, ◌∙◌, ap, subst, arith, length, inl, inr, Ok, Err, Result}
+use Rattle.std.specs.declared.option.Option.{Option}
+use Rattle.std.specs.Io.KnownBytes.{Appends}
+use Rattle.std.specs.declared.alloc.Global.{Global}
+use Rattle.std.specs.Prelude.{Vec, bytes_eq}
+use Rattle.std.proofs.lemmas.Slice.Eq.{bytes_eq-Decides}
+use Rattle.std.specs.declared.option.Option.TheVariants.{Some}
+use Rattle.std.specs.List.{concat}
+use Rattle.nf_base.specs.Content.{size_of}
+use Rattle.nf_base.specs.declared.content.Piece.{Piece}
+use Rattle.nf_http.specs.Head.{Head, closes_session}
+use Rattle.nf_http.specs.declared.wire.WireFault.{WireFault}
+use Rattle.nf_http.specs.declared.wire.WireFault.TheVariants as wire
+use Rattle.nf_http.specs.Next.{IsOfBytes}
+use Rattle.nf_words.specs.declared.answer.Denial.{Denial}
+use Rattle.nf_dav.specs.Reply.{done_reply, file_head, made_reply, refusal_reply}
+use Rattle.nf_server.specs.Book.{Book, IsPiece, denial_of_piece}
+use Rattle.nf_server.specs.Files.{AreGiven, SendsFile, WritesPieces, file_front}
+use Rattle.nf_server.specs.Steps.{EndsBy, EndsSo, Says, Scene, Wrote, denial_of}
+use Rattle.nf_server.specs.Turn.{Responds, Writes, end_by, end_of, how_of, says_close, stays_granted}
+use Rattle.nf_server.specs.declared.ended.Ended.{Ended}
+use Rattle.nf_server.specs.declared.ended.Ended.TheVariants as ended
+use Rattle.nf_server.specs.declared.response.Response.{Response}
+use Rattle.nf_server.specs.declared.response.Response.TheVariants as response
+use Rattle.nf_checks.specs.Alike.{AreSame, Clash, IsAlone, IsCalmEnd, IsCalmEnded}
+use Rattle.nf_checks.proofs.Basics.{told_appended, told_more, told_moved}
+use Rattle.nf_checks.proofs.Bodies.{Similar}
+use Rattle.nf_checks.proofs.Goes.{Goes}
+use Rattle.nf_checks.proofs.Books.{know_next, lone_waits, waits_grow}
+use Rattle.nf_checks.proofs.Scenes.{wrote_goes, wrote_same}
+
+-- ---- the bytes of pieces
+
+decided : (x y : List ℕ) (t : Bool) → bytes_eq x y ≡ t → (x ≡ y) ⊎ (x ≢ y)
+decided x y true e = inl ((bytes_eq-Decides x y).0 e)
+decided x y false e = inr (λ same. cc (e, (bytes_eq-Decides x y).1 same))
+
+-- bytes that were given are the same up to a piece of which they differ
+record Differ (b d : Book) (xs ys : List (List ℕ)) : Type 0 where
+  pub piece : Piece
+  pub one : List ℕ
+  pub other : List ℕ
+  pub given : IsPiece b piece one
+  pub also : IsPiece d piece other
+  pub differ : one ≢ other
+  pub front : List ℕ
+  pub rest : List ℕ
+  pub more : List ℕ
+  pub wrote : concat xs ≡ front ++ one ++ rest
+  pub wrote_also : concat ys ≡ front ++ other ++ more
+
+in_front : (x front one rest : List ℕ) → x ++ (front ++ one ++ rest) ≡ (x ++ front) ++ one ++ rest
+in_front x front one rest = simp append_assoc
+
+given_same : (b d : Book) (content : List Piece) (xs ys : List (List ℕ))
+    → AreGiven b content xs → AreGiven d content ys → length xs ≡ length ys → (xs ≡ ys) ⊎ Differ b d xs ys
+given_same b d content [] [] p q n = inl refl
+given_same b d content [] (y ∷ ys) p q n = absurd (omega arith)
+given_same b d content (x ∷ xs) [] p q n = absurd (omega arith)
+given_same b d [] (x ∷ xs) (y ∷ ys) p q n = absurd p
+given_same b d (piece ∷ content) (x ∷ xs) (y ∷ ys) p q n =
+    both (decided x y (bytes_eq x y) refl) (given_same b d content xs ys p.1 q.1 (omega arith))
+  where
+    both : (x ≡ y) ⊎ (x ≢ y) → (xs ≡ ys) ⊎ Differ b d xs ys → (x ∷ xs ≡ y ∷ ys) ⊎ Differ b d (x ∷ xs) (y ∷ ys)
+    both (inl here) (inl there) = inl (λ i. here i ∷ there i)
+    both (inl here) (inr f) = inr (record {
+      piece = f.piece;
+      one = f.one;
+      other = f.other;
+      given = f.given;
+      also = f.also;
+      differ = f.differ;
+      front = x ++ f.front;
+      rest = f.rest;
+      more = f.more;
+      wrote = ap (λ z. x ++ z) f.wrote ∙ in_front x f.front f.one f.rest;
+      wrote_also = (λ i. sym here i ++ f.wrote_also i) ∙ in_front x f.front f.other f.more;
+    })
+    both (inr differ) there = inr (record {
+      piece = piece;
+      one = x;
+      other = y;
+      given = p.0;
+      also = q.0;
+      differ = differ;
+      front = [];
+      rest = concat xs;
+      more = concat ys;
+      wrote = refl;
+      wrote_also = refl;
+    })
+
+-- ---- files
+
+pieces_same : {C : Type 0} (a b c d : Scene C) (close : Bool) (content : List Piece)
+    (first other : Option (Vec ℕ Global)) (xs ys : List (List ℕ))
+    → AreSame a c → WritesPieces close content first a b xs → WritesPieces close content other c d ys → xs ≡ ys
+    → IsAlone a.book b.book → IsAlone c.book d.book → AreSame b d
+pieces_same {C = C} a b c d close content first other xs ys same p q e alone also =
+    let bytes : Appends c.output d.output (file_front close content xs) =
+    subst (λ z. Appends c.output d.output (file_front close content z)) (sym e) q.bytes_are in
+    record {
+      input = told_moved a.input b.input c.input d.input same.input
+          (ap (λ (z : Scene C). z.input) p.pieces.only) (ap (λ (z : Scene C). z.input) q.pieces.only);
+      output = told_appended a.output b.output c.output d.output (file_front close content xs) same.output p.bytes_are bytes;
+      book = know_next a.book b.book c.book d.book same.book
+          (lone_waits a.book b.book p.pieces.waits alone) (lone_waits c.book d.book q.pieces.waits also);
+      clock = ap (λ (z : Scene C). z.clock) q.pieces.only ∙ same.clock ∙ sym (ap (λ (z : Scene C). z.clock) p.pieces.only);
+    }
+
+-- a file that is sent whole
+abbrev Whole : {C : Type 0} → Bool → List Piece → Option (Vec ℕ Global) → Scene C → Scene C → Type 0
+Whole close content first a b = (given : List (List ℕ)) × WritesPieces close content first a b given × (length given ≡ length content)
+
+ahead : (out head front one rest : List ℕ)
+    → out ++ (head ++ (front ++ one ++ rest)) ≡ (out ++ (head ++ front)) ++ one ++ rest
+ahead out head front one rest = simp append_assoc
+
+file_written : (a b : Option (List ℕ)) (close : Bool) (content : List Piece) (given : List (List ℕ))
+    (out front one rest : List ℕ)
+    → a ≡ Some out → Appends a b (file_front close content given) → concat given ≡ front ++ one ++ rest
+    → b ≡ Some ((out ++ (file_head close (size_of content) ++ front)) ++ one ++ rest)
+file_written a b close content given out front one rest e x is =
+    told_more out (file_front close content given) b (subst (λ z. Appends z b (file_front close content given)) e x)
+    ∙ ap (λ z. Some (out ++ (file_head close (size_of content) ++ z))) is
+    ∙ ap (λ z. Some z) (ahead out (file_head close (size_of content)) front one rest)
+
+files_clash : {C : Type 0} (a b c d : Scene C) (close : Bool) (content : List Piece)
+    (first other : Option (Vec ℕ Global)) (xs ys : List (List ℕ))
+    → AreSame a c → WritesPieces close content first a b xs → WritesPieces close content other c d ys
+    → Differ b.book d.book xs ys
+    → Clash b d
+files_clash a b c d close content first other xs ys same p q f = record {
+  piece = f.piece;
+  one = f.one;
+  other = f.other;
+  given = f.given;
+  also = f.also;
+  differ = f.differ;
+  front = same.output.0 ++ (file_head close (size_of content) ++ f.front);
+  rest = f.rest;
+  more = f.more;
+  wrote = file_written a.output b.output close content xs same.output.0 f.front f.one f.rest same.output.1 p.bytes_are f.wrote;
+  wrote_also = file_written c.output d.output close content ys same.output.0 f.front f.other f.more same.output.2 q.bytes_are f.wrote_also;
+}
+
+files_same : {C : Type 0} (a b c d : Scene C) (close : Bool) (content : List Piece)
+    (first other : Option (Vec ℕ Global))
+    → AreSame a c → Whole close content first a b → Whole close content other c d
+    → IsAlone a.book b.book → IsAlone c.book d.book → AreSame b d ⊎ Clash b d
+files_same a b c d close content first other same (xs, p, n) (ys, q, m) alone also =
+    end (given_same b.book d.book content xs ys p.pieces.are_given q.pieces.are_given (n ∙ sym m))
+  where
+    end : (xs ≡ ys) ⊎ Differ b.book d.book xs ys → AreSame b d ⊎ Clash b d
+    end (inl e) = inl (pieces_same a b c d close content first other xs ys same p q e alone also)
+    end (inr f) = inr (files_clash a b c d close content first other xs ys same p q f)
+
+-- ---- any response
+
+pub writes_same : {C : Type 0} (a b c d : Scene C) (close : Bool) (v w : Response)
+    → Similar v w → AreSame a c → Writes {T = Unit {0}} close v a b (Ok tt) → Writes {T = Unit {0}} close w c d (Ok tt)
+    → IsAlone a.book b.book → IsAlone c.book d.book → AreSame b d ⊎ Clash b d
+writes_same a b c d close (response.Denied r) (response.Denied s) is same p q alone also =
+    let bytes : Wrote c d (refusal_reply close r) = subst (λ z. Wrote c d (refusal_reply close z)) (sym is) q in
+    inl (wrote_same a b c d (refusal_reply close r) same p bytes)
+writes_same a b c d close (response.File one first) (response.File two other) is same p q alone also =
+    let file : Whole close one other c d = subst (λ z. Whole close z other c d) (sym is) q in
+    files_same a b c d close one first other same p file alone also
+writes_same a b c d close response.Made response.Made is same p q alone also = inl (wrote_same a b c d (made_reply close) same p q)
+writes_same a b c d close response.Done response.Done is same p q alone also = inl (wrote_same a b c d (done_reply close) same p q)
+writes_same a b c d close one two is same p q alone also = absurd is
+
+pub writes_go : {C : Type 0} (a b : Scene C) (close : Bool) (v : Response)
+    → Writes {T = Unit {0}} close v a b (Ok tt) → Goes a b
+writes_go a b close (response.Denied r) p = wrote_goes a b (refusal_reply close r) p
+writes_go a b close (response.Lost fault) p = wrote_goes a b (refusal_reply close (denial_of_piece fault)) p
+writes_go a b close (response.File content first) p = record {
+  book = waits_grow a.book b.book p.1.pieces.waits;
+  bytes = file_front close content p.0;
+  output = p.1.bytes_are;
+}
+writes_go a b close response.Made p = wrote_goes a b (made_reply close) p
+writes_go a b close response.Done p = wrote_goes a b (done_reply close) p
+
+-- ---- how the response ends the session
+
+-- a response that isn't written whole ends it otherwise
+unsaid : {C : Type 0} (a b : Scene C) (bytes : List ℕ) (by : Ended)
+    → Says {T = Unit {0}} a b bytes (Err by) → IsCalmEnded by → ⊥
+unsaid a b bytes ended.Closed p calm = p
+unsaid a b bytes ended.BadMessage p calm = p
+unsaid a b bytes ended.NotBuilt p calm = p
+unsaid a b bytes ended.RunFull p calm = p
+unsaid a b bytes (ended.Cut fault) p calm = calm
+unsaid a b bytes ended.ReadFault p calm = calm
+unsaid a b bytes ended.WriteFault p calm = calm
+unsaid a b bytes ended.Memory p calm = calm
+
+unsent : {C : Type 0} (a b : Scene C) (close : Bool) (content : List Piece) (first : Option (Vec ℕ Global)) (by : Ended)
+    → SendsFile {T = Unit {0}} close content first a b (Err by) → IsCalmEnded by → ⊥
+unsent a b close content first ended.Closed p calm = p
+unsent a b close content first ended.BadMessage p calm = p
+unsent a b close content first ended.NotBuilt p calm = p
+unsent a b close content first ended.RunFull p calm = p
+unsent a b close content first (ended.Cut fault) p calm = calm
+unsent a b close content first ended.ReadFault p calm = calm
+unsent a b close content first ended.WriteFault p calm = calm
+unsent a b close content first ended.Memory p calm = calm
+
+unwritten : {C : Type 0} (a b : Scene C) (close : Bool) (v : Response) (by : Ended)
+    → Writes {T = Unit {0}} close v a b (Err by) → IsCalmEnded by → ⊥
+unwritten a b close (response.Denied r) by p calm = unsaid a b (refusal_reply close r) by p calm
+unwritten a b close (response.Lost fault) by p calm = unsaid a b (refusal_reply close (denial_of_piece fault)) by p calm
+unwritten a b close (response.File content first) by p calm = unsent a b close content first by p calm
+unwritten a b close response.Made by p calm = unsaid a b (made_reply close) by p calm
+unwritten a b close response.Done by p calm = unsaid a b (done_reply close) by p calm
+
+-- so a calm end is the response's own
+pub record IsWritten {C : Type 0} (last : Bool) (head : Head) (v : Response) (a b : Scene C)
+    (result : Result (Option Ended) Ended) (end : Option Ended) : Type 0 where
+  pub whole : result ≡ Ok end
+  pub end_is : end ≡ end_of (closes_session head) v
+  pub written : Writes {T = Unit {0}} (says_close last head v) v a b (Ok tt)
+
+pub written_of : {C : Type 0} (last : Bool) (head : Head) (v : Response) (a b : Scene C)
+    (result : Result (Option Ended) Ended) (end : Option Ended)
+    → Responds last head v a b result → end ≡ end_by result → IsCalmEnd end → IsWritten last head v a b result end
+written_of last head v a b (Ok e) end p is calm = record { whole = ap (λ z. Ok z) (sym is); end_is = is ∙ p.0; written = p.1 }
+written_of last head v a b (Err by) end p is calm = absurd (unwritten a b (says_close last head v) v by p (subst (λ z. IsCalmEnd z) is calm))
+
+pub ends_similar : (closes : Bool) (v w : Response) → Similar v w → end_of closes v ≡ end_of closes w
+ends_similar closes (response.Denied r) (response.Denied s) is = ap (λ z. end_of closes (response.Denied z)) is
+ends_similar closes (response.File one first) (response.File two other) is = refl
+ends_similar closes response.Made response.Made is = refl
+ends_similar closes response.Done response.Done is = refl
+ends_similar closes one two is = absurd is
+
+pub stays_similar : (v w : Response) → Similar v w → stays_granted v ≡ stays_granted w
+stays_similar (response.Denied r) (response.Denied s) is = refl
+stays_similar (response.File one first) (response.File two other) is = refl
+stays_similar response.Made response.Made is = refl
+stays_similar response.Done response.Done is = refl
+stays_similar one two is = absurd is
+
+pub how_similar : (v w : Response) (one two : Option Ended) → Similar v w
+    → how_of {T = Option Ended} v (Ok one) ≡ how_of {T = Option Ended} w (Ok two)
+how_similar (response.Denied r) (response.Denied s) one two is = refl
+how_similar (response.File a first) (response.File b other) one two is = refl
+how_similar response.Made response.Made one two is = refl
+how_similar response.Done response.Done one two is = refl
+how_similar v w one two is = absurd is
+
+-- ---- no message
+
+-- a calm end of bytes that are no message, or end inside one: they are denied
+pub record IsDenied {C : Type 0} (fault : WireFault) (a b : Scene C) (by : Ended) : Type 0 where
+  pub end_is : by ≡ ended.BadMessage
+  pub bytes : IsOfBytes (Err fault)
+  pub wrote : Wrote a b (refusal_reply true (denial_of fault))
+
+ends_so : {C : Type 0} (refusal : Denial) (a b : Scene C) (by : Ended) → EndsSo refusal a b by → IsCalmEnded by
+    → (by ≡ ended.BadMessage) × Wrote a b (refusal_reply true refusal)
+ends_so refusal a b ended.BadMessage p calm = (refl, p)
+ends_so refusal a b ended.WriteFault p calm = absurd calm
+ends_so refusal a b ended.Memory p calm = absurd calm
+ends_so refusal a b by p calm = absurd p
+
+told_so : {C : Type 0} (fault : WireFault) (a b : Scene C) (by : Ended) → IsOfBytes (Err fault)
+    → EndsSo (denial_of fault) a b by
+    → IsCalmEnded by → IsDenied fault a b by
+told_so fault a b by bytes p calm =
+    let so : (by ≡ ended.BadMessage) × Wrote a b (refusal_reply true (denial_of fault)) = ends_so (denial_of fault) a b by p calm in
+    record { end_is = so.0; bytes = bytes; wrote = so.1 }
+
+pub denied_of : {C : Type 0} (fault : WireFault) (a b : Scene C) (by : Ended) → EndsBy fault a b by → IsCalmEnded by
+    → IsDenied fault a b by
+denied_of wire.ReadFault a b by p calm = absurd (subst (λ z. IsCalmEnded z) p.0 calm)
+denied_of wire.Memory a b by p calm = absurd (subst (λ z. IsCalmEnded z) p.0 calm)
+denied_of wire.Bad a b by p calm = told_so wire.Bad a b by tt p calm
+denied_of wire.HeadLong a b by p calm = told_so wire.HeadLong a b by tt p calm
+denied_of wire.Coding a b by p calm = told_so wire.Coding a b by tt p calm
+denied_of (wire.TooLarge n) a b by p calm = told_so (wire.TooLarge n) a b by tt p calm
+denied_of wire.Truncated a b by p calm = told_so wire.Truncated a b by tt p calm

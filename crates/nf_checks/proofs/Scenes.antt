@@ -1,0 +1,192 @@
+-- Steps that read, write and ask, in two scenes that are the same.
+use Rattle.std.proofs.Common.{◌≡◌, ℕ, Bool, true, false, List, refl, sym, ◌∙◌, ap, subst, inl, inr, Ok, Err, Result}
+use Rattle.std.specs.Io.KnownBytes.{Keeps}
+use Rattle.std.specs.declared.option.Option.{Option}
+use Rattle.std.specs.declared.option.Option.TheVariants.{None, Some}
+use Rattle.httparse.specs.Grammar.{print_request}
+use Rattle.nf_http.specs.Head.{Head}
+use Rattle.nf_http.specs.Next.{IsNext, IsOfBytes}
+use Rattle.nf_http.specs.declared.wire.WireFault.{WireFault}
+use Rattle.nf_http.specs.declared.wire.WireFault.TheVariants as wire
+use Rattle.nf_http.proofs.Agreement.{one_answer_and_rest}
+use Rattle.nf_words.specs.declared.answer.Denial.{Denial}
+use Rattle.nf_words.specs.declared.answer.Reply.TheVariants as reply
+use Rattle.nf_words.specs.declared.history.Event.TheVariants.{End}
+use Rattle.nf_words.specs.declared.history.Outcome.TheVariants.{Sent, Gone}
+use Rattle.nf_dav.specs.Asked.{request_of}
+use Rattle.nf_server.specs.Book.{Begins, Book, Ends}
+use Rattle.nf_server.specs.Steps.{Closes, Heads, IsUnasked, Judges, OnlyAsks, OnlyReads, Scene, Wrote, no_words}
+use Rattle.nf_server.specs.declared.backend.Ending.{Ending}
+use Rattle.nf_server.specs.declared.backend.Ending.TheVariants as ending
+use Rattle.nf_server.specs.declared.begun.Begun.{Begun}
+use Rattle.nf_server.specs.declared.begun.Begun.TheVariants as begun
+use Rattle.nf_checks.specs.Alike.{AreSame, IsAlone, IsCalmBegun, IsCalmDenial, IsSteady, KnowSame, TellSame}
+use Rattle.nf_checks.proofs.Basics.{Left, left_of, told_appended, told_moved}
+use Rattle.nf_checks.proofs.Goes.{Goes, goes_quietly, goes_self}
+use Rattle.nf_checks.proofs.Books.{Grows, begins_grow, begins_same, enters_grow, enters_same, grows_self, know_next, know_self}
+
+-- ---- scenes that stay
+
+pub same_self : {C : Type 0} (a b c d : Scene C) → AreSame a c → b ≡ a → d ≡ c → AreSame b d
+same_self a b c d s p q = subst (λ z. AreSame z d) (sym p) (subst (λ z. AreSame a z) (sym q) s)
+
+pub same_back : {C : Type 0} (a c : Scene C) → AreSame a c → AreSame c a
+same_back a c s = record {
+  input = (s.input.0, s.input.2, s.input.1);
+  output = (s.output.0, s.output.2, s.output.1);
+  book = record { opening = sym s.book.opening; seat = sym s.book.seat; known = sym s.book.known; own = sym s.book.own };
+  clock = sym s.clock;
+}
+
+-- nothing but the input was touched
+pub record Stays {C : Type 0} (a b : Scene C) : Type 0 where
+  pub output : b.output ≡ a.output
+  pub book : b.book ≡ a.book
+  pub clock : b.clock ≡ a.clock
+
+pub reads_stay : {C : Type 0} (a b : Scene C) → OnlyReads a b → Stays a b
+reads_stay {C = C} a b e = record {
+  output = ap (λ (z : Scene C). z.output) e;
+  book = ap (λ (z : Scene C). z.book) e;
+  clock = ap (λ (z : Scene C). z.clock) e;
+}
+
+pub stays_go : {C : Type 0} (a b : Scene C) → Stays a b → Goes a b
+stays_go a b p = goes_quietly a b p.output (grows_self a.book b.book p.book)
+
+pub same_stays : {C : Type 0} (a b c d : Scene C) → AreSame a c → Stays a b → Stays c d → TellSame b.input d.input
+    → AreSame b d
+same_stays a b c d s p q input = record {
+  input = input;
+  output = told_moved a.output b.output c.output d.output s.output p.output q.output;
+  book = know_next a.book b.book c.book d.book s.book (know_self a.book b.book p.book) (know_self c.book d.book q.book);
+  clock = q.clock ∙ s.clock ∙ sym p.clock;
+}
+
+-- ---- heads
+
+told_kept : (xs : List ℕ) (b : Option (List ℕ)) → Keeps (Some xs) b → Left b
+told_kept xs None k = absurd k
+told_kept xs (Some ys) k = (ys, refl)
+
+-- the stream tells still
+told_next : (xs : List ℕ) (b : Option (List ℕ)) (x : Result (Option Head) WireFault) → IsNext (Some xs) b x
+    → IsOfBytes x → Left b
+told_next xs b (Ok None) next calm = told_kept xs b next.1
+told_next xs b (Ok (Some head)) (h, _, taken) calm = left_of (Some xs) b xs (print_request h) refl taken.3
+told_next xs b (Err wire.ReadFault) next calm = absurd calm
+told_next xs b (Err wire.Memory) next calm = absurd calm
+told_next xs b (Err fault) next calm = told_kept xs b next.1
+
+pub heads_same : {C : Type 0} (a b c d : Scene C) (x y : Result (Option Head) WireFault)
+    → AreSame a c → Heads a b x → Heads c d y → IsOfBytes x → IsOfBytes y → (x ≡ y) × AreSame b d
+heads_same a b c d x y s p q calm still =
+    let one : IsNext (Some s.input.0) b.input x = subst (λ z. IsNext z b.input x) s.input.1 p.next in
+    let other : IsNext (Some s.input.0) d.input y = subst (λ z. IsNext z d.input y) s.input.2 q.next in
+    let same : (x ≡ y) × (b.input ≡ d.input) = one_answer_and_rest s.input.0 b.input d.input x y one other calm still in
+    let left : Left b.input = told_next s.input.0 b.input x one calm in
+    (same.0, same_stays a b c d s (reads_stay a b p.only) (reads_stay c d q.only) (left.0, left.1, sym same.1 ∙ left.1))
+
+-- ---- writing
+
+pub wrote_same : {C : Type 0} (a b c d : Scene C) (bytes : List ℕ)
+    → AreSame a c → Wrote a b bytes → Wrote c d bytes → AreSame b d
+wrote_same {C = C} a b c d bytes s p q = record {
+  input = told_moved a.input b.input c.input d.input s.input (ap (λ (z : Scene C). z.input) p.only) (ap (λ (z : Scene C). z.input) q.only);
+  output = told_appended a.output b.output c.output d.output bytes s.output p.bytes_are q.bytes_are;
+  book = know_next a.book b.book c.book d.book s.book
+      (know_self a.book b.book (ap (λ (z : Scene C). z.book) p.only)) (know_self c.book d.book (ap (λ (z : Scene C). z.book) q.only));
+  clock = ap (λ (z : Scene C). z.clock) q.only ∙ s.clock ∙ sym (ap (λ (z : Scene C). z.clock) p.only);
+}
+
+pub wrote_goes : {C : Type 0} (a b : Scene C) (bytes : List ℕ) → Wrote a b bytes → Goes a b
+wrote_goes {C = C} a b bytes p = record {
+  book = grows_self a.book b.book (ap (λ (z : Scene C). z.book) p.only);
+  bytes = bytes;
+  output = p.bytes_are;
+}
+
+-- ---- asking
+
+-- readings of clocks that are the same
+pub readings_same : {C : Type 0} (reads : C → ℕ → C → Type 0) (a b c d : Scene C) (now also : ℕ)
+    → IsSteady reads → AreSame a c → reads a.clock now b.clock → reads c.clock also d.clock
+    → (now ≡ also) × (b.clock ≡ d.clock)
+readings_same reads a b c d now also steady s p q =
+    steady a.clock now also b.clock d.clock p (subst (λ z. reads z also d.clock) s.clock q)
+
+pub asks_same : {C : Type 0} (a b c d : Scene C)
+    → AreSame a c → OnlyAsks a b → OnlyAsks c d → KnowSame b.book d.book → b.clock ≡ d.clock → AreSame b d
+asks_same {C = C} a b c d s p q book clock = record {
+  input = told_moved a.input b.input c.input d.input s.input (ap (λ (z : Scene C). z.input) p) (ap (λ (z : Scene C). z.input) q);
+  output = told_moved a.output b.output c.output d.output s.output (ap (λ (z : Scene C). z.output) p) (ap (λ (z : Scene C). z.output) q);
+  book = book;
+  clock = sym clock;
+}
+
+unasked : (head : Head) (refusal : Denial) → IsUnasked head refusal → IsCalmDenial refusal
+    → request_of head ≡ Err refusal
+unasked head refusal (inl is) calm = is
+unasked head refusal (inr is) calm = absurd (subst (λ z. IsCalmDenial z) is calm)
+
+pub judges_same : {C : Type 0} (reads : C → ℕ → C → Type 0) (head : Head) (a b c d : Scene C) (x y : Begun)
+    → IsSteady reads → AreSame a c → Judges reads head a b x → Judges reads head c d y → IsCalmBegun x → IsCalmBegun y
+    → IsAlone a.book b.book → IsAlone c.book d.book → (y ≡ x) × AreSame b d
+judges_same reads head a b c d (begun.Unasked r) (begun.Unasked s) steady same p q calm still alone also =
+    let one : request_of head ≡ Err r = unasked head r p.0 calm in
+    let other : request_of head ≡ Err s = unasked head s q.0 still in
+    let is : s ≡ r = cc in
+    (ap (λ z. begun.Unasked z) is, same_self a b c d same p.1 q.1)
+judges_same reads head a b c d (begun.Unasked r) (begun.Asked y) steady same p (r2, now2, is2, read2, begins2, only2) calm still alone also =
+    let one : request_of head ≡ Err r = unasked head r p.0 calm in
+    absurd (cc)
+judges_same reads head a b c d (begun.Asked x) (begun.Unasked s) steady same (r1, now1, is1, read1, begins1, only1) q calm still alone also =
+    let other : request_of head ≡ Err s = unasked head s q.0 still in
+    absurd (cc)
+judges_same reads head a b c d (begun.Asked x) (begun.Asked y) steady same
+    (r1, now1, is1, read1, begins1, only1) (r2, now2, is2, read2, begins2, only2) calm still alone also =
+    let r : r2 ≡ r1 = cc in
+    let read : (now1 ≡ now2) × (b.clock ≡ d.clock) = readings_same reads a b c d now1 now2 steady same read1 read2 in
+    let begins : Begins c.book d.book now1 no_words r1 y =
+    subst (λ z. Begins c.book d.book z no_words r1 y) (sym read.0) (subst (λ z. Begins c.book d.book now2 no_words z y) r begins2) in
+    let asked : (y ≡ x) × KnowSame b.book d.book =
+    begins_same a.book b.book c.book d.book now1 no_words r1 x y same.book begins1 begins alone also calm still in
+    (ap (λ z. begun.Asked z) asked.0, asks_same a b c d same only1 only2 asked.1 read.1)
+
+pub judges_go : {C : Type 0} (reads : C → ℕ → C → Type 0) (head : Head) (a b : Scene C) (x : Begun)
+    → Judges reads head a b x → IsCalmBegun x → Goes a b
+judges_go reads head a b (begun.Unasked r) p calm = goes_self a b p.1
+judges_go {C = C} reads head a b (begun.Asked x) (r1, now1, is1, read1, begins1, only1) calm =
+    goes_quietly a b (ap (λ (z : Scene C). z.output) only1) (begins_grow a.book b.book now1 no_words r1 x begins1 calm)
+
+-- ---- the End of what brings no body
+
+ends_same : (a b c d : Book) (now : ℕ) (how : Ending) → KnowSame a c → Ends a b now how (Ok reply.Closed)
+    → Ends c d now how (Ok reply.Closed)
+    → IsAlone a b → IsAlone c d → KnowSame b d
+ends_same a b c d now ending.Sent k p q alone also =
+    (enters_same a b c d now (End Sent) (Ok reply.Closed) (Ok reply.Closed) k p.enters q.enters alone also tt tt).1
+ends_same a b c d now ending.Gone k p q alone also =
+    (enters_same a b c d now (End Gone) (Ok reply.Closed) (Ok reply.Closed) k p.enters q.enters alone also tt tt).1
+ends_same a b c d now (ending.Body bytes) k p q alone also = absurd p.answered
+
+ends_grow : (a b : Book) (now : ℕ) (how : Ending) → Ends a b now how (Ok reply.Closed) → Grows a b
+ends_grow a b now ending.Sent p = enters_grow a b now (End Sent) (Ok reply.Closed) p.enters
+ends_grow a b now ending.Gone p = enters_grow a b now (End Gone) (Ok reply.Closed) p.enters
+ends_grow a b now (ending.Body bytes) p = absurd p.answered
+
+pub closes_same : {C : Type 0} (reads : C → ℕ → C → Type 0) (how : Ending) (granted : Bool) (a b c d : Scene C)
+    → IsSteady reads → AreSame a c → Closes reads how granted a b → Closes reads how granted c d
+    → IsAlone a.book b.book → IsAlone c.book d.book → AreSame b d
+closes_same reads how false a b c d steady same p q alone also = same_self a b c d same p q
+closes_same reads how true a b c d steady same (now1, read1, ends1, only1) (now2, read2, ends2, only2) alone also =
+    let read : (now1 ≡ now2) × (b.clock ≡ d.clock) = readings_same reads a b c d now1 now2 steady same read1 read2 in
+    let ends : Ends c.book d.book now1 how (Ok reply.Closed) =
+    subst (λ z. Ends c.book d.book z how (Ok reply.Closed)) (sym read.0) ends2 in
+    asks_same a b c d same only1 only2 (ends_same a.book b.book c.book d.book now1 how same.book ends1 ends alone also) read.1
+
+pub closes_go : {C : Type 0} (reads : C → ℕ → C → Type 0) (how : Ending) (granted : Bool) (a b : Scene C)
+    → Closes reads how granted a b → Goes a b
+closes_go reads how false a b p = goes_self a b p
+closes_go {C = C} reads how true a b (now1, read1, ends1, only1) =
+    goes_quietly a b (ap (λ (z : Scene C). z.output) only1) (ends_grow a.book b.book now1 how ends1)

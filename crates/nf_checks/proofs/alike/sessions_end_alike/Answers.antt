@@ -1,0 +1,5 @@
+use Rattle.nf_checks.proofs.Sessions.{sessions_same}
+use Rattle.nf_checks.proofs.alike.sessions_end_alike.Goals as goal
+
+pub returns : goal.returns
+returns g c = sessions_same g.C.Clock.reads
