@@ -3,7 +3,6 @@
 ghost use Rattle.std.specs.Prelude.{◌≡◌, ◌++◌, IfOk, length};
 ghost use Rattle.std.specs.String.{string_bytes};
 ghost use Rattle.serde_json.specs.View.{view};
-ghost use Rattle.nf_words.specs.Limits.{count_of};
 ghost use Rattle.filesd.specs.Reply.{status_of, reason_of, fault_word, cause_word, limit_word, own_line as own, close_line as closing, ends_session as ends, head_bytes, refusal_body, refusal_object, refusal_reply, made_reply, done_reply, file_reply, reply_bytes};
 
 use crate::store::Store;
@@ -23,9 +22,9 @@ pub fn reply(
     ensures { IfOk result (λ reply. reply.items ≡ reply_bytes store.now.blobs close verdict.now) }
 {
     match verdict {
-        Verdict::Unasked(denial) => refusal(alloc, *denial, close || ends_session(*denial)),
-        Verdict::RunFull => refusal(alloc, Denial::RunFull, true),
-        Verdict::Denied(denial) => refusal(alloc, *denial, close || ends_session(*denial)),
+        Verdict::Unasked(denial) => refusal(alloc, denial, close || ends_session(denial)),
+        Verdict::RunFull => refusal(alloc, &Denial::RunFull, true),
+        Verdict::Denied(denial) => refusal(alloc, denial, close || ends_session(denial)),
         Verdict::Made => made(alloc, close),
         Verdict::Done => done(alloc, close),
         Verdict::Serve(content) => {
@@ -37,15 +36,15 @@ pub fn reply(
 }
 
 /// Whether the denial ends the session by itself.
-pub fn ends_session(denial: Denial) -> bool
-    ensures { result ≡ ends denial }
+pub fn ends_session(denial: &Denial) -> bool
+    ensures { result ≡ ends denial.now }
 {
-    denial == Denial::NotBuilt
+    matches!(denial, Denial::NotBuilt)
 }
 
 /// The answer of a denial.
-pub fn refusal(alloc: Global, denial: Denial, close: bool) -> Result<Vec<u8>, AllocError>
-    ensures { IfOk result (λ reply. reply.items ≡ refusal_reply close denial) }
+pub fn refusal(alloc: Global, denial: &Denial, close: bool) -> Result<Vec<u8>, AllocError>
+    ensures { IfOk result (λ reply. reply.items ≡ refusal_reply close denial.now) }
 {
     let body = refusal_text(alloc, denial)?;
     let head = head(
@@ -116,28 +115,28 @@ fn joined(head: &String, body: &[u8]) -> Result<Vec<u8>, AllocError>
     Ok(reply)
 }
 
-fn refusal_text(alloc: Global, denial: Denial) -> Result<String, AllocError>
-    ensures { IfOk result (λ text. string_bytes text ≡ refusal_body denial) }
+fn refusal_text(alloc: Global, denial: &Denial) -> Result<String, AllocError>
+    ensures { IfOk result (λ text. string_bytes text ≡ refusal_body denial.now) }
 {
     refusal_value(alloc, denial)?.to_string(alloc)
 }
 
-fn refusal_value(alloc: Global, denial: Denial) -> Result<Value, AllocError>
-    ensures { IfOk result (λ value. view value ≡ refusal_object denial) }
+fn refusal_value(alloc: Global, denial: &Denial) -> Result<Value, AllocError>
+    ensures { IfOk result (λ value. view value ≡ refusal_object denial.now) }
 {
     let reason = reason(denial);
     match denial {
         Denial::BadName(fault) => {
-            let fault = fault_word(fault);
+            let fault = fault_word(*fault);
             json!(in alloc; {"fault": fault, "reason": reason})
         }
         Denial::BadTarget(cause) => {
-            let cause = cause_word(cause);
+            let cause = cause_word(*cause);
             json!(in alloc; {"cause": cause, "reason": reason})
         }
         Denial::Limit(limit) => {
-            let count = count(limit);
-            let which = limit_word(limit);
+            let count = limit.count();
+            let which = limit_word(*limit);
             json!(in alloc; {"count": count, "reason": reason, "which": which})
         }
         _ => json!(in alloc; {"reason": reason}),
@@ -150,8 +149,8 @@ fn close_line(close: bool) -> &'static str
     if close { "Connection: close\r\n" } else { "" }
 }
 
-fn own_line(denial: Denial) -> &'static str
-    ensures { result.now ≡ own denial }
+fn own_line(denial: &Denial) -> &'static str
+    ensures { result.now ≡ own denial.now }
 {
     match denial {
         Denial::Exists => "Allow: GET, PUT, MKCOL, DELETE, MOVE, COPY\r\n",
@@ -160,8 +159,8 @@ fn own_line(denial: Denial) -> &'static str
     }
 }
 
-fn status(denial: Denial) -> &'static str
-    ensures { result.now ≡ status_of denial }
+fn status(denial: &Denial) -> &'static str
+    ensures { result.now ≡ status_of denial.now }
 {
     match denial {
         Denial::BadMessage | Denial::BadName(_) => "400 Bad Request",
@@ -180,8 +179,8 @@ fn status(denial: Denial) -> &'static str
     }
 }
 
-fn reason(denial: Denial) -> &'static str
-    ensures { result.now ≡ reason_of denial }
+fn reason(denial: &Denial) -> &'static str
+    ensures { result.now ≡ reason_of denial.now }
 {
     match denial {
         Denial::BadMessage => "bad-message",
@@ -235,15 +234,5 @@ fn limit_word(limit: Limit) -> &'static str
         Limit::Nodes => "nodes",
         Limit::Depth => "depth",
         Limit::Pieces => "pieces",
-    }
-}
-
-fn count(limit: Limit) -> u64
-    ensures { result ≡ count_of limit }
-{
-    match limit {
-        Limit::Nodes => 262_144,
-        Limit::Depth => 64,
-        Limit::Pieces => 1_048_576,
     }
 }

@@ -1,21 +1,20 @@
 //! The request of a message.
 
-ghost use Rattle.std.specs.Prelude.{◌≡◌, ◌<◌, None, Some, IfOk, IfSome, [], ◌∷◌, codes, length, map, option_copied, option_map, position, if◌then◌else◌};
+ghost use Rattle.std.specs.Prelude.{◌≡◌, ◌<◌, None, Some, IfOk, IfSome, IsSome, false, [], ◌∷◌, codes, length, map, option_copied, option_map, position, if◌then◌else◌};
 ghost use Rattle.std.specs.List.{list_any, slice_split};
 ghost use Rattle.std.specs.Option.{option_map_or};
 ghost use Rattle.nf_base.specs.Naming.{same_ignoring_case};
-ghost use Rattle.nf_words.specs.History.{MayWant};
+ghost use Rattle.nf_words.specs.History.{MayWant, is_link};
 ghost use Rattle.nf_words.specs.declared.answer.Denial.TheVariants.{Body};
 ghost use Rattle.filesd.specs.Asked.{GivesRequest, GivesSpot, GivesName, GivesPath, method_of, wanted_of, body_refusal, files_segments, path_in, from_slash, without_slash, is_built as built, is_slash, is_special, caller_of_value};
 
-use nf_base::{Name, NameFault, Path};
+use nf_base::{Digest, Name, NameFault, Path};
 use nf_http::Message;
-use nf_site::digest_of;
 use nf_words::{Caller, Denial, Request, Spot, Wanted};
 use std::alloc::{AllocError, Global};
 
 /// Why a message has no request.
-#[derive(Clone, Copy, Debug, PartialEq, Eq)]
+#[derive(Drop)]
 pub enum Unasked {
     /// It is refused before the site is asked.
     Refused(Denial),
@@ -34,7 +33,7 @@ impl From<AllocError> for Unasked {
 }
 
 /// The methods of the files route that are built.
-#[derive(Clone, Copy, Debug, PartialEq, Eq)]
+#[derive(Clone, Copy, PartialEq, Eq)]
 pub enum Method {
     Get,
     Put,
@@ -48,7 +47,7 @@ const FILES: &[u8] = b"/remote.php/dav/files/";
 #[tactic(auto, unfolding(crate::specs::Asked::request_of))]
 pub fn request(alloc: Global, message: &Message) -> Result<Request, Unasked>
     ensures gives { GivesRequest message.now result }
-    ensures may_want { IfOk result (λ request. MayWant request.wanted) }
+    ensures may_want { IfOk result MayWant }
 {
     if !is_built(message) {
         return Err(Unasked::Refused(Denial::NotBuilt));
@@ -159,7 +158,8 @@ fn without_slash(path: &[u8]) -> &[u8]
 
 // The spot of a user and a path, with slashes between their names.
 fn spot(alloc: Global, rest: &[u8]) -> Result<Spot, Unasked>
-    ensures { GivesSpot (slice_split is_slash rest.now) result }
+    ensures gives { GivesSpot (slice_split is_slash rest.now) result }
+    ensures names { IfOk result (λ spot. IsSome spot.user) }
 {
     let (user, behind) = first_segment(rest);
     let user = name(alloc, user)?;
@@ -223,13 +223,14 @@ fn has_special(bytes: &[u8]) -> bool
 
 // The caller of an Authorization field.
 fn caller(value: Option<&[u8]>) -> Caller
-    ensures { result ≡ caller_of_value (option_copied value.entry) }
+    ensures value { result ≡ caller_of_value (option_copied value.entry) }
+    ensures no_link { is_link result ≡ false }
 {
     let Some(value) = value else {
         return Caller::Absent;
     };
     if value.len() >= 8 && value.len() <= 135 && is_bearer(&value[..7]) {
-        Caller::Token(digest_of(&value[7..]))
+        Caller::Token(Digest::of(&value[7..]))
     } else {
         Caller::Absent
     }

@@ -8,7 +8,7 @@ use nf_base::Content;
 use nf_words::{Answer, Denial, Goal, Reply};
 
 /// What becomes of a message that was read without a fault.
-#[derive(Debug, Drop)]
+#[derive(Drop)]
 pub enum Verdict {
     /// It is refused before the site is asked.
     Unasked(Denial),

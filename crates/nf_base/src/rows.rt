@@ -10,7 +10,7 @@ use std::alloc::{AllocError, Global};
 use std::marker::Model;
 
 /// The counters of the next ids, and the moment of the last step that changed a row.
-#[derive(Clone, Copy, Debug, PartialEq, Eq)]
+#[derive(Clone, Copy, PartialEq, Eq)]
 pub struct MetaRow {
     pub next_user: UserId,
     pub next_group: GroupId,
@@ -21,7 +21,7 @@ pub struct MetaRow {
 }
 
 /// A user, with a quota in bytes.
-#[derive(Clone, Debug, PartialEq, Eq, Drop)]
+#[derive(Clone, PartialEq, Eq, Drop)]
 pub struct UserRow {
     pub id: UserId,
     pub name: Name,
@@ -30,19 +30,19 @@ pub struct UserRow {
 }
 
 /// The digest of a secret that its holder shows to be known as the user.
-#[derive(Clone, Copy, Debug, PartialEq, Eq)]
+#[derive(Clone, Copy, PartialEq, Eq)]
 pub struct TokenRow {
     pub digest: Digest,
     pub user: UserId,
 }
 
-#[derive(Clone, Debug, PartialEq, Eq, Drop)]
+#[derive(Clone, PartialEq, Eq, Drop)]
 pub struct GroupRow {
     pub id: GroupId,
     pub name: Name,
 }
 
-#[derive(Clone, Copy, Debug, PartialEq, Eq)]
+#[derive(Clone, Copy, PartialEq, Eq)]
 pub struct MemberRow {
     pub group: GroupId,
     pub user: UserId,
@@ -103,14 +103,14 @@ impl NodeRow {
 }
 
 /// Whom a share is for: a user, a group, or whoever knows the link's token.
-#[derive(Clone, Debug, PartialEq, Eq, Drop)]
+#[derive(Clone, PartialEq, Eq, Drop)]
 pub enum ShareKind {
     User(UserId),
     Group(GroupId),
     Link(Name),
 }
 
-#[derive(Clone, Debug, PartialEq, Eq, Drop)]
+#[derive(Clone, PartialEq, Eq, Drop)]
 pub struct ShareRow {
     pub id: ShareId,
     pub kind: ShareKind,
@@ -127,7 +127,7 @@ pub struct ShareRow {
 }
 
 /// The name under which a shared node stands in a user's root.
-#[derive(Clone, Debug, PartialEq, Eq, Drop)]
+#[derive(Clone, PartialEq, Eq, Drop)]
 pub struct MountRow {
     pub user: UserId,
     pub node: NodeId,
@@ -136,7 +136,7 @@ pub struct MountRow {
 }
 
 /// An earlier content of a file, with the moment at which it became current.
-#[derive(Clone, Debug, PartialEq, Eq, Drop)]
+#[derive(Clone, PartialEq, Eq, Drop)]
 pub struct VersionRow {
     pub node: NodeId,
     pub at: Moment,
@@ -144,7 +144,7 @@ pub struct VersionRow {
 }
 
 /// An item of the trash: a node, and the folder and name that it had.
-#[derive(Clone, Debug, PartialEq, Eq, Drop)]
+#[derive(Clone, PartialEq, Eq, Drop)]
 pub struct ItemRow {
     pub node: NodeId,
     pub owner: UserId,
@@ -154,7 +154,7 @@ pub struct ItemRow {
 }
 
 /// An upload in chunks, and the path that it is for.
-#[derive(Clone, Debug, PartialEq, Eq, Drop)]
+#[derive(Clone, PartialEq, Eq, Drop)]
 pub struct UploadRow {
     pub user: UserId,
     pub dir: Name,
@@ -163,7 +163,7 @@ pub struct UploadRow {
 }
 
 /// A chunk of an upload. Its content has one piece, or none where the chunk is empty.
-#[derive(Clone, Debug, PartialEq, Eq, Drop)]
+#[derive(Clone, PartialEq, Eq, Drop)]
 pub struct ChunkRow {
     pub user: UserId,
     pub dir: Name,
@@ -196,7 +196,7 @@ impl ChunkRow {
 }
 
 /// A row of any kind.
-#[derive(Clone, Debug, PartialEq, Eq, Drop)]
+#[derive(Clone, PartialEq, Eq, Drop)]
 pub enum Row {
     Meta(MetaRow),
     User(UserRow),
@@ -244,7 +244,7 @@ impl Row {
 }
 
 /// Rows of any kind, in their order.
-#[derive(Debug, Drop)]
+#[derive(Drop)]
 pub struct RowList {
     rows: Vec<Row>,
 }
@@ -333,19 +333,13 @@ impl Eq for RowList {
 #[cfg(test)]
 mod tests {
     use super::*;
+    use crate::{Change, Changes, RowKey};
     use std::test::Fail;
 
     #[test]
     fn copies_rows(rt: HostRuntime) -> Result<(), Fail> {
         let mut rows = RowList::new(rt.alloc());
-        let user = UserRow {
-            id: UserId::new(1),
-            name: Name::read(rt.alloc(), b"ann")?,
-            quota: 1000,
-            root: NodeId::new(1),
-        };
-        rows.push(Row::User(user))?;
-        let root = NodeRow {
+        rows.push(Row::Node(NodeRow {
             id: NodeId::new(1),
             owner: UserId::new(1),
             place: Place::Root,
@@ -353,16 +347,23 @@ mod tests {
             kind: NodeKind::Folder,
             content: Content::empty(rt.alloc()),
             changed: Moment::new(5),
-        };
-        rows.push(Row::Node(root))?;
-        let copy = rows.copy(rt.alloc())?;
-        assert_eq!(rt; copy.rows().len(), 2);
-        assert!(rt; copy == rows);
+        }))?;
         rows.push(Row::Member(MemberRow {
             group: GroupId::new(1),
-            user: UserId::new(1),
+            user: UserId::new(2),
         }))?;
-        assert!(rt; copy != rows);
+        let copy = rows.copy(rt.alloc())?;
+        assert!(rt; copy == rows);
+        let mut changes = Changes::new(rt.alloc());
+        assert!(rt; changes.is_empty());
+        for row in copy.into_rows() {
+            changes.push(Change::Drop(row.key()?))?;
+            changes.push(Change::Put(row))?;
+        }
+        assert!(rt;
+            matches!(&changes.as_slice()[0], Change::Drop(RowKey::Node(id)) if id.number() == 1)
+        );
+        assert_eq!(rt; changes.into_vec().len(), 2 * rows.rows().len());
         Ok(())
     }
 }

@@ -1,5 +1,5 @@
 -- The tables with a node more are sound.
-use Rattle.std.proofs.Common.{ℕ, suc, zero, ◌+◌, ◌==◌, ◌&&◌, ◌≡◌, ◌<◌, ◌≤◌, Bool, true, false, List, [], ◌∷◌, ◌++◌, Option, None, Some, find, length, option_map, bytes_eq, refl, sym, ap, subst, ◌∙◌, arith, le_refl, length-append}
+use Rattle.std.proofs.Common.{ℕ, suc, ◌==◌, ◌&&◌, ◌≡◌, ◌<◌, ◌≤◌, Bool, true, false, List, [], ◌∷◌, ◌++◌, Option, None, Some, find, length, option_map, bytes_eq, refl, sym, ap, subst, ◌∙◌, arith, le_refl, length-append}
 use Rattle.std.specs.List.{All}
 use Rattle.std.specs.Option.{option_and_then, option_map_or, option_or}
 use Rattle.std.proofs.lemmas.Bool.{and_from, both_ways, eq-eqb, eqb-true, ne_eqb}
@@ -7,17 +7,18 @@ use Rattle.std.proofs.lemmas.List.Elements.{All-cons, All-nil, All-push, All-tai
 use Rattle.std.proofs.lemmas.List.Folds.{find-append}
 use Rattle.std.proofs.lemmas.List.Quantifiers.{all_pairs_push}
 use Rattle.std.proofs.lemmas.List.Sums.{sum_by_push}
-use Rattle.std.proofs.lemmas.Option.{none-some, same_Some}
+use Rattle.std.proofs.lemmas.Option.{none-some}
 use Rattle.std.proofs.lemmas.Slice.Eq.{bytes_eq-Decides}
 use Rattle.nf_base.specs.declared.rows.NodeRow.{NodeRow}
 use Rattle.nf_base.specs.declared.rows.Place.{Place}
 use Rattle.nf_base.specs.declared.rows.Place.TheVariants.{Inside}
 use Rattle.nf_defs.specs.Tables.{Tables}
-use Rattle.nf_defs.specs.Tree.{child_of, climb, depth, depth_within, folder_of, is_folder, is_in, is_place_in, node_row, owner_of, parent_of}
+use Rattle.nf_defs.specs.Tree.{child_of, climb, folder_of, is_folder, is_in, is_place_in, node_row, owner_of}
 use Rattle.nf_words.proofs.Known.{KnownNew}
 use Rattle.nf_words.specs.Changes.{created}
 use Rattle.nf_words.specs.Sound.{AreApart, AreSound, HasRoot, IsNodeSound, IsPlaceSound, root_of_user}
-use Rattle.nf_laws.proofs.Rows.{AreKept, body_sound, folder_kept, folder_there, climb_kept, found_has, node_kept, none_above, root_kept}
+use Rattle.nf_laws.proofs.Rows.{AreKept, blob_up, body_sound, folder_kept, folder_there, climb_kept, found_is, node_kept, none_above, root_kept, stamp}
+use Rattle.nf_laws.proofs.Climbs.{depth_is}
 
 -- ---- look-ups that find nothing
 
@@ -38,33 +39,9 @@ no_value : {X : Type 0} (f : X → ℕ) (o : Option X) → option_map f o ≡ No
 no_value f None none = refl
 no_value f (Some x) none = absurd (none-some (f x) (sym none))
 
--- ---- how deep a node is
-
-climbs_deep : (k m : ℕ) (rows : List NodeRow) (node root : ℕ) → climb rows k node ≡ Some root → parent_of rows root ≡ None → k ≤ m
-    → depth_within m rows node ≡ k
-unfolding depth_within
-climbs_deep zero zero rows node root climbs top few = refl
-climbs_deep zero (suc m) rows node root climbs top few =
-    ap (λ (o : Option ℕ). option_map_or (λ parent. depth_within m rows parent + 1) o 0)
-    (ap (parent_of rows) (same_Some node root climbs) ∙ top)
-climbs_deep (suc k) zero rows node root climbs top few = absurd (omega arith)
-climbs_deep (suc k) (suc m) rows node root climbs top few =
-    here (parent_of rows node) climbs (λ parent climbs. climbs_deep k m rows parent root climbs top (omega arith))
-  where
-    here : (o : Option ℕ) → option_and_then (climb rows k) o ≡ Some root
-        → ((parent : ℕ) → climb rows k parent ≡ Some root → depth_within m rows parent ≡ k)
-        → option_map_or (λ parent. depth_within m rows parent + 1) o 0 ≡ suc k
-    here None climbs rest = absurd (none-some root climbs)
-    here (Some parent) climbs rest = omega (arith, rest parent climbs)
-
-depth_climbed : (k : ℕ) (rows : List NodeRow) (node root : ℕ) → climb rows k node ≡ Some root → parent_of rows root ≡ None → k ≤ 64
-    → depth rows node ≡ k
-unfolding depth
-depth_climbed k rows node root climbs top few = climbs_deep k 64 rows node root climbs top few
-
 -- ---- the rows with one more
 
-kept_added : (rows : List NodeRow) (row : NodeRow) → AreKept rows (rows ++ row ∷ [])
+pub kept_added : (rows : List NodeRow) (row : NodeRow) → AreKept rows (rows ++ row ∷ [])
 kept_added rows row node old is = record {
   row = old;
   there =
@@ -77,7 +54,7 @@ kept_added rows row node old is = record {
 }
 
 -- where no row has the new row's number, it is found by it
-new_there : (rows : List NodeRow) (row : NodeRow) → All (λ (old : NodeRow). old.id < row.id) rows
+pub new_there : (rows : List NodeRow) (row : NodeRow) → All (λ (old : NodeRow). old.id < row.id) rows
     → node_row (rows ++ row ∷ []) row.id ≡ Some row
 new_there rows row less =
     let none : node_row rows row.id ≡ None =
@@ -93,9 +70,9 @@ new_apart : (rows : List NodeRow) (folder : ℕ) (row : NodeRow) → row.place �
     → All (λ (old : NodeRow). AreApart old row) rows
 new_apart rows folder row inside free =
     All-weaker (λ (old : NodeRow). (is_in folder old && bytes_eq old.name row.name) ≡ false) (λ (old : NodeRow). AreApart old row)
-    (λ old fails place name. both_ways _ fails
+    (λ old fails at place other name. both_ways _ fails
     (and_from (is_in folder old) (bytes_eq old.name row.name)
-    (ap (is_place_in folder) (place ∙ inside) ∙ eq-eqb folder folder refl) ((bytes_eq-Decides old.name row.name).1 name)))
+    (ap (is_place_in folder) (place ∙ sym other ∙ inside) ∙ eq-eqb folder folder refl) ((bytes_eq-Decides old.name row.name).1 name)))
     rows (each_fails _ rows (no_value (λ row. row.id) _ free))
 
 -- ---- the new node
@@ -105,17 +82,22 @@ folder_sound : (t : Tables) (folder : ℕ) → AreSound t → is_folder t.nodes 
     → (row : NodeRow) × (row.id ≡ folder) × (row.owner ≡ owner_of t.nodes folder) × IsNodeSound t row
 folder_sound t folder sound is =
     let h = folder_there t.nodes folder is in
-    let found = found_has (IsNodeSound t) (λ row. row.id == folder) t.nodes h.0 sound.nodes h.1 in
+    let found = found_is (IsNodeSound t) (λ row. row.id == folder) t.nodes h.0 sound.nodes h.1 in
     (h.0, eqb-true h.0.id folder found.0, sym (ap (λ (o : Option NodeRow). option_map_or (λ row. row.owner) o 0) h.1), found.1)
 
-less_than_new : (t : Tables) (now : ℕ) (row : NodeRow) → AreSound t → KnownNew t now row → All (λ (old : NodeRow). old.id < row.id) t.nodes
-less_than_new t now row sound known =
+pub less_than_new : (t : Tables) (now : ℕ) (row : NodeRow) (blob : Option ℕ) → AreSound t → KnownNew t now row blob
+    → All (λ (old : NodeRow). old.id < row.id) t.nodes
+less_than_new t now row blob sound known =
     let id : row.id ≡ t.meta.next_node = ap (λ (r : NodeRow). r.id) known.is_new in
     All-weaker (IsNodeSound t) (λ (old : NodeRow). old.id < row.id) (λ old s. omega (arith, s.given)) t.nodes sound.nodes
 
-new_sound : (t : Tables) (now : ℕ) (row : NodeRow) → AreSound t → KnownNew t now row → IsNodeSound (created t now row) row
-new_sound t now row sound known =
-    let made = created t now row in
+abbrev added : Tables → ℕ → NodeRow → Option ℕ → Tables
+added t now row blob = stamp (created t row blob) now
+
+new_sound : (t : Tables) (now : ℕ) (row : NodeRow) (blob : Option ℕ) → AreSound t → KnownNew t now row blob
+    → IsNodeSound (added t now row blob) row
+new_sound t now row blob sound known =
+    let made = added t now row blob in
     let folder = folder_sound t known.folder sound known.in_folder in
     let h = folder_kept t.nodes made.nodes known.folder (kept_added t.nodes row) known.in_folder in
     let id : row.id ≡ t.meta.next_node = ap (λ (r : NodeRow). r.id) known.is_new in
@@ -125,20 +107,19 @@ new_sound t now row sound known =
     let steps = folder.3.steps in
     let climbs : climb t.nodes steps known.folder ≡ Some (root_of_user t folder.0.owner) =
     subst (λ (n : ℕ). climb t.nodes steps n ≡ Some (root_of_user t folder.0.owner)) folder.1 folder.3.present in
-    let deep = depth_climbed steps t.nodes known.folder (root_of_user t folder.0.owner) climbs
-    (none_above t folder.0.owner sound) folder.3.shallow in
+    let deep = depth_is steps t.nodes known.folder (root_of_user t folder.0.owner) (none_above t folder.0.owner sound) folder.3.shallow climbs in
     record {
       some = omega (arith, folder.3.some, folder.3.given);
       given = omega arith;
       changed = omega arith;
-      pieces = body_sound t made.meta made.nodes row.content known.content (le_refl _);
+      pieces = body_sound t made.meta made.nodes blob row.content sound.counters known.content (le_refl _);
       folder = known.empty;
       place = subst (λ (p : Place). IsPlaceSound made row p) (sym place) (h.0, h.1 ∙ sym owner);
       steps = suc steps;
       shallow = omega (arith, deep, known.deep);
       present =
           ap (option_and_then (climb made.nodes steps))
-          (ap (option_and_then (λ row. folder_of row.place)) (new_there t.nodes row (less_than_new t now row sound known))
+          (ap (option_and_then (λ row. folder_of row.place)) (new_there t.nodes row (less_than_new t now row blob sound known))
           ∙ ap folder_of place)
           ∙ climb_kept steps t.nodes made.nodes known.folder (root_of_user t folder.0.owner) (kept_added t.nodes row) climbs
           ∙ ap (λ (user : ℕ). Some (root_of_user t user)) (folder.2 ∙ sym owner);
@@ -146,16 +127,24 @@ new_sound t now row sound known =
 
 -- ---- all rows
 
-pub created_sound : (t : Tables) (now : ℕ) (row : NodeRow) → AreSound t → t.meta.last ≤ now → KnownNew t now row → AreSound (created t now row)
-created_sound t now row sound later known =
-    let made = created t now row in
+pub created_sound : (t : Tables) (now : ℕ) (row : NodeRow) (blob : Option ℕ) → AreSound t → t.meta.last ≤ now → KnownNew t now row blob
+    → AreSound (stamp (created t row blob) now)
+created_sound t now row blob sound later known =
+    let made = added t now row blob in
     let kept = kept_added t.nodes row in
     record {
-      rising = all_pairs_push (λ (a b : NodeRow). a.id < b.id) t.nodes row sound.rising (less_than_new t now row sound known);
+      counters = record {
+        users = sound.counters.users;
+        groups = sound.counters.groups;
+        nodes = omega arith;
+        shares = sound.counters.shares;
+        blobs = omega (arith, sound.counters.blobs, blob_up t.meta.next_blob blob);
+      };
+      rising = all_pairs_push (λ (a b : NodeRow). a.id < b.id) t.nodes row sound.rising (less_than_new t now row blob sound known);
       nodes = All-push (IsNodeSound made) t.nodes row
           (All-weaker (IsNodeSound t) (IsNodeSound made)
-          (λ old. node_kept t made.meta made.nodes old kept (omega arith) (omega arith) later) t.nodes sound.nodes)
-          (new_sound t now row sound known);
+          (λ old. node_kept t made.meta made.nodes old kept (omega arith) (blob_up t.meta.next_blob blob) later) t.nodes sound.nodes)
+          (new_sound t now row blob sound known);
       names = all_pairs_push AreApart t.nodes row sound.names
           (new_apart t.nodes known.folder row (ap (λ (r : NodeRow). r.place) known.is_new) known.free);
       roots = All-weaker (HasRoot t) (HasRoot made) (root_kept t made.meta made.nodes kept) t.users sound.roots;

@@ -4,9 +4,9 @@ use Rattle.std.specs.Prelude.{is_some}
 use Rattle.std.specs.List.{All, AllPairs}
 use Rattle.std.specs.Option.{option_and_then, option_map_or}
 use Rattle.std.proofs.lemmas.Bool.{false≢true, eqb-true, eq-eqb, ne_eqb, and_right, or_cases, or_left, or_right}
-use Rattle.std.proofs.lemmas.Option.{none-some, same_Some}
+use Rattle.std.proofs.lemmas.Option.{none-some, option_and_then_some, same_Some}
 use Rattle.nf_base.specs.declared.rows.NodeRow.{NodeRow}
-use Rattle.nf_defs.specs.Tree.{node_row, folder_of, parent_of, climb, is_under, is_under_within}
+use Rattle.nf_defs.specs.Tree.{node_row, folder_of, parent_of, climb, depth, depth_within, is_under, is_under_within}
 use Rattle.nf_words.specs.Changes.{is_among}
 
 -- where the numbers rise, each row is found by its own
@@ -70,6 +70,22 @@ climbs_no_further (suc k) (suc i) rows node root top ends whole is =
         → ((parent : ℕ) → climb rows k parent ≡ Some root → climb rows i parent ≡ Some top → i ≤ k) → suc i ≤ suc k
     here None whole is rest = absurd (none-some root whole)
     here (Some parent) whole is rest = omega (arith, rest parent whole is)
+
+-- a node is as deep as the climb from it to one in no folder is long
+depth_steps : (k m : ℕ) (rows : List NodeRow) (node root : ℕ) → parent_of rows root ≡ None → k ≤ m → climb rows k node ≡ Some root
+    → depth_within m rows node ≡ k
+unfolding depth_within
+depth_steps zero zero rows node root ends few is = refl
+depth_steps zero (suc m) rows node root ends few is = rw (same_Some node root is, ends)
+depth_steps (suc k) zero rows node root ends few is = absurd (omega arith)
+depth_steps (suc k) (suc m) rows node root ends few is =
+    option_and_then_some (climb rows k) (parent_of rows node) root is
+    (λ parent above is. rw above (omega (arith, depth_steps k m rows parent root ends (omega arith) is)))
+
+pub depth_is : (k : ℕ) (rows : List NodeRow) (node root : ℕ) → parent_of rows root ≡ None → k ≤ 64 → climb rows k node ≡ Some root
+    → depth rows node ≡ k
+unfolding depth
+depth_is k rows node root ends few is = depth_steps k 64 rows node root ends few is
 
 -- ---- the rows whose numbers pass a test
 

@@ -16,14 +16,13 @@ use Rattle.nf_defs.specs.Tree.{node_row, folder_of, parent_of, climb, is_root, i
 use Rattle.nf_words.specs.Changes.{is_among, removed}
 use Rattle.nf_words.specs.Sound.{AreApart, AreSound, HasRoot, IsNodeSound, IsPlaceSound, root_of_user}
 use Rattle.nf_laws.proofs.Climbs.{among_those, climb_those, climb_under, climbs_no_further, node_row_each, row_of_those, under_climb}
-use Rattle.nf_laws.proofs.Rows.{found_has, none_above, pieces_kept}
-use Rattle.nf_words.proofs.Known.{KnownGone}
+use Rattle.nf_laws.proofs.Rows.{found_is, none_above, pieces_kept, stamp}
 
 -- a node that isn't under the top
 abbrev is_left : List NodeRow → ℕ → ℕ → Bool
 is_left rows top node = not (is_among (subtree_of rows top) node)
 
-gone_is_under : (rows : List NodeRow) (top node : ℕ) → is_among (subtree_of rows top) node ≡ true → is_under rows node top ≡ true
+pub gone_is_under : (rows : List NodeRow) (top node : ℕ) → is_among (subtree_of rows top) node ≡ true → is_under rows node top ≡ true
 gone_is_under rows top node is =
     (and_parts (is_some (node_row rows node)) (is_under rows node top) (sym (among_those (λ n. is_under rows n top) rows node) ∙ is)).1
 
@@ -38,7 +37,7 @@ folder_left t top sound node parent above left = here (is_among (subtree_of t.no
         let c = under_climb t.nodes parent top (gone_is_under t.nodes top parent e) in
         let further : climb t.nodes (suc c.0) node ≡ Some top = rw above c.2 in
         option_and_then_some (λ row. folder_of row.place) (node_row t.nodes node) parent above (λ row there place.
-        let h = found_has (IsNodeSound t) (λ row. row.id == node) t.nodes row sound.nodes there in
+        let h = found_is (IsNodeSound t) (λ row. row.id == node) t.nodes row sound.nodes there in
         let whole = subst (λ (n : ℕ). climb t.nodes h.1.steps n ≡ Some (root_of_user t row.owner)) (eqb-true row.id node h.0) h.1.present in
         let short = climbs_no_further h.1.steps (suc c.0) t.nodes node (root_of_user t row.owner) top (none_above t row.owner sound) whole further in
         let under = climb_under (suc c.0) t.nodes node top (omega (arith, h.1.shallow)) further in
@@ -65,7 +64,7 @@ root_left t top no_root user root = here (is_among (subtree_of t.nodes top) user
 -- ---- the tables without the nodes under the top
 
 abbrev rest : Tables → ℕ → ℕ → Tables
-rest t now top = removed t now (subtree_of t.nodes top)
+rest t now top = stamp (removed t (subtree_of t.nodes top)) now
 
 -- what is left has its place, its climb and its root as before
 place_left : (t : Tables) (now top : ℕ) (row : NodeRow) → AreSound t → node_row t.nodes row.id ≡ Some row → is_left t.nodes top row.id ≡ true
@@ -105,6 +104,13 @@ rest_sound : (t : Tables) (now top : ℕ) → AreSound t → t.meta.last ≤ now
 rest_sound t now top sound before no_root =
     let test : NodeRow → Bool = λ row. is_left t.nodes top row.id in
     record {
+      counters = record {
+        users = sound.counters.users;
+        groups = sound.counters.groups;
+        nodes = sound.counters.nodes;
+        shares = sound.counters.shares;
+        blobs = sound.counters.blobs;
+      };
       rising = AllPairs-filter (λ a b. a.id < b.id) test t.nodes sound.rising;
       nodes = λ k d within. node_left t now top _ sound before
           (All-filter test (λ row. node_row t.nodes row.id ≡ Some row) t.nodes (node_row_each t.nodes sound.rising) k d within)
@@ -116,6 +122,7 @@ rest_sound t now top sound before no_root =
       few_pieces = omega (arith, sound.few_pieces, sum_by-filter_both test (λ row. not (test row)) (λ row. refl) (λ row. length row.content) t.nodes);
     }
 
-pub removed_sound : (t : Tables) (now : ℕ) (nodes : List ℕ) → AreSound t → t.meta.last ≤ now → KnownGone t nodes → AreSound (removed t now nodes)
-removed_sound t now nodes sound before gone =
-    subst (λ (ns : List ℕ). AreSound (removed t now ns)) (sym gone.below) (rest_sound t now gone.top sound before gone.no_root)
+pub removed_sound : (t : Tables) (now top : ℕ) (nodes : List ℕ) → AreSound t → t.meta.last ≤ now → nodes ≡ subtree_of t.nodes top
+    → is_root t.nodes top ≡ false → AreSound (stamp (removed t nodes) now)
+removed_sound t now top nodes sound before below no_root =
+    subst (λ (ns : List ℕ). AreSound (stamp (removed t ns) now)) (sym below) (rest_sound t now top sound before no_root)

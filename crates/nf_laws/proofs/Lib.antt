@@ -1,7 +1,17 @@
 pub mod Added
+pub mod Blobs
 pub mod Climbs
+pub mod Contents
+pub mod Counters
+pub mod Entries
 pub mod Gone
+pub mod Numbers
+pub mod Owned
+pub mod Owning
+pub mod Paths
+pub mod Reading
 pub mod Replaced
 pub mod Rows
 pub mod Stays
+pub mod Telling
 pub mod Words

@@ -1,10 +1,11 @@
 -- Rows that may change while each node keeps its owner, place, name and kind.
-use Rattle.std.proofs.Common.{ℕ, suc, zero, ◌+◌, ◌==◌, ◌≡◌, ◌≤◌, Bool, true, false, List, [], ◌∷◌, Option, None, Some, find, length, refl, sym, ap, subst, ◌∙◌, inl, inr, arith}
+use Rattle.std.proofs.Common.{ℕ, suc, zero, ◌==◌, ◌≡◌, ◌≤◌, Bool, true, false, List, [], ◌∷◌, Option, None, Some, find, refl, sym, ap, subst, ◌∙◌, arith}
 use Rattle.std.specs.List.{All}
-use Rattle.std.specs.Option.{option_and_then, option_map_or}
+use Rattle.std.specs.Option.{IfSome, option_and_then, option_map_or}
 use Rattle.std.proofs.lemmas.Bool.{false≢true, eqb-true}
-use Rattle.std.proofs.lemmas.List.Elements.{All-cons, All-head, All-nil, All-tail, All-weaker}
+use Rattle.std.proofs.lemmas.List.Elements.{All-cons, All-nil, All-weaker}
 use Rattle.std.proofs.lemmas.Option.{none-some, same_Some}
+use Rattle.nf_base.specs.declared.changes.Change.{Change}
 use Rattle.nf_base.specs.declared.content.Piece.{Piece}
 use Rattle.nf_base.specs.declared.rows.MetaRow.{MetaRow}
 use Rattle.nf_base.specs.declared.rows.NodeRow.{NodeRow}
@@ -14,23 +15,17 @@ use Rattle.nf_base.specs.declared.rows.UserRow.{UserRow}
 use Rattle.nf_defs.specs.People.{user_row}
 use Rattle.nf_defs.specs.Tables.{Tables}
 use Rattle.nf_defs.specs.Tree.{climb, folder_of, is_folder, is_folder_kind, node_row, owner_of, parent_of}
-use Rattle.nf_words.proofs.Known.{IsOfBody}
-use Rattle.nf_words.specs.Sound.{AreSound, HasRoot, IsNodeSound, IsPieceSound, IsPlaceSound, root_of_user}
+use Rattle.nf_words.proofs.Known.{IsOfBody, found_has, found_passes}
+use Rattle.nf_words.specs.Changes.{blob_after, stamped}
+use Rattle.nf_words.specs.Sound.{AreCounters, AreSound, HasRoot, IsNodeSound, IsPieceSound, IsPlaceSound, root_of_user}
 
 -- ---- what a look-up finds
 
 -- what is found passes the test, and has what each element has
-pub found_has : {X : Type 0} (P : X → Type 0) (test : X → Bool) (xs : List X) (found : X)
+pub found_is : {X : Type 0} (P : X → Type 0) (test : X → Bool) (xs : List X) (found : X)
     → All P xs → find test xs ≡ Some found → (test found ≡ true) × P found
-found_has P test [] found all is = absurd (none-some found is)
-found_has {X = X} P test (x ∷ xs) found all is = here (test x) refl is (λ is. found_has P test xs found (All-tail P x xs all) is)
-  where
-    here : (a : Bool) → test x ≡ a → find test (x ∷ xs) ≡ Some found
-        → (find test xs ≡ Some found → (test found ≡ true) × P found) → (test found ≡ true) × P found
-    here true e is rest =
-        let same : x ≡ found = same_Some x found (simp e at is) in
-        subst (λ (y : X). (test y ≡ true) × P y) same (e, All-head P x xs all)
-    here false e is rest = rest (simp e at is)
+found_is {X = X} P test xs found all is =
+    (found_passes test xs found is, subst (λ (o : Option X). IfSome o P) is (found_has P test xs all))
 
 -- the row of a folder
 pub folder_there : (rows : List NodeRow) (node : ℕ) → is_folder rows node ≡ true
@@ -49,14 +44,37 @@ none_above t user sound = of_user (user_row t.users user) refl
     of_no_user : (o : Option NodeRow) → node_row t.nodes 0 ≡ o → option_and_then (λ row. folder_of row.place) o ≡ None
     of_no_user None e = refl
     of_no_user (Some row) e =
-        let h = found_has (IsNodeSound t) (λ row. row.id == 0) t.nodes row sound.nodes e in
+        let h = found_is (IsNodeSound t) (λ row. row.id == 0) t.nodes row sound.nodes e in
         absurd (omega (arith, h.1.some, eqb-true row.id 0 h.0))
 
     of_user : (o : Option UserRow) → user_row t.users user ≡ o → parent_of t.nodes (option_map_or (λ row. row.root) o 0) ≡ None
     of_user None e = of_no_user (node_row t.nodes 0) refl
     of_user (Some row) e =
-        let root = (found_has (HasRoot t) (λ row. row.id == user) t.users row sound.roots e).1 in
+        let root = (found_is (HasRoot t) (λ row. row.id == user) t.users row sound.roots e).1 in
         ap (option_and_then (λ row. folder_of row.place)) root.there ∙ ap folder_of root.place
+
+-- ---- what is in a folder
+
+pub inside_folder : (place : Place) (parent : ℕ) → folder_of place ≡ Some parent → place ≡ Inside parent
+inside_folder Root parent is = absurd (none-some parent is)
+inside_folder (Inside folder) parent is = ap Inside (same_Some folder parent is)
+inside_folder Trash parent is = absurd (none-some parent is)
+
+-- its folder is there
+pub child_folder : (t : Tables) (row : NodeRow) (place : Place) (folder : ℕ) → IsPlaceSound t row place → place ≡ Inside folder
+    → is_folder t.nodes folder ≡ true
+child_folder t row Root folder sound is = absurd (cc)
+child_folder t row (Inside parent) folder sound is =
+    let e : parent ≡ folder = cc in subst (λ (n : ℕ). is_folder t.nodes n ≡ true) e sound.0
+child_folder t row Trash folder sound is = absurd sound
+
+-- and has its owner
+pub child_owner : (t : Tables) (row : NodeRow) (place : Place) (folder : ℕ) → IsPlaceSound t row place → place ≡ Inside folder
+    → owner_of t.nodes folder ≡ row.owner
+child_owner t row Root folder sound is = absurd (cc)
+child_owner t row (Inside parent) folder sound is =
+    let e : parent ≡ folder = cc in subst (λ (n : ℕ). owner_of t.nodes n ≡ row.owner) e sound.1
+child_owner t row Trash folder sound is = absurd sound
 
 -- ---- what stays where each node keeps its owner, place, name and kind
 
@@ -121,7 +139,7 @@ pub pieces_kept : (t made : Tables) (pieces : List Piece) → t.meta.next_blob �
     → All (IsPieceSound t) pieces → All (IsPieceSound made) pieces
 pieces_kept t made pieces grows =
     All-weaker (IsPieceSound t) (IsPieceSound made)
-    (λ piece sound. record { some = sound.some; few = sound.few; given = omega (arith, sound.given) }) pieces
+    (λ piece sound. record { some = sound.some; few = sound.few; first = sound.first; given = omega (arith, sound.given) }) pieces
 
 pub node_kept : (t : Tables) (meta : MetaRow) (others : List NodeRow) (row : NodeRow) → AreKept t.nodes others
     → t.meta.next_node ≤ meta.next_node → t.meta.next_blob ≤ meta.next_blob → t.meta.last ≤ meta.last
@@ -152,12 +170,28 @@ root_kept t meta others kept user root =
     }
 
 -- the piece of a body is sound, where its blob's number was given
-pub body_sound : (t : Tables) (meta : MetaRow) (others : List NodeRow) (content : List Piece)
-    → IsOfBody t.meta content → t.meta.next_blob + length content ≤ meta.next_blob → All (IsPieceSound (with_nodes t meta others)) content
-body_sound t meta others content (inl none) given =
+pub body_sound : (t : Tables) (meta : MetaRow) (others : List NodeRow) (blob : Option ℕ) (content : List Piece)
+    → AreCounters t.meta → IsOfBody t.meta blob content → blob_after t.meta.next_blob blob ≤ meta.next_blob
+    → All (IsPieceSound (with_nodes t meta others)) content
+body_sound t meta others None content counters none given =
     subst (λ (c : List Piece). All (IsPieceSound (with_nodes t meta others)) c) (sym none) (All-nil (IsPieceSound (with_nodes t meta others)))
-body_sound t meta others content (inr one) given =
+body_sound t meta others (Some blob) content counters one given =
     let P = IsPieceSound (with_nodes t meta others) in
-    subst (λ (c : List Piece). All P c) (sym one.4)
-    (All-cons P (record { blob = t.meta.next_blob; size = one.0; digest = one.1 }) []
-    (record { some = one.2; few = one.3; given = omega (arith, given, ap length one.4) }) (All-nil P))
+    subst (λ (c : List Piece). All P c) (sym one.1.4)
+    (All-cons P (record { blob = blob; size = one.1.0; digest = one.1.1 }) []
+    (record { some = one.1.2; few = one.1.3; first = omega (arith, counters.blobs, one.0); given = omega (arith, given, one.0) }) (All-nil P))
+
+-- no blob's number is taken back
+pub blob_up : (next : ℕ) (blob : Option ℕ) → next ≤ blob_after next blob
+blob_up next None = omega arith
+blob_up next (Some id) = omega arith
+
+-- ---- tables as they stand once the moment is stamped
+
+abbrev pub stamp : Tables → ℕ → Tables
+stamp t now = record t { meta = record t.meta { last = now } }
+
+-- what both have, the tables have whether or not the moment is stamped
+pub stamped_has : (P : Tables → Type 0) (t made : Tables) (now : ℕ) (changes : List Change) → P t → P (stamp made now) → P (stamped t made now changes)
+stamped_has P t made now [] same stamps = same
+stamped_has P t made now (change ∷ changes) same stamps = stamps

@@ -6,20 +6,18 @@ use Rattle.std.specs.Option.{option_map_or}
 use Rattle.std.proofs.lemmas.Bool.{eq-eqb, eqb-true}
 use Rattle.std.proofs.lemmas.List.Elements.{All-head, All-tail}
 use Rattle.std.proofs.lemmas.List.Folds.{list_any_at}
-use Rattle.std.proofs.lemmas.Option.{none-some, option_and_then_some, same_Some}
+use Rattle.std.proofs.lemmas.Option.{option_and_then_some, same_Some}
 use Rattle.nf_base.specs.FreeNames.{is_taken}
 use Rattle.nf_base.specs.declared.rows.NodeRow.{NodeRow}
-use Rattle.nf_base.specs.declared.rows.Place.{Place}
-use Rattle.nf_base.specs.declared.rows.Place.TheVariants.{Root, Inside, Trash}
 use Rattle.nf_base.specs.declared.rows.UserRow.{UserRow}
 use Rattle.nf_defs.specs.People.{user_row}
 use Rattle.nf_defs.specs.Tables.{Tables}
-use Rattle.nf_defs.specs.Tree.{child_of, climb, depth, depth_within, folder_of, is_folder, is_in, is_present, is_under, node_row, parent_of, subtree_of, taken_names}
-use Rattle.nf_laws.proofs.Climbs.{among_those, climb_under, climbs_no_further, under_climb}
-use Rattle.nf_laws.proofs.Rows.{folder_there, found_has, none_above}
+use Rattle.nf_defs.specs.Tree.{child_of, climb, folder_of, is_in, is_present, is_under, node_row, parent_of, subtree_of, taken_names}
+use Rattle.nf_laws.proofs.Climbs.{among_those, climb_under, climbs_no_further, depth_is, under_climb}
+use Rattle.nf_laws.proofs.Rows.{child_folder, folder_there, found_is, inside_folder, none_above}
 use Rattle.nf_laws.specs.Tree.{DepthIsClimbed, NamesAreTaken, NodesArePresent, RemovalTakesAllUnder, Under, UnderIsDerived, itself, inside}
 use Rattle.nf_words.specs.Changes.{is_among}
-use Rattle.nf_words.specs.Sound.{AreSound, IsNodeSound, IsPlaceSound, root_of_user}
+use Rattle.nf_words.specs.Sound.{AreSound, IsNodeSound, root_of_user}
 
 -- ---- under
 
@@ -48,15 +46,8 @@ under_derived t top sound k d within =
 
 some_number : (t : Tables) (node : ℕ) (row : NodeRow) → AreSound t → node_row t.nodes node ≡ Some row → 1 ≤ node
 some_number t node row sound there =
-    let h = found_has (IsNodeSound t) (λ row. row.id == node) t.nodes row sound.nodes there in
+    let h = found_is (IsNodeSound t) (λ row. row.id == node) t.nodes row sound.nodes there in
     omega (arith, h.1.some, eqb-true row.id node h.0)
-
--- a folder that a place is in is there
-folder_is : (t : Tables) (row : NodeRow) (place : Place) (parent : ℕ)
-    → IsPlaceSound t row place → folder_of place ≡ Some parent → is_folder t.nodes parent ≡ true
-folder_is t row Root parent sound is = absurd (none-some parent is)
-folder_is t row (Inside folder) parent sound is = subst (λ (n : ℕ). is_folder t.nodes n ≡ true) (same_Some folder parent is) sound.0
-folder_is t row Trash parent sound is = absurd sound
 
 -- no climb ends at 0, the number of no node
 climb_ends : (k : ℕ) (t : Tables) (node top : ℕ) → AreSound t → 1 ≤ node → climb t.nodes k node ≡ Some top → 1 ≤ top
@@ -64,8 +55,8 @@ climb_ends zero t node top sound some is = omega (arith, same_Some node top is)
 climb_ends (suc k) t node top sound some is =
     option_and_then_some (climb t.nodes k) (parent_of t.nodes node) top is (λ parent above is.
     option_and_then_some (λ row. folder_of row.place) (node_row t.nodes node) parent above (λ row there place.
-    let h = found_has (IsNodeSound t) (λ row. row.id == node) t.nodes row sound.nodes there in
-    let f = folder_there t.nodes parent (folder_is t row row.place parent h.1.place place) in
+    let h = found_is (IsNodeSound t) (λ row. row.id == node) t.nodes row sound.nodes there in
+    let f = folder_there t.nodes parent (child_folder t row row.place parent h.1.place (inside_folder row.place parent place)) in
     climb_ends k t parent top sound (some_number t parent f.0 sound f.1) is))
 
 pub nodes_present : NodesArePresent
@@ -84,7 +75,7 @@ nodes_present t sound k d within = here (user_row t.users row.owner) refl h.pres
         → is_present t.users t.nodes row.id ≡ true
     here None e is = absurd (omega (arith, climb_ends h.steps t row.id 0 sound h.some is))
     here (Some user) e is =
-        (found_has (λ user. passes user ≡ true → list_any passes t.users ≡ true) (λ user. user.id == row.owner) t.users user
+        (found_is (λ user. passes user ≡ true → list_any passes t.users ≡ true) (λ user. user.id == row.owner) t.users user
         (λ k d within is. list_any_at passes t.users k d within is) e).1
         (climb_under h.steps t.nodes row.id user.root h.shallow is)
 
@@ -103,29 +94,17 @@ names_taken (x ∷ rows) folder name = here (is_in folder x) (bytes_eq x.name na
 
 -- ---- depth
 
--- the depth of a node that climbs to one in no folder
-depth_steps : (k m : ℕ) (rows : List NodeRow) (node root : ℕ) → parent_of rows root ≡ None → k ≤ m → climb rows k node ≡ Some root
-    → depth_within m rows node ≡ k
-unfolding depth_within
-depth_steps zero zero rows node root ends few is = refl
-depth_steps zero (suc m) rows node root ends few is = rw (same_Some node root is, ends)
-depth_steps (suc k) zero rows node root ends few is = absurd (omega arith)
-depth_steps (suc k) (suc m) rows node root ends few is =
-    option_and_then_some (climb rows k) (parent_of rows node) root is
-    (λ parent above is. rw above (omega (arith, depth_steps k m rows parent root ends (omega arith) is)))
-
 pub depth_climbed : DepthIsClimbed
-unfolding depth
 depth_climbed t sound k d within =
     let row : NodeRow = get_or t.nodes k d in
     let h : IsNodeSound t row = sound.nodes k d within in
-    let e = depth_steps h.steps 64 t.nodes row.id (root_of_user t row.owner) (none_above t row.owner sound) h.shallow h.present in
+    let e = depth_is h.steps t.nodes row.id (root_of_user t row.owner) (none_above t row.owner sound) h.shallow h.present in
     (rw e h.present, omega (arith, e, h.shallow))
 
 -- ---- what is removed
 
 -- each row is among them by its number
-row_there : (rows : List NodeRow) → All (λ (row : NodeRow). is_some (node_row rows row.id) ≡ true) rows
+pub row_there : (rows : List NodeRow) → All (λ (row : NodeRow). is_some (node_row rows row.id) ≡ true) rows
 row_there [] k d within = absurd (omega arith)
 row_there (x ∷ rows) zero d within = rw (eq-eqb x.id x.id refl)
 row_there (x ∷ rows) (suc k) d within = here (x.id == (get_or rows k d).id) refl (row_there rows k d (omega arith))
@@ -147,6 +126,6 @@ filter_alike p q (x ∷ rows) alike =
     here false e same rest = simp (same, e) rest
 
 pub removal_takes : RemovalTakesAllUnder
-removal_takes t now top =
+removal_takes t top =
     filter_alike (λ row. not (is_among (subtree_of t.nodes top) row.id)) (λ row. not (is_under t.nodes row.id top)) t.nodes
     (λ k d within. ap not (rw (row_there t.nodes k d within) at (among_those (λ n. is_under t.nodes n top) t.nodes (get_or t.nodes k d).id)))

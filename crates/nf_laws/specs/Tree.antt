@@ -37,5 +37,5 @@ DepthIsClimbed =
 -- a removal leaves the nodes that aren't under its top, and no other
 abbrev pub RemovalTakesAllUnder : Type 0
 RemovalTakesAllUnder =
-    (t : Tables) (now top : ℕ)
-    → (removed t now (subtree_of t.nodes top)).nodes ≡ filter (λ row. not (is_under t.nodes row.id top)) t.nodes
+    (t : Tables) (top : ℕ)
+    → (removed t (subtree_of t.nodes top)).nodes ≡ filter (λ row. not (is_under t.nodes row.id top)) t.nodes

@@ -4,18 +4,21 @@ use Rattle.std.specs.Prelude.{map, ◌||◌, IfOk, MatchResult}
 use Rattle.std.specs.List.{flat_map, AllByRecursion}
 use Rattle.std.specs.Int.{w16, w32, w64, to_be_bytes}
 use Rattle.std.proofs.lemmas.List.Concat.{flat_map-cons}
+use Rattle.nf_base.specs.declared.changes.RowKey.{RowKey}
+use Rattle.nf_base.specs.declared.changes.RowKey.TheVariants as keys
 use Rattle.nf_base.specs.declared.rows.Row.{Row}
 use Rattle.nf_base.specs.declared.rows.Row.TheVariants as rows
 use Rattle.nf_rows.specs.declared.fault.RowFault.{RowFault}
 use Rattle.nf_rows.specs.declared.fault.RowFault.TheVariants as faults
-use Rattle.nf_rows.specs.Fields.{Field, Fields, table, meta_fields, user_fields, token_fields, group_fields, member_fields, node_fields, share_fields, mount_fields, version_fields, item_fields, upload_fields, chunk_fields}
+use Rattle.nf_rows.specs.declared.parts.TheConstants.{FORMAT}
+use Rattle.nf_rows.specs.Fields.{Field, field_of, key_fields, body_fields}
 use Rattle.nf_rows.specs.Fields as fields
-use Rattle.nf_rows.specs.Spelling.{Value, Valued, Raw, field_of, spelled, FitsValue, values_of, spelling_of, Fits}
+use Rattle.nf_rows.specs.Spelling.{Value, Valued, Keyed, Raw, AreFit, spelled, FitsValue, FitsKey, kind_of, key_values, body_values, values_of, key_spelling, spelling_of, Fits}
 use Rattle.nf_rows.specs.Spelling as values
-use Rattle.nf_rows.specs.Faults.{◌>>=◌, Gives, as_value, value_at, values_at, row_at, reading}
+use Rattle.nf_rows.specs.Faults.{◌>>=◌, Gives, as_value, format_at, value_at, values_at, row_at, reading}
 use Rattle.nf_rows.proofs.Front.{IsBytes, bind_ok, before_ok, ok_is, Takes, IsPart, bytes_part, part16, part32, part64}
-use Rattle.nf_rows.proofs.OneRow.{same_row}
-use Rattle.nf_rows.proofs.Laws.{name_part, path_part, place_part, share_kind_part, optional_part, flag_part, permissions_part, format_part, content_part, what_part}
+use Rattle.nf_rows.proofs.OneRow.{same_key, same_row}
+use Rattle.nf_rows.proofs.FieldLaws.{name_part, path_part, place_part, share_kind_part, optional_part, flag_part, permissions_part, format_takes, format_again, content_part, what_part}
 
 abbrev TakesValue : List ℕ → Value × List ℕ → Type 0
 TakesValue bytes v = Takes bytes (spelled v.0) v.1 × FitsValue v.0
@@ -31,7 +34,6 @@ value_takes_by text Fit read part view same as_fits bytes v fits e =
 
 value_takes : (f : Field) (end : ℕ) (bytes : List ℕ) (v : Value × List ℕ) → IsBytes bytes → value_at f end bytes ≡ Ok v → TakesValue bytes v
 unfolding value_at spelled
-value_takes fields.Format end bytes v fits e = value_takes_by _ _ _ (format_part (end - length bytes)) (λ _. values.Format) (λ x. refl) (λ x fit. tt) bytes v fits e
 value_takes fields.U16 end bytes v fits e = value_takes_by _ _ _ (part16 (end - length bytes)) values.U16 (λ x. refl) (λ x fit. fit) bytes v fits e
 value_takes fields.U32 end bytes v fits e = value_takes_by _ _ _ (part32 (end - length bytes)) values.U32 (λ x. refl) (λ x fit. fit) bytes v fits e
 value_takes fields.U64 end bytes v fits e = value_takes_by _ _ _ (part64 (end - length bytes)) values.U64 (λ x. refl) (λ x fit. fit) bytes v fits e
@@ -51,7 +53,6 @@ value_again_by text Fit read part view x rest fit = rw (part.again x rest fit) r
 
 value_again : (v : Value) (end : ℕ) (rest : List ℕ) → FitsValue v → value_at (field_of v) end (spelled v ++ rest) ≡ Ok (v, rest)
 unfolding value_at spelled
-value_again values.Format end rest fit = value_again_by _ _ _ (format_part (end - length (1 ∷ rest))) (λ _. values.Format) tt rest tt
 value_again (values.U16 n) end rest fit = value_again_by _ _ _ (part16 (end - length (to_be_bytes w16 n ++ rest))) values.U16 n rest fit
 value_again (values.U32 n) end rest fit = value_again_by _ _ _ (part32 (end - length (to_be_bytes w32 n ++ rest))) values.U32 n rest fit
 value_again (values.U64 n) end rest fit = value_again_by _ _ _ (part64 (end - length (to_be_bytes w64 n ++ rest))) values.U64 n rest fit
@@ -79,7 +80,7 @@ values_take (f ∷ fs) end bytes vs fits e =
     let both : bytes ≡ flat_map spelled (a.0.0 ∷ b.0) = first.0.parts ∙ ap (λ (t : List ℕ). spelled a.0.0 ++ t) second.0 ∙ sym (flat_map-cons spelled a.0.0 b.0) in
     subst (λ (ws : List Value). (bytes ≡ flat_map spelled ws) × AllByRecursion FitsValue ws) (ok_is (a.0.0 ∷ b.0) vs b.2) (both, (first.1, second.1))
 
-values_again : (vs : List Value) (end : ℕ) → AllByRecursion FitsValue vs → values_at (map field_of vs) end (flat_map spelled vs) ≡ Ok vs
+pub values_again : (vs : List Value) (end : ℕ) → AllByRecursion FitsValue vs → values_at (map field_of vs) end (flat_map spelled vs) ≡ Ok vs
 values_again [] end fits = refl
 values_again (v ∷ vs) end fits =
     ap (values_at (field_of v ∷ map field_of vs) end) (flat_map-cons spelled v vs)
@@ -87,57 +88,67 @@ values_again (v ∷ vs) end fits =
 
 -- Of rows:
 
-row_takes : (kind : ℕ) (of : Fields) (key body : List ℕ) (v : Valued) → IsBytes key → IsBytes body → row_at kind of key body ≡ Ok v
-    → (v.kind ≡ kind) × (key ≡ flat_map spelled v.key) × (body ≡ flat_map spelled v.body) × AllByRecursion FitsValue v.key × AllByRecursion FitsValue v.body
-row_takes kind of key body v key_fits body_fits e =
-    let a = bind_ok (values_at of.key (length key) key) (λ keys. values_at of.body (length key + length body) body >>= λ bodies. Ok (record { kind = kind; key = keys; body = bodies })) v e in
-    let b = bind_ok (values_at of.body (length key + length body) body) (λ bodies. Ok (record { kind = kind; key = a.0; body = bodies })) v a.2 in
-    let k = values_take of.key (length key) key a.0 key_fits a.1 in
-    let t = values_take of.body (length key + length body) body b.0 body_fits b.1 in
-    let made : Valued = record { kind = kind; key = a.0; body = b.0 } in
-    subst (λ (w : Valued). (w.kind ≡ kind) × (key ≡ flat_map spelled w.key) × (body ≡ flat_map spelled w.body) × AllByRecursion FitsValue w.key × AllByRecursion FitsValue w.body)
-    (ok_is made v b.2) (refl, k.0, t.0, k.1, t.1)
+behind_format : (bytes rest text : List ℕ) → bytes ≡ FORMAT ∷ rest → rest ≡ text → bytes ≡ FORMAT ∷ text
+behind_format bytes rest text parts same = parts ∙ ap (λ (t : List ℕ). FORMAT ∷ t) same
 
-pub found : (kind : ℕ) (key body : List ℕ) (row : Row) → IsBytes key → IsBytes body → reading kind key body ≡ Ok (values_of row) → Fits row × (spelling_of row ≡ record { kind = kind; key = key; body = body })
+row_takes : (kind : ℕ) (key body : List ℕ) (v : Valued) → IsBytes key → IsBytes body → row_at kind key body ≡ Ok v
+    → (v.kind ≡ kind) × (key ≡ flat_map spelled v.key) × (body ≡ FORMAT ∷ flat_map spelled v.body) × AreFit v.key × AreFit v.body
+row_takes kind key body v key_fits body_fits e =
+    let a = bind_ok (values_at (key_fields kind) (length key) key) (λ keys. format_at (length key) body >>= λ format. values_at (body_fields format.0 kind) (length key + length body) format.1 >>= λ bodies. Ok (record { kind = kind; key = keys; format = format.0; body = bodies })) v e in
+    let f = bind_ok (format_at (length key) body) (λ format. values_at (body_fields format.0 kind) (length key + length body) format.1 >>= λ bodies. Ok (record { kind = kind; key = a.0; format = format.0; body = bodies })) v a.2 in
+    let b = bind_ok (values_at (body_fields f.0.0 kind) (length key + length body) f.0.1) (λ bodies. Ok (record { kind = kind; key = a.0; format = f.0.0; body = bodies })) v f.2 in
+    let k = values_take (key_fields kind) (length key) key a.0 key_fits a.1 in
+    let format = format_takes (length key) body f.0 body_fits f.1 in
+    let t = values_take (body_fields f.0.0 kind) (length key + length body) f.0.1 b.0 format.0.rest_fits b.1 in
+    let made : Valued = record { kind = kind; key = a.0; format = f.0.0; body = b.0 } in
+    subst (λ (w : Valued). (w.kind ≡ kind) × (key ≡ flat_map spelled w.key) × (body ≡ FORMAT ∷ flat_map spelled w.body) × AreFit w.key × AreFit w.body) {x = made} {y = v}
+    (ok_is made v b.2) (refl, k.0, behind_format body f.0.1 (flat_map spelled b.0) format.0.parts t.0, k.1, t.1)
+
+pub found : (kind : ℕ) (key body : List ℕ) (row : Row) → IsBytes key → IsBytes body → reading kind key body ≡ Ok (values_of FORMAT row) → Fits row × (spelling_of row ≡ record { kind = kind; key = key; body = body })
 found kind key body row key_fits body_fits e =
-    let g = before_ok (ltb kind 1 || ltb 12 kind) faults.Kind (row_at kind (table kind) key body) (values_of row) e in
-    let t = row_takes kind (table kind) key body (values_of row) key_fits body_fits g.1 in
+    let g = before_ok (ltb kind 1 || ltb 12 kind) faults.Kind (row_at kind key body) (values_of FORMAT row) e in
+    let t = row_takes kind key body (values_of FORMAT row) key_fits body_fits g.1 in
     let same : spelling_of row ≡ record { kind = kind; key = key; body = body } = rw (t.1, t.2, ← t.0) refl in
     (record { key = t.3; body = t.4 }, same)
 
-row_again : (kind : ℕ) (keys bodies : List Value) → AllByRecursion FitsValue keys → AllByRecursion FitsValue bodies
-    → row_at kind (record { key = map field_of keys; body = map field_of bodies }) (flat_map spelled keys) (flat_map spelled bodies) ≡ Ok (record { kind = kind; key = keys; body = bodies })
-row_again kind keys bodies key_fits body_fits = rw (values_again keys (length (flat_map spelled keys)) key_fits, values_again bodies (length (flat_map spelled keys) + length (flat_map spelled bodies)) body_fits) refl
+row_again : (kind : ℕ) (keys bodies : List Value) → key_fields kind ≡ map field_of keys → body_fields FORMAT kind ≡ map field_of bodies → AreFit keys → AreFit bodies
+    → row_at kind (flat_map spelled keys) (FORMAT ∷ flat_map spelled bodies) ≡ Ok (record { kind = kind; key = keys; format = FORMAT; body = bodies })
+row_again kind keys bodies of_key of_body key_fits body_fits =
+    rw (of_key, values_again keys (length (flat_map spelled keys)) key_fits, format_again (length (flat_map spelled keys)) (flat_map spelled bodies), of_body, values_again bodies (length (flat_map spelled keys) + length (FORMAT ∷ flat_map spelled bodies)) body_fits) refl
 
-pub read_again : (row : Row) → Fits row → reading (spelling_of row).kind (spelling_of row).key (spelling_of row).body ≡ Ok (values_of row)
-read_again (rows.Meta r) fits = row_again 1 (values_of (rows.Meta r)).key (values_of (rows.Meta r)).body fits.key fits.body
-read_again (rows.User r) fits = row_again 2 (values_of (rows.User r)).key (values_of (rows.User r)).body fits.key fits.body
-read_again (rows.Token r) fits = row_again 3 (values_of (rows.Token r)).key (values_of (rows.Token r)).body fits.key fits.body
-read_again (rows.Group r) fits = row_again 4 (values_of (rows.Group r)).key (values_of (rows.Group r)).body fits.key fits.body
-read_again (rows.Member r) fits = row_again 5 (values_of (rows.Member r)).key (values_of (rows.Member r)).body fits.key fits.body
-read_again (rows.Node r) fits = row_again 6 (values_of (rows.Node r)).key (values_of (rows.Node r)).body fits.key fits.body
-read_again (rows.Share r) fits = row_again 7 (values_of (rows.Share r)).key (values_of (rows.Share r)).body fits.key fits.body
-read_again (rows.Mount r) fits = row_again 8 (values_of (rows.Mount r)).key (values_of (rows.Mount r)).body fits.key fits.body
-read_again (rows.Version r) fits = row_again 9 (values_of (rows.Version r)).key (values_of (rows.Version r)).body fits.key fits.body
-read_again (rows.Item r) fits = row_again 10 (values_of (rows.Item r)).key (values_of (rows.Item r)).body fits.key fits.body
-read_again (rows.Upload r) fits = row_again 11 (values_of (rows.Upload r)).key (values_of (rows.Upload r)).body fits.key fits.body
-read_again (rows.Chunk r) fits = row_again 12 (values_of (rows.Chunk r)).key (values_of (rows.Chunk r)).body fits.key fits.body
+of_row : (row : Row) (kind : ℕ) → key_fields kind ≡ map field_of (values_of FORMAT row).key → body_fields FORMAT kind ≡ map field_of (values_of FORMAT row).body → Fits row
+    → row_at kind (flat_map spelled (values_of FORMAT row).key) (FORMAT ∷ flat_map spelled (values_of FORMAT row).body) ≡ Ok (record { kind = kind; key = (values_of FORMAT row).key; format = FORMAT; body = (values_of FORMAT row).body })
+of_row row kind of_key of_body fits = row_again kind (values_of FORMAT row).key (values_of FORMAT row).body of_key of_body fits.key fits.body
+
+pub read_again : (row : Row) → Fits row → reading (spelling_of row).kind (spelling_of row).key (spelling_of row).body ≡ Ok (values_of FORMAT row)
+read_again (rows.Meta r) fits = of_row (rows.Meta r) 1 refl refl fits
+read_again (rows.User r) fits = of_row (rows.User r) 2 refl refl fits
+read_again (rows.Token r) fits = of_row (rows.Token r) 3 refl refl fits
+read_again (rows.Group r) fits = of_row (rows.Group r) 4 refl refl fits
+read_again (rows.Member r) fits = of_row (rows.Member r) 5 refl refl fits
+read_again (rows.Node r) fits = of_row (rows.Node r) 6 refl refl fits
+read_again (rows.Share r) fits = of_row (rows.Share r) 7 refl refl fits
+read_again (rows.Mount r) fits = of_row (rows.Mount r) 8 refl refl fits
+read_again (rows.Version r) fits = of_row (rows.Version r) 9 refl refl fits
+read_again (rows.Item r) fits = of_row (rows.Item r) 10 refl refl fits
+read_again (rows.Upload r) fits = of_row (rows.Upload r) 11 refl refl fits
+read_again (rows.Chunk r) fits = of_row (rows.Chunk r) 12 refl refl fits
 
 -- a reading isn't well and faulty
 given_not : {X : Type 0} {r : Result X RowFault} {x : X} {fault : RowFault} → r ≡ Ok x → r ≡ Err fault → ⊥
 given_not p q = cc
 
-pub is_found : (kind : ℕ) (key body : List ℕ) (r : Result Row RowFault) → IsBytes key → IsBytes body → Gives values_of r (reading kind key body) → IfOk r (λ row. Fits row × (spelling_of row ≡ record { kind = kind; key = key; body = body }))
+pub is_found : (kind : ℕ) (key body : List ℕ) (r : Result Row RowFault) → IsBytes key → IsBytes body → Gives (values_of FORMAT) r (reading kind key body) → IfOk r (λ row. Fits row × (spelling_of row ≡ record { kind = kind; key = key; body = body }))
 is_found kind key body (Ok row) key_fits body_fits given = found kind key body row key_fits body_fits given
 is_found kind key body (Err fault) key_fits body_fits given = tt
 
 -- reading what a row is spelled with gives its values
-spelled_again : (kind : ℕ) (key body : List ℕ) (row : Row) → Fits row → spelling_of row ≡ record { kind = kind; key = key; body = body } → reading kind key body ≡ Ok (values_of row)
-spelled_again kind key body row fits same = subst (λ (raw : Raw). reading raw.kind raw.key raw.body ≡ Ok (values_of row)) same (read_again row fits)
+spelled_again : (kind : ℕ) (key body : List ℕ) (row : Row) → Fits row → spelling_of row ≡ record { kind = kind; key = key; body = body } → reading kind key body ≡ Ok (values_of FORMAT row)
+spelled_again kind key body row fits same = subst (λ (raw : Raw). reading raw.kind raw.key raw.body ≡ Ok (values_of FORMAT row)) same (read_again row fits)
 
-pub is_only : (kind : ℕ) (key body : List ℕ) (r : Result Row RowFault) (row : Row) → Gives values_of r (reading kind key body) → Fits row → spelling_of row ≡ record { kind = kind; key = key; body = body } → MatchResult r (λ read. read ≡ row) (λ fault. fault ≡ faults.Memory)
+pub is_only : (kind : ℕ) (key body : List ℕ) (r : Result Row RowFault) (row : Row) → Gives (values_of FORMAT) r (reading kind key body) → Fits row → spelling_of row ≡ record { kind = kind; key = key; body = body } → MatchResult r (λ read. read ≡ row) (λ fault. fault ≡ faults.Memory)
 is_only kind key body (Ok read) row given fits same =
-    same_row read row (ok_is (values_of read) (values_of row) (sym given ∙ spelled_again kind key body row fits same))
+    same_row read row (ok_is (values_of FORMAT read) (values_of FORMAT row) (sym given ∙ spelled_again kind key body row fits same))
 is_only kind key body (Err faults.Memory) row given fits same = refl
 is_only kind key body (Err faults.Kind) row given fits same = absurd (given_not (spelled_again kind key body row fits same) (given (λ e. cc)))
 is_only kind key body (Err (faults.Short at)) row given fits same = absurd (given_not (spelled_again kind key body row fits same) (given (λ e. cc)))
@@ -147,4 +158,28 @@ is_only kind key body (Err (faults.Value at)) row given fits same = absurd (give
 -- the same bytes are the same row
 pub one_row : (a b : Row) → Fits a → Fits b → spelling_of a ≡ spelling_of b → a ≡ b
 one_row a b a_fits b_fits same =
-    same_row a b (ok_is (values_of a) (values_of b) (sym (read_again a a_fits) ∙ ap (λ (raw : Raw). reading raw.kind raw.key raw.body) same ∙ read_again b b_fits))
+    same_row a b (ok_is (values_of FORMAT a) (values_of FORMAT b) (sym (read_again a a_fits) ∙ ap (λ (raw : Raw). reading raw.kind raw.key raw.body) same ∙ read_again b b_fits))
+
+key_fields_of : (key : RowKey) → key_fields (kind_of key) ≡ map field_of (key_values key)
+key_fields_of keys.Meta = refl
+key_fields_of (keys.User id) = refl
+key_fields_of (keys.Token digest) = refl
+key_fields_of (keys.Group id) = refl
+key_fields_of (keys.Member group user) = refl
+key_fields_of (keys.Node id) = refl
+key_fields_of (keys.Share id) = refl
+key_fields_of (keys.Mount user node) = refl
+key_fields_of (keys.Version node at) = refl
+key_fields_of (keys.Item node) = refl
+key_fields_of (keys.Upload user dir) = refl
+key_fields_of (keys.Chunk user dir number) = refl
+
+-- a key's bytes are read as its values
+key_again : (key : RowKey) → FitsKey key → values_at (key_fields (kind_of key)) 0 (flat_map spelled (key_values key)) ≡ Ok (key_values key)
+key_again key fits = rw key_fields_of (values_again (key_values key) 0 fits)
+
+-- the same bytes are the same key
+pub one_key : (a b : RowKey) → FitsKey a → FitsKey b → key_spelling a ≡ key_spelling b → a ≡ b
+one_key a b a_fits b_fits same =
+    let kinds : kind_of a ≡ kind_of b = ap (λ (key : Keyed). key.kind) same in
+    same_key a b kinds (ok_is (key_values a) (key_values b) (sym (key_again a a_fits) ∙ ap (λ (key : Keyed). values_at (key_fields key.kind) 0 key.bytes) same ∙ key_again b b_fits))

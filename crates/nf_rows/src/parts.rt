@@ -2,18 +2,19 @@
 //!
 //! A part's first argument is the place of its field, for the fault.
 
-ghost use Rattle.std.specs.Prelude.{◌≡◌, ◌≤◌, length, IfOk};
+ghost use Rattle.std.specs.Prelude.{◌≡◌, ◌≤◌, All, length, IfOk};
+ghost use Rattle.nf_base.specs.Kept.{IsSized};
 ghost use Rattle.std.specs.Int.{w16, w32, w64};
 ghost use Rattle.nf_rows.specs.Faults.{Gives, bytes_at, number_at, byte_at, many_at, name_at, path_at, place_at, node_kind_at, share_kind_at, optional_at, flag_at, permissions_at, piece_at, content_at, format_at};
 
 use crate::fault::RowFault;
 use nf_base::{
-    BlobId, Content, Digest, GroupId, Name, NameFault, NodeId, NodeKind, Path, Perms, Piece, Place,
-    ShareKind, UserId,
+    BlobId, Content, Digest, GroupId, MAX_BODY, Name, NameFault, NodeId, NodeKind, Path, Perms,
+    Piece, Place, ShareKind, UserId,
 };
 use std::alloc::Global;
 
-/// The first byte of every body.
+/// The format in which rows are written, and the only one that is read: the first byte of each body.
 pub const FORMAT: u8 = 1;
 
 pub fn bytes_of(at: usize, count: usize, bytes: &[u8]) -> Result<(&[u8], &[u8]), RowFault>
@@ -67,14 +68,15 @@ fn byte_of(at: usize, bytes: &[u8]) -> Result<(u8, &[u8]), RowFault>
 }
 
 #[tactic(auto, unfolding(crate::specs::Faults::format_at))]
-pub fn format_of(at: usize, bytes: &[u8]) -> Result<((), &[u8]), RowFault>
-    ensures { Gives (λ x. (x.0, x.1.now)) result (format_at at bytes.now) }
+pub fn format_of(at: usize, bytes: &[u8]) -> Result<(u8, &[u8]), RowFault>
+    ensures exact { Gives (λ x. (x.0, x.1.now)) result (format_at at bytes.now) }
+    ensures known { IfOk result (λ x. x.0 ≡ FORMAT) }
 {
     let (format, rest) = byte_of(at, bytes)?;
     if format != FORMAT {
         return Err(RowFault::Value { at });
     }
-    Ok(((), rest))
+    Ok((format, rest))
 }
 
 #[tactic(auto, unfolding(crate::specs::Faults::name_at))]
@@ -211,12 +213,13 @@ pub fn permissions_of(at: usize, bytes: &[u8]) -> Result<(Perms, &[u8]), RowFaul
 
 #[tactic(auto, unfolding(crate::specs::Faults::piece_at))]
 fn piece_of(at: usize, bytes: &[u8]) -> Result<(Piece, &[u8]), RowFault>
-    ensures { Gives (λ x. (x.0, x.1.now)) result (piece_at at bytes.now) }
+    ensures exact { Gives (λ x. (x.0, x.1.now)) result (piece_at at bytes.now) }
+    ensures sized { IfOk result (λ x. IsSized x.0) }
 {
     let (blob, rest) = u64_of(at, bytes)?;
     let (size, rest) = u32_of(at, rest)?;
     let (digest, rest) = bytes_of(at, 32, rest)?;
-    if size < 1 || size > 16_777_216 {
+    if size < 1 || u64::from(size) > MAX_BODY {
         return Err(RowFault::Value { at });
     }
     let piece = Piece {
@@ -235,6 +238,7 @@ fn pieces_of(
 ) -> Result<(Vec<Piece>, &[u8]), RowFault>
     ensures exact { Gives (λ x. (x.0.items, x.1.now)) result (many_at (piece_at at) count bytes.now) }
     ensures whole { IfOk result (λ x. length x.0.items ≡ count) }
+    ensures sized { IfOk result (λ x. All IsSized x.0.items) }
 {
     let mut pieces = Vec::new(alloc);
     let mut rest = bytes;
@@ -257,7 +261,8 @@ pub fn content_of(
     at: usize,
     bytes: &[u8],
 ) -> Result<(Content, &[u8]), RowFault>
-    ensures { Gives (λ x. (x.0, x.1.now)) result (content_at most at bytes.now) }
+    ensures exact { Gives (λ x. (x.0, x.1.now)) result (content_at most at bytes.now) }
+    ensures within { IfOk result (λ x. length x.0 ≤ most) }
 {
     let (count, rest) = u16_of(at, bytes)?;
     if count > 10_000 {

@@ -1,6 +1,7 @@
 //! A reader of fields, one after the other.
 
-ghost use Rattle.std.specs.Prelude.{◌≡◌, ◌+◌, ◌-◌, length};
+ghost use Rattle.std.specs.Prelude.{◌≡◌, ◌≤◌, ◌+◌, ◌-◌, IfOk, length};
+ghost use Rattle.nf_base.specs.Kept.{IsPlain};
 ghost use Rattle.nf_rows.specs.Fields as field;
 ghost use Rattle.nf_rows.specs.Spelling as value;
 ghost use Rattle.nf_rows.specs.Reads.{Reads, ReadsAll, BeginsBody};
@@ -36,15 +37,14 @@ impl<'a> Reader<'a> {
 
     /// Behind the body's format.
     pub fn body(alloc: Global, key: &[u8], body: &'a [u8]) -> Result<Self, RowFault>
-        ensures { BeginsBody (length key.now + length body.now) body.now result }
+        ensures { BeginsBody key.now body.now result }
     {
-        let mut reader = Reader {
+        let (_, rest) = format_of(key.len(), body)?;
+        Ok(Reader {
             alloc,
-            rest: body,
+            rest,
             end: key.len() + body.len(),
-        };
-        reader.format()?;
-        Ok(reader)
+        })
     }
 
     /// The place of the next field. No more is left than was there, so nothing saturates.
@@ -63,15 +63,6 @@ impl<'a> Reader<'a> {
         } else {
             Err(RowFault::Long { at: self.at() })
         }
-    }
-
-    #[tactic(auto, unfolding(crate::specs::Faults::value_at))]
-    fn format(&mut self) -> Result<(), RowFault>
-        ensures { Reads field.Format (λ _. value.Format) self.old self.new result }
-    {
-        let (_, rest) = format_of(self.at(), self.rest)?;
-        self.rest = rest;
-        Ok(())
     }
 
     #[tactic(auto, unfolding(crate::specs::Faults::value_at))]
@@ -144,7 +135,8 @@ impl<'a> Reader<'a> {
     /// A node's kind, and its content, which has no piece in a folder.
     #[tactic(auto, unfolding(crate::specs::Faults::value_at, crate::specs::Faults::what_at))]
     pub fn kind_and_content(&mut self) -> Result<(NodeKind, Content), RowFault>
-        ensures { Reads field.What (λ what. value.What what.0 what.1) self.old self.new result }
+        ensures reads { Reads field.What (λ what. value.What what.0 what.1) self.old self.new result }
+        ensures plain { IfOk result (λ what. IsPlain what.0 what.1) }
     {
         let (kind, rest) = node_kind_of(self.at(), self.rest)?;
         self.rest = rest;
@@ -218,7 +210,8 @@ impl<'a> Reader<'a> {
     /// A content of at most so many pieces.
     #[tactic(auto, unfolding(crate::specs::Faults::value_at))]
     pub fn content(&mut self, most: usize) -> Result<Content, RowFault>
-        ensures { Reads (field.Pieces most) (value.Pieces most) self.old self.new result }
+        ensures reads { Reads (field.Pieces most) (value.Pieces most) self.old self.new result }
+        ensures within { IfOk result (λ content. length content ≤ most) }
     {
         let (content, rest) = content_of(self.alloc, most, self.at(), self.rest)?;
         self.rest = rest;

@@ -2,21 +2,23 @@
 
 ghost use Rattle.std.specs.Prelude.{◌≡◌, ◌++◌, ◌∷◌, [], OnOk};
 ghost use Rattle.nf_base.specs.declared.rows.Row.TheVariants as rows;
-ghost use Rattle.nf_rows.specs.Spelling.{Writes, spelled, spelling_of};
+ghost use Rattle.nf_base.specs.Kept.{IsPlain, IsSized};
+ghost use Rattle.nf_rows.specs.Spelling.{AreFit, Fits, FitsContent, FitsKey, FitsPiece, FitsValue, Puts, body_values, key_spelling, key_values, kind_of, spelled, spelling_of};
 ghost use Rattle.nf_rows.specs.Spelling as value;
 
 use crate::parts::FORMAT;
-use crate::raw::RawRow;
+use crate::raw::{RawKey, RawRow};
 use nf_base::{
-    ChunkRow, Content, Digest, GroupRow, ItemRow, MemberRow, MetaRow, Moment, MountRow, Name,
-    NodeKind, NodeRow, Path, Perms, Piece, Place, Row, ShareId, ShareKind, ShareRow, TokenRow,
+    ChunkRow, Content, Digest, GroupRow, ItemRow, MetaRow, Moment, MountRow, Name, NodeKind,
+    NodeRow, Path, Perms, Piece, Place, Row, RowKey, ShareId, ShareKind, ShareRow, TokenRow,
     UploadRow, UserRow, VersionRow,
 };
 use std::alloc::AllocError;
 
 #[tactic(auto, unfolding(crate::specs::Spelling::spelled))]
 fn put_u16(out: &mut Vec<u8>, n: u16) -> Result<(), AllocError>
-    ensures { OnOk result (out.new.items ≡ out.old.items ++ spelled (value.U16 n)) }
+    ensures spelled { OnOk result (out.new.items ≡ out.old.items ++ spelled (value.U16 n)) }
+    ensures fits { OnOk result (FitsValue (value.U16 n)) }
 {
     out.extend_from_slice(&n.to_be_bytes())?;
     Ok(())
@@ -24,7 +26,8 @@ fn put_u16(out: &mut Vec<u8>, n: u16) -> Result<(), AllocError>
 
 #[tactic(auto, unfolding(crate::specs::Spelling::spelled))]
 fn put_u32(out: &mut Vec<u8>, n: u32) -> Result<(), AllocError>
-    ensures { OnOk result (out.new.items ≡ out.old.items ++ spelled (value.U32 n)) }
+    ensures spelled { OnOk result (out.new.items ≡ out.old.items ++ spelled (value.U32 n)) }
+    ensures fits { OnOk result (FitsValue (value.U32 n)) }
 {
     out.extend_from_slice(&n.to_be_bytes())?;
     Ok(())
@@ -32,7 +35,8 @@ fn put_u32(out: &mut Vec<u8>, n: u32) -> Result<(), AllocError>
 
 #[tactic(auto, unfolding(crate::specs::Spelling::spelled))]
 fn put_u64(out: &mut Vec<u8>, n: u64) -> Result<(), AllocError>
-    ensures { OnOk result (out.new.items ≡ out.old.items ++ spelled (value.U64 n)) }
+    ensures spelled { OnOk result (out.new.items ≡ out.old.items ++ spelled (value.U64 n)) }
+    ensures fits { OnOk result (FitsValue (value.U64 n)) }
 {
     out.extend_from_slice(&n.to_be_bytes())?;
     Ok(())
@@ -40,7 +44,8 @@ fn put_u64(out: &mut Vec<u8>, n: u64) -> Result<(), AllocError>
 
 #[tactic(auto, unfolding(crate::specs::Spelling::spelled))]
 fn put_name(out: &mut Vec<u8>, name: &Name) -> Result<(), AllocError>
-    ensures { OnOk result (out.new.items ≡ out.old.items ++ spelled (value.Name name.now)) }
+    ensures spelled { OnOk result (out.new.items ≡ out.old.items ++ spelled (value.Name name.now)) }
+    ensures fits { OnOk result (FitsValue (value.Name name.now)) }
 {
     let bytes = name.as_bytes();
     out.push(bytes.len() as u8)?;
@@ -50,7 +55,8 @@ fn put_name(out: &mut Vec<u8>, name: &Name) -> Result<(), AllocError>
 
 #[tactic(auto, unfolding(crate::specs::Spelling::spelled))]
 fn put_path(out: &mut Vec<u8>, path: &Path) -> Result<(), AllocError>
-    ensures { OnOk result (out.new.items ≡ out.old.items ++ spelled (value.Path path.now)) }
+    ensures spelled { OnOk result (out.new.items ≡ out.old.items ++ spelled (value.Path path.now)) }
+    ensures fits { OnOk result (FitsValue (value.Path path.now)) }
 {
     let names = path.names();
     out.push(names.len() as u8)?;
@@ -62,7 +68,8 @@ fn put_path(out: &mut Vec<u8>, path: &Path) -> Result<(), AllocError>
 
 #[tactic(auto, unfolding(crate::specs::Spelling::spelled))]
 fn put_place(out: &mut Vec<u8>, place: Place) -> Result<(), AllocError>
-    ensures { OnOk result (out.new.items ≡ out.old.items ++ spelled (value.Where place)) }
+    ensures spelled { OnOk result (out.new.items ≡ out.old.items ++ spelled (value.Where place)) }
+    ensures fits { OnOk result (FitsValue (value.Where place)) }
 {
     match place {
         Place::Root => out.push(0)?,
@@ -77,7 +84,8 @@ fn put_place(out: &mut Vec<u8>, place: Place) -> Result<(), AllocError>
 
 #[tactic(auto, unfolding(crate::specs::Spelling::spelled))]
 fn put_share_kind(out: &mut Vec<u8>, kind: &ShareKind) -> Result<(), AllocError>
-    ensures { OnOk result (out.new.items ≡ out.old.items ++ spelled (value.Whom kind.now)) }
+    ensures spelled { OnOk result (out.new.items ≡ out.old.items ++ spelled (value.Whom kind.now)) }
+    ensures fits { OnOk result (FitsValue (value.Whom kind.now)) }
 {
     match kind {
         ShareKind::User(user) => {
@@ -98,7 +106,8 @@ fn put_share_kind(out: &mut Vec<u8>, kind: &ShareKind) -> Result<(), AllocError>
 
 #[tactic(auto, unfolding(crate::specs::Spelling::spelled))]
 fn put_optional(out: &mut Vec<u8>, n: Option<u64>) -> Result<(), AllocError>
-    ensures { OnOk result (out.new.items ≡ out.old.items ++ spelled (value.Optional n)) }
+    ensures spelled { OnOk result (out.new.items ≡ out.old.items ++ spelled (value.Optional n)) }
+    ensures fits { OnOk result (FitsValue (value.Optional n)) }
 {
     match n {
         None => out.push(0)?,
@@ -112,7 +121,8 @@ fn put_optional(out: &mut Vec<u8>, n: Option<u64>) -> Result<(), AllocError>
 
 #[tactic(auto, unfolding(crate::specs::Spelling::spelled))]
 fn put_flag(out: &mut Vec<u8>, flag: bool) -> Result<(), AllocError>
-    ensures { OnOk result (out.new.items ≡ out.old.items ++ spelled (value.Flag flag)) }
+    ensures spelled { OnOk result (out.new.items ≡ out.old.items ++ spelled (value.Flag flag)) }
+    ensures fits { OnOk result (FitsValue (value.Flag flag)) }
 {
     if flag {
         out.push(1)?;
@@ -124,7 +134,9 @@ fn put_flag(out: &mut Vec<u8>, flag: bool) -> Result<(), AllocError>
 
 #[tactic(auto, unfolding(crate::specs::Spelling::spelled))]
 fn put_piece(out: &mut Vec<u8>, piece: &Piece) -> Result<(), AllocError>
-    ensures { OnOk result (out.new.items ≡ out.old.items ++ value.piece piece.now) }
+    requires { IsSized piece.now }
+    ensures spelled { OnOk result (out.new.items ≡ out.old.items ++ value.piece piece.now) }
+    ensures fits { OnOk result (FitsPiece piece.now) }
 {
     put_u64(out, piece.blob.number())?;
     put_u32(out, piece.size)?;
@@ -134,7 +146,8 @@ fn put_piece(out: &mut Vec<u8>, piece: &Piece) -> Result<(), AllocError>
 
 #[tactic(auto, unfolding(crate::specs::Spelling::spelled))]
 fn put_content(out: &mut Vec<u8>, content: &Content) -> Result<(), AllocError>
-    ensures { OnOk result (out.new.items ≡ out.old.items ++ value.content content.now) }
+    ensures spelled { OnOk result (out.new.items ≡ out.old.items ++ value.content content.now) }
+    ensures fits { OnOk result (FitsContent 10000 content.now) }
 {
     let pieces = content.pieces();
     put_u16(out, pieces.len() as u16)?;
@@ -150,7 +163,9 @@ fn put_kind_and_content(
     kind: NodeKind,
     content: &Content,
 ) -> Result<(), AllocError>
-    ensures { OnOk result (out.new.items ≡ out.old.items ++ spelled (value.What kind content.now)) }
+    requires { IsPlain kind content.now }
+    ensures spelled { OnOk result (out.new.items ≡ out.old.items ++ spelled (value.What kind content.now)) }
+    ensures fits { OnOk result (FitsValue (value.What kind content.now)) }
 {
     match kind {
         NodeKind::Folder => out.push(0)?,
@@ -161,7 +176,8 @@ fn put_kind_and_content(
 
 #[tactic(auto, unfolding(crate::specs::Spelling::spelled))]
 fn put_digest(out: &mut Vec<u8>, digest: &Digest) -> Result<(), AllocError>
-    ensures { OnOk result (out.new.items ≡ out.old.items ++ spelled (value.Digest digest.now)) }
+    ensures spelled { OnOk result (out.new.items ≡ out.old.items ++ spelled (value.Digest digest.now)) }
+    ensures fits { OnOk result (FitsValue (value.Digest digest.now)) }
 {
     out.extend_from_slice(digest.as_bytes())?;
     Ok(())
@@ -169,17 +185,10 @@ fn put_digest(out: &mut Vec<u8>, digest: &Digest) -> Result<(), AllocError>
 
 #[tactic(auto, unfolding(crate::specs::Spelling::spelled))]
 fn put_permissions(out: &mut Vec<u8>, perms: Perms) -> Result<(), AllocError>
-    ensures { OnOk result (out.new.items ≡ out.old.items ++ spelled (value.Permissions perms)) }
+    ensures spelled { OnOk result (out.new.items ≡ out.old.items ++ spelled (value.Permissions perms)) }
+    ensures fits { OnOk result (FitsValue (value.Permissions perms)) }
 {
     out.push(perms.bits())?;
-    Ok(())
-}
-
-#[tactic(auto, unfolding(crate::specs::Spelling::spelled))]
-fn put_format(out: &mut Vec<u8>) -> Result<(), AllocError>
-    ensures { OnOk result (out.new.items ≡ out.old.items ++ spelled value.Format) }
-{
-    out.push(FORMAT)?;
     Ok(())
 }
 
@@ -201,188 +210,216 @@ fn seconds(moment: Option<Moment>) -> Option<u64>
     }
 }
 
-fn put_meta(row: &MetaRow, key: &mut Vec<u8>, body: &mut Vec<u8>) -> Result<(), AllocError>
-    ensures { OnOk result (Writes (rows.Meta row.now) key.old.items body.old.items key.new.items body.new.items) }
+/// Puts the fields of a key, which are the row's first.
+fn put_key(key: &RowKey, out: &mut Vec<u8>) -> Result<(), AllocError>
+    ensures puts { OnOk result (Puts (key_values key.now) out.old.items out.new.items) }
+    ensures fits { OnOk result (FitsKey key.now) }
 {
-    put_format(body)?;
-    put_u32(body, row.next_user.number())?;
-    put_u32(body, row.next_group.number())?;
-    put_u64(body, row.next_node.number())?;
-    put_u64(body, row.next_share.number())?;
-    put_u64(body, row.next_blob.number())?;
-    put_u64(body, row.last.seconds())?;
+    match key {
+        RowKey::Meta => Ok(()),
+        RowKey::User(id) => put_u32(out, id.number()),
+        RowKey::Token(digest) => put_digest(out, digest),
+        RowKey::Group(id) => put_u32(out, id.number()),
+        RowKey::Member { group, user } => {
+            put_u32(out, group.number())?;
+            put_u32(out, user.number())
+        }
+        RowKey::Node(id) => put_u64(out, id.number()),
+        RowKey::Share(id) => put_u64(out, id.number()),
+        RowKey::Mount { user, node } => {
+            put_u32(out, user.number())?;
+            put_u64(out, node.number())
+        }
+        RowKey::Version { node, at } => {
+            put_u64(out, node.number())?;
+            put_u64(out, at.seconds())
+        }
+        RowKey::Item(node) => put_u64(out, node.number()),
+        RowKey::Upload { user, dir } => {
+            put_u32(out, user.number())?;
+            put_name(out, dir)
+        }
+        RowKey::Chunk { user, dir, number } => {
+            put_u32(out, user.number())?;
+            put_name(out, dir)?;
+            put_u16(out, *number)
+        }
+    }
+}
+
+fn put_meta(row: &MetaRow, out: &mut Vec<u8>) -> Result<(), AllocError>
+    ensures puts { OnOk result (Puts (body_values FORMAT (rows.Meta row.now)) out.old.items out.new.items) }
+    ensures fits { OnOk result (AreFit (body_values FORMAT (rows.Meta row.now))) }
+{
+    put_u32(out, row.next_user.number())?;
+    put_u32(out, row.next_group.number())?;
+    put_u64(out, row.next_node.number())?;
+    put_u64(out, row.next_share.number())?;
+    put_u64(out, row.next_blob.number())?;
+    put_u64(out, row.last.seconds())?;
     Ok(())
 }
 
-fn put_user(row: &UserRow, key: &mut Vec<u8>, body: &mut Vec<u8>) -> Result<(), AllocError>
-    ensures { OnOk result (Writes (rows.User row.now) key.old.items body.old.items key.new.items body.new.items) }
+fn put_user(row: &UserRow, out: &mut Vec<u8>) -> Result<(), AllocError>
+    ensures puts { OnOk result (Puts (body_values FORMAT (rows.User row.now)) out.old.items out.new.items) }
+    ensures fits { OnOk result (AreFit (body_values FORMAT (rows.User row.now))) }
 {
-    put_format(body)?;
-    put_u32(key, row.id.number())?;
-    put_name(body, &row.name)?;
-    put_u64(body, row.quota)?;
-    put_u64(body, row.root.number())?;
+    put_name(out, &row.name)?;
+    put_u64(out, row.quota)?;
+    put_u64(out, row.root.number())?;
     Ok(())
 }
 
-fn put_token(row: &TokenRow, key: &mut Vec<u8>, body: &mut Vec<u8>) -> Result<(), AllocError>
-    ensures { OnOk result (Writes (rows.Token row.now) key.old.items body.old.items key.new.items body.new.items) }
+fn put_token(row: &TokenRow, out: &mut Vec<u8>) -> Result<(), AllocError>
+    ensures puts { OnOk result (Puts (body_values FORMAT (rows.Token row.now)) out.old.items out.new.items) }
+    ensures fits { OnOk result (AreFit (body_values FORMAT (rows.Token row.now))) }
 {
-    put_format(body)?;
-    put_digest(key, &row.digest)?;
-    put_u32(body, row.user.number())?;
+    put_u32(out, row.user.number())?;
     Ok(())
 }
 
-fn put_group(row: &GroupRow, key: &mut Vec<u8>, body: &mut Vec<u8>) -> Result<(), AllocError>
-    ensures { OnOk result (Writes (rows.Group row.now) key.old.items body.old.items key.new.items body.new.items) }
+fn put_group(row: &GroupRow, out: &mut Vec<u8>) -> Result<(), AllocError>
+    ensures puts { OnOk result (Puts (body_values FORMAT (rows.Group row.now)) out.old.items out.new.items) }
+    ensures fits { OnOk result (AreFit (body_values FORMAT (rows.Group row.now))) }
 {
-    put_format(body)?;
-    put_u32(key, row.id.number())?;
-    put_name(body, &row.name)?;
+    put_name(out, &row.name)?;
     Ok(())
 }
 
-fn put_member(row: &MemberRow, key: &mut Vec<u8>, body: &mut Vec<u8>) -> Result<(), AllocError>
-    ensures { OnOk result (Writes (rows.Member row.now) key.old.items body.old.items key.new.items body.new.items) }
+fn put_node(row: &NodeRow, out: &mut Vec<u8>) -> Result<(), AllocError>
+    ensures puts { OnOk result (Puts (body_values FORMAT (rows.Node row.now)) out.old.items out.new.items) }
+    ensures fits { OnOk result (AreFit (body_values FORMAT (rows.Node row.now))) }
 {
-    put_format(body)?;
-    put_u32(key, row.group.number())?;
-    put_u32(key, row.user.number())?;
+    put_u32(out, row.owner.number())?;
+    put_place(out, row.place)?;
+    put_name(out, &row.name)?;
+    put_kind_and_content(out, row.kind, &row.content)?;
+    put_u64(out, row.changed.seconds())?;
     Ok(())
 }
 
-fn put_node(row: &NodeRow, key: &mut Vec<u8>, body: &mut Vec<u8>) -> Result<(), AllocError>
-    ensures { OnOk result (Writes (rows.Node row.now) key.old.items body.old.items key.new.items body.new.items) }
+fn put_share(row: &ShareRow, out: &mut Vec<u8>) -> Result<(), AllocError>
+    ensures puts { OnOk result (Puts (body_values FORMAT (rows.Share row.now)) out.old.items out.new.items) }
+    ensures fits { OnOk result (AreFit (body_values FORMAT (rows.Share row.now))) }
 {
-    put_format(body)?;
-    put_u64(key, row.id.number())?;
-    put_u32(body, row.owner.number())?;
-    put_place(body, row.place)?;
-    put_name(body, &row.name)?;
-    put_kind_and_content(body, row.kind, &row.content)?;
-    put_u64(body, row.changed.seconds())?;
+    put_share_kind(out, &row.kind)?;
+    put_u64(out, row.node.number())?;
+    put_u32(out, row.owner.number())?;
+    put_u32(out, row.initiator.number())?;
+    put_optional(out, share_number(row.parent))?;
+    put_permissions(out, row.perms)?;
+    put_optional(out, seconds(row.until))?;
+    put_flag(out, row.ended)?;
+    put_u64(out, row.made.seconds())?;
     Ok(())
 }
 
-fn put_share(row: &ShareRow, key: &mut Vec<u8>, body: &mut Vec<u8>) -> Result<(), AllocError>
-    ensures { OnOk result (Writes (rows.Share row.now) key.old.items body.old.items key.new.items body.new.items) }
+fn put_mount(row: &MountRow, out: &mut Vec<u8>) -> Result<(), AllocError>
+    ensures puts { OnOk result (Puts (body_values FORMAT (rows.Mount row.now)) out.old.items out.new.items) }
+    ensures fits { OnOk result (AreFit (body_values FORMAT (rows.Mount row.now))) }
 {
-    put_format(body)?;
-    put_u64(key, row.id.number())?;
-    put_share_kind(body, &row.kind)?;
-    put_u64(body, row.node.number())?;
-    put_u32(body, row.owner.number())?;
-    put_u32(body, row.initiator.number())?;
-    put_optional(body, share_number(row.parent))?;
-    put_permissions(body, row.perms)?;
-    put_optional(body, seconds(row.until))?;
-    put_flag(body, row.ended)?;
-    put_u64(body, row.made.seconds())?;
-    Ok(())
-}
-
-fn put_mount(row: &MountRow, key: &mut Vec<u8>, body: &mut Vec<u8>) -> Result<(), AllocError>
-    ensures { OnOk result (Writes (rows.Mount row.now) key.old.items body.old.items key.new.items body.new.items) }
-{
-    put_format(body)?;
-    put_u32(key, row.user.number())?;
-    put_u64(key, row.node.number())?;
-    put_name(body, &row.name)?;
-    put_flag(body, row.left)?;
+    put_name(out, &row.name)?;
+    put_flag(out, row.left)?;
     Ok(())
 }
 
 #[tactic(auto, unfolding(crate::specs::Spelling::spelled))]
-fn put_version(row: &VersionRow, key: &mut Vec<u8>, body: &mut Vec<u8>) -> Result<(), AllocError>
-    ensures { OnOk result (Writes (rows.Version row.now) key.old.items body.old.items key.new.items body.new.items) }
+fn put_version(row: &VersionRow, out: &mut Vec<u8>) -> Result<(), AllocError>
+    ensures puts { OnOk result (Puts (body_values FORMAT (rows.Version row.now)) out.old.items out.new.items) }
+    ensures fits { OnOk result (AreFit (body_values FORMAT (rows.Version row.now))) }
 {
-    put_format(body)?;
-    put_u64(key, row.node.number())?;
-    put_u64(key, row.at.seconds())?;
-    put_content(body, &row.content)?;
+    put_content(out, &row.content)?;
     Ok(())
 }
 
-fn put_item(row: &ItemRow, key: &mut Vec<u8>, body: &mut Vec<u8>) -> Result<(), AllocError>
-    ensures { OnOk result (Writes (rows.Item row.now) key.old.items body.old.items key.new.items body.new.items) }
+fn put_item(row: &ItemRow, out: &mut Vec<u8>) -> Result<(), AllocError>
+    ensures puts { OnOk result (Puts (body_values FORMAT (rows.Item row.now)) out.old.items out.new.items) }
+    ensures fits { OnOk result (AreFit (body_values FORMAT (rows.Item row.now))) }
 {
-    put_format(body)?;
-    put_u64(key, row.node.number())?;
-    put_u32(body, row.owner.number())?;
-    put_name(body, &row.name)?;
-    put_u64(body, row.from.number())?;
-    put_u64(body, row.at.seconds())?;
+    put_u32(out, row.owner.number())?;
+    put_name(out, &row.name)?;
+    put_u64(out, row.from.number())?;
+    put_u64(out, row.at.seconds())?;
     Ok(())
 }
 
-fn put_upload(row: &UploadRow, key: &mut Vec<u8>, body: &mut Vec<u8>) -> Result<(), AllocError>
-    ensures { OnOk result (Writes (rows.Upload row.now) key.old.items body.old.items key.new.items body.new.items) }
+fn put_upload(row: &UploadRow, out: &mut Vec<u8>) -> Result<(), AllocError>
+    ensures puts { OnOk result (Puts (body_values FORMAT (rows.Upload row.now)) out.old.items out.new.items) }
+    ensures fits { OnOk result (AreFit (body_values FORMAT (rows.Upload row.now))) }
 {
-    put_format(body)?;
-    put_u32(key, row.user.number())?;
-    put_name(key, &row.dir)?;
-    put_path(body, &row.to)?;
-    put_u64(body, row.touched.seconds())?;
+    put_path(out, &row.to)?;
+    put_u64(out, row.touched.seconds())?;
     Ok(())
 }
 
 #[tactic(auto, unfolding(crate::specs::Spelling::spelled))]
-fn put_chunk(row: &ChunkRow, key: &mut Vec<u8>, body: &mut Vec<u8>) -> Result<(), AllocError>
-    ensures { OnOk result (Writes (rows.Chunk row.now) key.old.items body.old.items key.new.items body.new.items) }
+fn put_chunk(row: &ChunkRow, out: &mut Vec<u8>) -> Result<(), AllocError>
+    ensures puts { OnOk result (Puts (body_values FORMAT (rows.Chunk row.now)) out.old.items out.new.items) }
+    ensures fits { OnOk result (AreFit (body_values FORMAT (rows.Chunk row.now))) }
 {
-    put_format(body)?;
-    put_u32(key, row.user.number())?;
-    put_name(key, &row.dir)?;
-    put_u16(key, row.number)?;
-    put_content(body, &row.content)?;
+    put_content(out, &row.content)?;
     Ok(())
 }
 
-fn put_row(row: &Row, key: &mut Vec<u8>, body: &mut Vec<u8>) -> Result<(), AllocError>
-    ensures { OnOk result (Writes row.now key.old.items body.old.items key.new.items body.new.items) }
+fn put_body(row: &Row, out: &mut Vec<u8>) -> Result<(), AllocError>
+    ensures puts { OnOk result (Puts (body_values FORMAT row.now) out.old.items out.new.items) }
+    ensures fits { OnOk result (AreFit (body_values FORMAT row.now)) }
 {
     match row {
-        Row::Meta(row) => put_meta(row, key, body),
-        Row::User(row) => put_user(row, key, body),
-        Row::Token(row) => put_token(row, key, body),
-        Row::Group(row) => put_group(row, key, body),
-        Row::Member(row) => put_member(row, key, body),
-        Row::Node(row) => put_node(row, key, body),
-        Row::Share(row) => put_share(row, key, body),
-        Row::Mount(row) => put_mount(row, key, body),
-        Row::Version(row) => put_version(row, key, body),
-        Row::Item(row) => put_item(row, key, body),
-        Row::Upload(row) => put_upload(row, key, body),
-        Row::Chunk(row) => put_chunk(row, key, body),
+        Row::Meta(row) => put_meta(row, out),
+        Row::User(row) => put_user(row, out),
+        Row::Token(row) => put_token(row, out),
+        Row::Group(row) => put_group(row, out),
+        Row::Member(_) => Ok(()),
+        Row::Node(row) => put_node(row, out),
+        Row::Share(row) => put_share(row, out),
+        Row::Mount(row) => put_mount(row, out),
+        Row::Version(row) => put_version(row, out),
+        Row::Item(row) => put_item(row, out),
+        Row::Upload(row) => put_upload(row, out),
+        Row::Chunk(row) => put_chunk(row, out),
     }
 }
 
-fn kind_of(row: &Row) -> u8
-    ensures { result ≡ (spelling_of row.now).kind }
+fn number_of(key: &RowKey) -> u8
+    ensures { result ≡ kind_of key.now }
 {
-    match row {
-        Row::Meta(_) => 1,
-        Row::User(_) => 2,
-        Row::Token(_) => 3,
-        Row::Group(_) => 4,
-        Row::Member(_) => 5,
-        Row::Node(_) => 6,
-        Row::Share(_) => 7,
-        Row::Mount(_) => 8,
-        Row::Version(_) => 9,
-        Row::Item(_) => 10,
-        Row::Upload(_) => 11,
-        Row::Chunk(_) => 12,
+    match key {
+        RowKey::Meta => 1,
+        RowKey::User(_) => 2,
+        RowKey::Token(_) => 3,
+        RowKey::Group(_) => 4,
+        RowKey::Member { .. } => 5,
+        RowKey::Node(_) => 6,
+        RowKey::Share(_) => 7,
+        RowKey::Mount { .. } => 8,
+        RowKey::Version { .. } => 9,
+        RowKey::Item(_) => 10,
+        RowKey::Upload { .. } => 11,
+        RowKey::Chunk { .. } => 12,
     }
+}
+
+/// Puts into `out` how the key is spelled, in the place of what it had. For want of memory `out` may hold anything.
+pub fn write_key(key: &RowKey, out: &mut RawKey) -> Result<(), AllocError>
+    ensures spelled { OnOk result (out.new ≡ key_spelling key.now) }
+    ensures fits { OnOk result (FitsKey key.now) }
+{
+    out.kind = number_of(key);
+    out.bytes.clear();
+    put_key(key, &mut out.bytes)
 }
 
 /// Puts into `out` how the row is spelled, in the place of what it had. For want of memory `out` may hold anything.
 pub fn write(row: &Row, out: &mut RawRow) -> Result<(), AllocError>
-    ensures { OnOk result (out.new ≡ spelling_of row.now) }
+    ensures spelled { OnOk result (out.new ≡ spelling_of row.now) }
+    ensures fits { OnOk result (Fits row.now) }
 {
-    out.kind = kind_of(row);
+    let key = row.key()?;
+    out.kind = number_of(&key);
     out.key.clear();
+    put_key(&key, &mut out.key)?;
     out.body.clear();
-    put_row(row, &mut out.key, &mut out.body)
+    out.body.push(FORMAT)?;
+    put_body(row, &mut out.body)
 }

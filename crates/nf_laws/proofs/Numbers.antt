@@ -1,0 +1,67 @@
+-- A node that wasn't there has a number that wasn't given.
+use Rattle.std.proofs.Common.{ℕ, ◌+◌, ◌≡◌, ◌⊎◌, ◌≤◌, true, not, List, [], ◌∷◌, Option, None, inl, inr, ap, arith, le_refl}
+use Rattle.std.specs.Prelude.{is_some}
+use Rattle.std.specs.List.{All}
+use Rattle.std.proofs.lemmas.List.Elements.{All-filter, All-push, All-weaker}
+use Rattle.nf_base.specs.declared.rows.NodeRow.{NodeRow}
+use Rattle.nf_defs.specs.Tables.{Tables}
+use Rattle.nf_defs.specs.Tree.{node_row}
+use Rattle.nf_laws.proofs.Counters.{after_up}
+use Rattle.nf_laws.proofs.Entries.{after_has}
+use Rattle.nf_laws.proofs.Replaced.{numbers_kept}
+use Rattle.nf_laws.proofs.Rows.{stamped_has}
+use Rattle.nf_laws.proofs.Stays.{sound_after}
+use Rattle.nf_laws.proofs.Words.{row_there}
+use Rattle.nf_laws.specs.Numbers.{NumbersAreNew}
+use Rattle.nf_words.proofs.Known.{Known, KnownNew}
+use Rattle.nf_words.specs.Changes.{altered, changed, is_among, told}
+use Rattle.nf_words.specs.History.{IsLegalFrom, after, replay}
+use Rattle.nf_words.specs.Sound.{IsSound}
+use Rattle.nf_words.specs.State.{State}
+use Rattle.nf_words.specs.declared.answer.Allowed.{Allowed}
+use Rattle.nf_words.specs.declared.answer.Allowed.TheVariants as allowed
+use Rattle.nf_words.specs.declared.history.Entry.{Entry}
+
+-- the number of a node that was there first, or one that wasn't given then
+abbrev IsOldOrNew : Tables → ℕ → Type 0
+IsOldOrNew first node = (is_some (node_row first.nodes node) ≡ true) ⊎ (first.meta.next_node ≤ node)
+
+abbrev AreOldOrNew : Tables → Tables → Type 0
+AreOldOrNew first t = All (λ (row : NodeRow). IsOldOrNew first row.id) t.nodes
+
+new_number : (first t : Tables) (now : ℕ) (row : NodeRow) (blob : Option ℕ) → first.meta.next_node ≤ t.meta.next_node
+    → KnownNew t now row blob → IsOldOrNew first row.id
+new_number first t now row blob later known =
+    let id : row.id ≡ t.meta.next_node = ap (λ (r : NodeRow). r.id) known.is_new in inr (omega arith)
+
+numbers_changed : (first t : Tables) (now : ℕ) (who : Option ℕ) (act : Allowed) → first.meta.next_node ≤ t.meta.next_node
+    → AreOldOrNew first t → Known t now who act → AreOldOrNew first (changed t now act)
+numbers_changed first t now who (allowed.Get node content) later all known = all
+numbers_changed first t now who (allowed.Put by key length) later all known = all
+numbers_changed first t now who (allowed.StoreNew row blob) later all known =
+    All-push (λ (row : NodeRow). IsOldOrNew first row.id) t.nodes row all (new_number first t now row blob later known.new)
+numbers_changed first t now who (allowed.StoreOver node content blob) later all known =
+    let act = allowed.StoreOver node content blob in
+    stamped_has (AreOldOrNew first) t (altered t now act) now (told t now act) all
+    (numbers_kept (IsOldOrNew first) t.nodes now node content all)
+numbers_changed first t now who (allowed.Mkcol row) later all known =
+    All-push (λ (row : NodeRow). IsOldOrNew first row.id) t.nodes row all (new_number first t now row None later known.new)
+numbers_changed first t now who (allowed.Delete nodes) later all known =
+    let act = allowed.Delete nodes in
+    stamped_has (AreOldOrNew first) t (altered t now act) now (told t now act) all
+    (All-filter (λ row. not (is_among nodes row.id)) (λ (row : NodeRow). IsOldOrNew first row.id) t.nodes all)
+numbers_changed first t now who allowed.Close later all known = all
+
+numbers_stay : (first : Tables) (n : ℕ) (s : State) (es : List Entry) → IsSound s → IsLegalFrom n s es
+    → first.meta.next_node ≤ s.tables.meta.next_node → AreOldOrNew first s.tables → AreOldOrNew first (replay s es).tables
+numbers_stay first n s [] sound legal later all = all
+numbers_stay first n s (e ∷ es) sound legal later all =
+    numbers_stay first (n + 1) (after s e) es (sound_after n s e sound legal.0) legal.1
+    (omega (arith, later, (after_up s e e.mark).nodes))
+    (after_has (AreOldOrNew first) n s e sound legal.0 all (λ act known. numbers_changed first s.tables e.moment _ act later all known))
+
+pub numbers_new : NumbersAreNew
+numbers_new n s es sound legal =
+    numbers_stay s.tables n s es sound legal (le_refl _)
+    (All-weaker (λ (row : NodeRow). is_some (node_row s.tables.nodes row.id) ≡ true) (λ (row : NodeRow). IsOldOrNew s.tables row.id)
+    (λ row there. inl there) s.tables.nodes (row_there s.tables.nodes))

@@ -1,0 +1,259 @@
+-- Where a path leads: the walk against the derivation, and whose is what it leads to.
+use Rattle.std.proofs.Common.{ℕ, suc, ◌+◌, ◌==◌, ◌≡◌, ◌&&◌, Bool, true, false, List, [], ◌∷◌, Option, None, Some, bytes_eq, find, option_map, if◌then◌else◌, refl, sym, ap, subst, ◌∙◌, ⊎_elim, inl, inr, arith, ◌++◌, ◌⊎◌, ◌<◌, ◌≤◌, drop, get_or, length, take}
+use Rattle.std.specs.List.{AllPairs}
+use Rattle.std.specs.Option.{option_map_or}
+use Rattle.std.proofs.lemmas.Bool.{and_parts, false≢true, eq-eqb, eqb-true}
+use Rattle.std.proofs.Math.Seq.{drop-cons}
+use Rattle.std.proofs.lemmas.List.{append-nil, length-drop, length-take-le, take-append-drop}
+use Rattle.std.proofs.lemmas.Option.{none-some, same_Some}
+use Rattle.std.proofs.lemmas.Slice.Eq.{bytes_eq-Decides}
+use Rattle.nf_base.specs.declared.rows.NodeRow.{NodeRow}
+use Rattle.nf_base.specs.declared.rows.Place.{Place}
+use Rattle.nf_base.specs.declared.rows.Place.TheVariants.{Root, Inside, Trash}
+use Rattle.nf_base.specs.declared.rows.UserRow.{UserRow}
+use Rattle.nf_defs.specs.People.{user_row}
+use Rattle.nf_defs.specs.Tables.{Tables}
+use Rattle.nf_defs.specs.Tree.{Leads, stays, leads_on, child_of, found_from, is_folder, is_in, is_place_in, node_row, onward, owner_of}
+use Rattle.nf_defs.specs.declared.Found.{Found}
+use Rattle.nf_defs.specs.declared.Found.TheVariants.{At, Free, Missing}
+use Rattle.nf_laws.proofs.Climbs.{node_row_each}
+use Rattle.nf_laws.proofs.Rows.{child_owner, found_is}
+use Rattle.nf_laws.specs.Walks.{LeadsNoFurther, LeadsToFree, WalkFollows}
+use Rattle.nf_words.proofs.Known.{KnownPath}
+use Rattle.nf_words.specs.Sound.{AreApart, AreSound, HasRoot, IsNodeSound, IsOwn}
+
+-- ---- a folder's child of a name
+
+inside_of : (folder : ℕ) (place : Place) → is_place_in folder place ≡ true → place ≡ Inside folder
+inside_of folder Root is = absurd (false≢true is)
+inside_of folder (Inside parent) is = ap Inside (eqb-true parent folder is)
+inside_of folder Trash is = absurd (false≢true is)
+
+-- the row of a child
+record IsChild (rows : List NodeRow) (folder : ℕ) (name : List ℕ) (node : ℕ) : Type 0 where
+  row : NodeRow
+  id : row.id ≡ node
+  there : node_row rows row.id ≡ Some row
+  place : row.place ≡ Inside folder
+  named : row.name ≡ name
+
+child_is : (t : Tables) (folder : ℕ) (name : List ℕ) (node : ℕ) → AreSound t → child_of t.nodes folder name ≡ Some node
+    → IsChild t.nodes folder name node
+child_is t folder name node sound is = here (find test t.nodes) refl is
+  where
+    test : NodeRow → Bool
+    test row = is_in folder row && bytes_eq row.name name
+
+    here : (o : Option NodeRow) → find test t.nodes ≡ o → option_map (λ row. row.id) o ≡ Some node → IsChild t.nodes folder name node
+    here None e is = absurd (none-some node is)
+    here (Some row) e is =
+        let h = found_is (λ (row : NodeRow). node_row t.nodes row.id ≡ Some row) test t.nodes row (node_row_each t.nodes sound.rising) e in
+        let passes = and_parts (is_in folder row) (bytes_eq row.name name) h.0 in
+        record {
+          row = row;
+          id = same_Some row.id node is;
+          there = h.1;
+          place = inside_of folder row.place passes.0;
+          named = (bytes_eq-Decides row.name name).0 passes.1;
+        }
+
+-- a row in a folder is its child of the row's name, since no other has that name
+child_there : (rows : List NodeRow) (folder : ℕ) (row : NodeRow) → AllPairs AreApart rows
+    → node_row rows row.id ≡ Some row → row.place ≡ Inside folder → child_of rows folder row.name ≡ Some row.id
+child_there [] folder row apart there place = absurd (none-some row there)
+child_there (x ∷ rows) folder row apart there place =
+    here (x.id == row.id) (is_in folder x) (bytes_eq x.name row.name) refl refl refl there
+    (λ there. child_there rows folder row (λ i j d before within. apart (suc i) (suc j) d (omega arith) (omega arith)) there place)
+  where
+    is_child : is_in folder row ≡ true
+    is_child = ap (is_place_in folder) place ∙ eq-eqb folder folder refl
+
+    apart_of : node_row rows row.id ≡ Some row → x.place ≡ Inside folder → x.name ≡ row.name → ⊥
+    apart_of there at named =
+        (found_is (λ (other : NodeRow). AreApart x other) (λ other. other.id == row.id) rows row
+        (λ k d within. apart 0 (suc k) d (omega arith) (omega arith)) there).1 folder at place named
+
+    here : (a b c : Bool) → (x.id == row.id) ≡ a → is_in folder x ≡ b → bytes_eq x.name row.name ≡ c
+        → node_row (x ∷ rows) row.id ≡ Some row → (node_row rows row.id ≡ Some row → child_of rows folder row.name ≡ Some row.id)
+        → child_of (x ∷ rows) folder row.name ≡ Some row.id
+    here true b c e f g there rest =
+        let same : x ≡ row = same_Some x row (simp e at there) in
+        let first : is_in folder x ≡ true = ap (is_in folder) same ∙ is_child in
+        let second : bytes_eq x.name row.name ≡ true = (bytes_eq-Decides x.name row.name).1 (ap (λ (r : NodeRow). r.name) same) in
+        simp (first, second) (ap (λ (r : NodeRow). Some r.id) same)
+    here false true true e f g there rest =
+        absurd (apart_of (simp e at there) (inside_of folder x.place f) ((bytes_eq-Decides x.name row.name).0 g))
+    here false true false e f g there rest = simp (f, g) (rest (simp e at there))
+    here false false c e f g there rest = simp f (rest (simp e at there))
+
+-- ---- the walk
+
+-- what the walk's answer says
+abbrev Means : Tables → ℕ → ℕ → List (List ℕ) → Found → Type 0
+Means t before from names (At node) = Leads t.nodes from names node
+Means t before from names (Free folder) = LeadsToFree t.nodes from names folder
+Means t before from names (Missing depth) = (more : ℕ) × (depth ≡ before + more) × LeadsNoFurther t.nodes from names more
+
+-- so does the answer of a walk from a folder that has a child of the first name, whose answer is the child's
+further : (t : Tables) (before from : ℕ) (name : List ℕ) (names : List (List ℕ)) (child : ℕ) (found : Found)
+    → is_folder t.nodes from ≡ true → IsChild t.nodes from name child
+    → Means t (before + 1) child names found → Means t before from (name ∷ names) found
+further t before from name names child (At node) folds is led =
+    leads_on from name names is.row node folds is.there is.place is.named (subst (λ (n : ℕ). Leads t.nodes n names node) (sym is.id) led)
+further t before from name names child (Free folder) folds is free = record {
+  front = name ∷ free.front;
+  last = free.last;
+  parts = ap (λ (rest : List (List ℕ)). name ∷ rest) free.parts;
+  led = leads_on from name free.front is.row folder folds is.there is.place is.named
+      (subst (λ (n : ℕ). Leads t.nodes n free.front folder) (sym is.id) free.led);
+  there = free.there;
+  free = free.free;
+}
+further t before from name names child (Missing depth) folds is (more, counted, stuck) = (
+  suc more,
+  omega arith,
+  record {
+    node = stuck.node;
+    within = omega (arith, stuck.within);
+    led = leads_on from name _ is.row stuck.node folds is.there is.place is.named
+        (subst (λ (n : ℕ). Leads t.nodes n _ stuck.node) (sym is.id) stuck.led);
+    stuck = ⊎_elim (λ no_folder. inl no_folder) (λ none. inr (none.0, omega (arith, none.1))) stuck.stuck;
+  },
+)
+
+walk : (t : Tables) (before from : ℕ) (names : List (List ℕ)) → AreSound t → Means t before from names (found_from t.nodes before from names)
+walk t before from [] sound = stays from
+walk t before from (name ∷ names) sound =
+    here (is_folder t.nodes from) (child_of t.nodes from name) names refl refl (λ child. walk t (before + 1) child names sound)
+  where
+    here : (folds : Bool) (child : Option ℕ) (names : List (List ℕ)) → is_folder t.nodes from ≡ folds → child_of t.nodes from name ≡ child
+        → ((child : ℕ) → Means t (before + 1) child names (found_from t.nodes (before + 1) child names))
+        → Means t before from (name ∷ names)
+        (if folds then onward before from names child (λ child. found_from t.nodes (before + 1) child names) else Missing before)
+    here false child names folds is rest = (0, omega arith, record { node = from; within = omega arith; led = stays from; stuck = inl folds })
+    here true None [] folds is rest = record { front = []; last = name; parts = refl; led = stays from; there = folds; free = is }
+    here true None (n ∷ names) folds is rest =
+        (0, omega arith, record { node = from; within = omega arith; led = stays from; stuck = inr (is, omega arith) })
+    here true (Some child) names folds is rest =
+        further t before from name names child (found_from t.nodes (before + 1) child names) folds (child_is t from name child sound is) (rest child)
+
+-- a walk goes on from where its first names lead
+walks_on : (t : Tables) (before from : ℕ) (front rest : List (List ℕ)) (node : ℕ) → AreSound t → Leads t.nodes from front node
+    → found_from t.nodes before from (front ++ rest) ≡ found_from t.nodes (before + length front) node rest
+walks_on t before _ _ rest _ sound (stays at) =
+    let same : before ≡ before + 0 = omega arith in ap (λ (n : ℕ). found_from t.nodes n at rest) same
+walks_on t before _ _ rest _ sound (leads_on at name names child node folds there place named led) =
+    let is : child_of t.nodes at name ≡ Some child.id =
+    subst (λ (n : List ℕ). child_of t.nodes at n ≡ Some child.id) named (child_there t.nodes at child sound.names there place) in
+    let same : before + 1 + length names ≡ before + length (name ∷ names) = omega arith in
+    rw (folds, is) (walks_on t (before + 1) child.id names rest node sound led ∙ ap (λ (n : ℕ). found_from t.nodes n node rest) same)
+
+-- what leads there is found there
+pub leads_found : (t : Tables) (before from : ℕ) (names : List (List ℕ)) (node : ℕ) → AreSound t
+    → Leads t.nodes from names node → found_from t.nodes before from names ≡ At node
+leads_found t before from names node sound led =
+    ap (found_from t.nodes before from) (sym (append-nil names)) ∙ walks_on t before from names [] node sound led
+
+free_found : (t : Tables) (from : ℕ) (names : List (List ℕ)) (folder : ℕ) → AreSound t
+    → LeadsToFree t.nodes from names folder → found_from t.nodes 0 from names ≡ Free folder
+free_found t from names folder sound free =
+    ap (found_from t.nodes 0 from) free.parts ∙ walks_on t 0 from free.front (free.last ∷ []) folder sound free.led ∙ rw (free.there, free.free)
+
+-- a walk stops at a node that is no folder, or has no child of the next name, where that isn't the last
+stops : (t : Tables) (depth node : ℕ) (name : List ℕ) (names : List (List ℕ))
+    → (is_folder t.nodes node ≡ false) ⊎ ((child_of t.nodes node name ≡ None) × (0 < length names))
+    → found_from t.nodes depth node (name ∷ names) ≡ Missing depth
+stops t depth node name names (inl none) = rw none
+stops t depth node name [] (inr none) = absurd (omega (arith, none.1))
+stops t depth node name (n ∷ names) (inr none) = here (is_folder t.nodes node)
+  where
+    here : (folds : Bool)
+        → (if folds then onward depth node (n ∷ names) (child_of t.nodes node name) (λ child. found_from t.nodes (depth + 1) child (n ∷ names))
+        else Missing depth) ≡ Missing depth
+    here true = rw none.0
+    here false = refl
+
+missing_found : (t : Tables) (from : ℕ) (names : List (List ℕ)) (depth : ℕ) → AreSound t
+    → LeadsNoFurther t.nodes from names depth → found_from t.nodes 0 from names ≡ Missing depth
+missing_found t from names depth sound missing =
+    let next = get_or names depth [] in
+    let rest = drop (suc depth) names in
+    let parts : names ≡ take depth names ++ next ∷ rest =
+    sym (take-append-drop depth names) ∙ ap (λ (behind : List (List ℕ)). take depth names ++ behind) (drop-cons names depth [] missing.within) in
+    let few : depth ≤ length names = omega (arith, missing.within) in
+    let counted : 0 + length (take depth names) ≡ depth = omega (arith, length-take-le depth names few) in
+    let stuck : (is_folder t.nodes missing.node ≡ false) ⊎ ((child_of t.nodes missing.node next ≡ None) × (0 < length rest)) =
+    ⊎_elim (λ none. inl none) (λ none. inr (none.0, omega (arith, none.1, length-drop (suc depth) names))) missing.stuck in
+    ap (found_from t.nodes 0 from) parts ∙ walks_on t 0 from (take depth names) (next ∷ rest) missing.node sound missing.led
+    ∙ ap (λ (n : ℕ). found_from t.nodes n missing.node (next ∷ rest)) counted ∙ stops t depth missing.node next rest stuck
+
+pub found_leads : (t : Tables) (from : ℕ) (names : List (List ℕ)) (node : ℕ) → AreSound t
+    → found_from t.nodes 0 from names ≡ At node → Leads t.nodes from names node
+found_leads t from names node sound is = subst (λ (f : Found). Means t 0 from names f) is (walk t 0 from names sound)
+
+pub found_free : (t : Tables) (from : ℕ) (names : List (List ℕ)) (folder : ℕ) → AreSound t
+    → found_from t.nodes 0 from names ≡ Free folder → LeadsToFree t.nodes from names folder
+found_free t from names folder sound is = subst (λ (f : Found). Means t 0 from names f) is (walk t 0 from names sound)
+
+found_missing : (t : Tables) (from : ℕ) (names : List (List ℕ)) (depth : ℕ) → AreSound t
+    → found_from t.nodes 0 from names ≡ Missing depth → LeadsNoFurther t.nodes from names depth
+found_missing t from names depth sound is =
+    let h = subst (λ (f : Found). Means t 0 from names f) is (walk t 0 from names sound) in
+    let e : h.0 ≡ depth = omega (arith, h.1) in
+    subst (λ (n : ℕ). LeadsNoFurther t.nodes from names n) e h.2
+
+pub walk_follows : WalkFollows
+walk_follows = record {
+  at = λ t from names node sound. (found_leads t from names node sound, leads_found t 0 from names node sound);
+  free = λ t from names folder sound. (found_free t from names folder sound, free_found t from names folder sound);
+  missing = λ t from names depth sound. (found_missing t from names depth sound, missing_found t from names depth sound);
+}
+
+-- ---- whose is what a path leads to
+
+-- a node that is there and a user's
+pub record IsOf (t : Tables) (user node : ℕ) : Type 0 where
+  pub row : NodeRow
+  pub there : node_row t.nodes node ≡ Some row
+  pub owner : row.owner ≡ user
+
+pub leads_own : (t : Tables) (user from : ℕ) (names : List (List ℕ)) (node : ℕ) → AreSound t
+    → Leads t.nodes from names node → IsOf t user from → IsOf t user node
+leads_own t user _ _ _ sound (stays at) of = of
+leads_own t user _ _ _ sound (leads_on at name names child node folds there place named led) of =
+    let h = found_is (IsNodeSound t) (λ row. row.id == child.id) t.nodes child sound.nodes there in
+    let owner : owner_of t.nodes at ≡ of.row.owner = ap (λ (o : Option NodeRow). option_map_or (λ row. row.owner) o 0) of.there in
+    leads_own t user child.id names node sound led
+    (record { row = child; there = there; owner = sym (child_owner t child child.place at h.1.place place) ∙ owner ∙ of.owner })
+
+pub root_own : (t : Tables) (row : UserRow) → AreSound t → user_row t.users row.id ≡ Some row → IsOf t row.id row.root
+root_own t row sound there =
+    let h = (found_is (HasRoot t) (λ user. user.id == row.id) t.users row sound.roots there).1 in
+    record { row = h.row; there = h.there; owner = h.owner }
+
+-- the node that a place is at, or in
+abbrev pub IsFor : Found → ℕ → Type 0
+IsFor (At node) other = node ≡ other
+IsFor (Free folder) other = folder ≡ other
+IsFor (Missing depth) other = ⊥
+
+-- what a path leads to from a user's root is the user's
+pub path_own : (t : Tables) (who : Option ℕ) (place : Found) (node : ℕ) → AreSound t → (path : KnownPath t who place) → IsFor place node
+    → IsOf t path.row.id node
+path_own t who (At other) node sound path is =
+    subst (λ (n : ℕ). IsOf t path.row.id n) is
+    (leads_own t path.row.id path.row.root path.names other sound (found_leads t path.row.root path.names other sound path.leads)
+    (root_own t path.row sound path.there))
+path_own t who (Free folder) node sound path is =
+    let free = found_free t path.row.root path.names folder sound path.leads in
+    subst (λ (n : ℕ). IsOf t path.row.id n) is
+    (leads_own t path.row.id path.row.root free.front folder sound free.led (root_own t path.row sound path.there))
+path_own t who (Missing depth) node sound path is = absurd is
+
+pub is_own : (t : Tables) (user node : ℕ) → AreSound t → IsOf t user node → IsOwn t user node
+is_own t user node sound of =
+    let h = found_is (IsNodeSound t) (λ row. row.id == node) t.nodes of.row sound.nodes of.there in
+    record {
+      given = omega (arith, h.1.given, eqb-true of.row.id node h.0);
+      owner = λ row there. ap (λ (r : NodeRow). r.owner) (same_Some row of.row (sym there ∙ of.there)) ∙ of.owner;
+    }

@@ -1,0 +1,58 @@
+-- Whose is what a step serves or changes: nobody is shown or changes what isn't the own, since nothing is shared yet.
+use Rattle.std.specs.Prelude.{◌≡◌, ℕ, false, ◌==◌, not, List, filter, Option, Some, Ok}
+use Rattle.std.specs.Option.{option_map_or}
+use Rattle.nf_base.specs.declared.content.Piece.{Piece}
+use Rattle.nf_base.specs.declared.rows.NodeRow.{NodeRow}
+use Rattle.nf_defs.specs.Tables.{Tables}
+use Rattle.nf_defs.specs.Tree.{Leads, node_row}
+use Rattle.nf_words.specs.Actors.{actor_of}
+use Rattle.nf_words.specs.Calls.{Call, root_of, user_of}
+use Rattle.nf_words.specs.History.{MayCome, MayWant, after}
+use Rattle.nf_words.specs.Sound.{IsSound}
+use Rattle.nf_words.specs.State.{State}
+use Rattle.nf_words.specs.Step.{answer_to, call_of}
+use Rattle.nf_words.specs.declared.answer.Goal.TheVariants.{Serve}
+use Rattle.nf_words.specs.declared.answer.Reply.TheVariants.{Granted}
+use Rattle.nf_words.specs.declared.history.Entry.{Entry}
+use Rattle.nf_words.specs.declared.history.Event.TheVariants.{Begin}
+use Rattle.nf_words.specs.declared.request.Request.{Request}
+use Rattle.nf_words.specs.declared.request.Spot.{Spot}
+use Rattle.nf_words.specs.declared.request.Wanted.TheVariants.{Get}
+use Rattle.nf_words.specs.declared.request.Words.{Words}
+
+-- ---- what is served
+
+-- the content is that of a node of the caller's, to which the path asked for leads from the caller's root
+pub record IsServed (call : Call) (content : List Piece) : Type 0 where
+  pub spot : Spot
+  pub asked : call.request.wanted ≡ Get spot
+  pub user : ℕ
+  pub caller : user_of call ≡ Some user
+  pub row : NodeRow
+  pub there : node_row call.state.tables.nodes row.id ≡ Some row
+  pub led : Leads call.state.tables.nodes (root_of call) spot.path row.id
+  pub own : row.owner ≡ user
+  pub sent : row.content ≡ content
+
+-- what is served of a request that may be asked is the caller's own
+abbrev pub ServesOwn : Type 0
+ServesOwn =
+    (s : State) (seat now : ℕ) (words : Words) (request : Request) (content : List Piece) → IsSound s → MayWant request
+    → answer_to s seat now (Begin words request) ≡ Ok (Granted (Serve content))
+    → IsServed (call_of s seat now words request) content
+
+-- ---- what is changed
+
+-- the nodes of everybody else
+abbrev pub nodes_of_others : Option ℕ → List NodeRow → List NodeRow
+nodes_of_others who rows = filter (λ row. not (option_map_or (λ user. row.owner == user) who false)) rows
+
+-- a step changes nodes of who acts, and the meta row, and no other row
+pub record ChangesOwn (before after : Tables) (who : Option ℕ) : Type 0 where
+  pub others : nodes_of_others who after.nodes ≡ nodes_of_others who before.nodes
+  pub rest : after ≡ record before { meta = after.meta; nodes = after.nodes }
+
+abbrev pub ChangesOnlyOwn : Type 0
+ChangesOnlyOwn =
+    (n : ℕ) (s : State) (e : Entry) → IsSound s → MayCome n s e
+    → ChangesOwn s.tables (after s e).tables (actor_of s e.seat e.event)

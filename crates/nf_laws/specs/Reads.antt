@@ -1,0 +1,73 @@
+-- What was stored is what is read.
+use Rattle.std.specs.Prelude.{◌≡◌, ℕ, ◌+◌, ◌≤◌, List, [], ◌∷◌, ◌++◌, length, take, Some, Ok, IsOk}
+use Rattle.nf_base.specs.declared.content.Piece.{Piece}
+use Rattle.nf_base.specs.declared.rows.NodeRow.{NodeRow}
+use Rattle.nf_defs.specs.Access.{unshared}
+use Rattle.nf_defs.specs.Tree.{Leads, node_row}
+use Rattle.nf_defs.specs.declared.Seeker.{Seeker}
+use Rattle.nf_words.specs.Callers.{not_you_rule, token_rule}
+use Rattle.nf_words.specs.Calls.{root_of}
+use Rattle.nf_words.specs.Endings.{blob_for, content_in}
+use Rattle.nf_words.specs.History.{IsLegalFrom, MayCome, after, replay}
+use Rattle.nf_words.specs.Laws.{Pass}
+use Rattle.nf_words.specs.Places.{forbidden_rule}
+use Rattle.nf_words.specs.Sound.{IsSound}
+use Rattle.nf_words.specs.State.{State, ticket_for, ticket_of}
+use Rattle.nf_words.specs.Step.{answer_to, call_of}
+use Rattle.nf_words.specs.declared.answer.Goal.TheVariants.{Serve, Store}
+use Rattle.nf_words.specs.declared.answer.LockKey.{LockKey}
+use Rattle.nf_words.specs.declared.answer.LockKey.TheVariants.{Node, Slot}
+use Rattle.nf_words.specs.declared.answer.Reply.TheVariants.{Granted}
+use Rattle.nf_words.specs.declared.history.Entry.{Entry}
+use Rattle.nf_words.specs.declared.history.Event.TheVariants.{Begin, End}
+use Rattle.nf_words.specs.declared.history.Mark.TheVariants.{Answered}
+use Rattle.nf_words.specs.declared.history.Outcome.TheVariants.{Body}
+use Rattle.nf_words.specs.declared.request.Request.{Request}
+use Rattle.nf_words.specs.declared.request.Spot.{Spot}
+use Rattle.nf_words.specs.declared.request.Wanted.TheVariants.{Get}
+use Rattle.nf_words.specs.declared.request.Words.{Words}
+
+-- a path leads from a root to the file that is stored over, or to the folder and the name that is free in it
+abbrev pub LeadsToKey : List NodeRow → ℕ → List (List ℕ) → LockKey → Type 0
+LeadsToKey rows root path (Node node) = Leads rows root path node
+LeadsToKey rows root path (Slot folder name) =
+    (front : List (List ℕ)) × (path ≡ front ++ name ∷ []) × Leads rows root front folder
+
+-- at an entry the body of a PUT is stored at the end of a path
+pub record IsStored (n : ℕ) (s : State) (e : Entry) (root : ℕ) (path : List (List ℕ)) (content : List Piece) : Type 0 where
+  pub sound : IsSound s
+  pub may : MayCome n s e
+  pub answered : e.mark ≡ Answered
+  pub who : Seeker
+  pub key : LockKey
+  pub size : ℕ
+  pub digest : List ℕ
+  pub granted : ticket_of s e.seat ≡ Some (ticket_for e.seat (Store who key size))
+  pub brought : e.event ≡ End (Body digest size)
+  pub accepted : IsOk (answer_to s e.seat e.moment e.event)
+  pub led : LeadsToKey s.tables.nodes root path key
+  pub body : content ≡ content_in (blob_for s.tables.meta.next_blob size) digest size
+
+-- each node to which a front of a path leads is as it was
+abbrev pub PathStays : List NodeRow → List NodeRow → ℕ → List (List ℕ) → Type 0
+PathStays before after root path =
+    (k node : ℕ) → k ≤ length path → Leads before root (take k path) node → node_row after node ≡ node_row before node
+
+-- a GET of a path by whose root it is, which no rule of who asks or of names refuses
+pub record IsReadBy (s : State) (seat now : ℕ) (words : Words) (request : Request) (root : ℕ) (path : List (List ℕ)) : Type 0 where
+  pub spot : Spot
+  pub wanted : request.wanted ≡ Get spot
+  pub of_path : spot.path ≡ path
+  pub from : root_of (call_of s seat now words request) ≡ root
+  pub asked : Pass (token_rule ∷ not_you_rule ∷ forbidden_rule ∷ []) unshared (call_of s seat now words request)
+
+-- what a PUT stored is what a later GET of the path is granted, while the nodes of its path stay as they are
+abbrev pub StoredIsRead : Type 0
+StoredIsRead =
+    (n : ℕ) (s : State) (e : Entry) (es : List Entry) (root : ℕ) (path : List (List ℕ)) (content : List Piece)
+    (seat now : ℕ) (words : Words) (request : Request)
+    → IsStored n s e root path content
+    → IsLegalFrom (n + 1) (after s e) es
+    → PathStays (after s e).tables.nodes (replay (after s e) es).tables.nodes root path
+    → IsReadBy (replay (after s e) es) seat now words request root path
+    → answer_to (replay (after s e) es) seat now (Begin words request) ≡ Ok (Granted (Serve content))

@@ -1,0 +1,9 @@
+//! Where paths lead.
+
+ghost use Rattle.nf_laws.specs.Walks.{WalkFollows};
+
+/// A path leads to a node exactly where it can be followed there, folder by folder; to a free name where all names but
+/// the last lead to a folder that has no child of the last; and elsewhere as far as its names can be followed.
+pub fn walk_follows()
+    ensures { WalkFollows }
+{}

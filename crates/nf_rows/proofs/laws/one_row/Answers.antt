@@ -1,0 +1,5 @@
+use Rattle.nf_rows.proofs.Whole as whole
+use Rattle.nf_rows.proofs.laws.one_row.Goals as goal
+
+pub returns : goal.returns
+returns c = whole.one_row
