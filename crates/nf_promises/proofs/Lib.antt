@@ -1,0 +1,4 @@
+pub mod Refusals
+pub mod Tickets
+pub mod Growing
+pub mod Full
