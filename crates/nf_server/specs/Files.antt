@@ -8,8 +8,8 @@ use Rattle.nf_base.specs.Content.{size_of}
 use Rattle.nf_base.specs.declared.content.Piece.{Piece}
 use Rattle.nf_words.specs.declared.answer.Goal.TheVariants as goal
 use Rattle.nf_dav.specs.Reply.{file_head}
-use Rattle.nf_server.specs.Book.{Book, FailsPiece, IsPiece, Waits, held}
-use Rattle.nf_server.specs.Steps.{Scene}
+use Rattle.nf_server.specs.Book.{Book, FailsPiece, GivesPiece, IsPiece, Waits, held}
+use Rattle.nf_server.specs.Steps.{Scene, Wrote, WrotePart}
 use Rattle.nf_server.specs.declared.backend.PieceFault.{PieceFault}
 use Rattle.nf_server.specs.declared.backend.PieceFault.TheVariants as fault
 use Rattle.nf_server.specs.declared.ended.Ended.{Ended}
@@ -45,6 +45,25 @@ IsResponding b response.Done = held b ≡ None
 -- what is written of a file once some of its pieces were given
 abbrev pub file_front : Bool → List Piece → List (List ℕ) → List ℕ
 file_front close content given = file_head close (size_of content) ++ concat given
+
+-- ---- one piece
+
+-- the piece at an index was given or not, and nothing else was touched
+pub record TakesPiece {C : Type 0} (content : List Piece) (index : ℕ) (a b : Scene C)
+    (result : Result (Vec ℕ Global) PieceFault) : Type 0 where
+  pub only : b ≡ record a { book = b.book }
+  pub gives : GivesPiece a.book b.book content index result
+
+abbrev pub SendsPiece : {C T : Type 0} → List Piece → ℕ → Scene C → Scene C → Result T Ended → Type 0
+SendsPiece {C} content index a b (Ok sent) =
+    (m : Scene C) × (piece : Vec ℕ Global) × TakesPiece content index a m (Ok piece) × Wrote m b piece.items
+SendsPiece {C} content index a b (Err ended.WriteFault) =
+    (m : Scene C) × (piece : Vec ℕ Global) × TakesPiece content index a m (Ok piece) × WrotePart m b piece.items
+SendsPiece content index a b (Err (ended.Cut why)) = TakesPiece content index a b (Err why) × (why ≢ fault.Memory)
+SendsPiece content index a b (Err ended.Memory) = TakesPiece content index a b (Err fault.Memory)
+SendsPiece content index a b (Err end) = ⊥
+
+-- ---- the file
 
 -- these pieces of the content were given, the first of them before, and nothing else was touched but the output
 pub record SendsPieces {C : Type 0} (content : List Piece) (first : Option (Vec ℕ Global)) (a b : Scene C) (given : List (List ℕ)) : Type 0 where

@@ -3,10 +3,12 @@
 ghost use Rattle.std.specs.Prelude.{◌≡◌, ◌<◌, ◌≤◌, ℕ, List, [], length, None, Some, Ok, Err, IfOk, IfErr, OnOk, OnErr, is_some};
 ghost use Rattle.nf_http.specs.Bodies.{CutsBody, CutsRead};
 ghost use Rattle.nf_words.specs.declared.answer.Goal.TheVariants.{Serve};
-ghost use Rattle.nf_server.specs.Book.{GivesPiece, MayEnd, held};
+ghost use Rattle.nf_base.specs.Content.{size_of};
+ghost use Rattle.nf_dav.specs.Reply.{file_head as head_of_file};
+ghost use Rattle.nf_server.specs.Book.{MayEnd, held};
 ghost use Rattle.nf_server.specs.Connections.{between, scene, IsSame};
-ghost use Rattle.nf_server.specs.Files.{IsResponding, IsStarted, SendsFile};
-ghost use Rattle.nf_server.specs.Steps.{IsClosing, Heads, Bodies, Cuts, Skips, Judges, IsBegun, TakesIn, StoresBody, StartsFile, Sends, Closes, EndsBy, EndsSo, skipped_length};
+ghost use Rattle.nf_server.specs.Files.{IsResponding, IsStarted, SendsFile, SendsPiece, TakesPiece};
+ghost use Rattle.nf_server.specs.Steps.{IsClosing, Heads, Bodies, Cuts, Skips, Judges, IsBegun, TakesIn, StoresBody, StartsFile, Says, Sends, Closes, EndsBy, EndsSo, skipped_length};
 ghost use Rattle.nf_server.specs.Turn.{Meets, Responds, Turn, Writes};
 ghost use Rattle.nf_server.specs.Session.{Session};
 ghost use Rattle.nf_server.specs.declared.backend.Ending.TheVariants as ending;
@@ -240,8 +242,49 @@ impl<'i, 'o, 'c, 'b, S: Source, O: Sink, C: Clock, B: Backend>
             (scene S.Ends O.Ends B.Backend self.new) result }
         ensures held { held (B.book self.new.backend.now) ≡ held (B.book self.old.backend.now) }
     {
-        let _ = (content, first, close);
-        Err(Ended::Memory)
+        self.send_head(content, close)?;
+        let Some(piece) = first else {
+            return Ok(());
+        };
+        self.write(piece)?;
+        for index in 1..content.pieces().len() {
+            self.send_piece(content, index)?;
+        }
+        Ok(())
+    }
+
+    fn send_head(&mut self, content: &Content, close: bool) -> Result<(), Ended>
+        ensures same { IsSame self.old self.new }
+        ensures says { Says (scene S.Ends O.Ends B.Backend self.old) (scene S.Ends O.Ends B.Backend self.new)
+            (head_of_file close (size_of content.now)) result }
+    {
+        self.say(file_head(self.alloc, content.size(), close))
+    }
+
+    fn take_piece(&mut self, content: &Content, index: usize) -> Result<Vec<u8>, PieceFault>
+        requires granted { held (B.book self.old.backend.now) ≡ Some (Serve content.now) }
+        requires index { index < length content.now }
+        ensures same { IsSame self.old self.new }
+        ensures takes { TakesPiece content.now index (scene S.Ends O.Ends B.Backend self.old)
+            (scene S.Ends O.Ends B.Backend self.new) result }
+        ensures held { held (B.book self.new.backend.now) ≡ held (B.book self.old.backend.now) }
+    {
+        self.backend.blob(content, index)
+    }
+
+    fn send_piece(&mut self, content: &Content, index: usize) -> Result<(), Ended>
+        requires granted { held (B.book self.old.backend.now) ≡ Some (Serve content.now) }
+        requires index { index < length content.now }
+        ensures same { IsSame self.old self.new }
+        ensures sends { SendsPiece content.now index (scene S.Ends O.Ends B.Backend self.old)
+            (scene S.Ends O.Ends B.Backend self.new) result }
+        ensures held { held (B.book self.new.backend.now) ≡ held (B.book self.old.backend.now) }
+    {
+        match self.take_piece(content, index) {
+            Ok(piece) => self.write(&piece),
+            Err(PieceFault::Memory) => Err(Ended::Memory),
+            Err(fault) => Err(Ended::Cut(fault)),
+        }
     }
 
     // Ends what is still granted.

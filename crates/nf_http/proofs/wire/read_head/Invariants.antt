@@ -1,16 +1,15 @@
-use Rattle.std.proofs.Common.{length, ◌-◌, ◌≤◌, ◌≡◌}
+use Rattle.std.proofs.Common.{length, ◌-◌, ◌≡◌}
 use Rattle.std.specs.Io.KnownBytes.{Keeps}
 use Rattle.nf_http.specs.Told.{stream}
 use Rattle.nf_http.proofs.wire.read_head.Given as goal
 
-abbrev pub invariant-loop-head : goal.invariant-loop-head
-invariant-loop-head g l = record {
+abbrev pub invariant-loop-message : goal.invariant-loop-message
+invariant-loop-message g l = record {
   keeps : Keeps (stream l.fn.buffer (g.S.Ends.left l.fn.source)) (stream l.buffer (g.S.Ends.left l.source));
   same : g.S.Ends.read_faults l.source ≡ g.S.Ends.read_faults l.fn.source;
-  room : length l.spans ≡ 2731;
   other_bytes : g.S.Ends.written l.source ≡ g.S.Ends.written l.fn.source;
   other_faults : g.S.Ends.write_faults l.source ≡ g.S.Ends.write_faults l.fn.source;
 }
 
-abbrev pub decreases-loop-head : goal.decreases-loop-head
-decreases-loop-head g l = 8192 - length l.buffer
+abbrev pub decreases-loop-message : goal.decreases-loop-message
+decreases-loop-message g l = 8192 - length l.buffer

@@ -1,0 +1,5 @@
+pub mod Helds
+pub mod Same
+pub mod Takes
+pub mod Turns
+pub mod Sendings

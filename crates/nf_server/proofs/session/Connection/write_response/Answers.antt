@@ -1,0 +1,13 @@
+use Rattle.nf_server.specs.Connections.{scene}
+use Rattle.nf_server.proofs.Turns.{says_so}
+use Rattle.nf_server.proofs.session.Connection.write_response.Goals as goal
+
+pub returns-in-Made-clause-writes : goal.returns-in-Made-clause-writes
+returns-in-Made-clause-writes g c = rw c.in-Made.is
+    (says_so (scene g.S.Ends g.O.Ends g.B.Backend c.args.self.now) (scene g.S.Ends g.O.Ends g.B.Backend c.say-in-Made.new.self)
+    (λ v. v.items) _ c.made.result c.say-in-Made.result c.made.ensures c.say-in-Made.ensures.ok c.say-in-Made.ensures.err)
+
+pub returns-in-Done-clause-writes : goal.returns-in-Done-clause-writes
+returns-in-Done-clause-writes g c = rw c.in-Done.is
+    (says_so (scene g.S.Ends g.O.Ends g.B.Backend c.args.self.now) (scene g.S.Ends g.O.Ends g.B.Backend c.say-in-Done.new.self)
+    (λ v. v.items) _ c.done.result c.say-in-Done.result c.done.ensures c.say-in-Done.ensures.ok c.say-in-Done.ensures.err)
