@@ -1,5 +1,5 @@
 -- A run isn't full for a session that began it.
-use Rattle.std.proofs.Common.{ℕ, suc, ◌+◌, ◌*◌, ◌≡◌, ◌<◌, ◌≤◌, ◌==◌, Bool, true, false, List, [], ◌∷◌, length, Option, None, Some, Result, Ok, Err, inl, inr, refl, ap, subst, sym, ◌∙◌, arith}
+use Rattle.std.proofs.Common.{ℕ, suc, ◌+◌, ◌*◌, ◌≡◌, ◌<◌, ◌≤◌, ◌==◌, Bool, true, false, List, [], ◌∷◌, length, Option, Some, Result, Ok, Err, inl, inr, refl, ap, subst, sym, ◌∙◌, arith}
 use Rattle.nf_base.specs.declared.content.Piece.{Piece}
 use Rattle.nf_http.specs.Head.{Head, closes_session}
 use Rattle.nf_http.specs.declared.wire.WireFault.{WireFault}
@@ -12,16 +12,15 @@ use Rattle.nf_words.specs.declared.answer.Goal.TheVariants as goal
 use Rattle.nf_words.specs.declared.answer.Reply.TheVariants as reply
 use Rattle.nf_server.specs.Book.{Answer, Book, entries_wanted, state_after}
 use Rattle.nf_server.specs.Session.{Through}
-use Rattle.nf_server.specs.Steps.{EndsBy, IsResponse, Judges, Passes, Scene, Starts, TakesIn, is_granted}
-use Rattle.nf_server.specs.Turn.{Answers, CutsShort, Meets, Responds, Turn, Writes, end_by, end_of, end_of_close, end_of_denial, how_of, says_close, stays_granted}
-use Rattle.nf_server.specs.declared.backend.Ending.TheVariants as ending
+use Rattle.nf_server.specs.Steps.{EndsBy, IsResponse, Judges, Passes, Scene, Starts, TakesIn}
+use Rattle.nf_server.specs.Turn.{Answers, CutsShort, Responds, Turn, Writes, end_by, end_of, end_of_close, end_of_denial, says_close}
 use Rattle.nf_server.specs.declared.begun.Begun.{Begun}
 use Rattle.nf_server.specs.declared.begun.Begun.TheVariants as begun
 use Rattle.nf_server.specs.declared.ended.Ended.{Ended}
 use Rattle.nf_server.specs.declared.ended.Ended.TheVariants as ended
 use Rattle.nf_server.specs.declared.response.Response.{Response}
 use Rattle.nf_server.specs.declared.response.Response.TheVariants as response
-use Rattle.nf_promises.proofs.Growing.{Grew, Grows, closes_grow, ends_by_same, grew_none, grows_more, grows_none, grows_on, heads_same, judges_grow, responds_grow, takes_grow}
+use Rattle.nf_promises.proofs.Growing.{answers_grow, turn_grow, Grew, Grows, grew_none, grows_more, grows_none, grows_on, heads_same, judges_grow}
 use Rattle.nf_promises.proofs.Refusals.{end_not_full, request_not_full}
 use Rattle.nf_promises.proofs.Tickets.{few_tickets}
 use Rattle.nf_promises.specs.Room.{NeverFull}
@@ -123,10 +122,7 @@ answers_full {C} reads last head begun a m b judges answers =
     record {
       middle = m.book;
       before = grows_more a.book m.book 1 3 (omega arith) (judges_grow reads head a m begun judges);
-      behind = grows_on m.book answers.taken.book b.book 1 1 3 (omega arith) (takes_grow reads head m answers.taken begun (Ok answers.response) answers.takes)
-          (grows_on answers.taken.book answers.sent.book b.book 0 1 1 (omega arith)
-          (responds_grow last head answers.response answers.taken answers.sent answers.result answers.responds)
-          (closes_grow reads (how_of answers.response answers.result) (stays_granted answers.response) answers.sent b answers.closes));
+      behind = grows_more m.book b.book 2 3 (omega arith) (answers_grow reads last head begun m b (Some ended.RunFull) answers);
       full = judges_full reads head a m begun judges (passes_full reads takes.1 takes.0 answers.taken begun takes.3);
     }
 
@@ -152,29 +148,7 @@ turn_full reads last a b (inr (inr (m, head, heads, (n, begun, judges, inl answe
     }
 turn_full reads last a b (inr (inr (m, head, heads, (n, begun, judges, inr cuts)))) = absurd (cuts_not_full reads head begun n b cuts)
 
--- and how much a turn that ends nothing makes it grow
-meets_grow : {C : Type 0} (reads : C → ℕ → C → Type 0) (last : Bool) (head : Head) (a b : Scene C) (end : Option Ended)
-    → Meets reads last head a b end → Grew a b 3
-meets_grow reads last head a b end (m, begun, judges, inl answers) =
-    grows_on a.book m.book b.book 1 2 3 (omega arith) (judges_grow reads head a m begun judges)
-    (grows_on m.book answers.taken.book b.book 1 1 2 (omega arith) (takes_grow reads head m answers.taken begun (Ok answers.response) answers.takes)
-    (grows_on answers.taken.book answers.sent.book b.book 0 1 1 (omega arith)
-    (responds_grow last head answers.response answers.taken answers.sent answers.result answers.responds)
-    (closes_grow reads (how_of answers.response answers.result) (stays_granted answers.response) answers.sent b answers.closes)))
-meets_grow reads last head a b end (m, begun, judges, inr cuts) =
-    grows_on a.book m.book b.book 1 2 3 (omega arith) (judges_grow reads head a m begun judges)
-    (grows_on m.book cuts.cut.book b.book 1 1 2 (omega arith) (takes_grow reads head m cuts.cut begun (Err cuts.fault) cuts.takes)
-    (grows_on cuts.cut.book cuts.sent.book b.book 0 1 1 (omega arith)
-    (grew_none cuts.cut cuts.sent (ends_by_same cuts.fault cuts.cut cuts.sent cuts.by cuts.responds))
-    (closes_grow reads ending.Gone (is_granted begun) cuts.sent b cuts.closes)))
-
-turn_grow : {C : Type 0} (reads : C → ℕ → C → Type 0) (last : Bool) (a b : Scene C) → Turn reads last a b None → Grew a b 3
-turn_grow reads last a b (inl (heads, is)) = absurd (cc)
-turn_grow reads last a b (inr (inl (m, fault, by, heads, ends, is))) = absurd (cc)
-turn_grow reads last a b (inr (inr (m, head, heads, meets))) =
-    grows_on a.book m.book b.book 0 3 3 (omega arith) (grows_none a.book m.book (heads_same a m (Ok (Some head)) heads))
-    (meets_grow reads last head m b None meets)
-
+-- and how much the turns before it make it grow
 through_grow : {C : Type 0} (reads : C → ℕ → C → Type 0) (a : Scene C) (scenes : List (Scene C)) (b : Scene C)
     → Through reads a scenes b → Grew a b (3 * length scenes)
 through_grow {C} reads a [] b same = grew_none a b (ap (λ (x : Scene C). x.book) (sym same))

@@ -17,8 +17,8 @@ use Rattle.std.specs.declared.alloc.Global.{Global}
 use Rattle.nf_dav.specs.Reply.{done_reply, made_reply, refusal_reply}
 use Rattle.nf_server.specs.Book.{Answer, Begins, Book, Ends, Enters, Waits, denial_of_piece, event_of_body, is_unmade}
 use Rattle.nf_server.specs.Files.{SendsFile}
-use Rattle.nf_server.specs.Steps.{Closes, EndsBy, EndsSo, Heads, Judges, Passes, Says, Scene, Starts, TakesIn, denial_of, no_words}
-use Rattle.nf_server.specs.Turn.{Responds, Writes, says_close}
+use Rattle.nf_server.specs.Steps.{Closes, EndsBy, EndsSo, Heads, Judges, Passes, Says, Scene, Starts, TakesIn, denial_of, is_granted, no_words}
+use Rattle.nf_server.specs.Turn.{Answers, CutsShort, Meets, Responds, Turn, Writes, how_of, says_close, stays_granted}
 use Rattle.nf_server.specs.declared.backend.Ending.{Ending}
 use Rattle.nf_server.specs.declared.backend.Ending.TheVariants as ending
 use Rattle.nf_server.specs.declared.begun.Begun.{Begun}
@@ -126,7 +126,7 @@ takes_grow {C} reads head a b begun (Ok v) (m, body, bodies, passes) =
 takes_grow {C} reads head a b begun (Err fault) cuts =
     grows_more a.book b.book 0 1 (omega arith) (grows_none a.book b.book (ap (λ (x : Scene C). x.book) cuts.only))
 
-says_same : {C T : Type 0} (a b : Scene C) (bytes : List ℕ) (result : Result T Ended) → Says a b bytes result → b.book ≡ a.book
+pub says_same : {C T : Type 0} (a b : Scene C) (bytes : List ℕ) (result : Result T Ended) → Says a b bytes result → b.book ≡ a.book
 says_same {C} a b bytes (Ok sent) wrote = ap (λ (x : Scene C). x.book) wrote.only
 says_same {C} a b bytes (Err ended.Memory) same = ap (λ (x : Scene C). x.book) same
 says_same {C} a b bytes (Err ended.WriteFault) part = ap (λ (x : Scene C). x.book) part.only
@@ -168,3 +168,35 @@ pub ends_by_same : {C : Type 0} (fault : WireFault) (a b : Scene C) (end : Ended
 ends_by_same {C} wire.ReadFault a b end (is, same) = ap (λ (x : Scene C). x.book) same
 ends_by_same {C} wire.Memory a b end (is, same) = ap (λ (x : Scene C). x.book) same
 ends_by_same other a b end ends = ends_so_same (denial_of other) a b end ends
+
+-- ---- turns
+
+pub answers_grow : {C : Type 0} (reads : C → ℕ → C → Type 0) (last : Bool) (head : Head) (begun : Begun) (a b : Scene C) (end : Option Ended)
+    → Answers reads last head begun a b end → Grew a b 2
+answers_grow reads last head begun a b end answers =
+    grows_on a.book answers.taken.book b.book 1 1 2 (omega arith) (takes_grow reads head a answers.taken begun (Ok answers.response) answers.takes)
+    (grows_on answers.taken.book answers.sent.book b.book 0 1 1 (omega arith)
+    (responds_grow last head answers.response answers.taken answers.sent answers.result answers.responds)
+    (closes_grow reads (how_of answers.response answers.result) (stays_granted answers.response) answers.sent b answers.closes))
+
+cuts_grow : {C : Type 0} (reads : C → ℕ → C → Type 0) (head : Head) (begun : Begun) (a b : Scene C) (end : Option Ended)
+    → CutsShort reads head begun a b end → Grew a b 2
+cuts_grow reads head begun a b end cuts =
+    grows_on a.book cuts.cut.book b.book 1 1 2 (omega arith) (takes_grow reads head a cuts.cut begun (Err cuts.fault) cuts.takes)
+    (grows_on cuts.cut.book cuts.sent.book b.book 0 1 1 (omega arith)
+    (grew_none cuts.cut cuts.sent (ends_by_same cuts.fault cuts.cut cuts.sent cuts.by cuts.responds))
+    (closes_grow reads ending.Gone (is_granted begun) cuts.sent b cuts.closes))
+
+pub meets_grow : {C : Type 0} (reads : C → ℕ → C → Type 0) (last : Bool) (head : Head) (a b : Scene C) (end : Option Ended)
+    → Meets reads last head a b end → Grew a b 3
+meets_grow reads last head a b end (m, begun, judges, inl answers) =
+    grows_on a.book m.book b.book 1 2 3 (omega arith) (judges_grow reads head a m begun judges) (answers_grow reads last head begun m b end answers)
+meets_grow reads last head a b end (m, begun, judges, inr cuts) =
+    grows_on a.book m.book b.book 1 2 3 (omega arith) (judges_grow reads head a m begun judges) (cuts_grow reads head begun m b end cuts)
+
+pub turn_grow : {C : Type 0} (reads : C → ℕ → C → Type 0) (last : Bool) (a b : Scene C) → Turn reads last a b None → Grew a b 3
+turn_grow reads last a b (inl (heads, is)) = absurd (cc)
+turn_grow reads last a b (inr (inl (m, fault, by, heads, ends, is))) = absurd (cc)
+turn_grow reads last a b (inr (inr (m, head, heads, meets))) =
+    grows_on a.book m.book b.book 0 3 3 (omega arith) (grows_none a.book m.book (heads_same a m (Ok (Some head)) heads))
+    (meets_grow reads last head m b None meets)

@@ -2,3 +2,8 @@ pub mod Refusals
 pub mod Tickets
 pub mod Growing
 pub mod Full
+pub mod Alone
+pub mod Putting
+pub mod Puts
+pub mod Gets
+pub mod Returning

@@ -1,6 +1,8 @@
 //! Promises of a session, from what it is known to do. The functions do nothing: each stands for the fact that it ensures.
 #![tactic(auto)]
 
+mod kept;
 mod room;
 
+pub use kept::put_then_get;
 pub use room::never_full;
