@@ -20,7 +20,7 @@ use Rattle.nf_server.specs.declared.ended.Ended.{Ended}
 use Rattle.nf_server.specs.declared.ended.Ended.TheVariants as ended
 use Rattle.nf_server.specs.declared.response.Response.{Response}
 use Rattle.nf_server.specs.declared.response.Response.TheVariants as response
-use Rattle.nf_promises.proofs.Growing.{answers_grow, turn_grow, Grew, Grows, grew_none, grows_more, grows_none, grows_on, heads_same, judges_grow}
+use Rattle.nf_promises.proofs.Growing.{answers_grow, turn_grows, Grew, Grows, grew_none, grows_more, grows_none, grows_on, heads_same, judges_grow}
 use Rattle.nf_promises.proofs.Refusals.{end_not_full, request_not_full}
 use Rattle.nf_promises.proofs.Tickets.{few_tickets}
 use Rattle.nf_promises.specs.Room.{NeverFull}
@@ -154,7 +154,7 @@ through_grow : {C : Type 0} (reads : C → ℕ → C → Type 0) (a : Scene C) (
 through_grow {C} reads a [] b same = grew_none a b (ap (λ (x : Scene C). x.book) (sym same))
 through_grow reads a (m ∷ scenes) b (turn, more) =
     grows_on a.book m.book b.book 3 (3 * length scenes) (3 * suc (length scenes)) (omega arith)
-    (turn_grow reads false a m turn) (through_grow reads m scenes b more)
+    (turn_grows reads false a m _ turn) (through_grow reads m scenes b more)
 
 -- ---- a session
 

@@ -194,9 +194,12 @@ meets_grow reads last head a b end (m, begun, judges, inl answers) =
 meets_grow reads last head a b end (m, begun, judges, inr cuts) =
     grows_on a.book m.book b.book 1 2 3 (omega arith) (judges_grow reads head a m begun judges) (cuts_grow reads head begun m b end cuts)
 
-pub turn_grow : {C : Type 0} (reads : C → ℕ → C → Type 0) (last : Bool) (a b : Scene C) → Turn reads last a b None → Grew a b 3
-turn_grow reads last a b (inl (heads, is)) = absurd (cc)
-turn_grow reads last a b (inr (inl (m, fault, by, heads, ends, is))) = absurd (cc)
-turn_grow reads last a b (inr (inr (m, head, heads, meets))) =
+pub turn_grows : {C : Type 0} (reads : C → ℕ → C → Type 0) (last : Bool) (a b : Scene C) (end : Option Ended) → Turn reads last a b end → Grew a b 3
+turn_grows reads last a b end (inl (heads, is)) =
+    grows_more a.book b.book 0 3 (omega arith) (grows_none a.book b.book (heads_same a b (Ok None) heads))
+turn_grows reads last a b end (inr (inl (m, why, by, heads, ends, is))) =
+    grows_on a.book m.book b.book 0 0 3 (omega arith) (grows_none a.book m.book (heads_same a m (Err why) heads))
+    (grows_none m.book b.book (ends_by_same why m b by ends))
+turn_grows reads last a b end (inr (inr (m, head, heads, meets))) =
     grows_on a.book m.book b.book 0 3 3 (omega arith) (grows_none a.book m.book (heads_same a m (Ok (Some head)) heads))
-    (meets_grow reads last head m b None meets)
+    (meets_grow reads last head m b end meets)

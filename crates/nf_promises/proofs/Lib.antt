@@ -7,3 +7,5 @@ pub mod Putting
 pub mod Puts
 pub mod Gets
 pub mod Returning
+pub mod Marks
+pub mod Bytes

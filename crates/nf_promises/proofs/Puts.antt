@@ -22,7 +22,7 @@ use Rattle.nf_words.specs.declared.request.Spot.{Spot}
 use Rattle.nf_words.specs.declared.request.Words.{Words}
 use Rattle.nf_defs.specs.declared.Seeker.{Seeker}
 use Rattle.nf_server.specs.Book.{Answer, Book, EndsBody, Enters, Shelf, Stores, TellsStill, blob_at, event_of_body, state_after, state_of}
-use Rattle.nf_server.specs.Steps.{Closes, IsResponse, Judges, Scene, Starts, TakesIn, no_words}
+use Rattle.nf_server.specs.Steps.{Bodies, Closes, IsResponse, Judges, Passes, Scene, Starts, StoresBody, no_words, taken_length}
 use Rattle.nf_server.specs.Turn.{Responds, how_of, says_close, stays_granted}
 use Rattle.nf_server.specs.declared.begun.Begun.{Begun}
 use Rattle.nf_server.specs.declared.begun.Begun.TheVariants as begun
@@ -31,7 +31,7 @@ use Rattle.nf_server.specs.declared.response.Response.{Response}
 use Rattle.nf_server.specs.declared.response.Response.TheVariants as response
 use Rattle.nf_promises.proofs.Alone.{entered, no_others, only_within, same_state}
 use Rattle.nf_promises.proofs.Growing.{closes_grow, grows_none, grows_on, heads_same, judges_grow, responds_grow, says_same, takes_grow}
-use Rattle.nf_promises.proofs.Putting.{IsOfPut, content_of_body, ok_answer, put_is_got, put_replies}
+use Rattle.nf_promises.proofs.Putting.{IsOfPut, content_of_body, ok_answer, put_is_got, put_replies, put_size}
 use Rattle.nf_promises.specs.Kept.{OnlyOwn, Puts, SaysStored, get_of, put_of}
 use Rattle.nf_words.specs.declared.answer.Goal.TheVariants.{Serve}
 
@@ -124,30 +124,60 @@ asked_enters a m now head caller spot n r answer asked is enters =
     let same : r ≡ put_of caller spot n = cc in
     subst (λ (q : Request). Enters a m now (Begin no_words q) answer) same enters
 
-kept_taken : {C : Type 0} (reads : C → ℕ → C → Type 0) (head : Head) (begun : Begun) (v : Response) (a m b : Scene C)
+-- so what was begun is a granted body of the length asked for
+pub record BeginsPut (b : Begun) (n : ℕ) : Type 0 where
+  pub who : Seeker
+  pub key : LockKey
+  pub is : b ≡ begun.Asked (Ok (reply.Granted (goal.Store who key n)))
+
+pub put_begun : {C : Type 0} (reads : C → ℕ → C → Type 0) (head : Head) (begun : Begun) (v : Response) (a m x b : Scene C) (body : List ℕ)
     (caller : Caller) (spot : Spot) (n : ℕ) → request_of head ≡ Ok (put_of caller spot n)
-    → Judges reads head a m begun → (takes : TakesIn reads head m b begun (Ok v)) → SaysStored v
-    → IsSound (state_of a.book) → IsSome a.book.told → OnlyOwn a.book m.book → OnlyOwn m.book b.book → IsKept b.book caller spot takes.1
-kept_taken reads head (begun.Unasked refusal) v a m b caller spot n asked judges (x, body, bodies, passes) says sound told one two =
+    → Judges reads head a m begun → Passes reads body x b begun v → SaysStored v → OnlyOwn a.book m.book → BeginsPut begun n
+put_begun reads head (begun.Unasked refusal) v a m x b body caller spot n asked judges passes says one =
     absurd (not_stored v refusal passes.0 says)
-kept_taken reads head (begun.Asked (Ok (reply.Granted (goal.Serve content)))) v a m b caller spot n asked judges (x, body, bodies, starts) says sound told one two =
+put_begun reads head (begun.Asked (Ok (reply.Granted (goal.Serve content)))) v a m x b body caller spot n asked judges starts says one =
     absurd (starts_not_stored x.book b.book content v starts.starts says)
-kept_taken {C} reads head (begun.Asked (Ok (reply.Granted (goal.Store who key size)))) v a m b caller spot n asked
-    (r, now, is, read, begins, only) (x, body, bodies, (moment, answer, later, ends, answers, more)) says sound told one two =
-    let book : x.book ≡ m.book = ap (λ (y : Scene C). y.book) bodies.only in
-    kept_books a.book m.book b.book now moment caller spot n who key size body answer sound told one two
-    (asked_enters a.book m.book now head caller spot n r (Ok (reply.Granted (goal.Store who key size))) asked is begins.entry)
-    (subst (λ (k : Book). EndsBody k b.book moment body answer) book ends) (stored_ok answer v answers says) bodies.taken.0
-kept_taken reads head (begun.Asked (Ok reply.Made)) v a m b caller spot n asked (r, now, is, read, begins, only) takes says sound told one two =
+put_begun reads head (begun.Asked (Ok (reply.Granted (goal.Store who key size)))) v a m x b body caller spot n asked
+    (r, now, is, read, begins, only) passes says one =
+    let answer : Answer = Ok (reply.Granted (goal.Store who key size)) in
+    let enters = asked_enters a.book m.book now head caller spot n r answer asked is begins.entry in
+    let begin = entered a.book m.book now (Begin no_words (put_of caller spot n)) answer enters one in
+    let e = enters.entry in
+    let same : n ≡ size = put_size (state_of a.book) e.seat e.moment no_words caller spot n who key size
+    (ok_answer (state_of a.book) e (Begin no_words (put_of caller spot n)) (reply.Granted (goal.Store who key size)) begin.event_is begin.answer_is).1 in
+    record { who = who; key = key; is = ap (λ (l : ℕ). begun.Asked (Ok (reply.Granted (goal.Store who key l)))) (sym same) }
+put_begun reads head (begun.Asked (Ok reply.Made)) v a m x b body caller spot n asked (r, now, is, read, begins, only) passes says one =
     absurd (begins_put a.book m.book now caller spot n reply.Made one
     (asked_enters a.book m.book now head caller spot n r (Ok reply.Made) asked is begins.entry))
-kept_taken reads head (begun.Asked (Ok reply.Done)) v a m b caller spot n asked (r, now, is, read, begins, only) takes says sound told one two =
+put_begun reads head (begun.Asked (Ok reply.Done)) v a m x b body caller spot n asked (r, now, is, read, begins, only) passes says one =
     absurd (begins_put a.book m.book now caller spot n reply.Done one
     (asked_enters a.book m.book now head caller spot n r (Ok reply.Done) asked is begins.entry))
-kept_taken reads head (begun.Asked (Ok reply.Closed)) v a m b caller spot n asked judges (x, body, bodies, passes) says sound told one two =
-    absurd passes.0
-kept_taken reads head (begun.Asked (Err refusal)) v a m b caller spot n asked judges (x, body, bodies, passes) says sound told one two =
+put_begun reads head (begun.Asked (Ok reply.Closed)) v a m x b body caller spot n asked judges passes says one = absurd passes.0
+put_begun reads head (begun.Asked (Err refusal)) v a m x b body caller spot n asked judges passes says one =
     absurd (not_stored v refusal passes.0 says)
+
+kept_stored : {C : Type 0} (reads : C → ℕ → C → Type 0) (head : Head) (who : Seeker) (key : LockKey) (v : Response) (a m x b : Scene C) (body : List ℕ)
+    (caller : Caller) (spot : Spot) (n : ℕ) → request_of head ≡ Ok (put_of caller spot n)
+    → Judges reads head a m (begun.Asked (Ok (reply.Granted (goal.Store who key n))))
+    → Bodies m x n body → StoresBody reads body x b v → SaysStored v
+    → IsSound (state_of a.book) → IsSome a.book.told → OnlyOwn a.book m.book → OnlyOwn m.book b.book → IsKept b.book caller spot body
+kept_stored {C} reads head who key v a m x b body caller spot n asked (r, now, is, read, begins, only) bodies
+    (moment, answer, later, ends, answers, more) says sound told one two =
+    let book : x.book ≡ m.book = ap (λ (y : Scene C). y.book) bodies.only in
+    kept_books a.book m.book b.book now moment caller spot n who key n body answer sound told one two
+    (asked_enters a.book m.book now head caller spot n r (Ok (reply.Granted (goal.Store who key n))) asked is begins.entry)
+    (subst (λ (k : Book). EndsBody k b.book moment body answer) book ends) (stored_ok answer v answers says) bodies.taken.0
+
+kept_taken : {C : Type 0} (reads : C → ℕ → C → Type 0) (head : Head) (begun : Begun) (v : Response) (a m x b : Scene C) (body : List ℕ)
+    (caller : Caller) (spot : Spot) (n : ℕ) → request_of head ≡ Ok (put_of caller spot n)
+    → Judges reads head a m begun → Bodies m x (taken_length head begun) body → Passes reads body x b begun v → SaysStored v
+    → IsSound (state_of a.book) → IsSome a.book.told → OnlyOwn a.book m.book → OnlyOwn m.book b.book → IsKept b.book caller spot body
+kept_taken {C} reads head begun v a m x b body caller spot n asked judges bodies passes says sound told one two =
+    let begins = put_begun reads head begun v a m x b body caller spot n asked judges passes says one in
+    kept_stored reads head begins.who begins.key v a m x b body caller spot n asked
+    (subst (λ (w : Begun). Judges reads head a m w) begins.is judges)
+    (subst (λ (w : Begun). Bodies m x (taken_length head w) body) begins.is bodies)
+    (subst (λ (w : Begun). Passes reads body x b w v) begins.is passes) says sound told one two
 
 -- ---- the turn
 
@@ -193,7 +223,8 @@ put_is_kept reads last caller spot body a b end put sound told only =
     only_within put.behind.book put.behind.book put.judged.book b.book 0 1 2 none first rest behind in
     let two : OnlyOwn put.judged.book answers.taken.book =
     only_within put.behind.book put.judged.book answers.taken.book b.book 1 1 1 front second third behind in
-    let kept = kept_taken reads put.head put.begun v put.behind put.judged answers.taken caller spot (length body) put.asked put.judges answers.takes
+    let kept = kept_taken reads put.head put.begun v put.behind put.judged answers.takes.0 answers.taken answers.takes.1
+    caller spot (length body) put.asked put.judges answers.takes.2 answers.takes.3
     put.stored (subst (λ (k : Book). IsSound (state_of k)) (sym same) sound) (subst (λ (k : Book). IsSome k.told) (sym same) told) one two in
     let book : b.book ≡ answers.taken.book =
     closes_book reads v answers.sent b answers.result put.stored answers.closes

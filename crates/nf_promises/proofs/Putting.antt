@@ -110,6 +110,21 @@ put_replies s seat now words caller spot n r is =
     subst (λ (r : Reply). IsOfPut r) (not_refused (refusal_of unshared call) act r is)
     (stored_replies (seeker.User (asker_of call)) (last_name spot) n (found call spot))
 
+stored_size : (by : Seeker) (name : List ℕ) (n : ℕ) (place : Found) (who : Seeker) (key : LockKey) (size : ℕ)
+    → stored by name n (Some place) ≡ allowed.Put who key size → n ≡ size
+stored_size by name n (At node) who key size is = cc
+stored_size by name n (Free folder) who key size is = cc
+stored_size by name n (Missing depth) who key size is = absurd (cc)
+
+-- what it is granted has the length that it asked for
+pub put_size : (s : State) (seat now : ℕ) (words : Words) (caller : Caller) (spot : Spot) (n : ℕ) (who : Seeker) (key : LockKey) (size : ℕ)
+    → answer_to s seat now (Begin words (put_of caller spot n)) ≡ Ok (Granted (Store who key size)) → n ≡ size
+put_size s seat now words caller spot n who key size is =
+    let call = call_of s seat now words (put_of caller spot n) in
+    let decides = put_only (decision_of s seat now (Begin words (put_of caller spot n))) who key size is in
+    stored_size (seeker.User (asker_of call)) (last_name spot) n (found call spot) who key size
+    (call_passes call (allowed.Put who key size) decides).1
+
 last_is : (front : List (List ℕ)) (last : List ℕ)
     → unwrap_or (slice_get (front ++ last ∷ []) (length (front ++ last ∷ []) - 1)) [] ≡ last
 last_is front last =

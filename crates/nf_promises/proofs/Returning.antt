@@ -28,7 +28,7 @@ use Rattle.nf_promises.specs.Kept.{FailsStore, IsWritten, OnlyOwn, PutThenGet, S
 
 -- ---- where nothing is written
 
-judges_output : {C : Type 0} (reads : C → ℕ → C → Type 0) (head : Head) (a b : Scene C) (v : Begun) → Judges reads head a b v → b.output ≡ a.output
+pub judges_output : {C : Type 0} (reads : C → ℕ → C → Type 0) (head : Head) (a b : Scene C) (v : Begun) → Judges reads head a b v → b.output ≡ a.output
 judges_output {C} reads head a b (begun.Unasked refusal) (is, same) = ap (λ (x : Scene C). x.output) same
 judges_output {C} reads head a b (begun.Asked answer) (r, now, asked, read, begins, only) = ap (λ (x : Scene C). x.output) only
 
@@ -43,12 +43,12 @@ passes_output {C} reads body a b (begun.Asked (Ok reply.Done)) v (is, same) = ap
 passes_output {C} reads body a b (begun.Asked (Ok reply.Closed)) v (is, same) = ap (λ (x : Scene C). x.output) same
 passes_output {C} reads body a b (begun.Asked (Err refusal)) v (is, same) = ap (λ (x : Scene C). x.output) same
 
-takes_output : {C : Type 0} (reads : C → ℕ → C → Type 0) (head : Head) (a b : Scene C) (begun : Begun) (v : Response)
+pub takes_output : {C : Type 0} (reads : C → ℕ → C → Type 0) (head : Head) (a b : Scene C) (begun : Begun) (v : Response)
     → TakesIn reads head a b begun (Ok v) → b.output ≡ a.output
 takes_output {C} reads head a b begun v (m, body, bodies, passes) =
     passes_output reads body m b begun v passes ∙ ap (λ (x : Scene C). x.output) bodies.only
 
-closes_output : {C : Type 0} (reads : C → ℕ → C → Type 0) (how : Ending) (granted : Bool) (a b : Scene C) → Closes reads how granted a b
+pub closes_output : {C : Type 0} (reads : C → ℕ → C → Type 0) (how : Ending) (granted : Bool) (a b : Scene C) → Closes reads how granted a b
     → b.output ≡ a.output
 closes_output {C} reads how true a b (now, read, ends, only) = ap (λ (x : Scene C). x.output) only
 closes_output {C} reads how false a b same = ap (λ (x : Scene C). x.output) same
@@ -91,7 +91,7 @@ ends_not_closed wire.ReadFault a b (is, same) = cc
 ends_not_closed wire.Memory a b (is, same) = cc
 ends_not_closed other a b never = never
 
-cut_not_written : {C : Type 0} (fault : WireFault) (a b : Scene C) (by : Ended) → EndsBy fault a b by → IsWritten (Some by) → ⊥
+pub cut_not_written : {C : Type 0} (fault : WireFault) (a b : Scene C) (by : Ended) → EndsBy fault a b by → IsWritten (Some by) → ⊥
 cut_not_written fault a b ended.Closed ends written = ends_not_closed fault a b ends
 cut_not_written fault a b other ends written = written
 
@@ -102,7 +102,7 @@ fails_later k m b later (inl struck) =
     let rest : Struck k.strikes b.strikes = omega (arith, later, struck) in inl rest
 fails_later k m b later (inr some) = inr some
 
-appends_by : (old new first last : Option (List ℕ)) (bytes : List ℕ) → first ≡ old → last ≡ new → Appends first last bytes → Appends old new bytes
+pub appends_by : (old new first last : Option (List ℕ)) (bytes : List ℕ) → first ≡ old → last ≡ new → Appends first last bytes → Appends old new bytes
 appends_by old new first last bytes front end is =
     subst (λ (o : Option (List ℕ)). Appends o new bytes) front (subst (λ (o : Option (List ℕ)). Appends first o bytes) end is)
 

@@ -1,12 +1,13 @@
 -- What is put is what is got.
-use Rattle.std.specs.Prelude.{◌≡◌, ◌≢◌, ◌⊎◌, ℕ, ◌+◌, Bool, ◌||◌, List, [], ◌++◌, length, Option, None, Some, IsSome, Ok}
+use Rattle.std.specs.Prelude.{◌≡◌, ◌≢◌, ◌⊎◌, ℕ, ◌+◌, ◌≤◌, Bool, ◌||◌, List, [], ◌++◌, length, Option, None, Some, IsSome, Ok}
 use Rattle.std.specs.Io.KnownBytes.{Appends}
 use Rattle.nf_dav.specs.Asked.{request_of}
-use Rattle.nf_dav.specs.Reply.{file_head, refusal_reply}
-use Rattle.nf_http.specs.Head.{Head, closes_session}
+use Rattle.nf_dav.specs.Reply.{done_reply, file_head, made_reply, refusal_reply}
+use Rattle.httparse.specs.Grammar.{IsRequestHead, RequestHead, print_request}
+use Rattle.nf_http.specs.Head.{Head, closes_session, head_fault, head_of}
 use Rattle.nf_server.specs.Book.{Book, Struck, state_of}
 use Rattle.nf_server.specs.Steps.{Heads, Judges, Scene}
-use Rattle.nf_server.specs.Turn.{Answers, Meets}
+use Rattle.nf_server.specs.Turn.{Answers, Meets, Turn}
 use Rattle.nf_server.specs.declared.begun.Begun.{Begun}
 use Rattle.nf_server.specs.declared.ended.Ended.{Ended}
 use Rattle.nf_server.specs.declared.ended.Ended.TheVariants as ended
@@ -89,3 +90,26 @@ PutThenGet {C} reads =
     → Puts reads first caller spot body a b end → (get : Gets reads last caller spot b c done)
     → IsSound (state_of a.book) → IsSome a.book.told → OnlyOwn a.book c.book → IsWritten done
     → ShowsFile (last || closes_session get.head) body b c
+
+-- ---- the same of bytes
+
+-- the bytes of a head that has no fault, and asks for that
+pub record Prints (h : RequestHead) (request : Request) : Type 0 where
+  pub is_head : IsRequestHead h
+  pub short : length (print_request h) ≤ 8192
+  pub sound : head_fault (head_of h) ≡ None
+  pub asks : request_of (head_of h) ≡ Ok request
+
+-- what was written is the answer that something was made or done
+abbrev pub SaysDone : {C : Type 0} → Scene C → Scene C → Type 0
+SaysDone a b = (close : Bool) × (Appends a.output b.output (made_reply close) ⊎ Appends a.output b.output (done_reply close))
+
+-- two turns over an input that begins with a PUT, its body and a GET of its path by the same caller, and ends that tell their bytes
+abbrev pub PutThenGetOfBytes : {C : Type 0} → (C → ℕ → C → Type 0) → Type 0
+PutThenGetOfBytes {C} reads =
+    (caller : Caller) (spot : Spot) (put get : RequestHead) (body rest : List ℕ) (a b c : Scene C) (first last : Bool) (end done : Option Ended)
+    → Prints put (put_of caller spot (length body)) → Prints get (get_of caller spot)
+    → a.input ≡ Some (print_request put ++ body ++ print_request get ++ rest) → IsSome a.output
+    → Turn reads first a b end → SaysDone a b → Turn reads last b c done → IsWritten done
+    → IsSound (state_of a.book) → IsSome a.book.told → OnlyOwn a.book c.book
+    → ShowsFile (last || closes_session (head_of get)) body b c

@@ -1,6 +1,6 @@
 //! What is put is what is got.
 
-ghost use Rattle.nf_promises.specs.Kept.{PutThenGet};
+ghost use Rattle.nf_promises.specs.Kept.{PutThenGet, PutThenGetOfBytes};
 
 use nf_outside::Clock;
 
@@ -8,4 +8,9 @@ use nf_outside::Clock;
 /// file of so many bytes, and the bytes.
 pub fn put_then_get<C: Clock>()
     ensures { PutThenGet C.reads }
+{}
+
+/// The same of the bytes that come in and go out: of an input that begins with a PUT, its body and a GET.
+pub fn put_then_get_of_bytes<C: Clock>()
+    ensures { PutThenGetOfBytes C.reads }
 {}

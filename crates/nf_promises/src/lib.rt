@@ -4,5 +4,5 @@
 mod kept;
 mod room;
 
-pub use kept::put_then_get;
+pub use kept::{put_then_get, put_then_get_of_bytes};
 pub use room::never_full;
