@@ -5,6 +5,7 @@ use Rattle.nf_server.specs.declared.session.Connection.{Connection}
 
 pub same_then : {S O C B : Type 0} (a m b : Connection S O C B) → IsSame a m → IsSame m b → IsSame a b
 same_then a m b p q = record {
+  buffer = q.buffer ∙ p.buffer;
   input = q.input ∙ p.input;
   output = q.output ∙ p.output;
   clock = q.clock ∙ p.clock;

@@ -228,7 +228,7 @@ module _ {C : Type 0} (close : Bool) (content : List Piece) (first : Option (Vec
       no_fault = ap (λ (z : Scene C). z.write_faults) wrote.only;
     },
     no_pieces content (sym (ap (λ (z : Option (Vec ℕ Global)). length (taken_first z)) none) ∙ started.count)
-    (ap (λ (z : Option (Vec ℕ Global)). length (taken_first z)) none),
+        (ap (λ (z : Option (Vec ℕ Global)). length (taken_first z)) none),
   )
     where
       no_pieces : (pieces : List Piece) → 0 ≡ min 1 (length pieces) → length (taken_first first) ≡ 0 → length (taken_first first) ≡ length pieces

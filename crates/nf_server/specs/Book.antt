@@ -1,4 +1,4 @@
--- What a seat knows of the site: the history that it has seen, its own entries with their answers, and the bytes of blobs.
+-- What a seat knows of the site: the history that it has seen, its own entries with their answers, and the blobs.
 use Rattle.std.specs.Prelude.{◌≡◌, ℕ, Bool, true, false, max, min, ◌+◌, ◌-◌, ◌^◌, ◌<◌, ◌≤◌, ◌==◌, List, [], ◌∷◌, ◌++◌, length, Option, None, Some, Result, Ok, Err, OnOk, if◌then◌else◌, slice_get, IfSome, Contains, MatchBool, Vec}
 use Rattle.std.specs.declared.alloc.Global.{Global}
 use Rattle.sha2.specs.Sha256.{sha256}
@@ -38,8 +38,9 @@ abbrev pub blob_at : Shelf → ℕ → Option (List ℕ)
 blob_at [] id = None
 blob_at (blob ∷ blobs) id = if blob.0 == id then Some blob.1 else blob_at blobs id
 
--- the rows that the run was opened with, the seat's number, the history that it has seen, its own entries with their answers,
--- how often the store failed it, the pieces that were damaged at the opening, and the blobs, where the store tells them
+-- the rows that the run was opened with, the seat's number, the history that it has seen, its own entries with their
+-- answers, how often the store failed it, the pieces that were damaged at the opening, and the blobs, where the store
+-- tells them
 pub record Book : Type 0 where
   pub opening : List Row
   pub seat : ℕ
@@ -107,8 +108,8 @@ pub record Waits (a b : Book) : Type 0 where
   pub own : b.own ≡ a.own
   pub known : (others : List Entry) × (b.known ≡ a.known ++ others)
 
--- others' entries may have come, and then one of the seat's own: of that event and answer, at the later of a reading of the clock and
--- the last moment seen
+-- others' entries may have come, and then one of the seat's own, which may come there: of that event, at the later of a
+-- reading of the clock and the last moment seen, and with its answer there
 pub record Enters (a b : Book) (now : ℕ) (event : Event) (answer : Answer) : Type 0 where
   pub lasts : Lasts a b
   pub others : List Entry
@@ -181,7 +182,8 @@ abbrev pub GivesOrFails : Book → Book → Piece → Result (Vec ℕ Global) Pi
 GivesOrFails a b piece (Ok bytes) = IsPiece b piece bytes.items
 GivesOrFails a b piece (Err fault) = FailsPiece a b piece fault
 
-pub record GivesPiece (a b : Book) (content : List Piece) (index : ℕ) (result : Result (Vec ℕ Global) PieceFault) : Type 0 where
+pub record GivesPiece (a b : Book) (content : List Piece) (index : ℕ)
+    (result : Result (Vec ℕ Global) PieceFault) : Type 0 where
   pub waits : Waits a b
   pub piece : Piece
   pub at_index : slice_get content index ≡ Some piece

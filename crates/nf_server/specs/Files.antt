@@ -66,20 +66,23 @@ SendsPiece content index a b (Err end) = ⊥
 -- ---- the file
 
 -- these pieces of the content were given, the first of them before, and nothing else was touched but the output
-pub record SendsPieces {C : Type 0} (content : List Piece) (first : Option (Vec ℕ Global)) (a b : Scene C) (given : List (List ℕ)) : Type 0 where
+pub record SendsPieces {C : Type 0} (content : List Piece) (first : Option (Vec ℕ Global))
+    (a b : Scene C) (given : List (List ℕ)) : Type 0 where
   pub only : b ≡ record a { book = b.book; output = b.output; write_faults = b.write_faults }
   pub waits : Waits a.book b.book
   pub are_given : AreGiven b.book content given
   pub first_is : (more : List (List ℕ)) × (given ≡ taken_first first ++ more)
 
 -- and written behind the head
-pub record WritesPieces {C : Type 0} (close : Bool) (content : List Piece) (first : Option (Vec ℕ Global)) (a b : Scene C) (given : List (List ℕ)) : Type 0 where
+pub record WritesPieces {C : Type 0} (close : Bool) (content : List Piece) (first : Option (Vec ℕ Global))
+    (a b : Scene C) (given : List (List ℕ)) : Type 0 where
   pub pieces : SendsPieces content first a b given
   pub bytes_are : Appends a.output b.output (file_front close content given)
   pub no_fault : b.write_faults ≡ a.write_faults
 
 -- or a front of that, at a fault of the output
-pub record BreaksOff {C : Type 0} (close : Bool) (content : List Piece) (first : Option (Vec ℕ Global)) (a b : Scene C) (given : List (List ℕ)) : Type 0 where
+pub record BreaksOff {C : Type 0} (close : Bool) (content : List Piece) (first : Option (Vec ℕ Global))
+    (a b : Scene C) (given : List (List ℕ)) : Type 0 where
   pub pieces : SendsPieces content first a b given
   pub count : ℕ
   pub less : count < length (file_front close content given)
@@ -87,17 +90,21 @@ pub record BreaksOff {C : Type 0} (close : Bool) (content : List Piece) (first :
   pub cause : Rose a.write_faults b.write_faults
 
 -- the piece behind the given ones wasn't
-pub record Lacks {C : Type 0} (content : List Piece) (a b : Scene C) (given : List (List ℕ)) (why : PieceFault) : Type 0 where
+pub record Lacks {C : Type 0} (content : List Piece) (a b : Scene C) (given : List (List ℕ))
+    (why : PieceFault) : Type 0 where
   pub piece : Piece
   pub at_index : slice_get content (length given) ≡ Some piece
   pub failed : FailsPiece a.book b.book piece why
 
--- a file was sent; or a piece behind the first wasn't given; or there was no memory, for the head or for a piece; or the output failed
-abbrev pub SendsFile : {C T : Type 0} → Bool → List Piece → Option (Vec ℕ Global) → Scene C → Scene C → Result T Ended → Type 0
+-- a file was sent; or a piece behind the first wasn't given; or there was no memory, for the head or for a piece; or the
+-- output failed
+abbrev pub SendsFile : {C T : Type 0} → Bool → List Piece → Option (Vec ℕ Global)
+    → Scene C → Scene C → Result T Ended → Type 0
 SendsFile close content first a b (Ok sent) =
     (given : List (List ℕ)) × WritesPieces close content first a b given × (length given ≡ length content)
 SendsFile close content first a b (Err (ended.Cut why)) =
-    (given : List (List ℕ)) × WritesPieces close content first a b given × Lacks content a b given why × (why ≢ fault.Memory)
+    (given : List (List ℕ)) × WritesPieces close content first a b given
+    × Lacks content a b given why × (why ≢ fault.Memory)
 SendsFile close content first a b (Err ended.Memory) =
     (b ≡ a)
     ⊎ ((given : List (List ℕ)) × WritesPieces close content first a b given × Lacks content a b given fault.Memory)

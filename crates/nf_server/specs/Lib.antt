@@ -4,3 +4,4 @@ pub mod Files
 pub mod Turn
 pub mod Session
 pub mod Connections
+pub mod Laws

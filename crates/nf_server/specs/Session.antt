@@ -9,7 +9,7 @@ abbrev pub Through : {C : Type 0} → (C → ℕ → C → Type 0) → Scene C �
 Through reads a [] b = a ≡ b
 Through reads a (m ∷ scenes) b = Turn reads false a m None × Through reads m scenes b
 
--- some messages were answered, and the next turn ends the session so; the 10,000th is the last, and only it may end none
+-- some messages were answered, and the next turn ends the session so; the 10,000th is the last, and it alone may end none
 pub record Session {C : Type 0} (reads : C → ℕ → C → Type 0) (a b : Scene C) (end : Option Ended) : Type 0 where
   pub scenes : List (Scene C)
   pub before : Scene C

@@ -29,8 +29,8 @@ use Rattle.nf_server.specs.declared.ended.Ended.TheVariants as ended
 use Rattle.nf_server.specs.declared.response.Response.{Response}
 use Rattle.nf_server.specs.declared.response.Response.TheVariants as response
 
--- all that a session touches: the bytes that are left to read and those that were written, where they are told, what the seat knows, the
--- clock, and how often each end failed
+-- all that a session touches: the bytes that are left to read and those that were written, where they are told, what the
+-- seat knows, the clock, and how often each end failed
 pub record Scene (C : Type 0) : Type 0 where
   pub input : Option (List ℕ)
   pub output : Option (List ℕ)
@@ -182,7 +182,8 @@ Passes reads body a b (begun.Asked (Ok (reply.Granted (goal.Serve content)))) v 
 Passes reads body a b (begun.Asked (Ok (reply.Granted (goal.Store who key length)))) v = StoresBody reads body a b v
 Passes reads body a b (begun.Asked answer) v = IsResponse answer v × (b ≡ a)
 
-abbrev pub TakesIn : {C : Type 0} → (C → ℕ → C → Type 0) → Head → Scene C → Scene C → Begun → Result Response WireFault → Type 0
+abbrev pub TakesIn : {C : Type 0} → (C → ℕ → C → Type 0) → Head → Scene C → Scene C → Begun
+    → Result Response WireFault → Type 0
 TakesIn {C} reads head a b begun (Ok v) =
     (m : Scene C) × (body : List ℕ) × Bodies a m (taken_length head begun) body × Passes reads body m b begun v
 TakesIn reads head a b begun (Err fault) = Cuts (cutting begun) a b (taken_length head begun) fault

@@ -112,5 +112,6 @@ Meets {C} reads last head a b end =
 abbrev pub Turn : {C : Type 0} → (C → ℕ → C → Type 0) → Bool → Scene C → Scene C → Option Ended → Type 0
 Turn {C} reads last a b end =
     (Heads a b (Ok None) × (end ≡ Some ended.Closed))
-    ⊎ ((m : Scene C) × (fault : WireFault) × (by : Ended) × Heads a m (Err fault) × EndsBy fault m b by × (end ≡ Some by))
+    ⊎ ((m : Scene C) × (fault : WireFault) × (by : Ended) × Heads a m (Err fault) × EndsBy fault m b by
+    × (end ≡ Some by))
     ⊎ ((m : Scene C) × (head : Head) × Heads a m (Ok (Some head)) × Meets reads last head m b end)

@@ -4,6 +4,7 @@
 mod backend;
 mod begun;
 mod ended;
+pub mod laws;
 mod response;
 mod session;
 

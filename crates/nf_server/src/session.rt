@@ -33,34 +33,38 @@ const NO_WORDS: Words = Words {
 
 /// The two ends of a connection, the bytes that were read and not yet taken, and what its messages are answered from.
 #[derive(Drop)]
-pub struct Connection<'i, 'o, 'c, 'b, S: Source, O: Sink, C: Clock, B: Backend> {
+pub struct Connection<'r, 'i, 'o, 'c, 'b, S: Source, O: Sink, C: Clock, B: Backend> {
     pub alloc: Global,
-    pub buffer: Buffer,
+    pub buffer: &'r mut Buffer,
     pub input: &'i mut S,
     pub output: &'o mut O,
     pub clock: &'c mut C,
     pub backend: &'b mut B,
 }
 
-impl<'i, 'o, 'c, 'b, S: Source, O: Sink, C: Clock, B: Backend>
-    Connection<'i, 'o, 'c, 'b, S, O, C, B>
+impl<'r, 'i, 'o, 'c, 'b, S, O, C, B> Connection<'r, 'i, 'o, 'c, 'b, S, O, C, B>
+where
+    S: Source,
+    O: Sink,
+    C: Clock,
+    B: Backend,
 {
     fn next(&mut self) -> Result<Option<Message>, WireFault>
         ensures same { IsSame self.old self.new }
         ensures heads { Heads (scene S.Ends O.Ends B.Backend self.old) (scene S.Ends O.Ends B.Backend self.new) result }
     {
-        next_message(self.alloc, self.input, &mut self.buffer)
+        next_message(self.alloc, self.input, self.buffer)
     }
 
     // Reads a body of that many bytes.
     fn read(&mut self, length: usize) -> Result<Vec<u8>, WireFault>
         ensures same { IsSame self.old self.new }
-        ensures ok { IfOk result (λ body.
-            Bodies (scene S.Ends O.Ends B.Backend self.old) (scene S.Ends O.Ends B.Backend self.new) length body.items) }
-        ensures err { IfErr result
-            (Cuts CutsBody (scene S.Ends O.Ends B.Backend self.old) (scene S.Ends O.Ends B.Backend self.new) length) }
+        ensures ok { IfOk result (λ body. Bodies (scene S.Ends O.Ends B.Backend self.old)
+            (scene S.Ends O.Ends B.Backend self.new) length body.items) }
+        ensures err { IfErr result (Cuts CutsBody (scene S.Ends O.Ends B.Backend self.old)
+            (scene S.Ends O.Ends B.Backend self.new) length) }
     {
-        read_body(self.alloc, self.input, &mut self.buffer, length)
+        read_body(self.alloc, self.input, self.buffer, length)
     }
 
     // Skips the body of a message, but where its sender waits for an answer.
@@ -76,7 +80,7 @@ impl<'i, 'o, 'c, 'b, S: Source, O: Sink, C: Clock, B: Backend>
         } else {
             message.length()
         };
-        skip_body(self.input, &mut self.buffer, length)
+        skip_body(self.input, self.buffer, length)
     }
 
     fn write(&mut self, bytes: &[u8]) -> Result<(), Ended>
@@ -333,7 +337,7 @@ impl<'i, 'o, 'c, 'b, S: Source, O: Sink, C: Clock, B: Backend>
         }
     }
 
-    // Answers one message, whose head was taken; how the session ends, if it does. `last` says that no other is answered.
+    // Answers one message, whose head was taken; how the session ends, if it does. No other is answered after the `last`.
     fn answer(&mut self, message: &Message, last: bool) -> Option<Ended>
         requires { held (B.book self.old.backend.now) ≡ None }
         ensures same { IsSame self.old self.new }
@@ -392,7 +396,7 @@ impl<'i, 'o, 'c, 'b, S: Source, O: Sink, C: Clock, B: Backend>
 
 /// Serves the messages of one connection. None says that 10,000 were answered, and that none ended the session.
 ///
-/// Bytes may have been read behind the last message that was taken; they are lost with the session.
+/// Up to 8,192 bytes may have been read behind the last message that was taken; they are lost with the session.
 pub fn serve_session<S: Source, O: Sink, C: Clock, B: Backend>(
     alloc: Global,
     input: &mut S,
@@ -401,14 +405,35 @@ pub fn serve_session<S: Source, O: Sink, C: Clock, B: Backend>(
     backend: &mut B,
 ) -> Option<Ended>
     requires { held (B.book backend.old) ≡ None }
-    ensures session { (kept : List ℕ) × Session C.reads
+    ensures session { (kept : List ℕ) × (length kept ≤ 8192) × Session C.reads
         (between S.Ends O.Ends B.Backend [] input.old output.old clock.old backend.old)
         (between S.Ends O.Ends B.Backend kept input.new output.new clock.new backend.new) result }
     ensures idle { held (B.book backend.new) ≡ None }
 {
+    let mut buffer = Buffer::new();
+    let ended = serve(alloc, &mut buffer, input, output, clock, backend);
+    // What was read and not taken fits the buffer.
+    let _ = buffer.bytes();
+    ended
+}
+
+fn serve<S: Source, O: Sink, C: Clock, B: Backend>(
+    alloc: Global,
+    buffer: &mut Buffer,
+    input: &mut S,
+    output: &mut O,
+    clock: &mut C,
+    backend: &mut B,
+) -> Option<Ended>
+    requires { held (B.book backend.old) ≡ None }
+    ensures session { Session C.reads
+        (between S.Ends O.Ends B.Backend buffer.old input.old output.old clock.old backend.old)
+        (between S.Ends O.Ends B.Backend buffer.new input.new output.new clock.new backend.new) result }
+    ensures idle { held (B.book backend.new) ≡ None }
+{
     let mut connection = Connection {
         alloc,
-        buffer: Buffer::new(),
+        buffer,
         input,
         output,
         clock,

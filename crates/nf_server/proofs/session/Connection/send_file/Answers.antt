@@ -1,4 +1,4 @@
-use Rattle.std.proofs.Common.{◌≡◌, List, ℕ, Ok, Err, length, ap, sym, ◌∙◌, subst, arith}
+use Rattle.std.proofs.Common.{List, ℕ, Err, length, ap, sym, ◌∙◌, subst, arith}
 use Rattle.std.proofs.lemmas.Result.{err_from_is_err_and}
 use Rattle.nf_base.specs.declared.content.Piece.{Piece}
 use Rattle.nf_server.specs.Connections.{scene}

@@ -1,6 +1,4 @@
 use Rattle.std.proofs.Common.{◌≡◌}
-use Rattle.std.specs.Prelude.{Some}
-use Rattle.nf_words.specs.declared.answer.Goal.TheVariants.{Serve}
 use Rattle.nf_server.specs.Book.{held}
 use Rattle.nf_server.specs.Connections.{scene, IsSame}
 use Rattle.nf_server.proofs.Sendings.{SentSome}

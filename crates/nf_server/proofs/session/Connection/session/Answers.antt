@@ -1,4 +1,4 @@
-use Rattle.std.proofs.Common.{◌≡◌, arith, rules}
+use Rattle.std.proofs.Common.{arith}
 use Rattle.nf_server.specs.Connections.{scene}
 use Rattle.nf_server.proofs.Same.{same_then}
 use Rattle.nf_server.proofs.Turns.{so_far_more, session_ends, session_full}

@@ -1,0 +1,51 @@
+-- What follows from the relation of a turn, and from a book that is one legal history.
+use Rattle.std.specs.Prelude.{◌≡◌, ◌⊎◌, ℕ, ◌==◌, Bool, List, [], ◌∷◌, ◌++◌, Option, Some, Ok, Err, option_map, if◌then◌else◌}
+use Rattle.nf_http.specs.Head.{Head}
+use Rattle.nf_http.specs.declared.wire.WireFault.{WireFault}
+use Rattle.nf_http.specs.declared.wire.WireFault.TheVariants as wire
+use Rattle.nf_words.specs.State.{State, ticket_of}
+use Rattle.nf_words.specs.History.{answer_at, replay}
+use Rattle.nf_words.specs.declared.answer.Goal.{Goal}
+use Rattle.nf_words.specs.declared.history.Entry.{Entry}
+use Rattle.nf_server.specs.Book.{Answer, Book, IsBook, held, own_from, state_of}
+use Rattle.nf_server.specs.Steps.{Scene, Heads, Cuts, Judges, Closes, cutting, is_granted, taken_length}
+use Rattle.nf_server.specs.Turn.{Turn}
+use Rattle.nf_server.specs.declared.backend.Ending.TheVariants as ending
+use Rattle.nf_server.specs.declared.begun.Begun.{Begun}
+use Rattle.nf_server.specs.declared.ended.Ended.TheVariants as ended
+
+-- a head was taken and less than its body, and what was granted is gone
+pub record LosesBody {C : Type 0} (reads : C → ℕ → C → Type 0) (a b : Scene C) (fault : WireFault) : Type 0 where
+  pub headed : Scene C
+  pub head : Head
+  pub asked : Scene C
+  pub begun : Begun
+  pub cut : Scene C
+  pub heads : Heads a headed (Ok (Some head))
+  pub judged : Judges reads head headed asked begun
+  pub cuts : Cuts (cutting begun) asked cut (taken_length head begun) fault
+  pub closed : Closes reads ending.Gone (is_granted begun) cut b
+
+-- at a fault of reading no head was taken and nothing was done, or less than a body was, and that is gone: nothing is stored
+abbrev pub ReadFaultsStoreNothing : {C : Type 0} → (C → ℕ → C → Type 0) → Type 0
+ReadFaultsStoreNothing {C} reads =
+    (last : Bool) (a b : Scene C) → Turn reads last a b (Some ended.ReadFault)
+    → Heads a b (Err wire.ReadFault) ⊎ LosesBody reads a b wire.ReadFault
+
+-- the goal of a seat's ticket
+abbrev pub goal_in : State → ℕ → Option Goal
+goal_in s seat = option_map (λ ticket. ticket.goal) (ticket_of s seat)
+
+-- what a seat holds by its own entries is its ticket in the state of all that it has seen
+abbrev pub HeldIsTicket : Type 0
+HeldIsTicket = (b : Book) → IsBook b → held b ≡ goal_in (state_of b) b.seat
+
+-- the entry with its answer, where it is the seat's
+abbrev pub own_at : ℕ → State → Entry → List (Entry × Answer)
+own_at seat s e = if e.seat == seat then (e, answer_at s e e.mark) ∷ [] else []
+
+-- with an entry more a seat's own are those before, and that one where it is the seat's
+abbrev pub OwnGrows : Type 0
+OwnGrows =
+    (seat : ℕ) (s : State) (es : List Entry) (e : Entry)
+    → own_from seat s (es ++ e ∷ []) ≡ own_from seat s es ++ own_at seat (replay s es) e

@@ -1,0 +1,22 @@
+//! What follows from the definitions. Each function does nothing, and its clause is the law.
+
+ghost use Rattle.nf_server.specs.Laws.{HeldIsTicket, OwnGrows, ReadFaultsStoreNothing};
+
+use nf_outside::Clock;
+
+/// A fault of reading stores nothing: no body that wasn't taken whole comes to an End.
+pub fn read_faults_store_nothing<C: Clock>()
+    ensures { ReadFaultsStoreNothing C.reads }
+{}
+
+/// What a seat holds by its own entries is its ticket in the state of all that it has seen.
+#[tactic(auto, using(crate::proofs::Books::held_is_ticket))]
+pub fn held_is_the_ticket()
+    ensures { HeldIsTicket }
+{}
+
+/// A seat's own entries grow by an entry of its number, with its answer there, and by no other.
+#[tactic(auto, using(crate::proofs::Books::own_grows))]
+pub fn own_entries_grow()
+    ensures { OwnGrows }
+{}
