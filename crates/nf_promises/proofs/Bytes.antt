@@ -1,5 +1,5 @@
 -- What is put is what is got, of bytes.
-use Rattle.std.proofs.Common.{ℕ, ◌≡◌, ◌||◌, Bool, true, false, List, ◌++◌, length, Option, None, Some, Result, Ok, Err, inl, inr, refl, sym, ap, append_assoc, subst, ◌∙◌}
+use Rattle.std.proofs.Common.{ℕ, ◌≡◌, ◌||◌, Bool, true, List, ◌++◌, length, Option, None, Some, Result, Ok, inl, inr, refl, sym, ap, append_assoc, subst, ◌∙◌}
 use Rattle.std.specs.Prelude.{IsSome}
 use Rattle.std.specs.Io.KnownBytes.{Appends}
 use Rattle.httparse.specs.Grammar.{RequestHead, print_request}
@@ -11,26 +11,20 @@ use Rattle.nf_http.specs.Bodies.{TakesBody}
 use Rattle.nf_http.specs.Head.{Head, closes_session, head_of}
 use Rattle.nf_http.specs.Next.{IsNext, IsOfBytes}
 use Rattle.nf_http.specs.declared.wire.WireFault.{WireFault}
-use Rattle.nf_words.specs.declared.answer.Goal.TheVariants as goal
-use Rattle.nf_words.specs.declared.answer.Reply.TheVariants as reply
 use Rattle.nf_words.specs.declared.request.Caller.{Caller}
 use Rattle.nf_words.specs.declared.request.Request.{Request}
 use Rattle.nf_words.specs.declared.request.Spot.{Spot}
-use Rattle.nf_server.specs.Steps.{Bodies, Closes, Heads, Judges, Passes, Says, Scene, is_granted, taken_length}
-use Rattle.nf_server.specs.Turn.{Answers, CutsShort, Responds, Turn, how_of, says_close, stays_granted}
-use Rattle.nf_server.specs.declared.backend.Ending.{Ending}
+use Rattle.nf_server.specs.Steps.{Bodies, Heads, Judges, Scene, is_granted, taken_length}
+use Rattle.nf_server.specs.Turn.{Answers, CutsShort, Turn, how_of, stays_granted}
 use Rattle.nf_server.specs.declared.backend.Ending.TheVariants as ending
 use Rattle.nf_server.specs.declared.begun.Begun.{Begun}
-use Rattle.nf_server.specs.declared.begun.Begun.TheVariants as begun
 use Rattle.nf_server.specs.declared.ended.Ended.{Ended}
-use Rattle.nf_server.specs.declared.ended.Ended.TheVariants as ended
-use Rattle.nf_server.specs.declared.response.Response.{Response}
-use Rattle.nf_server.specs.declared.response.Response.TheVariants as response
 use Rattle.nf_promises.proofs.Alone.{only_within}
 use Rattle.nf_promises.proofs.Growing.{answers_grow, grows_none, heads_same, judges_grow, turn_grows}
 use Rattle.nf_promises.proofs.Marks.{done_mark, ends_not_done, is_done, made_mark, responds_stored}
 use Rattle.nf_promises.proofs.Puts.{BeginsPut, put_begun}
-use Rattle.nf_promises.proofs.Returning.{appends_by, closes_output, cut_not_written, judges_output, put_then_get, takes_output}
+use Rattle.nf_promises.proofs.Returning.{appends_by, cut_not_written, put_then_get, takes_output}
+use Rattle.nf_promises.proofs.Touches.{closes_only, input_of, judges_only, output_of, passes_only, stored_only}
 use Rattle.nf_promises.specs.Kept.{Gets, IsWritten, OnlyOwn, Prints, PutThenGetOfBytes, Puts, SaysDone, SaysStored, ShowsFile, get_of, put_of}
 
 -- ---- the head at the front
@@ -60,48 +54,6 @@ head_is a m h request left head prints input heads =
     same : (other : Head) → ◌≡◌ {A = Result (Option Head) WireFault} (Ok (Some head)) (Ok (Some other)) → head ≡ other
     same other is = cc
 
--- ---- where nothing is read
-
-judges_input : {C : Type 0} (reads : C → ℕ → C → Type 0) (head : Head) (a b : Scene C) (v : Begun) → Judges reads head a b v → b.input ≡ a.input
-judges_input {C} reads head a b (begun.Unasked refusal) (is, same) = ap (λ (x : Scene C). x.input) same
-judges_input {C} reads head a b (begun.Asked answer) (r, now, asked, read, begins, only) = ap (λ (x : Scene C). x.input) only
-
-passes_input : {C : Type 0} (reads : C → ℕ → C → Type 0) (body : List ℕ) (a b : Scene C) (begun : Begun) (v : Response)
-    → Passes reads body a b begun v → b.input ≡ a.input
-passes_input {C} reads body a b (begun.Unasked refusal) v (is, same) = ap (λ (x : Scene C). x.input) same
-passes_input {C} reads body a b (begun.Asked (Ok (reply.Granted (goal.Serve content)))) v starts = ap (λ (x : Scene C). x.input) starts.only
-passes_input {C} reads body a b (begun.Asked (Ok (reply.Granted (goal.Store who key length)))) v (now, answer, read, ends, is, only) =
-    ap (λ (x : Scene C). x.input) only
-passes_input {C} reads body a b (begun.Asked (Ok reply.Made)) v (is, same) = ap (λ (x : Scene C). x.input) same
-passes_input {C} reads body a b (begun.Asked (Ok reply.Done)) v (is, same) = ap (λ (x : Scene C). x.input) same
-passes_input {C} reads body a b (begun.Asked (Ok reply.Closed)) v (is, same) = ap (λ (x : Scene C). x.input) same
-passes_input {C} reads body a b (begun.Asked (Err refusal)) v (is, same) = ap (λ (x : Scene C). x.input) same
-
-says_input : {C T : Type 0} (a b : Scene C) (bytes : List ℕ) (result : Result T Ended) → Says a b bytes result → b.input ≡ a.input
-says_input {C} a b bytes (Ok sent) wrote = ap (λ (x : Scene C). x.input) wrote.only
-says_input {C} a b bytes (Err ended.Memory) same = ap (λ (x : Scene C). x.input) same
-says_input {C} a b bytes (Err ended.WriteFault) part = ap (λ (x : Scene C). x.input) part.only
-says_input a b bytes (Err other) never = absurd never
-
-responds_input : {C : Type 0} (last : Bool) (head : Head) (v : Response) (a b : Scene C) (result : Result (Option Ended) Ended) → SaysStored v
-    → Responds last head v a b result → b.input ≡ a.input
-responds_input last head response.Made a b (Ok end) says (is, wrote) =
-    says_input {T = Unit {0}} a b (made_reply (says_close last head response.Made)) (Ok tt) wrote
-responds_input last head response.Made a b (Err by) says wrote =
-    says_input {T = Unit {0}} a b (made_reply (says_close last head response.Made)) (Err by) wrote
-responds_input last head response.Done a b (Ok end) says (is, wrote) =
-    says_input {T = Unit {0}} a b (done_reply (says_close last head response.Done)) (Ok tt) wrote
-responds_input last head response.Done a b (Err by) says wrote =
-    says_input {T = Unit {0}} a b (done_reply (says_close last head response.Done)) (Err by) wrote
-responds_input last head (response.Denied refusal) a b result says responds = absurd says
-responds_input last head (response.Lost why) a b result says responds = absurd says
-responds_input last head (response.File content first) a b result says responds = absurd says
-
-closes_input : {C : Type 0} (reads : C → ℕ → C → Type 0) (how : Ending) (granted : Bool) (a b : Scene C) → Closes reads how granted a b
-    → b.input ≡ a.input
-closes_input {C} reads how true a b (now, read, ends, only) = ap (λ (x : Scene C). x.input) only
-closes_input {C} reads how false a b same = ap (λ (x : Scene C). x.input) same
-
 -- ---- the turn of the PUT
 
 -- what it is, and what it leaves to be read
@@ -122,16 +74,16 @@ answers_put {C} reads last caller spot body left head begun a k m b end w heads 
     let taken = answers.taken in
     let sent = answers.sent in
     let x : Scene C = answers.takes.0 in
-    let front : taken.output ≡ a.output = takes_output reads head m taken begun v answers.takes ∙ judges_output reads head k m begun judges
+    let front : taken.output ≡ a.output = takes_output reads head m taken begun v answers.takes ∙ output_of k m (judges_only reads head k m begun judges)
     ∙ ap (λ (y : Scene C). y.output) heads.only in
-    let closed = closes_output reads (how_of v answers.result) (stays_granted v) sent b answers.closes in
+    let closed = output_of sent b (closes_only reads (how_of v answers.result) (stays_granted v) sent b answers.closes) in
     let says : SaysStored v = responds_stored last head v taken sent w answers.result answers.responds
     (subst (λ (o : Option (List ℕ)). IsSome o) (sym front) told)
     (appends_by taken.output sent.output a.output b.output w (sym front) closed wrote) done in
     let begins = put_begun reads head begun v k m x taken answers.takes.1 caller spot (length body) asked judges answers.takes.3 says one in
     let bodies = bodies_of m x head begun answers.takes.1 (length body) begins answers.takes.2 in
     let whole = one_body (body ++ left) x.input (Some left) (length body) answers.takes.1 body
-    (subst (λ (o : Option (List ℕ)). TakesBody o x.input (length body) answers.takes.1) (judges_input reads head k m begun judges ∙ input) bodies.taken)
+    (subst (λ (o : Option (List ℕ)). TakesBody o x.input (length body) answers.takes.1) (input_of k m (judges_only reads head k m begun judges) ∙ input) bodies.taken)
     (refl, refl) in (
       record {
         head = head;
@@ -145,16 +97,16 @@ answers_put {C} reads last caller spot body left head begun a k m b end w heads 
         body_is = whole.0;
         stored = says;
       },
-      closes_input reads (how_of v answers.result) (stays_granted v) sent b answers.closes
-          ∙ responds_input last head v taken sent answers.result says answers.responds
-          ∙ passes_input reads answers.takes.1 x taken begun v answers.takes.3 ∙ whole.1,
+      input_of sent b (closes_only reads (how_of v answers.result) (stays_granted v) sent b answers.closes)
+          ∙ ap (λ (y : Scene C). y.input) (stored_only last head v taken sent answers.result says answers.responds)
+          ∙ input_of x taken (passes_only reads answers.takes.1 x taken begun v answers.takes.3) ∙ whole.1,
     )
 
 cuts_not_done : {C : Type 0} (reads : C → ℕ → C → Type 0) (head : Head) (begun : Begun) (k m b : Scene C) (end : Option Ended) (w : List ℕ)
     → Judges reads head k m begun → CutsShort reads head begun m b end → IsSome k.output → Appends k.output b.output w → is_done w ≡ true → ⊥
 cuts_not_done {C} reads head begun k m b end w judges cuts told wrote done =
-    let front : cuts.cut.output ≡ k.output = ap (λ (y : Scene C). y.output) cuts.takes.only ∙ judges_output reads head k m begun judges in
-    let closed = closes_output reads ending.Gone (is_granted begun) cuts.sent b cuts.closes in
+    let front : cuts.cut.output ≡ k.output = ap (λ (y : Scene C). y.output) cuts.takes.only ∙ output_of k m (judges_only reads head k m begun judges) in
+    let closed = output_of cuts.sent b (closes_only reads ending.Gone (is_granted begun) cuts.sent b cuts.closes) in
     ends_not_done cuts.fault cuts.cut cuts.sent w cuts.by cuts.responds (subst (λ (o : Option (List ℕ)). IsSome o) (sym front) told)
     (appends_by cuts.cut.output cuts.sent.output k.output b.output w (sym front) closed wrote) done
 

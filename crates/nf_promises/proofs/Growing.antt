@@ -4,8 +4,6 @@ use Rattle.std.specs.Prelude.{MatchBool, Vec}
 use Rattle.nf_base.specs.declared.content.Piece.{Piece}
 use Rattle.nf_http.specs.Head.{Head}
 use Rattle.nf_http.specs.declared.wire.WireFault.{WireFault}
-use Rattle.nf_http.specs.declared.wire.WireFault.TheVariants as wire
-use Rattle.nf_words.specs.declared.answer.Denial.{Denial}
 use Rattle.nf_words.specs.declared.answer.Goal.TheVariants as goal
 use Rattle.nf_words.specs.declared.answer.Reply.TheVariants as reply
 use Rattle.nf_words.specs.declared.history.Event.{Event}
@@ -17,7 +15,7 @@ use Rattle.std.specs.declared.alloc.Global.{Global}
 use Rattle.nf_dav.specs.Reply.{done_reply, made_reply, refusal_reply}
 use Rattle.nf_server.specs.Book.{Answer, Begins, Book, Ends, Enters, Waits, denial_of_piece, event_of_body, is_unmade}
 use Rattle.nf_server.specs.Files.{SendsFile}
-use Rattle.nf_server.specs.Steps.{Closes, EndsBy, EndsSo, Heads, Judges, Passes, Says, Scene, Starts, TakesIn, denial_of, is_granted, no_words}
+use Rattle.nf_server.specs.Steps.{Closes, Heads, Judges, Passes, Scene, Starts, TakesIn, is_granted, no_words}
 use Rattle.nf_server.specs.Turn.{Answers, CutsShort, Meets, Responds, Turn, Writes, how_of, says_close, stays_granted}
 use Rattle.nf_server.specs.declared.backend.Ending.{Ending}
 use Rattle.nf_server.specs.declared.backend.Ending.TheVariants as ending
@@ -27,6 +25,7 @@ use Rattle.nf_server.specs.declared.ended.Ended.{Ended}
 use Rattle.nf_server.specs.declared.ended.Ended.TheVariants as ended
 use Rattle.nf_server.specs.declared.response.Response.{Response}
 use Rattle.nf_server.specs.declared.response.Response.TheVariants as response
+use Rattle.nf_promises.proofs.Touches.{book_of, ends_only, says_only}
 
 -- so many own entries came at most, and no fewer entries than own ones
 pub record Grows (a b : Book) (most : ℕ) : Type 0 where
@@ -126,12 +125,6 @@ takes_grow {C} reads head a b begun (Ok v) (m, body, bodies, passes) =
 takes_grow {C} reads head a b begun (Err fault) cuts =
     grows_more a.book b.book 0 1 (omega arith) (grows_none a.book b.book (ap (λ (x : Scene C). x.book) cuts.only))
 
-pub says_same : {C T : Type 0} (a b : Scene C) (bytes : List ℕ) (result : Result T Ended) → Says a b bytes result → b.book ≡ a.book
-says_same {C} a b bytes (Ok sent) wrote = ap (λ (x : Scene C). x.book) wrote.only
-says_same {C} a b bytes (Err ended.Memory) same = ap (λ (x : Scene C). x.book) same
-says_same {C} a b bytes (Err ended.WriteFault) part = ap (λ (x : Scene C). x.book) part.only
-says_same a b bytes (Err other) never = absurd never
-
 sends_grow : {C T : Type 0} (close : Bool) (content : List Piece) (first : Option (Vec ℕ Global)) (a b : Scene C) (result : Result T Ended)
     → SendsFile close content first a b result → Grew a b 0
 sends_grow close content first a b (Ok sent) (given, writes, all) = grows_waits a.book b.book writes.pieces.waits
@@ -142,12 +135,12 @@ sends_grow close content first a b (Err ended.WriteFault) (given, breaks) = grow
 sends_grow close content first a b (Err other) never = absurd never
 
 writes_grow : {C T : Type 0} (close : Bool) (v : Response) (a b : Scene C) (result : Result T Ended) → Writes close v a b result → Grew a b 0
-writes_grow close (response.Denied refusal) a b result says = grew_none a b (says_same a b (refusal_reply close refusal) result says)
+writes_grow close (response.Denied refusal) a b result says = grew_none a b (book_of a b (says_only a b (refusal_reply close refusal) result says))
 writes_grow close (response.Lost fault) a b result says =
-    grew_none a b (says_same a b (refusal_reply close (denial_of_piece fault)) result says)
+    grew_none a b (book_of a b (says_only a b (refusal_reply close (denial_of_piece fault)) result says))
 writes_grow close (response.File content first) a b result sends = sends_grow close content first a b result sends
-writes_grow close response.Made a b result says = grew_none a b (says_same a b (made_reply close) result says)
-writes_grow close response.Done a b result says = grew_none a b (says_same a b (done_reply close) result says)
+writes_grow close response.Made a b result says = grew_none a b (book_of a b (says_only a b (made_reply close) result says))
+writes_grow close response.Done a b result says = grew_none a b (book_of a b (says_only a b (done_reply close) result says))
 
 pub responds_grow : {C : Type 0} (last : Bool) (head : Head) (v : Response) (a b : Scene C) (result : Result (Option Ended) Ended)
     → Responds last head v a b result → Grew a b 0
@@ -157,17 +150,6 @@ responds_grow last head v a b (Err by) writes = writes_grow {T = Unit {0}} (says
 pub closes_grow : {C : Type 0} (reads : C → ℕ → C → Type 0) (how : Ending) (granted : Bool) (a b : Scene C) → Closes reads how granted a b → Grew a b 1
 closes_grow reads how true a b (now, read, ends, only) = grows_ends a.book b.book now how (Ok reply.Closed) ends
 closes_grow reads how false a b same = still a b same
-
-ends_so_same : {C : Type 0} (refusal : Denial) (a b : Scene C) (end : Ended) → EndsSo refusal a b end → b.book ≡ a.book
-ends_so_same {C} refusal a b ended.BadMessage wrote = ap (λ (x : Scene C). x.book) wrote.only
-ends_so_same {C} refusal a b ended.WriteFault part = ap (λ (x : Scene C). x.book) part.only
-ends_so_same {C} refusal a b ended.Memory same = ap (λ (x : Scene C). x.book) same
-ends_so_same refusal a b other never = absurd never
-
-pub ends_by_same : {C : Type 0} (fault : WireFault) (a b : Scene C) (end : Ended) → EndsBy fault a b end → b.book ≡ a.book
-ends_by_same {C} wire.ReadFault a b end (is, same) = ap (λ (x : Scene C). x.book) same
-ends_by_same {C} wire.Memory a b end (is, same) = ap (λ (x : Scene C). x.book) same
-ends_by_same other a b end ends = ends_so_same (denial_of other) a b end ends
 
 -- ---- turns
 
@@ -184,7 +166,7 @@ cuts_grow : {C : Type 0} (reads : C → ℕ → C → Type 0) (head : Head) (beg
 cuts_grow reads head begun a b end cuts =
     grows_on a.book cuts.cut.book b.book 1 1 2 (omega arith) (takes_grow reads head a cuts.cut begun (Err cuts.fault) cuts.takes)
     (grows_on cuts.cut.book cuts.sent.book b.book 0 1 1 (omega arith)
-    (grew_none cuts.cut cuts.sent (ends_by_same cuts.fault cuts.cut cuts.sent cuts.by cuts.responds))
+    (grew_none cuts.cut cuts.sent (book_of cuts.cut cuts.sent (ends_only cuts.fault cuts.cut cuts.sent cuts.by cuts.responds)))
     (closes_grow reads ending.Gone (is_granted begun) cuts.sent b cuts.closes))
 
 pub meets_grow : {C : Type 0} (reads : C → ℕ → C → Type 0) (last : Bool) (head : Head) (a b : Scene C) (end : Option Ended)
@@ -199,7 +181,7 @@ turn_grows reads last a b end (inl (heads, is)) =
     grows_more a.book b.book 0 3 (omega arith) (grows_none a.book b.book (heads_same a b (Ok None) heads))
 turn_grows reads last a b end (inr (inl (m, why, by, heads, ends, is))) =
     grows_on a.book m.book b.book 0 0 3 (omega arith) (grows_none a.book m.book (heads_same a m (Err why) heads))
-    (grows_none m.book b.book (ends_by_same why m b by ends))
+    (grew_none m b (book_of m b (ends_only why m b by ends)))
 turn_grows reads last a b end (inr (inr (m, head, heads, meets))) =
     grows_on a.book m.book b.book 0 3 3 (omega arith) (grows_none a.book m.book (heads_same a m (Ok (Some head)) heads))
     (meets_grow reads last head m b end meets)

@@ -1,3 +1,4 @@
+pub mod Touches
 pub mod Refusals
 pub mod Tickets
 pub mod Growing

@@ -3,7 +3,6 @@ use Rattle.std.proofs.Common.{ℕ, ◌≡◌, Bool, List, [], ◌∷◌, length,
 use Rattle.std.specs.Prelude.{IfSome, IsOk, IsSome, OnOk}
 use Rattle.nf_base.specs.declared.content.Piece.{Piece}
 use Rattle.nf_dav.specs.Asked.{request_of}
-use Rattle.nf_dav.specs.Reply.{done_reply, made_reply}
 use Rattle.nf_http.specs.Head.{Head}
 use Rattle.nf_words.specs.Endings.{blob_for}
 use Rattle.nf_words.specs.History.{MayCome, after, answer_at}
@@ -23,15 +22,16 @@ use Rattle.nf_words.specs.declared.request.Words.{Words}
 use Rattle.nf_defs.specs.declared.Seeker.{Seeker}
 use Rattle.nf_server.specs.Book.{Answer, Book, EndsBody, Enters, Shelf, Stores, TellsStill, blob_at, event_of_body, state_after, state_of}
 use Rattle.nf_server.specs.Steps.{Bodies, Closes, IsResponse, Judges, Passes, Scene, Starts, StoresBody, no_words, taken_length}
-use Rattle.nf_server.specs.Turn.{Responds, how_of, says_close, stays_granted}
+use Rattle.nf_server.specs.Turn.{how_of, stays_granted}
 use Rattle.nf_server.specs.declared.begun.Begun.{Begun}
 use Rattle.nf_server.specs.declared.begun.Begun.TheVariants as begun
 use Rattle.nf_server.specs.declared.ended.Ended.{Ended}
 use Rattle.nf_server.specs.declared.response.Response.{Response}
 use Rattle.nf_server.specs.declared.response.Response.TheVariants as response
 use Rattle.nf_promises.proofs.Alone.{entered, no_others, only_within, same_state}
-use Rattle.nf_promises.proofs.Growing.{closes_grow, grows_none, grows_on, heads_same, judges_grow, responds_grow, says_same, takes_grow}
+use Rattle.nf_promises.proofs.Growing.{closes_grow, grows_none, grows_on, heads_same, judges_grow, responds_grow, takes_grow}
 use Rattle.nf_promises.proofs.Putting.{IsOfPut, content_of_body, ok_answer, put_is_got, put_replies, put_size}
+use Rattle.nf_promises.proofs.Touches.{book_of, stored_only}
 use Rattle.nf_promises.specs.Kept.{OnlyOwn, Puts, SaysStored, get_of, put_of}
 use Rattle.nf_words.specs.declared.answer.Goal.TheVariants.{Serve}
 
@@ -181,20 +181,6 @@ kept_taken {C} reads head begun v a m x b body caller spot n asked judges bodies
 
 -- ---- the turn
 
-responds_book : {C : Type 0} (last : Bool) (head : Head) (v : Response) (a b : Scene C) (result : Result (Option Ended) Ended) → SaysStored v
-    → Responds last head v a b result → b.book ≡ a.book
-responds_book last head response.Made a b (Ok end) says (is, wrote) =
-    says_same {T = Unit {0}} a b (made_reply (says_close last head response.Made)) (Ok tt) wrote
-responds_book last head response.Made a b (Err by) says wrote =
-    says_same {T = Unit {0}} a b (made_reply (says_close last head response.Made)) (Err by) wrote
-responds_book last head response.Done a b (Ok end) says (is, wrote) =
-    says_same {T = Unit {0}} a b (done_reply (says_close last head response.Done)) (Ok tt) wrote
-responds_book last head response.Done a b (Err by) says wrote =
-    says_same {T = Unit {0}} a b (done_reply (says_close last head response.Done)) (Err by) wrote
-responds_book last head (response.Denied refusal) a b result says responds = absurd says
-responds_book last head (response.Lost fault) a b result says responds = absurd says
-responds_book last head (response.File content first) a b result says responds = absurd says
-
 closes_book : {C : Type 0} (reads : C → ℕ → C → Type 0) (v : Response) (a b : Scene C) (result : Result (Option Ended) Ended) → SaysStored v
     → Closes reads (how_of v result) (stays_granted v) a b → b.book ≡ a.book
 closes_book {C} reads response.Made a b result says same = ap (λ (x : Scene C). x.book) same
@@ -228,6 +214,6 @@ put_is_kept reads last caller spot body a b end put sound told only =
     put.stored (subst (λ (k : Book). IsSound (state_of k)) (sym same) sound) (subst (λ (k : Book). IsSome k.told) (sym same) told) one two in
     let book : b.book ≡ answers.taken.book =
     closes_book reads v answers.sent b answers.result put.stored answers.closes
-    ∙ responds_book last put.head v answers.taken answers.sent answers.result put.stored answers.responds in
+    ∙ book_of answers.taken answers.sent (stored_only last put.head v answers.taken answers.sent answers.result put.stored answers.responds) in
     subst (λ (k : Book). IsKept k caller spot body) (sym book)
     (subst (λ (bytes : List ℕ). IsKept answers.taken.book caller spot bytes) put.body_is kept)

@@ -1,21 +1,19 @@
 -- What is put is what is got.
-use Rattle.std.proofs.Common.{ℕ, ◌≡◌, ◌||◌, ◌≤◌, Bool, true, false, List, length, Option, Some, Result, Ok, Err, inl, inr, refl, sym, ap, subst, ◌∙◌, arith}
+use Rattle.std.proofs.Common.{ℕ, ◌≡◌, ◌||◌, ◌≤◌, Bool, true, false, List, Option, Some, Result, Ok, Err, inl, inr, refl, sym, ap, subst, ◌∙◌, arith}
 use Rattle.std.specs.Io.KnownBytes.{Appends}
 use Rattle.nf_dav.specs.Asked.{request_of}
 use Rattle.nf_http.specs.Head.{Head, closes_session}
 use Rattle.nf_http.specs.declared.wire.WireFault.{WireFault}
 use Rattle.nf_http.specs.declared.wire.WireFault.TheVariants as wire
-use Rattle.nf_words.specs.declared.answer.Goal.TheVariants as goal
 use Rattle.nf_words.specs.declared.answer.Reply.TheVariants as reply
 use Rattle.nf_words.specs.declared.request.Caller.{Caller}
 use Rattle.nf_words.specs.declared.request.Spot.{Spot}
 use Rattle.nf_server.specs.Book.{Book, Ends, Struck}
-use Rattle.nf_server.specs.Steps.{Closes, EndsBy, Judges, Passes, Scene, TakesIn}
+use Rattle.nf_server.specs.Steps.{Closes, EndsBy, Judges, Scene, TakesIn}
 use Rattle.nf_server.specs.Turn.{Answers, Meets, Responds, Writes, end_by, end_of, how_of, says_close, stays_granted}
 use Rattle.nf_server.specs.declared.backend.Ending.{Ending}
 use Rattle.nf_server.specs.declared.backend.Ending.TheVariants as ending
 use Rattle.nf_server.specs.declared.begun.Begun.{Begun}
-use Rattle.nf_server.specs.declared.begun.Begun.TheVariants as begun
 use Rattle.nf_server.specs.declared.ended.Ended.{Ended}
 use Rattle.nf_server.specs.declared.ended.Ended.TheVariants as ended
 use Rattle.nf_server.specs.declared.response.Response.{Response}
@@ -24,34 +22,15 @@ use Rattle.nf_promises.proofs.Alone.{lasts_same, only_within}
 use Rattle.nf_promises.proofs.Gets.{Shown, begun_shown}
 use Rattle.nf_promises.proofs.Growing.{answers_grow, grows_none, grows_on, heads_same, judges_grow, meets_grow}
 use Rattle.nf_promises.proofs.Puts.{IsKept, put_is_kept}
+use Rattle.nf_promises.proofs.Touches.{closes_only, judges_only, output_of, passes_only}
 use Rattle.nf_promises.specs.Kept.{FailsStore, IsWritten, OnlyOwn, PutThenGet, ShowsFile, get_of}
-
--- ---- where nothing is written
-
-pub judges_output : {C : Type 0} (reads : C → ℕ → C → Type 0) (head : Head) (a b : Scene C) (v : Begun) → Judges reads head a b v → b.output ≡ a.output
-judges_output {C} reads head a b (begun.Unasked refusal) (is, same) = ap (λ (x : Scene C). x.output) same
-judges_output {C} reads head a b (begun.Asked answer) (r, now, asked, read, begins, only) = ap (λ (x : Scene C). x.output) only
-
-passes_output : {C : Type 0} (reads : C → ℕ → C → Type 0) (body : List ℕ) (a b : Scene C) (begun : Begun) (v : Response)
-    → Passes reads body a b begun v → b.output ≡ a.output
-passes_output {C} reads body a b (begun.Unasked refusal) v (is, same) = ap (λ (x : Scene C). x.output) same
-passes_output {C} reads body a b (begun.Asked (Ok (reply.Granted (goal.Serve content)))) v starts = ap (λ (x : Scene C). x.output) starts.only
-passes_output {C} reads body a b (begun.Asked (Ok (reply.Granted (goal.Store who key length)))) v (now, answer, read, ends, is, only) =
-    ap (λ (x : Scene C). x.output) only
-passes_output {C} reads body a b (begun.Asked (Ok reply.Made)) v (is, same) = ap (λ (x : Scene C). x.output) same
-passes_output {C} reads body a b (begun.Asked (Ok reply.Done)) v (is, same) = ap (λ (x : Scene C). x.output) same
-passes_output {C} reads body a b (begun.Asked (Ok reply.Closed)) v (is, same) = ap (λ (x : Scene C). x.output) same
-passes_output {C} reads body a b (begun.Asked (Err refusal)) v (is, same) = ap (λ (x : Scene C). x.output) same
 
 pub takes_output : {C : Type 0} (reads : C → ℕ → C → Type 0) (head : Head) (a b : Scene C) (begun : Begun) (v : Response)
     → TakesIn reads head a b begun (Ok v) → b.output ≡ a.output
 takes_output {C} reads head a b begun v (m, body, bodies, passes) =
-    passes_output reads body m b begun v passes ∙ ap (λ (x : Scene C). x.output) bodies.only
+    output_of m b (passes_only reads body m b begun v passes) ∙ ap (λ (x : Scene C). x.output) bodies.only
 
-pub closes_output : {C : Type 0} (reads : C → ℕ → C → Type 0) (how : Ending) (granted : Bool) (a b : Scene C) → Closes reads how granted a b
-    → b.output ≡ a.output
-closes_output {C} reads how true a b (now, read, ends, only) = ap (λ (x : Scene C). x.output) only
-closes_output {C} reads how false a b same = ap (λ (x : Scene C). x.output) same
+-- ---- strikes rise
 
 ends_strikes : (a b : Book) (now : ℕ) (how : Ending) → Ends a b now how (Ok reply.Closed) → a.strikes ≤ b.strikes
 ends_strikes a b now ending.Sent ends = ends.enters.lasts.strikes
@@ -138,8 +117,8 @@ answers_shown {C} reads last head caller spot body begun k m b end asked judges 
     let wrote = wrote_whole last head v answers.taken answers.sent answers.result answers.responds
     (subst (λ (e : Option Ended). IsWritten e) answers.ends written) in
     let shown = begun_shown reads last head caller spot body begun k m answers.taken answers.sent v asked judges kept only answers.takes wrote.0 wrote.1 in
-    let front : answers.taken.output ≡ k.output = takes_output reads head m answers.taken begun v answers.takes ∙ judges_output reads head k m begun judges in
-    let closed = closes_output reads (how_of v answers.result) (stays_granted v) answers.sent b answers.closes in
+    let front : answers.taken.output ≡ k.output = takes_output reads head m answers.taken begun v answers.takes ∙ output_of k m (judges_only reads head k m begun judges) in
+    let closed = output_of answers.sent b (closes_only reads (how_of v answers.result) (stays_granted v) answers.sent b answers.closes) in
     let later : answers.taken.book.strikes ≤ b.book.strikes =
     omega (
       arith,

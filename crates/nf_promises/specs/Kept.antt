@@ -82,11 +82,12 @@ ShowsFile close body a b =
     ⊎ Appends a.output b.output (refusal_reply close denial.Memory)
     ⊎ (Appends a.output b.output (refusal_reply close denial.Store) × FailsStore a.book b.book)
 
--- the body of a PUT that was made or done is what the next turn's GET of its path by the same caller is answered, byte for byte, where
--- the answer is written whole: over a sound state and a store that tells its bytes
+-- the body of a PUT that was made or done is what the next turn's GET of its path by the same caller is answered, byte
+-- for byte, where the answer is written whole: over a sound state and a store that tells its bytes
 abbrev pub PutThenGet : {C : Type 0} → (C → ℕ → C → Type 0) → Type 0
 PutThenGet {C} reads =
-    (caller : Caller) (spot : Spot) (body : List ℕ) (a b c : Scene C) (first last : Bool) (end done : Option Ended)
+    (caller : Caller) (spot : Spot) (body : List ℕ)
+    (a b c : Scene C) (first last : Bool) (end done : Option Ended)
     → Puts reads first caller spot body a b end → (get : Gets reads last caller spot b c done)
     → IsSound (state_of a.book) → IsSome a.book.told → OnlyOwn a.book c.book → IsWritten done
     → ShowsFile (last || closes_session get.head) body b c
@@ -104,10 +105,12 @@ pub record Prints (h : RequestHead) (request : Request) : Type 0 where
 abbrev pub SaysDone : {C : Type 0} → Scene C → Scene C → Type 0
 SaysDone a b = (close : Bool) × (Appends a.output b.output (made_reply close) ⊎ Appends a.output b.output (done_reply close))
 
--- two turns over an input that begins with a PUT, its body and a GET of its path by the same caller, and ends that tell their bytes
+-- two turns over an input that begins with a PUT, its body and a GET of its path by the same caller, and ends that tell
+-- their bytes
 abbrev pub PutThenGetOfBytes : {C : Type 0} → (C → ℕ → C → Type 0) → Type 0
 PutThenGetOfBytes {C} reads =
-    (caller : Caller) (spot : Spot) (put get : RequestHead) (body rest : List ℕ) (a b c : Scene C) (first last : Bool) (end done : Option Ended)
+    (caller : Caller) (spot : Spot) (put get : RequestHead) (body rest : List ℕ)
+    (a b c : Scene C) (first last : Bool) (end done : Option Ended)
     → Prints put (put_of caller spot (length body)) → Prints get (get_of caller spot)
     → a.input ≡ Some (print_request put ++ body ++ print_request get ++ rest) → IsSome a.output
     → Turn reads first a b end → SaysDone a b → Turn reads last b c done → IsWritten done

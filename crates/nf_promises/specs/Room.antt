@@ -11,11 +11,12 @@ pub record IsFresh (b : Book) : Type 0 where
   pub known : b.known ≡ []
   pub own : b.own ≡ []
 
--- all that has happened is of the seat's own: no other made an entry
+-- the seat's own entries are as many as all that it has seen: no other made one
 abbrev pub IsAlone : Book → Type 0
 IsAlone b = length b.known ≡ length b.own
 
 -- a session that finds a fresh run, and whose seat is alone at its end, doesn't end because the run is full
 abbrev pub NeverFull : {C : Type 0} → (C → ℕ → C → Type 0) → Type 0
 NeverFull {C} reads =
-    (a b : Scene C) (end : Option Ended) → Session reads a b end → IsFresh a.book → IsAlone b.book → end ≢ Some ended.RunFull
+    (a b : Scene C) (end : Option Ended) → Session reads a b end → IsFresh a.book → IsAlone b.book
+    → end ≢ Some ended.RunFull
