@@ -1,0 +1,167 @@
+-- What is put is what is got, of bytes.
+use Rattle.std.proofs.Common.{ℕ, ◌≡◌, ◌||◌, Bool, true, List, ◌++◌, length, Option, None, Some, Result, Ok, inl, inr, refl, sym, ap, append_assoc, subst, ◌∙◌}
+use Rattle.std.specs.Prelude.{IsSome}
+use Rattle.std.specs.Io.KnownBytes.{Appends}
+use Rattle.httparse.specs.Grammar.{RequestHead, print_request}
+use Rattle.nf_dav.specs.Asked.{request_of}
+use Rattle.nf_dav.specs.Reply.{done_reply, made_reply}
+use Rattle.nf_http.proofs.Agreement.{one_answer_and_rest}
+use Rattle.nf_http.proofs.Wholes.{one_body}
+use Rattle.nf_http.specs.Bodies.{TakesBody}
+use Rattle.nf_http.specs.Head.{Head, closes_session, head_of}
+use Rattle.nf_http.specs.Next.{IsNext, IsOfBytes}
+use Rattle.nf_http.specs.declared.wire.WireFault.{WireFault}
+use Rattle.nf_words.specs.declared.request.Caller.{Caller}
+use Rattle.nf_words.specs.declared.request.Request.{Request}
+use Rattle.nf_words.specs.declared.request.Spot.{Spot}
+use Rattle.nf_server.specs.Steps.{Bodies, Heads, Judges, Scene, is_granted, taken_length}
+use Rattle.nf_server.specs.Turn.{Answers, CutsShort, Turn, how_of, stays_granted}
+use Rattle.nf_server.specs.declared.backend.Ending.TheVariants as ending
+use Rattle.nf_server.specs.declared.begun.Begun.{Begun}
+use Rattle.nf_server.specs.declared.ended.Ended.{Ended}
+use Rattle.nf_promises.proofs.Alone.{only_within}
+use Rattle.nf_promises.proofs.Growing.{answers_grow, grows_none, heads_same, judges_grow, turn_grows}
+use Rattle.nf_promises.proofs.Marks.{done_mark, ends_not_done, is_done, made_mark, responds_stored}
+use Rattle.nf_promises.proofs.Puts.{BeginsPut, put_begun}
+use Rattle.nf_promises.proofs.Returning.{appends_by, cut_not_written, put_then_get, takes_output}
+use Rattle.nf_promises.proofs.Touches.{closes_only, input_of, judges_only, output_of, passes_only, stored_only}
+use Rattle.nf_promises.specs.Kept.{Gets, IsWritten, OnlyOwn, Prints, PutThenGetOfBytes, Puts, SaysDone, SaysStored, ShowsFile, get_of, put_of}
+
+-- ---- the head at the front
+
+next_is : {C : Type 0} (a m : Scene C) (h : RequestHead) (request : Request) (left : List ℕ) (result : Result (Option Head) WireFault)
+    → Prints h request → a.input ≡ Some (print_request h ++ left) → Heads a m result → IsOfBytes result
+    → (result ≡ Ok (Some (head_of h))) × (m.input ≡ Some left)
+next_is a m h request left result prints input heads of =
+    one_answer_and_rest (print_request h ++ left) m.input (Some left) result (Ok (Some (head_of h)))
+    (subst (λ (o : Option (List ℕ)). IsNext o m.input result) input heads.next)
+    (h, refl, (prints.is_head, prints.short, prints.sound, refl)) of tt
+
+none_is_no_head : {C : Type 0} (a m : Scene C) (h : RequestHead) (request : Request) (left : List ℕ)
+    → Prints h request → a.input ≡ Some (print_request h ++ left) → Heads a m (Ok None) → ⊥
+none_is_no_head a m h request left prints input heads = never (head_of h) (next_is a m h request left (Ok None) prints input heads tt).0
+  where
+    never : (head : Head) → ◌≡◌ {A = Result (Option Head) WireFault} (Ok None) (Ok (Some head)) → ⊥
+    never head is = cc
+
+head_is : {C : Type 0} (a m : Scene C) (h : RequestHead) (request : Request) (left : List ℕ) (head : Head)
+    → Prints h request → a.input ≡ Some (print_request h ++ left) → Heads a m (Ok (Some head))
+    → (head ≡ head_of h) × (m.input ≡ Some left)
+head_is a m h request left head prints input heads =
+    let next = next_is a m h request left (Ok (Some head)) prints input heads tt in
+    (same (head_of h) next.0, next.1)
+  where
+    same : (other : Head) → ◌≡◌ {A = Result (Option Head) WireFault} (Ok (Some head)) (Ok (Some other)) → head ≡ other
+    same other is = cc
+
+-- ---- the turn of the PUT
+
+-- what it is, and what it leaves to be read
+abbrev PutsAndLeaves : {C : Type 0} → (C → ℕ → C → Type 0) → Bool → Caller → Spot → List ℕ → List ℕ → Scene C → Scene C → Option Ended → Type 0
+PutsAndLeaves reads last caller spot body left a b end = Puts reads last caller spot body a b end × (b.input ≡ Some left)
+
+bodies_of : {C : Type 0} (m x : Scene C) (head : Head) (begun : Begun) (body : List ℕ) (n : ℕ) → BeginsPut begun n
+    → Bodies m x (taken_length head begun) body → Bodies m x n body
+bodies_of m x head begun body n begins bodies = subst (λ (q : Begun). Bodies m x (taken_length head q) body) begins.is bodies
+
+answers_put : {C : Type 0} (reads : C → ℕ → C → Type 0) (last : Bool) (caller : Caller) (spot : Spot) (body left : List ℕ) (head : Head) (begun : Begun)
+    (a k m b : Scene C) (end : Option Ended) (w : List ℕ) → Heads a k (Ok (Some head)) → request_of head ≡ Ok (put_of caller spot (length body))
+    → k.input ≡ Some (body ++ left) → Judges reads head k m begun → Answers reads last head begun m b end
+    → IsSome a.output → Appends a.output b.output w → is_done w ≡ true → OnlyOwn k.book m.book
+    → PutsAndLeaves reads last caller spot body left a b end
+answers_put {C} reads last caller spot body left head begun a k m b end w heads asked input judges answers told wrote done one =
+    let v = answers.response in
+    let taken = answers.taken in
+    let sent = answers.sent in
+    let x : Scene C = answers.takes.0 in
+    let front : taken.output ≡ a.output = takes_output reads head m taken begun v answers.takes ∙ output_of k m (judges_only reads head k m begun judges)
+    ∙ ap (λ (y : Scene C). y.output) heads.only in
+    let closed = output_of sent b (closes_only reads (how_of v answers.result) (stays_granted v) sent b answers.closes) in
+    let says : SaysStored v = responds_stored last head v taken sent w answers.result answers.responds
+    (subst (λ (o : Option (List ℕ)). IsSome o) (sym front) told)
+    (appends_by taken.output sent.output a.output b.output w (sym front) closed wrote) done in
+    let begins = put_begun reads head begun v k m x taken answers.takes.1 caller spot (length body) asked judges answers.takes.3 says one in
+    let bodies = bodies_of m x head begun answers.takes.1 (length body) begins answers.takes.2 in
+    let whole = one_body (body ++ left) x.input (Some left) (length body) answers.takes.1 body
+    (subst (λ (o : Option (List ℕ)). TakesBody o x.input (length body) answers.takes.1) (input_of k m (judges_only reads head k m begun judges) ∙ input) bodies.taken)
+    (refl, refl) in (
+      record {
+        head = head;
+        behind = k;
+        heads = heads;
+        asked = asked;
+        judged = m;
+        begun = begun;
+        judges = judges;
+        answers = answers;
+        body_is = whole.0;
+        stored = says;
+      },
+      input_of sent b (closes_only reads (how_of v answers.result) (stays_granted v) sent b answers.closes)
+          ∙ ap (λ (y : Scene C). y.input) (stored_only last head v taken sent answers.result says answers.responds)
+          ∙ input_of x taken (passes_only reads answers.takes.1 x taken begun v answers.takes.3) ∙ whole.1,
+    )
+
+cuts_not_done : {C : Type 0} (reads : C → ℕ → C → Type 0) (head : Head) (begun : Begun) (k m b : Scene C) (end : Option Ended) (w : List ℕ)
+    → Judges reads head k m begun → CutsShort reads head begun m b end → IsSome k.output → Appends k.output b.output w → is_done w ≡ true → ⊥
+cuts_not_done {C} reads head begun k m b end w judges cuts told wrote done =
+    let front : cuts.cut.output ≡ k.output = ap (λ (y : Scene C). y.output) cuts.takes.only ∙ output_of k m (judges_only reads head k m begun judges) in
+    let closed = output_of cuts.sent b (closes_only reads ending.Gone (is_granted begun) cuts.sent b cuts.closes) in
+    ends_not_done cuts.fault cuts.cut cuts.sent w cuts.by cuts.responds (subst (λ (o : Option (List ℕ)). IsSome o) (sym front) told)
+    (appends_by cuts.cut.output cuts.sent.output k.output b.output w (sym front) closed wrote) done
+
+turn_puts : {C : Type 0} (reads : C → ℕ → C → Type 0) (last : Bool) (caller : Caller) (spot : Spot) (h : RequestHead) (body left : List ℕ)
+    (a b : Scene C) (end : Option Ended) (w : List ℕ) → Prints h (put_of caller spot (length body))
+    → a.input ≡ Some (print_request h ++ (body ++ left)) → IsSome a.output → Appends a.output b.output w → is_done w ≡ true
+    → OnlyOwn a.book b.book → Turn reads last a b end → PutsAndLeaves reads last caller spot body left a b end
+turn_puts reads last caller spot h body left a b end w prints input told wrote done only (inl (heads, is)) =
+    absurd (none_is_no_head a b h (put_of caller spot (length body)) (body ++ left) prints input heads)
+turn_puts {C} reads last caller spot h body left a b end w prints input told wrote done only (inr (inl (m, why, by, heads, ends, is))) =
+    let front : m.output ≡ a.output = ap (λ (y : Scene C). y.output) heads.only in
+    absurd (ends_not_done why m b w by ends (subst (λ (o : Option (List ℕ)). IsSome o) (sym front) told)
+    (appends_by m.output b.output a.output b.output w (sym front) refl wrote) done)
+turn_puts {C} reads last caller spot h body left a b end w prints input told wrote done only
+    (inr (inr (k, head, heads, (m, begun, judges, inl answers)))) =
+    let at = head_is a k h (put_of caller spot (length body)) (body ++ left) head prints input heads in
+    let front = grows_none a.book k.book (heads_same a k (Ok (Some head)) heads) in
+    let one : OnlyOwn k.book m.book = only_within a.book k.book m.book b.book 0 1 2 front (judges_grow reads head k m begun judges)
+    (answers_grow reads last head begun m b end answers) only in
+    answers_put reads last caller spot body left head begun a k m b end w heads (ap request_of at.0 ∙ prints.asks) at.1 judges answers told wrote done one
+turn_puts {C} reads last caller spot h body left a b end w prints input told wrote done only
+    (inr (inr (k, head, heads, (m, begun, judges, inr cuts)))) =
+    let front : k.output ≡ a.output = ap (λ (y : Scene C). y.output) heads.only in
+    absurd (cuts_not_done reads head begun k m b end w judges cuts (subst (λ (o : Option (List ℕ)). IsSome o) (sym front) told)
+    (appends_by k.output b.output a.output b.output w (sym front) refl wrote) done)
+
+-- ---- the turn of the GET
+
+turn_gets : {C : Type 0} (reads : C → ℕ → C → Type 0) (last : Bool) (caller : Caller) (spot : Spot) (h : RequestHead) (rest : List ℕ)
+    (a b : Scene C) (end : Option Ended) → Prints h (get_of caller spot) → a.input ≡ Some (print_request h ++ rest) → IsWritten end
+    → Turn reads last a b end → (get : Gets reads last caller spot a b end) × (get.head ≡ head_of h)
+turn_gets reads last caller spot h rest a b end prints input written (inl (heads, is)) =
+    absurd (none_is_no_head a b h (get_of caller spot) rest prints input heads)
+turn_gets reads last caller spot h rest a b end prints input written (inr (inl (m, why, by, heads, ends, is))) =
+    absurd (cut_not_written why m b by ends (subst (λ (e : Option Ended). IsWritten e) is written))
+turn_gets reads last caller spot h rest a b end prints input written (inr (inr (k, head, heads, meets))) =
+    let at = head_is a k h (get_of caller spot) rest head prints input heads in
+    (record { head = head; behind = k; heads = heads; asked = ap request_of at.0 ∙ prints.asks; meets = meets }, at.0)
+
+-- ---- both
+
+-- the bytes that say so
+says_done : {C : Type 0} (a b : Scene C) → SaysDone a b → (w : List ℕ) × Appends a.output b.output w × (is_done w ≡ true)
+says_done a b (close, inl wrote) = (made_reply close, wrote, made_mark close)
+says_done a b (close, inr wrote) = (done_reply close, wrote, done_mark close)
+
+pub put_then_get_of_bytes : {C : Type 0} (reads : C → ℕ → C → Type 0) → PutThenGetOfBytes reads
+put_then_get_of_bytes {C} reads caller spot put get body rest a b c first last end done puts gets input told turn says later written sound tells only =
+    let wrote = says_done a b says in
+    let parts : print_request put ++ body ++ print_request get ++ rest ≡ print_request put ++ (body ++ (print_request get ++ rest)) =
+    append_assoc (print_request put ++ body) (print_request get) rest ∙ append_assoc (print_request put) body (print_request get ++ rest) in
+    let none = grows_none a.book a.book refl in
+    let alone : OnlyOwn a.book b.book = only_within a.book a.book b.book c.book 0 3 3 none (turn_grows reads first a b end turn)
+    (turn_grows reads last b c done later) only in
+    let one = turn_puts reads first caller spot put body (print_request get ++ rest) a b end wrote.0 puts (input ∙ ap (λ (bytes : List ℕ). Some bytes) parts) told wrote.1 wrote.2 alone turn in
+    let two = turn_gets reads last caller spot get rest b c done gets one.1 written later in
+    subst (λ (head : Head). ShowsFile (last || closes_session head) body b c) two.1
+    (put_then_get reads caller spot body a b c first last end done one.0 two.0 sound tells only written)

@@ -1,0 +1,175 @@
+-- A run isn't full for a session that began it.
+use Rattle.std.proofs.Common.{ℕ, suc, ◌+◌, ◌*◌, ◌≡◌, ◌<◌, ◌≤◌, ◌==◌, Bool, true, false, List, [], ◌∷◌, length, Option, Some, Result, Ok, Err, inl, inr, refl, ap, subst, sym, ◌∙◌, arith}
+use Rattle.nf_base.specs.declared.content.Piece.{Piece}
+use Rattle.nf_http.specs.Head.{Head, closes_session}
+use Rattle.nf_http.specs.declared.wire.WireFault.{WireFault}
+use Rattle.nf_http.specs.declared.wire.WireFault.TheVariants as wire
+use Rattle.nf_words.specs.History.{most_entries}
+use Rattle.nf_words.specs.State.{opened}
+use Rattle.nf_words.specs.declared.answer.Denial.{Denial}
+use Rattle.nf_words.specs.declared.answer.Denial.TheVariants as denial
+use Rattle.nf_words.specs.declared.answer.Goal.TheVariants as goal
+use Rattle.nf_words.specs.declared.answer.Reply.TheVariants as reply
+use Rattle.nf_server.specs.Book.{Answer, Book, entries_wanted, state_after}
+use Rattle.nf_server.specs.Session.{Through}
+use Rattle.nf_server.specs.Steps.{EndsBy, IsResponse, Judges, Passes, Scene, Starts, TakesIn}
+use Rattle.nf_server.specs.Turn.{Answers, CutsShort, Responds, Turn, Writes, end_by, end_of, end_of_close, end_of_denial, says_close}
+use Rattle.nf_server.specs.declared.begun.Begun.{Begun}
+use Rattle.nf_server.specs.declared.begun.Begun.TheVariants as begun
+use Rattle.nf_server.specs.declared.ended.Ended.{Ended}
+use Rattle.nf_server.specs.declared.ended.Ended.TheVariants as ended
+use Rattle.nf_server.specs.declared.response.Response.{Response}
+use Rattle.nf_server.specs.declared.response.Response.TheVariants as response
+use Rattle.nf_promises.proofs.Growing.{answers_grow, turn_grows, Grew, Grows, grew_none, grows_more, grows_none, grows_on, heads_same, judges_grow}
+use Rattle.nf_promises.proofs.Refusals.{end_not_full, request_not_full}
+use Rattle.nf_promises.proofs.Tickets.{few_tickets}
+use Rattle.nf_promises.specs.Room.{NeverFull}
+
+-- ---- which response ends a session so
+
+close_not_full : (closes : Bool) → end_of_close closes ≡ Some ended.RunFull → ⊥
+close_not_full true is = cc
+close_not_full false is = cc
+
+denial_full : (closes : Bool) (refusal : Denial) → end_of_denial closes refusal ≡ Some ended.RunFull → refusal ≡ denial.RunFull
+denial_full closes denial.RunFull is = refl
+denial_full closes denial.NotBuilt is = absurd (cc)
+denial_full closes other is = absurd (close_not_full closes is)
+
+response_full : (closes : Bool) (v : Response) → end_of closes v ≡ Some ended.RunFull → v ≡ response.Denied denial.RunFull
+response_full closes (response.Denied refusal) is = ap response.Denied (denial_full closes refusal is)
+response_full closes (response.Lost fault) is = absurd (close_not_full closes is)
+response_full closes (response.File content first) is = absurd (close_not_full closes is)
+response_full closes response.Made is = absurd (close_not_full closes is)
+response_full closes response.Done is = absurd (close_not_full closes is)
+
+-- no writing does
+writes_not_full : {C : Type 0} (close : Bool) (v : Response) (a b : Scene C) → Writes {T = Unit {0}} close v a b (Err ended.RunFull) → ⊥
+writes_not_full close (response.Denied refusal) a b never = never
+writes_not_full close (response.Lost fault) a b never = never
+writes_not_full close (response.File content first) a b never = never
+writes_not_full close response.Made a b never = never
+writes_not_full close response.Done a b never = never
+
+responds_full : {C : Type 0} (last : Bool) (head : Head) (v : Response) (a b : Scene C) (result : Result (Option Ended) Ended)
+    → Responds last head v a b result → end_by result ≡ Some ended.RunFull → v ≡ response.Denied denial.RunFull
+responds_full last head v a b (Ok end) (ends, writes) is = response_full (closes_session head) v (sym ends ∙ is)
+responds_full last head v a b (Err by) writes is =
+    let same : by ≡ ended.RunFull = cc in
+    absurd (writes_not_full (says_close last head v) v a b
+    (subst (λ (e : Ended). Writes {T = Unit {0}} (says_close last head v) v a b (Err e)) same writes))
+
+-- nor do bytes that are no message
+ends_not_full : {C : Type 0} (fault : WireFault) (a b : Scene C) → EndsBy fault a b ended.RunFull → ⊥
+ends_not_full wire.ReadFault a b (is, same) = cc
+ends_not_full wire.Memory a b (is, same) = cc
+ends_not_full other a b never = never
+
+-- ---- a message that is answered so
+
+starts_not_full : (a b : Book) (content : List Piece) → Starts a b content (response.Denied denial.RunFull) → ⊥
+starts_not_full a b [] never = never
+starts_not_full a b (piece ∷ pieces) never = never
+
+answer_full : (answer : Answer) → IsResponse answer (response.Denied denial.RunFull) → answer ≡ Err denial.RunFull
+answer_full (Ok reply.Made) is = absurd (cc)
+answer_full (Ok reply.Done) is = absurd (cc)
+answer_full (Ok reply.Closed) never = absurd never
+answer_full (Ok (reply.Granted goal)) never = absurd never
+answer_full (Err refusal) is = cc
+
+-- it was refused before its body, or it was asked, and answered so
+abbrev IsFound : Begun → Type 0
+IsFound (begun.Unasked refusal) = refusal ≡ denial.RunFull
+IsFound (begun.Asked answer) = answer ≡ Err denial.RunFull
+
+passes_full : {C : Type 0} (reads : C → ℕ → C → Type 0) (body : List ℕ) (a b : Scene C) (begun : Begun)
+    → Passes reads body a b begun (response.Denied denial.RunFull) → IsFound begun
+passes_full reads body a b (begun.Unasked refusal) (is, same) = cc
+passes_full reads body a b (begun.Asked (Ok (reply.Granted (goal.Serve content)))) starts =
+    absurd (starts_not_full a.book b.book content starts.starts)
+passes_full reads body a b (begun.Asked (Ok (reply.Granted (goal.Store who key length)))) (now, answer, read, ends, is, only) =
+    let enters = ends.enters in
+    absurd (end_not_full (state_after a.book enters.others) enters.entry _ enters.event_is (sym enters.answer_is ∙ answer_full answer is))
+passes_full reads body a b (begun.Asked (Ok reply.Made)) (is, same) = answer_full (Ok reply.Made) is
+passes_full reads body a b (begun.Asked (Ok reply.Done)) (is, same) = answer_full (Ok reply.Done) is
+passes_full reads body a b (begun.Asked (Ok reply.Closed)) (is, same) = answer_full (Ok reply.Closed) is
+passes_full reads body a b (begun.Asked (Err refusal)) (is, same) = answer_full (Err refusal) is
+
+judges_full : {C : Type 0} (reads : C → ℕ → C → Type 0) (head : Head) (a b : Scene C) (begun : Begun)
+    → Judges reads head a b begun → IsFound begun → most_entries < entries_wanted b.book
+judges_full reads head a b (begun.Unasked refusal) (inl asked, same) is =
+    absurd (request_not_full head (asked ∙ ap Err is))
+judges_full reads head a b (begun.Unasked refusal) (inr memory, same) is = absurd (cc)
+judges_full reads head a b (begun.Asked answer) (r, now, asked, read, begins, only) is = begins.full is
+
+-- ---- a turn
+
+-- between two books the run was found full
+record FindsFull (a b : Book) : Type 0 where
+  middle : Book
+  before : Grows a middle 3
+  behind : Grows middle b 3
+  full : most_entries < entries_wanted middle
+
+answers_full : {C : Type 0} (reads : C → ℕ → C → Type 0) (last : Bool) (head : Head) (begun : Begun) (a m b : Scene C)
+    → Judges reads head a m begun → Answers reads last head begun m b (Some ended.RunFull) → FindsFull a.book b.book
+answers_full {C} reads last head begun a m b judges answers =
+    let v : answers.response ≡ response.Denied denial.RunFull =
+    responds_full last head answers.response answers.taken answers.sent answers.result answers.responds (sym answers.ends) in
+    let takes : TakesIn reads head m answers.taken begun (Ok (response.Denied denial.RunFull)) =
+    subst (λ (v : Response). TakesIn reads head m answers.taken begun (Ok v)) v answers.takes in
+    record {
+      middle = m.book;
+      before = grows_more a.book m.book 1 3 (omega arith) (judges_grow reads head a m begun judges);
+      behind = grows_more m.book b.book 2 3 (omega arith) (answers_grow reads last head begun m b (Some ended.RunFull) answers);
+      full = judges_full reads head a m begun judges (passes_full reads takes.1 takes.0 answers.taken begun takes.3);
+    }
+
+cuts_not_full : {C : Type 0} (reads : C → ℕ → C → Type 0) (head : Head) (begun : Begun) (a b : Scene C)
+    → CutsShort reads head begun a b (Some ended.RunFull) → ⊥
+cuts_not_full {C} reads head begun a b cuts =
+    let same : cuts.by ≡ ended.RunFull = cc in
+    ends_not_full cuts.fault cuts.cut cuts.sent (subst (λ (e : Ended). EndsBy cuts.fault cuts.cut cuts.sent e) same cuts.responds)
+
+turn_full : {C : Type 0} (reads : C → ℕ → C → Type 0) (last : Bool) (a b : Scene C) → Turn reads last a b (Some ended.RunFull)
+    → FindsFull a.book b.book
+turn_full reads last a b (inl (heads, is)) = absurd (cc)
+turn_full {C} reads last a b (inr (inl (m, fault, by, heads, ends, is))) =
+    let same : by ≡ ended.RunFull = cc in
+    absurd (ends_not_full fault m b (subst (λ (e : Ended). EndsBy fault m b e) same ends))
+turn_full reads last a b (inr (inr (m, head, heads, (n, begun, judges, inl answers)))) =
+    let found = answers_full reads last head begun m n b judges answers in
+    record {
+      middle = found.middle;
+      before = grows_on a.book m.book found.middle 0 3 3 (omega arith) (grows_none a.book m.book (heads_same a m (Ok (Some head)) heads)) found.before;
+      behind = found.behind;
+      full = found.full;
+    }
+turn_full reads last a b (inr (inr (m, head, heads, (n, begun, judges, inr cuts)))) = absurd (cuts_not_full reads head begun n b cuts)
+
+-- and how much the turns before it make it grow
+through_grow : {C : Type 0} (reads : C → ℕ → C → Type 0) (a : Scene C) (scenes : List (Scene C)) (b : Scene C)
+    → Through reads a scenes b → Grew a b (3 * length scenes)
+through_grow {C} reads a [] b same = grew_none a b (ap (λ (x : Scene C). x.book) (sym same))
+through_grow reads a (m ∷ scenes) b (turn, more) =
+    grows_on a.book m.book b.book 3 (3 * length scenes) (3 * suc (length scenes)) (omega arith)
+    (turn_grows reads false a m _ turn) (through_grow reads m scenes b more)
+
+-- ---- a session
+
+-- a history of few entries leaves room
+few_wanted : (b : Book) (most : ℕ) → length b.known ≤ most → entries_wanted b ≤ most + most + 2
+few_wanted b most few = omega (arith, few_tickets (opened b.opening) b.known)
+
+pub never_full : {C : Type 0} (reads : C → ℕ → C → Type 0) → NeverFull reads
+never_full {C} reads a b end session fresh alone is =
+    let found = turn_full reads (length session.scenes == 9999) session.before b
+    (subst (λ (e : Option Ended). Turn reads (length session.scenes == 9999) session.before b e) is session.turn) in
+    let through = through_grow reads a session.scenes session.before session.through in
+    let whole = grows_on a.book session.before.book found.middle (3 * length session.scenes) 3 30000 (omega (arith, session.few)) through found.before in
+    let known : length a.book.known ≡ 0 = ap length fresh.known in
+    let own : length a.book.own ≡ 0 = ap length fresh.own in
+    let few : length found.middle.known ≤ 30000 = omega (arith, whole.own, whole.known, found.behind.own, found.behind.known) in
+    let wanted = few_wanted found.middle 30000 few in
+    omega (arith, wanted, found.full)

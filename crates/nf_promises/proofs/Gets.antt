@@ -1,0 +1,304 @@
+-- What a turn that took a GET writes, where the body of a PUT is kept.
+use Rattle.std.proofs.Common.{ℕ, ◌+◌, ◌==◌, ◌≡◌, ◌≢◌, ◌⊎◌, ◌||◌, Bool, true, false, List, [], ◌∷◌, ◌++◌, length, Option, None, Some, Result, Ok, Err, is_some, if◌then◌else◌, inl, inr, refl, sym, ap, subst, ◌∙◌, arith, Contains}
+use Rattle.std.specs.Prelude.{IfSome, MatchBool, Vec}
+use Rattle.std.specs.Io.KnownBytes.{Appends}
+use Rattle.std.specs.declared.alloc.Global.{Global}
+use Rattle.std.proofs.lemmas.Bool.{eqb-true}
+use Rattle.std.proofs.lemmas.List.{append-nil}
+use Rattle.sha2.specs.Sha256.{sha256}
+use Rattle.nf_base.specs.declared.content.Piece.{Piece}
+use Rattle.nf_dav.specs.Asked.{request_of}
+use Rattle.nf_dav.specs.Reply.{file_head, refusal_reply}
+use Rattle.nf_http.specs.Head.{Head, closes_session}
+use Rattle.nf_words.specs.Endings.{blob_for, content_in}
+use Rattle.nf_words.specs.History.{HasBody, MayBear, answer_at}
+use Rattle.nf_words.specs.State.{State}
+use Rattle.nf_words.specs.Step.{answer_to, answered_by, changes_by, changes_to, decision_of}
+use Rattle.nf_words.specs.declared.answer.Allowed.{Allowed}
+use Rattle.nf_words.specs.declared.answer.Allowed.TheVariants as allowed
+use Rattle.nf_words.specs.declared.answer.Denial.{Denial}
+use Rattle.nf_words.specs.declared.answer.Denial.TheVariants as denial
+use Rattle.nf_words.specs.declared.answer.Goal.TheVariants.{Serve}
+use Rattle.nf_words.specs.declared.answer.Reply.TheVariants as reply
+use Rattle.nf_words.specs.declared.history.Entry.{Entry}
+use Rattle.nf_words.specs.declared.history.Event.{Event}
+use Rattle.nf_words.specs.declared.history.Event.TheVariants.{Begin}
+use Rattle.nf_words.specs.declared.history.Mark.{Mark}
+use Rattle.nf_words.specs.declared.history.Mark.TheVariants as mark
+use Rattle.nf_words.specs.declared.request.Caller.{Caller}
+use Rattle.nf_words.specs.declared.request.Request.{Request}
+use Rattle.nf_words.specs.declared.request.Spot.{Spot}
+use Rattle.nf_words.specs.declared.request.Words.{Words}
+use Rattle.nf_defs.specs.Tables.{Tables}
+use Rattle.nf_server.specs.Book.{Answer, Begins, Book, Enters, FailsPiece, Lasts, Shelf, Struck, TellsStill, Waits, blob_at, is_unmade, state_of}
+use Rattle.nf_server.specs.Files.{AreGiven, SendsFile, file_front}
+use Rattle.nf_server.specs.Steps.{Judges, Scene, Starts, StartsFile, TakesIn, no_words}
+use Rattle.nf_server.specs.Turn.{Writes, end_of, end_of_close, says_close}
+use Rattle.nf_server.specs.declared.backend.PieceFault.{PieceFault}
+use Rattle.nf_server.specs.declared.backend.PieceFault.TheVariants as fault
+use Rattle.nf_server.specs.declared.begun.Begun.{Begun}
+use Rattle.nf_server.specs.declared.begun.Begun.TheVariants as begun
+use Rattle.nf_server.specs.declared.response.Response.{Response}
+use Rattle.nf_server.specs.declared.response.Response.TheVariants as response
+use Rattle.nf_promises.proofs.Alone.{entered, lasts_on, lasts_same, none_of}
+use Rattle.nf_promises.proofs.Putting.{content_of_body}
+use Rattle.nf_promises.proofs.Puts.{IsKept}
+use Rattle.nf_promises.specs.Kept.{FailsStore, IsWritten, OnlyOwn, get_of}
+
+-- ---- what its Begin is answered
+
+-- what serves changes nothing, so no store can fail it
+serves_nothing : (t : Tables) (now : ℕ) (d : Result Allowed Denial) (content : List Piece) → answered_by d ≡ Ok (reply.Granted (Serve content))
+    → changes_by t now d ≡ []
+serves_nothing t now (Ok (allowed.Get node other)) content is = refl
+serves_nothing t now (Ok (allowed.Put by key size)) content is = absurd (cc)
+serves_nothing t now (Ok (allowed.StoreNew row blob)) content is = absurd (cc)
+serves_nothing t now (Ok (allowed.StoreOver node other blob)) content is = absurd (cc)
+serves_nothing t now (Ok (allowed.Mkcol row)) content is = absurd (cc)
+serves_nothing t now (Ok (allowed.Delete nodes)) content is = absurd (cc)
+serves_nothing t now (Ok allowed.Close) content is = absurd (cc)
+serves_nothing t now (Err refusal) content is = refl
+
+begin_marked : (s : State) (e : Entry) (words : Words) (request : Request) (content : List Piece) → e.event ≡ Begin words request
+    → answer_to s e.seat e.moment (Begin words request) ≡ Ok (reply.Granted (Serve content)) → (m : Mark) → MayBear s e m → m ≡ mark.Answered
+begin_marked s e words request content event is mark.Answered may = refl
+begin_marked s e words request content event is mark.Store may =
+    absurd (may (ap (changes_to s e.seat e.moment) event
+    ∙ serves_nothing s.tables e.moment (decision_of s e.seat e.moment (Begin words request)) content is))
+begin_marked s e words request content event is mark.Memory may = absurd (subst (λ (ev : Event). HasBody ev) event may)
+
+unmade_is : (answer : Answer) → is_unmade answer ≡ true → (answer ≡ Err denial.RunFull) ⊎ (answer ≡ Err denial.Memory)
+unmade_is (Ok answered) is = absurd (cc)
+unmade_is (Err denial.RunFull) is = inl refl
+unmade_is (Err denial.Memory) is = inr refl
+unmade_is (Err other) is = absurd (cc)
+
+-- it is granted what was stored, or there was no memory or no room
+get_answered : (a m : Book) (now : ℕ) (caller : Caller) (spot : Spot) (body : List ℕ) (answer : Answer) (kept : IsKept a caller spot body)
+    → OnlyOwn a m → Begins a m now no_words (get_of caller spot) answer
+    → (answer ≡ Ok (reply.Granted (Serve (content_of_body kept.before body))))
+    ⊎ ((answer ≡ Err denial.RunFull) ⊎ (answer ≡ Err denial.Memory))
+get_answered a m now caller spot body answer kept only begins = here (is_unmade answer) refl begins.entry
+  where
+    here : (unmade : Bool) → is_unmade answer ≡ unmade
+        → MatchBool unmade (Waits a m) (Enters a m now (Begin no_words (get_of caller spot)) answer)
+        → (answer ≡ Ok (reply.Granted (Serve (content_of_body kept.before body)))) ⊎ ((answer ≡ Err denial.RunFull) ⊎ (answer ≡ Err denial.Memory))
+    here true is waits = inr (unmade_is answer is)
+    here false is enters =
+        let event : Event = Begin no_words (get_of caller spot) in
+        let s = state_of a in
+        let e = enters.entry in
+        let begin = entered a m now event answer enters only in
+        let got : answer_to s e.seat e.moment event ≡ Ok (reply.Granted (Serve (content_of_body kept.before body))) = kept.got e.seat e.moment no_words in
+        let marked : e.mark ≡ mark.Answered =
+        begin_marked s e no_words (get_of caller spot) (content_of_body kept.before body) begin.event_is got e.mark begin.may.marked in
+        inl (sym begin.answer_is ∙ ap (answer_at s e) marked ∙ ap (answer_to s e.seat e.moment) begin.event_is ∙ got)
+
+begins_lasts : (a m : Book) (now : ℕ) (words : Words) (request : Request) (answer : Answer) → Begins a m now words request answer → Lasts a m
+begins_lasts a m now words request answer begins = here (is_unmade answer) begins.entry
+  where
+    here : (unmade : Bool) → MatchBool unmade (Waits a m) (Enters a m now (Begin words request) answer) → Lasts a m
+    here true waits = waits.lasts
+    here false enters = enters.lasts
+
+-- ---- the bytes of the file
+
+keeps_blob : (old new : Option Shelf) (shelf : Shelf) → old ≡ Some shelf → TellsStill old new
+    → (later : Shelf) × (new ≡ Some later) × ((id : ℕ) (bytes : List ℕ) → blob_at shelf id ≡ Some bytes → blob_at later id ≡ Some bytes)
+keeps_blob None new shelf is still = absurd (cc)
+keeps_blob (Some x) None shelf is still = absurd still
+keeps_blob (Some x) (Some y) shelf is still =
+    let same : shelf ≡ x = cc in
+    (y, refl, λ id bytes there. still id bytes (subst (λ (z : Shelf). blob_at z id ≡ Some bytes) same there))
+
+empty_for : (next : ℕ) (body : List ℕ) → blob_for next (length body) ≡ None → body ≡ []
+empty_for next body is = here (length body == 0) refl is
+  where
+    here : (a : Bool) → (length body == 0) ≡ a → (if a then None else Some next) ≡ None → body ≡ []
+    here true e is = none_of body (eqb-true (length body) 0 e)
+    here false e is = absurd (cc)
+
+file_bytes : (close : Bool) (b : Book) (next : ℕ) (body : List ℕ) (later : Shelf) → b.told ≡ Some later
+    → ((id : ℕ) → blob_for next (length body) ≡ Some id → blob_at later id ≡ Some body)
+    → (o : Option ℕ) → blob_for next (length body) ≡ o
+    → (given : List (List ℕ)) → AreGiven b (content_in o (sha256 body) (length body)) given
+    → length given ≡ length (content_in o (sha256 body) (length body))
+    → file_front close (content_in o (sha256 body) (length body)) given ≡ file_head close (length body) ++ body
+file_bytes close b next body later told there None is [] are count =
+    ap (λ (bytes : List ℕ). file_head close (length bytes) ++ bytes) (sym (empty_for next body is))
+file_bytes close b next body later told there None is (bytes ∷ given) are count = absurd are
+file_bytes close b next body later told there (Some id) is [] are count = absurd (omega (arith, count))
+file_bytes close b next body later told there (Some id) is (bytes ∷ []) (piece, rest) count =
+    let found : blob_at later id ≡ Some bytes = subst (λ (o : Option Shelf). IfSome o (λ shelf. blob_at shelf id ≡ Some bytes)) told piece.told in
+    let wanted : blob_at later id ≡ Some body = there id is in
+    let same : bytes ≡ body = cc in
+    let size : 0 + length body ≡ length body = omega arith in
+    let whole : bytes ++ [] ≡ body = append-nil bytes ∙ same in
+    λ i. file_head close (size i) ++ whole i
+file_bytes close b next body later told there (Some id) is (bytes ∷ more ∷ given) are count = absurd (omega (arith, count))
+
+-- ---- how it starts
+
+starts_file : (a b : Book) (content other : List Piece) (first : Option (Vec ℕ Global)) → Starts a b content (response.File other first)
+    → (other ≡ content) × Lasts a b
+starts_file a b [] other None (is, same) = (is, lasts_same a b same)
+starts_file a b [] other (Some first) never = absurd never
+starts_file a b (piece ∷ pieces) other None never = absurd never
+starts_file a b (piece ∷ pieces) other (Some first) (is, waits, given) = (is, waits.lasts)
+
+starts_lost : (a b : Book) (content : List Piece) (why : PieceFault) → Starts a b content (response.Lost why)
+    → (piece : Piece) × Lasts a b × FailsPiece a b piece why
+starts_lost a b [] why never = absurd never
+starts_lost a b (piece ∷ pieces) why (waits, fails) = (piece, waits.lasts, fails)
+
+abbrev StartsOther : Response → Type 0
+StartsOther (response.File content first) = Unit {0}
+StartsOther (response.Lost fault) = Unit {0}
+StartsOther (response.Denied refusal) = ⊥
+StartsOther response.Made = ⊥
+StartsOther response.Done = ⊥
+
+starts_other : (a b : Book) (content : List Piece) (v : Response) → Starts a b content v → StartsOther v
+starts_other a b content (response.File other first) starts = tt
+starts_other a b content (response.Lost fault) starts = tt
+starts_other a b [] (response.Denied refusal) never = never
+starts_other a b (piece ∷ pieces) (response.Denied refusal) never = never
+starts_other a b [] response.Made never = never
+starts_other a b (piece ∷ pieces) response.Made never = never
+starts_other a b [] response.Done never = never
+starts_other a b (piece ∷ pieces) response.Done never = never
+
+-- ---- what is written
+
+-- the same, of two scenes with a book before them
+abbrev pub Shown : {C : Type 0} → Bool → List ℕ → Book → Scene C → Scene C → Type 0
+Shown close body k a b =
+    Appends a.output b.output (file_head close (length body) ++ body)
+    ⊎ Appends a.output b.output (refusal_reply close denial.Memory)
+    ⊎ (Appends a.output b.output (refusal_reply close denial.Store) × FailsStore k a.book)
+
+says_is : (last closes : Bool) → (last || is_some (end_of_close closes)) ≡ (last || closes)
+says_is last true = refl
+says_is last false = refl
+
+memory_shown : {C : Type 0} (last : Bool) (head : Head) (body : List ℕ) (k : Book) (a b : Scene C)
+    → Writes {T = Unit {0}} (says_close last head (response.Denied denial.Memory)) (response.Denied denial.Memory) a b (Ok tt)
+    → Shown (last || closes_session head) body k a b
+memory_shown last head body k a b wrote =
+    inr (inl (subst (λ (close : Bool). Appends a.output b.output (refusal_reply close denial.Memory)) (says_is last (closes_session head)) wrote.bytes_are))
+
+nothing_damaged : (shelf : Option Shelf) (later : Shelf) (damaged : List Piece) (piece : Piece) → shelf ≡ Some later
+    → IfSome shelf (λ shelf. Contains damaged piece) → damaged ≢ []
+nothing_damaged shelf later damaged piece told has none =
+    let there : Contains damaged piece = subst (λ (o : Option Shelf). IfSome o (λ shelf. Contains damaged piece)) told has in
+    let count : length damaged ≡ 0 = ap length none in
+    omega (arith, there.1, count)
+
+lost_shown : {C : Type 0} (last : Bool) (head : Head) (body : List ℕ) (k : Book) (x a b : Scene C) (later : Shelf) (piece : Piece) (why : PieceFault)
+    → Lasts k x.book → Lasts x.book a.book → a.book.told ≡ Some later → FailsPiece x.book a.book piece why
+    → Writes {T = Unit {0}} (says_close last head (response.Lost why)) (response.Lost why) a b (Ok tt)
+    → Shown (last || closes_session head) body k a b
+lost_shown last head body k x a b later piece fault.Store before start told fails wrote =
+    let struck : Struck k.strikes a.book.strikes = omega (arith, before.strikes, fails) in
+    inr (inr (
+      subst (λ (close : Bool). Appends a.output b.output (refusal_reply close denial.Store)) (says_is last (closes_session head)) wrote.bytes_are,
+      inl struck,
+    ))
+lost_shown last head body k x a b later piece fault.Damaged before start told fails wrote =
+    let damaged : a.book.damaged ≡ k.damaged = start.damaged ∙ before.damaged in
+    let some : k.damaged ≢ [] = subst (λ (pieces : List Piece). pieces ≢ []) damaged (nothing_damaged a.book.told later a.book.damaged piece told fails) in
+    inr (inr (
+      subst (λ (close : Bool). Appends a.output b.output (refusal_reply close denial.Store)) (says_is last (closes_session head)) wrote.bytes_are,
+      inr some,
+    ))
+lost_shown last head body k x a b later piece fault.Memory before start told fails wrote =
+    inr (inl (subst (λ (close : Bool). Appends a.output b.output (refusal_reply close denial.Memory)) (says_is last (closes_session head)) wrote.bytes_are))
+
+file_shown : {C : Type 0} (last : Bool) (head : Head) (caller : Caller) (spot : Spot) (body : List ℕ) (k : Book) (a b : Scene C)
+    (content : List Piece) (first : Option (Vec ℕ Global)) (kept : IsKept k caller spot body)
+    → Lasts k a.book → content ≡ content_of_body kept.before body
+    → SendsFile {T = Unit {0}} (says_close last head (response.File content first)) content first a b (Ok tt)
+    → Shown (last || closes_session head) body k a b
+file_shown last head caller spot body k a b content first kept before is (given, writes, count) =
+    let next = kept.before.tables.meta.next_blob in
+    let close = says_close last head (response.File content first) in
+    let whole : List Piece = content_of_body kept.before body in
+    let tells = keeps_blob k.told b.book.told kept.shelf kept.told (lasts_on k a.book b.book before writes.pieces.waits.lasts).told in
+    let are : AreGiven b.book whole given = subst (λ (c : List Piece). AreGiven b.book c given) is writes.pieces.are_given in
+    let all : length given ≡ length whole = count ∙ ap length is in
+    let bytes : file_front close whole given ≡ file_head close (length body) ++ body =
+    file_bytes close b.book next body tells.0 tells.1 (λ id at. tells.2 id body (kept.bytes id at))
+    (blob_for next (length body)) refl given are all in
+    let wrote : Appends a.output b.output (file_head close (length body) ++ body) =
+    subst (λ (bs : List ℕ). Appends a.output b.output bs) (ap (λ (c : List Piece). file_front close c given) is ∙ bytes) writes.bytes_are in
+    inl (subst (λ (close : Bool). Appends a.output b.output (file_head close (length body) ++ body)) (says_is last (closes_session head)) wrote)
+
+served_shown : {C : Type 0} (last : Bool) (head : Head) (caller : Caller) (spot : Spot) (body : List ℕ) (k : Book) (x a b : Scene C) (v : Response)
+    (kept : IsKept k caller spot body) → Lasts k x.book → StartsFile x a (content_of_body kept.before body) v
+    → Writes {T = Unit {0}} (says_close last head v) v a b (Ok tt) → Shown (last || closes_session head) body k a b
+served_shown last head caller spot body k x a b (response.File content first) kept before starts writes =
+    let started = starts_file x.book a.book (content_of_body kept.before body) content first starts.starts in
+    file_shown last head caller spot body k a b content first kept (lasts_on k x.book a.book before started.1) started.0 writes
+served_shown last head caller spot body k x a b (response.Lost why) kept before starts writes =
+    let lost = starts_lost x.book a.book (content_of_body kept.before body) why starts.starts in
+    let tells = keeps_blob k.told a.book.told kept.shelf kept.told (lasts_on k x.book a.book before lost.1).told in
+    lost_shown last head body k x a b tells.0 lost.0 why before lost.1 tells.1 lost.2 writes
+served_shown last head caller spot body k x a b (response.Denied refusal) kept before starts writes =
+    absurd (starts_other x.book a.book (content_of_body kept.before body) (response.Denied refusal) starts.starts)
+served_shown last head caller spot body k x a b response.Made kept before starts writes =
+    absurd (starts_other x.book a.book (content_of_body kept.before body) response.Made starts.starts)
+served_shown last head caller spot body k x a b response.Done kept before starts writes =
+    absurd (starts_other x.book a.book (content_of_body kept.before body) response.Done starts.starts)
+
+-- ---- the turn
+
+denied_shown : {C : Type 0} (last : Bool) (head : Head) (body : List ℕ) (k : Book) (a b : Scene C) (v : Response)
+    → v ≡ response.Denied denial.Memory → Writes {T = Unit {0}} (says_close last head v) v a b (Ok tt)
+    → Shown (last || closes_session head) body k a b
+denied_shown {C} last head body k a b v is writes =
+    memory_shown last head body k a b
+    (subst (λ (w : Response). Writes {T = Unit {0}} (says_close last head w) w a b (Ok tt)) is writes)
+
+full_not_written : (closes : Bool) (v : Response) → v ≡ response.Denied denial.RunFull → IsWritten (end_of closes v) → ⊥
+full_not_written closes v is written = subst (λ (w : Response). IsWritten (end_of closes w)) is written
+
+-- what was answered, by what it is
+answered_shown : {C : Type 0} (reads : C → ℕ → C → Type 0) (last : Bool) (head : Head) (caller : Caller) (spot : Spot) (body : List ℕ)
+    (k : Book) (m a b : Scene C) (v : Response) (answer : Answer) (kept : IsKept k caller spot body)
+    → (answer ≡ Ok (reply.Granted (Serve (content_of_body kept.before body))))
+    ⊎ ((answer ≡ Err denial.RunFull) ⊎ (answer ≡ Err denial.Memory))
+    → Lasts k m.book → TakesIn reads head m a (begun.Asked answer) (Ok v) → IsWritten (end_of (closes_session head) v)
+    → Writes {T = Unit {0}} (says_close last head v) v a b (Ok tt) → Shown (last || closes_session head) body k a b
+answered_shown {C} reads last head caller spot body k m a b v answer kept (inl is) before takes written writes =
+    let served : TakesIn reads head m a (begun.Asked (Ok (reply.Granted (Serve (content_of_body kept.before body))))) (Ok v) =
+    subst (λ (w : Answer). TakesIn reads head m a (begun.Asked w) (Ok v)) is takes in
+    let x : Scene C = served.0 in
+    served_shown last head caller spot body k x a b v kept
+    (lasts_on k m.book x.book before (lasts_same m.book x.book (ap (λ (y : Scene C). y.book) served.2.only))) served.3 writes
+answered_shown {C} reads last head caller spot body k m a b v answer kept (inr (inl is)) before takes written writes =
+    let full : TakesIn reads head m a (begun.Asked (Err denial.RunFull)) (Ok v) =
+    subst (λ (w : Answer). TakesIn reads head m a (begun.Asked w) (Ok v)) is takes in
+    absurd (full_not_written (closes_session head) v full.3.0 written)
+answered_shown {C} reads last head caller spot body k m a b v answer kept (inr (inr is)) before takes written writes =
+    let wanting : TakesIn reads head m a (begun.Asked (Err denial.Memory)) (Ok v) =
+    subst (λ (w : Answer). TakesIn reads head m a (begun.Asked w) (Ok v)) is takes in
+    denied_shown last head body k a b v wanting.3.0 writes
+
+pub begun_shown : {C : Type 0} (reads : C → ℕ → C → Type 0) (last : Bool) (head : Head) (caller : Caller) (spot : Spot) (body : List ℕ)
+    (begun : Begun) (k m a b : Scene C) (v : Response) → request_of head ≡ Ok (get_of caller spot) → Judges reads head k m begun
+    → IsKept k.book caller spot body → OnlyOwn k.book m.book
+    → TakesIn reads head m a begun (Ok v) → IsWritten (end_of (closes_session head) v)
+    → Writes {T = Unit {0}} (says_close last head v) v a b (Ok tt) → Shown (last || closes_session head) body k.book a b
+begun_shown reads last head caller spot body (begun.Unasked refusal) k m a b v asked (inl other, same) kept only takes written writes =
+    absurd (never refusal (sym asked ∙ other))
+  where
+    never : (refusal : Denial) → ◌≡◌ {A = Result Request Denial} (Ok (get_of caller spot)) (Err refusal) → ⊥
+    never refusal is = cc
+begun_shown reads last head caller spot body (begun.Unasked refusal) k m a b v asked (inr memory, same) kept only (x, other, bodies, passes) written writes =
+    denied_shown last head body k.book a b v (passes.0 ∙ ap response.Denied memory) writes
+begun_shown {C} reads last head caller spot body (begun.Asked answer) k m a b v asked (r, now, is, read, begins, only) kept alone takes written writes =
+    let same : r ≡ get_of caller spot = cc in
+    let get : Begins k.book m.book now no_words (get_of caller spot) answer =
+    subst (λ (q : Request). Begins k.book m.book now no_words q answer) same begins in
+    answered_shown reads last head caller spot body k.book m a b v answer kept (get_answered k.book m.book now caller spot body answer kept alone get)
+    (begins_lasts k.book m.book now no_words (get_of caller spot) answer get) takes written writes

@@ -1,0 +1,187 @@
+-- How a history grows by each step of a turn.
+use Rattle.std.proofs.Common.{ℕ, ◌+◌, ◌≡◌, ◌≤◌, Bool, true, false, List, [], ◌∷◌, length, Option, None, Some, Result, Ok, Err, inl, inr, ap, arith, length-append}
+use Rattle.std.specs.Prelude.{MatchBool, Vec}
+use Rattle.nf_base.specs.declared.content.Piece.{Piece}
+use Rattle.nf_http.specs.Head.{Head}
+use Rattle.nf_http.specs.declared.wire.WireFault.{WireFault}
+use Rattle.nf_words.specs.declared.answer.Goal.TheVariants as goal
+use Rattle.nf_words.specs.declared.answer.Reply.TheVariants as reply
+use Rattle.nf_words.specs.declared.history.Event.{Event}
+use Rattle.nf_words.specs.declared.history.Event.TheVariants.{Begin, End}
+use Rattle.nf_words.specs.declared.history.Outcome.TheVariants.{Sent, Gone}
+use Rattle.nf_words.specs.declared.request.Request.{Request}
+use Rattle.nf_words.specs.declared.request.Words.{Words}
+use Rattle.std.specs.declared.alloc.Global.{Global}
+use Rattle.nf_dav.specs.Reply.{done_reply, made_reply, refusal_reply}
+use Rattle.nf_server.specs.Book.{Answer, Begins, Book, Ends, Enters, Waits, denial_of_piece, event_of_body, is_unmade}
+use Rattle.nf_server.specs.Files.{SendsFile}
+use Rattle.nf_server.specs.Steps.{Closes, Heads, Judges, Passes, Scene, Starts, TakesIn, is_granted, no_words}
+use Rattle.nf_server.specs.Turn.{Answers, CutsShort, Meets, Responds, Turn, Writes, how_of, says_close, stays_granted}
+use Rattle.nf_server.specs.declared.backend.Ending.{Ending}
+use Rattle.nf_server.specs.declared.backend.Ending.TheVariants as ending
+use Rattle.nf_server.specs.declared.begun.Begun.{Begun}
+use Rattle.nf_server.specs.declared.begun.Begun.TheVariants as begun
+use Rattle.nf_server.specs.declared.ended.Ended.{Ended}
+use Rattle.nf_server.specs.declared.ended.Ended.TheVariants as ended
+use Rattle.nf_server.specs.declared.response.Response.{Response}
+use Rattle.nf_server.specs.declared.response.Response.TheVariants as response
+use Rattle.nf_promises.proofs.Touches.{book_of, ends_only, says_only}
+
+-- so many own entries came at most, and no fewer entries than own ones
+pub record Grows (a b : Book) (most : ℕ) : Type 0 where
+  pub opening : b.opening ≡ a.opening
+  pub own : length b.own ≤ length a.own + most
+  pub known : length a.known + length b.own ≤ length a.own + length b.known
+
+-- ---- books
+
+pub grows_none : (a b : Book) → b ≡ a → Grows a b 0
+grows_none a b same =
+    let own : length b.own ≡ length a.own = ap (λ (x : Book). length x.own) same in
+    let known : length b.known ≡ length a.known = ap (λ (x : Book). length x.known) same in
+    record { opening = ap (λ (x : Book). x.opening) same; own = omega arith; known = omega arith }
+
+pub grows_on : (a b c : Book) (n m most : ℕ) → n + m ≤ most → Grows a b n → Grows b c m → Grows a c most
+grows_on a b c n m most few first second = record {
+  opening = cc;
+  own = omega arith;
+  known = omega arith;
+}
+
+pub grows_waits : (a b : Book) → Waits a b → Grows a b 0
+grows_waits a b waits =
+    let own : length b.own ≡ length a.own = ap length waits.own in
+    let known : length b.known ≡ length a.known + length waits.known.0 =
+    simp length-append at (ap length waits.known.1) in
+    record { opening = waits.lasts.opening; own = omega arith; known = omega arith }
+
+pub grows_enters : (a b : Book) (now : ℕ) (event : Event) (answer : Answer) → Enters a b now event answer → Grows a b 1
+grows_enters a b now event answer enters =
+    let own : length b.own ≡ length a.own + 1 = simp length-append at (ap length enters.own) in
+    let known : length b.known ≡ length a.known + length enters.others + 1 =
+    simp length-append at (ap length enters.known) in
+    record { opening = enters.lasts.opening; own = omega arith; known = omega arith }
+
+pub grows_more : (a b : Book) (n most : ℕ) → n ≤ most → Grows a b n → Grows a b most
+grows_more a b n most few grows = record { opening = grows.opening; own = omega arith; known = grows.known }
+
+pub grows_begins : (a b : Book) (now : ℕ) (words : Words) (request : Request) (answer : Answer)
+    → Begins a b now words request answer → Grows a b 1
+grows_begins a b now words request answer begins = here (is_unmade answer) begins.entry
+  where
+    here : (unmade : Bool) → MatchBool unmade (Waits a b) (Enters a b now (Begin words request) answer) → Grows a b 1
+    here true waits = grows_more a b 0 1 (omega arith) (grows_waits a b waits)
+    here false enters = grows_enters a b now (Begin words request) answer enters
+
+pub grows_ends : (a b : Book) (now : ℕ) (how : Ending) (answer : Answer) → Ends a b now how answer → Grows a b 1
+grows_ends a b now ending.Sent answer ends = grows_enters a b now (End Sent) answer ends.enters
+grows_ends a b now ending.Gone answer ends = grows_enters a b now (End Gone) answer ends.enters
+grows_ends a b now (ending.Body bytes) answer ends = grows_enters a b now (event_of_body bytes.items) answer ends.enters
+
+grows_starts : (a b : Book) (content : List Piece) (v : Response) → Starts a b content v → Grows a b 0
+grows_starts a b [] (response.File content None) (is, same) = grows_none a b same
+grows_starts a b (piece ∷ pieces) (response.File content (Some first)) (is, waits, given) = grows_waits a b waits
+grows_starts a b (piece ∷ pieces) (response.Lost fault) (waits, fails) = grows_waits a b waits
+grows_starts a b content other never = absurd never
+
+-- ---- scenes
+
+-- what the books of two scenes are
+abbrev pub Grew : {C : Type 0} → Scene C → Scene C → ℕ → Type 0
+Grew a b most = Grows a.book b.book most
+
+pub grew_none : {C : Type 0} (a b : Scene C) → b.book ≡ a.book → Grew a b 0
+grew_none a b same = grows_none a.book b.book same
+
+still : {C : Type 0} (a b : Scene C) → b ≡ a → Grew a b 1
+still {C} a b same = grows_more a.book b.book 0 1 (omega arith) (grows_none a.book b.book (ap (λ (x : Scene C). x.book) same))
+
+pub heads_same : {C : Type 0} (a b : Scene C) (result : Result (Option Head) WireFault) → Heads a b result → b.book ≡ a.book
+heads_same {C} a b result heads = ap (λ (x : Scene C). x.book) heads.only
+
+pub judges_grow : {C : Type 0} (reads : C → ℕ → C → Type 0) (head : Head) (a b : Scene C) (v : Begun) → Judges reads head a b v → Grew a b 1
+judges_grow {C} reads head a b (begun.Unasked refusal) (is, same) =
+    grows_more a.book b.book 0 1 (omega arith) (grows_none a.book b.book (ap (λ (x : Scene C). x.book) same))
+judges_grow reads head a b (begun.Asked answer) (r, now, asked, read, begins, only) =
+    grows_begins a.book b.book now no_words r answer begins
+
+passes_grow : {C : Type 0} (reads : C → ℕ → C → Type 0) (body : List ℕ) (a b : Scene C) (begun : Begun) (v : Response)
+    → Passes reads body a b begun v → Grew a b 1
+passes_grow {C} reads body a b (begun.Unasked refusal) v (is, same) = still a b same
+passes_grow reads body a b (begun.Asked (Ok (reply.Granted (goal.Serve content)))) v starts =
+    grows_more a.book b.book 0 1 (omega arith) (grows_starts a.book b.book content v starts.starts)
+passes_grow reads body a b (begun.Asked (Ok (reply.Granted (goal.Store who key length)))) v (now, answer, read, ends, is, only) =
+    grows_enters a.book b.book now (event_of_body body) answer ends.enters
+passes_grow reads body a b (begun.Asked (Ok reply.Made)) v (is, same) = still a b same
+passes_grow reads body a b (begun.Asked (Ok reply.Done)) v (is, same) = still a b same
+passes_grow reads body a b (begun.Asked (Ok reply.Closed)) v (is, same) = still a b same
+passes_grow reads body a b (begun.Asked (Err refusal)) v (is, same) = still a b same
+
+pub takes_grow : {C : Type 0} (reads : C → ℕ → C → Type 0) (head : Head) (a b : Scene C) (begun : Begun) (result : Result Response WireFault)
+    → TakesIn reads head a b begun result → Grew a b 1
+takes_grow {C} reads head a b begun (Ok v) (m, body, bodies, passes) =
+    grows_on a.book m.book b.book 0 1 1 (omega arith)
+    (grows_none a.book m.book (ap (λ (x : Scene C). x.book) bodies.only)) (passes_grow reads body m b begun v passes)
+takes_grow {C} reads head a b begun (Err fault) cuts =
+    grows_more a.book b.book 0 1 (omega arith) (grows_none a.book b.book (ap (λ (x : Scene C). x.book) cuts.only))
+
+sends_grow : {C T : Type 0} (close : Bool) (content : List Piece) (first : Option (Vec ℕ Global)) (a b : Scene C) (result : Result T Ended)
+    → SendsFile close content first a b result → Grew a b 0
+sends_grow close content first a b (Ok sent) (given, writes, all) = grows_waits a.book b.book writes.pieces.waits
+sends_grow close content first a b (Err (ended.Cut why)) (given, writes, lacks, other) = grows_waits a.book b.book writes.pieces.waits
+sends_grow {C} close content first a b (Err ended.Memory) (inl same) = grows_none a.book b.book (ap (λ (x : Scene C). x.book) same)
+sends_grow close content first a b (Err ended.Memory) (inr (given, writes, lacks)) = grows_waits a.book b.book writes.pieces.waits
+sends_grow close content first a b (Err ended.WriteFault) (given, breaks) = grows_waits a.book b.book breaks.pieces.waits
+sends_grow close content first a b (Err other) never = absurd never
+
+writes_grow : {C T : Type 0} (close : Bool) (v : Response) (a b : Scene C) (result : Result T Ended) → Writes close v a b result → Grew a b 0
+writes_grow close (response.Denied refusal) a b result says = grew_none a b (book_of a b (says_only a b (refusal_reply close refusal) result says))
+writes_grow close (response.Lost fault) a b result says =
+    grew_none a b (book_of a b (says_only a b (refusal_reply close (denial_of_piece fault)) result says))
+writes_grow close (response.File content first) a b result sends = sends_grow close content first a b result sends
+writes_grow close response.Made a b result says = grew_none a b (book_of a b (says_only a b (made_reply close) result says))
+writes_grow close response.Done a b result says = grew_none a b (book_of a b (says_only a b (done_reply close) result says))
+
+pub responds_grow : {C : Type 0} (last : Bool) (head : Head) (v : Response) (a b : Scene C) (result : Result (Option Ended) Ended)
+    → Responds last head v a b result → Grew a b 0
+responds_grow last head v a b (Ok end) (is, writes) = writes_grow {T = Unit {0}} (says_close last head v) v a b (Ok tt) writes
+responds_grow last head v a b (Err by) writes = writes_grow {T = Unit {0}} (says_close last head v) v a b (Err by) writes
+
+pub closes_grow : {C : Type 0} (reads : C → ℕ → C → Type 0) (how : Ending) (granted : Bool) (a b : Scene C) → Closes reads how granted a b → Grew a b 1
+closes_grow reads how true a b (now, read, ends, only) = grows_ends a.book b.book now how (Ok reply.Closed) ends
+closes_grow reads how false a b same = still a b same
+
+-- ---- turns
+
+pub answers_grow : {C : Type 0} (reads : C → ℕ → C → Type 0) (last : Bool) (head : Head) (begun : Begun) (a b : Scene C) (end : Option Ended)
+    → Answers reads last head begun a b end → Grew a b 2
+answers_grow reads last head begun a b end answers =
+    grows_on a.book answers.taken.book b.book 1 1 2 (omega arith) (takes_grow reads head a answers.taken begun (Ok answers.response) answers.takes)
+    (grows_on answers.taken.book answers.sent.book b.book 0 1 1 (omega arith)
+    (responds_grow last head answers.response answers.taken answers.sent answers.result answers.responds)
+    (closes_grow reads (how_of answers.response answers.result) (stays_granted answers.response) answers.sent b answers.closes))
+
+cuts_grow : {C : Type 0} (reads : C → ℕ → C → Type 0) (head : Head) (begun : Begun) (a b : Scene C) (end : Option Ended)
+    → CutsShort reads head begun a b end → Grew a b 2
+cuts_grow reads head begun a b end cuts =
+    grows_on a.book cuts.cut.book b.book 1 1 2 (omega arith) (takes_grow reads head a cuts.cut begun (Err cuts.fault) cuts.takes)
+    (grows_on cuts.cut.book cuts.sent.book b.book 0 1 1 (omega arith)
+    (grew_none cuts.cut cuts.sent (book_of cuts.cut cuts.sent (ends_only cuts.fault cuts.cut cuts.sent cuts.by cuts.responds)))
+    (closes_grow reads ending.Gone (is_granted begun) cuts.sent b cuts.closes))
+
+pub meets_grow : {C : Type 0} (reads : C → ℕ → C → Type 0) (last : Bool) (head : Head) (a b : Scene C) (end : Option Ended)
+    → Meets reads last head a b end → Grew a b 3
+meets_grow reads last head a b end (m, begun, judges, inl answers) =
+    grows_on a.book m.book b.book 1 2 3 (omega arith) (judges_grow reads head a m begun judges) (answers_grow reads last head begun m b end answers)
+meets_grow reads last head a b end (m, begun, judges, inr cuts) =
+    grows_on a.book m.book b.book 1 2 3 (omega arith) (judges_grow reads head a m begun judges) (cuts_grow reads head begun m b end cuts)
+
+pub turn_grows : {C : Type 0} (reads : C → ℕ → C → Type 0) (last : Bool) (a b : Scene C) (end : Option Ended) → Turn reads last a b end → Grew a b 3
+turn_grows reads last a b end (inl (heads, is)) =
+    grows_more a.book b.book 0 3 (omega arith) (grows_none a.book b.book (heads_same a b (Ok None) heads))
+turn_grows reads last a b end (inr (inl (m, why, by, heads, ends, is))) =
+    grows_on a.book m.book b.book 0 0 3 (omega arith) (grows_none a.book m.book (heads_same a m (Err why) heads))
+    (grew_none m b (book_of m b (ends_only why m b by ends)))
+turn_grows reads last a b end (inr (inr (m, head, heads, meets))) =
+    grows_on a.book m.book b.book 0 3 3 (omega arith) (grows_none a.book m.book (heads_same a m (Ok (Some head)) heads))
+    (meets_grow reads last head m b end meets)

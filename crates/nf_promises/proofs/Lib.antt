@@ -1,0 +1,12 @@
+pub mod Touches
+pub mod Refusals
+pub mod Tickets
+pub mod Growing
+pub mod Full
+pub mod Alone
+pub mod Putting
+pub mod Puts
+pub mod Gets
+pub mod Returning
+pub mod Marks
+pub mod Bytes

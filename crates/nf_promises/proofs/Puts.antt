@@ -1,0 +1,219 @@
+-- What a turn that took a PUT, and said that it stored it, leaves in the seat's book.
+use Rattle.std.proofs.Common.{ℕ, ◌≡◌, Bool, List, [], ◌∷◌, length, Option, None, Some, Result, Ok, Err, refl, sym, ap, subst, ◌∙◌, arith}
+use Rattle.std.specs.Prelude.{IfSome, IsOk, IsSome, OnOk}
+use Rattle.nf_base.specs.declared.content.Piece.{Piece}
+use Rattle.nf_dav.specs.Asked.{request_of}
+use Rattle.nf_http.specs.Head.{Head}
+use Rattle.nf_words.specs.Endings.{blob_for}
+use Rattle.nf_words.specs.History.{MayCome, after, answer_at}
+use Rattle.nf_words.specs.Sound.{IsSound}
+use Rattle.nf_words.specs.State.{State}
+use Rattle.nf_words.specs.Step.{answer_to, blob_to}
+use Rattle.nf_words.specs.declared.answer.Denial.{Denial}
+use Rattle.nf_words.specs.declared.answer.Goal.TheVariants as goal
+use Rattle.nf_words.specs.declared.answer.LockKey.{LockKey}
+use Rattle.nf_words.specs.declared.answer.Reply.{Reply}
+use Rattle.nf_words.specs.declared.answer.Reply.TheVariants as reply
+use Rattle.nf_words.specs.declared.history.Event.TheVariants.{Begin}
+use Rattle.nf_words.specs.declared.request.Caller.{Caller}
+use Rattle.nf_words.specs.declared.request.Request.{Request}
+use Rattle.nf_words.specs.declared.request.Spot.{Spot}
+use Rattle.nf_words.specs.declared.request.Words.{Words}
+use Rattle.nf_defs.specs.declared.Seeker.{Seeker}
+use Rattle.nf_server.specs.Book.{Answer, Book, EndsBody, Enters, Shelf, Stores, TellsStill, blob_at, event_of_body, state_after, state_of}
+use Rattle.nf_server.specs.Steps.{Bodies, Closes, IsResponse, Judges, Passes, Scene, Starts, StoresBody, no_words, taken_length}
+use Rattle.nf_server.specs.Turn.{how_of, stays_granted}
+use Rattle.nf_server.specs.declared.begun.Begun.{Begun}
+use Rattle.nf_server.specs.declared.begun.Begun.TheVariants as begun
+use Rattle.nf_server.specs.declared.ended.Ended.{Ended}
+use Rattle.nf_server.specs.declared.response.Response.{Response}
+use Rattle.nf_server.specs.declared.response.Response.TheVariants as response
+use Rattle.nf_promises.proofs.Alone.{entered, no_others, only_within, same_state}
+use Rattle.nf_promises.proofs.Growing.{closes_grow, grows_none, grows_on, heads_same, judges_grow, responds_grow, takes_grow}
+use Rattle.nf_promises.proofs.Putting.{IsOfPut, content_of_body, ok_answer, put_is_got, put_replies, put_size}
+use Rattle.nf_promises.proofs.Touches.{book_of, stored_only}
+use Rattle.nf_promises.specs.Kept.{OnlyOwn, Puts, SaysStored, get_of, put_of}
+use Rattle.nf_words.specs.declared.answer.Goal.TheVariants.{Serve}
+
+-- ---- books
+
+-- what a later GET is granted, and where its bytes are
+pub record IsKept (b : Book) (caller : Caller) (spot : Spot) (body : List ℕ) : Type 0 where
+  pub before : State
+  pub got : (seat now : ℕ) (words : Words)
+      → answer_to (state_of b) seat now (Begin words (get_of caller spot)) ≡ Ok (reply.Granted (Serve (content_of_body before body)))
+  pub shelf : Shelf
+  pub told : b.told ≡ Some shelf
+  pub bytes : (id : ℕ) → blob_for before.tables.meta.next_blob (length body) ≡ Some id → blob_at shelf id ≡ Some body
+
+told_on : (old new : Option Shelf) → TellsStill old new → IsSome old → IsSome new
+told_on None new still told = absurd (cc)
+told_on (Some x) None still told = absurd still
+told_on (Some x) (Some y) still told = refl
+
+some_shelf : (told : Option Shelf) → IsSome told → (shelf : Shelf) × (told ≡ Some shelf)
+some_shelf None told = absurd (cc)
+some_shelf (Some shelf) told = (shelf, refl)
+
+on_ok : {P : Type 0} (answer : Answer) → IsOk answer → OnOk answer P → P
+on_ok (Ok r) ok is = is
+on_ok (Err refusal) ok is = absurd (cc)
+
+kept_books : (a m b : Book) (now moment : ℕ) (caller : Caller) (spot : Spot) (n : ℕ) (who : Seeker) (key : LockKey) (size : ℕ) (body : List ℕ)
+    (answer : Answer) → IsSound (state_of a) → IsSome a.told → OnlyOwn a m → OnlyOwn m b
+    → Enters a m now (Begin no_words (put_of caller spot n)) (Ok (reply.Granted (goal.Store who key size)))
+    → EndsBody m b moment body answer → IsOk answer → length body ≡ size → IsKept b caller spot body
+kept_books a m b now moment caller spot n who key size body answer sound told one two enters ends ok long =
+    let first = enters.entry in
+    let second = ends.enters.entry in
+    let s = state_of a in
+    let begin = entered a m now (Begin no_words (put_of caller spot n)) (Ok (reply.Granted (goal.Store who key size))) enters one in
+    let end = entered m b moment (event_of_body body) answer ends.enters two in
+    let middle : State = after s first in
+    let may : MayCome end.count middle second = subst (λ (x : State). MayCome end.count x second) begin.state end.may in
+    let seat : second.seat ≡ first.seat = end.seat_is ∙ enters.lasts.seat ∙ sym begin.seat_is in
+    let answered : answer_at middle second second.mark ≡ answer =
+    ap (λ (x : State). answer_at x second second.mark) (sym begin.state) ∙ end.answer_is in
+    let got = put_is_got begin.count end.count s first second no_words caller spot n who key size body sound begin.may begin.event_is begin.answer_is
+    may end.event_is seat (subst (λ (x : Answer). IsOk x) (sym answered) ok) long in
+    let last : state_of b ≡ after middle second = end.state ∙ ap (λ (x : State). after x second) begin.state in
+    let shelf = some_shelf b.told (told_on m.told b.told ends.enters.lasts.told (told_on a.told m.told enters.lasts.told told)) in
+    let stores : Stores (state_after m ends.enters.others) second body shelf.0 =
+    subst (λ (o : Option Shelf). IfSome o (Stores (state_after m ends.enters.others) second body)) shelf.1 (on_ok answer ok ends.stored) in
+    let there : state_after m ends.enters.others ≡ middle =
+    same_state m ends.enters.others (no_others m b moment (event_of_body body) answer ends.enters two) ∙ begin.state in
+    record {
+      before = middle;
+      got = λ q t words. ap (λ (x : State). answer_to x q t (Begin words (get_of caller spot))) last ∙ got.got q t words;
+      shelf = shelf.0;
+      told = shelf.1;
+      bytes = λ id is. stores id (ap (λ (x : State). blob_to x second.seat second.moment second.event) there ∙ got.blob ∙ is);
+    }
+
+-- ---- what was begun
+
+not_stored : (v : Response) (refusal : Denial) → v ≡ response.Denied refusal → SaysStored v → ⊥
+not_stored v refusal is says = subst (λ (x : Response). SaysStored x) is says
+
+starts_not_stored : (a b : Book) (content : List Piece) (v : Response) → Starts a b content v → SaysStored v → ⊥
+starts_not_stored a b [] response.Made never says = never
+starts_not_stored a b (piece ∷ pieces) response.Made never says = never
+starts_not_stored a b [] response.Done never says = never
+starts_not_stored a b (piece ∷ pieces) response.Done never says = never
+starts_not_stored a b content (response.Denied refusal) never says = says
+starts_not_stored a b content (response.Lost fault) never says = says
+starts_not_stored a b content (response.File other first) never says = says
+
+stored_ok : (answer : Answer) (v : Response) → IsResponse answer v → SaysStored v → IsOk answer
+stored_ok (Ok r) v is says = refl
+stored_ok (Err refusal) v is says = absurd (not_stored v refusal is says)
+
+-- a PUT's Begin is answered as one
+begins_put : (a m : Book) (now : ℕ) (caller : Caller) (spot : Spot) (n : ℕ) (answered : Reply) → OnlyOwn a m
+    → Enters a m now (Begin no_words (put_of caller spot n)) (Ok answered) → IsOfPut answered
+begins_put a m now caller spot n answered one enters =
+    let begin = entered a m now (Begin no_words (put_of caller spot n)) (Ok answered) enters one in
+    let e = enters.entry in
+    put_replies (state_of a) e.seat e.moment no_words caller spot n answered
+    (ok_answer (state_of a) e (Begin no_words (put_of caller spot n)) answered begin.event_is begin.answer_is).1
+
+asked_enters : (a m : Book) (now : ℕ) (head : Head) (caller : Caller) (spot : Spot) (n : ℕ) (r : Request) (answer : Answer)
+    → request_of head ≡ Ok (put_of caller spot n) → request_of head ≡ Ok r
+    → Enters a m now (Begin no_words r) answer → Enters a m now (Begin no_words (put_of caller spot n)) answer
+asked_enters a m now head caller spot n r answer asked is enters =
+    let same : r ≡ put_of caller spot n = cc in
+    subst (λ (q : Request). Enters a m now (Begin no_words q) answer) same enters
+
+-- so what was begun is a granted body of the length asked for
+pub record BeginsPut (b : Begun) (n : ℕ) : Type 0 where
+  pub who : Seeker
+  pub key : LockKey
+  pub is : b ≡ begun.Asked (Ok (reply.Granted (goal.Store who key n)))
+
+pub put_begun : {C : Type 0} (reads : C → ℕ → C → Type 0) (head : Head) (begun : Begun) (v : Response) (a m x b : Scene C) (body : List ℕ)
+    (caller : Caller) (spot : Spot) (n : ℕ) → request_of head ≡ Ok (put_of caller spot n)
+    → Judges reads head a m begun → Passes reads body x b begun v → SaysStored v → OnlyOwn a.book m.book → BeginsPut begun n
+put_begun reads head (begun.Unasked refusal) v a m x b body caller spot n asked judges passes says one =
+    absurd (not_stored v refusal passes.0 says)
+put_begun reads head (begun.Asked (Ok (reply.Granted (goal.Serve content)))) v a m x b body caller spot n asked judges starts says one =
+    absurd (starts_not_stored x.book b.book content v starts.starts says)
+put_begun reads head (begun.Asked (Ok (reply.Granted (goal.Store who key size)))) v a m x b body caller spot n asked
+    (r, now, is, read, begins, only) passes says one =
+    let answer : Answer = Ok (reply.Granted (goal.Store who key size)) in
+    let enters = asked_enters a.book m.book now head caller spot n r answer asked is begins.entry in
+    let begin = entered a.book m.book now (Begin no_words (put_of caller spot n)) answer enters one in
+    let e = enters.entry in
+    let same : n ≡ size = put_size (state_of a.book) e.seat e.moment no_words caller spot n who key size
+    (ok_answer (state_of a.book) e (Begin no_words (put_of caller spot n)) (reply.Granted (goal.Store who key size)) begin.event_is begin.answer_is).1 in
+    record { who = who; key = key; is = ap (λ (l : ℕ). begun.Asked (Ok (reply.Granted (goal.Store who key l)))) (sym same) }
+put_begun reads head (begun.Asked (Ok reply.Made)) v a m x b body caller spot n asked (r, now, is, read, begins, only) passes says one =
+    absurd (begins_put a.book m.book now caller spot n reply.Made one
+    (asked_enters a.book m.book now head caller spot n r (Ok reply.Made) asked is begins.entry))
+put_begun reads head (begun.Asked (Ok reply.Done)) v a m x b body caller spot n asked (r, now, is, read, begins, only) passes says one =
+    absurd (begins_put a.book m.book now caller spot n reply.Done one
+    (asked_enters a.book m.book now head caller spot n r (Ok reply.Done) asked is begins.entry))
+put_begun reads head (begun.Asked (Ok reply.Closed)) v a m x b body caller spot n asked judges passes says one = absurd passes.0
+put_begun reads head (begun.Asked (Err refusal)) v a m x b body caller spot n asked judges passes says one =
+    absurd (not_stored v refusal passes.0 says)
+
+kept_stored : {C : Type 0} (reads : C → ℕ → C → Type 0) (head : Head) (who : Seeker) (key : LockKey) (v : Response) (a m x b : Scene C) (body : List ℕ)
+    (caller : Caller) (spot : Spot) (n : ℕ) → request_of head ≡ Ok (put_of caller spot n)
+    → Judges reads head a m (begun.Asked (Ok (reply.Granted (goal.Store who key n))))
+    → Bodies m x n body → StoresBody reads body x b v → SaysStored v
+    → IsSound (state_of a.book) → IsSome a.book.told → OnlyOwn a.book m.book → OnlyOwn m.book b.book → IsKept b.book caller spot body
+kept_stored {C} reads head who key v a m x b body caller spot n asked (r, now, is, read, begins, only) bodies
+    (moment, answer, later, ends, answers, more) says sound told one two =
+    let book : x.book ≡ m.book = ap (λ (y : Scene C). y.book) bodies.only in
+    kept_books a.book m.book b.book now moment caller spot n who key n body answer sound told one two
+    (asked_enters a.book m.book now head caller spot n r (Ok (reply.Granted (goal.Store who key n))) asked is begins.entry)
+    (subst (λ (k : Book). EndsBody k b.book moment body answer) book ends) (stored_ok answer v answers says) bodies.taken.0
+
+kept_taken : {C : Type 0} (reads : C → ℕ → C → Type 0) (head : Head) (begun : Begun) (v : Response) (a m x b : Scene C) (body : List ℕ)
+    (caller : Caller) (spot : Spot) (n : ℕ) → request_of head ≡ Ok (put_of caller spot n)
+    → Judges reads head a m begun → Bodies m x (taken_length head begun) body → Passes reads body x b begun v → SaysStored v
+    → IsSound (state_of a.book) → IsSome a.book.told → OnlyOwn a.book m.book → OnlyOwn m.book b.book → IsKept b.book caller spot body
+kept_taken {C} reads head begun v a m x b body caller spot n asked judges bodies passes says sound told one two =
+    let begins = put_begun reads head begun v a m x b body caller spot n asked judges passes says one in
+    kept_stored reads head begins.who begins.key v a m x b body caller spot n asked
+    (subst (λ (w : Begun). Judges reads head a m w) begins.is judges)
+    (subst (λ (w : Begun). Bodies m x (taken_length head w) body) begins.is bodies)
+    (subst (λ (w : Begun). Passes reads body x b w v) begins.is passes) says sound told one two
+
+-- ---- the turn
+
+closes_book : {C : Type 0} (reads : C → ℕ → C → Type 0) (v : Response) (a b : Scene C) (result : Result (Option Ended) Ended) → SaysStored v
+    → Closes reads (how_of v result) (stays_granted v) a b → b.book ≡ a.book
+closes_book {C} reads response.Made a b result says same = ap (λ (x : Scene C). x.book) same
+closes_book {C} reads response.Done a b result says same = ap (λ (x : Scene C). x.book) same
+closes_book reads (response.Denied refusal) a b result says same = absurd says
+closes_book reads (response.Lost fault) a b result says same = absurd says
+closes_book reads (response.File content first) a b result says same = absurd says
+
+pub put_is_kept : {C : Type 0} (reads : C → ℕ → C → Type 0) (last : Bool) (caller : Caller) (spot : Spot) (body : List ℕ) (a b : Scene C)
+    (end : Option Ended) → Puts reads last caller spot body a b end
+    → IsSound (state_of a.book) → IsSome a.book.told → OnlyOwn a.book b.book → IsKept b.book caller spot body
+put_is_kept reads last caller spot body a b end put sound told only =
+    let answers = put.answers in
+    let v = answers.response in
+    let same : put.behind.book ≡ a.book = heads_same a put.behind (Ok (Some put.head)) put.heads in
+    let none = grows_none put.behind.book put.behind.book refl in
+    let first = judges_grow reads put.head put.behind put.judged put.begun put.judges in
+    let second = takes_grow reads put.head put.judged answers.taken put.begun (Ok v) answers.takes in
+    let third = grows_on answers.taken.book answers.sent.book b.book 0 1 1 (omega arith)
+    (responds_grow last put.head v answers.taken answers.sent answers.result answers.responds)
+    (closes_grow reads (how_of v answers.result) (stays_granted v) answers.sent b answers.closes) in
+    let behind : OnlyOwn put.behind.book b.book = subst (λ (k : Book). OnlyOwn k b.book) (sym same) only in
+    let rest = grows_on put.judged.book answers.taken.book b.book 1 1 2 (omega arith) second third in
+    let front = grows_on put.behind.book put.behind.book put.judged.book 0 1 1 (omega arith) none first in
+    let one : OnlyOwn put.behind.book put.judged.book =
+    only_within put.behind.book put.behind.book put.judged.book b.book 0 1 2 none first rest behind in
+    let two : OnlyOwn put.judged.book answers.taken.book =
+    only_within put.behind.book put.judged.book answers.taken.book b.book 1 1 1 front second third behind in
+    let kept = kept_taken reads put.head put.begun v put.behind put.judged answers.takes.0 answers.taken answers.takes.1
+    caller spot (length body) put.asked put.judges answers.takes.2 answers.takes.3
+    put.stored (subst (λ (k : Book). IsSound (state_of k)) (sym same) sound) (subst (λ (k : Book). IsSome k.told) (sym same) told) one two in
+    let book : b.book ≡ answers.taken.book =
+    closes_book reads v answers.sent b answers.result put.stored answers.closes
+    ∙ book_of answers.taken answers.sent (stored_only last put.head v answers.taken answers.sent answers.result put.stored answers.responds) in
+    subst (λ (k : Book). IsKept k caller spot body) (sym book)
+    (subst (λ (bytes : List ℕ). IsKept answers.taken.book caller spot bytes) put.body_is kept)

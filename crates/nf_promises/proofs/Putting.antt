@@ -1,0 +1,277 @@
+-- What a PUT that was stored makes of the state, and of a GET of its path behind it.
+use Rattle.std.proofs.Common.{ℕ, ◌-◌, ◌≡◌, false, List, [], ◌∷◌, ◌++◌, length, Option, None, Some, Result, Ok, Err, is_some, slice_get, unwrap_or, get_or, if◌then◌else◌, refl, sym, ap, subst, ◌∙◌, arith, length-append}
+use Rattle.std.specs.Prelude.{IsOk, bytes_eq}
+use Rattle.std.specs.List.{list_all}
+use Rattle.std.specs.Option.{option_and_then, option_map_or}
+use Rattle.std.proofs.Math.Seq.{get_or-append_seam}
+use Rattle.std.proofs.lemmas.Option.{unwrap_or-slice_get}
+use Rattle.sha2.specs.Sha256.{sha256}
+use Rattle.nf_base.specs.declared.content.Piece.{Piece}
+use Rattle.nf_base.specs.declared.rows.UserRow.{UserRow}
+use Rattle.nf_defs.specs.Access.{unshared}
+use Rattle.nf_defs.specs.People.{holder_of, user_row}
+use Rattle.nf_defs.specs.Tables.{Tables}
+use Rattle.nf_defs.specs.Tree.{found_from}
+use Rattle.nf_defs.specs.declared.Found.{Found}
+use Rattle.nf_defs.specs.declared.Found.TheVariants.{At, Free, Missing}
+use Rattle.nf_defs.specs.declared.Seeker.{Seeker}
+use Rattle.nf_defs.specs.declared.Seeker.TheVariants as seeker
+use Rattle.nf_laws.proofs.Owning.{changes_own}
+use Rattle.nf_laws.proofs.Paths.{found_free, found_leads}
+use Rattle.nf_laws.proofs.Reading.{stored_is_read}
+use Rattle.nf_laws.proofs.Stays.{sound_after}
+use Rattle.nf_laws.specs.Reads.{IsReadBy, IsStored, LeadsToKey}
+use Rattle.nf_words.proofs.Known.{call_passes}
+use Rattle.nf_words.proofs.Steps.{granted_step}
+use Rattle.nf_words.specs.Callers.{not_you_rule, token_rule}
+use Rattle.nf_words.specs.Calls.{asker_of, caller_of, found, last_name, named_in, root_of}
+use Rattle.nf_words.specs.Changes.{blob_of, reply_to, stored}
+use Rattle.nf_words.specs.Endings.{blob_for, content_in, end_refusal, ends_ticket, stored_at, stores, unless_refused}
+use Rattle.nf_words.specs.History.{MayAsk, MayCome, after, after_mark, answer_at}
+use Rattle.nf_words.specs.Laws.{Pass}
+use Rattle.nf_words.specs.Places.{forbidden_rule}
+use Rattle.nf_words.specs.Rules.{refusal_of, rules}
+use Rattle.nf_words.specs.Sound.{AreSound, IsSound}
+use Rattle.nf_words.specs.State.{State, ticket_for, ticket_of}
+use Rattle.nf_words.specs.Step.{answer_to, answered_by, blob_by, blob_to, call_of, decided, decision_of, step}
+use Rattle.nf_words.specs.declared.answer.Allowed.{Allowed}
+use Rattle.nf_words.specs.declared.answer.Allowed.TheVariants as allowed
+use Rattle.nf_words.specs.declared.answer.Denial.{Denial}
+use Rattle.nf_words.specs.declared.answer.Denial.TheVariants as denial
+use Rattle.nf_words.specs.declared.answer.Goal.TheVariants.{Serve, Store}
+use Rattle.nf_words.specs.declared.answer.LockKey.{LockKey}
+use Rattle.nf_words.specs.declared.answer.LockKey.TheVariants.{Node, Slot}
+use Rattle.nf_words.specs.declared.answer.Reply.{Reply}
+use Rattle.nf_words.specs.declared.answer.Reply.TheVariants.{Made, Done, Closed, Granted}
+use Rattle.nf_words.specs.declared.history.Entry.{Entry}
+use Rattle.nf_words.specs.declared.history.Event.{Event}
+use Rattle.nf_words.specs.declared.history.Event.TheVariants.{Begin}
+use Rattle.nf_words.specs.declared.history.Mark.{Mark}
+use Rattle.nf_words.specs.declared.history.Mark.TheVariants as mark
+use Rattle.nf_words.specs.declared.history.Outcome.TheVariants.{Body}
+use Rattle.nf_words.specs.declared.request.Caller.{Caller}
+use Rattle.nf_words.specs.declared.request.Caller.TheVariants.{Absent, Token}
+use Rattle.nf_words.specs.declared.request.Spot.{Spot}
+use Rattle.nf_words.specs.declared.request.Words.{Words}
+use Rattle.nf_server.specs.Book.{event_of_body}
+use Rattle.nf_promises.specs.Kept.{get_of, put_of}
+
+-- ---- marks
+
+-- what was answered with Ok was marked so
+pub ok_marked : (s : State) (e : Entry) → IsOk (answer_at s e e.mark) → e.mark ≡ mark.Answered
+ok_marked s e ok = here e.mark ok
+  where
+    here : (m : Mark) → IsOk (answer_at s e m) → m ≡ mark.Answered
+    here mark.Answered ok = refl
+    here mark.Store ok = absurd (cc)
+    here mark.Memory ok = absurd (cc)
+
+pub ok_answer : (s : State) (e : Entry) (event : Event) (r : Reply) → e.event ≡ event → answer_at s e e.mark ≡ Ok r
+    → (e.mark ≡ mark.Answered) × (answer_to s e.seat e.moment event ≡ Ok r)
+ok_answer s e event r event_is is =
+    let marked = ok_marked s e (subst (λ (a : Result Reply Denial). IsOk a) (sym is) refl) in
+    (marked, ap (answer_to s e.seat e.moment) (sym event_is) ∙ ap (answer_at s e) (sym marked) ∙ is)
+
+-- ---- the Begin of a PUT
+
+put_only : (d : Result Allowed Denial) (who : Seeker) (key : LockKey) (size : ℕ) → answered_by d ≡ Ok (Granted (Store who key size))
+    → d ≡ Ok (allowed.Put who key size)
+put_only (Ok (allowed.Get node content)) who key size is = absurd (cc)
+put_only (Ok (allowed.Put by at length)) who key size is = cc
+put_only (Ok (allowed.StoreNew row blob)) who key size is = absurd (cc)
+put_only (Ok (allowed.StoreOver node content blob)) who key size is = absurd (cc)
+put_only (Ok (allowed.Mkcol row)) who key size is = absurd (cc)
+put_only (Ok (allowed.Delete nodes)) who key size is = absurd (cc)
+put_only (Ok allowed.Close) who key size is = absurd (cc)
+put_only (Err refusal) who key size is = absurd (cc)
+
+-- the answers of a PUT's Begin, but for refusals
+abbrev pub IsOfPut : Reply → Type 0
+IsOfPut (Granted goal) = Unit {0}
+IsOfPut Closed = Unit {0}
+IsOfPut Made = ⊥
+IsOfPut Done = ⊥
+
+stored_replies : (who : Seeker) (name : List ℕ) (n : ℕ) (place : Found) → IsOfPut (reply_to (stored who name n (Some place)))
+stored_replies who name n (At node) = tt
+stored_replies who name n (Free folder) = tt
+stored_replies who name n (Missing depth) = tt
+
+not_refused : (o : Option Denial) (act : Allowed) (r : Reply) → answered_by (unless_refused o act) ≡ Ok r → reply_to act ≡ r
+not_refused None act r is = cc
+not_refused (Some refusal) act r is = absurd (cc)
+
+pub put_replies : (s : State) (seat now : ℕ) (words : Words) (caller : Caller) (spot : Spot) (n : ℕ) (r : Reply)
+    → answer_to s seat now (Begin words (put_of caller spot n)) ≡ Ok r → IsOfPut r
+put_replies s seat now words caller spot n r is =
+    let call = call_of s seat now words (put_of caller spot n) in
+    let act : Allowed = stored (seeker.User (asker_of call)) (last_name spot) n (Some (found call spot)) in
+    subst (λ (r : Reply). IsOfPut r) (not_refused (refusal_of unshared call) act r is)
+    (stored_replies (seeker.User (asker_of call)) (last_name spot) n (found call spot))
+
+stored_size : (by : Seeker) (name : List ℕ) (n : ℕ) (place : Found) (who : Seeker) (key : LockKey) (size : ℕ)
+    → stored by name n (Some place) ≡ allowed.Put who key size → n ≡ size
+stored_size by name n (At node) who key size is = cc
+stored_size by name n (Free folder) who key size is = cc
+stored_size by name n (Missing depth) who key size is = absurd (cc)
+
+-- what it is granted has the length that it asked for
+pub put_size : (s : State) (seat now : ℕ) (words : Words) (caller : Caller) (spot : Spot) (n : ℕ) (who : Seeker) (key : LockKey) (size : ℕ)
+    → answer_to s seat now (Begin words (put_of caller spot n)) ≡ Ok (Granted (Store who key size)) → n ≡ size
+put_size s seat now words caller spot n who key size is =
+    let call = call_of s seat now words (put_of caller spot n) in
+    let decides = put_only (decision_of s seat now (Begin words (put_of caller spot n))) who key size is in
+    stored_size (seeker.User (asker_of call)) (last_name spot) n (found call spot) who key size
+    (call_passes call (allowed.Put who key size) decides).1
+
+last_is : (front : List (List ℕ)) (last : List ℕ)
+    → unwrap_or (slice_get (front ++ last ∷ []) (length (front ++ last ∷ []) - 1)) [] ≡ last
+last_is front last =
+    let names : List (List ℕ) = front ++ last ∷ [] in
+    let at : length names - 1 ≡ length front = omega (arith, length-append front (last ∷ [])) in
+    unwrap_or-slice_get names (length names - 1) [] ∙ ap (λ (n : ℕ). get_or names n []) at ∙ get_or-append_seam front last [] []
+
+put_key : (t : Tables) (root user n : ℕ) (spot : Spot) (place : Found) (who : Seeker) (key : LockKey) (size : ℕ) → AreSound t
+    → found_from t.nodes 0 root spot.path ≡ place
+    → stored (seeker.User user) (last_name spot) n (Some place) ≡ allowed.Put who key size → LeadsToKey t.nodes root spot.path key
+put_key t root user n spot (At node) who key size sound at is =
+    let same : Node node ≡ key = cc in
+    subst (λ (k : LockKey). LeadsToKey t.nodes root spot.path k) same (found_leads t root spot.path node sound at)
+put_key t root user n spot (Free folder) who key size sound at is =
+    let same : Slot folder (last_name spot) ≡ key = cc in
+    let free = found_free t root spot.path folder sound at in
+    let named : last_name spot ≡ free.last =
+    ap (λ (path : List (List ℕ)). unwrap_or (slice_get path (length path - 1)) []) free.parts ∙ last_is free.front free.last in
+    subst (λ (k : LockKey). LeadsToKey t.nodes root spot.path k) same
+    (free.front, free.parts ∙ ap (λ (l : List ℕ). free.front ++ l ∷ []) (sym named), free.led)
+put_key t root user n spot (Missing depth) who key size sound at is = absurd (cc)
+
+-- what a Begin that is granted leaves
+record PutGranted (s : State) (e : Entry) (words : Words) (caller : Caller) (spot : Spot) (n : ℕ) (who : Seeker) (key : LockKey) (size : ℕ) : Type 0 where
+  tables : (after s e).tables ≡ s.tables
+  ticket : ticket_of (after s e) e.seat ≡ Some (ticket_for e.seat (Store who key size))
+  led : LeadsToKey s.tables.nodes (root_of (call_of s e.seat e.moment words (put_of caller spot n))) spot.path key
+  passes : Pass rules unshared (call_of s e.seat e.moment words (put_of caller spot n))
+
+put_granted : (count : ℕ) (s : State) (e : Entry) (words : Words) (caller : Caller) (spot : Spot) (n : ℕ) (who : Seeker) (key : LockKey) (size : ℕ)
+    → IsSound s → MayCome count s e → e.event ≡ Begin words (put_of caller spot n)
+    → answer_at s e e.mark ≡ Ok (Granted (Store who key size)) → PutGranted s e words caller spot n who key size
+put_granted count s e words caller spot n who key size sound may event_is is =
+    let event : Event = Begin words (put_of caller spot n) in
+    let call = call_of s e.seat e.moment words (put_of caller spot n) in
+    let act : Allowed = allowed.Put who key size in
+    let h = ok_answer s e event (Granted (Store who key size)) event_is is in
+    let decides : decision_of s e.seat e.moment event ≡ Ok act = put_only (decision_of s e.seat e.moment event) who key size h.1 in
+    let passes = call_passes call act decides in
+    let becomes : after s e ≡ step s e.seat e.moment event = ap (after_mark s e) h.0 ∙ ap (step s e.seat e.moment) event_is in
+    let asked : MayAsk s e.seat event = subst (λ (ev : Event). MayAsk s e.seat ev) event_is may.asked in
+    record {
+      tables = ap (λ (x : State). x.tables) becomes ∙ ap (λ (d : Result Allowed Denial). (decided s e.seat e.moment d).tables) decides;
+      ticket = ap (λ (x : State). ticket_of x e.seat) becomes ∙ granted_step s e.seat e.moment event (Store who key size) asked.0 h.1;
+      led = put_key s.tables (root_of call) (asker_of call) n spot (found call spot) who key size sound.rows refl passes.1;
+      passes = passes.0;
+    }
+
+-- ---- the End of its body
+
+stored_blob : (t : Tables) (now : ℕ) (key : LockKey) (digest : List ℕ) (size : ℕ)
+    → blob_of (stored_at t now key digest size) ≡ blob_for t.meta.next_blob size
+stored_blob t now (Node node) digest size = refl
+stored_blob t now (Slot folder name) digest size = refl
+
+stores_blob : (t : Tables) (now : ℕ) (key : LockKey) (digest : List ℕ) (size : ℕ) → IsOk (answered_by (stores t now key digest size))
+    → blob_by (stores t now key digest size) ≡ blob_for t.meta.next_blob size
+stores_blob t now key digest size ok = here (end_refusal t key size) ok
+  where
+    here : (o : Option Denial) → IsOk (answered_by (unless_refused o (stored_at t now key digest size)))
+        → blob_by (unless_refused o (stored_at t now key digest size)) ≡ blob_for t.meta.next_blob size
+    here None ok = stored_blob t now key digest size
+    here (Some refusal) ok = absurd (cc)
+
+-- ---- the GET
+
+callers_same : (a b : State) (caller : Caller) → b.tables.tokens ≡ a.tables.tokens → caller_of b caller ≡ caller_of a caller
+callers_same a b Absent same = refl
+callers_same a b (Token digest) same = λ i. holder_of (same i) digest
+
+get_reads : (a b : State) (seat now : ℕ) (words : Words) (caller : Caller) (spot : Spot) (n later moment : ℕ) (others : Words)
+    → b.tables.users ≡ a.tables.users → b.tables.tokens ≡ a.tables.tokens
+    → Pass rules unshared (call_of a seat now words (put_of caller spot n))
+    → IsReadBy b later moment others (get_of caller spot) (root_of (call_of a seat now words (put_of caller spot n))) spot.path
+unfolding token_rule not_you_rule forbidden_rule
+get_reads a b seat now words caller spot n later moment others users tokens pass =
+    let who : caller_of b caller ≡ caller_of a caller = callers_same a b caller tokens in
+    let row : option_and_then (user_row b.tables.users) (caller_of b caller) ≡ option_and_then (user_row a.tables.users) (caller_of a caller) =
+    λ i. option_and_then (user_row (users i)) (who i) in
+    let before = call_of a seat now words (put_of caller spot n) in
+    let behind = call_of b later moment others (get_of caller spot) in
+    let token : token_rule unshared behind ≡ token_rule unshared before =
+    ap (λ (o : Option ℕ). if is_some o then None else Some denial.Token) who in
+    let not_you : not_you_rule unshared behind ≡ not_you_rule unshared before =
+    ap (λ (o : Option UserRow).
+    if list_all (λ name. option_map_or (λ row. bytes_eq row.name name) o false) (named_in spot.user) then None else Some denial.NotYou) row in
+    record {
+      spot = spot;
+      wanted = refl;
+      of_path = refl;
+      from = ap (λ (o : Option UserRow). option_map_or (λ row. row.root) o 0) row;
+      asked = (token ∙ pass.0, (not_you ∙ pass.1.0, (pass.1.1.0, tt)));
+    }
+
+-- ---- both
+
+-- the content of a body that was stored in a state
+abbrev pub content_of_body : State → List ℕ → List Piece
+content_of_body s body = content_in (blob_for s.tables.meta.next_blob (length body)) (sha256 body) (length body)
+
+-- what is got behind the entry that stored a body, and where its bytes are
+pub record IsGot (s : State) (e : Entry) (caller : Caller) (spot : Spot) (body : List ℕ) : Type 0 where
+  pub got : (seat now : ℕ) (words : Words)
+      → answer_to (after s e) seat now (Begin words (get_of caller spot)) ≡ Ok (Granted (Serve (content_of_body s body)))
+  pub blob : blob_to s e.seat e.moment e.event ≡ blob_for s.tables.meta.next_blob (length body)
+
+pub put_is_got : (count more : ℕ) (s : State) (first second : Entry) (words : Words) (caller : Caller) (spot : Spot) (n : ℕ)
+    (who : Seeker) (key : LockKey) (size : ℕ) (body : List ℕ) → IsSound s
+    → MayCome count s first → first.event ≡ Begin words (put_of caller spot n)
+    → answer_at s first first.mark ≡ Ok (Granted (Store who key size))
+    → MayCome more (after s first) second → second.event ≡ event_of_body body → second.seat ≡ first.seat
+    → IsOk (answer_at (after s first) second second.mark) → length body ≡ size → IsGot (after s first) second caller spot body
+put_is_got count more s first second words caller spot n who key size body sound may_first event_first granted_is may event seat ok long =
+    let middle = after s first in
+    let t = middle.tables in
+    let root = root_of (call_of s first.seat first.moment words (put_of caller spot n)) in
+    let granted = put_granted count s first words caller spot n who key size sound may_first event_first granted_is in
+    let sound_middle : IsSound middle = sound_after count s first sound may_first in
+    let own = changes_own more middle second sound_middle may in
+    let marked : second.mark ≡ mark.Answered = ok_marked middle second ok in
+    let accepted : IsOk (answer_to middle second.seat second.moment second.event) =
+    subst (λ (m : Mark). IsOk (answer_at middle second m)) marked ok in
+    let ticket : ticket_of middle second.seat ≡ Some (ticket_for second.seat (Store who key (length body))) =
+    ap (ticket_of middle) seat ∙ granted.ticket ∙ ap (λ (q : ℕ). Some (ticket_for q (Store who key size))) (sym seat)
+    ∙ ap (λ (l : ℕ). Some (ticket_for second.seat (Store who key l))) (sym long) in
+    let goes : decision_of middle second.seat second.moment second.event ≡ stores t second.moment key (sha256 body) (length body) =
+    ap (decision_of middle second.seat second.moment) event ∙ ap (ends_ticket t second.moment (Body (sha256 body) (length body))) ticket in
+    let is_stored : IsStored more middle second root spot.path (content_of_body middle body) = record {
+      sound = sound_middle;
+      may = may;
+      answered = marked;
+      who = who;
+      key = key;
+      size = length body;
+      digest = sha256 body;
+      granted = ticket;
+      brought = event;
+      accepted = accepted;
+      led = subst (λ (u : Tables). LeadsToKey u.nodes root spot.path key) (sym granted.tables) granted.led;
+      body = refl;
+    } in
+    let users = ap (λ (u : Tables). u.users) own.rest ∙ ap (λ (u : Tables). u.users) granted.tables in
+    let tokens = ap (λ (u : Tables). u.tokens) own.rest ∙ ap (λ (u : Tables). u.tokens) granted.tables in
+    record {
+      got = λ later moment others. stored_is_read more middle second [] root spot.path (content_of_body middle body) later moment others (get_of caller spot)
+          is_stored tt (λ k node few led. refl)
+          (get_reads s (after middle second) first.seat first.moment words caller spot n later moment others users tokens granted.passes);
+      blob = ap blob_by goes ∙ stores_blob t second.moment key (sha256 body) (length body)
+          (subst (λ (d : Result Allowed Denial). IsOk (answered_by d)) goes accepted);
+    }

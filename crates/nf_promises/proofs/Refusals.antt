@@ -1,0 +1,127 @@
+-- What refuses for want of room: a Begin alone.
+use Rattle.std.proofs.Common.{ℕ, ◌==◌, ◌≡◌, ◌⊎◌, ◌&&◌, Bool, true, false, List, Option, None, Some, Err, is_none, option_map, if◌then◌else◌, inl, inr, sym, ap, ◌∙◌}
+use Rattle.std.specs.Option.{option_or}
+use Rattle.nf_base.specs.declared.name.NameFault.{NameFault}
+use Rattle.nf_defs.specs.Tables.{Tables}
+use Rattle.nf_defs.specs.Tree.{child_of, is_file, is_folder}
+use Rattle.nf_dav.specs.Asked as dav
+use Rattle.nf_dav.specs.Asked.{request_of}
+use Rattle.nf_dav.specs.declared.requests.Method.{Method}
+use Rattle.nf_dav.specs.declared.requests.Method.TheVariants as method
+use Rattle.nf_http.specs.Head.{Head, length_of}
+use Rattle.nf_words.specs.Endings.{end_refusal, ends_goal, ends_ticket, key_lost, place_of, stored_at, unless_refused}
+use Rattle.nf_words.specs.History.{answer_at}
+use Rattle.nf_words.specs.Limits.{limit_at, pieces_of}
+use Rattle.nf_words.specs.State.{State, ticket_of}
+use Rattle.nf_words.specs.Step.{answer_to, answered_by}
+use Rattle.nf_words.specs.declared.answer.Allowed.{Allowed}
+use Rattle.nf_words.specs.declared.answer.Denial.{Denial}
+use Rattle.nf_words.specs.declared.answer.Denial.TheVariants as denial
+use Rattle.nf_words.specs.declared.answer.Goal.{Goal}
+use Rattle.nf_words.specs.declared.answer.Goal.TheVariants.{Serve, Store}
+use Rattle.nf_words.specs.declared.answer.Limit.{Limit}
+use Rattle.nf_words.specs.declared.answer.LockKey.{LockKey}
+use Rattle.nf_words.specs.declared.answer.LockKey.TheVariants.{Node, Slot}
+use Rattle.nf_words.specs.declared.history.Entry.{Entry}
+use Rattle.nf_words.specs.declared.history.Event.TheVariants.{End}
+use Rattle.nf_words.specs.declared.history.Mark.{Mark}
+use Rattle.nf_words.specs.declared.history.Mark.TheVariants as mark
+use Rattle.nf_words.specs.declared.history.Outcome.{Outcome}
+use Rattle.nf_words.specs.declared.history.Outcome.TheVariants.{Sent, Gone, Body}
+use Rattle.nf_words.specs.declared.history.Ticket.{Ticket}
+use Rattle.nf_words.specs.declared.request.Request.{Request}
+
+either_full : (o p : Option Denial) → option_or o p ≡ Some denial.RunFull → (o ≡ Some denial.RunFull) ⊎ (p ≡ Some denial.RunFull)
+either_full None p is = inr is
+either_full (Some refusal) p is = inl is
+
+-- ---- a request
+
+body_not_full : (m : Method) (n : ℕ) → dav.body_refusal m n ≡ Some denial.RunFull → ⊥
+body_not_full method.Mkcol n is = here (n == 0) is
+  where
+    here : (a : Bool) → (if a then None else Some denial.Body) ≡ Some denial.RunFull → ⊥
+    here true is = cc
+    here false is = cc
+body_not_full method.Get n is = cc
+body_not_full method.Put n is = cc
+body_not_full method.Delete n is = cc
+
+name_not_full : (o : Option NameFault) → option_map denial.BadName o ≡ Some denial.RunFull → ⊥
+name_not_full None is = cc
+name_not_full (Some fault) is = cc
+
+refused_full : (o : Option Denial) (r : Request) → dav.unless_refused o r ≡ Err denial.RunFull → o ≡ Some denial.RunFull
+refused_full None r is = absurd (cc)
+refused_full (Some refusal) r is = cc
+
+asked_not_full : (head : Head) (m : Option Method) (segments : Option (List (List ℕ)))
+    → dav.asked head m segments ≡ Err denial.RunFull → ⊥
+asked_not_full head None segments is = cc
+asked_not_full head (Some m) None is = cc
+asked_not_full head (Some m) (Some segments) is =
+    here (either_full (dav.body_refusal m (length_of head)) (option_map denial.BadName (dav.segments_fault segments))
+    (refused_full (dav.asked_refusal head m segments) (dav.request_at head m segments) is))
+  where
+    here : (dav.body_refusal m (length_of head) ≡ Some denial.RunFull)
+        ⊎ (option_map denial.BadName (dav.segments_fault segments) ≡ Some denial.RunFull) → ⊥
+    here (inl first) = body_not_full m (length_of head) first
+    here (inr second) = name_not_full (dav.segments_fault segments) second
+
+pub request_not_full : (head : Head) → request_of head ≡ Err denial.RunFull → ⊥
+unfolding request_of
+request_not_full head is = here (dav.is_built head) is
+  where
+    here : (a : Bool)
+        → (if a then dav.asked head (dav.method_of head.method) (dav.files_segments head.target) else Err denial.NotBuilt) ≡ Err denial.RunFull → ⊥
+    here true is = asked_not_full head (dav.method_of head.method) (dav.files_segments head.target) is
+    here false is = cc
+
+-- ---- an End
+
+lost_not_full : (t : Tables) (key : LockKey) → key_lost t key ≡ Some denial.RunFull → ⊥
+lost_not_full t (Node node) is = here (is_file t.nodes node) is
+  where
+    here : (a : Bool) → (if a then None else Some denial.NotFound) ≡ Some denial.RunFull → ⊥
+    here true is = cc
+    here false is = cc
+lost_not_full t (Slot folder name) is = here (is_folder t.nodes folder && is_none (child_of t.nodes folder name)) is
+  where
+    here : (a : Bool) → (if a then None else Some denial.NotFound) ≡ Some denial.RunFull → ⊥
+    here true is = cc
+    here false is = cc
+
+limit_not_full : (o : Option Limit) → option_map denial.Limit o ≡ Some denial.RunFull → ⊥
+limit_not_full None is = cc
+limit_not_full (Some limit) is = cc
+
+decided_full : (o : Option Denial) (act : Allowed) → answered_by (unless_refused o act) ≡ Err denial.RunFull → o ≡ Some denial.RunFull
+decided_full None act is = absurd (cc)
+decided_full (Some refusal) act is = cc
+
+goal_not_full : (t : Tables) (now : ℕ) (outcome : Outcome) (goal : Goal) → answered_by (ends_goal t now outcome goal) ≡ Err denial.RunFull → ⊥
+goal_not_full t now Sent goal is = cc
+goal_not_full t now Gone goal is = cc
+goal_not_full t now (Body digest length) (Serve content) is = cc
+goal_not_full t now (Body digest length) (Store who key wanted) is =
+    here (either_full (key_lost t key) (option_map denial.Limit (limit_at t (pieces_of length) (place_of key)))
+    (decided_full (end_refusal t key length) (stored_at t now key digest length) is))
+  where
+    here : (key_lost t key ≡ Some denial.RunFull)
+        ⊎ (option_map denial.Limit (limit_at t (pieces_of length) (place_of key)) ≡ Some denial.RunFull) → ⊥
+    here (inl first) = lost_not_full t key first
+    here (inr second) = limit_not_full (limit_at t (pieces_of length) (place_of key)) second
+
+ticket_not_full : (t : Tables) (now : ℕ) (outcome : Outcome) (o : Option Ticket)
+    → answered_by (ends_ticket t now outcome o) ≡ Err denial.RunFull → ⊥
+ticket_not_full t now outcome None is = cc
+ticket_not_full t now outcome (Some ticket) is = goal_not_full t now outcome ticket.goal is
+
+pub end_not_full : (s : State) (e : Entry) (outcome : Outcome) → e.event ≡ End outcome → answer_at s e e.mark ≡ Err denial.RunFull → ⊥
+end_not_full s e outcome event is = here e.mark is
+  where
+    here : (m : Mark) → answer_at s e m ≡ Err denial.RunFull → ⊥
+    here mark.Answered is =
+        ticket_not_full s.tables e.moment outcome (ticket_of s e.seat) (sym (ap (answer_to s e.seat e.moment) event) ∙ is)
+    here mark.Store is = cc
+    here mark.Memory is = cc

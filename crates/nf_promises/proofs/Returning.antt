@@ -1,0 +1,155 @@
+-- What is put is what is got.
+use Rattle.std.proofs.Common.{ℕ, ◌≡◌, ◌||◌, ◌≤◌, Bool, true, false, List, Option, Some, Result, Ok, Err, inl, inr, refl, sym, ap, subst, ◌∙◌, arith}
+use Rattle.std.specs.Io.KnownBytes.{Appends}
+use Rattle.nf_dav.specs.Asked.{request_of}
+use Rattle.nf_http.specs.Head.{Head, closes_session}
+use Rattle.nf_http.specs.declared.wire.WireFault.{WireFault}
+use Rattle.nf_http.specs.declared.wire.WireFault.TheVariants as wire
+use Rattle.nf_words.specs.declared.answer.Reply.TheVariants as reply
+use Rattle.nf_words.specs.declared.request.Caller.{Caller}
+use Rattle.nf_words.specs.declared.request.Spot.{Spot}
+use Rattle.nf_server.specs.Book.{Book, Ends, Struck}
+use Rattle.nf_server.specs.Steps.{Closes, EndsBy, Judges, Scene, TakesIn}
+use Rattle.nf_server.specs.Turn.{Answers, Meets, Responds, Writes, end_by, end_of, how_of, says_close, stays_granted}
+use Rattle.nf_server.specs.declared.backend.Ending.{Ending}
+use Rattle.nf_server.specs.declared.backend.Ending.TheVariants as ending
+use Rattle.nf_server.specs.declared.begun.Begun.{Begun}
+use Rattle.nf_server.specs.declared.ended.Ended.{Ended}
+use Rattle.nf_server.specs.declared.ended.Ended.TheVariants as ended
+use Rattle.nf_server.specs.declared.response.Response.{Response}
+use Rattle.nf_server.specs.declared.response.Response.TheVariants as response
+use Rattle.nf_promises.proofs.Alone.{lasts_same, only_within}
+use Rattle.nf_promises.proofs.Gets.{Shown, begun_shown}
+use Rattle.nf_promises.proofs.Growing.{answers_grow, grows_none, grows_on, heads_same, judges_grow, meets_grow}
+use Rattle.nf_promises.proofs.Puts.{IsKept, put_is_kept}
+use Rattle.nf_promises.proofs.Touches.{closes_only, judges_only, output_of, passes_only}
+use Rattle.nf_promises.specs.Kept.{FailsStore, IsWritten, OnlyOwn, PutThenGet, ShowsFile, get_of}
+
+pub takes_output : {C : Type 0} (reads : C → ℕ → C → Type 0) (head : Head) (a b : Scene C) (begun : Begun) (v : Response)
+    → TakesIn reads head a b begun (Ok v) → b.output ≡ a.output
+takes_output {C} reads head a b begun v (m, body, bodies, passes) =
+    output_of m b (passes_only reads body m b begun v passes) ∙ ap (λ (x : Scene C). x.output) bodies.only
+
+-- ---- strikes rise
+
+ends_strikes : (a b : Book) (now : ℕ) (how : Ending) → Ends a b now how (Ok reply.Closed) → a.strikes ≤ b.strikes
+ends_strikes a b now ending.Sent ends = ends.enters.lasts.strikes
+ends_strikes a b now ending.Gone ends = ends.enters.lasts.strikes
+ends_strikes a b now (ending.Body bytes) ends = ends.enters.lasts.strikes
+
+closes_strikes : {C : Type 0} (reads : C → ℕ → C → Type 0) (how : Ending) (granted : Bool) (a b : Scene C) → Closes reads how granted a b
+    → a.book.strikes ≤ b.book.strikes
+closes_strikes {C} reads how true a b (now, read, ends, only) = ends_strikes a.book b.book now how ends
+closes_strikes {C} reads how false a b same = (lasts_same a.book b.book (ap (λ (x : Scene C). x.book) same)).strikes
+
+-- ---- what was written whole
+
+writes_not_closed : {C : Type 0} (close : Bool) (v : Response) (a b : Scene C) → Writes {T = Unit {0}} close v a b (Err ended.Closed) → ⊥
+writes_not_closed close (response.Denied refusal) a b never = never
+writes_not_closed close (response.Lost fault) a b never = never
+writes_not_closed close (response.File content first) a b never = never
+writes_not_closed close response.Made a b never = never
+writes_not_closed close response.Done a b never = never
+
+-- how it was written
+abbrev WroteWhole : {C : Type 0} → Bool → Head → Response → Scene C → Scene C → Type 0
+WroteWhole last head v a b = IsWritten (end_of (closes_session head) v) × Writes {T = Unit {0}} (says_close last head v) v a b (Ok tt)
+
+wrote_by : {C : Type 0} (last : Bool) (head : Head) (v : Response) (a b : Scene C) (by : Ended)
+    → Writes {T = Unit {0}} (says_close last head v) v a b (Err by) → IsWritten (Some by) → WroteWhole last head v a b
+wrote_by last head v a b ended.Closed writes written = absurd (writes_not_closed (says_close last head v) v a b writes)
+wrote_by last head v a b other writes written = absurd written
+
+wrote_whole : {C : Type 0} (last : Bool) (head : Head) (v : Response) (a b : Scene C) (result : Result (Option Ended) Ended)
+    → Responds last head v a b result → IsWritten (end_by result) → WroteWhole last head v a b
+wrote_whole last head v a b (Ok end) (is, writes) written = (subst (λ (e : Option Ended). IsWritten e) is written, writes)
+wrote_whole last head v a b (Err by) writes written = wrote_by last head v a b by writes written
+
+ends_not_closed : {C : Type 0} (fault : WireFault) (a b : Scene C) → EndsBy fault a b ended.Closed → ⊥
+ends_not_closed wire.ReadFault a b (is, same) = cc
+ends_not_closed wire.Memory a b (is, same) = cc
+ends_not_closed other a b never = never
+
+pub cut_not_written : {C : Type 0} (fault : WireFault) (a b : Scene C) (by : Ended) → EndsBy fault a b by → IsWritten (Some by) → ⊥
+cut_not_written fault a b ended.Closed ends written = ends_not_closed fault a b ends
+cut_not_written fault a b other ends written = written
+
+-- ---- both turns
+
+fails_later : (k m b : Book) → m.strikes ≤ b.strikes → FailsStore k m → FailsStore k b
+fails_later k m b later (inl struck) =
+    let rest : Struck k.strikes b.strikes = omega (arith, later, struck) in inl rest
+fails_later k m b later (inr some) = inr some
+
+pub appends_by : (old new first last : Option (List ℕ)) (bytes : List ℕ) → first ≡ old → last ≡ new → Appends first last bytes → Appends old new bytes
+appends_by old new first last bytes front end is =
+    subst (λ (o : Option (List ℕ)). Appends o new bytes) front (subst (λ (o : Option (List ℕ)). Appends first o bytes) end is)
+
+shown_later : {C : Type 0} (close : Bool) (body : List ℕ) (k a b c : Scene C) → a.output ≡ k.output → b.output ≡ c.output
+    → a.book.strikes ≤ c.book.strikes → Shown close body k.book a b → ShowsFile close body k c
+shown_later close body k a b c front end later (inl is) = inl (appends_by k.output c.output a.output b.output _ front end is)
+shown_later close body k a b c front end later (inr (inl is)) = inr (inl (appends_by k.output c.output a.output b.output _ front end is))
+shown_later close body k a b c front end later (inr (inr (is, fails))) =
+    inr (inr (appends_by k.output c.output a.output b.output _ front end is, fails_later k.book a.book c.book later fails))
+
+-- nor does taking a head write anything
+front_shown : {C : Type 0} (close : Bool) (body : List ℕ) (k a c : Scene C) → a.output ≡ k.output → a.book ≡ k.book
+    → ShowsFile close body a c → ShowsFile close body k c
+front_shown close body k a c front book (inl is) = inl (appends_by k.output c.output a.output c.output _ front refl is)
+front_shown close body k a c front book (inr (inl is)) = inr (inl (appends_by k.output c.output a.output c.output _ front refl is))
+front_shown close body k a c front book (inr (inr (is, fails))) =
+    inr (inr (appends_by k.output c.output a.output c.output _ front refl is, subst (λ (x : Book). FailsStore x c.book) book fails))
+
+writes_strikes : {C : Type 0} (close : Bool) (v : Response) (a b : Scene C) → Writes {T = Unit {0}} close v a b (Ok tt)
+    → a.book.strikes ≤ b.book.strikes
+writes_strikes {C} close (response.Denied refusal) a b wrote = (lasts_same a.book b.book (ap (λ (x : Scene C). x.book) wrote.only)).strikes
+writes_strikes {C} close (response.Lost fault) a b wrote = (lasts_same a.book b.book (ap (λ (x : Scene C). x.book) wrote.only)).strikes
+writes_strikes close (response.File content first) a b (given, writes, count) = writes.pieces.waits.lasts.strikes
+writes_strikes {C} close response.Made a b wrote = (lasts_same a.book b.book (ap (λ (x : Scene C). x.book) wrote.only)).strikes
+writes_strikes {C} close response.Done a b wrote = (lasts_same a.book b.book (ap (λ (x : Scene C). x.book) wrote.only)).strikes
+
+answers_shown : {C : Type 0} (reads : C → ℕ → C → Type 0) (last : Bool) (head : Head) (caller : Caller) (spot : Spot) (body : List ℕ)
+    (begun : Begun) (k m b : Scene C) (end : Option Ended) → request_of head ≡ Ok (get_of caller spot) → Judges reads head k m begun
+    → IsKept k.book caller spot body → OnlyOwn k.book m.book
+    → Answers reads last head begun m b end → IsWritten end → ShowsFile (last || closes_session head) body k b
+answers_shown {C} reads last head caller spot body begun k m b end asked judges kept only answers written =
+    let v = answers.response in
+    let wrote = wrote_whole last head v answers.taken answers.sent answers.result answers.responds
+    (subst (λ (e : Option Ended). IsWritten e) answers.ends written) in
+    let shown = begun_shown reads last head caller spot body begun k m answers.taken answers.sent v asked judges kept only answers.takes wrote.0 wrote.1 in
+    let front : answers.taken.output ≡ k.output = takes_output reads head m answers.taken begun v answers.takes ∙ output_of k m (judges_only reads head k m begun judges) in
+    let closed = output_of answers.sent b (closes_only reads (how_of v answers.result) (stays_granted v) answers.sent b answers.closes) in
+    let later : answers.taken.book.strikes ≤ b.book.strikes =
+    omega (
+      arith,
+      writes_strikes (says_close last head v) v answers.taken answers.sent wrote.1,
+      closes_strikes reads (how_of v answers.result) (stays_granted v) answers.sent b answers.closes,
+    ) in
+    shown_later (last || closes_session head) body k answers.taken answers.sent b front (sym closed) later shown
+
+meets_shown : {C : Type 0} (reads : C → ℕ → C → Type 0) (last : Bool) (head : Head) (caller : Caller) (spot : Spot) (body : List ℕ)
+    (k b : Scene C) (end : Option Ended) → Meets reads last head k b end → request_of head ≡ Ok (get_of caller spot)
+    → IsKept k.book caller spot body → OnlyOwn k.book b.book → IsWritten end → ShowsFile (last || closes_session head) body k b
+meets_shown reads last head caller spot body k b end (m, begun, judges, inl answers) asked kept only written =
+    let one : OnlyOwn k.book m.book =
+    only_within k.book k.book m.book b.book 0 1 2 (grows_none k.book k.book refl) (judges_grow reads head k m begun judges)
+    (answers_grow reads last head begun m b end answers) only in
+    answers_shown reads last head caller spot body begun k m b end asked judges kept one answers written
+meets_shown reads last head caller spot body k b end (m, begun, judges, inr cuts) asked kept only written =
+    absurd (cut_not_written cuts.fault cuts.cut cuts.sent cuts.by cuts.responds (subst (λ (e : Option Ended). IsWritten e) cuts.ends written))
+
+pub put_then_get : {C : Type 0} (reads : C → ℕ → C → Type 0) → PutThenGet reads
+put_then_get {C} reads caller spot body a b c first last end done put get sound told only written =
+    let same : get.behind.book ≡ b.book = heads_same b get.behind (Ok (Some get.head)) get.heads in
+    let none = grows_none a.book a.book refl in
+    let heads = grows_none a.book put.behind.book (heads_same a put.behind (Ok (Some put.head)) put.heads) in
+    let one = grows_on a.book put.behind.book b.book 0 3 3 (omega arith) heads
+    (meets_grow reads first put.head put.behind b end (put.judged, put.begun, put.judges, inl put.answers)) in
+    let two = grows_on b.book get.behind.book c.book 0 3 3 (omega arith) (grows_none b.book get.behind.book same)
+    (meets_grow reads last get.head get.behind c done get.meets) in
+    let kept = put_is_kept reads first caller spot body a b end put sound told (only_within a.book a.book b.book c.book 0 3 3 none one two only) in
+    let rest : OnlyOwn b.book c.book = only_within a.book b.book c.book c.book 3 3 0 one two (grows_none c.book c.book refl) only in
+    let shown = meets_shown reads last get.head caller spot body get.behind c done get.meets get.asked
+    (subst (λ (k : Book). IsKept k caller spot body) (sym same) kept) (subst (λ (k : Book). OnlyOwn k c.book) (sym same) rest) written in
+    front_shown (last || closes_session get.head) body b get.behind c
+    (ap (λ (x : Scene C). x.output) get.heads.only) same shown

@@ -1,0 +1,97 @@
+-- What each step of a turn touches.
+use Rattle.std.proofs.Common.{ℕ, ◌≡◌, Bool, true, false, List, Option, Result, Ok, Err, refl, sym, ap, subst, ◌∙◌}
+use Rattle.nf_dav.specs.Reply.{done_reply, made_reply}
+use Rattle.nf_http.specs.Head.{Head}
+use Rattle.nf_http.specs.declared.wire.WireFault.{WireFault}
+use Rattle.nf_http.specs.declared.wire.WireFault.TheVariants as wire
+use Rattle.nf_words.specs.declared.answer.Denial.{Denial}
+use Rattle.nf_words.specs.declared.answer.Goal.TheVariants as goal
+use Rattle.nf_words.specs.declared.answer.Reply.TheVariants as reply
+use Rattle.nf_server.specs.Steps.{Closes, EndsBy, EndsSo, Judges, OnlyAsks, OnlyWrites, Passes, Says, Scene, denial_of}
+use Rattle.nf_server.specs.Turn.{Responds, says_close}
+use Rattle.nf_server.specs.declared.backend.Ending.{Ending}
+use Rattle.nf_server.specs.declared.begun.Begun.{Begun}
+use Rattle.nf_server.specs.declared.begun.Begun.TheVariants as begun
+use Rattle.nf_server.specs.declared.ended.Ended.{Ended}
+use Rattle.nf_server.specs.declared.ended.Ended.TheVariants as ended
+use Rattle.nf_server.specs.declared.response.Response.{Response}
+use Rattle.nf_server.specs.declared.response.Response.TheVariants as response
+use Rattle.nf_promises.specs.Kept.{SaysStored}
+
+asks_none : {C : Type 0} (a b : Scene C) → b ≡ a → OnlyAsks a b
+asks_none {C} a b same = subst (λ (x : Scene C). OnlyAsks a x) (sym same) refl
+
+asks_book : {C : Type 0} (a b : Scene C) → b ≡ record a { book = b.book } → OnlyAsks a b
+asks_book {C} a b only = only ∙ ap (λ (c : C). record a { book = b.book; clock = c }) (sym (ap (λ (x : Scene C). x.clock) only))
+
+writes_none : {C : Type 0} (a b : Scene C) → b ≡ a → OnlyWrites a b
+writes_none {C} a b same = subst (λ (x : Scene C). OnlyWrites a x) (sym same) refl
+
+writes_all : {C : Type 0} (a b : Scene C) → b ≡ record a { output = b.output } → OnlyWrites a b
+writes_all {C} a b only =
+    only ∙ ap (λ (n : ℕ). record a { output = b.output; write_faults = n }) (sym (ap (λ (x : Scene C). x.write_faults) only))
+
+-- ---- the book and the clock alone
+
+pub judges_only : {C : Type 0} (reads : C → ℕ → C → Type 0) (head : Head) (a b : Scene C) (v : Begun) → Judges reads head a b v → OnlyAsks a b
+judges_only reads head a b (begun.Unasked refusal) (is, same) = asks_none a b same
+judges_only reads head a b (begun.Asked answer) (r, now, asked, read, begins, only) = only
+
+pub passes_only : {C : Type 0} (reads : C → ℕ → C → Type 0) (body : List ℕ) (a b : Scene C) (begun : Begun) (v : Response)
+    → Passes reads body a b begun v → OnlyAsks a b
+passes_only reads body a b (begun.Unasked refusal) v (is, same) = asks_none a b same
+passes_only reads body a b (begun.Asked (Ok (reply.Granted (goal.Serve content)))) v starts = asks_book a b starts.only
+passes_only reads body a b (begun.Asked (Ok (reply.Granted (goal.Store who key length)))) v (now, answer, read, ends, is, only) = only
+passes_only reads body a b (begun.Asked (Ok reply.Made)) v (is, same) = asks_none a b same
+passes_only reads body a b (begun.Asked (Ok reply.Done)) v (is, same) = asks_none a b same
+passes_only reads body a b (begun.Asked (Ok reply.Closed)) v (is, same) = asks_none a b same
+passes_only reads body a b (begun.Asked (Err refusal)) v (is, same) = asks_none a b same
+
+pub closes_only : {C : Type 0} (reads : C → ℕ → C → Type 0) (how : Ending) (granted : Bool) (a b : Scene C) → Closes reads how granted a b
+    → OnlyAsks a b
+closes_only reads how true a b (now, read, ends, only) = only
+closes_only reads how false a b same = asks_none a b same
+
+-- ---- the output alone
+
+pub says_only : {C T : Type 0} (a b : Scene C) (bytes : List ℕ) (result : Result T Ended) → Says a b bytes result → OnlyWrites a b
+says_only a b bytes (Ok sent) wrote = writes_all a b wrote.only
+says_only a b bytes (Err ended.Memory) same = writes_none a b same
+says_only a b bytes (Err ended.WriteFault) part = part.only
+says_only a b bytes (Err other) never = absurd never
+
+pub stored_only : {C : Type 0} (last : Bool) (head : Head) (v : Response) (a b : Scene C) (result : Result (Option Ended) Ended) → SaysStored v
+    → Responds last head v a b result → OnlyWrites a b
+stored_only last head response.Made a b (Ok end) says (is, wrote) =
+    says_only {T = Unit {0}} a b (made_reply (says_close last head response.Made)) (Ok tt) wrote
+stored_only last head response.Made a b (Err by) says wrote =
+    says_only {T = Unit {0}} a b (made_reply (says_close last head response.Made)) (Err by) wrote
+stored_only last head response.Done a b (Ok end) says (is, wrote) =
+    says_only {T = Unit {0}} a b (done_reply (says_close last head response.Done)) (Ok tt) wrote
+stored_only last head response.Done a b (Err by) says wrote =
+    says_only {T = Unit {0}} a b (done_reply (says_close last head response.Done)) (Err by) wrote
+stored_only last head (response.Denied refusal) a b result says responds = absurd says
+stored_only last head (response.Lost why) a b result says responds = absurd says
+stored_only last head (response.File content first) a b result says responds = absurd says
+
+ends_so_only : {C : Type 0} (refusal : Denial) (a b : Scene C) (end : Ended) → EndsSo refusal a b end → OnlyWrites a b
+ends_so_only refusal a b ended.BadMessage wrote = writes_all a b wrote.only
+ends_so_only refusal a b ended.WriteFault part = part.only
+ends_so_only refusal a b ended.Memory same = writes_none a b same
+ends_so_only refusal a b other never = absurd never
+
+pub ends_only : {C : Type 0} (fault : WireFault) (a b : Scene C) (end : Ended) → EndsBy fault a b end → OnlyWrites a b
+ends_only wire.ReadFault a b end (is, same) = writes_none a b same
+ends_only wire.Memory a b end (is, same) = writes_none a b same
+ends_only other a b end ends = ends_so_only (denial_of other) a b end ends
+
+-- ---- one of these
+
+pub book_of : {C : Type 0} (a b : Scene C) → OnlyWrites a b → b.book ≡ a.book
+book_of {C} a b only = ap (λ (x : Scene C). x.book) only
+
+pub output_of : {C : Type 0} (a b : Scene C) → OnlyAsks a b → b.output ≡ a.output
+output_of {C} a b only = ap (λ (x : Scene C). x.output) only
+
+pub input_of : {C : Type 0} (a b : Scene C) → OnlyAsks a b → b.input ≡ a.input
+input_of {C} a b only = ap (λ (x : Scene C). x.input) only

@@ -1,0 +1,5 @@
+use Rattle.nf_promises.proofs.Full.{never_full}
+use Rattle.nf_promises.proofs.room.never_full.Goals as goal
+
+pub returns : goal.returns
+returns g c = never_full g.C.Clock.reads

@@ -1,0 +1,118 @@
+-- What is put is what is got.
+use Rattle.std.specs.Prelude.{◌≡◌, ◌≢◌, ◌⊎◌, ℕ, ◌+◌, ◌≤◌, Bool, ◌||◌, List, [], ◌++◌, length, Option, None, Some, IsSome, Ok}
+use Rattle.std.specs.Io.KnownBytes.{Appends}
+use Rattle.nf_dav.specs.Asked.{request_of}
+use Rattle.nf_dav.specs.Reply.{done_reply, file_head, made_reply, refusal_reply}
+use Rattle.httparse.specs.Grammar.{IsRequestHead, RequestHead, print_request}
+use Rattle.nf_http.specs.Head.{Head, closes_session, head_fault, head_of}
+use Rattle.nf_server.specs.Book.{Book, Struck, state_of}
+use Rattle.nf_server.specs.Steps.{Heads, Judges, Scene}
+use Rattle.nf_server.specs.Turn.{Answers, Meets, Turn}
+use Rattle.nf_server.specs.declared.begun.Begun.{Begun}
+use Rattle.nf_server.specs.declared.ended.Ended.{Ended}
+use Rattle.nf_server.specs.declared.ended.Ended.TheVariants as ended
+use Rattle.nf_server.specs.declared.response.Response.{Response}
+use Rattle.nf_server.specs.declared.response.Response.TheVariants as response
+use Rattle.nf_words.specs.Sound.{IsSound}
+use Rattle.nf_words.specs.declared.answer.Denial.TheVariants as denial
+use Rattle.nf_words.specs.declared.request.Caller.{Caller}
+use Rattle.nf_words.specs.declared.request.Request.{Request}
+use Rattle.nf_words.specs.declared.request.Spot.{Spot}
+use Rattle.nf_words.specs.declared.request.Wanted.TheVariants.{Get, Put}
+
+-- ---- the two messages
+
+abbrev pub put_of : Caller → Spot → ℕ → Request
+put_of caller spot n = record { caller = caller; wanted = Put spot n }
+
+abbrev pub get_of : Caller → Spot → Request
+get_of caller spot = record { caller = caller; wanted = Get spot }
+
+-- the answer that it was made or done
+abbrev pub SaysStored : Response → Type 0
+SaysStored response.Made = Unit {0}
+SaysStored response.Done = Unit {0}
+SaysStored (response.Denied refusal) = ⊥
+SaysStored (response.Lost fault) = ⊥
+SaysStored (response.File content first) = ⊥
+
+-- a turn took a head that asks for a PUT, and this body from the input, and answered that it was made or done
+pub record Puts {C : Type 0} (reads : C → ℕ → C → Type 0) (last : Bool) (caller : Caller) (spot : Spot) (body : List ℕ)
+    (a b : Scene C) (end : Option Ended) : Type 0 where
+  pub head : Head
+  pub behind : Scene C
+  pub heads : Heads a behind (Ok (Some head))
+  pub asked : request_of head ≡ Ok (put_of caller spot (length body))
+  pub judged : Scene C
+  pub begun : Begun
+  pub judges : Judges reads head behind judged begun
+  pub answers : Answers reads last head begun judged b end
+  pub body_is : answers.takes.1 ≡ body
+  pub stored : SaysStored answers.response
+
+-- a turn took a head that asks for a GET, and met it
+pub record Gets {C : Type 0} (reads : C → ℕ → C → Type 0) (last : Bool) (caller : Caller) (spot : Spot)
+    (a b : Scene C) (end : Option Ended) : Type 0 where
+  pub head : Head
+  pub behind : Scene C
+  pub heads : Heads a behind (Ok (Some head))
+  pub asked : request_of head ≡ Ok (get_of caller spot)
+  pub meets : Meets reads last head behind b end
+
+-- the answer was written whole, and is none that ends the session by itself
+abbrev pub IsWritten : Option Ended → Type 0
+IsWritten None = Unit {0}
+IsWritten (Some ended.Closed) = Unit {0}
+IsWritten (Some other) = ⊥
+
+-- ---- the promise
+
+-- no entry of another seat came between
+abbrev pub OnlyOwn : Book → Book → Type 0
+OnlyOwn a b = length b.known + length a.own ≡ length a.known + length b.own
+
+-- the store failed, which it counted; or a piece was damaged when the run was opened
+abbrev pub FailsStore : Book → Book → Type 0
+FailsStore a b = Struck a.strikes b.strikes ⊎ (a.damaged ≢ [])
+
+-- a file of these bytes was written; or that there is no memory; or that the store failed
+abbrev pub ShowsFile : {C : Type 0} → Bool → List ℕ → Scene C → Scene C → Type 0
+ShowsFile close body a b =
+    Appends a.output b.output (file_head close (length body) ++ body)
+    ⊎ Appends a.output b.output (refusal_reply close denial.Memory)
+    ⊎ (Appends a.output b.output (refusal_reply close denial.Store) × FailsStore a.book b.book)
+
+-- the body of a PUT that was made or done is what the next turn's GET of its path by the same caller is answered, byte
+-- for byte, where the answer is written whole: over a sound state and a store that tells its bytes
+abbrev pub PutThenGet : {C : Type 0} → (C → ℕ → C → Type 0) → Type 0
+PutThenGet {C} reads =
+    (caller : Caller) (spot : Spot) (body : List ℕ)
+    (a b c : Scene C) (first last : Bool) (end done : Option Ended)
+    → Puts reads first caller spot body a b end → (get : Gets reads last caller spot b c done)
+    → IsSound (state_of a.book) → IsSome a.book.told → OnlyOwn a.book c.book → IsWritten done
+    → ShowsFile (last || closes_session get.head) body b c
+
+-- ---- the same of bytes
+
+-- the bytes of a head that has no fault, and asks for that
+pub record Prints (h : RequestHead) (request : Request) : Type 0 where
+  pub is_head : IsRequestHead h
+  pub short : length (print_request h) ≤ 8192
+  pub sound : head_fault (head_of h) ≡ None
+  pub asks : request_of (head_of h) ≡ Ok request
+
+-- what was written is the answer that something was made or done
+abbrev pub SaysDone : {C : Type 0} → Scene C → Scene C → Type 0
+SaysDone a b = (close : Bool) × (Appends a.output b.output (made_reply close) ⊎ Appends a.output b.output (done_reply close))
+
+-- two turns over an input that begins with a PUT, its body and a GET of its path by the same caller, and ends that tell
+-- their bytes
+abbrev pub PutThenGetOfBytes : {C : Type 0} → (C → ℕ → C → Type 0) → Type 0
+PutThenGetOfBytes {C} reads =
+    (caller : Caller) (spot : Spot) (put get : RequestHead) (body rest : List ℕ)
+    (a b c : Scene C) (first last : Bool) (end done : Option Ended)
+    → Prints put (put_of caller spot (length body)) → Prints get (get_of caller spot)
+    → a.input ≡ Some (print_request put ++ body ++ print_request get ++ rest) → IsSome a.output
+    → Turn reads first a b end → SaysDone a b → Turn reads last b c done → IsWritten done
+    → IsSound (state_of a.book) → IsSome a.book.told → OnlyOwn a.book c.book
+    → ShowsFile (last || closes_session (head_of get)) body b c

@@ -1,0 +1,16 @@
+//! What is put is what is got.
+
+ghost use Rattle.nf_promises.specs.Kept.{PutThenGet, PutThenGetOfBytes};
+
+use nf_outside::Clock;
+
+/// A GET is answered the very bytes that a PUT of its path stored just before, unless there is no memory or the store
+/// fails: the head of a file of so many bytes, and the bytes.
+pub fn put_then_get<C: Clock>()
+    ensures { PutThenGet C.reads }
+{}
+
+/// The same of the bytes that come in and go out: of an input that begins with a PUT, its body and a GET.
+pub fn put_then_get_of_bytes<C: Clock>()
+    ensures { PutThenGetOfBytes C.reads }
+{}

@@ -1,0 +1,8 @@
+//! Promises of a session, from what it is known to do. The functions do nothing: each stands for the fact that it ensures.
+#![tactic(auto)]
+
+mod kept;
+mod room;
+
+pub use kept::{put_then_get, put_then_get_of_bytes};
+pub use room::never_full;
