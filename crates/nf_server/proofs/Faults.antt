@@ -1,50 +1,24 @@
 -- What a turn that ends by a fault of reading did.
-use Rattle.std.proofs.Common.{◌≡◌, ℕ, refl, sym, ◌∙◌, subst, inl, inr, Result, Ok, Err}
+use Rattle.std.proofs.Common.{◌≡◌, ℕ, refl, sym, ◌∙◌, ap, subst, inl, inr, Result, Ok, Err}
 use Rattle.std.specs.Prelude.{Bool, true, false, Option, Some}
 use Rattle.nf_http.specs.Head.{Head, closes_session}
 use Rattle.nf_http.specs.declared.wire.WireFault.{WireFault}
 use Rattle.nf_http.specs.declared.wire.WireFault.TheVariants as wire
-use Rattle.nf_words.specs.declared.answer.Denial.{Denial}
-use Rattle.nf_words.specs.declared.answer.Denial.TheVariants as denial
 use Rattle.nf_server.specs.Laws.{ReadFaultsStoreNothing}
 use Rattle.nf_server.specs.Steps.{Scene, Heads, Cuts, Closes, EndsBy, cutting, is_granted, taken_length}
-use Rattle.nf_server.specs.Turn.{Responds, Writes, end_by, end_of, end_of_close, end_of_denial, says_close}
+use Rattle.nf_server.specs.Turn.{Responds, Writes, end_by, end_of, says_close}
 use Rattle.nf_server.specs.declared.backend.Ending.TheVariants as ending
 use Rattle.nf_server.specs.declared.response.Response.{Response}
 use Rattle.nf_server.specs.declared.response.Response.TheVariants as response
 use Rattle.nf_server.specs.declared.ended.Ended.{Ended}
 use Rattle.nf_server.specs.declared.ended.Ended.TheVariants as ended
-
-no_read : (closes : Bool) → end_of_close closes ≡ Some ended.ReadFault → ⊥
-no_read true e = cc
-no_read false e = cc
-
-denial_no_read : (closes : Bool) (d : Denial) → end_of_denial closes d ≡ Some ended.ReadFault → ⊥
-denial_no_read closes denial.BadMessage e = no_read closes e
-denial_no_read closes (denial.BadName f) e = no_read closes e
-denial_no_read closes denial.Token e = no_read closes e
-denial_no_read closes denial.NotYou e = no_read closes e
-denial_no_read closes denial.ForbiddenName e = no_read closes e
-denial_no_read closes (denial.BadTarget t) e = no_read closes e
-denial_no_read closes denial.NotFound e = no_read closes e
-denial_no_read closes denial.Exists e = no_read closes e
-denial_no_read closes denial.NoParent e = no_read closes e
-denial_no_read closes denial.TooLarge e = no_read closes e
-denial_no_read closes denial.Body e = no_read closes e
-denial_no_read closes denial.Head e = no_read closes e
-denial_no_read closes denial.Store e = no_read closes e
-denial_no_read closes denial.RunFull e = cc
-denial_no_read closes denial.Coding e = no_read closes e
-denial_no_read closes denial.NotBuilt e = cc
-denial_no_read closes denial.Memory e = no_read closes e
-denial_no_read closes (denial.Limit l) e = no_read closes e
+use Rattle.nf_server.proofs.Causes.{end_is_none, is_fault}
 
 end_no_read : (closes : Bool) (v : Response) → end_of closes v ≡ Some ended.ReadFault → ⊥
-end_no_read closes (response.Denied d) e = denial_no_read closes d e
-end_no_read closes response.Made e = no_read closes e
-end_no_read closes response.Done e = no_read closes e
-end_no_read closes (response.Lost fault) e = no_read closes e
-end_no_read closes (response.File content first) e = no_read closes e
+end_no_read closes v e = never (sym (end_is_none closes v) ∙ ap is_fault e)
+  where
+    never : false ≡ true → ⊥
+    never e = cc
 
 writes_no_read : {C : Type 0} (T : Type 0) (close : Bool) (v : Response) (a b : Scene C) → Writes {T = T} close v a b (Err ended.ReadFault) → ⊥
 writes_no_read T close (response.Denied d) a b writes = writes

@@ -10,7 +10,6 @@ pub fn read_faults_store_nothing<C: Clock>()
 {}
 
 /// A session counts a fault of its input or output where it ends by that, and nowhere else; what its seat knows only goes on.
-#[tactic(auto, using(crate::proofs::Causes::session_follows))]
 pub fn sessions_follow<C: Clock>()
     ensures { SessionsFollow C.reads }
 {}
