@@ -4,6 +4,8 @@
 mod demo;
 mod plan;
 mod site;
+#[cfg(test)]
+mod tests;
 
 pub use plan::Plan;
 pub use site::{RoomFault, Site};
