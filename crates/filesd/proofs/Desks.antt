@@ -6,7 +6,7 @@ use Rattle.sha2.specs.Sha256.{sha256}
 use Rattle.std.specs.List.{All}
 use Rattle.std.specs.Option.{IfSome}
 use Rattle.std.proofs.lemmas.Bool.{eq-eqb, eqb-false, eqb-true}
-use Rattle.std.proofs.lemmas.List.Elements.{All-append, All-get_or}
+use Rattle.std.proofs.lemmas.List.Elements.{All-get_or, All-head, All-push, All-tail}
 use Rattle.std.proofs.lemmas.Option.{get_or_from_slice_get, none-some, same_Some, slice_get_within}
 use Rattle.nf_base.specs.declared.content.Piece.{Piece}
 use Rattle.nf_base.specs.declared.content.TheConstants.{MAX_BODY}
@@ -94,7 +94,7 @@ ticket_is k blobs goal h holds = has_goal (ticket_of k.state seat) goal (sym (he
 pub alone_more : (k l : Kept) (e : Entry) → l ≡ entered k e → e.seat ≡ seat → AreOwn k.history → AreOwn l.history
 alone_more k l e same its own =
     subst (λ (z : Kept). AreOwn z.history) (sym same)
-    (All-append (λ (x : Entry). x.seat ≡ seat) k.history (e ∷ []) own (its, tt))
+    (All-push (λ (x : Entry). x.seat ≡ seat) k.history e own its)
 
 pub makes_alone : (k l : Kept) (now : ℕ) (event : Event) (mark : Mark) (answer : Answer) → Makes k l now event mark answer
     → AreOwn k.history → AreOwn l.history
@@ -108,7 +108,9 @@ asks_alone k l now words request answer (inr none) own = subst (λ (z : Kept). A
 -- its own entries are as many as all
 all_own : (s : State) (es : List Entry) → AreOwn es → length es ≡ length (own_from seat s es)
 all_own s [] own = refl
-all_own s (e ∷ es) own = simp (eq-eqb e.seat seat own.0) (ap (λ (n : ℕ). n + 1) (all_own (after s e) es own.1))
+all_own s (e ∷ es) own =
+    simp (eq-eqb e.seat seat (All-head (λ (x : Entry). x.seat ≡ seat) e es own))
+    (let rest = all_own (after s e) es (All-tail (λ (x : Entry). x.seat ≡ seat) e es own) in cc)
 
 pub is_alone : (k : Kept) (blobs : Blobs) → AreOwn k.history → IsAlone (book_of k blobs)
 is_alone k blobs own = all_own (opened k.opening) k.history own
@@ -117,15 +119,16 @@ is_alone k blobs own = all_own (opened k.opening) k.history own
 others_none : (n : ℕ) (s : State) (es : List Entry) → n ≢ seat → AreOwn es → IsNone (ticket_of s n) → IsNone (ticket_of (replay s es) n)
 others_none n s [] differ own none = none
 others_none n s (e ∷ es) differ own none =
-    others_none n (after s e) es differ own.1
-    (subst (λ (o : Option Ticket). IsNone o) (sym (other_after s e n (λ is. differ (is ∙ own.0)))) none)
+    let its : e.seat ≡ seat = All-head (λ (x : Entry). x.seat ≡ seat) e es own in
+    others_none n (after s e) es differ (All-tail (λ (x : Entry). x.seat ≡ seat) e es own)
+    (subst (λ (o : Option Ticket). IsNone o) (sym (other_after s e n (λ is. differ (is ∙ its)))) none)
 
 has_own : (tickets : List Ticket) → ((n : ℕ) → IsNone (find (λ ticket. ticket.seat == n) tickets)) → tickets ≡ []
 has_own [] none = refl
 has_own (ticket ∷ tickets) none = absurd (never (none ticket.seat))
   where
     never : IsNone (find (λ (t : Ticket). t.seat == ticket.seat) (ticket ∷ tickets)) → ⊥
-    never is = simp (eq-eqb ticket.seat ticket.seat refl) at is
+    never is = let e : true ≡ false = simp (eq-eqb ticket.seat ticket.seat refl) at is in cc
 
 -- where the seat is idle nothing is granted
 pub no_tickets : (k : Kept) (blobs : Blobs) → IsHistory k → AreOwn k.history → held (book_of k blobs) ≡ None → k.state.tickets ≡ []

@@ -34,9 +34,9 @@ abbrev pub AreOwn : List Entry → Type 0
 AreOwn entries = All (λ (e : Entry). e.seat ≡ seat) entries
 
 -- what a desk keeps: the bytes of each piece are there, and no other seat made an entry
-pub record IsDesk (desk : Served) : Type 0 where
-  pub whole : IsWhole desk.site.kept.state desk.store.blobs
-  pub alone : AreOwn desk.site.kept.history
+pub record IsDesk (k : Kept) (blobs : Blobs) : Type 0 where
+  pub whole : IsWhole k.state blobs
+  pub alone : AreOwn k.history
 
 abbrev pub book_in : Served → Book
 book_in desk = book_of desk.site.kept desk.store.blobs

@@ -43,7 +43,7 @@ impl Model for Desk {
 
     ghost view = { λ desk. record { site = desk.site; store = desk.store } };
 
-    ghost invariant = { IsDesk };
+    ghost invariant = { λ desk. IsDesk desk.site.kept desk.store.blobs };
 }
 
 impl Desk {
