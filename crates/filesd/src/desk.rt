@@ -95,9 +95,7 @@ impl Backend for Desk {
         match ending {
             Ending::Sent => finish(self.alloc, &mut self.site, now, Outcome::Sent),
             Ending::Gone => finish(self.alloc, &mut self.site, now, Outcome::Gone),
-            Ending::Body(body) => {
-                keep(self.alloc, &mut self.site, &mut self.store, now, body)
-            }
+            Ending::Body(body) => { keep(self.alloc, &mut self.site, &mut self.store, now, body) }
         }
     }
 }
@@ -126,12 +124,7 @@ fn ask(alloc: Global, site: &mut Site, now: Moment, words: Words, request: Reque
 }
 
 /// The seat's step of an event. For want of memory nothing is done.
-fn step(
-    alloc: Global,
-    site: &mut Site,
-    now: Moment,
-    event: Event,
-) -> Result<Answer, AllocError>
+fn step(alloc: Global, site: &mut Site, now: Moment, event: Event) -> Result<Answer, AllocError>
     requires asked { MayAsk site.old.kept.state seat event }
     requires room { HasEntryRoom site.old event }
     ensures ok { IfOk result (λ answer. Makes site.old.kept site.new.kept now event mark.Answered answer) }
@@ -154,13 +147,7 @@ fn finish(alloc: Global, site: &mut Site, now: Moment, outcome: Outcome) -> Answ
 }
 
 /// The End of a PUT with its body, which is kept where the step stores it. Where there is no memory for it, the history says so.
-fn keep(
-    alloc: Global,
-    site: &mut Site,
-    store: &mut Store,
-    now: Moment,
-    body: Vec<u8>,
-) -> Answer
+fn keep(alloc: Global, site: &mut Site, store: &mut Store, now: Moment, body: Vec<u8>) -> Answer
     requires { MayAsk site.old.kept.state seat (event_of_body body.items) }
     ensures { Keeps site.old.kept site.new.kept store.old.blobs store.new.blobs now body.items result }
 {

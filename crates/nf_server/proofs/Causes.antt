@@ -1,5 +1,5 @@
 -- What a session counts of the faults of its ends, and that what its seat knows only goes on.
-use Rattle.std.proofs.Common.{◌≡◌, ◌⊎◌, ℕ, List, [], ◌∷◌, refl, sym, ◌∙◌, ap, subst, inl, inr, Result, Ok, Err}
+use Rattle.std.proofs.Common.{◌≡◌, ℕ, List, [], ◌∷◌, refl, sym, ◌∙◌, ap, subst, inl, inr, Result, Ok, Err}
 use Rattle.std.specs.Prelude.{Bool, true, false, Option, None, Some, MatchBool, Vec}
 use Rattle.std.specs.declared.alloc.Global.{Global}
 use Rattle.nf_base.specs.declared.content.Piece.{Piece}
@@ -17,12 +17,11 @@ use Rattle.nf_words.specs.declared.request.Words.{Words}
 use Rattle.nf_server.specs.Book.{Answer, Begins, Book, Ends, Enters, Lasts, Waits, is_unmade}
 use Rattle.nf_server.specs.Files.{SendsFile, WritesPieces}
 use Rattle.nf_server.specs.Laws.{CountsFault, Follows, SessionsFollow}
-use Rattle.nf_server.specs.Session.{Session, Through}
-use Rattle.nf_server.specs.Steps.{Scene, OnlyAsks, OnlyReads, Heads, Bodies, Closes, EndsBy, EndsSo, Judges, Passes, Says, Starts, StartsFile, StoresBody, TakesIn, Wrote, WrotePart, denial_of, taken_length}
+use Rattle.nf_server.specs.Session.{Through}
+use Rattle.nf_server.specs.Steps.{Scene, OnlyAsks, OnlyReads, Bodies, Closes, EndsBy, EndsSo, Judges, Passes, Says, Starts, StartsFile, StoresBody, Wrote, WrotePart, denial_of, taken_length}
 use Rattle.nf_server.specs.Turn.{Answers, CutsShort, Responds, Turn, Writes, end_by, end_of, end_of_close, end_of_denial, says_close}
 use Rattle.nf_server.specs.declared.backend.Ending.{Ending}
 use Rattle.nf_server.specs.declared.backend.Ending.TheVariants as ending
-use Rattle.nf_server.specs.declared.backend.PieceFault.{PieceFault}
 use Rattle.nf_server.specs.declared.begun.Begun.{Begun}
 use Rattle.nf_server.specs.declared.begun.Begun.TheVariants as begun
 use Rattle.nf_server.specs.declared.ended.Ended.{Ended}
@@ -320,7 +319,7 @@ answers_follows reads last head u a b end answers =
     let takes = answers.takes in
     let v = answers.response in
     let taken = calm_then a takes.0 answers.taken (bodies_calm a takes.0 (taken_length head u) takes.1 takes.2)
-        (passes_calm reads takes.1 takes.0 answers.taken u v takes.3) in
+    (passes_calm reads takes.1 takes.0 answers.taken u v takes.3) in
     subst (λ (z : Option Ended). Follows a b z) (sym answers.ends)
     (calm_follows a answers.taken b (end_by answers.result) taken
     (follows_calm answers.taken answers.sent b (end_by answers.result)
