@@ -6,7 +6,7 @@ use Rattle.sha2.specs.Sha256.{sha256}
 use Rattle.std.specs.List.{All}
 use Rattle.std.specs.Option.{IfSome}
 use Rattle.std.proofs.lemmas.Bool.{eq-eqb, eqb-false, eqb-true}
-use Rattle.std.proofs.lemmas.List.Elements.{All-get_or}
+use Rattle.std.proofs.lemmas.List.Elements.{All-get_or, All-head, All-push, All-tail}
 use Rattle.std.proofs.lemmas.Option.{get_or_from_slice_get, none-some, same_Some, slice_get_within}
 use Rattle.nf_base.specs.declared.content.Piece.{Piece}
 use Rattle.nf_base.specs.declared.content.TheConstants.{MAX_BODY}
@@ -45,115 +45,30 @@ use Rattle.nf_words.proofs.Steps.{end_frees, freed, granted_step, other_after}
 use Rattle.nf_laws.proofs.Blobs.{begin_none, blobs_are_new, gone_none, new_at, sent_none, stays_whole, still_at}
 use Rattle.nf_laws.specs.Wholes.{Blobs, Brings, IsGoalThere, IsThere, IsWhole, blob_at, blob_in, blob_under, with_blob}
 use Rattle.nf_server.specs.Book.{Answer, Begins, Book, Ends, EndsBody, Enters, FailsPiece, GivesPiece, IsOfBegin, IsOfBody, Lasts, MayEnd, Stores, TellsStill, Waits, entries_wanted, event_of_body, granted, held, held_after, is_unmade, is_unmade_by, outcome_of, own_from, state_after}
+use Rattle.nf_promises.specs.Room.{IsAlone}
+use Rattle.nf_server.proofs.Books.{held_is_ticket, own_grows}
 use Rattle.nf_server.specs.declared.backend.Ending.{Ending}
 use Rattle.nf_server.specs.declared.backend.Ending.TheVariants as ending
 use Rattle.nf_server.specs.declared.backend.PieceFault.{PieceFault}
 use Rattle.nf_server.specs.declared.backend.PieceFault.TheVariants as fault
 use Rattle.nf_site.specs.Held.{entries_wanted as site_wanted}
 use Rattle.nf_site.specs.Kept.{Kept, IsHistory, entered, entry, moment_of}
-use Rattle.filesd.specs.Desk.{book_of, seat}
+use Rattle.filesd.specs.Desk.{AreOwn, book_of, seat}
 use Rattle.filesd.specs.Stepping.{Asks, FindsNone, IsEmpty, Keeps, Makes, entry_at}
-
--- ---- one entry more of the seat's own
-
-own_more : (n : ℕ) (s : State) (es : List Entry) (e : Entry) → e.seat ≡ n
-    → own_from n s (es ++ e ∷ []) ≡ own_from n s es ++ (e, answer_at (replay s es) e e.mark) ∷ []
-own_more n s [] e is = simp (eq-eqb e.seat n is) refl
-own_more n s (x ∷ es) e is = here (x.seat == n) refl (own_more n (after s x) es e is)
-  where
-    here : (a : Bool) → (x.seat == n) ≡ a
-        → own_from n (after s x) (es ++ e ∷ []) ≡ own_from n (after s x) es ++ (e, answer_at (replay (after s x) es) e e.mark) ∷ []
-        → own_from n s ((x ∷ es) ++ e ∷ []) ≡ own_from n s (x ∷ es) ++ (e, answer_at (replay s (x ∷ es)) e e.mark) ∷ []
-    here true f rest = simp f (ap (λ (own : List (Entry × Answer)). (x, answer_at s x x.mark) ∷ own) rest)
-    here false f rest = simp f rest
 
 -- ---- what the seat holds
 
+own_more : (n : ℕ) (s : State) (es : List Entry) (e : Entry) → e.seat ≡ n
+    → own_from n s (es ++ e ∷ []) ≡ own_from n s es ++ (e, answer_at (replay s es) e e.mark) ∷ []
+own_more n s es e is = simp (eq-eqb e.seat n is) at (own_grows n s es e)
+
 -- what a ticket is for
-abbrev goal_in : Option Ticket → Option Goal
+abbrev pub goal_in : Option Ticket → Option Goal
 goal_in o = option_map (λ (ticket : Ticket). ticket.goal) o
-
-none_in : (o : Option Ticket) → IsNone o → goal_in o ≡ None
-none_in None is = refl
-none_in (Some ticket) is = cc
-
--- an answer that grants nothing
-plain_of : (answer : Answer) → granted answer ≡ None → IsPlain answer
-plain_of (Ok (reply.Granted goal)) none = absurd (none-some goal (sym none))
-plain_of (Ok reply.Made) none = λ goal is. cc
-plain_of (Ok reply.Done) none = λ goal is. cc
-plain_of (Ok reply.Closed) none = λ goal is. cc
-plain_of (Err refusal) none = λ goal is. cc
-
-granted_is : (answer : Answer) (goal : Goal) → granted answer ≡ Some goal → answer ≡ Ok (reply.Granted goal)
-granted_is (Ok (reply.Granted other)) goal is = ap (λ (g : Goal). Ok (reply.Granted g)) (same_Some other goal is)
-granted_is (Ok reply.Made) goal is = absurd (none-some goal is)
-granted_is (Ok reply.Done) goal is = absurd (none-some goal is)
-granted_is (Ok reply.Closed) goal is = absurd (none-some goal is)
-granted_is (Err refusal) goal is = absurd (none-some goal is)
-
-no_grant : (answer : Answer) → IsPlain answer → granted answer ≡ None
-no_grant (Ok (reply.Granted goal)) plain = absurd (plain goal refl)
-no_grant (Ok reply.Made) plain = refl
-no_grant (Ok reply.Done) plain = refl
-no_grant (Ok reply.Closed) plain = refl
-no_grant (Err refusal) plain = refl
-
--- a Begin leaves what it is granted, an End leaves nothing
-begin_holds : (s : State) (n now : ℕ) (words : Words) (request : Request) → IsNone (ticket_of s n)
-    → goal_in (ticket_of (step s n now (Begin words request)) n) ≡ granted (answer_to s n now (Begin words request))
-begin_holds s n now words request none = here (granted (answer_to s n now (Begin words request))) refl
-  where
-    here : (o : Option Goal) → granted (answer_to s n now (Begin words request)) ≡ o
-        → goal_in (ticket_of (step s n now (Begin words request)) n) ≡ granted (answer_to s n now (Begin words request))
-    here None e =
-        ap (λ (tickets : List Ticket). goal_in (find (λ ticket. ticket.seat == n) tickets))
-        (plain_keeps s n now words request (plain_of (answer_to s n now (Begin words request)) e))
-        ∙ none_in (ticket_of s n) none ∙ sym e
-    here (Some goal) e =
-        ap goal_in (granted_step s n now (Begin words request) goal none (granted_is (answer_to s n now (Begin words request)) goal e)) ∙ sym e
-
-end_holds : (s : State) (n now : ℕ) (outcome : Outcome)
-    → goal_in (ticket_of (step s n now (End outcome)) n) ≡ granted (answer_to s n now (End outcome))
-end_holds s n now outcome =
-    ap goal_in (end_frees s n now outcome)
-    ∙ sym (no_grant (answer_to s n now (End outcome)) (λ goal is. ends_grant_nothing s n now outcome goal is))
-
-failed_holds : (s : State) (n now : ℕ) (event : Event) → MayAsk s n event → goal_in (ticket_of (failed s n now event) n) ≡ None
-failed_holds s n now (Begin words request) asked = none_in (ticket_of s n) asked.0
-failed_holds s n now (End outcome) asked = ap goal_in (freed s n)
-
-step_holds : (s : State) (n now : ℕ) (event : Event) → MayAsk s n event
-    → goal_in (ticket_of (step s n now event) n) ≡ granted (answer_to s n now event)
-step_holds s n now (Begin words request) asked = begin_holds s n now words request asked.0
-step_holds s n now (End outcome) asked = end_holds s n now outcome
-
-mark_holds : (s : State) (e : Entry) (m : Mark) → MayAsk s e.seat e.event
-    → goal_in (ticket_of (after_mark s e m) e.seat) ≡ granted (answer_at s e m)
-mark_holds s e mark.Answered asked = step_holds s e.seat e.moment e.event asked
-mark_holds s e mark.Store asked = failed_holds s e.seat e.moment e.event asked
-mark_holds s e mark.Memory asked = failed_holds s e.seat e.moment e.event asked
-
--- over a legal history, what the last of a seat's own entries granted is what its ticket is for
-holds_from : (n m : ℕ) (s : State) (es : List Entry) (goal : Option Goal) → IsLegalFrom m s es → goal ≡ goal_in (ticket_of s n)
-    → held_after goal (own_from n s es) ≡ goal_in (ticket_of (replay s es) n)
-holds_from n m s [] goal legal is = is
-holds_from n m s (e ∷ es) goal legal is = here (e.seat == n) refl (λ more same. holds_from n (m + 1) (after s e) es more legal.1 same)
-  where
-    here : (a : Bool) → (e.seat == n) ≡ a
-        → ((more : Option Goal) → more ≡ goal_in (ticket_of (after s e) n)
-        → held_after more (own_from n (after s e) es) ≡ goal_in (ticket_of (replay (after s e) es) n))
-        → held_after goal (own_from n s (e ∷ es)) ≡ goal_in (ticket_of (replay s (e ∷ es)) n)
-    here true f rest =
-        let own : e.seat ≡ n = eqb-true e.seat n f in
-        simp f (rest (granted (answer_at s e e.mark))
-        (subst (λ (k : ℕ). granted (answer_at s e e.mark) ≡ goal_in (ticket_of (after s e) k)) own (sym (mark_holds s e e.mark legal.0.asked))))
-    here false f rest =
-        simp f (rest goal (is ∙ ap goal_in (sym (other_after s e n (λ same. eqb-false e.seat n f (sym same))))))
 
 pub held_is : (k : Kept) (blobs : Blobs) → IsHistory k → held (book_of k blobs) ≡ goal_in (ticket_of k.state seat)
 held_is k blobs h =
-    holds_from seat 0 (opened k.opening) k.history None h.legal refl
+    held_is_ticket (book_of k blobs) (record { legal = h.legal; own = refl })
     ∙ ap (λ (s : State). goal_in (ticket_of s seat)) (sym h.replayed)
 
 some_none : (o : Option Ticket) → goal_in o ≡ None → IsNone o
@@ -172,6 +87,58 @@ has_goal (Some ticket) goal is = (ticket, refl, same_Some ticket.goal goal is)
 pub ticket_is : (k : Kept) (blobs : Blobs) (goal : Goal) → IsHistory k → held (book_of k blobs) ≡ Some goal
     → (ticket : Ticket) × (ticket_of k.state seat ≡ Some ticket) × (ticket.goal ≡ goal)
 ticket_is k blobs goal h holds = has_goal (ticket_of k.state seat) goal (sym (held_is k blobs h) ∙ holds)
+
+-- ---- a seat alone
+
+-- an entry more of the seat's own
+pub alone_more : (k l : Kept) (e : Entry) → l ≡ entered k e → e.seat ≡ seat → AreOwn k.history → AreOwn l.history
+alone_more k l e same its own =
+    subst (λ (z : Kept). AreOwn z.history) (sym same)
+    (All-push (λ (x : Entry). x.seat ≡ seat) k.history e own its)
+
+pub makes_alone : (k l : Kept) (now : ℕ) (event : Event) (mark : Mark) (answer : Answer) → Makes k l now event mark answer
+    → AreOwn k.history → AreOwn l.history
+makes_alone k l now event mark answer makes own = alone_more k l (entry_at k now event mark) makes.site refl own
+
+pub asks_alone : (k l : Kept) (now : ℕ) (words : Words) (request : Request) (answer : Answer) → Asks k l now words request answer
+    → AreOwn k.history → AreOwn l.history
+asks_alone k l now words request answer (inl makes) own = makes_alone k l now (Begin words request) mark.Answered answer makes own
+asks_alone k l now words request answer (inr none) own = subst (λ (z : Kept). AreOwn z.history) (sym none.same) own
+
+-- its own entries are as many as all
+all_own : (s : State) (es : List Entry) → AreOwn es → length es ≡ length (own_from seat s es)
+all_own s [] own = refl
+all_own s (e ∷ es) own =
+    simp (eq-eqb e.seat seat (All-head (λ (x : Entry). x.seat ≡ seat) e es own))
+    (let rest = all_own (after s e) es (All-tail (λ (x : Entry). x.seat ≡ seat) e es own) in cc)
+
+pub is_alone : (k : Kept) (blobs : Blobs) → AreOwn k.history → IsAlone (book_of k blobs)
+is_alone k blobs own = all_own (opened k.opening) k.history own
+
+-- another has no ticket
+others_none : (n : ℕ) (s : State) (es : List Entry) → n ≢ seat → AreOwn es → IsNone (ticket_of s n) → IsNone (ticket_of (replay s es) n)
+others_none n s [] differ own none = none
+others_none n s (e ∷ es) differ own none =
+    let its : e.seat ≡ seat = All-head (λ (x : Entry). x.seat ≡ seat) e es own in
+    others_none n (after s e) es differ (All-tail (λ (x : Entry). x.seat ≡ seat) e es own)
+    (subst (λ (o : Option Ticket). IsNone o) (sym (other_after s e n (λ is. differ (is ∙ its)))) none)
+
+has_own : (tickets : List Ticket) → ((n : ℕ) → IsNone (find (λ ticket. ticket.seat == n) tickets)) → tickets ≡ []
+has_own [] none = refl
+has_own (ticket ∷ tickets) none = absurd (never (none ticket.seat))
+  where
+    never : IsNone (find (λ (t : Ticket). t.seat == ticket.seat) (ticket ∷ tickets)) → ⊥
+    never is = let e : true ≡ false = simp (eq-eqb ticket.seat ticket.seat refl) at is in cc
+
+-- where the seat is idle nothing is granted
+pub no_tickets : (k : Kept) (blobs : Blobs) → IsHistory k → AreOwn k.history → held (book_of k blobs) ≡ None → k.state.tickets ≡ []
+no_tickets k blobs h own idle = has_own k.state.tickets (λ n. here n (n == seat) refl)
+  where
+    here : (n : ℕ) (a : Bool) → (n == seat) ≡ a → IsNone (ticket_of k.state n)
+    here n true f = subst (λ (m : ℕ). IsNone (ticket_of k.state m)) (sym (eqb-true n seat f)) (idle_is k blobs h idle)
+    here n false f =
+        subst (λ (s : State). IsNone (ticket_of s n)) (sym h.replayed)
+        (others_none n (opened k.opening) k.history (eqb-false n seat f) own refl)
 
 -- ---- the book goes on
 

@@ -1,5 +1,5 @@
 -- A run: one session over the demonstration rows, from the ends that it is given.
-use Rattle.std.specs.Prelude.{◌≡◌, ℕ, List, [], Option, None, Some}
+use Rattle.std.specs.Prelude.{◌≡◌, ℕ, ◌≤◌, List, [], length, Option, None, Some}
 use Rattle.nf_http.specs.Told.{stream}
 use Rattle.nf_laws.specs.Wholes.{Blobs, IsWhole}
 use Rattle.nf_outside.specs.declared.traits.Ends.{Ghosts as EndsOf}
@@ -67,8 +67,8 @@ status_of (Some ended.Memory) = exit.Memory
 abbrev pub Runs : {C : Type 0} → (C → ℕ → C → Type 0) → Outside C → Outside C → Status → Option Held → Type 0
 Runs reads a b status None = (status ≡ exit.Memory) × (b ≡ a)
 Runs reads a b status (Some site) =
-    (end : Option Ended) × (kept : List ℕ) × (blobs : Blobs) × (status ≡ status_of end) × IsWhole site.kept.state blobs
-    × Session reads (scene_of a [] first_book) (scene_of b kept (book_of site.kept blobs)) end
+    (end : Option Ended) × (kept : List ℕ) × (blobs : Blobs) × (status ≡ status_of end) × (length kept ≤ 8192)
+    × IsWhole site.kept.state blobs × Session reads (scene_of a [] first_book) (scene_of b kept (book_of site.kept blobs)) end
 
 -- nothing was done: no site, no byte taken or written, and no reading of the clock
 abbrev pub DoesNothing : {C : Type 0} → Outside C → Outside C → Option Held → Type 0

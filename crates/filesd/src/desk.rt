@@ -13,7 +13,7 @@ ghost use Rattle.nf_words.specs.declared.answer.Reply.TheVariants.{Closed};
 ghost use Rattle.nf_words.specs.declared.history.Event.TheVariants.{Begin, End};
 ghost use Rattle.nf_words.specs.declared.history.Mark.TheVariants as mark;
 ghost use Rattle.nf_words.specs.declared.history.Outcome.TheVariants.{Body};
-ghost use Rattle.filesd.specs.Desk.{seat};
+ghost use Rattle.filesd.specs.Desk.{AreOwn, seat};
 ghost use Rattle.filesd.specs.Stepping.{Asks, IsEmpty, Keeps, Makes};
 ghost use Rattle.filesd.specs.Store.{demo_blobs};
 
@@ -37,14 +37,13 @@ pub struct Desk {
 }
 
 impl Model for Desk {
-    ghost use Rattle.filesd.specs.Desk.{Served};
-    ghost use Rattle.nf_laws.specs.Wholes.{IsWhole};
+    ghost use Rattle.filesd.specs.Desk.{Served, IsDesk};
 
     ghost Value = { Served };
 
     ghost view = { λ desk. record { site = desk.site; store = desk.store } };
 
-    ghost invariant = { λ desk. IsWhole desk.site.kept.state desk.store.blobs };
+    ghost invariant = { λ desk. IsDesk desk.site.kept desk.store.blobs };
 }
 
 impl Desk {
@@ -64,6 +63,7 @@ impl Desk {
         ensures history { IsHistory result.kept }
         ensures sound { IsSound result.kept.state }
         ensures whole { IsWhole result.kept.state self.store.blobs }
+        ensures alone { AreOwn result.kept.history }
     {
         let Desk {
             alloc: _,

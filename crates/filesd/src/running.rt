@@ -1,13 +1,11 @@
 //! The top call.
 
-ghost use Rattle.std.specs.Prelude.{◌≡◌, ◌↔◌, map, IfOk, IfSome, IsTrue, None, [], ℕ, Option, List};
+ghost use Rattle.std.specs.Prelude.{◌≡◌, ◌≢◌, ◌↔◌, [], map, IfSome, IsTrue};
 ghost use Rattle.std.specs.String.{string_bytes};
 ghost use Rattle.nf_outside.specs.Causes.{Rose};
-ghost use Rattle.nf_outside.specs.declared.traits.Ends.{Ghosts as EndsOf};
 ghost use Rattle.nf_site.specs.Demo.{demo_rows};
 ghost use Rattle.nf_site.specs.Kept.{IsHistory};
 ghost use Rattle.nf_words.specs.Sound.{IsSound};
-ghost use Rattle.nf_words.specs.State.{ticket_of};
 ghost use Rattle.filesd.specs.Command.{IsBatch};
 ghost use Rattle.filesd.specs.Session.{DoesNothing, Runs, outside, status_of as status_by};
 ghost use Rattle.filesd.specs.Statuses.{code_of, word_of};
@@ -122,7 +120,8 @@ pub fn run<S: Source, O: Sink, C: Clock>(
     ensures history { IfSome result.1 (λ site. IsHistory site.kept) }
     ensures sound { IfSome result.1 (λ site. IsSound site.kept.state) }
     // What was granted is ended, however the run ended.
-    ensures idle { IfSome result.1 (λ site. ticket_of site.kept.state 1 ≡ None) }
+    ensures idle { IfSome result.1 (λ site. site.kept.state.tickets ≡ []) }
+    ensures room { result.0 ≢ exit.RunFull }
 
     ensures read { result.0 ≡ exit.ReadFault → Rose (S.read_faults input.old) (S.read_faults input.new) }
     ensures write { result.0 ≡ exit.WriteFault → Rose (O.write_faults output.old) (O.write_faults output.new) }

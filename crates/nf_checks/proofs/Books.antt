@@ -14,7 +14,8 @@ use Rattle.nf_words.specs.declared.history.Mark.{Mark}
 use Rattle.nf_words.specs.declared.history.Mark.TheVariants as mark
 use Rattle.nf_words.specs.declared.request.Request.{Request}
 use Rattle.nf_words.specs.declared.request.Words.{Words}
-use Rattle.nf_server.specs.Book.{Answer, Begins, Book, Enters, IsPiece, Shelf, TellsStill, Waits, blob_at, entries_wanted, state_after, state_of}
+use Rattle.nf_laws.specs.Wholes.{Blobs, blob_at}
+use Rattle.nf_server.specs.Book.{Answer, Begins, Book, Enters, IsPiece, TellsStill, Waits, entries_wanted, state_after, state_of}
 use Rattle.nf_checks.specs.Alike.{IsAlone, IsCalmAnswer, KnowSame}
 
 -- ---- one book
@@ -41,11 +42,11 @@ pub record Grows (a b : Book) : Type 0 where
   pub counts : length a.known + length b.own ≤ length b.known + length a.own
   pub told : TellsStill a.told b.told
 
-tells_self : (told : Option Shelf) → TellsStill told told
+tells_self : (told : Option Blobs) → TellsStill told told
 tells_self None = refl
 tells_self (Some shelf) = λ id bytes there. there
 
-tells_on : (a m b : Option Shelf) → TellsStill a m → TellsStill m b → TellsStill a b
+tells_on : (a m b : Option Blobs) → TellsStill a m → TellsStill m b → TellsStill a b
 tells_on None None b p q = q
 tells_on None (Some m) b p q = absurd (cc)
 tells_on (Some a) None b p q = absurd p
@@ -84,7 +85,7 @@ enters_grow a b now event answer e = record {
 }
 
 -- so a piece stays one
-piece_told : (a b : Option Shelf) (id : ℕ) (bytes : List ℕ) → TellsStill a b
+piece_told : (a b : Option Blobs) (id : ℕ) (bytes : List ℕ) → TellsStill a b
     → IfSome a (λ shelf. blob_at shelf id ≡ Some bytes) → IfSome b (λ shelf. blob_at shelf id ≡ Some bytes)
 piece_told None None id bytes still there = tt
 piece_told None (Some b) id bytes still there = absurd (cc)

@@ -4,7 +4,7 @@ use Rattle.std.specs.Io.KnownBytes.{Appends}
 use Rattle.std.specs.Option.{IfSome}
 use Rattle.std.specs.declared.option.Option.{Option}
 use Rattle.std.specs.declared.option.Option.TheVariants.{Some}
-use Rattle.nf_server.specs.Book.{blob_at}
+use Rattle.nf_laws.specs.Wholes.{blob_at}
 use Rattle.nf_server.specs.Steps.{Scene}
 use Rattle.nf_checks.specs.Alike.{Clash, IsAlone, StoresAgree}
 use Rattle.nf_checks.proofs.Basics.{appends_on, appends_self, told_more}

@@ -5,7 +5,8 @@ use mathlib.Core.Logic.{inl, inr}
 use Rattle.nf_base.specs.declared.content.Piece.{Piece}
 use Rattle.nf_words.specs.declared.answer.Denial.{Denial}
 use Rattle.nf_words.specs.declared.answer.Denial.TheVariants as denial
-use Rattle.nf_server.specs.Book.{Answer, Book, IsPiece, Shelf, blob_at}
+use Rattle.nf_laws.specs.Wholes.{Blobs, blob_at}
+use Rattle.nf_server.specs.Book.{Answer, Book, IsPiece}
 use Rattle.nf_server.specs.Session.{Session, Through}
 use Rattle.nf_server.specs.Steps.{Scene}
 use Rattle.nf_server.specs.Turn.{Turn}
@@ -136,7 +137,7 @@ SessionsEndAlike {C} reads =
 -- both stores tell, and wherever both tell a blob of a number, it is the same
 abbrev pub StoresAgree : Book → Book → Type 0
 StoresAgree b d =
-    (one : Shelf) × (other : Shelf) × (b.told ≡ Some one) × (d.told ≡ Some other)
+    (one : Blobs) × (other : Blobs) × (b.told ≡ Some one) × (d.told ≡ Some other)
     × ((id : ℕ) (x y : List ℕ) → blob_at one id ≡ Some x → blob_at other id ≡ Some y → x ≡ y)
 
 -- no piece clashes where the stores agree at the end

@@ -6,7 +6,8 @@ use Rattle.nf_words.specs.History.{MayCome, after, answer_at, replay}
 use Rattle.nf_words.specs.State.{State, opened}
 use Rattle.nf_words.specs.declared.history.Entry.{Entry}
 use Rattle.nf_words.specs.declared.history.Event.{Event}
-use Rattle.nf_server.specs.Book.{Answer, Book, Enters, Lasts, Shelf, TellsStill, state_after, state_of}
+use Rattle.nf_laws.specs.Wholes.{Blobs}
+use Rattle.nf_server.specs.Book.{Answer, Book, Enters, Lasts, TellsStill, state_after, state_of}
 use Rattle.nf_base.specs.declared.rows.Row.{Row}
 use Rattle.nf_promises.proofs.Growing.{Grows}
 use Rattle.nf_promises.specs.Kept.{OnlyOwn}
@@ -58,12 +59,12 @@ entered a b now event answer enters only =
 
 -- ---- what lasts
 
-tells_same : (told : Option Shelf) → TellsStill told told
+tells_same : (told : Option Blobs) → TellsStill told told
 tells_same None = refl
 tells_same (Some shelf) = λ id bytes is. is
 
-tells_on : (x y z : Option Shelf) → TellsStill x y → TellsStill y z → TellsStill x z
-tells_on None y z first second = subst (λ (o : Option Shelf). TellsStill o z) first second
+tells_on : (x y z : Option Blobs) → TellsStill x y → TellsStill y z → TellsStill x z
+tells_on None y z first second = subst (λ (o : Option Blobs). TellsStill o z) first second
 tells_on (Some x) None z first second = absurd first
 tells_on (Some x) (Some y) None first second = absurd second
 tells_on (Some x) (Some y) (Some z) first second = λ id bytes is. second id bytes (first id bytes is)

@@ -30,7 +30,8 @@ use Rattle.nf_words.specs.declared.request.Request.{Request}
 use Rattle.nf_words.specs.declared.request.Spot.{Spot}
 use Rattle.nf_words.specs.declared.request.Words.{Words}
 use Rattle.nf_defs.specs.Tables.{Tables}
-use Rattle.nf_server.specs.Book.{Answer, Begins, Book, Enters, FailsPiece, Lasts, Shelf, Struck, TellsStill, Waits, blob_at, is_unmade, state_of}
+use Rattle.nf_laws.specs.Wholes.{Blobs, blob_at}
+use Rattle.nf_server.specs.Book.{Answer, Begins, Book, Enters, FailsPiece, Lasts, Struck, TellsStill, Waits, is_unmade, state_of}
 use Rattle.nf_server.specs.Files.{AreGiven, SendsFile, file_front}
 use Rattle.nf_server.specs.Steps.{Judges, Scene, Starts, StartsFile, TakesIn, no_words}
 use Rattle.nf_server.specs.Turn.{Writes, end_of, end_of_close, says_close}
@@ -103,13 +104,13 @@ begins_lasts a m now words request answer begins = here (is_unmade answer) begin
 
 -- ---- the bytes of the file
 
-keeps_blob : (old new : Option Shelf) (shelf : Shelf) → old ≡ Some shelf → TellsStill old new
-    → (later : Shelf) × (new ≡ Some later) × ((id : ℕ) (bytes : List ℕ) → blob_at shelf id ≡ Some bytes → blob_at later id ≡ Some bytes)
+keeps_blob : (old new : Option Blobs) (shelf : Blobs) → old ≡ Some shelf → TellsStill old new
+    → (later : Blobs) × (new ≡ Some later) × ((id : ℕ) (bytes : List ℕ) → blob_at shelf id ≡ Some bytes → blob_at later id ≡ Some bytes)
 keeps_blob None new shelf is still = absurd (cc)
 keeps_blob (Some x) None shelf is still = absurd still
 keeps_blob (Some x) (Some y) shelf is still =
     let same : shelf ≡ x = cc in
-    (y, refl, λ id bytes there. still id bytes (subst (λ (z : Shelf). blob_at z id ≡ Some bytes) same there))
+    (y, refl, λ id bytes there. still id bytes (subst (λ (z : Blobs). blob_at z id ≡ Some bytes) same there))
 
 empty_for : (next : ℕ) (body : List ℕ) → blob_for next (length body) ≡ None → body ≡ []
 empty_for next body is = here (length body == 0) refl is
@@ -118,7 +119,7 @@ empty_for next body is = here (length body == 0) refl is
     here true e is = none_of body (eqb-true (length body) 0 e)
     here false e is = absurd (cc)
 
-file_bytes : (close : Bool) (b : Book) (next : ℕ) (body : List ℕ) (later : Shelf) → b.told ≡ Some later
+file_bytes : (close : Bool) (b : Book) (next : ℕ) (body : List ℕ) (later : Blobs) → b.told ≡ Some later
     → ((id : ℕ) → blob_for next (length body) ≡ Some id → blob_at later id ≡ Some body)
     → (o : Option ℕ) → blob_for next (length body) ≡ o
     → (given : List (List ℕ)) → AreGiven b (content_in o (sha256 body) (length body)) given
@@ -129,7 +130,7 @@ file_bytes close b next body later told there None is [] are count =
 file_bytes close b next body later told there None is (bytes ∷ given) are count = absurd are
 file_bytes close b next body later told there (Some id) is [] are count = absurd (omega (arith, count))
 file_bytes close b next body later told there (Some id) is (bytes ∷ []) (piece, rest) count =
-    let found : blob_at later id ≡ Some bytes = subst (λ (o : Option Shelf). IfSome o (λ shelf. blob_at shelf id ≡ Some bytes)) told piece.told in
+    let found : blob_at later id ≡ Some bytes = subst (λ (o : Option Blobs). IfSome o (λ shelf. blob_at shelf id ≡ Some bytes)) told piece.told in
     let wanted : blob_at later id ≡ Some body = there id is in
     let same : bytes ≡ body = cc in
     let size : 0 + length body ≡ length body = omega arith in
@@ -187,14 +188,14 @@ memory_shown : {C : Type 0} (last : Bool) (head : Head) (body : List ℕ) (k : B
 memory_shown last head body k a b wrote =
     inr (inl (subst (λ (close : Bool). Appends a.output b.output (refusal_reply close denial.Memory)) (says_is last (closes_session head)) wrote.bytes_are))
 
-nothing_damaged : (shelf : Option Shelf) (later : Shelf) (damaged : List Piece) (piece : Piece) → shelf ≡ Some later
+nothing_damaged : (shelf : Option Blobs) (later : Blobs) (damaged : List Piece) (piece : Piece) → shelf ≡ Some later
     → IfSome shelf (λ shelf. Contains damaged piece) → damaged ≢ []
 nothing_damaged shelf later damaged piece told has none =
-    let there : Contains damaged piece = subst (λ (o : Option Shelf). IfSome o (λ shelf. Contains damaged piece)) told has in
+    let there : Contains damaged piece = subst (λ (o : Option Blobs). IfSome o (λ shelf. Contains damaged piece)) told has in
     let count : length damaged ≡ 0 = ap length none in
     omega (arith, there.1, count)
 
-lost_shown : {C : Type 0} (last : Bool) (head : Head) (body : List ℕ) (k : Book) (x a b : Scene C) (later : Shelf) (piece : Piece) (why : PieceFault)
+lost_shown : {C : Type 0} (last : Bool) (head : Head) (body : List ℕ) (k : Book) (x a b : Scene C) (later : Blobs) (piece : Piece) (why : PieceFault)
     → Lasts k x.book → Lasts x.book a.book → a.book.told ≡ Some later → FailsPiece x.book a.book piece why
     → Writes {T = Unit {0}} (says_close last head (response.Lost why)) (response.Lost why) a b (Ok tt)
     → Shown (last || closes_session head) body k a b

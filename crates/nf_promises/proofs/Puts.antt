@@ -20,7 +20,8 @@ use Rattle.nf_words.specs.declared.request.Request.{Request}
 use Rattle.nf_words.specs.declared.request.Spot.{Spot}
 use Rattle.nf_words.specs.declared.request.Words.{Words}
 use Rattle.nf_defs.specs.declared.Seeker.{Seeker}
-use Rattle.nf_server.specs.Book.{Answer, Book, EndsBody, Enters, Shelf, Stores, TellsStill, blob_at, event_of_body, state_after, state_of}
+use Rattle.nf_laws.specs.Wholes.{Blobs, blob_at}
+use Rattle.nf_server.specs.Book.{Answer, Book, EndsBody, Enters, Stores, TellsStill, event_of_body, state_after, state_of}
 use Rattle.nf_server.specs.Steps.{Bodies, Closes, IsResponse, Judges, Passes, Scene, Starts, StoresBody, no_words, taken_length}
 use Rattle.nf_server.specs.Turn.{how_of, stays_granted}
 use Rattle.nf_server.specs.declared.begun.Begun.{Begun}
@@ -42,16 +43,16 @@ pub record IsKept (b : Book) (caller : Caller) (spot : Spot) (body : List ℕ) :
   pub before : State
   pub got : (seat now : ℕ) (words : Words)
       → answer_to (state_of b) seat now (Begin words (get_of caller spot)) ≡ Ok (reply.Granted (Serve (content_of_body before body)))
-  pub shelf : Shelf
+  pub shelf : Blobs
   pub told : b.told ≡ Some shelf
   pub bytes : (id : ℕ) → blob_for before.tables.meta.next_blob (length body) ≡ Some id → blob_at shelf id ≡ Some body
 
-told_on : (old new : Option Shelf) → TellsStill old new → IsSome old → IsSome new
+told_on : (old new : Option Blobs) → TellsStill old new → IsSome old → IsSome new
 told_on None new still told = absurd (cc)
 told_on (Some x) None still told = absurd still
 told_on (Some x) (Some y) still told = refl
 
-some_shelf : (told : Option Shelf) → IsSome told → (shelf : Shelf) × (told ≡ Some shelf)
+some_shelf : (told : Option Blobs) → IsSome told → (shelf : Blobs) × (told ≡ Some shelf)
 some_shelf None told = absurd (cc)
 some_shelf (Some shelf) told = (shelf, refl)
 
@@ -79,7 +80,7 @@ kept_books a m b now moment caller spot n who key size body answer sound told on
     let last : state_of b ≡ after middle second = end.state ∙ ap (λ (x : State). after x second) begin.state in
     let shelf = some_shelf b.told (told_on m.told b.told ends.enters.lasts.told (told_on a.told m.told enters.lasts.told told)) in
     let stores : Stores (state_after m ends.enters.others) second body shelf.0 =
-    subst (λ (o : Option Shelf). IfSome o (Stores (state_after m ends.enters.others) second body)) shelf.1 (on_ok answer ok ends.stored) in
+    subst (λ (o : Option Blobs). IfSome o (Stores (state_after m ends.enters.others) second body)) shelf.1 (on_ok answer ok ends.stored) in
     let there : state_after m ends.enters.others ≡ middle =
     same_state m ends.enters.others (no_others m b moment (event_of_body body) answer ends.enters two) ∙ begin.state in
     record {

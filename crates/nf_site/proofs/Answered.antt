@@ -1,5 +1,5 @@
 -- What an answer says of the tickets after a step.
-use Rattle.std.proofs.Common.{ℕ, ◌≡◌, List, [], ◌∷◌, ◌++◌, Option, Result, Ok, Err, refl, ap}
+use Rattle.std.proofs.Common.{ℕ, ◌≡◌, [], ◌∷◌, ◌++◌, Option, Result, Ok, Err, refl, ap}
 use Rattle.nf_words.proofs.Steps.{granted_goal}
 use Rattle.nf_words.specs.Changes.{with_goal}
 use Rattle.nf_words.specs.State.{State, ticket_for}

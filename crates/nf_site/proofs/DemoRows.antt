@@ -11,7 +11,7 @@ use Rattle.nf_defs.specs.Tables.{Tables, tables_of}
 use Rattle.nf_defs.specs.Tree.{content_of}
 use Rattle.nf_site.specs.Demo.{demo_rows}
 use Rattle.nf_words.specs.Sound.{AreApart, HasRoot, IsNodeSound, IsPieceSound, IsPlaceSound, IsSound, root_of_user}
-use Rattle.nf_words.specs.State.{State, opened}
+use Rattle.nf_words.specs.State.{opened}
 
 -- ---- lists that are written out
 

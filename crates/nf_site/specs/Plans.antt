@@ -1,5 +1,5 @@
 -- Plans: a step before it is made.
-use Rattle.std.specs.Prelude.{◌≡◌, ℕ, ◌≤◌, List, Result, Ok, Err, IsOk, ⊤}
+use Rattle.std.specs.Prelude.{◌≡◌, ℕ, ◌≤◌, List, Result, IsOk, ⊤}
 use Rattle.nf_base.specs.declared.changes.Change.{Change}
 use Rattle.nf_words.specs.History.{MayAsk}
 use Rattle.nf_words.specs.State.{State}

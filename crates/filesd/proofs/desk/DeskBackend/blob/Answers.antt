@@ -7,7 +7,7 @@ use Rattle.filesd.proofs.desk.DeskBackend.blob.Goals as goal
 pub piece-requires : goal.piece-requires
 piece-requires c =
     piece_there c.self.inside.site.kept c.self.inside.store.blobs c.args.content.now c.args.index c.piece_at.result.now
-    c.history.ensures.legal c.self.invariant (ap (λ (d : Served). held (book_in d)) c.self.view_is ∙ c.requires.granted) c.piece_at.ensures
+    c.history.ensures.legal c.self.invariant.whole (ap (λ (d : Served). held (book_in d)) c.self.view_is ∙ c.requires.granted) c.piece_at.ensures
 
 pub returns : goal.returns
 returns c =
@@ -16,5 +16,5 @@ returns c =
     (gives_piece c.self.inside.site.kept c.self.inside.site.kept c.self.inside.store.blobs c.args.content.now c.args.index
     c.piece_at.result.now c.piece.result refl c.piece_at.ensures
     (piece_there c.self.inside.site.kept c.self.inside.store.blobs c.args.content.now c.args.index c.piece_at.result.now
-    c.history.ensures.legal c.self.invariant (ap (λ (d : Served). held (book_in d)) c.self.view_is ∙ c.requires.granted) c.piece_at.ensures)
+    c.history.ensures.legal c.self.invariant.whole (ap (λ (d : Served). held (book_in d)) c.self.view_is ∙ c.requires.granted) c.piece_at.ensures)
     c.piece.ensures.bytes c.piece.ensures.fault)

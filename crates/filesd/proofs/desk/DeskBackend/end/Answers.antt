@@ -1,10 +1,12 @@
 use Rattle.std.proofs.Common.{◌≡◌, ◌∙◌, ap, sym, subst}
-use Rattle.nf_server.specs.Book.{Ends, MayEnd, held}
+use Rattle.nf_server.specs.Book.{Ends, MayEnd, event_of_body, held}
 use Rattle.nf_server.specs.declared.backend.Ending.{Ending}
 use Rattle.nf_server.specs.declared.backend.Ending.TheVariants as ending
+use Rattle.nf_words.specs.declared.history.Event.TheVariants.{End}
+use Rattle.nf_words.specs.declared.history.Mark.TheVariants as mark
 use Rattle.nf_words.specs.declared.history.Outcome.TheVariants.{Sent, Gone}
 use Rattle.filesd.specs.Desk.{Served, book_in, book_of}
-use Rattle.filesd.proofs.Desks.{body_whole, empty_whole, ends_body, ends_gone, ends_sent, may_end}
+use Rattle.filesd.proofs.Desks.{body_whole, empty_whole, ends_body, ends_gone, ends_sent, makes_alone, may_end}
 use Rattle.filesd.proofs.desk.DeskBackend.end.Goals as goal
 
 pub finish-requires-clause-asked : goal.finish-requires-clause-asked
@@ -14,9 +16,12 @@ finish-requires-clause-asked c =
     (subst (λ (e : Ending). MayEnd (held (book_in c.args.self.now)) e) c.in-Sent.is c.requires))
 
 pub invariant_of-self : goal.invariant_of-self
-invariant_of-self c =
-    empty_whole c.self.inside.site.kept c.finish.new.site.kept c.self.inside.store.blobs c.args.now Sent c.finish.result tt
-    c.finish.ensures c.self.invariant
+invariant_of-self c = record {
+  whole =
+      empty_whole c.self.inside.site.kept c.finish.new.site.kept c.self.inside.store.blobs c.args.now Sent c.finish.result tt
+      c.finish.ensures c.self.invariant.whole;
+  alone = makes_alone c.self.inside.site.kept c.finish.new.site.kept c.args.now (End Sent) mark.Answered c.finish.result c.finish.ensures c.self.invariant.alone;
+}
 
 pub returns-in-Sent : goal.returns-in-Sent
 returns-in-Sent c =
@@ -33,9 +38,13 @@ finish-requires-in-Gone-clause-asked c =
     (subst (λ (e : Ending). MayEnd (held (book_in c.args.self.now)) e) c.in-Gone.is c.requires))
 
 pub invariant_of-self-in-Gone : goal.invariant_of-self-in-Gone
-invariant_of-self-in-Gone c =
-    empty_whole c.self.inside.site.kept c.finish-in-Gone.new.site.kept c.self.inside.store.blobs c.args.now Gone c.finish-in-Gone.result tt
-    c.finish-in-Gone.ensures c.self.invariant
+invariant_of-self-in-Gone c = record {
+  whole =
+      empty_whole c.self.inside.site.kept c.finish-in-Gone.new.site.kept c.self.inside.store.blobs c.args.now Gone c.finish-in-Gone.result tt
+      c.finish-in-Gone.ensures c.self.invariant.whole;
+  alone = makes_alone c.self.inside.site.kept c.finish-in-Gone.new.site.kept c.args.now (End Gone) mark.Answered c.finish-in-Gone.result
+      c.finish-in-Gone.ensures c.self.invariant.alone;
+}
 
 pub returns-in-Gone : goal.returns-in-Gone
 returns-in-Gone c =
@@ -52,9 +61,13 @@ keep-requires c =
     (subst (λ (e : Ending). MayEnd (held (book_in c.args.self.now)) e) c.in-Body.is c.requires))
 
 pub invariant_of-self-in-Body : goal.invariant_of-self-in-Body
-invariant_of-self-in-Body c =
-    body_whole c.self.inside.site.kept c.keep.new.site.kept c.self.inside.store.blobs c.keep.new.store.blobs c.args.now c.in-Body.body.items
-    c.keep.result c.keep.ensures c.self.invariant
+invariant_of-self-in-Body c = record {
+  whole =
+      body_whole c.self.inside.site.kept c.keep.new.site.kept c.self.inside.store.blobs c.keep.new.store.blobs c.args.now c.in-Body.body.items
+      c.keep.result c.keep.ensures c.self.invariant.whole;
+  alone = makes_alone c.self.inside.site.kept c.keep.new.site.kept c.args.now (event_of_body c.in-Body.body.items) c.keep.ensures.mark
+      c.keep.result c.keep.ensures.makes c.self.invariant.alone;
+}
 
 pub returns-in-Body : goal.returns-in-Body
 returns-in-Body c =
@@ -63,4 +76,4 @@ returns-in-Body c =
     (subst (λ (d : Served). Ends (book_in d) (book_of c.keep.new.site.kept c.keep.new.store.blobs) c.args.now (ending.Body c.in-Body.body) c.keep.result)
     c.self.view_is
     (ends_body c.self.inside.site.kept c.keep.new.site.kept c.self.inside.store.blobs c.keep.new.store.blobs c.args.now c.in-Body.body.items
-    c.keep.result c.keep.ensures c.self.invariant))
+    c.keep.result c.keep.ensures c.self.invariant.whole))
