@@ -1,6 +1,7 @@
 -- What follows for a run from its session.
 use Rattle.std.proofs.Common.{◌≡◌, ℕ, ◌≤◌, List, [], refl, sym, ◌∙◌, ap, subst}
 use Rattle.std.specs.Prelude.{Option, None, Some}
+use Rattle.std.proofs.lemmas.Option.{none-some, same_Some}
 use Rattle.nf_outside.specs.Causes.{Rose}
 use Rattle.nf_promises.specs.Room.{IsAlone, IsFresh}
 use Rattle.nf_promises.proofs.Full.{never_full}
@@ -17,53 +18,51 @@ use Rattle.filesd.specs.declared.running.Status.TheVariants as exit
 
 -- ---- each status is that of one end
 
-full_is : (end : Option Ended) → status_of end ≡ exit.RunFull → end ≡ Some ended.RunFull
-full_is None e = cc
-full_is (Some ended.Closed) e = cc
-full_is (Some ended.BadMessage) e = cc
-full_is (Some ended.NotBuilt) e = cc
-full_is (Some ended.RunFull) e = refl
-full_is (Some (ended.Cut why)) e = cc
-full_is (Some ended.ReadFault) e = cc
-full_is (Some ended.WriteFault) e = cc
-full_is (Some ended.Memory) e = cc
+-- the end that a status names, where it names one
+abbrev end_named : Status → Option (Option Ended)
+end_named exit.Budget = Some None
+end_named exit.Done = Some (Some ended.Closed)
+end_named exit.BadMessage = Some (Some ended.BadMessage)
+end_named exit.NotBuilt = Some (Some ended.NotBuilt)
+end_named exit.RunFull = Some (Some ended.RunFull)
+end_named exit.ReadFault = Some (Some ended.ReadFault)
+end_named exit.WriteFault = Some (Some ended.WriteFault)
+end_named exit.Memory = Some (Some ended.Memory)
+end_named exit.Cut = None
+end_named exit.Words = None
 
-read_is : (end : Option Ended) → status_of end ≡ exit.ReadFault → end ≡ Some ended.ReadFault
-read_is None e = cc
-read_is (Some ended.Closed) e = cc
-read_is (Some ended.BadMessage) e = cc
-read_is (Some ended.NotBuilt) e = cc
-read_is (Some ended.RunFull) e = cc
-read_is (Some (ended.Cut why)) e = cc
-read_is (Some ended.ReadFault) e = refl
-read_is (Some ended.WriteFault) e = cc
-read_is (Some ended.Memory) e = cc
+named_is : (end named : Option Ended) → end_named (status_of end) ≡ Some named → end ≡ named
+named_is None named e = same_Some None named e
+named_is (Some ended.Closed) named e = same_Some (Some ended.Closed) named e
+named_is (Some ended.BadMessage) named e = same_Some (Some ended.BadMessage) named e
+named_is (Some ended.NotBuilt) named e = same_Some (Some ended.NotBuilt) named e
+named_is (Some ended.RunFull) named e = same_Some (Some ended.RunFull) named e
+named_is (Some (ended.Cut why)) named e = absurd (none-some named e)
+named_is (Some ended.ReadFault) named e = same_Some (Some ended.ReadFault) named e
+named_is (Some ended.WriteFault) named e = same_Some (Some ended.WriteFault) named e
+named_is (Some ended.Memory) named e = same_Some (Some ended.Memory) named e
 
-write_is : (end : Option Ended) → status_of end ≡ exit.WriteFault → end ≡ Some ended.WriteFault
-write_is None e = cc
-write_is (Some ended.Closed) e = cc
-write_is (Some ended.BadMessage) e = cc
-write_is (Some ended.NotBuilt) e = cc
-write_is (Some ended.RunFull) e = cc
-write_is (Some (ended.Cut why)) e = cc
-write_is (Some ended.ReadFault) e = cc
-write_is (Some ended.WriteFault) e = refl
-write_is (Some ended.Memory) e = cc
+by_status : (end named : Option Ended) (status wanted : Status) → status ≡ status_of end → status ≡ wanted → end_named wanted ≡ Some named
+    → end ≡ named
+by_status end named status wanted by is names = named_is end named (ap end_named (sym by ∙ is) ∙ names)
 
 -- ---- what the run says
 
 pub has_room : {C : Type 0} (reads : C → ℕ → C → Type 0) (a b : Scene C) (end : Option Ended) (status : Status)
     → Session reads a b end → status ≡ status_of end → IsFresh a.book → IsAlone b.book → status ≡ exit.RunFull → ⊥
-has_room reads a b end status session by fresh alone full = never_full reads a b end session fresh alone (full_is end (sym by ∙ full))
+has_room reads a b end status session by fresh alone full = never_full reads a b end session fresh alone
+    (by_status end (Some ended.RunFull) status exit.RunFull by full refl)
 
 pub read_rose : {C : Type 0} (reads : C → ℕ → C → Type 0) (a b : Scene C) (end : Option Ended) (status : Status)
     → Session reads a b end → status ≡ status_of end → status ≡ exit.ReadFault → Rose a.read_faults b.read_faults
 read_rose reads a b end status session by fault =
-    (subst (λ (z : Option Ended). CountsFault z a.read_faults b.read_faults a.write_faults b.write_faults) (read_is end (sym by ∙ fault))
+    (subst (λ (z : Option Ended). CountsFault z a.read_faults b.read_faults a.write_faults b.write_faults)
+    (by_status end (Some ended.ReadFault) status exit.ReadFault by fault refl)
     (session_follows reads a b end session).counts).0
 
 pub write_rose : {C : Type 0} (reads : C → ℕ → C → Type 0) (a b : Scene C) (end : Option Ended) (status : Status)
     → Session reads a b end → status ≡ status_of end → status ≡ exit.WriteFault → Rose a.write_faults b.write_faults
 write_rose reads a b end status session by fault =
-    (subst (λ (z : Option Ended). CountsFault z a.read_faults b.read_faults a.write_faults b.write_faults) (write_is end (sym by ∙ fault))
+    (subst (λ (z : Option Ended). CountsFault z a.read_faults b.read_faults a.write_faults b.write_faults)
+    (by_status end (Some ended.WriteFault) status exit.WriteFault by fault refl)
     (session_follows reads a b end session).counts).1
