@@ -1,13 +1,13 @@
 -- One GET of a file that is there, from what a session says.
-use Rattle.std.proofs.Common.{◌≡◌, ◌≢◌, ◌⊎◌, ℕ, ◌<◌, ◌==◌, ◌||◌, Bool, true, false, List, [], ◌∷◌, ◌++◌, length, refl, sym, ◌∙◌, ap, subst, inl, inr, arith, append-nil, length-append, if◌then◌else◌, Result, Ok, Err}
-use Rattle.std.specs.Prelude.{Option, None, Some, IfSome}
-use Rattle.std.specs.Io.KnownBytes.{Appends, Consumes}
+use Rattle.std.proofs.Common.{◌≡◌, ◌⊎◌, ℕ, ◌<◌, ◌==◌, Bool, true, false, List, [], ◌∷◌, ◌++◌, length, refl, sym, ◌∙◌, ap, subst, inl, inr, arith, append-nil, length-append, if◌then◌else◌, Result, Ok, Err}
+use Rattle.std.specs.Prelude.{Option, None, Some, IfSome, Vec}
+use Rattle.std.specs.Io.KnownBytes.{Consumes}
+use Rattle.std.specs.declared.alloc.Global.{Global}
 use Rattle.std.proofs.lemmas.Bool.{eqb-false}
 use Rattle.std.proofs.lemmas.Option.{none-some, same_Some}
 use Rattle.httparse.specs.Grammar.{RequestHead, print_request, IsRequestHead}
 use Rattle.nf_base.specs.declared.content.Piece.{Piece}
 use Rattle.nf_dav.specs.Reply.{done_reply, file_head, made_reply, refusal_reply}
-use Rattle.nf_http.specs.Bodies.{TakesBody}
 use Rattle.nf_http.specs.Head.{Head, closes_session, head_of}
 use Rattle.nf_http.specs.Next.{IsNext}
 use Rattle.nf_http.specs.Told.{stream}
@@ -23,7 +23,7 @@ use Rattle.nf_promises.proofs.Touches.{closes_only, input_of, judges_only, passe
 use Rattle.nf_server.specs.Book.{Book, denial_of_piece, state_of}
 use Rattle.nf_server.specs.Files.{SendsFile}
 use Rattle.nf_server.specs.Session.{Session, Through}
-use Rattle.nf_server.specs.Steps.{Heads, OnlyWrites, Scene, taken_length}
+use Rattle.nf_server.specs.Steps.{Heads, OnlyWrites, Scene}
 use Rattle.nf_server.specs.Turn.{Meets, Responds, Turn, Writes, how_of, says_close, stays_granted}
 use Rattle.nf_server.specs.declared.ended.Ended.{Ended}
 use Rattle.nf_server.specs.declared.ended.Ended.TheVariants as ended
@@ -34,8 +34,6 @@ use Rattle.nf_words.specs.State.{State}
 use Rattle.nf_words.specs.declared.answer.Denial.TheVariants as denial
 use Rattle.nf_words.specs.declared.request.Caller.{Caller}
 use Rattle.nf_words.specs.declared.request.Spot.{Spot}
-use Rattle.std.specs.Prelude.{Vec}
-use Rattle.std.specs.declared.alloc.Global.{Global}
 use Rattle.filesd.specs.OneFile.{IsFileOf, ServesOneFile}
 use Rattle.filesd.specs.Session.{first_book, status_of}
 use Rattle.filesd.specs.declared.running.Status.{Status}

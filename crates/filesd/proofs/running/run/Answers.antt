@@ -1,4 +1,4 @@
-use Rattle.std.proofs.Common.{◌≡◌, ◌∙◌, refl, sym, ap, subst}
+use Rattle.std.proofs.Common.{◌∙◌, refl, sym, ap, subst}
 use Rattle.nf_promises.specs.Room.{IsAlone, IsFresh}
 use Rattle.nf_server.specs.Book.{held}
 use Rattle.nf_server.proofs.Causes.{session_follows}
