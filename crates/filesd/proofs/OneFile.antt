@@ -84,7 +84,7 @@ turn_silent reads last m b end none (inr (inl (k, why, by, heads, ends, is))) wr
 turn_silent reads last m b end none (inr (inr (k, head, heads, meets))) written =
     absurd (no_next k.input head (subst (λ (o : Option (List ℕ)). IsNext o k.input (Ok (Some head))) none heads.next))
 
--- and so does a session that is closed
+-- so a session over no bytes that is closed has no other turn
 rest_silent : {C : Type 0} (reads : C → ℕ → C → Type 0) (m : Scene C) (scenes : List (Scene C)) (p b : Scene C) (last : Bool)
     → m.input ≡ Some [] → Through reads m scenes p → Turn reads last p b (Some ended.Closed) → Heads m b (Ok None)
 rest_silent {C} reads m [] p b last none through turn =
@@ -92,7 +92,7 @@ rest_silent {C} reads m [] p b last none through turn =
     (subst (λ (z : Scene C). Turn reads last z b (Some ended.Closed)) (sym through) turn) tt).0
 rest_silent reads m (s ∷ scenes) p b last none through turn = absurd (none-some ended.Closed (turn_silent reads false m s None none through.0 tt).1)
 
--- ---- what is left behind the one message
+-- ---- a message without a byte behind it leaves none
 
 writes_input : {C : Type 0} (a b : Scene C) → OnlyWrites a b → b.input ≡ a.input
 writes_input {C} a b only = ap (λ (x : Scene C). x.input) only
@@ -140,7 +140,7 @@ meets_leave reads last head k b end (m, begun, judges, inr cuts) written none =
 
 -- ---- the turn of the one message
 
--- what a turn takes that one message is all of its input
+-- the turn takes that message, and leaves no byte behind its head
 gets_one : {C : Type 0} (reads : C → ℕ → C → Type 0) (caller : Caller) (spot : Spot) (h : RequestHead) (a b : Scene C) (end : Option Ended)
     → Prints h (get_of caller spot) → a.input ≡ Some (print_request h) → IsWritten end → Turn reads false a b end
     → (get : Gets reads false caller spot a b end) × (get.head ≡ head_of h) × (get.behind.input ≡ Some [])
