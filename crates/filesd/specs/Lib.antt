@@ -1,5 +1,6 @@
 pub mod Command
 pub mod Desk
+pub mod OneFile
 pub mod Session
 pub mod Statuses
 pub mod Stepping

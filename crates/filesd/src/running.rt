@@ -7,6 +7,7 @@ ghost use Rattle.nf_site.specs.Demo.{demo_rows};
 ghost use Rattle.nf_site.specs.Kept.{IsHistory};
 ghost use Rattle.nf_words.specs.Sound.{IsSound};
 ghost use Rattle.filesd.specs.Command.{IsBatch};
+ghost use Rattle.filesd.specs.OneFile.{ServesOneFile};
 ghost use Rattle.filesd.specs.Session.{DoesNothing, Runs, outside, status_of as status_by};
 ghost use Rattle.filesd.specs.Statuses.{code_of, word_of};
 ghost use Rattle.filesd.specs.declared.running.Status.TheVariants as exit;
@@ -122,6 +123,10 @@ pub fn run<S: Source, O: Sink, C: Clock>(
     // What was granted is ended, however the run ended.
     ensures idle { IfSome result.1 (λ site. site.kept.state.tickets ≡ []) }
     ensures room { result.0 ≢ exit.RunFull }
+
+    // One GET of a file, said without the session.
+    ensures one_file { IsBatch (map string_bytes words.now) → ServesOneFile result.0
+        (S.left input.old) (O.written output.old) (O.written output.new) }
 
     ensures read { result.0 ≡ exit.ReadFault → Rose (S.read_faults input.old) (S.read_faults input.new) }
     ensures write { result.0 ≡ exit.WriteFault → Rose (O.write_faults output.old) (O.write_faults output.new) }

@@ -44,7 +44,7 @@ none_is_no_head a m h request left prints input heads = never (head_of h) (next_
     never : (head : Head) → ◌≡◌ {A = Result (Option Head) WireFault} (Ok None) (Ok (Some head)) → ⊥
     never head is = cc
 
-head_is : {C : Type 0} (a m : Scene C) (h : RequestHead) (request : Request) (left : List ℕ) (head : Head)
+pub head_is : {C : Type 0} (a m : Scene C) (h : RequestHead) (request : Request) (left : List ℕ) (head : Head)
     → Prints h request → a.input ≡ Some (print_request h ++ left) → Heads a m (Ok (Some head))
     → (head ≡ head_of h) × (m.input ≡ Some left)
 head_is a m h request left head prints input heads =
@@ -135,7 +135,7 @@ turn_puts {C} reads last caller spot h body left a b end w prints input told wro
 
 -- ---- the turn of the GET
 
-turn_gets : {C : Type 0} (reads : C → ℕ → C → Type 0) (last : Bool) (caller : Caller) (spot : Spot) (h : RequestHead) (rest : List ℕ)
+pub turn_gets : {C : Type 0} (reads : C → ℕ → C → Type 0) (last : Bool) (caller : Caller) (spot : Spot) (h : RequestHead) (rest : List ℕ)
     (a b : Scene C) (end : Option Ended) → Prints h (get_of caller spot) → a.input ≡ Some (print_request h ++ rest) → IsWritten end
     → Turn reads last a b end → (get : Gets reads last caller spot a b end) × (get.head ≡ head_of h)
 turn_gets reads last caller spot h rest a b end prints input written (inl (heads, is)) =

@@ -93,7 +93,7 @@ shown_later close body k a b c front end later (inr (inr (is, fails))) =
     inr (inr (appends_by k.output c.output a.output b.output _ front end is, fails_later k.book a.book c.book later fails))
 
 -- nor does taking a head write anything
-front_shown : {C : Type 0} (close : Bool) (body : List ℕ) (k a c : Scene C) → a.output ≡ k.output → a.book ≡ k.book
+pub front_shown : {C : Type 0} (close : Bool) (body : List ℕ) (k a c : Scene C) → a.output ≡ k.output → a.book ≡ k.book
     → ShowsFile close body a c → ShowsFile close body k c
 front_shown close body k a c front book (inl is) = inl (appends_by k.output c.output a.output c.output _ front refl is)
 front_shown close body k a c front book (inr (inl is)) = inr (inl (appends_by k.output c.output a.output c.output _ front refl is))
@@ -127,7 +127,7 @@ answers_shown {C} reads last head caller spot body begun k m b end asked judges 
     ) in
     shown_later (last || closes_session head) body k answers.taken answers.sent b front (sym closed) later shown
 
-meets_shown : {C : Type 0} (reads : C → ℕ → C → Type 0) (last : Bool) (head : Head) (caller : Caller) (spot : Spot) (body : List ℕ)
+pub meets_shown : {C : Type 0} (reads : C → ℕ → C → Type 0) (last : Bool) (head : Head) (caller : Caller) (spot : Spot) (body : List ℕ)
     (k b : Scene C) (end : Option Ended) → Meets reads last head k b end → request_of head ≡ Ok (get_of caller spot)
     → IsKept k.book caller spot body → OnlyOwn k.book b.book → IsWritten end → ShowsFile (last || closes_session head) body k b
 meets_shown reads last head caller spot body k b end (m, begun, judges, inl answers) asked kept only written =

@@ -1,4 +1,4 @@
-use Rattle.std.proofs.Common.{◌≡◌, ◌∙◌, refl, sym, ap, subst}
+use Rattle.std.proofs.Common.{◌∙◌, refl, sym, ap, subst}
 use Rattle.nf_promises.specs.Room.{IsAlone, IsFresh}
 use Rattle.nf_server.specs.Book.{held}
 use Rattle.nf_server.proofs.Causes.{session_follows}
@@ -6,6 +6,7 @@ use Rattle.nf_site.specs.Held.{Held}
 use Rattle.nf_site.specs.Kept.{Kept}
 use Rattle.filesd.specs.Desk.{book_of}
 use Rattle.filesd.proofs.Desks.{is_alone, no_tickets}
+use Rattle.filesd.proofs.OneFile.{serves_one}
 use Rattle.filesd.proofs.Runs.{has_room, read_rose, write_rose}
 use Rattle.filesd.proofs.running.run.Goals as goal
 
@@ -34,3 +35,16 @@ returns-in-Ok-clause-read g c =
 pub returns-in-Ok-clause-write : goal.returns-in-Ok-clause-write
 returns-in-Ok-clause-write g c =
     write_rose g.C.Clock.reads _ _ c.serve_session-end.result c.status_of.result c.serve_session-end.ensures.session.2 c.status_of.ensures
+
+pub returns-in-Ok-clause-one_file : goal.returns-in-Ok-clause-one_file
+returns-in-Ok-clause-one_file g c = λ batch.
+    serves_one g.C.Clock.reads _ _ c.serve_session-end.result c.status_of.result
+    (g.S.Ends.left c.args.input.now) (g.O.Ends.written c.args.output.now) (g.O.Ends.written c.serve_session-end.new.output)
+    c.serve_session-end.ensures.session.2 c.status_of.ensures refl refl refl
+    (record {
+      first = λ i. book_of (c.in-Ok.ensures.site i) (c.in-Ok.ensures.store i);
+      alone =
+          subst (λ (h : Held). IsAlone (book_of h.kept c.serve_session-end.new.backend.store.blobs)) c.into_site.ensures.site
+          (is_alone c.into_site.result.kept c.serve_session-end.new.backend.store.blobs c.into_site.ensures.alone);
+      strikes = refl;
+    })

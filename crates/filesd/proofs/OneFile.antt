@@ -1,0 +1,258 @@
+-- One GET of a file that is there, from what a session says.
+use Rattle.std.proofs.Common.{◌≡◌, ◌⊎◌, ℕ, ◌<◌, ◌==◌, Bool, true, false, List, [], ◌∷◌, ◌++◌, length, refl, sym, ◌∙◌, ap, subst, inl, inr, arith, append-nil, length-append, if◌then◌else◌, Result, Ok, Err}
+use Rattle.std.specs.Prelude.{Option, None, Some, IfSome, Vec}
+use Rattle.std.specs.Io.KnownBytes.{Consumes}
+use Rattle.std.specs.declared.alloc.Global.{Global}
+use Rattle.std.proofs.lemmas.Bool.{eqb-false}
+use Rattle.std.proofs.lemmas.Option.{none-some, same_Some}
+use Rattle.httparse.specs.Grammar.{RequestHead, print_request, IsRequestHead}
+use Rattle.nf_base.specs.declared.content.Piece.{Piece}
+use Rattle.nf_dav.specs.Reply.{done_reply, file_head, made_reply, refusal_reply}
+use Rattle.nf_http.specs.Head.{Head, closes_session, head_of}
+use Rattle.nf_http.specs.Next.{IsNext}
+use Rattle.nf_http.specs.Told.{stream}
+use Rattle.nf_http.proofs.Fronts.{head_costs}
+use Rattle.nf_laws.specs.Wholes.{Blobs, blob_at}
+use Rattle.nf_promises.specs.Kept.{FailsStore, Gets, IsWritten, OnlyOwn, Prints, ShowsFile, get_of}
+use Rattle.nf_promises.specs.Room.{IsAlone}
+use Rattle.nf_promises.proofs.Bytes.{head_is, turn_gets}
+use Rattle.nf_promises.proofs.Growing.{heads_same}
+use Rattle.nf_promises.proofs.Puts.{IsKept}
+use Rattle.nf_promises.proofs.Returning.{appends_by, cut_not_written, front_shown, meets_shown}
+use Rattle.nf_promises.proofs.Touches.{closes_only, input_of, judges_only, passes_only, says_only}
+use Rattle.nf_server.specs.Book.{Book, denial_of_piece, state_of}
+use Rattle.nf_server.specs.Files.{SendsFile}
+use Rattle.nf_server.specs.Session.{Session, Through}
+use Rattle.nf_server.specs.Steps.{Heads, OnlyWrites, Scene}
+use Rattle.nf_server.specs.Turn.{Meets, Responds, Turn, Writes, how_of, says_close, stays_granted}
+use Rattle.nf_server.specs.declared.ended.Ended.{Ended}
+use Rattle.nf_server.specs.declared.ended.Ended.TheVariants as ended
+use Rattle.nf_server.specs.declared.response.Response.{Response}
+use Rattle.nf_server.specs.declared.response.Response.TheVariants as response
+use Rattle.nf_words.specs.Endings.{blob_for}
+use Rattle.nf_words.specs.State.{State}
+use Rattle.nf_words.specs.declared.answer.Denial.TheVariants as denial
+use Rattle.nf_words.specs.declared.request.Caller.{Caller}
+use Rattle.nf_words.specs.declared.request.Spot.{Spot}
+use Rattle.filesd.specs.OneFile.{IsFileOf, ServesOneFile}
+use Rattle.filesd.specs.Session.{first_book, status_of}
+use Rattle.filesd.specs.declared.running.Status.{Status}
+use Rattle.filesd.specs.declared.running.Status.TheVariants as exit
+
+-- ---- such a file is kept as a body that was put
+
+blob_some : (next n id : ℕ) → blob_for next n ≡ Some id → (0 < n) × (next ≡ id)
+blob_some next n id is = here (n == 0) refl is
+  where
+    here : (a : Bool) → (n == 0) ≡ a → (if a then None else Some next) ≡ Some id → (0 < n) × (next ≡ id)
+    here true f e = absurd (none-some id e)
+    here false f e = (omega (arith, eqb-false n 0 f), same_Some next id e)
+
+is_kept : (b : Book) (shelf : Blobs) (caller : Caller) (spot : Spot) (body : List ℕ) → b.told ≡ Some shelf → IsFileOf b caller spot body
+    → IsKept b caller spot body
+is_kept b shelf caller spot body told file =
+    let s = state_of b in
+    let before : State = record s { tables = record s.tables { meta = record s.tables.meta { next_blob = file.blob } } } in
+    record {
+      before = before;
+      got = file.granted;
+      shelf = shelf;
+      told = told;
+      bytes = λ id is.
+          let at = blob_some file.blob (length body) id is in
+          subst (λ (n : ℕ). blob_at shelf n ≡ Some body) at.1
+          (subst (λ (o : Option Blobs). IfSome o (λ shelf. blob_at shelf file.blob ≡ Some body)) told (file.there at.0));
+    }
+
+-- ---- nothing is answered of no bytes
+
+never_empty : (h : RequestHead) (rest : List ℕ) → IsRequestHead h → [] ≡ print_request h ++ rest → ⊥
+never_empty h rest is e =
+    let total = ap length e in
+    omega (arith, head_costs h is, total, length-append (print_request h) rest)
+
+no_next : (new : Option (List ℕ)) (head : Head) → IsNext (Some []) new (Ok (Some head)) → ⊥
+no_next None head (h, is, takes) = takes.3
+no_next (Some rest) head (h, is, takes) = never_empty h rest takes.0 takes.3
+
+-- a turn over no bytes finds the end of the input
+turn_silent : {C : Type 0} (reads : C → ℕ → C → Type 0) (last : Bool) (m b : Scene C) (end : Option Ended) → m.input ≡ Some []
+    → Turn reads last m b end → IsWritten end → Heads m b (Ok None) × (end ≡ Some ended.Closed)
+turn_silent reads last m b end none (inl (heads, ends)) written = (heads, ends)
+turn_silent reads last m b end none (inr (inl (k, why, by, heads, ends, is))) written =
+    absurd (cut_not_written why k b by ends (subst (λ (e : Option Ended). IsWritten e) is written))
+turn_silent reads last m b end none (inr (inr (k, head, heads, meets))) written =
+    absurd (no_next k.input head (subst (λ (o : Option (List ℕ)). IsNext o k.input (Ok (Some head))) none heads.next))
+
+-- so a session over no bytes that is closed has no other turn
+rest_silent : {C : Type 0} (reads : C → ℕ → C → Type 0) (m : Scene C) (scenes : List (Scene C)) (p b : Scene C) (last : Bool)
+    → m.input ≡ Some [] → Through reads m scenes p → Turn reads last p b (Some ended.Closed) → Heads m b (Ok None)
+rest_silent {C} reads m [] p b last none through turn =
+    (turn_silent reads last m b (Some ended.Closed) none
+    (subst (λ (z : Scene C). Turn reads last z b (Some ended.Closed)) (sym through) turn) tt).0
+rest_silent reads m (s ∷ scenes) p b last none through turn = absurd (none-some ended.Closed (turn_silent reads false m s None none through.0 tt).1)
+
+-- ---- a message without a byte behind it leaves none
+
+writes_input : {C : Type 0} (a b : Scene C) → OnlyWrites a b → b.input ≡ a.input
+writes_input {C} a b only = ap (λ (x : Scene C). x.input) only
+
+sends_input : {C T : Type 0} (close : Bool) (content : List Piece) (first : Option (Vec ℕ Global)) (a b : Scene C) (result : Result T Ended)
+    → SendsFile close content first a b result → b.input ≡ a.input
+sends_input {C} close content first a b (Ok sent) (given, writes, all) = ap (λ (x : Scene C). x.input) writes.pieces.only
+sends_input {C} close content first a b (Err (ended.Cut why)) (given, writes, lacks, other) = ap (λ (x : Scene C). x.input) writes.pieces.only
+sends_input {C} close content first a b (Err ended.Memory) (inl same) = ap (λ (x : Scene C). x.input) same
+sends_input {C} close content first a b (Err ended.Memory) (inr (given, writes, lacks)) = ap (λ (x : Scene C). x.input) writes.pieces.only
+sends_input {C} close content first a b (Err ended.WriteFault) (given, breaks) = ap (λ (x : Scene C). x.input) breaks.pieces.only
+sends_input close content first a b (Err other) never = absurd never
+
+response_input : {C T : Type 0} (close : Bool) (v : Response) (a b : Scene C) (result : Result T Ended) → Writes close v a b result → b.input ≡ a.input
+response_input close (response.Denied refusal) a b result says = writes_input a b (says_only a b (refusal_reply close refusal) result says)
+response_input close (response.Lost fault) a b result says = writes_input a b (says_only a b (refusal_reply close (denial_of_piece fault)) result says)
+response_input close (response.File content first) a b result sends = sends_input close content first a b result sends
+response_input close response.Made a b result says = writes_input a b (says_only a b (made_reply close) result says)
+response_input close response.Done a b result says = writes_input a b (says_only a b (done_reply close) result says)
+
+responds_input : {C : Type 0} (last : Bool) (head : Head) (v : Response) (a b : Scene C) (result : Result (Option Ended) Ended)
+    → Responds last head v a b result → b.input ≡ a.input
+responds_input last head v a b (Ok end) (is, writes) = response_input {T = Unit {0}} (says_close last head v) v a b (Ok tt) writes
+responds_input last head v a b (Err by) writes = response_input {T = Unit {0}} (says_close last head v) v a b (Err by) writes
+
+no_more : (new : Option (List ℕ)) (body : List ℕ) → Consumes (Some []) new body → new ≡ Some []
+no_more None body c = absurd c
+no_more (Some rest) [] c = ap (λ z. Some z) (sym c)
+no_more (Some rest) (x ∷ body) c = cc
+
+meets_leave : {C : Type 0} (reads : C → ℕ → C → Type 0) (last : Bool) (head : Head) (k b : Scene C) (end : Option Ended)
+    → Meets reads last head k b end → IsWritten end → k.input ≡ Some [] → b.input ≡ Some []
+meets_leave {C} reads last head k b end (m, begun, judges, inl answers) written none =
+    let v = answers.response in
+    let x : Scene C = answers.takes.0 in
+    let body = answers.takes.1 in
+    let front : m.input ≡ Some [] = input_of k m (judges_only reads head k m begun judges) ∙ none in
+    let taken : x.input ≡ Some [] = no_more x.input body
+    (subst (λ (o : Option (List ℕ)). Consumes o x.input body) front answers.takes.2.taken.1) in
+    input_of answers.sent b (closes_only reads (how_of v answers.result) (stays_granted v) answers.sent b answers.closes)
+    ∙ responds_input last head v answers.taken answers.sent answers.result answers.responds
+    ∙ input_of x answers.taken (passes_only reads body x answers.taken begun v answers.takes.3) ∙ taken
+meets_leave reads last head k b end (m, begun, judges, inr cuts) written none =
+    absurd (cut_not_written cuts.fault cuts.cut cuts.sent cuts.by cuts.responds (subst (λ (e : Option Ended). IsWritten e) cuts.ends written))
+
+-- ---- the turn of the one message
+
+-- the turn takes that message, and leaves no byte behind its head
+gets_one : {C : Type 0} (reads : C → ℕ → C → Type 0) (caller : Caller) (spot : Spot) (h : RequestHead) (a b : Scene C) (end : Option Ended)
+    → Prints h (get_of caller spot) → a.input ≡ Some (print_request h) → IsWritten end → Turn reads false a b end
+    → (get : Gets reads false caller spot a b end) × (get.head ≡ head_of h) × (get.behind.input ≡ Some [])
+gets_one reads caller spot h a b end prints input written turn =
+    let whole : a.input ≡ Some (print_request h ++ []) = input ∙ ap (λ (bytes : List ℕ). Some bytes) (sym (append-nil (print_request h))) in
+    let get = turn_gets reads false caller spot h [] a b end prints whole written turn in
+    (get.0, get.1, (head_is a get.0.behind h (get_of caller spot) [] get.0.head prints whole get.0.heads).1)
+
+one_left : {C : Type 0} (reads : C → ℕ → C → Type 0) (caller : Caller) (spot : Spot) (h : RequestHead) (a b : Scene C) (end : Option Ended)
+    → Prints h (get_of caller spot) → a.input ≡ Some (print_request h) → IsWritten end → Turn reads false a b end → b.input ≡ Some []
+one_left reads caller spot h a b end prints input written turn =
+    let get = gets_one reads caller spot h a b end prints input written turn in
+    meets_leave reads false get.0.head get.0.behind b end get.0.meets written get.2
+
+one_shown : {C : Type 0} (reads : C → ℕ → C → Type 0) (caller : Caller) (spot : Spot) (h : RequestHead) (body : List ℕ) (a b : Scene C)
+    (end : Option Ended) → Prints h (get_of caller spot) → a.input ≡ Some (print_request h) → IsWritten end → Turn reads false a b end
+    → IsKept a.book caller spot body → OnlyOwn a.book b.book → ShowsFile (closes_session (head_of h)) body a b
+one_shown {C} reads caller spot h body a b end prints input written turn kept only =
+    let get = (gets_one reads caller spot h a b end prints input written turn).0 in
+    let is : get.head ≡ head_of h = (gets_one reads caller spot h a b end prints input written turn).1 in
+    let same : get.behind.book ≡ a.book = heads_same a get.behind (Ok (Some get.head)) get.heads in
+    let shown = meets_shown reads false get.head caller spot body get.behind b end get.meets get.asked
+    (subst (λ (k : Book). IsKept k caller spot body) (sym same) kept) (subst (λ (k : Book). OnlyOwn k b.book) (sym same) only) written in
+    subst (λ (head : Head). ShowsFile (closes_session head) body a b) is
+    (front_shown (closes_session get.head) body a get.behind b (ap (λ (x : Scene C). x.output) get.heads.only) same shown)
+
+-- ---- the session
+
+back_shown : {C : Type 0} (close : Bool) (body : List ℕ) (a m b : Scene C) → b.output ≡ m.output → b.book ≡ m.book
+    → ShowsFile close body a m → ShowsFile close body a b
+back_shown close body a m b out book (inl is) = inl (appends_by a.output b.output a.output m.output _ refl (sym out) is)
+back_shown close body a m b out book (inr (inl is)) = inr (inl (appends_by a.output b.output a.output m.output _ refl (sym out) is))
+back_shown close body a m b out book (inr (inr (is, fails))) =
+    inr (inr (
+      appends_by a.output b.output a.output m.output _ refl (sym out) is,
+      subst (λ (x : Book). FailsStore a.book x) (sym book) fails,
+    ))
+
+through_shown : {C : Type 0} (reads : C → ℕ → C → Type 0) (caller : Caller) (spot : Spot) (h : RequestHead) (body : List ℕ) (a : Scene C)
+    (scenes : List (Scene C)) (p b : Scene C) → Prints h (get_of caller spot) → a.input ≡ Some (print_request h)
+    → IsKept a.book caller spot body → OnlyOwn a.book b.book
+    → Through reads a scenes p → Turn reads (length scenes == 9999) p b (Some ended.Closed) → ShowsFile (closes_session (head_of h)) body a b
+through_shown {C} reads caller spot h body a [] p b prints input kept only through turn =
+    one_shown reads caller spot h body a b (Some ended.Closed) prints input tt
+    (subst (λ (z : Scene C). Turn reads false z b (Some ended.Closed)) (sym through) turn) kept only
+through_shown {C} reads caller spot h body a (m ∷ scenes) p b prints input kept only through turn =
+    let left = one_left reads caller spot h a m None prints input tt through.0 in
+    let heads = rest_silent reads m scenes p b _ left through.1 turn in
+    let book : b.book ≡ m.book = heads_same m b (Ok None) heads in
+    back_shown (closes_session (head_of h)) body a m b (ap (λ (x : Scene C). x.output) heads.only) book
+    (one_shown reads caller spot h body a m None prints input tt through.0 kept (subst (λ (x : Book). OnlyOwn a.book x) book only))
+
+-- no store failed it
+none_failed : (a b : Book) → a.strikes ≡ 0 → b.strikes ≡ 0 → a.damaged ≡ [] → FailsStore a b → ⊥
+none_failed a b first last whole (inl struck) = omega (arith, first, last, struck)
+none_failed a b first last whole (inr some) = some whole
+
+shown_outputs : {C : Type 0} (close : Bool) (body before output : List ℕ) (a b : Scene C) → a.output ≡ Some before → b.output ≡ Some output
+    → (FailsStore a.book b.book → ⊥) → ShowsFile close body a b
+    → (output ≡ before ++ (file_head close (length body) ++ body)) ⊎ (output ≡ before ++ refusal_reply close denial.Memory)
+shown_outputs close body before output a b first last none (inl is) = inl (appends_by (Some before) (Some output) a.output b.output _ first last is)
+shown_outputs close body before output a b first last none (inr (inl is)) =
+    inr (appends_by (Some before) (Some output) a.output b.output _ first last is)
+shown_outputs close body before output a b first last none (inr (inr (is, fails))) = absurd (none fails)
+
+-- ---- the run
+
+done_is : (end : Option Ended) → exit.Done ≡ status_of end → end ≡ Some ended.Closed
+done_is None e = cc
+done_is (Some ended.Closed) e = refl
+done_is (Some ended.BadMessage) e = cc
+done_is (Some ended.NotBuilt) e = cc
+done_is (Some ended.RunFull) e = cc
+done_is (Some (ended.Cut why)) e = cc
+done_is (Some ended.ReadFault) e = cc
+done_is (Some ended.WriteFault) e = cc
+done_is (Some ended.Memory) e = cc
+
+-- what a desk's seat knows when a run begins, and at its end
+pub record IsOfDesk (a b : Book) : Type 0 where
+  pub first : a ≡ first_book
+  pub alone : IsAlone b
+  pub strikes : b.strikes ≡ 0
+
+closed_one : {C : Type 0} (reads : C → ℕ → C → Type 0) (a b : Scene C) (input before output : List ℕ)
+    → Session reads a b (Some ended.Closed) → a.input ≡ Some input → a.output ≡ Some before → b.output ≡ Some output → IsOfDesk a.book b.book
+    → ServesOneFile exit.Done (Some input) (Some before) (Some output)
+closed_one reads a b input before output session left first last desk = λ h caller spot body prints file is.
+    let kept : IsKept a.book caller spot body =
+    subst (λ (k : Book). IsKept k caller spot body) (sym desk.first) (is_kept first_book _ caller spot body refl file) in
+    let only : OnlyOwn a.book b.book =
+    subst (λ (k : Book). OnlyOwn k b.book) (sym desk.first) (omega (arith, desk.alone)) in
+    shown_outputs (closes_session (head_of h)) body before output a b first last
+    (none_failed a.book b.book (ap (λ (k : Book). k.strikes) desk.first) desk.strikes (ap (λ (k : Book). k.damaged) desk.first))
+    (through_shown reads caller spot h body a session.scenes session.before b prints (left ∙ ap (λ (bytes : List ℕ). Some bytes) is) kept only
+    session.through session.turn)
+
+-- a run over such an input
+pub serves_one : {C : Type 0} (reads : C → ℕ → C → Type 0) (a b : Scene C) (end : Option Ended) (status : Status) (input before output : Option (List ℕ))
+    → Session reads a b end → status ≡ status_of end → a.input ≡ stream [] input → a.output ≡ before → b.output ≡ output
+    → IsOfDesk a.book b.book → ServesOneFile status input before output
+serves_one reads a b end exit.Done (Some input) (Some before) (Some output) session by left first last desk =
+    closed_one reads a b input before output (subst (λ (e : Option Ended). Session reads a b e) (done_is end by) session) left first last desk
+serves_one reads a b end exit.Done None before output session by left first last desk = tt
+serves_one reads a b end exit.Done (Some input) None output session by left first last desk = tt
+serves_one reads a b end exit.Done (Some input) (Some before) None session by left first last desk = tt
+serves_one reads a b end exit.ReadFault input before output session by left first last desk = tt
+serves_one reads a b end exit.WriteFault input before output session by left first last desk = tt
+serves_one reads a b end exit.Words input before output session by left first last desk = tt
+serves_one reads a b end exit.BadMessage input before output session by left first last desk = tt
+serves_one reads a b end exit.Cut input before output session by left first last desk = tt
+serves_one reads a b end exit.Memory input before output session by left first last desk = tt
+serves_one reads a b end exit.RunFull input before output session by left first last desk = tt
+serves_one reads a b end exit.Budget input before output session by left first last desk = tt
+serves_one reads a b end exit.NotBuilt input before output session by left first last desk = tt
