@@ -1,6 +1,6 @@
 -- The desk's book: how it goes on by an entry, and that what its seat holds is its ticket's.
-use Rattle.std.proofs.Common.{◌≡◌, ◌≢◌, ◌⊎◌, inl, inr, ℕ, ◌+◌, ◌<◌, ◌≤◌, ◌==◌, max, Bool, true, false, List, [], ◌∷◌, ◌++◌, length, find, Result, Ok, Err, IsNone, refl, sym, ap, subst, ◌∙◌, arith, append-nil, append_assoc}
-use Rattle.std.specs.Prelude.{Option, None, Some, option_map, if◌then◌else◌, slice_get, IfOk, OnOk, OnErr, MatchBool, Vec}
+use Rattle.std.proofs.Common.{◌≡◌, ◌≢◌, ◌⊎◌, inl, inr, ℕ, ◌+◌, ◌<◌, ◌≤◌, ◌==◌, max, Bool, true, false, List, [], ◌∷◌, ◌++◌, length, find, Result, Ok, Err, IsNone, refl, sym, ap, subst, ◌∙◌, arith, append-nil}
+use Rattle.std.specs.Prelude.{Option, None, Some, option_map, slice_get, IfOk, OnOk, OnErr, MatchBool, Vec}
 use Rattle.std.specs.declared.alloc.Global.{Global}
 use Rattle.sha2.specs.Sha256.{sha256}
 use Rattle.std.specs.List.{All}
@@ -18,7 +18,7 @@ use Rattle.nf_words.specs.Endings.{ends_goal, ends_ticket}
 use Rattle.nf_words.specs.History.{IsLegal, IsLegalFrom, MayAsk, MayBring, MayCome, MayWant, after, after_mark, answer_at, failed, most_entries, replay}
 use Rattle.nf_words.specs.Sound.{IsSound}
 use Rattle.nf_words.specs.State.{State, opened, ticket_for, ticket_of}
-use Rattle.nf_words.specs.Step.{answer_to, answered_by, blob_by, blob_to, decision_of, step}
+use Rattle.nf_words.specs.Step.{answer_to, answered_by, blob_by, blob_to, decision_of}
 use Rattle.nf_words.specs.declared.answer.Allowed.{Allowed}
 use Rattle.nf_words.specs.declared.answer.Allowed.TheVariants as allowed
 use Rattle.nf_words.specs.declared.answer.LockKey.{LockKey}
@@ -40,11 +40,11 @@ use Rattle.nf_words.specs.declared.request.Request.{Request}
 use Rattle.nf_words.specs.declared.request.Words.{Words}
 use Rattle.nf_words.proofs.Known.{Known, found_has, found_passes, known_change}
 use Rattle.nf_words.proofs.Marks.{is_failure, never_failed}
-use Rattle.nf_words.proofs.Opens.{IsPlain, begins_open, bodies_open, ends_grant_nothing, plain_keeps}
-use Rattle.nf_words.proofs.Steps.{end_frees, freed, granted_step, other_after}
+use Rattle.nf_words.proofs.Opens.{begins_open, bodies_open, ends_grant_nothing}
+use Rattle.nf_words.proofs.Steps.{other_after}
 use Rattle.nf_laws.proofs.Blobs.{begin_none, blobs_are_new, gone_none, new_at, sent_none, stays_whole, still_at}
 use Rattle.nf_laws.specs.Wholes.{Blobs, Brings, IsGoalThere, IsThere, IsWhole, blob_at, blob_in, blob_under, with_blob}
-use Rattle.nf_server.specs.Book.{Answer, Begins, Book, Ends, EndsBody, Enters, FailsPiece, GivesPiece, IsOfBegin, IsOfBody, Lasts, MayEnd, Stores, TellsStill, Waits, entries_wanted, event_of_body, granted, held, held_after, is_unmade, is_unmade_by, outcome_of, own_from, state_after}
+use Rattle.nf_server.specs.Book.{Answer, Begins, Ends, EndsBody, Enters, FailsPiece, GivesPiece, IsOfBegin, IsOfBody, Lasts, MayEnd, Stores, Waits, entries_wanted, event_of_body, held, is_unmade, is_unmade_by, outcome_of, own_from, state_after}
 use Rattle.nf_promises.specs.Room.{IsAlone}
 use Rattle.nf_server.proofs.Books.{held_is_ticket, own_grows}
 use Rattle.nf_server.specs.declared.backend.Ending.{Ending}
@@ -52,9 +52,9 @@ use Rattle.nf_server.specs.declared.backend.Ending.TheVariants as ending
 use Rattle.nf_server.specs.declared.backend.PieceFault.{PieceFault}
 use Rattle.nf_server.specs.declared.backend.PieceFault.TheVariants as fault
 use Rattle.nf_site.specs.Held.{entries_wanted as site_wanted}
-use Rattle.nf_site.specs.Kept.{Kept, IsHistory, entered, entry, moment_of}
+use Rattle.nf_site.specs.Kept.{Kept, IsHistory, entered, moment_of}
 use Rattle.filesd.specs.Desk.{AreOwn, book_of, seat}
-use Rattle.filesd.specs.Stepping.{Asks, FindsNone, IsEmpty, Keeps, Makes, entry_at}
+use Rattle.filesd.specs.Stepping.{Asks, IsEmpty, Keeps, Makes, entry_at}
 
 -- ---- what the seat holds
 

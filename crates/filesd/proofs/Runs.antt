@@ -1,11 +1,10 @@
 -- What follows for a run from its session.
-use Rattle.std.proofs.Common.{◌≡◌, ℕ, ◌≤◌, List, [], refl, sym, ◌∙◌, ap, subst}
+use Rattle.std.proofs.Common.{◌≡◌, ℕ, refl, sym, ◌∙◌, ap, subst}
 use Rattle.std.specs.Prelude.{Option, None, Some}
 use Rattle.std.proofs.lemmas.Option.{none-some, same_Some}
 use Rattle.nf_outside.specs.Causes.{Rose}
 use Rattle.nf_promises.specs.Room.{IsAlone, IsFresh}
 use Rattle.nf_promises.proofs.Full.{never_full}
-use Rattle.nf_server.specs.Book.{Book}
 use Rattle.nf_server.specs.Laws.{CountsFault}
 use Rattle.nf_server.specs.Session.{Session}
 use Rattle.nf_server.specs.Steps.{Scene}

@@ -1,6 +1,5 @@
-use Rattle.std.proofs.Common.{◌≡◌, ◌∙◌, ap, sym, subst}
-use Rattle.std.specs.Prelude.{None}
-use Rattle.nf_server.specs.Book.{Begins, Book, held}
+use Rattle.std.proofs.Common.{◌∙◌, ap, subst}
+use Rattle.nf_server.specs.Book.{Begins, held}
 use Rattle.filesd.specs.Desk.{Served, book_in, book_of}
 use Rattle.filesd.proofs.Desks.{asks_alone, asks_whole, begins, may_ask}
 use Rattle.filesd.proofs.desk.DeskBackend.begin.Goals as goal
