@@ -1,3 +1,4 @@
 pub mod Desks
 pub mod OneFile
 pub mod Runs
+pub mod Shown

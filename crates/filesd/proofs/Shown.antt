@@ -1,0 +1,84 @@
+-- The file of the demonstration rows is one that a run serves.
+use Rattle.std.proofs.Common.{◌≡◌, ◌∙◌, ap, refl, true, List, [], ◌∷◌, codes, Some, None, ℕ, Ok, is_some, if◌then◌else◌, Bool, find, false}
+use Rattle.std.specs.Prelude.{bytes_eq, Option, option_map}
+use Rattle.std.specs.List.{list_all}
+use Rattle.std.specs.Option.{option_and_then, option_map_or}
+use Rattle.std.proofs.lemmas.Slice.Eq.{bytes_eq-Decides}
+use Rattle.sha2.specs.Sha256.{sha256, digest_bytes, hash_after, compress, rounds, schedule, first_words}
+use Rattle.nf_base.specs.declared.rows.TokenRow.{TokenRow}
+use Rattle.nf_base.specs.declared.rows.UserRow.{UserRow}
+use Rattle.nf_site.specs.Demo.{hello, demo_rows}
+use Rattle.nf_defs.specs.Access.{unshared}
+use Rattle.nf_defs.specs.People.{holder_of, user_row}
+use Rattle.nf_defs.specs.Tree.{found_from}
+use Rattle.nf_defs.specs.declared.Found.{Found}
+use Rattle.nf_defs.specs.declared.Found.TheVariants.{At}
+use Rattle.nf_words.specs.State.{opened}
+use Rattle.nf_words.specs.Callers.{token_rule, not_you_rule}
+use Rattle.nf_words.specs.Calls.{Call, asker_of, caller_row, found, places_of, root_of}
+use Rattle.nf_words.specs.Changes.{allowed_of, given}
+use Rattle.nf_words.specs.Endings.{blob_for, content_in, unless_refused}
+use Rattle.nf_words.specs.Laws.{Pass}
+use Rattle.nf_words.specs.Rules.{rules}
+use Rattle.nf_words.specs.Step.{answer_to, answered_by, call_of}
+use Rattle.nf_words.specs.Places.{forbidden_rule, place_rule, built_rule, exists_rule, target_rule, lost, unbuilt}
+use Rattle.nf_words.specs.Limits.{limit_rule}
+use Rattle.nf_words.specs.declared.answer.Denial.{Denial}
+use Rattle.nf_words.specs.declared.answer.Denial.TheVariants as denial
+use Rattle.nf_words.specs.declared.answer.Goal.TheVariants.{Serve}
+use Rattle.nf_words.specs.declared.answer.Reply.TheVariants.{Granted}
+use Rattle.nf_words.specs.declared.history.Event.TheVariants.{Begin}
+use Rattle.nf_words.specs.declared.request.Caller.TheVariants.{Token}
+use Rattle.nf_words.specs.declared.request.Places.{Places}
+use Rattle.nf_words.specs.declared.request.Spot.{Spot}
+use Rattle.nf_words.specs.declared.request.Wanted.TheVariants.{Get}
+use Rattle.nf_words.specs.declared.request.Words.{Words}
+use Rattle.nf_words.proofs.Orders.{none_of}
+use Rattle.nf_promises.specs.Kept.{get_of}
+use Rattle.filesd.specs.OneFile.{IsFileOf}
+use Rattle.filesd.specs.Session.{first_book}
+
+abbrev secret : List ℕ
+secret = sha256 (codes "alice-1")
+
+abbrev spot : Spot
+spot = record { user = Some (codes "alice"); path = codes "hello.txt" ∷ [] }
+
+holder_first : (row : TokenRow) (rows : List TokenRow) (digest : List ℕ) → row.digest ≡ digest → holder_of (row ∷ rows) digest ≡ Some row.user
+holder_first row rows digest is =
+    let same : bytes_eq row.digest digest ≡ true = (bytes_eq-Decides row.digest digest).1 is in
+    ap (λ (b : Bool). option_map (λ (r : TokenRow). r.user) (if b then Some row else find (λ (r : TokenRow). bytes_eq r.digest digest) rows)) same
+
+abbrev others : List TokenRow
+others = record { digest = sha256 (codes "bob-1"); user = 2 } ∷ record { digest = sha256 (codes "carol-1"); user = 3 } ∷ []
+
+tokens : (opened demo_rows).tables.tokens ≡ record { digest = secret; user = 1 } ∷ others
+unfolding sha256 digest_bytes hash_after compress rounds schedule first_words
+tokens = refl
+
+holds : holder_of (opened demo_rows).tables.tokens secret ≡ Some 1
+holds = ap (λ (rows : List TokenRow). holder_of rows secret) tokens ∙ holder_first (record { digest = secret; user = 1 }) others secret refl
+
+hello_granted : (seat now : ℕ) (words : Words)
+    → answer_to (opened demo_rows) seat now (Begin words (get_of (Token secret) spot))
+    ≡ Ok (Granted (Serve (content_in (blob_for 1 6) (sha256 hello) 6)))
+unfolding token_rule not_you_rule forbidden_rule place_rule built_rule exists_rule target_rule limit_rule
+hello_granted seat now words =
+    let s = opened demo_rows in
+    let call : Call = call_of s seat now words (get_of (Token secret) spot) in
+    let row : caller_row call ≡ user_row s.tables.users 1 = ap (option_and_then (user_row s.tables.users)) holds in
+    let root : root_of call ≡ 1 = ap (λ (o : Option UserRow). option_map_or (λ row. row.root) o 0) row in
+    let at : found call spot ≡ At 4 = ap (λ (r : ℕ). found_from s.tables.nodes 0 r spot.path) root in
+    let places : places_of call ≡ record { source = Some (At 4); target = None } =
+    ap (λ (f : Found). record { source = Some f; target = None }) at in
+    let token : token_rule unshared call ≡ None = ap (λ (o : Option ℕ). if is_some o then None else Some denial.Token) holds in
+    let not_you : not_you_rule unshared call ≡ None =
+    ap (λ (o : Option UserRow). if list_all (λ name. option_map_or (λ row. bytes_eq row.name name) o false) (codes "alice" ∷ []) then None else Some denial.NotYou) row in
+    let led : place_rule unshared call ≡ None = ap lost places in
+    let built : built_rule unshared call ≡ None = ap (unbuilt s.tables.nodes (Get spot)) places in
+    let pass : Pass rules unshared call = (token, (not_you, (refl, (led, (built, (refl, (refl, (refl, tt)))))))) in
+    ap (λ (refusal : Option Denial). answered_by (unless_refused refusal (allowed_of call))) (none_of rules unshared call pass)
+    ∙ ap (λ (p : Places). answered_by (Ok (given s.tables now (asker_of call) (Get spot) p))) places
+
+pub hello_is_file : IsFileOf first_book (Token secret) spot hello
+hello_is_file = record { blob = 1; granted = hello_granted; there = λ some. refl }
