@@ -1,5 +1,5 @@
 -- The plainest run, said without its session: one GET of a file that is there.
-use Rattle.std.specs.Prelude.{◌≡◌, ◌⊎◌, ℕ, ◌<◌, List, ◌++◌, length, Option, Some, Ok, IfSome}
+use Rattle.std.specs.Prelude.{◌≡◌, ◌⊎◌, ℕ, ◌<◌, List, [], ◌∷◌, ◌++◌, codes, length, Option, Some, Ok, IfSome}
 use Rattle.sha2.specs.Sha256.{sha256}
 use Rattle.httparse.specs.Grammar.{RequestHead, print_request}
 use Rattle.nf_dav.specs.Reply.{file_head, refusal_reply}
@@ -7,6 +7,7 @@ use Rattle.nf_http.specs.Head.{closes_session, head_of}
 use Rattle.nf_laws.specs.Wholes.{blob_at}
 use Rattle.nf_promises.specs.Kept.{Prints, get_of}
 use Rattle.nf_server.specs.Book.{Book, state_of}
+use Rattle.nf_site.specs.Demo.{hello}
 use Rattle.nf_words.specs.Endings.{blob_for, content_in}
 use Rattle.nf_words.specs.Step.{answer_to}
 use Rattle.nf_words.specs.declared.answer.Denial.TheVariants as denial
@@ -14,6 +15,7 @@ use Rattle.nf_words.specs.declared.answer.Goal.TheVariants.{Serve}
 use Rattle.nf_words.specs.declared.answer.Reply.TheVariants.{Granted}
 use Rattle.nf_words.specs.declared.history.Event.TheVariants.{Begin}
 use Rattle.nf_words.specs.declared.request.Caller.{Caller}
+use Rattle.nf_words.specs.declared.request.Caller.TheVariants.{Token}
 use Rattle.nf_words.specs.declared.request.Spot.{Spot}
 use Rattle.nf_words.specs.declared.request.Words.{Words}
 use Rattle.filesd.specs.Session.{first_book}
@@ -38,3 +40,8 @@ ServesOneFile exit.Done (Some input) (Some before) (Some output) =
     → (output ≡ before ++ (file_head (closes_session (head_of h)) (length body) ++ body))
     ⊎ (output ≡ before ++ refusal_reply (closes_session (head_of h)) denial.Memory)
 ServesOneFile status input before output = Unit {0}
+
+-- the demonstration file is one, for its owner's token
+abbrev pub HelloIsServed : Type 0
+HelloIsServed =
+    IsFileOf first_book (Token (sha256 (codes "alice-1"))) (record { user = Some (codes "alice"); path = codes "hello.txt" ∷ [] }) hello

@@ -2,6 +2,7 @@
 #![tactic(auto)]
 
 mod desk;
+pub mod laws;
 mod running;
 mod store;
 #[cfg(test)]
