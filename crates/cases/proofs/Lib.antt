@@ -1,1 +1,2 @@
-pub mod Answers
+mod Answers
+mod Listed

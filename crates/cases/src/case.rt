@@ -2,22 +2,39 @@
 
 use std::alloc::{AllocError, AllocFailed};
 
-/// A message and its answer.
+/// Runs one after the other over one keeper, which begins empty.
 #[derive(Drop)]
-pub struct Exchange {
-    pub send: Vec<u8>,
-    pub answer: Vec<u8>,
+pub struct Case {
+    /// The numbers of the keeper's calls that fail. All calls of all runs are counted together, from 1 on.
+    pub failing: Vec<u64>,
+    pub runs: Vec<Run>,
 }
 
-/// All that a run depends on, and what it must give.
+/// All that a run depends on beside its keeper, and what it must give.
 #[derive(Drop)]
 pub struct Run {
     pub words: Vec<String>,
     /// The readings of the clock; the last is repeated.
     pub clock: Vec<u64>,
+    /// What is put into the keeper before the run.
+    pub damage: Vec<Damage>,
     pub exchanges: Vec<Exchange>,
     /// The exit status.
     pub status: u8,
+}
+
+/// Other bytes under a blob's number.
+#[derive(Drop)]
+pub struct Damage {
+    pub blob: u64,
+    pub bytes: Vec<u8>,
+}
+
+/// A message and its answer.
+#[derive(Drop)]
+pub struct Exchange {
+    pub send: Vec<u8>,
+    pub answer: Vec<u8>,
 }
 
 /// Why a case is not run.
@@ -32,10 +49,10 @@ pub enum Unread {
     UnknownMember,
     /// A text has a character above U+00FF, which is no byte.
     NotBytes,
-    /// There is more than one run, and no keeper yet that would lie between them.
-    ManyRuns,
-    /// A call of the keeper is to fail, or its bytes are to be damaged, and there is no keeper yet.
-    Keeper,
+    /// There is no run.
+    NoRuns,
+    /// A run behind the first names calls of the keeper that fail.
+    LateFailing,
 }
 
 impl Unread {
@@ -46,8 +63,8 @@ impl Unread {
             Unread::Malformed => "a member is missing, or of another kind",
             Unread::UnknownMember => "a member is unknown",
             Unread::NotBytes => "a text has a character above U+00FF",
-            Unread::ManyRuns => "it has several runs, and there is no keeper yet",
-            Unread::Keeper => "it names faults of a keeper, and there is none yet",
+            Unread::NoRuns => "it has no run",
+            Unread::LateFailing => "a run behind the first names calls that fail",
         }
     }
 }

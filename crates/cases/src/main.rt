@@ -10,10 +10,9 @@ mod showing;
 mod tally;
 mod texts;
 
-use case::Unread;
 use judging::judge;
-use reading::runs_of;
-use running::serve;
+use reading::case_of;
+use running::{Keepers, serve};
 use std::process::ExitCode;
 use std::{env, fs, io};
 use tally::{Judged, Tally};
@@ -57,7 +56,7 @@ fn folder_named(rt: &HostRuntime) -> io::Result<String> {
     }
 }
 
-// Runs one case, and prints a line for each of its runs that differs.
+// Makes the runs of one case, each over what the one before it left, and prints a line for each that differs.
 fn check_case(
     rt: &HostRuntime,
     folder: &str,
@@ -65,20 +64,22 @@ fn check_case(
     judged: &mut Vec<Judged>,
 ) -> io::Result<()> {
     let text = fs::read_to_string(rt, folder::path(rt.alloc(), folder, name)?)?;
-    let runs = match runs_of(rt.alloc(), text.as_str()) {
-        Ok(runs) => runs,
+    let case = match case_of(rt.alloc(), text.as_str()) {
+        Ok(case) => case,
         Err(why) => {
             println!(rt; "{name}: not run: {}", why.word())?;
             return Ok(judged.push(Judged::NotRun)?);
         }
     };
-    for (index, run) in runs.iter().enumerate() {
-        let (whole, cut) = serve(rt.alloc(), run)?;
-        let line = judge(rt.alloc(), run, &whole, &cut)?;
+    let mut keepers = Keepers::new(rt.alloc(), &case.failing)?;
+    for (index, run) in case.runs.iter().enumerate() {
+        let served = serve(rt.alloc(), run, keepers)?;
+        let line = judge(rt.alloc(), run, &served.whole, &served.cut)?;
         judged.push(Judged::of(&line))?;
         if let Some(line) = line {
             println!(rt; "{name}: run {}, {line}", index + 1)?;
         }
+        keepers = served.keepers;
     }
     Ok(())
 }

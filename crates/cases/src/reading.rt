@@ -1,22 +1,49 @@
 //! Reads a case from its file.
 
-use crate::case::{Exchange, Run, Unread};
+ghost use Rattle.std.specs.Prelude.{◌≡◌, Some, length, IfOk};
+ghost use Rattle.serde_json.specs.Find.{get};
+ghost use Rattle.serde_json.specs.View.{items_view, view};
+ghost use Rattle.cases.specs.Listed.{ListsRuns, listed};
+
+use crate::case::{Case, Damage, Exchange, Run, Unread};
 use crate::texts::bytes_of;
 use serde_json::Value;
 use std::alloc::Global;
 
-/// The runs of a case. None is left out: what can't be run yet is an error.
-pub fn runs_of(alloc: Global, text: &str) -> Result<Vec<Run>, Unread> {
+/// The case that a file says. Nothing is left out: what isn't understood is an error.
+pub fn case_of(alloc: Global, text: &str) -> Result<Case, Unread>
+    ensures { IfOk result (λ case. ListsRuns text.now (length case.runs.items)) }
+{
     let case = match Value::from_str(alloc, text) {
         Ok(case) => case,
         Err(error) if error.is_memory() => return Err(Unread::Memory),
         Err(_) => return Err(Unread::NotJson),
     };
     has_only(&case, &["case", "runs"])?;
-    let listed = list(&case, "runs")?;
-    if listed.len() > 1 {
-        return Err(Unread::ManyRuns);
+    let runs = list(&case, "runs")?;
+    Ok(Case {
+        failing: failing_in(alloc, runs)?,
+        runs: runs_of(alloc, runs)?,
+    })
+}
+
+// The first run names the calls of the keeper that fail: none where it doesn't.
+fn failing_in(alloc: Global, runs: &[Value]) -> Result<Vec<u64>, Unread> {
+    let Some((first, others)) = runs.split_first() else {
+        return Err(Unread::NoRuns);
+    };
+    if others.iter().any(|run| run.get("failing").is_some()) {
+        return Err(Unread::LateFailing);
     }
+    match first.get("failing") {
+        None => Ok(Vec::new(alloc)),
+        Some(_) => numbers(alloc, list(first, "failing")?),
+    }
+}
+
+fn runs_of(alloc: Global, listed: &[Value]) -> Result<Vec<Run>, Unread>
+    ensures { IfOk result (λ runs. length runs.items ≡ length listed.now) }
+{
     let mut runs = Vec::new(alloc);
     for run in listed {
         runs.push(run_of(alloc, run)?)?;
@@ -25,15 +52,14 @@ pub fn runs_of(alloc: Global, text: &str) -> Result<Vec<Run>, Unread> {
 }
 
 fn run_of(alloc: Global, run: &Value) -> Result<Run, Unread> {
-    if run.get("failing").is_some() || run.get("damage").is_some() {
-        return Err(Unread::Keeper);
-    }
     has_only(
         run,
         &[
             "words",
             "clock",
             "dice",
+            "failing",
+            "damage",
             "exchanges",
             "input",
             "output",
@@ -43,9 +69,25 @@ fn run_of(alloc: Global, run: &Value) -> Result<Run, Unread> {
     Ok(Run {
         words: words(alloc, list(run, "words")?)?,
         clock: numbers(alloc, list(run, "clock")?)?,
+        damage: damage_of(alloc, run)?,
         exchanges: exchanges_of(alloc, run)?,
         status: small_number(member(run, "status")?)?,
     })
+}
+
+// None where it isn't said.
+fn damage_of(alloc: Global, run: &Value) -> Result<Vec<Damage>, Unread> {
+    let mut damage = Vec::new(alloc);
+    let Some(said) = run.get("damage") else {
+        return Ok(damage);
+    };
+    for (blob, text) in said.as_object().ok_or(Unread::Malformed)? {
+        damage.push(Damage {
+            blob: blob.as_str().parse().map_err(|_| Unread::Malformed)?,
+            bytes: bytes_of(alloc, text.as_str().ok_or(Unread::Malformed)?)?,
+        })?;
+    }
+    Ok(damage)
 }
 
 // The exchanges, or the whole input and output as one.
@@ -124,14 +166,18 @@ fn bytes(alloc: Global, value: &Value, name: &str) -> Result<Vec<u8>, Unread> {
     )
 }
 
-fn list<'a>(value: &'a Value, name: &str) -> Result<&'a [Value], Unread> {
+fn list<'a>(value: &'a Value, name: &str) -> Result<&'a [Value], Unread>
+    ensures { IfOk result (λ list. listed name.now (view value.now) ≡ Some (items_view list.now)) }
+{
     match member(value, name)?.as_array() {
         Some(list) => Ok(list.as_slice()),
         None => Err(Unread::Malformed),
     }
 }
 
-fn member<'a>(value: &'a Value, name: &str) -> Result<&'a Value, Unread> {
+fn member<'a>(value: &'a Value, name: &str) -> Result<&'a Value, Unread>
+    ensures { IfOk result (λ found. get name.now (view value.now) ≡ Some (view found.now)) }
+{
     value.get(name).ok_or(Unread::Malformed)
 }
 

@@ -1,7 +1,7 @@
 -- One GET of a file that is there, from what a session says.
 use Rattle.std.proofs.Common.{◌≡◌, ◌⊎◌, ℕ, ◌<◌, ◌==◌, Bool, true, false, List, [], ◌∷◌, ◌++◌, length, refl, sym, ◌∙◌, ap, subst, inl, inr, arith, append-nil, length-append, if◌then◌else◌, Result, Ok, Err}
 use Rattle.std.specs.Prelude.{Option, None, Some, IfSome, Vec}
-use Rattle.std.specs.Io.KnownBytes.{Consumes}
+use Rattle.std.specs.Io.KnownBytes.{Appends, Consumes}
 use Rattle.std.specs.declared.alloc.Global.{Global}
 use Rattle.std.proofs.lemmas.Bool.{eqb-false}
 use Rattle.std.proofs.lemmas.Option.{none-some, same_Some}
@@ -12,15 +12,20 @@ use Rattle.nf_http.specs.Head.{Head, closes_session, head_of}
 use Rattle.nf_http.specs.Next.{IsNext}
 use Rattle.nf_http.specs.Told.{stream}
 use Rattle.nf_http.proofs.Fronts.{head_costs}
-use Rattle.nf_laws.specs.Wholes.{Blobs, blob_at}
+use Rattle.nf_defs.specs.Blobs.{Blobs, blob_at, put_blob}
+use Rattle.nf_base.specs.declared.rows.Row.{Row}
+use Rattle.nf_desk.specs.Desk.{book_of}
+use Rattle.nf_desk.specs.Opening.{IsLoaded, OpensTo}
+use Rattle.nf_keeper.specs.Keeping.{AreTold}
 use Rattle.nf_promises.specs.Kept.{FailsStore, Gets, IsWritten, OnlyOwn, Prints, ShowsFile, get_of}
 use Rattle.nf_promises.specs.Room.{IsAlone}
 use Rattle.nf_promises.proofs.Bytes.{head_is, turn_gets}
 use Rattle.nf_promises.proofs.Growing.{heads_same}
-use Rattle.nf_promises.proofs.Puts.{IsKept}
-use Rattle.nf_promises.proofs.Returning.{appends_by, cut_not_written, front_shown, meets_shown}
+use Rattle.nf_promises.proofs.Puts.{IsKept, Keeps}
+use Rattle.nf_promises.proofs.Returning.{appends_by, cut_not_written, front_shown, meets_shown, told_shown}
+use Rattle.nf_rows.specs.Spelling.{Raw}
 use Rattle.nf_promises.proofs.Touches.{closes_only, input_of, judges_only, passes_only, says_only}
-use Rattle.nf_server.specs.Book.{Book, denial_of_piece, state_of}
+use Rattle.nf_server.specs.Book.{Book, denial_of_piece, next_blob_of, state_of}
 use Rattle.nf_server.specs.Files.{SendsFile}
 use Rattle.nf_server.specs.Session.{Session, Through}
 use Rattle.nf_server.specs.Steps.{Heads, OnlyWrites, Scene}
@@ -34,10 +39,17 @@ use Rattle.nf_words.specs.State.{State}
 use Rattle.nf_words.specs.declared.answer.Denial.TheVariants as denial
 use Rattle.nf_words.specs.declared.request.Caller.{Caller}
 use Rattle.nf_words.specs.declared.request.Spot.{Spot}
-use Rattle.filesd.specs.OneFile.{IsFileOf, ServesOneFile}
-use Rattle.filesd.specs.Session.{first_book, status_of}
-use Rattle.filesd.specs.declared.running.Status.{Status}
-use Rattle.filesd.specs.declared.running.Status.TheVariants as exit
+use Rattle.nf_site.specs.Demo.{demo_rows, hello}
+use Rattle.nf_site.specs.Held.{Held}
+use Rattle.nf_told.specs.Told.{Told}
+use Rattle.filesd.specs.OneFile.{IsFileOf, ServesOneFile, fresh_book}
+use Rattle.filesd.specs.Opening.{IsUnopened, WhyUnopened, told_opened}
+use Rattle.filesd.specs.Outside.{Outside}
+use Rattle.filesd.specs.Reopening.{Leaves}
+use Rattle.filesd.specs.Session.{Runs, first_book, scene_of, status_of}
+use Rattle.filesd.specs.declared.status.Status.{Status}
+use Rattle.filesd.specs.declared.status.Status.TheVariants as exit
+use Rattle.filesd.proofs.Alone.{is_alone}
 
 -- ---- such a file is kept as a body that was put
 
@@ -56,12 +68,12 @@ is_kept b shelf caller spot body told file =
     record {
       before = before;
       got = file.granted;
-      shelf = shelf;
-      told = told;
-      bytes = λ id is.
-          let at = blob_some file.blob (length body) id is in
-          subst (λ (n : ℕ). blob_at shelf n ≡ Some body) at.1
-          (subst (λ (o : Option Blobs). IfSome o (λ shelf. blob_at shelf file.blob ≡ Some body)) told (file.there at.0));
+      bytes = subst (λ (o : Option Blobs). IfSome o (Keeps b before body)) (sym told) (λ id is.
+          let at = blob_some file.blob (length body) id is in (
+            subst (λ (n : ℕ). n < next_blob_of b) at.1 file.given,
+            subst (λ (n : ℕ). blob_at shelf n ≡ Some body) at.1
+                (subst (λ (o : Option Blobs). IfSome o (λ shelf. blob_at shelf file.blob ≡ Some body)) told (file.there at.0)),
+          ));
     }
 
 -- ---- nothing is answered of no bytes
@@ -99,7 +111,7 @@ writes_input {C} a b only = ap (λ (x : Scene C). x.input) only
 
 sends_input : {C T : Type 0} (close : Bool) (content : List Piece) (first : Option (Vec ℕ Global)) (a b : Scene C) (result : Result T Ended)
     → SendsFile close content first a b result → b.input ≡ a.input
-sends_input {C} close content first a b (Ok sent) (given, writes, all) = ap (λ (x : Scene C). x.input) writes.pieces.only
+sends_input {C} close content first a b (Ok sent) (given, writes, all, unstruck) = ap (λ (x : Scene C). x.input) writes.pieces.only
 sends_input {C} close content first a b (Err (ended.Cut why)) (given, writes, lacks, other) = ap (λ (x : Scene C). x.input) writes.pieces.only
 sends_input {C} close content first a b (Err ended.Memory) (inl same) = ap (λ (x : Scene C). x.input) same
 sends_input {C} close content first a b (Err ended.Memory) (inr (given, writes, lacks)) = ap (λ (x : Scene C). x.input) writes.pieces.only
@@ -169,8 +181,15 @@ one_shown {C} reads caller spot h body a b end prints input written turn kept on
 
 -- ---- the session
 
+-- the file itself was written; or that there is no memory; or that the store failed
+abbrev Shows : {C : Type 0} → Bool → List ℕ → Scene C → Scene C → Type 0
+Shows close body a b =
+    Appends a.output b.output (file_head close (length body) ++ body)
+    ⊎ Appends a.output b.output (refusal_reply close denial.Memory)
+    ⊎ (Appends a.output b.output (refusal_reply close denial.Store) × FailsStore a.book b.book)
+
 back_shown : {C : Type 0} (close : Bool) (body : List ℕ) (a m b : Scene C) → b.output ≡ m.output → b.book ≡ m.book
-    → ShowsFile close body a m → ShowsFile close body a b
+    → Shows close body a m → Shows close body a b
 back_shown close body a m b out book (inl is) = inl (appends_by a.output b.output a.output m.output _ refl (sym out) is)
 back_shown close body a m b out book (inr (inl is)) = inr (inl (appends_by a.output b.output a.output m.output _ refl (sym out) is))
 back_shown close body a m b out book (inr (inr (is, fails))) =
@@ -179,32 +198,31 @@ back_shown close body a m b out book (inr (inr (is, fails))) =
       subst (λ (x : Book). FailsStore a.book x) (sym book) fails,
     ))
 
-through_shown : {C : Type 0} (reads : C → ℕ → C → Type 0) (caller : Caller) (spot : Spot) (h : RequestHead) (body : List ℕ) (a : Scene C)
-    (scenes : List (Scene C)) (p b : Scene C) → Prints h (get_of caller spot) → a.input ≡ Some (print_request h)
-    → IsKept a.book caller spot body → OnlyOwn a.book b.book
-    → Through reads a scenes p → Turn reads (length scenes == 9999) p b (Some ended.Closed) → ShowsFile (closes_session (head_of h)) body a b
-through_shown {C} reads caller spot h body a [] p b prints input kept only through turn =
-    one_shown reads caller spot h body a b (Some ended.Closed) prints input tt
-    (subst (λ (z : Scene C). Turn reads false z b (Some ended.Closed)) (sym through) turn) kept only
-through_shown {C} reads caller spot h body a (m ∷ scenes) p b prints input kept only through turn =
+through_shown : {C : Type 0} (reads : C → ℕ → C → Type 0) (caller : Caller) (spot : Spot) (h : RequestHead) (body : List ℕ) (shelf : Blobs)
+    (a : Scene C) (scenes : List (Scene C)) (p b : Scene C) → Prints h (get_of caller spot) → a.input ≡ Some (print_request h)
+    → a.book.told ≡ Some shelf → IsKept a.book caller spot body → OnlyOwn a.book b.book
+    → Through reads a scenes p → Turn reads (length scenes == 9999) p b (Some ended.Closed) → Shows (closes_session (head_of h)) body a b
+through_shown {C} reads caller spot h body shelf a [] p b prints input told kept only through turn =
+    told_shown (closes_session (head_of h)) body shelf a b told
+    (one_shown reads caller spot h body a b (Some ended.Closed) prints input tt
+    (subst (λ (z : Scene C). Turn reads false z b (Some ended.Closed)) (sym through) turn) kept only)
+through_shown {C} reads caller spot h body shelf a (m ∷ scenes) p b prints input told kept only through turn =
     let left = one_left reads caller spot h a m None prints input tt through.0 in
     let heads = rest_silent reads m scenes p b _ left through.1 turn in
     let book : b.book ≡ m.book = heads_same m b (Ok None) heads in
     back_shown (closes_session (head_of h)) body a m b (ap (λ (x : Scene C). x.output) heads.only) book
-    (one_shown reads caller spot h body a m None prints input tt through.0 kept (subst (λ (x : Book). OnlyOwn a.book x) book only))
-
--- no store failed it
-none_failed : (a b : Book) → a.strikes ≡ 0 → b.strikes ≡ 0 → a.damaged ≡ [] → FailsStore a b → ⊥
-none_failed a b first last whole (inl struck) = omega (arith, first, last, struck)
-none_failed a b first last whole (inr some) = some whole
+    (told_shown (closes_session (head_of h)) body shelf a m told
+    (one_shown reads caller spot h body a m None prints input tt through.0 kept (subst (λ (x : Book). OnlyOwn a.book x) book only)))
 
 shown_outputs : {C : Type 0} (close : Bool) (body before output : List ℕ) (a b : Scene C) → a.output ≡ Some before → b.output ≡ Some output
-    → (FailsStore a.book b.book → ⊥) → ShowsFile close body a b
+    → Shows close body a b
     → (output ≡ before ++ (file_head close (length body) ++ body)) ⊎ (output ≡ before ++ refusal_reply close denial.Memory)
-shown_outputs close body before output a b first last none (inl is) = inl (appends_by (Some before) (Some output) a.output b.output _ first last is)
-shown_outputs close body before output a b first last none (inr (inl is)) =
-    inr (appends_by (Some before) (Some output) a.output b.output _ first last is)
-shown_outputs close body before output a b first last none (inr (inr (is, fails))) = absurd (none fails)
+    ⊎ ((output ≡ before ++ refusal_reply close denial.Store) × FailsStore a.book b.book)
+shown_outputs close body before output a b first last (inl is) = inl (appends_by (Some before) (Some output) a.output b.output _ first last is)
+shown_outputs close body before output a b first last (inr (inl is)) =
+    inr (inl (appends_by (Some before) (Some output) a.output b.output _ first last is))
+shown_outputs close body before output a b first last (inr (inr (is, fails))) =
+    inr (inr (appends_by (Some before) (Some output) a.output b.output _ first last is, fails))
 
 -- ---- the run
 
@@ -219,40 +237,53 @@ done_is (Some ended.ReadFault) e = cc
 done_is (Some ended.WriteFault) e = cc
 done_is (Some ended.Memory) e = cc
 
--- what a desk's seat knows when a run begins, and at its end
-pub record IsOfDesk (a b : Book) : Type 0 where
-  pub first : a ≡ first_book
-  pub alone : IsAlone b
-  pub strikes : b.strikes ≡ 0
+-- a keeper that tells that it has no rows gives none, and so the demonstration rows are what the site is opened over
+none_loaded : (told : Told) (before : Option Told) (raws : List Raw) → before ≡ Some told → told.rows ≡ [] → IsLoaded before raws → raws ≡ []
+none_loaded told before raws is none loaded =
+    subst (λ (o : Option Told). AreTold o raws) is loaded.told ∙ none
 
-closed_one : {C : Type 0} (reads : C → ℕ → C → Type 0) (a b : Scene C) (input before output : List ℕ)
-    → Session reads a b (Some ended.Closed) → a.input ≡ Some input → a.output ≡ Some before → b.output ≡ Some output → IsOfDesk a.book b.book
-    → ServesOneFile exit.Done (Some input) (Some before) (Some output)
-closed_one reads a b input before output session left first last desk = λ h caller spot body prints file is.
+fresh_is : (told : Told) (before : Option Told) (raws : List Raw) (rows : List Row) (faults : ℕ) → before ≡ Some told → raws ≡ []
+    → OpensTo demo_rows raws rows → first_book rows (told_opened raws before) faults ≡ fresh_book told faults
+fresh_is told before [] rows faults is none opens =
+    ap (λ (these : List Row). first_book these (told_opened [] before) faults) opens
+    ∙ ap (λ (o : Option Told). first_book demo_rows (told_opened [] o) faults) is
+fresh_is told before (raw ∷ raws) rows faults is none opens = cc
+
+-- a session from there
+closed_one : {C : Type 0} (reads : C → ℕ → C → Type 0) (told : Told) (faults : ℕ) (a b : Scene C) (input before output : List ℕ)
+    → Session reads a b (Some ended.Closed) → a.input ≡ Some input → a.output ≡ Some before → b.output ≡ Some output
+    → a.book ≡ fresh_book told faults → IsAlone b.book
+    → (h : RequestHead) (caller : Caller) (spot : Spot) (body : List ℕ)
+    → Prints h (get_of caller spot) → IsFileOf (fresh_book told faults) caller spot body → input ≡ print_request h
+    → (output ≡ before ++ (file_head (closes_session (head_of h)) (length body) ++ body))
+    ⊎ (output ≡ before ++ refusal_reply (closes_session (head_of h)) denial.Memory)
+    ⊎ ((output ≡ before ++ refusal_reply (closes_session (head_of h)) denial.Store) × FailsStore a.book b.book)
+closed_one reads told faults a b input before output session left first last fresh alone h caller spot body prints file is =
+    let shelf : Blobs = put_blob told.blobs 1 hello in
+    let tells : a.book.told ≡ Some shelf = ap (λ (k : Book). k.told) fresh in
     let kept : IsKept a.book caller spot body =
-    subst (λ (k : Book). IsKept k caller spot body) (sym desk.first) (is_kept first_book _ caller spot body refl file) in
+    subst (λ (k : Book). IsKept k caller spot body) (sym fresh) (is_kept (fresh_book told faults) shelf caller spot body refl file) in
     let only : OnlyOwn a.book b.book =
-    subst (λ (k : Book). OnlyOwn k b.book) (sym desk.first) (omega (arith, desk.alone)) in
+    subst (λ (k : Book). OnlyOwn k b.book) (sym fresh) (omega (arith, alone)) in
     shown_outputs (closes_session (head_of h)) body before output a b first last
-    (none_failed a.book b.book (ap (λ (k : Book). k.strikes) desk.first) desk.strikes (ap (λ (k : Book). k.damaged) desk.first))
-    (through_shown reads caller spot h body a session.scenes session.before b prints (left ∙ ap (λ (bytes : List ℕ). Some bytes) is) kept only
-    session.through session.turn)
+    (through_shown reads caller spot h body shelf a session.scenes session.before b prints (left ∙ ap (λ (bytes : List ℕ). Some bytes) is)
+    tells kept only session.through session.turn)
+
+unopened_not_done : {C : Type 0} (a b : Outside C) (status : Status) → IsUnopened a b status → status ≡ exit.Done → ⊥
+unopened_not_done a b status unopened is = subst (λ (z : Status). WhyUnopened a.told a.faults b.faults z) is unopened.why
 
 -- a run over such an input
-pub serves_one : {C : Type 0} (reads : C → ℕ → C → Type 0) (a b : Scene C) (end : Option Ended) (status : Status) (input before output : Option (List ℕ))
-    → Session reads a b end → status ≡ status_of end → a.input ≡ stream [] input → a.output ≡ before → b.output ≡ output
-    → IsOfDesk a.book b.book → ServesOneFile status input before output
-serves_one reads a b end exit.Done (Some input) (Some before) (Some output) session by left first last desk =
-    closed_one reads a b input before output (subst (λ (e : Option Ended). Session reads a b e) (done_is end by) session) left first last desk
-serves_one reads a b end exit.Done None before output session by left first last desk = tt
-serves_one reads a b end exit.Done (Some input) None output session by left first last desk = tt
-serves_one reads a b end exit.Done (Some input) (Some before) None session by left first last desk = tt
-serves_one reads a b end exit.ReadFault input before output session by left first last desk = tt
-serves_one reads a b end exit.WriteFault input before output session by left first last desk = tt
-serves_one reads a b end exit.Words input before output session by left first last desk = tt
-serves_one reads a b end exit.BadMessage input before output session by left first last desk = tt
-serves_one reads a b end exit.Cut input before output session by left first last desk = tt
-serves_one reads a b end exit.Memory input before output session by left first last desk = tt
-serves_one reads a b end exit.RunFull input before output session by left first last desk = tt
-serves_one reads a b end exit.Budget input before output session by left first last desk = tt
-serves_one reads a b end exit.NotBuilt input before output session by left first last desk = tt
+pub serves_one : {C : Type 0} (reads : C → ℕ → C → Type 0) (a b : Outside C) (status : Status) (site : Option Held)
+    → Runs reads a b status site → IfSome site (λ site. Leaves site.kept b.told) → ServesOneFile a b status
+serves_one reads a b status None runs leaves =
+    λ told input before output h caller spot body tells none left first last done prints file is.
+    absurd (unopened_not_done a b status runs done)
+serves_one {C} reads a b status (Some site) runs leaves =
+    λ told input before output h caller spot body tells none left first last done prints file is.
+    let fresh = fresh_is told a.told runs.raws runs.rows a.faults tells (none_loaded told a.told runs.raws tells none runs.loaded) runs.opens in
+    let end : runs.end ≡ Some ended.Closed = done_is runs.end (sym done ∙ runs.ended) in
+    closed_one reads told a.faults _ _ input before output
+    (subst (λ (e : Option Ended). Session reads (scene_of a [] (first_book runs.rows (told_opened runs.raws a.told) a.faults))
+    (scene_of b runs.kept (book_of site.kept b.told b.faults)) e) end runs.session)
+    (ap (λ (o : Option (List ℕ)). stream [] o) left) first last fresh (is_alone site.kept b.told b.faults leaves.alone)
+    h caller spot body prints file is

@@ -12,8 +12,8 @@ use Rattle.nf_server.specs.declared.ended.Ended.{Ended}
 use Rattle.nf_server.specs.declared.ended.Ended.TheVariants as ended
 use Rattle.nf_server.proofs.Causes.{session_follows}
 use Rattle.filesd.specs.Session.{status_of}
-use Rattle.filesd.specs.declared.running.Status.{Status}
-use Rattle.filesd.specs.declared.running.Status.TheVariants as exit
+use Rattle.filesd.specs.declared.status.Status.{Status}
+use Rattle.filesd.specs.declared.status.Status.TheVariants as exit
 
 -- ---- each status is that of one end
 
@@ -28,6 +28,8 @@ end_named exit.ReadFault = Some (Some ended.ReadFault)
 end_named exit.WriteFault = Some (Some ended.WriteFault)
 end_named exit.Memory = Some (Some ended.Memory)
 end_named exit.Cut = None
+end_named exit.StoreFault = None
+end_named (exit.BadRows fault) = None
 end_named exit.Words = None
 
 named_is : (end named : Option Ended) → end_named (status_of end) ≡ Some named → end ≡ named

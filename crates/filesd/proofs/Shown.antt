@@ -1,5 +1,5 @@
 -- The file of the demonstration rows is one that a run serves.
-use Rattle.std.proofs.Common.{◌≡◌, ◌∙◌, ap, refl, true, List, [], ◌∷◌, codes, Some, None, ℕ, Ok, is_some, if◌then◌else◌, Bool, find, false}
+use Rattle.std.proofs.Common.{◌≡◌, ◌∙◌, ap, refl, arith, true, List, [], ◌∷◌, codes, Some, None, ℕ, Ok, is_some, if◌then◌else◌, Bool, find, false}
 use Rattle.std.specs.Prelude.{bytes_eq, Option, option_map}
 use Rattle.std.specs.List.{list_all}
 use Rattle.std.specs.Option.{option_and_then, option_map_or}
@@ -35,8 +35,9 @@ use Rattle.nf_words.specs.declared.request.Wanted.TheVariants.{Get}
 use Rattle.nf_words.specs.declared.request.Words.{Words}
 use Rattle.nf_words.proofs.Orders.{none_of}
 use Rattle.nf_promises.specs.Kept.{get_of}
-use Rattle.filesd.specs.OneFile.{IsFileOf}
-use Rattle.filesd.specs.Session.{first_book}
+use Rattle.nf_defs.proofs.Blobs.{put_at}
+use Rattle.nf_told.specs.Told.{Told}
+use Rattle.filesd.specs.OneFile.{IsFileOf, fresh_book}
 
 abbrev secret : List ℕ
 secret = sha256 (codes "alice-1")
@@ -80,5 +81,10 @@ hello_granted seat now words =
     ap (λ (refusal : Option Denial). answered_by (unless_refused refusal (allowed_of call))) (none_of rules unshared call pass)
     ∙ ap (λ (p : Places). answered_by (Ok (given s.tables now (asker_of call) (Get spot) p))) places
 
-pub hello_is_file : IsFileOf first_book (Token secret) spot hello
-hello_is_file = record { blob = 1; granted = hello_granted; there = λ some. refl }
+pub hello_is_file : (told : Told) (faults : ℕ) → IsFileOf (fresh_book told faults) (Token secret) spot hello
+hello_is_file told faults = record {
+  blob = 1;
+  granted = hello_granted;
+  given = omega arith;
+  there = λ some. put_at told.blobs 1 hello;
+}

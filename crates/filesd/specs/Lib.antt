@@ -1,7 +1,7 @@
-pub mod Command
-pub mod Desk
-pub mod OneFile
-pub mod Session
 pub mod Statuses
-pub mod Stepping
-pub mod Store
+pub mod Outside
+pub mod Opening
+pub mod Session
+pub mod Init
+pub mod Reopening
+pub mod OneFile

@@ -1,13 +1,14 @@
 -- The plainest run, said without its session: one GET of a file that is there.
-use Rattle.std.specs.Prelude.{◌≡◌, ◌⊎◌, ℕ, ◌<◌, List, [], ◌∷◌, ◌++◌, codes, length, Option, Some, Ok, IfSome}
+use Rattle.std.specs.Prelude.{◌≡◌, ◌⊎◌, ℕ, min, ◌+◌, ◌-◌, ◌^◌, ◌<◌, ◌≤◌, List, [], ◌∷◌, ◌++◌, codes, length, Some, Ok, IfSome}
 use Rattle.sha2.specs.Sha256.{sha256}
 use Rattle.httparse.specs.Grammar.{RequestHead, print_request}
 use Rattle.nf_dav.specs.Reply.{file_head, refusal_reply}
+use Rattle.nf_defs.specs.Blobs.{blob_at}
 use Rattle.nf_http.specs.Head.{closes_session, head_of}
-use Rattle.nf_laws.specs.Wholes.{blob_at}
 use Rattle.nf_promises.specs.Kept.{Prints, get_of}
 use Rattle.nf_server.specs.Book.{Book, state_of}
-use Rattle.nf_site.specs.Demo.{hello}
+use Rattle.nf_site.specs.Demo.{demo_rows, hello}
+use Rattle.nf_told.specs.Told.{Told}
 use Rattle.nf_words.specs.Endings.{blob_for, content_in}
 use Rattle.nf_words.specs.Step.{answer_to}
 use Rattle.nf_words.specs.declared.answer.Denial.TheVariants as denial
@@ -18,30 +19,41 @@ use Rattle.nf_words.specs.declared.request.Caller.{Caller}
 use Rattle.nf_words.specs.declared.request.Caller.TheVariants.{Token}
 use Rattle.nf_words.specs.declared.request.Spot.{Spot}
 use Rattle.nf_words.specs.declared.request.Words.{Words}
+use Rattle.filesd.specs.Opening.{told_opened}
+use Rattle.filesd.specs.Outside.{Outside}
 use Rattle.filesd.specs.Session.{first_book}
-use Rattle.filesd.specs.declared.running.Status.{Status}
-use Rattle.filesd.specs.declared.running.Status.TheVariants as exit
+use Rattle.filesd.specs.declared.status.Status.{Status}
+use Rattle.filesd.specs.declared.status.Status.TheVariants as exit
 
--- the caller's GET of that path is granted, at any moment, the content of these bytes under a blob's number, and they are that
--- blob's; an empty file has no blob
+-- the caller's GET of that path is granted, at any moment, the content of these bytes under a blob's number that was given, and they are
+-- that blob's; an empty file has no blob
 pub record IsFileOf (b : Book) (caller : Caller) (spot : Spot) (body : List ℕ) : Type 0 where
   pub blob : ℕ
   pub granted : (seat now : ℕ) (words : Words)
       → answer_to (state_of b) seat now (Begin words (get_of caller spot))
       ≡ Ok (Granted (Serve (content_in (blob_for blob (length body)) (sha256 body) (length body))))
+  pub given : blob < (state_of b).tables.meta.next_blob
   pub there : 0 < length body → IfSome b.told (λ shelf. blob_at shelf blob ≡ Some body)
 
--- where the input is one GET of a file of these bytes and no more, and the run was done, its output is that file and no more, or that
--- there was no memory
-abbrev pub ServesOneFile : Status → Option (List ℕ) → Option (List ℕ) → Option (List ℕ) → Type 0
-ServesOneFile exit.Done (Some input) (Some before) (Some output) =
-    (h : RequestHead) (caller : Caller) (spot : Spot) (body : List ℕ)
-    → Prints h (get_of caller spot) → IsFileOf first_book caller spot body → input ≡ print_request h
+-- what the seat knows when a run begins over a keeper that tells that it has no rows: the demonstration rows and their blob
+abbrev pub fresh_book : Told → ℕ → Book
+fresh_book told faults = first_book demo_rows (told_opened [] (Some told)) faults
+
+-- where the input is one GET of a file of these bytes and no more, over a keeper without rows, and the run was done, its output is that
+-- file and no more; or that there was no memory; or that the store failed, and then the keeper counted that (or counts no further)
+abbrev pub ServesOneFile : {C : Type 0} → Outside C → Outside C → Status → Type 0
+ServesOneFile a b status =
+    (told : Told) (input before output : List ℕ) (h : RequestHead) (caller : Caller) (spot : Spot) (body : List ℕ)
+    → a.told ≡ Some told → told.rows ≡ [] → a.left ≡ Some input → a.written ≡ Some before → b.written ≡ Some output
+    → status ≡ exit.Done
+    → Prints h (get_of caller spot) → IsFileOf (fresh_book told a.faults) caller spot body → input ≡ print_request h
     → (output ≡ before ++ (file_head (closes_session (head_of h)) (length body) ++ body))
     ⊎ (output ≡ before ++ refusal_reply (closes_session (head_of h)) denial.Memory)
-ServesOneFile status input before output = Unit {0}
+    ⊎ ((output ≡ before ++ refusal_reply (closes_session (head_of h)) denial.Store) × (min (a.faults + 1) (2 ^ 64 - 1) ≤ b.faults))
 
 -- the demonstration file is one, for its owner's token
 abbrev pub HelloIsServed : Type 0
 HelloIsServed =
-    IsFileOf first_book (Token (sha256 (codes "alice-1"))) (record { user = Some (codes "alice"); path = codes "hello.txt" ∷ [] }) hello
+    (told : Told) (faults : ℕ)
+    → IsFileOf (fresh_book told faults) (Token (sha256 (codes "alice-1")))
+    (record { user = Some (codes "alice"); path = codes "hello.txt" ∷ [] }) hello

@@ -1,12 +1,12 @@
-//! One session, from the bytes of requests to the bytes of answers: the top call `run`.
+//! The top call: what the words of the command line ask for, over a keeper, from the bytes of requests to the bytes of answers.
 #![tactic(auto)]
 
-mod desk;
 pub mod laws;
+mod opening;
 mod running;
-mod store;
+mod status;
 #[cfg(test)]
 mod tests;
 
-pub use desk::Desk;
-pub use running::{Status, run};
+pub use running::{Finished, run};
+pub use status::{RowsFault, Status};

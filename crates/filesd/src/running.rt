@@ -1,153 +1,166 @@
 //! The top call.
 
-ghost use Rattle.std.specs.Prelude.{◌≡◌, ◌≢◌, ◌↔◌, [], map, IfSome, IsTrue};
+ghost use Rattle.std.specs.Prelude.{◌≡◌, ◌≢◌, ◌≤◌, ◌⊎◌, ℕ, List, map, IfSome, None, Some};
 ghost use Rattle.std.specs.String.{string_bytes};
+ghost use Rattle.nf_base.specs.Naming.{IsName};
+ghost use Rattle.nf_command.specs.Command.{IsBatch, IsCommand, IsInit};
+ghost use Rattle.nf_command.specs.First.{first_rows, init_rows};
+ghost use Rattle.nf_command.specs.Reading.{IsNearlyInit};
+ghost use Rattle.nf_desk.specs.Desk.{book_of};
 ghost use Rattle.nf_outside.specs.Causes.{Rose};
-ghost use Rattle.nf_site.specs.Demo.{demo_rows};
-ghost use Rattle.nf_site.specs.Kept.{IsHistory};
-ghost use Rattle.nf_words.specs.Sound.{IsSound};
-ghost use Rattle.filesd.specs.Command.{IsBatch};
+ghost use Rattle.nf_rules.specs.Rules.{most_quota};
+ghost use Rattle.nf_server.specs.Book.{held};
+ghost use Rattle.filesd.specs.Init.{Inits, IsSomeDigest};
 ghost use Rattle.filesd.specs.OneFile.{ServesOneFile};
-ghost use Rattle.filesd.specs.Session.{DoesNothing, Runs, outside, status_of as status_by};
-ghost use Rattle.filesd.specs.Statuses.{code_of, word_of};
-ghost use Rattle.filesd.specs.declared.running.Status.TheVariants as exit;
+ghost use Rattle.filesd.specs.Outside.{outlet, outside};
+ghost use Rattle.filesd.specs.Reopening.{Leaves, Pays};
+ghost use Rattle.filesd.specs.Session.{DoesNothing, Runs};
+ghost use Rattle.filesd.specs.declared.status.Status.TheVariants as exit;
 
-use crate::desk::Desk;
+use crate::opening::{demonstration, status_of as status_of_fault};
+use crate::status::{Status, status_of};
+use nf_command::{Command, Init, command_of, init_rows};
+use nf_desk::{Desk, First, Opening, Unopened};
+use nf_http::send;
+use nf_keeper::Keeper;
 use nf_outside::{Clock, Sink, Source};
-use nf_server::{Ended, serve_session};
+use nf_server::serve_session;
 use nf_site::Site;
-use std::alloc::{AllocError, Global};
+use std::alloc::Global;
 
-/// How a run ended.
-#[derive(Clone, Copy, Debug, PartialEq, Eq)]
-pub enum Status {
-    /// The command was done.
-    Done,
-    /// The input failed, and counted it.
-    ReadFault,
-    /// The output failed, and counted it.
-    WriteFault,
-    /// The words are no command.
-    Words,
-    /// The bytes were no message, or ended inside one.
-    BadMessage,
-    /// A file that was being sent broke off, since the store had not all of it.
-    Cut,
-    /// There was no memory.
-    Memory,
-    /// The run has no room for two more entries.
-    RunFull,
-    /// 10,000 messages were answered, and none ended the session.
-    Budget,
-    /// What a message asked for isn't built yet.
-    NotBuilt,
+/// What is left of a run: how it ended, the keeper, and the site, if one was opened.
+#[derive(Drop)]
+pub struct Finished<K: Drop> {
+    pub status: Status,
+    pub keeper: K,
+    pub site: Option<Site>,
 }
 
-impl Status {
-    /// The exit status of the program.
-    pub fn code(self) -> u8
-        ensures { result ≡ code_of self }
-    {
-        match self {
-            Status::Done => 0,
-            Status::ReadFault => 1,
-            Status::WriteFault => 2,
-            Status::Words => 5,
-            Status::BadMessage => 6,
-            Status::Cut => 7,
-            Status::Memory => 9,
-            Status::RunFull => 10,
-            Status::Budget => 11,
-            Status::NotBuilt => 12,
-        }
-    }
-
-    /// What the program says of it.
-    pub fn word(self) -> &'static str
-        ensures { result.now ≡ word_of self }
-    {
-        match self {
-            Status::Done => "done",
-            Status::ReadFault => "readfault",
-            Status::WriteFault => "writefault",
-            Status::Words => "words",
-            Status::BadMessage => "badmessage",
-            Status::Cut => "cut",
-            Status::Memory => "memory",
-            Status::RunFull => "runfull",
-            Status::Budget => "budget",
-            Status::NotBuilt => "notbuilt",
-        }
-    }
-}
-
-/// The status of a session's end.
-fn status_of(end: Option<Ended>) -> Status
-    ensures { result ≡ status_by end }
-{
-    match end {
-        None => Status::Budget,
-        Some(Ended::Closed) => Status::Done,
-        Some(Ended::BadMessage) => Status::BadMessage,
-        Some(Ended::NotBuilt) => Status::NotBuilt,
-        Some(Ended::RunFull) => Status::RunFull,
-        Some(Ended::Cut(_)) => Status::Cut,
-        Some(Ended::ReadFault) => Status::ReadFault,
-        Some(Ended::WriteFault) => Status::WriteFault,
-        Some(Ended::Memory) => Status::Memory,
-    }
-}
-
-/// What the program does: `batch` serves the input and the output as one session over the demonstration rows.
+/// What the program does by its words: `batch` serves the input and the output as one session over the rows that the keeper has, or over
+/// the demonstration rows, which it stores first where the keeper has none. `init` stores the rows of one administrator.
 ///
-/// The site after the run is handed out with its history, but where no session was begun.
-pub fn run<S: Source, O: Sink, C: Clock>(
+/// The site after the run is handed out with its history, but where none was opened.
+pub fn run<S: Source, O: Sink, K: Keeper + Drop, C: Clock>(
     alloc: Global,
     words: &[String],
     input: &mut S,
     output: &mut O,
+    keeper: K,
     clock: &mut C,
-) -> (Status, Option<Site>)
-    ensures words { (result.0 ≡ exit.Words) ↔ (IsBatch (map string_bytes words.now) → ⊥) }
-    ensures session { IsBatch (map string_bytes words.now) → Runs C.reads
-        (outside S.Ends O.Ends input.old output.old clock.old)
-        (outside S.Ends O.Ends input.new output.new clock.new) result.0 result.1 }
-    ensures nothing { (IsBatch (map string_bytes words.now) → ⊥) → DoesNothing
-        (outside S.Ends O.Ends input.old output.old clock.old)
-        (outside S.Ends O.Ends input.new output.new clock.new) result.1 }
+) -> Finished<K>
+    ensures words { result.status ≡ exit.Words → IsCommand (map string_bytes words.now) → ⊥ }
+    // Memory can be wanting for the name of an `init` that is right but for its name.
+    ensures no_command { (IsCommand (map string_bytes words.now) → ⊥)
+        → (result.status ≡ exit.Words) ⊎ ((result.status ≡ exit.Memory) × IsNearlyInit (map string_bytes words.now)) }
+    ensures batch { IsBatch (map string_bytes words.now) → Runs C.reads
+        (outside S.Ends O.Ends K.Keeper input.old output.old keeper clock.old)
+        (outside S.Ends O.Ends K.Keeper input.new output.new result.keeper clock.new) result.status result.site }
+    ensures init { (name token : List ℕ) (quota : ℕ) → IsInit (map string_bytes words.now) name token quota → Inits (init_rows name token quota)
+        (outside S.Ends O.Ends K.Keeper input.old output.old keeper clock.old)
+        (outside S.Ends O.Ends K.Keeper input.new output.new result.keeper clock.new) result.status result.site }
+    ensures nothing { (IsCommand (map string_bytes words.now) → ⊥) → DoesNothing
+        (outside S.Ends O.Ends K.Keeper input.old output.old keeper clock.old)
+        (outside S.Ends O.Ends K.Keeper input.new output.new result.keeper clock.new) result.site }
 
-    // The entries are one legal history from the demonstration rows, the site is what they made, and its state is sound.
-    ensures opening { IfSome result.1 (λ site. site.kept.opening ≡ demo_rows) }
-    ensures history { IfSome result.1 (λ site. IsHistory site.kept) }
-    ensures sound { IfSome result.1 (λ site. IsSound site.kept.state) }
-    // What was granted is ended, however the run ended.
-    ensures idle { IfSome result.1 (λ site. site.kept.state.tickets ≡ []) }
-    ensures room { result.0 ≢ exit.RunFull }
+    // The site at the end, and what the keeper tells then: its rows, and blobs that are whole for it.
+    ensures leaves { IfSome result.site (λ site. Leaves site.kept (K.told result.keeper)) }
+    ensures paid { IfSome result.site (λ site. Pays site.kept (K.faults keeper) (K.faults result.keeper)) }
+    ensures room { result.status ≢ exit.RunFull }
 
     // One GET of a file, said without the session.
-    ensures one_file { IsBatch (map string_bytes words.now) → ServesOneFile result.0
-        (S.left input.old) (O.written output.old) (O.written output.new) }
+    ensures one_file { IsBatch (map string_bytes words.now) → ServesOneFile
+        (outside S.Ends O.Ends K.Keeper input.old output.old keeper clock.old)
+        (outside S.Ends O.Ends K.Keeper input.new output.new result.keeper clock.new) result.status }
 
-    ensures read { result.0 ≡ exit.ReadFault → Rose (S.read_faults input.old) (S.read_faults input.new) }
-    ensures write { result.0 ≡ exit.WriteFault → Rose (O.write_faults output.old) (O.write_faults output.new) }
+    ensures read { result.status ≡ exit.ReadFault → Rose (S.read_faults input.old) (S.read_faults input.new) }
+    ensures write { result.status ≡ exit.WriteFault → Rose (O.write_faults output.old) (O.write_faults output.new) }
+    ensures store { result.status ≡ exit.StoreFault → Rose (K.faults keeper) (K.faults result.keeper) }
 {
-    if !is_batch(words) {
-        return (Status::Words, None);
-    }
-    match Desk::demo(alloc) {
-        Ok(mut desk) => {
-            let end = serve_session(alloc, input, output, clock, &mut desk);
-            (status_of(end), Some(desk.into_site()))
-        }
-        Err(AllocError) => (Status::Memory, None),
+    match command_of(alloc, words) {
+        Ok(Some(Command::Batch)) => batch(alloc, input, output, keeper, clock),
+        Ok(Some(Command::Init(init))) => initialize(alloc, &init, output, keeper),
+        Ok(None) => unopened(Status::Words, keeper),
+        Err(_) => unopened(Status::Memory, keeper),
     }
 }
 
-fn is_batch(words: &[String]) -> bool
-    ensures { IsTrue result ↔ IsBatch (map string_bytes words.now) }
+/// One session over what the keeper has.
+fn batch<S: Source, O: Sink, K: Keeper + Drop, C: Clock>(
+    alloc: Global,
+    input: &mut S,
+    output: &mut O,
+    keeper: K,
+    clock: &mut C,
+) -> Finished<K>
+    ensures runs { Runs C.reads
+        (outside S.Ends O.Ends K.Keeper input.old output.old keeper clock.old)
+        (outside S.Ends O.Ends K.Keeper input.new output.new result.keeper clock.new) result.status result.site }
+    ensures leaves { IfSome result.site (λ site. Leaves site.kept (K.told result.keeper)) }
+    ensures paid { IfSome result.site (λ site. Pays site.kept (K.faults keeper) (K.faults result.keeper)) }
+    ensures room { result.status ≢ exit.RunFull }
 {
-    match words {
-        [word] => word.as_str() == "batch",
-        _ => false,
+    let first = match demonstration(alloc) {
+        Ok(first) => first,
+        Err(_) => return unopened(Status::Memory, keeper),
+    };
+    match Desk::open(alloc, keeper, Opening::Either(first)) {
+        Ok(mut desk) => {
+            let end = serve_session(alloc, input, output, clock, &mut desk);
+            handed_out(status_of(end), desk)
+        }
+        Err(Unopened { fault, keeper }) => unopened(status_of_fault(fault), keeper),
+    }
+}
+
+/// Stores the rows of the first administrator, and says so.
+fn initialize<O: Sink, K: Keeper + Drop>(
+    alloc: Global,
+    init: &Init,
+    output: &mut O,
+    keeper: K,
+) -> Finished<K>
+    requires name { IsName init.now.name }
+    requires quota { init.now.quota ≤ most_quota }
+    requires token { IsSomeDigest init.now.token }
+    ensures inits { Inits (first_rows init.now.name init.now.token init.now.quota)
+        (outlet O.Ends K.Keeper output.old keeper) (outlet O.Ends K.Keeper output.new result.keeper) result.status result.site }
+    ensures leaves { IfSome result.site (λ site. Leaves site.kept (K.told result.keeper)) }
+    ensures paid { IfSome result.site (λ site. Pays site.kept (K.faults keeper) (K.faults result.keeper)) }
+{
+    let rows = match init_rows(alloc, init) {
+        Ok(rows) => rows,
+        Err(_) => return unopened(Status::Memory, keeper),
+    };
+    match Desk::open(alloc, keeper, Opening::Fresh(First { rows, blob: None })) {
+        Ok(desk) => match send(output, b"ready\n") {
+            Ok(()) => handed_out(Status::Done, desk),
+            Err(_) => handed_out(Status::WriteFault, desk),
+        },
+        Err(Unopened { fault, keeper }) => unopened(status_of_fault(fault), keeper),
+    }
+}
+
+fn handed_out<K: Keeper + Drop>(status: Status, desk: Desk<K>) -> Finished<K>
+    requires idle { held (book_of desk.site.kept (K.told desk.keeper) (K.faults desk.keeper)) ≡ None }
+    ensures status { result.status ≡ status }
+    ensures keeper { result.keeper ≡ desk.keeper }
+    ensures site { result.site ≡ Some desk.site }
+    ensures leaves { Leaves desk.site.kept (K.told desk.keeper) }
+{
+    let (site, keeper) = desk.into_parts();
+    Finished {
+        status,
+        keeper,
+        site: Some(site),
+    }
+}
+
+fn unopened<K: Keeper + Drop>(status: Status, keeper: K) -> Finished<K>
+    ensures { result ≡ record { status = status; keeper = keeper; site = None } }
+{
+    Finished {
+        status,
+        keeper,
+        site: None,
     }
 }

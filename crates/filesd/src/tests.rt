@@ -1,13 +1,9 @@
 //! What no case of the suite can say: other words, faults of the outside, a PUT that is cut and read again, and the longest body.
 
-ghost use Rattle.std.specs.Prelude.{◌≡◌, None};
-ghost use Rattle.nf_server.specs.Book.{held};
-ghost use Rattle.filesd.specs.Desk.{book_in};
-
-use crate::desk::Desk;
-use crate::running::{Status, run};
+use crate::running::{Finished, run};
+use crate::status::Status;
+use nf_keeper::MemKeeper;
 use nf_outside::{ListClock, MemSink, MemSource};
-use nf_server::{Ended, serve_session};
 use std::alloc::{AllocError, Global};
 use std::test::Fail;
 
@@ -28,21 +24,48 @@ fn source(alloc: Global, text: &str) -> Result<MemSource, AllocError> {
     ))
 }
 
+fn words_of(alloc: Global, words: &[&str]) -> Result<Vec<String>, AllocError> {
+    let mut list = Vec::new(alloc);
+    for word in words {
+        list.push(String::from_str(alloc, word)?)?;
+    }
+    Ok(list)
+}
+
+/// A run of `batch` over a keeper, and what it wrote.
+fn batch(
+    alloc: Global,
+    keeper: MemKeeper,
+    input: MemSource,
+) -> Result<(Finished<MemKeeper>, Vec<u8>), Fail> {
+    let words = words_of(alloc, &["batch"])?;
+    let mut input = input;
+    let mut output = MemSink::new(alloc, Vec::new(alloc));
+    let mut clock = ListClock::new(Vec::new(alloc));
+    let finished = run(alloc, &words, &mut input, &mut output, keeper, &mut clock);
+    Ok((finished, output.bytes().to_vec(alloc)?))
+}
+
 #[test]
 fn other_words_are_no_command(rt: HostRuntime) -> Result<(), Fail> {
     let alloc = rt.alloc();
-    let cases: [&[&str]; 5] = [&[], &[""], &["Batch"], &["batch "], &["batch", "batch"]];
+    let cases: [&[&str]; 6] = [
+        &[],
+        &[""],
+        &["Batch"],
+        &["batch", "batch"],
+        &["init", "ann", "secret", "01"],
+        &["--help"],
+    ];
     for case in cases {
-        let mut words = Vec::new(alloc);
-        for word in case {
-            words.push(String::from_str(alloc, word)?)?;
-        }
+        let words = words_of(alloc, case)?;
         let mut input = source(alloc, GET_HELLO)?;
         let mut output = MemSink::new(alloc, Vec::new(alloc));
         let mut clock = ListClock::new(Vec::new(alloc));
-        let (status, site) = run(alloc, &words, &mut input, &mut output, &mut clock);
-        assert_eq!(rt; status, Status::Words, "at {case:?}");
-        assert!(rt; site.is_none());
+        let keeper = MemKeeper::new(alloc, &[])?;
+        let finished = run(alloc, &words, &mut input, &mut output, keeper, &mut clock);
+        assert!(rt; finished.status == Status::Words, "at {case:?}");
+        assert!(rt; finished.site.is_none());
     }
     Ok(())
 }
@@ -66,35 +89,24 @@ fn faults_of_the_outside(rt: HostRuntime) -> Result<(), Fail> {
         );
         let mut output = MemSink::in_pieces(alloc, vec![in alloc; 5]?, vec![in alloc; write]?);
         let mut clock = ListClock::new(Vec::new(alloc));
-        let words = vec![in alloc; String::from_str(alloc, "batch")?]?;
-        let (ended, site) = run(alloc, &words, &mut input, &mut output, &mut clock);
-        assert_eq!(rt; ended, status);
+        let words = words_of(alloc, &["batch"])?;
+        let keeper = MemKeeper::new(alloc, &[])?;
+        let finished = run(alloc, &words, &mut input, &mut output, keeper, &mut clock);
+        assert!(rt; finished.status == status);
         assert_eq!(rt; output.bytes().len(), count);
-        assert!(rt; site.is_some());
+        assert!(rt; finished.site.is_some());
     }
     Ok(())
-}
-
-/// One session over a desk, to its end.
-fn served(alloc: Global, desk: &mut Desk, text: &str) -> Result<(Option<Ended>, Vec<u8>), Fail>
-    requires { held (book_in desk.old) ≡ None }
-    ensures { held (book_in desk.new) ≡ None }
-{
-    let mut input = source(alloc, text)?;
-    let mut output = MemSink::new(alloc, Vec::new(alloc));
-    let mut clock = ListClock::new(Vec::new(alloc));
-    let end = serve_session(alloc, &mut input, &mut output, &mut clock, desk);
-    Ok((end, output.bytes().to_vec(alloc)?))
 }
 
 #[test]
 fn a_put_that_is_cut_stores_nothing(rt: HostRuntime) -> Result<(), Fail> {
     let alloc = rt.alloc();
-    let mut desk = Desk::demo(alloc)?;
-    let (end, _) = served(alloc, &mut desk, PUT_HELLO)?;
-    assert!(rt; end == Some(Ended::BadMessage));
-    let (end, bytes) = served(alloc, &mut desk, GET_HELLO)?;
-    assert!(rt; end == Some(Ended::Closed));
+    let keeper = MemKeeper::new(alloc, &[])?;
+    let (finished, _) = batch(alloc, keeper, source(alloc, PUT_HELLO)?)?;
+    assert!(rt; finished.status == Status::BadMessage);
+    let (finished, bytes) = batch(alloc, finished.keeper, source(alloc, GET_HELLO)?)?;
+    assert!(rt; finished.status == Status::Done);
     assert_eq!(rt; bytes.as_slice(), HELLO.as_bytes());
     Ok(())
 }
@@ -108,12 +120,9 @@ fn the_longest_body_is_stored_and_read(rt: HostRuntime) -> Result<(), Fail> {
     let mut bytes = head.as_bytes().to_vec(alloc)?;
     bytes.extend_from_slice(&body)?;
     bytes.extend_from_slice(GET_HELLO.as_bytes())?;
-    let mut input = MemSource::new(bytes, Vec::new(alloc), Vec::new(alloc));
-    let mut output = MemSink::new(alloc, Vec::new(alloc));
-    let mut clock = ListClock::new(Vec::new(alloc));
-    let words = vec![in alloc; String::from_str(alloc, "batch")?]?;
-    let (status, _site) = run(alloc, &words, &mut input, &mut output, &mut clock);
-    assert_eq!(rt; status, Status::Done);
-    assert!(rt; output.bytes().ends_with(&body));
+    let input = MemSource::new(bytes, Vec::new(alloc), Vec::new(alloc));
+    let (finished, written) = batch(alloc, MemKeeper::new(alloc, &[])?, input)?;
+    assert!(rt; finished.status == Status::Done);
+    assert!(rt; written.ends_with(&body));
     Ok(())
 }

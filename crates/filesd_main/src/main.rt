@@ -2,6 +2,7 @@
 #![tactic(auto)]
 
 use filesd::{Status, run};
+use nf_keeper::MemKeeper;
 use nf_outside::{Input, Output, RealClock};
 use std::env;
 use std::process::ExitCode;
@@ -26,8 +27,18 @@ fn serve(rt: &HostRuntime) -> Status {
         return Status::Memory;
     };
     let mut clock = RealClock::new(clock);
-    let (status, _site) = run(rt.alloc(), &words, &mut input, &mut output, &mut clock);
-    status
+    let Ok(keeper) = MemKeeper::new(rt.alloc(), &[]) else {
+        return Status::Memory;
+    };
+    run(
+        rt.alloc(),
+        &words,
+        &mut input,
+        &mut output,
+        keeper,
+        &mut clock,
+    )
+    .status
 }
 
 // The words after the program's own name.

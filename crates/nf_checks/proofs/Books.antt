@@ -1,9 +1,5 @@
 -- What two books know after the same calls.
 use Rattle.std.proofs.Common.{◌≡◌, ℕ, ◌+◌, ◌<◌, ◌≤◌, List, [], ◌∷◌, ◌++◌, refl, sym, ◌∙◌, ap, subst, arith, length, max, Ok, Err, append-nil, length-append}
-use Rattle.std.specs.Option.{IfSome}
-use Rattle.std.specs.declared.option.Option.{Option}
-use Rattle.std.specs.declared.option.Option.TheVariants.{None, Some}
-use Rattle.nf_base.specs.declared.content.Piece.{Piece}
 use Rattle.nf_words.specs.History.{LeavesRoom, answer_at, most_entries, replay}
 use Rattle.nf_words.specs.State.{State, opened}
 use Rattle.nf_words.specs.declared.answer.Denial.TheVariants as denial
@@ -14,8 +10,8 @@ use Rattle.nf_words.specs.declared.history.Mark.{Mark}
 use Rattle.nf_words.specs.declared.history.Mark.TheVariants as mark
 use Rattle.nf_words.specs.declared.request.Request.{Request}
 use Rattle.nf_words.specs.declared.request.Words.{Words}
-use Rattle.nf_laws.specs.Wholes.{Blobs, blob_at}
-use Rattle.nf_server.specs.Book.{Answer, Begins, Book, Enters, IsPiece, TellsStill, Waits, entries_wanted, state_after, state_of}
+use Rattle.nf_server.specs.Book.{Answer, Begins, Book, Enters, Lasts, Waits, entries_wanted, state_after, state_of}
+use Rattle.nf_server.proofs.Lasting.{lasts_same, lasts_then}
 use Rattle.nf_checks.specs.Alike.{IsAlone, IsCalmAnswer, KnowSame}
 
 -- ---- one book
@@ -37,38 +33,27 @@ know_next a b c d k p q = record {
   own = q.own ∙ k.own ∙ sym p.own;
 }
 
--- the seat's entries are among those that are known, and what the store told is told still
+-- the seat's entries are among those that are known, and what every call keeps is kept
 pub record Grows (a b : Book) : Type 0 where
   pub counts : length a.known + length b.own ≤ length b.known + length a.own
-  pub told : TellsStill a.told b.told
-
-tells_self : (told : Option Blobs) → TellsStill told told
-tells_self None = refl
-tells_self (Some shelf) = λ id bytes there. there
-
-tells_on : (a m b : Option Blobs) → TellsStill a m → TellsStill m b → TellsStill a b
-tells_on None None b p q = q
-tells_on None (Some m) b p q = absurd (cc)
-tells_on (Some a) None b p q = absurd p
-tells_on (Some a) (Some m) None p q = absurd q
-tells_on (Some a) (Some m) (Some b) p q = λ id bytes there. q id bytes (p id bytes there)
+  pub lasts : Lasts a b
 
 pub grows_self : (a b : Book) → b ≡ a → Grows a b
 grows_self a b e =
     let known = ap (λ (z : Book). length z.known) e in
     let own = ap (λ (z : Book). length z.own) e in
-    record { counts = omega arith; told = subst (λ (z : Book). TellsStill a.told z.told) (sym e) (tells_self a.told) }
+    record { counts = omega arith; lasts = lasts_same a b e }
 
 pub grows_on : (a m b : Book) → Grows a m → Grows m b → Grows a b
 grows_on a m b p q = record {
   counts = omega (arith, p.counts, q.counts);
-  told = tells_on a.told m.told b.told p.told q.told;
+  lasts = lasts_then a m b p.lasts q.lasts;
 }
 
 pub waits_grow : (a b : Book) → Waits a b → Grows a b
 waits_grow a b w = record {
   counts = omega (arith, ap length w.own, ap length w.known.1, length-append a.known w.known.0);
-  told = w.lasts.told;
+  lasts = w.lasts;
 }
 
 pub enters_grow : (a b : Book) (now : ℕ) (event : Event) (answer : Answer) → Enters a b now event answer → Grows a b
@@ -81,22 +66,7 @@ enters_grow a b now event answer e = record {
     length-append (a.known ++ e.others) (e.entry ∷ []),
     length-append a.known e.others,
   );
-  told = e.lasts.told;
-}
-
--- so a piece stays one
-piece_told : (a b : Option Blobs) (id : ℕ) (bytes : List ℕ) → TellsStill a b
-    → IfSome a (λ shelf. blob_at shelf id ≡ Some bytes) → IfSome b (λ shelf. blob_at shelf id ≡ Some bytes)
-piece_told None None id bytes still there = tt
-piece_told None (Some b) id bytes still there = absurd (cc)
-piece_told (Some a) None id bytes still there = absurd still
-piece_told (Some a) (Some b) id bytes still there = still id bytes there
-
-pub piece_on : (a b : Book) (piece : Piece) (bytes : List ℕ) → Grows a b → IsPiece a piece bytes → IsPiece b piece bytes
-piece_on a b piece bytes g p = record {
-  size = p.size;
-  digest = p.digest;
-  told = piece_told a.told b.told piece.blob bytes g.told p.told;
+  lasts = e.lasts;
 }
 
 -- ---- alone
@@ -170,7 +140,7 @@ data Fate (a b : Book) (now : ℕ) (words : Words) (request : Request) (x : Answ
 fate : (a b : Book) (now : ℕ) (words : Words) (request : Request) (x : Answer)
     → Begins a b now words request x → IsCalmAnswer x → Fate a b now words request x
 fate a b now words request (Ok reply) begins calm = made begins.entry
-fate a b now words request (Err denial.RunFull) begins calm = unmade refl begins.entry (begins.full refl)
+fate a b now words request (Err denial.RunFull) begins calm = unmade refl begins.entry.waits (begins.full refl)
 fate a b now words request (Err denial.Memory) begins calm = absurd calm
 fate a b now words request (Err refusal) begins calm = made begins.entry
 

@@ -4,11 +4,13 @@ use Rattle.std.specs.Io.KnownBytes.{Appends}
 use Rattle.std.specs.Option.{IfSome}
 use Rattle.std.specs.declared.option.Option.{Option}
 use Rattle.std.specs.declared.option.Option.TheVariants.{Some}
-use Rattle.nf_laws.specs.Wholes.{blob_at}
+use Rattle.nf_defs.specs.Blobs.{blob_at}
+use Rattle.nf_server.specs.Book.{TellsPiece}
 use Rattle.nf_server.specs.Steps.{Scene}
+use Rattle.nf_server.proofs.Lasting.{piece_lasts}
 use Rattle.nf_checks.specs.Alike.{Clash, IsAlone, StoresAgree}
 use Rattle.nf_checks.proofs.Basics.{appends_on, appends_self, told_more}
-use Rattle.nf_checks.proofs.Books.{Grows, grows_on, grows_self, piece_on}
+use Rattle.nf_checks.proofs.Books.{Grows, grows_on, grows_self}
 
 pub record Goes {C : Type 0} (a b : Scene C) : Type 0 where
   pub book : Grows a.book b.book
@@ -48,8 +50,8 @@ clash_on a b c d g h clash = record {
   piece = clash.piece;
   one = clash.one;
   other = clash.other;
-  given = piece_on a.book b.book clash.piece clash.one g.book clash.given;
-  also = piece_on c.book d.book clash.piece clash.other h.book clash.also;
+  given = piece_lasts a.book b.book clash.piece clash.one g.book.lasts clash.given;
+  also = piece_lasts c.book d.book clash.piece clash.other h.book.lasts clash.also;
   differ = clash.differ;
   front = clash.front;
   rest = clash.rest ++ g.bytes;
@@ -77,7 +79,7 @@ clash_back b d clash = record {
 pub no_clash : {C : Type 0} (b d : Scene C) → StoresAgree b.book d.book → Clash b d → ⊥
 no_clash b d (one, other, e, f, agree) clash =
     let given : blob_at one clash.piece.blob ≡ Some clash.one =
-    subst (λ z. IfSome z (λ shelf. blob_at shelf clash.piece.blob ≡ Some clash.one)) e clash.given.told in
+    (subst (λ z. IfSome z (TellsPiece b.book clash.piece clash.one)) e clash.given.told).there in
     let also : blob_at other clash.piece.blob ≡ Some clash.other =
-    subst (λ z. IfSome z (λ shelf. blob_at shelf clash.piece.blob ≡ Some clash.other)) f clash.also.told in
+    (subst (λ z. IfSome z (TellsPiece d.book clash.piece clash.other)) f clash.also.told).there in
     clash.differ (agree clash.piece.blob clash.one clash.other given also)

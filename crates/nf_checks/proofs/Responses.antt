@@ -111,7 +111,7 @@ pieces_same {C = C} a b c d close content first other xs ys same p q e alone als
 
 -- a file that is sent whole
 abbrev Whole : {C : Type 0} → Bool → List Piece → Option (Vec ℕ Global) → Scene C → Scene C → Type 0
-Whole close content first a b = (given : List (List ℕ)) × WritesPieces close content first a b given × (length given ≡ length content)
+Whole close content first a b = SendsFile {T = Unit {0}} close content first a b (Ok tt)
 
 ahead : (out head front one rest : List ℕ)
     → out ++ (head ++ (front ++ one ++ rest)) ≡ (out ++ (head ++ front)) ++ one ++ rest
@@ -149,7 +149,7 @@ files_same : {C : Type 0} (a b c d : Scene C) (close : Bool) (content : List Pie
     (first other : Option (Vec ℕ Global))
     → AreSame a c → Whole close content first a b → Whole close content other c d
     → IsAlone a.book b.book → IsAlone c.book d.book → AreSame b d ⊎ Clash b d
-files_same a b c d close content first other same (xs, p, n) (ys, q, m) alone also =
+files_same a b c d close content first other same (xs, p, n, calm) (ys, q, m, still) alone also =
     end (given_same b.book d.book content xs ys p.pieces.are_given q.pieces.are_given (n ∙ sym m))
   where
     end : (xs ≡ ys) ⊎ Differ b.book d.book xs ys → AreSame b d ⊎ Clash b d

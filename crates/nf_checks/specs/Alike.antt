@@ -3,9 +3,9 @@
 use Rattle.std.specs.Prelude.{◌≡◌, ◌≢◌, ◌⊎◌, ℕ, ◌+◌, ◌==◌, Bool, false, List, [], ◌∷◌, ◌++◌, length, Option, None, Some, Ok, Err}
 use mathlib.Core.Logic.{inl, inr}
 use Rattle.nf_base.specs.declared.content.Piece.{Piece}
+use Rattle.nf_defs.specs.Blobs.{Blobs, blob_at}
 use Rattle.nf_words.specs.declared.answer.Denial.{Denial}
 use Rattle.nf_words.specs.declared.answer.Denial.TheVariants as denial
-use Rattle.nf_laws.specs.Wholes.{Blobs, blob_at}
 use Rattle.nf_server.specs.Book.{Answer, Book, IsPiece}
 use Rattle.nf_server.specs.Session.{Session, Through}
 use Rattle.nf_server.specs.Steps.{Scene}
@@ -43,9 +43,10 @@ pub record AreSame {C : Type 0} (a b : Scene C) : Type 0 where
 abbrev pub IsSteady : {C : Type 0} → (C → ℕ → C → Type 0) → Type 0
 IsSteady {C} reads = (c : C) (n m : ℕ) (d e : C) → reads c n d → reads c m e → (n ≡ m) × (d ≡ e)
 
--- a denial that tells of no failure of the store and no want of memory
+-- a denial that tells of no failure of the store, no damage and no want of memory
 abbrev pub IsCalmDenial : Denial → Type 0
 IsCalmDenial denial.Store = ⊥
+IsCalmDenial (denial.Damaged damage) = ⊥
 IsCalmDenial denial.Memory = ⊥
 IsCalmDenial other = Unit {0}
 

@@ -27,6 +27,7 @@ status_of denial.TooLarge = codes "413 Payload Too Large"
 status_of denial.Body = codes "415 Unsupported Media Type"
 status_of denial.Head = codes "431 Request Header Fields Too Large"
 status_of denial.Store = codes "500 Internal Server Error"
+status_of (denial.Damaged damage) = codes "500 Internal Server Error"
 status_of denial.RunFull = codes "500 Internal Server Error"
 status_of denial.Coding = codes "501 Not Implemented"
 status_of denial.NotBuilt = codes "501 Not Implemented"
@@ -48,6 +49,7 @@ reason_of denial.TooLarge = codes "too-large"
 reason_of denial.Body = codes "body"
 reason_of denial.Head = codes "head"
 reason_of denial.Store = codes "store"
+reason_of (denial.Damaged damage) = codes "damaged"
 reason_of denial.RunFull = codes "run-full"
 reason_of denial.Coding = codes "coding"
 reason_of denial.NotBuilt = codes "not-built"
@@ -97,6 +99,8 @@ refusal_object (denial.BadName f) =
     object (member (codes "fault") (string (fault_word f)) (member (codes "reason") (string (codes "bad-name")) no_members))
 refusal_object (denial.BadTarget cause) =
     object (member (codes "cause") (string (cause_word cause)) (member (codes "reason") (string (codes "bad-target")) no_members))
+refusal_object (denial.Damaged damage) =
+    object (member (codes "blob") (number (unsigned damage.blob)) (member (codes "reason") (string (codes "damaged")) no_members))
 refusal_object (denial.Limit l) =
     object
     (member (codes "count") (number (unsigned (count_of l)))

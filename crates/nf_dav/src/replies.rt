@@ -95,6 +95,10 @@ fn refusal_value(alloc: Global, denial: &Denial) -> Result<Value, AllocError>
             let cause = cause_word(*cause);
             json!(in alloc; {"cause": cause, "reason": reason})
         }
+        Denial::Damaged(damage) => {
+            let blob = damage.blob.number();
+            json!(in alloc; {"blob": blob, "reason": reason})
+        }
         Denial::Limit(limit) => {
             let count = limit.count();
             let which = limit_word(*limit);
@@ -133,7 +137,7 @@ fn status(denial: &Denial) -> &'static str
         Denial::TooLarge => "413 Payload Too Large",
         Denial::Body => "415 Unsupported Media Type",
         Denial::Head => "431 Request Header Fields Too Large",
-        Denial::Store | Denial::RunFull => "500 Internal Server Error",
+        Denial::Store | Denial::Damaged(_) | Denial::RunFull => "500 Internal Server Error",
         Denial::Coding | Denial::NotBuilt => "501 Not Implemented",
         Denial::Memory => "503 Service Unavailable",
         Denial::Limit(_) => "507 Insufficient Storage",
@@ -157,6 +161,7 @@ fn reason(denial: &Denial) -> &'static str
         Denial::Body => "body",
         Denial::Head => "head",
         Denial::Store => "store",
+        Denial::Damaged(_) => "damaged",
         Denial::RunFull => "run-full",
         Denial::Coding => "coding",
         Denial::NotBuilt => "not-built",

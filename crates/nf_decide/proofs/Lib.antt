@@ -1,4 +1,3 @@
 pub mod Climbs
 pub mod Contents
-pub mod Loads
-pub mod Puts
+pub mod Openings

@@ -1,4 +1,3 @@
 pub mod Rows
-pub mod Rising
 pub mod Current
 pub mod Deciding

@@ -3,6 +3,7 @@
 ghost use Rattle.std.specs.Prelude.{◌≡◌, IfOk, Some, false, bytes_eq, option_and_then, option_copied, option_map};
 ghost use Rattle.std.specs.Option.{option_map_or};
 ghost use Rattle.nf_defs.specs.Access.{unshared};
+ghost use Rattle.nf_defs.specs.People.{user_row};
 ghost use Rattle.nf_defs.specs.Tree.{found_from, is_folder, is_root};
 ghost use Rattle.nf_words.specs.Calls.{asker_of, caller_row, places_of, user_of};
 ghost use Rattle.nf_words.specs.Callers.{not_you_rule, token_rule};
@@ -17,7 +18,6 @@ use crate::acting::{deleted, made_folder, served, stored};
 use crate::asked::{lost, node_at, source_of, spot_of, target_of};
 use crate::limits::{limit_at, pieces_of};
 use crate::nodes::{find, is_folder, is_root};
-use crate::people::{holder_of, user_row};
 use crate::state::State;
 use crate::tables::Tables;
 use nf_base::{Moment, Name, NodeId, UserId, UserRow};
@@ -74,8 +74,12 @@ impl<'a> Call<'a> {
         ensures asker { IfOk result (λ seen. seen.asker ≡ asker_of self.entry.now) }
         ensures places { IfOk result (λ seen. seen.places ≡ places_of self.entry.now) }
     {
-        let user = self.token()?;
-        let caller = user_row(self.state.tables().users(), user);
+        // No `?` here: the check finds no proof of one over a number beside a refusal.
+        let user = match self.token() {
+            Ok(user) => user,
+            Err(refusal) => return Err(refusal),
+        };
+        let caller = self.row(user);
         self.not_you(caller)?;
         self.forbidden()?;
         let places = self.places(caller);
@@ -213,8 +217,14 @@ impl<'a> Call<'a> {
     {
         match &self.request.caller {
             Caller::Absent => None,
-            Caller::Token(digest) => holder_of(self.state.tables().tokens(), digest),
+            Caller::Token(digest) => self.state.tables().people().caller(digest),
         }
+    }
+
+    fn row(&self, user: UserId) -> Option<&UserRow>
+        ensures { option_copied result ≡ user_row self.entry.now.state.tables.users user }
+    {
+        self.state.tables().people().row(user)
     }
 
     /// Where the paths lead, from the caller's root.

@@ -1,15 +1,18 @@
 //! The state of the site, and the changes that steps make to it.
 
 ghost use Rattle.std.specs.Prelude.{◌≡◌, ◌≤◌, ◌==◌, not, filter, vec_capacity, length, [], ◌∷◌, ◌++◌, find, IfOk, OnOk, Ok, option_copied};
+ghost use Rattle.nf_defs.specs.Tables.{rows_of};
 ghost use Rattle.nf_words.specs.Changes.{applied};
 ghost use Rattle.nf_words.specs.History.{failed};
-ghost use Rattle.nf_words.specs.State.{opened, ticket_for, ticket_of};
+ghost use Rattle.nf_words.specs.State.{ticket_for, ticket_of};
 ghost use Rattle.nf_words.specs.Step.{stepped_by};
 ghost use Rattle.nf_decide.specs.Current.{BearsAct, FitsAct, FitsTicket};
+ghost use Rattle.nf_rules.specs.Ruled.{AreRuled};
 ghost use Rattle.nf_decide.specs.Rows.{FitsNode};
 
 use crate::tables::Tables;
-use nf_base::{Moment, Row};
+use nf_base::{Moment, RowList};
+use nf_opening::Loaded;
 use nf_words::{Allowed, Event, Goal, Ticket};
 use std::alloc::{AllocError, Global};
 use std::marker::Model;
@@ -35,16 +38,25 @@ impl Model for State {
 }
 
 impl State {
-    pub fn open(alloc: Global, rows: &[Row]) -> Result<Self, AllocError>
-        ensures { IfOk result (λ current. current.state ≡ opened rows.now) }
+    /// The state of rows that were loaded, before any step.
+    pub fn open(alloc: Global, loaded: Loaded) -> Result<Self, AllocError>
+        requires { AreRuled loaded }
+        ensures { IfOk result (λ current. current.state ≡ record { tables = loaded; tickets = []; seen = loaded.meta.last }) }
     {
-        let tables = Tables::of(alloc, rows)?;
+        let tables = Tables::of(alloc, loaded)?;
         let seen = tables.meta().last;
         Ok(State {
             tables,
             tickets: Vec::new(alloc),
             seen,
         })
+    }
+
+    /// All rows, by rising kind and key.
+    pub fn rows(&self, alloc: Global) -> Result<RowList, AllocError>
+        ensures { IfOk result (λ list. list ≡ rows_of self.now.state.tables) }
+    {
+        self.tables.rows(alloc)
     }
 
     pub fn tables(&self) -> &Tables

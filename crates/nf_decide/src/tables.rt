@@ -1,43 +1,34 @@
-//! The rows of the site in memory, each kind in the order of its keys.
+//! The rows of the site in memory.
 
-ghost use Rattle.std.specs.Prelude.{◌≡◌, ◌+◌, ◌≤◌, IfOk, OnOk};
+ghost use Rattle.std.specs.Prelude.{◌≡◌, ◌+◌, ◌≤◌, ◌++◌, map, IfOk, OnOk};
 ghost use Rattle.std.specs.Option.{ForSome};
-ghost use Rattle.nf_defs.specs.Tables.{put_row, tables_of, no_rows};
+ghost use Rattle.nf_base.specs.declared.rows.Row.TheVariants as kinds;
+ghost use Rattle.nf_defs.specs.Tables.{rows_of};
 ghost use Rattle.nf_words.specs.Changes.{blob_after, changed};
 ghost use Rattle.nf_words.specs.Limits.{last_number};
 ghost use Rattle.nf_words.specs.declared.answer.Allowed.TheVariants as allowed;
 ghost use Rattle.nf_decide.specs.Current.{HasNumbers, TakesBody};
-ghost use Rattle.nf_decide.specs.Rising.{AreRising};
+ghost use Rattle.nf_rules.specs.Ruled.{AreRuled};
 ghost use Rattle.nf_decide.specs.Rows.{FitsNode};
 
-use crate::keyed::put;
 use crate::nodes::{is_filled, remove, replace};
-use nf_base::{
-    BlobId, ChunkRow, Content, GroupId, GroupRow, ItemRow, MemberRow, MetaRow, Moment, MountRow,
-    NodeId, NodeRow, Row, ShareId, ShareRow, TokenRow, UploadRow, UserId, UserRow, VersionRow,
-};
+use nf_base::{BlobId, Content, MetaRow, Moment, NodeId, NodeRow, Row, RowList};
+use nf_opening::Loaded;
+use nf_people::{People, PeopleRows};
 use nf_words::NodeIds;
 use std::alloc::{AllocError, Global};
 use std::marker::Model;
 
+/// The rows of each kind that is built; there are none of the others.
 #[derive(Drop)]
 pub struct Tables {
     meta: MetaRow,
-    users: Vec<UserRow>,
-    tokens: Vec<TokenRow>,
-    groups: Vec<GroupRow>,
-    members: Vec<MemberRow>,
+    people: People,
     nodes: Vec<NodeRow>,
-    shares: Vec<ShareRow>,
-    mounts: Vec<MountRow>,
-    versions: Vec<VersionRow>,
-    items: Vec<ItemRow>,
-    uploads: Vec<UploadRow>,
-    chunks: Vec<ChunkRow>,
 }
 
 impl Model for Tables {
-    ghost use Rattle.std.specs.Prelude.{vec_capacity};
+    ghost use Rattle.std.specs.Prelude.{vec_capacity, []};
     ghost use Rattle.nf_decide.specs.Rows.{Rows};
 
     ghost Value = { Rows };
@@ -46,57 +37,41 @@ impl Model for Tables {
       room = vec_capacity t.nodes;
       tables = record {
         meta = t.meta;
-        users = t.users.items;
-        tokens = t.tokens.items;
-        groups = t.groups.items;
-        members = t.members.items;
+        users = t.people.users;
+        tokens = t.people.tokens;
+        groups = t.people.groups;
+        members = t.people.members;
         nodes = t.nodes.items;
-        shares = t.shares.items;
-        mounts = t.mounts.items;
-        versions = t.versions.items;
-        items = t.items.items;
-        uploads = t.uploads.items;
-        chunks = t.chunks.items;
+        shares = [];
+        mounts = [];
+        versions = [];
+        items = [];
+        uploads = [];
+        chunks = [];
       };
     } };
 }
 
 impl Tables {
-    fn new(alloc: Global) -> Self
-        ensures { result.tables ≡ no_rows }
+    /// The tables of rows that were loaded.
+    pub(crate) fn of(alloc: Global, loaded: Loaded) -> Result<Self, AllocError>
+        requires { AreRuled loaded }
+        ensures { IfOk result (λ held. held.tables ≡ loaded) }
     {
-        Tables {
-            meta: MetaRow {
-                next_user: UserId::new(1),
-                next_group: GroupId::new(1),
-                next_node: NodeId::new(1),
-                next_share: ShareId::new(1),
-                next_blob: BlobId::new(1),
-                last: Moment::new(0),
+        let people = People::load(
+            alloc,
+            PeopleRows {
+                users: loaded.users,
+                tokens: loaded.tokens,
+                groups: loaded.groups,
+                members: loaded.members,
             },
-            users: Vec::new(alloc),
-            tokens: Vec::new(alloc),
-            groups: Vec::new(alloc),
-            members: Vec::new(alloc),
-            nodes: Vec::new(alloc),
-            shares: Vec::new(alloc),
-            mounts: Vec::new(alloc),
-            versions: Vec::new(alloc),
-            items: Vec::new(alloc),
-            uploads: Vec::new(alloc),
-            chunks: Vec::new(alloc),
-        }
-    }
-
-    /// The tables of some rows, in whatever order they are.
-    pub(crate) fn of(alloc: Global, rows: &[Row]) -> Result<Self, AllocError>
-        ensures { IfOk result (λ held. held.tables ≡ tables_of rows.now) }
-    {
-        let mut tables = Tables::new(alloc);
-        for row in rows {
-            tables.put(row.copy()?)?;
-        }
-        Ok(tables)
+        )?;
+        Ok(Tables {
+            meta: loaded.meta,
+            people,
+            nodes: loaded.nodes,
+        })
     }
 
     pub(crate) fn meta(&self) -> &MetaRow
@@ -105,16 +80,13 @@ impl Tables {
         &self.meta
     }
 
-    pub(crate) fn users(&self) -> &[UserRow]
-        ensures { result.now ≡ self.now.tables.users }
+    pub(crate) fn people(&self) -> &People
+        ensures users { result.now.users ≡ self.now.tables.users }
+        ensures tokens { result.now.tokens ≡ self.now.tables.tokens }
+        ensures groups { result.now.groups ≡ self.now.tables.groups }
+        ensures members { result.now.members ≡ self.now.tables.members }
     {
-        &self.users
-    }
-
-    pub(crate) fn tokens(&self) -> &[TokenRow]
-        ensures { result.now ≡ self.now.tables.tokens }
-    {
-        &self.tokens
+        &self.people
     }
 
     pub(crate) fn nodes(&self) -> &[NodeRow]
@@ -180,29 +152,33 @@ impl Tables {
         self.meta.last = moment;
     }
 
-    /// Puts a row at its place, in place of the one with its key if there is one.
-    fn put(&mut self, row: Row) -> Result<(), AllocError>
-        requires { AreRising self.old.tables }
-        ensures { OnOk result (self.new.tables ≡ put_row self.old.tables row) }
+    /// All rows, by rising kind and key.
+    pub(crate) fn rows(&self, alloc: Global) -> Result<RowList, AllocError>
+        ensures { IfOk result (λ list. list ≡ rows_of self.now.tables) }
     {
-        match row {
-            Row::Meta(row) => {
-                self.meta = row;
-                Ok(())
-            }
-            Row::User(row) => put(&mut self.users, row),
-            Row::Token(row) => put(&mut self.tokens, row),
-            Row::Group(row) => put(&mut self.groups, row),
-            Row::Member(row) => put(&mut self.members, row),
-            Row::Node(row) => put(&mut self.nodes, row),
-            Row::Share(row) => put(&mut self.shares, row),
-            Row::Mount(row) => put(&mut self.mounts, row),
-            Row::Version(row) => put(&mut self.versions, row),
-            Row::Item(row) => put(&mut self.items, row),
-            Row::Upload(row) => put(&mut self.uploads, row),
-            Row::Chunk(row) => put(&mut self.chunks, row),
-        }
+        let mut list = RowList::new(alloc);
+        list.push(Row::Meta(self.meta))?;
+        self.people.push_rows(&mut list)?;
+        push_nodes(&mut list, &self.nodes)?;
+        Ok(list)
     }
+}
+
+/// An equal node.
+fn copy(node: &NodeRow) -> Result<NodeRow, AllocError>
+    ensures { IfOk result (λ copy. copy ≡ node.now) }
+{
+    node.clone()
+}
+
+/// Puts nodes at the end of a list of rows.
+fn push_nodes(list: &mut RowList, nodes: &[NodeRow]) -> Result<(), AllocError>
+    ensures { OnOk result (list.new ≡ list.old ++ map kinds.Node nodes.now) }
+{
+    for node in nodes {
+        list.push(Row::Node(copy(node)?))?;
+    }
+    Ok(())
 }
 
 /// The next blob, where that one is stored or none.

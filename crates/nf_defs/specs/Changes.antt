@@ -1,5 +1,5 @@
 -- What a step changes, told as a list.
-use Rattle.std.specs.Prelude.{ℕ, List, [], ◌∷◌, ◌++◌, length}
+use Rattle.std.specs.Prelude.{◌≢◌, ℕ, List, [], ◌∷◌, ◌++◌, length}
 use Rattle.nf_base.specs.declared.changes.Change.{Change}
 use Rattle.nf_base.specs.declared.changes.Change.TheVariants.{Put, Drop}
 use Rattle.nf_base.specs.declared.changes.RowKey.{RowKey}
@@ -49,3 +49,8 @@ made t (Drop key) = drop_row t key
 abbrev pub put_all : Tables → List Change → Tables
 put_all t [] = t
 put_all t (change ∷ changes) = put_all (made t change) changes
+
+-- no drop of the meta row, since there always is one
+abbrev pub IsDroppable : Change → Type 0
+IsDroppable (Put row) = Unit {0}
+IsDroppable (Drop key) = key ≢ keys.Meta

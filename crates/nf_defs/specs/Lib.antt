@@ -1,6 +1,8 @@
 pub mod Keys
 pub mod Puts
 pub mod Tables
+pub mod Rising
+pub mod Blobs
 pub mod Changes
 pub mod Access
 pub mod People

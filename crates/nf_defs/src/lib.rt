@@ -1,6 +1,11 @@
 //! What the rows of the site mean: the words that its definitions share.
 #![tactic(auto)]
 
+mod keyed;
+mod lookup;
+
+pub use keyed::{Keyed, put, put_reserved};
+pub use lookup::{FoundBy, drop_row, has_row, place_of, row_of};
 use nf_base::{Moment, NodeId, Perms, ShareId, UserId};
 
 /// What a path leads to.

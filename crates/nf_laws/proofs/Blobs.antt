@@ -1,17 +1,23 @@
--- Whole blobs stay whole.
-use Rattle.std.proofs.Common.{◌≡◌, ℕ, ◌+◌, ◌<◌, ◌==◌, ◌&&◌, Bool, true, false, not, List, [], ◌∷◌, ◌++◌, length, Result, Ok, Err, refl, sym, ap, subst, ◌∙◌, arith}
+-- Whole blobs stay whole, and what is stored has the next number.
+use Rattle.std.proofs.Common.{◌≡◌, ℕ, ◌<◌, ◌==◌, ◌&&◌, Bool, true, false, not, List, [], ◌∷◌, length, get_or, Result, Ok, Err, inl, inr, refl, sym, ap, subst, ◌∙◌, arith}
 use Rattle.std.specs.Prelude.{Option, None, Some, if◌then◌else◌}
 use Rattle.std.specs.List.{All}
 use Rattle.std.specs.Option.{IfSome, option_map_or}
-use Rattle.std.proofs.lemmas.Bool.{and_parts, eq-eqb, eqb-true, ne_eqb, false≢true}
-use Rattle.std.proofs.lemmas.List.Elements.{All-cons, All-nil, All-push, All-tail, All-head, All-weaker, All-filter}
-use Rattle.std.proofs.lemmas.Option.{none-some, same_Some}
+use Rattle.std.proofs.lemmas.Bool.{and_parts, eqb-true, false≢true}
+use Rattle.std.proofs.lemmas.List.Elements.{All-cons, All-nil, All-push, All-tail, All-head, All-filter}
+use Rattle.std.proofs.lemmas.Option.{none-some}
 use Rattle.sha2.specs.Sha256.{sha256}
 use Rattle.nf_base.specs.Content.{content_eq}
 use Rattle.nf_base.specs.declared.changes.Change.{Change}
+use Rattle.nf_base.specs.declared.changes.Change.TheVariants.{Put}
 use Rattle.nf_base.specs.declared.content.Piece.{Piece}
+use Rattle.nf_base.specs.declared.rows.MetaRow.{MetaRow}
 use Rattle.nf_base.specs.declared.rows.NodeRow.{NodeRow}
+use Rattle.nf_base.specs.declared.rows.Row.{Row}
+use Rattle.nf_base.specs.declared.rows.Row.TheVariants as rows
+use Rattle.nf_defs.specs.Blobs.{Blobs, blob_at, put_blob, with_blob}
 use Rattle.nf_defs.specs.Tables.{Tables}
+use Rattle.nf_defs.proofs.Blobs.{new_at, put_at, put_elsewhere, still_at}
 use Rattle.nf_defs.specs.Tree.{content_of, is_folder_kind, node_row}
 use Rattle.nf_defs.specs.Access.{unshared}
 use Rattle.nf_defs.specs.declared.Found.{Found}
@@ -23,11 +29,11 @@ use Rattle.nf_words.specs.Calls.{asker_of, last_name, places_of}
 use Rattle.nf_words.specs.Changes.{allowed_of, altered, blob_after, blob_of, changed, deleted, given, goal_of, is_among, made_folder, refilled, served, stamped, stored, told, with_content, with_goal}
 use Rattle.nf_words.specs.Endings.{blob_for, content_in, end_refusal, ends_goal, ends_ticket, stored_at, unless_refused}
 use Rattle.nf_words.specs.History.{MayAsk, after_mark, failed}
-use Rattle.nf_words.specs.Sound.{AreSound, IsNodeSound, IsPieceSound, IsSound}
-use Rattle.nf_words.specs.State.{State, ticket_for, ticket_of}
+use Rattle.nf_words.specs.Sound.{AreSound, IsGoalSound, IsNodeSound, IsPieceSound, IsSound}
+use Rattle.nf_words.specs.State.{State, ticket_for, ticket_of, without_ticket}
 use Rattle.nf_words.specs.Places.{node_at}
 use Rattle.nf_words.specs.Rules.{refusal_of}
-use Rattle.nf_words.specs.Step.{blob_by, call_of, decided, decision_of, step, without}
+use Rattle.nf_words.specs.Step.{blob_by, blob_to, call_of, decided, decision_of, step}
 use Rattle.nf_words.specs.declared.answer.Allowed.{Allowed}
 use Rattle.nf_words.specs.declared.answer.Allowed.TheVariants as allowed
 use Rattle.nf_words.specs.declared.answer.Denial.{Denial}
@@ -49,85 +55,79 @@ use Rattle.nf_words.specs.declared.request.Words.{Words}
 use Rattle.nf_words.specs.declared.request.Wanted.{Wanted}
 use Rattle.nf_words.specs.declared.request.Wanted.TheVariants as wanted
 use Rattle.nf_words.proofs.Known.{Known, IsOfBody, found_has, known_change}
-use Rattle.nf_laws.specs.Wholes.{AreBelow, Blobs, BlobsAreNew, Brings, IsGoalThere, IsThere, IsWhole, StaysWhole, blob_at, blob_under, with_blob}
+use Rattle.nf_laws.proofs.Rows.{stamped_has}
+use Rattle.nf_laws.specs.Wholes.{BlobsAreNew, Brings, IsGoalHeld, IsHeld, IsThere, IsWhole, StaysWhole, blob_in, blob_under}
 
--- ---- the bytes under a number, with one more blob
+-- ---- pieces whose bytes stay
 
-new_there : (blobs : Blobs) (id : ℕ) (bytes : List ℕ) → AreBelow id blobs → blob_at (blobs ++ (id, bytes) ∷ []) id ≡ Some bytes
-new_there [] id bytes below = rw (eq-eqb id id refl) refl
-new_there (blob ∷ blobs) id bytes below =
-    let less : blob.0 < id = All-head (λ (blob : ℕ × List ℕ). blob.0 < id) blob blobs below in
-    rw (ne_eqb blob.0 id (λ e. absurd (omega arith)))
-    (new_there blobs id bytes (All-tail (λ (blob : ℕ × List ℕ). blob.0 < id) blob blobs below))
+-- a piece whose bytes are the same is there still
+pub kept_there : (blobs more : Blobs) (piece : Piece) → blob_at more piece.blob ≡ blob_at blobs piece.blob
+    → IsThere blobs piece → IsThere more piece
+kept_there blobs more piece same is = record { bytes = is.bytes; there = same ∙ is.there; size = is.size; digest = is.digest }
 
-still_there : (blobs : Blobs) (id other : ℕ) (bytes more : List ℕ) → blob_at blobs other ≡ Some more
-    → blob_at (blobs ++ (id, bytes) ∷ []) other ≡ Some more
-still_there [] id other bytes more is = absurd (none-some more is)
-still_there (blob ∷ blobs) id other bytes more is = here (blob.0 == other) refl is (λ is. still_there blobs id other bytes more is)
-  where
-    here : (a : Bool) → (blob.0 == other) ≡ a → blob_at (blob ∷ blobs) other ≡ Some more
-        → (blob_at blobs other ≡ Some more → blob_at (blobs ++ (id, bytes) ∷ []) other ≡ Some more)
-        → blob_at ((blob ∷ blobs) ++ (id, bytes) ∷ []) other ≡ Some more
-    here true e is rest = simp e (simp e at is)
-    here false e is rest = simp e (rest (simp e at is))
+-- and a damaged one damaged still
+pub kept_held : (opening : List Row) (blobs more : Blobs) (piece : Piece) → blob_at more piece.blob ≡ blob_at blobs piece.blob
+    → IsHeld opening blobs piece → IsHeld opening more piece
+kept_held opening blobs more piece same (inl there) = inl (kept_there blobs more piece same there)
+kept_held opening blobs more piece same (inr damaged) =
+    inr (record { named = damaged.named; broken = λ there. damaged.broken (kept_there more blobs piece (sym same) there) })
 
--- what stood under a number stands there still
-pub still_at : (blobs : Blobs) (blob : Option ℕ) (body : List ℕ) (id : ℕ) (bytes : List ℕ) → blob_at blobs id ≡ Some bytes
-    → blob_at (with_blob blobs blob body) id ≡ Some bytes
-still_at blobs None body id bytes is = is
-still_at blobs (Some new) body id bytes is = still_there blobs new id body bytes is
+-- ---- numbers that were given keep their bytes
 
--- and a new blob's bytes under its number
-pub new_at : (blobs : Blobs) (blob : Option ℕ) (body : List ℕ) (id : ℕ) → blob ≡ Some id → AreBelow id blobs
-    → blob_at (with_blob blobs blob body) id ≡ Some body
-new_at blobs None body id is below = absurd (none-some id is)
-new_at blobs (Some new) body id is below =
-    let same = same_Some new id is in
-    subst (λ (n : ℕ). blob_at (with_blob blobs (Some n) body) id ≡ Some body) (sym same) (new_there blobs id body below)
+-- a blob that is stored has the next number
+abbrev IsNext : ℕ → Option ℕ → Type 0
+IsNext next None = Unit {0}
+IsNext next (Some id) = id ≡ next
 
--- what was there is there still
-pub kept_there : (blobs : Blobs) (blob : Option ℕ) (body : List ℕ) (piece : Piece) → IsThere blobs piece → IsThere (with_blob blobs blob body) piece
-kept_there blobs None body piece is = is
-kept_there blobs (Some id) body piece is =
-    record { bytes = is.bytes; there = still_there blobs id piece.blob body is.bytes is.there; size = is.size; digest = is.digest }
+abbrev KeepsGiven : ℕ → Blobs → Blobs → Type 0
+KeepsGiven next blobs more = (id : ℕ) → id < next → blob_at more id ≡ blob_at blobs id
 
-kept_all : (blobs : Blobs) (blob : Option ℕ) (body : List ℕ) (pieces : List Piece)
-    → All (IsThere blobs) pieces → All (IsThere (with_blob blobs blob body)) pieces
-kept_all blobs blob body pieces all =
-    All-weaker (IsThere blobs) (IsThere (with_blob blobs blob body)) (λ piece. kept_there blobs blob body piece) pieces all
+given_kept : (next : ℕ) (blobs : Blobs) (blob : Option ℕ) (body : List ℕ) → IsNext next blob → KeepsGiven next blobs (with_blob blobs blob body)
+given_kept next blobs None body is = λ id less. refl
+given_kept next blobs (Some new) body is = λ id less. put_elsewhere blobs new body id (λ e. absurd (omega (arith, e, is, less)))
+
+body_next : (meta : MetaRow) (blob : Option ℕ) (content : List Piece) → IsOfBody meta blob content → IsNext meta.next_blob blob
+body_next meta None content of_body = tt
+body_next meta (Some id) content of_body = of_body.0
+
+act_next : (t : Tables) (now : ℕ) (who : Option ℕ) (act : Allowed) → Known t now who act → IsNext t.meta.next_blob (blob_of act)
+act_next t now who (allowed.Get node content) known = tt
+act_next t now who (allowed.Put by key size) known = tt
+act_next t now who (allowed.StoreNew row blob) known = body_next t.meta blob row.content known.new.content
+act_next t now who (allowed.StoreOver node content blob) known = body_next t.meta blob content known.brought.content
+act_next t now who (allowed.Mkcol row) known = tt
+act_next t now who (allowed.Delete nodes) known = tt
+act_next t now who allowed.Close known = tt
+
+-- so pieces of given numbers stay held
+pieces_kept : (t : Tables) (opening : List Row) (blobs more : Blobs) (pieces : List Piece) → KeepsGiven t.meta.next_blob blobs more
+    → All (IsPieceSound t) pieces → All (IsHeld opening blobs) pieces → All (IsHeld opening more) pieces
+pieces_kept t opening blobs more pieces keeps sound held = λ k d within.
+    let piece = get_or pieces k d in
+    kept_held opening blobs more piece (keeps piece.blob (sound k d within).given) (held k d within)
+
+-- what the row names is held
+abbrev IsRowHeld : List Row → Blobs → NodeRow → Type 0
+IsRowHeld opening blobs row = All (IsHeld opening blobs) row.content
+
+nodes_kept : (t : Tables) (opening : List Row) (blobs more : Blobs) → KeepsGiven t.meta.next_blob blobs more
+    → All (IsNodeSound t) t.nodes → All (IsRowHeld opening blobs) t.nodes → All (IsRowHeld opening more) t.nodes
+nodes_kept t opening blobs more keeps sound held = λ k d within.
+    pieces_kept t opening blobs more (get_or t.nodes k d).content keeps (sound k d within).pieces (held k d within)
 
 -- ---- what a body brings
 
-record Brought (next : ℕ) (blobs : Blobs) (body : List ℕ) (blob : Option ℕ) (content : List Piece) : Type 0 where
-  below : AreBelow (blob_after next blob) (with_blob blobs blob body)
-  there : All (IsThere (with_blob blobs blob body)) content
-  fresh : (id : ℕ) → blob ≡ Some id → AreBelow id blobs
-
-brought_none : (next : ℕ) (blobs : Blobs) (body : List ℕ) → AreBelow next blobs → Brought next blobs body None []
-brought_none next blobs body below =
-    record { below = below; there = All-nil (IsThere blobs); fresh = λ id is. absurd (none-some id is) }
-
-brought_some : (next : ℕ) (blobs : Blobs) (body : List ℕ) → AreBelow next blobs
-    → Brought next blobs body (Some next) (content_in (Some next) (sha256 body) (length body))
-brought_some next blobs body below =
-    let more : Blobs = blobs ++ (next, body) ∷ [] in
-    record {
-      below = All-push (λ (blob : ℕ × List ℕ). blob.0 < next + 1) blobs (next, body)
-          (All-weaker (λ (blob : ℕ × List ℕ). blob.0 < next) (λ (blob : ℕ × List ℕ). blob.0 < next + 1) (λ blob less. omega arith) blobs below)
-          (omega arith);
-      there = All-cons (IsThere more) _ []
-          (record { bytes = body; there = new_there blobs next body below; size = refl; digest = refl }) (All-nil (IsThere more));
-      fresh = λ id is. subst (λ (n : ℕ). AreBelow n blobs) (same_Some next id is) below;
-    }
-
-brought : (next : ℕ) (blobs : Blobs) (body : List ℕ) → AreBelow next blobs
-    → Brought next blobs body (blob_for next (length body)) (content_in (blob_for next (length body)) (sha256 body) (length body))
-brought next blobs body below = here (length body == 0) refl
+brought : (next : ℕ) (opening : List Row) (blobs : Blobs) (body : List ℕ)
+    → All (IsHeld opening (with_blob blobs (blob_for next (length body)) body)) (content_in (blob_for next (length body)) (sha256 body) (length body))
+brought next opening blobs body = here (length body == 0) refl
   where
     here : (a : Bool) → (length body == 0) ≡ a
-        → Brought next blobs body (blob_for next (length body)) (content_in (blob_for next (length body)) (sha256 body) (length body))
-    here true e = simp e (brought_none next blobs body below)
-    here false e = simp e (brought_some next blobs body below)
+        → All (IsHeld opening (with_blob blobs (blob_for next (length body)) body)) (content_in (blob_for next (length body)) (sha256 body) (length body))
+    here true e = simp e (All-nil (IsHeld opening blobs))
+    here false e =
+        let more = put_blob blobs next body in
+        simp e (All-cons (IsHeld opening more) _ []
+        (inl (record { bytes = body; there = put_at blobs next body; size = refl; digest = refl })) (All-nil (IsHeld opening more)))
 
 -- an act stores these bytes, if it stores any
 abbrev StoresBody : ℕ → List ℕ → Allowed → Type 0
@@ -143,18 +143,6 @@ StoresBody next body allowed.Close = Unit {0}
 
 -- ---- the tables after an act
 
-abbrev AreThere : Blobs → NodeRow → Type 0
-AreThere blobs row = All (IsThere blobs) row.content
-
-record Holds (t : Tables) (blobs : Blobs) : Type 0 where
-  given : AreBelow t.meta.next_blob blobs
-  nodes : All (AreThere blobs) t.nodes
-
-nodes_kept : (rows : List NodeRow) (blobs : Blobs) (blob : Option ℕ) (body : List ℕ)
-    → All (AreThere blobs) rows → All (AreThere (with_blob blobs blob body)) rows
-nodes_kept rows blobs blob body all =
-    All-weaker (AreThere blobs) (AreThere (with_blob blobs blob body)) (λ row. kept_all blobs blob body row.content) rows all
-
 with_all : (P : NodeRow → Type 0) (rows : List NodeRow) (now node : ℕ) (content : List Piece)
     → ((row : NodeRow) → P (record row { content = content; changed = now })) → All P rows → All P (with_content rows now node content)
 with_all P [] now node content new h = h
@@ -164,37 +152,40 @@ with_all P (row ∷ rows) now node content new h = here (row.id == node) refl (w
     here true e rest = simp e (All-cons P _ rows (new row) (All-tail P row rows h))
     here false e rest = simp e (All-cons P row _ (All-head P row rows h) rest)
 
--- where a body is in its blob, so are the rows that hold it
-altered_holds : (t : Tables) (now : ℕ) (act : Allowed) (blobs : Blobs) (body : List ℕ)
-    → Holds t blobs → StoresBody t.meta.next_blob body act → Holds (altered t now act) (with_blob blobs (blob_of act) body)
-altered_holds t now (allowed.Get node content) blobs body h stores = h
-altered_holds t now (allowed.Put by key size) blobs body h stores = h
-altered_holds t now (allowed.StoreNew row blob) blobs body h stores =
-    let b = brought t.meta.next_blob blobs body h.given in
-    let next = blob_for t.meta.next_blob (length body) in
-    subst (λ (o : Option ℕ). Holds (altered t now (allowed.StoreNew row o)) (with_blob blobs o body)) (sym stores.0)
-    (record {
-      given = b.below;
-      nodes = All-push (AreThere (with_blob blobs next body)) t.nodes row (nodes_kept t.nodes blobs next body h.nodes)
-          (subst (λ (c : List Piece). All (IsThere (with_blob blobs next body)) c) (sym stores.1) b.there);
-    })
-altered_holds t now (allowed.StoreOver node content blob) blobs body h stores =
-    let b = brought t.meta.next_blob blobs body h.given in
-    let next = blob_for t.meta.next_blob (length body) in
-    subst (λ (o : Option ℕ). Holds (altered t now (allowed.StoreOver node content o)) (with_blob blobs o body)) (sym stores.0)
-    (record {
-      given = b.below;
-      nodes = with_all (AreThere (with_blob blobs next body)) t.nodes now node content
-          (λ row. subst (λ (c : List Piece). All (IsThere (with_blob blobs next body)) c) (sym stores.1) b.there)
-          (nodes_kept t.nodes blobs next body h.nodes);
-    })
-altered_holds t now (allowed.Mkcol row) blobs body h stores = record {
-  given = h.given;
-  nodes = All-push (AreThere blobs) t.nodes row h.nodes (subst (λ (c : List Piece). All (IsThere blobs) c) (sym stores) (All-nil (IsThere blobs)));
-}
-altered_holds t now (allowed.Delete nodes) blobs body h stores =
-    record { given = h.given; nodes = All-filter (λ row. not (is_among nodes row.id)) (AreThere blobs) t.nodes h.nodes }
-altered_holds t now allowed.Close blobs body h stores = h
+-- the content of a body is held with it
+stored_held : (next : ℕ) (opening : List Row) (blobs : Blobs) (body : List ℕ) (blob : Option ℕ) (content : List Piece)
+    → blob ≡ blob_for next (length body) → content ≡ content_in (blob_for next (length body)) (sha256 body) (length body)
+    → All (IsHeld opening (with_blob blobs blob body)) content
+stored_held next opening blobs body blob content in_blob in_content =
+    subst (λ (o : Option ℕ). All (IsHeld opening (with_blob blobs o body)) content) (sym in_blob)
+    (subst (λ (c : List Piece). All (IsHeld opening (with_blob blobs (blob_for next (length body)) body)) c) (sym in_content)
+    (brought next opening blobs body))
+
+-- where the old nodes' pieces are held with the body, the new nodes' are
+altered_held : (t : Tables) (now : ℕ) (act : Allowed) (opening : List Row) (blobs : Blobs) (body : List ℕ)
+    → All (IsRowHeld opening (with_blob blobs (blob_of act) body)) t.nodes → StoresBody t.meta.next_blob body act
+    → All (IsRowHeld opening (with_blob blobs (blob_of act) body)) (altered t now act).nodes
+altered_held t now (allowed.Get node content) opening blobs body kept stores = kept
+altered_held t now (allowed.Put by key size) opening blobs body kept stores = kept
+altered_held t now (allowed.StoreNew row blob) opening blobs body kept stores =
+    All-push (IsRowHeld opening (with_blob blobs blob body)) t.nodes row kept
+    (stored_held t.meta.next_blob opening blobs body blob row.content stores.0 stores.1)
+altered_held t now (allowed.StoreOver node content blob) opening blobs body kept stores =
+    with_all (IsRowHeld opening (with_blob blobs blob body)) t.nodes now node content
+    (λ row. stored_held t.meta.next_blob opening blobs body blob content stores.0 stores.1) kept
+altered_held t now (allowed.Mkcol row) opening blobs body kept stores =
+    All-push (IsRowHeld opening blobs) t.nodes row kept
+    (subst (λ (c : List Piece). All (IsHeld opening blobs) c) (sym stores) (All-nil (IsHeld opening blobs)))
+altered_held t now (allowed.Delete nodes) opening blobs body kept stores =
+    All-filter (λ row. not (is_among nodes row.id)) (IsRowHeld opening blobs) t.nodes kept
+altered_held t now allowed.Close opening blobs body kept stores = kept
+
+changed_held : (t : Tables) (now : ℕ) (act : Allowed) (opening : List Row) (blobs : Blobs) (body : List ℕ)
+    → All (IsRowHeld opening (with_blob blobs (blob_of act) body)) t.nodes → StoresBody t.meta.next_blob body act
+    → All (IsRowHeld opening (with_blob blobs (blob_of act) body)) (changed t now act).nodes
+changed_held t now act opening blobs body kept stores =
+    stamped_has (λ (u : Tables). All (IsRowHeld opening (with_blob blobs (blob_of act) body)) u.nodes) t (altered t now act) now (told t now act)
+    kept (altered_held t now act opening blobs body kept stores)
 
 -- ---- an act that changes no row stores nothing
 
@@ -228,7 +219,7 @@ refills t row now content (Some id) sound of_body none =
     (ap (content_eq row.content) of_body.1.4 ∙ differs) none)
   where
     put_something : (a b : Bool) → a ≡ false
-        → (if a && b then [] else Rattle.nf_base.specs.declared.changes.Change.TheVariants.Put (Rattle.nf_base.specs.declared.rows.Row.TheVariants.Node (record row { content = content; changed = now })) ∷ []) ≡ [] → ⊥
+        → (if a && b then [] else Put (rows.Node (record row { content = content; changed = now })) ∷ []) ≡ [] → ⊥
     put_something true b is none = cc
     put_something false b is none = cc
 
@@ -248,15 +239,6 @@ told_blob t now who (allowed.StoreOver node content blob) sound known none = her
 told_blob t now who (allowed.Mkcol row) sound known none = refl
 told_blob t now who (allowed.Delete nodes) sound known none = refl
 told_blob t now who allowed.Close sound known none = refl
-
-changed_holds : (t : Tables) (now : ℕ) (who : Option ℕ) (act : Allowed) (blobs : Blobs) (body : List ℕ)
-    → AreSound t → Known t now who act → StoresBody t.meta.next_blob body act → Holds t blobs
-    → Holds (changed t now act) (with_blob blobs (blob_of act) body)
-changed_holds t now who act blobs body sound known stores h = here (told t now act) refl
-  where
-    here : (changes : List Change) → told t now act ≡ changes → Holds (stamped t (altered t now act) now changes) (with_blob blobs (blob_of act) body)
-    here [] e = subst (λ (o : Option ℕ). Holds t (with_blob blobs o body)) (sym (told_blob t now who act sound known e)) h
-    here (change ∷ changes) e = let more = altered_holds t now act blobs body h stores in record { given = more.given; nodes = more.nodes }
 
 -- ---- what an event stores
 
@@ -327,135 +309,6 @@ decision_stores s seat now (Begin words request) body brings =
     (given_stores s.tables now (asker_of call) body request.wanted (places_of call))
 decision_stores s seat now (End outcome) body brings = ticket_stores s.tables now outcome (ticket_of s seat) body brings
 
--- ---- the tickets
-
-abbrev HasGoalThere : Blobs → Ticket → Type 0
-HasGoalThere blobs ticket = IsGoalThere blobs ticket.goal
-
-goal_kept : (blobs : Blobs) (blob : Option ℕ) (body : List ℕ) (goal : Goal) → IsGoalThere blobs goal → IsGoalThere (with_blob blobs blob body) goal
-goal_kept blobs blob body (Serve content) there = kept_all blobs blob body content there
-goal_kept blobs blob body (Store by key size) there = tt
-
-content_there : (rows : List NodeRow) (blobs : Blobs) (node : ℕ) → All (AreThere blobs) rows → All (IsThere blobs) (content_of rows node)
-content_there rows blobs node all = here (node_row rows node) refl
-  where
-    here : (o : Option NodeRow) → node_row rows node ≡ o → All (IsThere blobs) (option_map_or (λ row. row.content) o [])
-    here None e = All-nil (IsThere blobs)
-    here (Some row) e = subst (λ (o : Option NodeRow). IfSome o (AreThere blobs)) e (found_has (AreThere blobs) (λ row. row.id == node) rows all)
-
-granted_there : (t : Tables) (now : ℕ) (who : Option ℕ) (act : Allowed) (blobs : Blobs) → Known t now who act → All (AreThere blobs) t.nodes
-    → IfSome (goal_of act) (IsGoalThere blobs)
-granted_there t now who (allowed.Get node content) blobs known all =
-    subst (λ (c : List Piece). All (IsThere blobs) c) (sym known.of_node) (content_there t.nodes blobs node all)
-granted_there t now who (allowed.Put by key size) blobs known all = tt
-granted_there t now who (allowed.StoreNew row blob) blobs known all = tt
-granted_there t now who (allowed.StoreOver node content blob) blobs known all = tt
-granted_there t now who (allowed.Mkcol row) blobs known all = tt
-granted_there t now who (allowed.Delete nodes) blobs known all = tt
-granted_there t now who allowed.Close blobs known all = tt
-
-old_there : (tickets : List Ticket) (blobs : Blobs) (blob : Option ℕ) (body : List ℕ)
-    → All (HasGoalThere blobs) tickets → All (HasGoalThere (with_blob blobs blob body)) tickets
-old_there tickets blobs blob body all =
-    All-weaker (HasGoalThere blobs) (HasGoalThere (with_blob blobs blob body)) (λ ticket. goal_kept blobs blob body ticket.goal) tickets all
-
-tickets_there : (tickets : List Ticket) (seat : ℕ) (goal : Option Goal) (blobs : Blobs) (blob : Option ℕ) (body : List ℕ)
-    → All (HasGoalThere blobs) tickets → IfSome goal (IsGoalThere blobs)
-    → All (HasGoalThere (with_blob blobs blob body)) (with_goal tickets seat goal)
-tickets_there tickets seat None blobs blob body all there = old_there tickets blobs blob body all
-tickets_there tickets seat (Some goal) blobs blob body all there =
-    All-push (HasGoalThere (with_blob blobs blob body)) tickets (ticket_for seat goal)
-    (old_there tickets blobs blob body all) (goal_kept blobs blob body goal there)
-
--- ---- the state
-
-decided_whole : (s : State) (seat now : ℕ) (who : Option ℕ) (decision : Result Allowed Denial) (blobs : Blobs) (body : List ℕ) → AreSound s.tables
-    → ((act : Allowed) → decision ≡ Ok act → Known s.tables now who act) → Decides s.tables body decision → IsWhole s blobs
-    → IsWhole (decided s seat now decision) (with_blob blobs (blob_by decision) body)
-decided_whole s seat now who (Ok act) blobs body sound known stores whole =
-    let k = known act refl in
-    let h = changed_holds s.tables now who act blobs body sound k stores (record { given = whole.given; nodes = whole.nodes }) in
-    record {
-      given = h.given;
-      nodes = h.nodes;
-      tickets = tickets_there s.tickets seat (goal_of act) blobs (blob_of act) body whole.tickets
-          (granted_there s.tables now who act blobs k whole.nodes);
-    }
-decided_whole s seat now who (Err refusal) blobs body sound known stores whole = whole
-
-without_whole : (s : State) (seat : ℕ) (event : Event) (blobs : Blobs) → IsWhole s blobs → IsWhole (without s seat event) blobs
-without_whole s seat (Begin words request) blobs whole = whole
-without_whole s seat (End outcome) blobs whole = record {
-  given = whole.given;
-  nodes = whole.nodes;
-  tickets = All-filter (λ ticket. not (ticket.seat == seat)) (HasGoalThere blobs) s.tickets whole.tickets;
-}
-
-tables_without : (s : State) (seat : ℕ) (event : Event) → (without s seat event).tables ≡ s.tables
-tables_without s seat (Begin words request) = refl
-tables_without s seat (End outcome) = refl
-
-step_whole : (s : State) (seat now : ℕ) (event : Event) (body : List ℕ) (blobs : Blobs) → IsSound s → MayAsk s seat event → Brings body event
-    → IsWhole s blobs → IsWhole (step s seat now event) (with_blob blobs (blob_by (decision_of s seat now event)) body)
-step_whole s seat now event body blobs sound asked brings whole =
-    let same = tables_without s seat event in
-    let w = without s seat event in
-    let decision = decision_of s seat now event in
-    let h = decided_whole w seat now (actor_of s seat event) decision blobs body
-    (subst AreSound (sym same) sound.rows)
-    (λ act is. subst (λ (t : Tables). Known t now (actor_of s seat event) act) (sym same) (known_change s seat now event act sound asked is))
-    (subst (λ (t : Tables). Decides t body decision) (sym same) (decision_stores s seat now event body brings))
-    (without_whole s seat event blobs whole) in
-    record { given = h.given; nodes = h.nodes; tickets = h.tickets }
-
-failed_whole : (s : State) (seat now : ℕ) (event : Event) (blobs : Blobs) → IsWhole s blobs → IsWhole (failed s seat now event) blobs
-failed_whole s seat now event blobs whole =
-    let h = without_whole s seat event blobs whole in record { given = h.given; nodes = h.nodes; tickets = h.tickets }
-
-marked_whole : (s : State) (e : Entry) (m : Mark) (body : List ℕ) (blobs : Blobs) → IsSound s → MayAsk s e.seat e.event → Brings body e.event
-    → IsWhole s blobs → IsWhole (after_mark s e m) (with_blob blobs (blob_under s e m) body)
-marked_whole s e mark.Answered body blobs sound asked brings whole = step_whole s e.seat e.moment e.event body blobs sound asked brings whole
-marked_whole s e mark.Store body blobs sound asked brings whole = failed_whole s e.seat e.moment e.event blobs whole
-marked_whole s e mark.Memory body blobs sound asked brings whole = failed_whole s e.seat e.moment e.event blobs whole
-
-pub stays_whole : StaysWhole
-stays_whole n s e body blobs sound may brings whole = marked_whole s e e.mark body blobs sound may.asked brings whole
-
--- ---- new numbers
-
-body_new : (t : Tables) (blob : Option ℕ) (content : List Piece) (blobs : Blobs) (id : ℕ) → IsOfBody t.meta blob content
-    → AreBelow t.meta.next_blob blobs → blob ≡ Some id → AreBelow id blobs
-body_new t None content blobs id of_body below is = absurd (none-some id is)
-body_new t (Some next) content blobs id of_body below is =
-    subst (λ (n : ℕ). AreBelow n blobs) (sym of_body.0 ∙ same_Some next id is) below
-
-act_new : (t : Tables) (now : ℕ) (who : Option ℕ) (act : Allowed) (blobs : Blobs) (id : ℕ) → Known t now who act → AreBelow t.meta.next_blob blobs
-    → blob_of act ≡ Some id → AreBelow id blobs
-act_new t now who (allowed.Get node content) blobs id known below is = absurd (none-some id is)
-act_new t now who (allowed.Put by key size) blobs id known below is = absurd (none-some id is)
-act_new t now who (allowed.StoreNew row blob) blobs id known below is = body_new t blob row.content blobs id known.new.content below is
-act_new t now who (allowed.StoreOver node content blob) blobs id known below is = body_new t blob content blobs id known.brought.content below is
-act_new t now who (allowed.Mkcol row) blobs id known below is = absurd (none-some id is)
-act_new t now who (allowed.Delete nodes) blobs id known below is = absurd (none-some id is)
-act_new t now who allowed.Close blobs id known below is = absurd (none-some id is)
-
-decision_new : (t : Tables) (now : ℕ) (who : Option ℕ) (decision : Result Allowed Denial) (blobs : Blobs) (id : ℕ)
-    → ((act : Allowed) → decision ≡ Ok act → Known t now who act) → AreBelow t.meta.next_blob blobs
-    → blob_by decision ≡ Some id → AreBelow id blobs
-decision_new t now who (Ok act) blobs id known below is = act_new t now who act blobs id (known act refl) below is
-decision_new t now who (Err refusal) blobs id known below is = absurd (none-some id is)
-
-marked_new : (s : State) (e : Entry) (m : Mark) (blobs : Blobs) (id : ℕ) → IsSound s → MayAsk s e.seat e.event → IsWhole s blobs
-    → blob_under s e m ≡ Some id → AreBelow id blobs
-marked_new s e mark.Answered blobs id sound asked whole is =
-    decision_new s.tables e.moment (actor_of s e.seat e.event) (decision_of s e.seat e.moment e.event) blobs id
-    (λ act done. known_change s e.seat e.moment e.event act sound asked done) whole.given is
-marked_new s e mark.Store blobs id sound asked whole is = absurd (none-some id is)
-marked_new s e mark.Memory blobs id sound asked whole is = absurd (none-some id is)
-
-pub blobs_are_new : BlobsAreNew
-blobs_are_new n s e blobs id sound may whole is = marked_new s e e.mark blobs id sound may.asked whole is
-
 -- ---- what stores no blob
 
 served_none : (t : Tables) (o : Option ℕ) → blob_of (served t o) ≡ None
@@ -505,3 +358,162 @@ sent_none s seat now = ticket_none s.tables now Sent (ticket_of s seat) (λ goal
 
 pub gone_none : (s : State) (seat now : ℕ) → blob_by (decision_of s seat now (End Gone)) ≡ None
 gone_none s seat now = ticket_none s.tables now Gone (ticket_of s seat) (λ goal. refl)
+
+-- ---- the tickets
+
+abbrev HasGoalSound : Tables → Ticket → Type 0
+HasGoalSound t ticket = IsGoalSound t ticket.goal
+
+abbrev HasGoalHeld : List Row → Blobs → Ticket → Type 0
+HasGoalHeld opening blobs ticket = IsGoalHeld opening blobs ticket.goal
+
+goal_kept : (t : Tables) (opening : List Row) (blobs more : Blobs) (goal : Goal) → KeepsGiven t.meta.next_blob blobs more
+    → IsGoalSound t goal → IsGoalHeld opening blobs goal → IsGoalHeld opening more goal
+goal_kept t opening blobs more (Serve content) keeps sound held = pieces_kept t opening blobs more content keeps sound held
+goal_kept t opening blobs more (Store by key size) keeps sound held = tt
+
+tickets_kept : (t : Tables) (opening : List Row) (blobs more : Blobs) (tickets : List Ticket) → KeepsGiven t.meta.next_blob blobs more
+    → All (HasGoalSound t) tickets → All (HasGoalHeld opening blobs) tickets → All (HasGoalHeld opening more) tickets
+tickets_kept t opening blobs more tickets keeps sound held = λ k d within.
+    goal_kept t opening blobs more (get_or tickets k d).goal keeps (sound k d within) (held k d within)
+
+content_held : (rows : List NodeRow) (opening : List Row) (blobs : Blobs) (node : ℕ) → All (IsRowHeld opening blobs) rows
+    → All (IsHeld opening blobs) (content_of rows node)
+content_held rows opening blobs node all = here (node_row rows node) refl
+  where
+    here : (o : Option NodeRow) → node_row rows node ≡ o → All (IsHeld opening blobs) (option_map_or (λ row. row.content) o [])
+    here None e = All-nil (IsHeld opening blobs)
+    here (Some row) e =
+        subst (λ (o : Option NodeRow). IfSome o (IsRowHeld opening blobs)) e
+        (found_has (IsRowHeld opening blobs) (λ row. row.id == node) rows all)
+
+granted_held : (t : Tables) (now : ℕ) (who : Option ℕ) (act : Allowed) (opening : List Row) (blobs : Blobs) → Known t now who act
+    → All (IsRowHeld opening blobs) t.nodes → IfSome (goal_of act) (IsGoalHeld opening blobs)
+granted_held t now who (allowed.Get node content) opening blobs known all =
+    subst (λ (c : List Piece). All (IsHeld opening blobs) c) (sym known.of_node) (content_held t.nodes opening blobs node all)
+granted_held t now who (allowed.Put by key size) opening blobs known all = tt
+granted_held t now who (allowed.StoreNew row blob) opening blobs known all = tt
+granted_held t now who (allowed.StoreOver node content blob) opening blobs known all = tt
+granted_held t now who (allowed.Mkcol row) opening blobs known all = tt
+granted_held t now who (allowed.Delete nodes) opening blobs known all = tt
+granted_held t now who allowed.Close opening blobs known all = tt
+
+tickets_held : (tickets : List Ticket) (seat : ℕ) (goal : Option Goal) (opening : List Row) (blobs : Blobs)
+    → All (HasGoalHeld opening blobs) tickets → IfSome goal (IsGoalHeld opening blobs)
+    → All (HasGoalHeld opening blobs) (with_goal tickets seat goal)
+tickets_held tickets seat None opening blobs all held = all
+tickets_held tickets seat (Some goal) opening blobs all held =
+    All-push (HasGoalHeld opening blobs) tickets (ticket_for seat goal) all held
+
+-- ---- the state
+
+decided_whole : (s : State) (seat now : ℕ) (who : Option ℕ) (decision : Result Allowed Denial) (opening : List Row) (blobs : Blobs) (body : List ℕ)
+    → All (IsNodeSound s.tables) s.tables.nodes → All (HasGoalSound s.tables) s.tickets
+    → ((act : Allowed) → decision ≡ Ok act → Known s.tables now who act) → Decides s.tables body decision → IsWhole opening s blobs
+    → IsWhole opening (decided s seat now decision) (with_blob blobs (blob_by decision) body)
+decided_whole s seat now who (Ok act) opening blobs body nodes goals known stores whole =
+    let more = with_blob blobs (blob_of act) body in
+    let keeps = given_kept s.tables.meta.next_blob blobs (blob_of act) body (act_next s.tables now who act (known act refl)) in
+    let kept = nodes_kept s.tables opening blobs more keeps nodes whole.nodes in
+    record {
+      nodes = changed_held s.tables now act opening blobs body kept stores;
+      tickets = tickets_held s.tickets seat (goal_of act) opening more
+          (tickets_kept s.tables opening blobs more s.tickets keeps goals whole.tickets)
+          (granted_held s.tables now who act opening more (known act refl) kept);
+    }
+decided_whole s seat now who (Err refusal) opening blobs body nodes goals known stores whole = whole
+
+ended_whole : (s : State) (seat : ℕ) (opening : List Row) (blobs : Blobs) → IsWhole opening s blobs → IsWhole opening (without_ticket s seat) blobs
+ended_whole s seat opening blobs whole = record {
+  nodes = whole.nodes;
+  tickets = All-filter (λ ticket. not (ticket.seat == seat)) (HasGoalHeld opening blobs) s.tickets whole.tickets;
+}
+
+step_whole : (s : State) (seat now : ℕ) (event : Event) (body : List ℕ) (opening : List Row) (blobs : Blobs)
+    → IsSound s → MayAsk s seat event → Brings body event → IsWhole opening s blobs
+    → IsWhole opening (step s seat now event) (with_blob blobs (blob_to s seat now event) body)
+step_whole s seat now (Begin words request) body opening blobs sound asked brings whole =
+    let event = Begin words request in
+    let h = decided_whole s seat now (actor_of s seat event) (decision_of s seat now event) opening blobs body sound.rows.nodes sound.goals
+    (λ act is. known_change s seat now event act sound asked is) (decision_stores s seat now event body brings) whole in
+    record { nodes = h.nodes; tickets = h.tickets }
+step_whole s seat now (End outcome) body opening blobs sound asked brings whole =
+    let event = End outcome in
+    let goals = All-filter (λ ticket. not (ticket.seat == seat)) (HasGoalSound s.tables) s.tickets sound.goals in
+    let h = decided_whole (without_ticket s seat) seat now (actor_of s seat event) (decision_of s seat now event) opening blobs body
+    sound.rows.nodes goals (λ act is. known_change s seat now event act sound asked is) (decision_stores s seat now event body brings)
+    (ended_whole s seat opening blobs whole) in
+    record { nodes = h.nodes; tickets = h.tickets }
+
+failed_whole : (s : State) (seat now : ℕ) (event : Event) (opening : List Row) (blobs : Blobs) → IsWhole opening s blobs
+    → IsWhole opening (failed s seat now event) blobs
+failed_whole s seat now (Begin words request) opening blobs whole = record { nodes = whole.nodes; tickets = whole.tickets }
+failed_whole s seat now (End outcome) opening blobs whole =
+    let h = ended_whole s seat opening blobs whole in record { nodes = h.nodes; tickets = h.tickets }
+
+marked_whole : (s : State) (e : Entry) (m : Mark) (body : List ℕ) (opening : List Row) (blobs : Blobs)
+    → IsSound s → MayAsk s e.seat e.event → Brings body e.event → IsWhole opening s blobs
+    → IsWhole opening (after_mark s e m) (with_blob blobs (blob_under s e m) body)
+marked_whole s e mark.Answered body opening blobs sound asked brings whole =
+    step_whole s e.seat e.moment e.event body opening blobs sound asked brings whole
+marked_whole s e mark.Store body opening blobs sound asked brings whole = failed_whole s e.seat e.moment e.event opening blobs whole
+marked_whole s e mark.Memory body opening blobs sound asked brings whole = failed_whole s e.seat e.moment e.event opening blobs whole
+
+pub stays_whole : StaysWhole
+stays_whole n s e body opening blobs sound may brings whole = marked_whole s e e.mark body opening blobs sound may.asked brings whole
+
+-- ---- new numbers
+
+-- the number is the next one, and given by then
+abbrev IsNew : MetaRow → MetaRow → ℕ → Type 0
+IsNew before after id = (id ≡ before.next_blob) × (id < after.next_blob)
+
+altered_next : (t : Tables) (now : ℕ) (act : Allowed) → (altered t now act).meta.next_blob ≡ blob_after t.meta.next_blob (blob_of act)
+altered_next t now (allowed.Get node content) = refl
+altered_next t now (allowed.Put by key size) = refl
+altered_next t now (allowed.StoreNew row blob) = refl
+altered_next t now (allowed.StoreOver node content blob) = refl
+altered_next t now (allowed.Mkcol row) = refl
+altered_next t now (allowed.Delete nodes) = refl
+altered_next t now allowed.Close = refl
+
+changed_new : (t : Tables) (now : ℕ) (who : Option ℕ) (act : Allowed) (id : ℕ) → AreSound t → Known t now who act → blob_of act ≡ Some id
+    → IsNew t.meta (changed t now act).meta id
+changed_new t now who act id sound known is = here (told t now act) refl
+  where
+    next : id ≡ t.meta.next_blob
+    next = subst (IsNext t.meta.next_blob) is (act_next t now who act known)
+
+    here : (changes : List Change) → told t now act ≡ changes → IsNew t.meta (stamped t (altered t now act) now changes).meta id
+    here [] e = absurd (none-some id (sym (told_blob t now who act sound known e) ∙ is))
+    here (change ∷ changes) e =
+        let given = altered_next t now act ∙ ap (blob_after t.meta.next_blob) is in (next, omega (arith, next, given))
+
+decided_new : (s : State) (seat now : ℕ) (who : Option ℕ) (decision : Result Allowed Denial) (id : ℕ) → AreSound s.tables
+    → ((act : Allowed) → decision ≡ Ok act → Known s.tables now who act) → blob_by decision ≡ Some id
+    → IsNew s.tables.meta (decided s seat now decision).tables.meta id
+decided_new s seat now who (Ok act) id sound known is = changed_new s.tables now who act id sound (known act refl) is
+decided_new s seat now who (Err refusal) id sound known is = absurd (none-some id is)
+
+step_new : (s : State) (seat now : ℕ) (event : Event) (id : ℕ) → IsSound s → MayAsk s seat event → blob_to s seat now event ≡ Some id
+    → IsNew s.tables.meta (step s seat now event).tables.meta id
+step_new s seat now (Begin words request) id sound asked is = absurd (none-some id (sym (begin_none s seat now words request) ∙ is))
+step_new s seat now (End outcome) id sound asked is =
+    let event = End outcome in
+    decided_new (without_ticket s seat) seat now (actor_of s seat event) (decision_of s seat now event) id sound.rows
+    (λ act done. known_change s seat now event act sound asked done) is
+
+marked_new : (s : State) (e : Entry) (m : Mark) (id : ℕ) → IsSound s → MayAsk s e.seat e.event → blob_under s e m ≡ Some id
+    → IsNew s.tables.meta (after_mark s e m).tables.meta id
+marked_new s e mark.Answered id sound asked is = step_new s e.seat e.moment e.event id sound asked is
+marked_new s e mark.Store id sound asked is = absurd (none-some id is)
+marked_new s e mark.Memory id sound asked is = absurd (none-some id is)
+
+pub blobs_are_new : BlobsAreNew
+blobs_are_new = record {
+  next = λ n s e id sound may is. marked_new s e e.mark id sound may.asked is;
+  same = λ n s e body blobs id sound may given.
+      still_at blobs (blob_in s e) body id
+      (λ is. let new = marked_new s e e.mark id sound may.asked is in absurd (omega (arith, new.0, given)));
+  stored = λ s e body blobs id is. new_at blobs (blob_in s e) body id is;
+}

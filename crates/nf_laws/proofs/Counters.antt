@@ -1,11 +1,11 @@
 -- Counters never fall.
-use Rattle.std.proofs.Common.{ℕ, ◌+◌, ◌≤◌, [], ◌∷◌, Option, None, Result, Ok, Err, arith}
+use Rattle.std.proofs.Common.{ℕ, ◌+◌, ◌≤◌, List, [], ◌∷◌, ◌++◌, Option, None, Result, Ok, Err, arith}
 use Rattle.nf_base.specs.declared.rows.MetaRow.{MetaRow}
 use Rattle.nf_defs.specs.Tables.{Tables}
 use Rattle.nf_laws.proofs.Rows.{blob_up, stamp, stamped_has}
 use Rattle.nf_laws.specs.Numbers.{AreHigher, CountersRise}
 use Rattle.nf_words.specs.Changes.{altered, blob_after, changed, told}
-use Rattle.nf_words.specs.History.{after, after_mark, failed}
+use Rattle.nf_words.specs.History.{after, after_mark, failed, replay}
 use Rattle.nf_words.specs.State.{State}
 use Rattle.nf_words.specs.Step.{decided, decision_of, step, without}
 use Rattle.nf_words.specs.declared.answer.Allowed.{Allowed}
@@ -75,3 +75,8 @@ counters_rise s (e ∷ es) =
       shares = omega (arith, first.shares, rest.shares);
       blobs = omega (arith, first.blobs, rest.blobs);
     }
+
+-- nor over entries that come after others
+pub counters_go_on : (s : State) (es more : List Entry) → AreHigher (replay s es).tables.meta (replay s (es ++ more)).tables.meta
+counters_go_on s [] more = counters_rise s more
+counters_go_on s (e ∷ es) more = counters_go_on (after s e) es more

@@ -6,6 +6,7 @@ pub mod Counters
 pub mod Entries
 pub mod Gone
 pub mod Numbers
+pub mod Opening
 pub mod Owned
 pub mod Owning
 pub mod Paths

@@ -19,7 +19,7 @@ use Rattle.nf_base.specs.declared.content.Piece.{Piece}
 use Rattle.nf_base.specs.declared.rows.MetaRow.{MetaRow}
 use Rattle.nf_base.specs.declared.rows.NodeRow.{NodeRow}
 use Rattle.nf_base.specs.declared.rows.Row.TheVariants as rows
-use Rattle.nf_defs.specs.Changes.{made, put_all}
+use Rattle.nf_defs.specs.Changes.{IsDroppable, made, put_all}
 use Rattle.nf_defs.specs.Keys.{node_key}
 use Rattle.nf_defs.specs.Puts.{by_order, dropped, put}
 use Rattle.nf_defs.specs.Tables.{Tables}
@@ -31,7 +31,7 @@ use Rattle.nf_laws.proofs.Rows.{found_is}
 use Rattle.nf_laws.proofs.Words.{row_there}
 use Rattle.nf_laws.specs.Tells.{ChangesTell}
 use Rattle.nf_words.proofs.Known.{Known, KnownContent, KnownNew, known_change}
-use Rattle.nf_words.specs.Changes.{changed, changes_of, created, is_among, new_meta, refilled, replaced, same_meta, stamped, with_content, with_meta}
+use Rattle.nf_words.specs.Changes.{changed, changes_of, created, is_among, meta_after, new_meta, refilled, replaced, same_meta, stamped, told, with_content, with_meta}
 use Rattle.nf_words.specs.History.{MayAsk}
 use Rattle.nf_words.specs.Sound.{AreSound, IsSound}
 use Rattle.nf_words.specs.State.{State}
@@ -323,6 +323,45 @@ step_told s seat now (End outcome) sound asked =
     decided_told (without s seat event) seat now (decision_of s seat now event)
     (λ act is. act_told s.tables now _ act sound.rows (known_change s seat now event act sound asked is))
 
+-- ---- the meta row is never dropped
+
+meta_droppable : (old meta : MetaRow) → All IsDroppable (new_meta old meta)
+meta_droppable old meta = here (same_meta old meta)
+  where
+    here : (a : Bool) → All IsDroppable (if a then [] else Put (rows.Meta meta) ∷ [])
+    here true = All-nil IsDroppable
+    here false = All-cons IsDroppable (Put (rows.Meta meta)) [] tt (All-nil IsDroppable)
+
+refilled_droppable : (o : Option NodeRow) (now : ℕ) (content : List Piece) → All IsDroppable (refilled o now content)
+refilled_droppable None now content = All-nil IsDroppable
+refilled_droppable (Some row) now content = here (content_eq row.content content && row.changed == now)
+  where
+    new : Change
+    new = Put (rows.Node (brought now content row))
+
+    here : (a : Bool) → All IsDroppable (if a then [] else new ∷ [])
+    here true = All-nil IsDroppable
+    here false = All-cons IsDroppable new [] tt (All-nil IsDroppable)
+
+told_droppable : (t : Tables) (now : ℕ) (act : Allowed) → All IsDroppable (told t now act)
+told_droppable t now (allowed.Get node content) = All-nil IsDroppable
+told_droppable t now (allowed.Put by key length) = All-nil IsDroppable
+told_droppable t now (allowed.StoreNew row blob) = All-cons IsDroppable (Put (rows.Node row)) [] tt (All-nil IsDroppable)
+told_droppable t now (allowed.StoreOver node content blob) = refilled_droppable (node_row t.nodes node) now content
+told_droppable t now (allowed.Mkcol row) = All-cons IsDroppable (Put (rows.Node row)) [] tt (All-nil IsDroppable)
+told_droppable t now (allowed.Delete nodes) =
+    All-map IsDroppable (λ node. Drop (keys.Node node)) nodes (λ k d within. λ is. cc)
+told_droppable t now allowed.Close = All-nil IsDroppable
+
+with_meta_droppable : (old meta : MetaRow) (changes : List Change) → All IsDroppable changes → All IsDroppable (with_meta old meta changes)
+with_meta_droppable old meta [] all = all
+with_meta_droppable old meta (change ∷ changes) all =
+    All-append IsDroppable (change ∷ changes) (new_meta old meta) all (meta_droppable old meta)
+
+decided_droppable : (t : Tables) (now : ℕ) (decision : Result Allowed Denial) → All IsDroppable (changes_by t now decision)
+decided_droppable t now (Ok act) = with_meta_droppable t.meta (meta_after t now act) (told t now act) (told_droppable t now act)
+decided_droppable t now (Err refusal) = All-nil IsDroppable
+
 pub changes_tell : ChangesTell
 changes_tell = record {
   put = λ s seat now event sound asked. (step_told s seat now event sound asked).put;
@@ -332,4 +371,5 @@ changes_tell = record {
         λ nothing. sym tell.put ∙ ap (put_all s.tables) nothing,
         tell.none,
       );
+  droppable = λ s seat now event. decided_droppable s.tables now (decision_of s seat now event);
 }

@@ -1,7 +1,7 @@
 -- A step's change told as a list, and the tables after it.
 use Rattle.std.specs.Prelude.{◌≡◌, ◌≢◌, ◌↔◌, ℕ, All, []}
 use Rattle.nf_base.specs.declared.changes.Change.{Change}
-use Rattle.nf_defs.specs.Changes.{made, put_all}
+use Rattle.nf_defs.specs.Changes.{IsDroppable, made, put_all}
 use Rattle.nf_words.specs.History.{MayAsk}
 use Rattle.nf_words.specs.Sound.{IsSound}
 use Rattle.nf_words.specs.State.{State}
@@ -19,3 +19,5 @@ pub record ChangesTell : Type 0 where
   -- a step tells nothing exactly where it changes nothing
   pub none : (s : State) (seat now : ℕ) (event : Event) → IsSound s → MayAsk s seat event
       → (changes_to s seat now event ≡ []) ↔ ((step s seat now event).tables ≡ s.tables)
+  -- none of its changes drops the meta row, whether or not the state is sound
+  pub droppable : (s : State) (seat now : ℕ) (event : Event) → All IsDroppable (changes_to s seat now event)

@@ -1,11 +1,14 @@
 -- The bytes that are stored under the numbers of blobs, and what each step keeps of them.
-use Rattle.std.specs.Prelude.{◌≡◌, ℕ, ◌<◌, ◌==◌, All, List, [], ◌∷◌, ◌++◌, length, Option, None, Some, if◌then◌else◌}
+use Rattle.std.specs.Prelude.{◌≡◌, ◌⊎◌, ℕ, ◌<◌, All, Contains, List, length, Option, None, Some}
 use Rattle.sha2.specs.Sha256.{sha256}
 use Rattle.nf_base.specs.declared.content.Piece.{Piece}
 use Rattle.nf_base.specs.declared.rows.NodeRow.{NodeRow}
+use Rattle.nf_base.specs.declared.rows.Row.{Row}
+use Rattle.nf_base.specs.declared.rows.Row.TheVariants.{Node}
+use Rattle.nf_defs.specs.Blobs.{Blobs, blob_at, with_blob}
 use Rattle.nf_words.specs.History.{MayCome, after}
 use Rattle.nf_words.specs.Sound.{IsSound}
-use Rattle.nf_words.specs.State.{State}
+use Rattle.nf_words.specs.State.{State, opened}
 use Rattle.nf_words.specs.Step.{blob_to}
 use Rattle.nf_words.specs.declared.answer.Goal.{Goal}
 use Rattle.nf_words.specs.declared.answer.Goal.TheVariants.{Serve, Store}
@@ -17,26 +20,6 @@ use Rattle.nf_words.specs.declared.history.Mark.TheVariants as mark
 use Rattle.nf_words.specs.declared.history.Outcome.TheVariants.{Sent, Gone, Body}
 use Rattle.nf_words.specs.declared.history.Ticket.{Ticket}
 
--- ---- blobs
-
--- numbers of blobs and their bytes
-abbrev pub Blobs : Type 0
-Blobs = List (ℕ × List ℕ)
-
--- the bytes under a number
-abbrev pub blob_at : Blobs → ℕ → Option (List ℕ)
-blob_at [] id = None
-blob_at (blob ∷ blobs) id = if blob.0 == id then Some blob.1 else blob_at blobs id
-
--- the blobs with these bytes, where they are stored
-abbrev pub with_blob : Blobs → Option ℕ → List ℕ → Blobs
-with_blob blobs None bytes = blobs
-with_blob blobs (Some id) bytes = blobs ++ (id, bytes) ∷ []
-
--- each number of a blob is below that one
-abbrev pub AreBelow : ℕ → Blobs → Type 0
-AreBelow next blobs = All (λ (blob : ℕ × List ℕ). blob.0 < next) blobs
-
 -- ---- whole
 
 -- bytes of the piece's size and SHA-256 digest (FIPS 180-4) are there
@@ -46,15 +29,37 @@ pub record IsThere (blobs : Blobs) (piece : Piece) : Type 0 where
   pub size : length bytes ≡ piece.size
   pub digest : sha256 bytes ≡ piece.digest
 
-abbrev pub IsGoalThere : Blobs → Goal → Type 0
-IsGoalThere blobs (Serve content) = All (IsThere blobs) content
-IsGoalThere blobs (Store by key length) = Unit {0}
+-- one of the rows names the piece
+pub record IsNamed (rows : List Row) (piece : Piece) : Type 0 where
+  pub row : NodeRow
+  pub among : Contains rows (Node row)
+  pub named : Contains row.content piece
 
--- whole for a state: each piece that a node or a granted GET names is there, and no blob has a number that wasn't given
-pub record IsWhole (s : State) (blobs : Blobs) : Type 0 where
-  pub given : AreBelow s.tables.meta.next_blob blobs
-  pub nodes : All (λ (row : NodeRow). All (IsThere blobs) row.content) s.tables.nodes
-  pub tickets : All (λ (ticket : Ticket). IsGoalThere blobs ticket.goal) s.tickets
+-- a piece that the rows of the opening name, and whose bytes the store hasn't
+pub record IsDamaged (opening : List Row) (blobs : Blobs) (piece : Piece) : Type 0 where
+  pub named : IsNamed opening piece
+  pub broken : IsThere blobs piece → ⊥
+
+-- it is there, but for damage
+abbrev pub IsHeld : List Row → Blobs → Piece → Type 0
+IsHeld opening blobs piece = IsThere blobs piece ⊎ IsDamaged opening blobs piece
+
+abbrev pub IsGoalHeld : List Row → Blobs → Goal → Type 0
+IsGoalHeld opening blobs (Serve content) = All (IsHeld opening blobs) content
+IsGoalHeld opening blobs (Store by key length) = Unit {0}
+
+-- whole for a state, but for what was damaged at the opening: each piece that a node or a granted GET names is there
+pub record IsWhole (opening : List Row) (s : State) (blobs : Blobs) : Type 0 where
+  pub nodes : All (λ (row : NodeRow). All (IsHeld opening blobs) row.content) s.tables.nodes
+  pub tickets : All (λ (ticket : Ticket). IsGoalHeld opening blobs ticket.goal) s.tickets
+
+-- nothing that the rows name is damaged
+abbrev pub IsSafe : List Row → Blobs → Type 0
+IsSafe opening blobs = (piece : Piece) → IsNamed opening piece → IsThere blobs piece
+
+-- any blobs are whole for the rows that a run is opened with, but for damage
+abbrev pub OpensWhole : Type 0
+OpensWhole = (rows : List Row) (blobs : Blobs) → IsWhole rows (opened rows) blobs
 
 -- ---- a step
 
@@ -77,11 +82,15 @@ blob_in s e = blob_under s e e.mark
 -- blobs that are whole are whole after each entry, with the bytes that it brings under the number that it stores them at
 abbrev pub StaysWhole : Type 0
 StaysWhole =
-    (n : ℕ) (s : State) (e : Entry) (body : List ℕ) (blobs : Blobs)
-    → IsSound s → MayCome n s e → Brings body e.event → IsWhole s blobs → IsWhole (after s e) (with_blob blobs (blob_in s e) body)
+    (n : ℕ) (s : State) (e : Entry) (body : List ℕ) (opening : List Row) (blobs : Blobs)
+    → IsSound s → MayCome n s e → Brings body e.event → IsWhole opening s blobs
+    → IsWhole opening (after s e) (with_blob blobs (blob_in s e) body)
 
--- that number is new
-abbrev pub BlobsAreNew : Type 0
-BlobsAreNew =
-    (n : ℕ) (s : State) (e : Entry) (blobs : Blobs) (id : ℕ)
-    → IsSound s → MayCome n s e → IsWhole s blobs → blob_in s e ≡ Some id → AreBelow id blobs
+-- that number is the next, and every number that is given stays as it was
+pub record BlobsAreNew : Type 0 where
+  pub next : (n : ℕ) (s : State) (e : Entry) (id : ℕ) → IsSound s → MayCome n s e → blob_in s e ≡ Some id
+      → (id ≡ s.tables.meta.next_blob) × (id < (after s e).tables.meta.next_blob)
+  pub same : (n : ℕ) (s : State) (e : Entry) (body : List ℕ) (blobs : Blobs) (id : ℕ) → IsSound s → MayCome n s e
+      → id < s.tables.meta.next_blob → blob_at (with_blob blobs (blob_in s e) body) id ≡ blob_at blobs id
+  pub stored : (s : State) (e : Entry) (body : List ℕ) (blobs : Blobs) (id : ℕ) → blob_in s e ≡ Some id
+      → blob_at (with_blob blobs (blob_in s e) body) id ≡ Some body

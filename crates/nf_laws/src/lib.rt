@@ -17,4 +17,4 @@ pub use tree::{
     depth_is_climbed, names_are_taken, nodes_are_present, removal_takes_all_under, under_is_derived,
 };
 pub use walks::walk_follows;
-pub use wholes::{blobs_are_new, stays_whole};
+pub use wholes::{blobs_are_new, opens_whole, stays_whole};

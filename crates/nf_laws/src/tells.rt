@@ -2,8 +2,8 @@
 
 ghost use Rattle.nf_laws.specs.Tells.{ChangesTell};
 
-/// The list of a step's changes makes the tables after it of those before it, has no change that changes nothing, and
-/// is empty exactly where the step changes no row.
+/// The list of a step's changes makes the tables after it of those before it, has no change that changes nothing, is
+/// empty exactly where the step changes no row, and never drops the meta row.
 pub fn changes_tell()
     ensures { ChangesTell }
 {}

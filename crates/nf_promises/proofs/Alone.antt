@@ -1,13 +1,12 @@
 -- What a seat's own entries make of its state, where no other's came between.
-use Rattle.std.proofs.Common.{ℕ, ◌+◌, ◌≡◌, List, [], ◌∷◌, ◌++◌, length, Option, None, Some, sym, ap, subst, ◌∙◌, refl, arith, length-append}
+use Rattle.std.proofs.Common.{ℕ, ◌+◌, ◌≡◌, List, [], ◌∷◌, ◌++◌, length, sym, ap, subst, ◌∙◌, refl, arith, length-append}
 use Rattle.std.proofs.lemmas.List.{append-nil}
 use Rattle.nf_words.proofs.Histories.{replay_more}
 use Rattle.nf_words.specs.History.{MayCome, after, answer_at, replay}
 use Rattle.nf_words.specs.State.{State, opened}
 use Rattle.nf_words.specs.declared.history.Entry.{Entry}
 use Rattle.nf_words.specs.declared.history.Event.{Event}
-use Rattle.nf_laws.specs.Wholes.{Blobs}
-use Rattle.nf_server.specs.Book.{Answer, Book, Enters, Lasts, TellsStill, state_after, state_of}
+use Rattle.nf_server.specs.Book.{Answer, Book, Enters, state_after, state_of}
 use Rattle.nf_base.specs.declared.rows.Row.{Row}
 use Rattle.nf_promises.proofs.Growing.{Grows}
 use Rattle.nf_promises.specs.Kept.{OnlyOwn}
@@ -56,33 +55,3 @@ entered a b now event answer enters only =
           ∙ replay_more (opened a.opening) (a.known ++ enters.others) enters.entry
           ∙ ap (λ (s : State). after s enters.entry) same;
     }
-
--- ---- what lasts
-
-tells_same : (told : Option Blobs) → TellsStill told told
-tells_same None = refl
-tells_same (Some shelf) = λ id bytes is. is
-
-tells_on : (x y z : Option Blobs) → TellsStill x y → TellsStill y z → TellsStill x z
-tells_on None y z first second = subst (λ (o : Option Blobs). TellsStill o z) first second
-tells_on (Some x) None z first second = absurd first
-tells_on (Some x) (Some y) None first second = absurd second
-tells_on (Some x) (Some y) (Some z) first second = λ id bytes is. second id bytes (first id bytes is)
-
-pub lasts_same : (a b : Book) → b ≡ a → Lasts a b
-lasts_same a b same = subst (λ (x : Book). Lasts a x) (sym same) (record {
-  opening = refl;
-  seat = refl;
-  damaged = refl;
-  strikes = omega arith;
-  told = tells_same a.told;
-})
-
-pub lasts_on : (a b c : Book) → Lasts a b → Lasts b c → Lasts a c
-lasts_on a b c first second = record {
-  opening = second.opening ∙ first.opening;
-  seat = second.seat ∙ first.seat;
-  damaged = second.damaged ∙ first.damaged;
-  strikes = omega (arith, first.strikes, second.strikes);
-  told = tells_on a.told b.told c.told first.told second.told;
-}

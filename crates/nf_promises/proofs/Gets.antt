@@ -1,5 +1,5 @@
 -- What a turn that took a GET writes, where the body of a PUT is kept.
-use Rattle.std.proofs.Common.{ℕ, ◌+◌, ◌==◌, ◌≡◌, ◌≢◌, ◌⊎◌, ◌||◌, Bool, true, false, List, [], ◌∷◌, ◌++◌, length, Option, None, Some, Result, Ok, Err, is_some, if◌then◌else◌, inl, inr, refl, sym, ap, subst, ◌∙◌, arith, Contains}
+use Rattle.std.proofs.Common.{ℕ, ◌+◌, ◌≤◌, ◌==◌, ◌≡◌, ◌⊎◌, ◌||◌, Bool, true, false, List, [], ◌∷◌, ◌++◌, length, Option, None, Some, Result, Ok, Err, is_some, if◌then◌else◌, inl, inr, refl, sym, ap, subst, ◌∙◌, arith}
 use Rattle.std.specs.Prelude.{IfSome, MatchBool, Vec}
 use Rattle.std.specs.Io.KnownBytes.{Appends}
 use Rattle.std.specs.declared.alloc.Global.{Global}
@@ -16,6 +16,7 @@ use Rattle.nf_words.specs.State.{State}
 use Rattle.nf_words.specs.Step.{answer_to, answered_by, changes_by, changes_to, decision_of}
 use Rattle.nf_words.specs.declared.answer.Allowed.{Allowed}
 use Rattle.nf_words.specs.declared.answer.Allowed.TheVariants as allowed
+use Rattle.nf_words.specs.declared.answer.Damage.{Damage}
 use Rattle.nf_words.specs.declared.answer.Denial.{Denial}
 use Rattle.nf_words.specs.declared.answer.Denial.TheVariants as denial
 use Rattle.nf_words.specs.declared.answer.Goal.TheVariants.{Serve}
@@ -30,8 +31,11 @@ use Rattle.nf_words.specs.declared.request.Request.{Request}
 use Rattle.nf_words.specs.declared.request.Spot.{Spot}
 use Rattle.nf_words.specs.declared.request.Words.{Words}
 use Rattle.nf_defs.specs.Tables.{Tables}
-use Rattle.nf_laws.specs.Wholes.{Blobs, blob_at}
-use Rattle.nf_server.specs.Book.{Answer, Begins, Book, Enters, FailsPiece, Lasts, Struck, TellsStill, Waits, is_unmade, state_of}
+use Rattle.nf_defs.specs.Blobs.{Blobs}
+use Rattle.nf_laws.specs.Wholes.{IsThere}
+use Rattle.nf_server.specs.Book.{Answer, Begins, Book, Enters, FailsPiece, Lasts, TellsDamage, TellsPiece, TellsStill, is_unmade, next_blob_of, state_of}
+use Rattle.nf_server.specs.Book.{Passes as Unchanged}
+use Rattle.nf_server.proofs.Lasting.{lasts_same, lasts_then}
 use Rattle.nf_server.specs.Files.{AreGiven, SendsFile, file_front}
 use Rattle.nf_server.specs.Steps.{Judges, Scene, Starts, StartsFile, TakesIn, no_words}
 use Rattle.nf_server.specs.Turn.{Writes, end_of, end_of_close, says_close}
@@ -41,10 +45,10 @@ use Rattle.nf_server.specs.declared.begun.Begun.{Begun}
 use Rattle.nf_server.specs.declared.begun.Begun.TheVariants as begun
 use Rattle.nf_server.specs.declared.response.Response.{Response}
 use Rattle.nf_server.specs.declared.response.Response.TheVariants as response
-use Rattle.nf_promises.proofs.Alone.{entered, lasts_on, lasts_same, none_of}
+use Rattle.nf_promises.proofs.Alone.{entered, none_of}
 use Rattle.nf_promises.proofs.Putting.{content_of_body}
-use Rattle.nf_promises.proofs.Puts.{IsKept}
-use Rattle.nf_promises.specs.Kept.{FailsStore, IsWritten, OnlyOwn, get_of}
+use Rattle.nf_promises.proofs.Puts.{IsKept, Keeps}
+use Rattle.nf_promises.specs.Kept.{AreOfBody, FailsStore, IsWritten, OnlyOwn, ShowsDamage, get_of}
 
 -- ---- what its Begin is answered
 
@@ -82,9 +86,9 @@ get_answered : (a m : Book) (now : ℕ) (caller : Caller) (spot : Spot) (body : 
 get_answered a m now caller spot body answer kept only begins = here (is_unmade answer) refl begins.entry
   where
     here : (unmade : Bool) → is_unmade answer ≡ unmade
-        → MatchBool unmade (Waits a m) (Enters a m now (Begin no_words (get_of caller spot)) answer)
+        → MatchBool unmade (Unchanged a m) (Enters a m now (Begin no_words (get_of caller spot)) answer)
         → (answer ≡ Ok (reply.Granted (Serve (content_of_body kept.before body)))) ⊎ ((answer ≡ Err denial.RunFull) ⊎ (answer ≡ Err denial.Memory))
-    here true is waits = inr (unmade_is answer is)
+    here true is passes = inr (unmade_is answer is)
     here false is enters =
         let event : Event = Begin no_words (get_of caller spot) in
         let s = state_of a in
@@ -98,19 +102,48 @@ get_answered a m now caller spot body answer kept only begins = here (is_unmade 
 begins_lasts : (a m : Book) (now : ℕ) (words : Words) (request : Request) (answer : Answer) → Begins a m now words request answer → Lasts a m
 begins_lasts a m now words request answer begins = here (is_unmade answer) begins.entry
   where
-    here : (unmade : Bool) → MatchBool unmade (Waits a m) (Enters a m now (Begin words request) answer) → Lasts a m
-    here true waits = waits.lasts
+    here : (unmade : Bool) → MatchBool unmade (Unchanged a m) (Enters a m now (Begin words request) answer) → Lasts a m
+    here true passes = passes.waits.lasts
     here false enters = enters.lasts
 
 -- ---- the bytes of the file
 
-keeps_blob : (old new : Option Blobs) (shelf : Blobs) → old ≡ Some shelf → TellsStill old new
-    → (later : Blobs) × (new ≡ Some later) × ((id : ℕ) (bytes : List ℕ) → blob_at shelf id ≡ Some bytes → blob_at later id ≡ Some bytes)
-keeps_blob None new shelf is still = absurd (cc)
-keeps_blob (Some x) None shelf is still = absurd still
-keeps_blob (Some x) (Some y) shelf is still =
-    let same : shelf ≡ x = cc in
-    (y, refl, λ id bytes there. still id bytes (subst (λ (z : Blobs). blob_at z id ≡ Some bytes) same there))
+-- what is kept is kept later
+keeps_later : (k b : Book) (before : State) (body : List ℕ) (old new : Option Blobs) → next_blob_of k ≤ next_blob_of b
+    → TellsStill (next_blob_of k) old new → IfSome old (Keeps k before body) → IfSome new (Keeps b before body)
+keeps_later k b before body None None fits still keeps = tt
+keeps_later k b before body None (Some new) fits still keeps = absurd (cc)
+keeps_later k b before body (Some old) None fits still keeps = absurd still
+keeps_later k b before body (Some old) (Some new) fits still keeps = λ id is.
+    let there = keeps id is in (omega (arith, there.0, fits), still id there.0 ∙ there.1)
+
+kept_later : (k b : Book) (before : State) (body : List ℕ) → Lasts k b → IfSome k.told (Keeps k before body) → IfSome b.told (Keeps b before body)
+kept_later k b before body lasts keeps = keeps_later k b before body k.told b.told lasts.next_blob lasts.told keeps
+
+-- the bytes of a body, as of an earlier book
+of_body_before : (next : ℕ) (old new : Option Blobs) (body bytes : List ℕ) → TellsStill next old new → AreOfBody new body bytes → AreOfBody old body bytes
+of_body_before next None None body bytes still are = are
+of_body_before next None (Some new) body bytes still are = absurd (cc)
+of_body_before next (Some old) None body bytes still are = absurd still
+of_body_before next (Some old) (Some new) body bytes still are = are
+
+of_body_itself : (told : Option Blobs) (body : List ℕ) → AreOfBody told body body
+of_body_itself None body = (refl, refl)
+of_body_itself (Some shelf) body = refl
+
+-- the piece of a body
+abbrev piece_of : ℕ → List ℕ → Piece
+piece_of id body = record { blob = id; size = length body; digest = sha256 body }
+
+-- what is given of it
+piece_of_body : (b : Book) (before : State) (told : Option Blobs) (id : ℕ) (body bytes : List ℕ) → length bytes ≡ length body → sha256 bytes ≡ sha256 body
+    → blob_for before.tables.meta.next_blob (length body) ≡ Some id
+    → IfSome told (TellsPiece b (piece_of id body) bytes) → IfSome told (Keeps b before body) → AreOfBody told body bytes
+piece_of_body b before None id body bytes size digest is piece keeps = (size, digest)
+piece_of_body b before (Some shelf) id body bytes size digest is piece keeps = same bytes body (sym piece.there ∙ (keeps id is).1)
+  where
+    same : (x y : List ℕ) → ◌≡◌ {A = Option (List ℕ)} (Some x) (Some y) → x ≡ y
+    same x y e = cc
 
 empty_for : (next : ℕ) (body : List ℕ) → blob_for next (length body) ≡ None → body ≡ []
 empty_for next body is = here (length body == 0) refl is
@@ -119,24 +152,30 @@ empty_for next body is = here (length body == 0) refl is
     here true e is = none_of body (eqb-true (length body) 0 e)
     here false e is = absurd (cc)
 
-file_bytes : (close : Bool) (b : Book) (next : ℕ) (body : List ℕ) (later : Blobs) → b.told ≡ Some later
-    → ((id : ℕ) → blob_for next (length body) ≡ Some id → blob_at later id ≡ Some body)
-    → (o : Option ℕ) → blob_for next (length body) ≡ o
+-- what a file of it is
+abbrev FileOf : Bool → Option Blobs → List ℕ → List ℕ → Type 0
+FileOf close told body file = (bytes : List ℕ) × AreOfBody told body bytes × (file ≡ file_head close (length body) ++ bytes)
+
+file_bytes : (close : Bool) (b : Book) (before : State) (body : List ℕ) → IfSome b.told (Keeps b before body)
+    → (o : Option ℕ) → blob_for before.tables.meta.next_blob (length body) ≡ o
     → (given : List (List ℕ)) → AreGiven b (content_in o (sha256 body) (length body)) given
     → length given ≡ length (content_in o (sha256 body) (length body))
-    → file_front close (content_in o (sha256 body) (length body)) given ≡ file_head close (length body) ++ body
-file_bytes close b next body later told there None is [] are count =
-    ap (λ (bytes : List ℕ). file_head close (length bytes) ++ bytes) (sym (empty_for next body is))
-file_bytes close b next body later told there None is (bytes ∷ given) are count = absurd are
-file_bytes close b next body later told there (Some id) is [] are count = absurd (omega (arith, count))
-file_bytes close b next body later told there (Some id) is (bytes ∷ []) (piece, rest) count =
-    let found : blob_at later id ≡ Some bytes = subst (λ (o : Option Blobs). IfSome o (λ shelf. blob_at shelf id ≡ Some bytes)) told piece.told in
-    let wanted : blob_at later id ≡ Some body = there id is in
-    let same : bytes ≡ body = cc in
+    → FileOf close b.told body (file_front close (content_in o (sha256 body) (length body)) given)
+file_bytes close b before body keeps None is [] are count = (
+  body,
+  of_body_itself b.told body,
+  ap (λ (bytes : List ℕ). file_head close (length bytes) ++ bytes) (sym (empty_for before.tables.meta.next_blob body is)),
+)
+file_bytes close b before body keeps None is (bytes ∷ given) are count = absurd are
+file_bytes close b before body keeps (Some id) is [] are count = absurd (omega (arith, count))
+file_bytes close b before body keeps (Some id) is (bytes ∷ []) (piece, rest) count =
     let size : 0 + length body ≡ length body = omega arith in
-    let whole : bytes ++ [] ≡ body = append-nil bytes ∙ same in
-    λ i. file_head close (size i) ++ whole i
-file_bytes close b next body later told there (Some id) is (bytes ∷ more ∷ given) are count = absurd (omega (arith, count))
+    let whole : bytes ++ [] ≡ bytes = append-nil bytes in (
+      bytes,
+      piece_of_body b before b.told id body bytes piece.size piece.digest is piece.told keeps,
+      (λ i. file_head close (size i) ++ whole i),
+    )
+file_bytes close b before body keeps (Some id) is (bytes ∷ more ∷ given) are count = absurd (omega (arith, count))
 
 -- ---- how it starts
 
@@ -145,12 +184,14 @@ starts_file : (a b : Book) (content other : List Piece) (first : Option (Vec ℕ
 starts_file a b [] other None (is, same) = (is, lasts_same a b same)
 starts_file a b [] other (Some first) never = absurd never
 starts_file a b (piece ∷ pieces) other None never = absurd never
-starts_file a b (piece ∷ pieces) other (Some first) (is, waits, given) = (is, waits.lasts)
+starts_file a b (piece ∷ pieces) other (Some first) (is, waits, given, calm) = (is, waits.lasts)
 
-starts_lost : (a b : Book) (content : List Piece) (why : PieceFault) → Starts a b content (response.Lost why)
-    → (piece : Piece) × Lasts a b × FailsPiece a b piece why
-starts_lost a b [] why never = absurd never
-starts_lost a b (piece ∷ pieces) why (waits, fails) = (piece, waits.lasts, fails)
+-- the one piece of a body that isn't given
+starts_lost : (a b : Book) (next : ℕ) (body : List ℕ) (why : PieceFault) (o : Option ℕ) → blob_for next (length body) ≡ o
+    → Starts a b (content_in o (sha256 body) (length body)) (response.Lost why)
+    → (id : ℕ) × (blob_for next (length body) ≡ Some id) × Lasts a b × FailsPiece a b (piece_of id body) why
+starts_lost a b next body why None is never = absurd never
+starts_lost a b next body why (Some id) is (waits, fails) = (id, is, waits.lasts, fails)
 
 abbrev StartsOther : Response → Type 0
 StartsOther (response.File content first) = Unit {0}
@@ -174,9 +215,10 @@ starts_other a b (piece ∷ pieces) response.Done never = never
 -- the same, of two scenes with a book before them
 abbrev pub Shown : {C : Type 0} → Bool → List ℕ → Book → Scene C → Scene C → Type 0
 Shown close body k a b =
-    Appends a.output b.output (file_head close (length body) ++ body)
+    ((bytes : List ℕ) × AreOfBody k.told body bytes × Appends a.output b.output (file_head close (length body) ++ bytes))
     ⊎ Appends a.output b.output (refusal_reply close denial.Memory)
     ⊎ (Appends a.output b.output (refusal_reply close denial.Store) × FailsStore k a.book)
+    ⊎ ShowsDamage k.told close a b
 
 says_is : (last closes : Bool) → (last || is_some (end_of_close closes)) ≡ (last || closes)
 says_is last true = refl
@@ -188,31 +230,33 @@ memory_shown : {C : Type 0} (last : Bool) (head : Head) (body : List ℕ) (k : B
 memory_shown last head body k a b wrote =
     inr (inl (subst (λ (close : Bool). Appends a.output b.output (refusal_reply close denial.Memory)) (says_is last (closes_session head)) wrote.bytes_are))
 
-nothing_damaged : (shelf : Option Blobs) (later : Blobs) (damaged : List Piece) (piece : Piece) → shelf ≡ Some later
-    → IfSome shelf (λ shelf. Contains damaged piece) → damaged ≢ []
-nothing_damaged shelf later damaged piece told has none =
-    let there : Contains damaged piece = subst (λ (o : Option Blobs). IfSome o (λ shelf. Contains damaged piece)) told has in
-    let count : length damaged ≡ 0 = ap length none in
-    omega (arith, there.1, count)
+-- where the store tells, the piece isn't damaged: the body is there
+damage_shown : {C : Type 0} (close : Bool) (a b : Scene C) (k l : Book) (before : State) (body : List ℕ) (id : ℕ) (damage : Damage) (old new : Option Blobs)
+    → TellsStill (next_blob_of k) old new → blob_for before.tables.meta.next_blob (length body) ≡ Some id
+    → IfSome new (TellsDamage l (piece_of id body) damage) → IfSome new (Keeps l before body)
+    → Appends a.output b.output (refusal_reply close (denial.Damaged damage)) → ShowsDamage old close a b
+damage_shown close a b k l before body id damage None new still is damaged keeps wrote = (damage, wrote)
+damage_shown close a b k l before body id damage (Some old) None still is damaged keeps wrote = absurd still
+damage_shown close a b k l before body id damage (Some old) (Some new) still is damaged keeps wrote =
+    let there : IsThere new (piece_of id body) = record { bytes = body; there = (keeps id is).1; size = refl; digest = refl } in
+    damaged.damaged.broken there
 
-lost_shown : {C : Type 0} (last : Bool) (head : Head) (body : List ℕ) (k : Book) (x a b : Scene C) (later : Blobs) (piece : Piece) (why : PieceFault)
-    → Lasts k x.book → Lasts x.book a.book → a.book.told ≡ Some later → FailsPiece x.book a.book piece why
+lost_shown : {C : Type 0} (last : Bool) (head : Head) (body : List ℕ) (before : State) (k : Book) (x a b : Scene C) (id : ℕ) (why : PieceFault)
+    → Lasts k x.book → Lasts k a.book → IfSome k.told (Keeps k before body) → blob_for before.tables.meta.next_blob (length body) ≡ Some id
+    → FailsPiece x.book a.book (piece_of id body) why
     → Writes {T = Unit {0}} (says_close last head (response.Lost why)) (response.Lost why) a b (Ok tt)
     → Shown (last || closes_session head) body k a b
-lost_shown last head body k x a b later piece fault.Store before start told fails wrote =
-    let struck : Struck k.strikes a.book.strikes = omega (arith, before.strikes, fails) in
-    inr (inr (
+lost_shown last head body before k x a b id fault.Store first since keeps is fails wrote =
+    let struck : FailsStore k a.book = omega (arith, first.strikes, fails) in
+    inr (inr (inl (
       subst (λ (close : Bool). Appends a.output b.output (refusal_reply close denial.Store)) (says_is last (closes_session head)) wrote.bytes_are,
-      inl struck,
-    ))
-lost_shown last head body k x a b later piece fault.Damaged before start told fails wrote =
-    let damaged : a.book.damaged ≡ k.damaged = start.damaged ∙ before.damaged in
-    let some : k.damaged ≢ [] = subst (λ (pieces : List Piece). pieces ≢ []) damaged (nothing_damaged a.book.told later a.book.damaged piece told fails) in
-    inr (inr (
-      subst (λ (close : Bool). Appends a.output b.output (refusal_reply close denial.Store)) (says_is last (closes_session head)) wrote.bytes_are,
-      inr some,
-    ))
-lost_shown last head body k x a b later piece fault.Memory before start told fails wrote =
+      struck,
+    )))
+lost_shown last head body before k x a b id (fault.Damaged damage) first since keeps is (calm, differs, told) wrote =
+    inr (inr (inr (damage_shown (last || closes_session head) a b k a.book before body id damage k.told a.book.told since.told is told
+    (kept_later k a.book before body since keeps)
+    (subst (λ (close : Bool). Appends a.output b.output (refusal_reply close (denial.Damaged damage))) (says_is last (closes_session head)) wrote.bytes_are))))
+lost_shown last head body before k x a b id fault.Memory first since keeps is fails wrote =
     inr (inl (subst (λ (close : Bool). Appends a.output b.output (refusal_reply close denial.Memory)) (says_is last (closes_session head)) wrote.bytes_are))
 
 file_shown : {C : Type 0} (last : Bool) (head : Head) (caller : Caller) (spot : Spot) (body : List ℕ) (k : Book) (a b : Scene C)
@@ -220,30 +264,33 @@ file_shown : {C : Type 0} (last : Bool) (head : Head) (caller : Caller) (spot : 
     → Lasts k a.book → content ≡ content_of_body kept.before body
     → SendsFile {T = Unit {0}} (says_close last head (response.File content first)) content first a b (Ok tt)
     → Shown (last || closes_session head) body k a b
-file_shown last head caller spot body k a b content first kept before is (given, writes, count) =
-    let next = kept.before.tables.meta.next_blob in
+file_shown last head caller spot body k a b content first kept before is (given, writes, count, calm) =
     let close = says_close last head (response.File content first) in
     let whole : List Piece = content_of_body kept.before body in
-    let tells = keeps_blob k.told b.book.told kept.shelf kept.told (lasts_on k a.book b.book before writes.pieces.waits.lasts).told in
+    let since : Lasts k b.book = lasts_then k a.book b.book before writes.pieces.waits.lasts in
     let are : AreGiven b.book whole given = subst (λ (c : List Piece). AreGiven b.book c given) is writes.pieces.are_given in
     let all : length given ≡ length whole = count ∙ ap length is in
-    let bytes : file_front close whole given ≡ file_head close (length body) ++ body =
-    file_bytes close b.book next body tells.0 tells.1 (λ id at. tells.2 id body (kept.bytes id at))
-    (blob_for next (length body)) refl given are all in
-    let wrote : Appends a.output b.output (file_head close (length body) ++ body) =
-    subst (λ (bs : List ℕ). Appends a.output b.output bs) (ap (λ (c : List Piece). file_front close c given) is ∙ bytes) writes.bytes_are in
-    inl (subst (λ (close : Bool). Appends a.output b.output (file_head close (length body) ++ body)) (says_is last (closes_session head)) wrote)
+    let file : FileOf close b.book.told body (file_front close whole given) =
+    file_bytes close b.book kept.before body (kept_later k b.book kept.before body since kept.bytes)
+    (blob_for kept.before.tables.meta.next_blob (length body)) refl given are all in
+    let wrote : Appends a.output b.output (file_head close (length body) ++ file.0) =
+    subst (λ (bs : List ℕ). Appends a.output b.output bs) (ap (λ (c : List Piece). file_front close c given) is ∙ file.2) writes.bytes_are in
+    inl (
+      file.0,
+      of_body_before (next_blob_of k) k.told b.book.told body file.0 since.told file.1,
+      subst (λ (close : Bool). Appends a.output b.output (file_head close (length body) ++ file.0)) (says_is last (closes_session head)) wrote,
+    )
 
 served_shown : {C : Type 0} (last : Bool) (head : Head) (caller : Caller) (spot : Spot) (body : List ℕ) (k : Book) (x a b : Scene C) (v : Response)
     (kept : IsKept k caller spot body) → Lasts k x.book → StartsFile x a (content_of_body kept.before body) v
     → Writes {T = Unit {0}} (says_close last head v) v a b (Ok tt) → Shown (last || closes_session head) body k a b
 served_shown last head caller spot body k x a b (response.File content first) kept before starts writes =
     let started = starts_file x.book a.book (content_of_body kept.before body) content first starts.starts in
-    file_shown last head caller spot body k a b content first kept (lasts_on k x.book a.book before started.1) started.0 writes
+    file_shown last head caller spot body k a b content first kept (lasts_then k x.book a.book before started.1) started.0 writes
 served_shown last head caller spot body k x a b (response.Lost why) kept before starts writes =
-    let lost = starts_lost x.book a.book (content_of_body kept.before body) why starts.starts in
-    let tells = keeps_blob k.told a.book.told kept.shelf kept.told (lasts_on k x.book a.book before lost.1).told in
-    lost_shown last head body k x a b tells.0 lost.0 why before lost.1 tells.1 lost.2 writes
+    let lost = starts_lost x.book a.book kept.before.tables.meta.next_blob body why
+    (blob_for kept.before.tables.meta.next_blob (length body)) refl starts.starts in
+    lost_shown last head body kept.before k x a b lost.0 why before (lasts_then k x.book a.book before lost.2) kept.bytes lost.1 lost.3 writes
 served_shown last head caller spot body k x a b (response.Denied refusal) kept before starts writes =
     absurd (starts_other x.book a.book (content_of_body kept.before body) (response.Denied refusal) starts.starts)
 served_shown last head caller spot body k x a b response.Made kept before starts writes =
@@ -275,7 +322,7 @@ answered_shown {C} reads last head caller spot body k m a b v answer kept (inl i
     subst (λ (w : Answer). TakesIn reads head m a (begun.Asked w) (Ok v)) is takes in
     let x : Scene C = served.0 in
     served_shown last head caller spot body k x a b v kept
-    (lasts_on k m.book x.book before (lasts_same m.book x.book (ap (λ (y : Scene C). y.book) served.2.only))) served.3 writes
+    (lasts_then k m.book x.book before (lasts_same m.book x.book (ap (λ (y : Scene C). y.book) served.2.only))) served.3 writes
 answered_shown {C} reads last head caller spot body k m a b v answer kept (inr (inl is)) before takes written writes =
     let full : TakesIn reads head m a (begun.Asked (Err denial.RunFull)) (Ok v) =
     subst (λ (w : Answer). TakesIn reads head m a (begun.Asked w) (Ok v)) is takes in

@@ -14,6 +14,7 @@ use Rattle.nf_words.specs.declared.request.Words.{Words}
 use Rattle.std.specs.declared.alloc.Global.{Global}
 use Rattle.nf_dav.specs.Reply.{done_reply, made_reply, refusal_reply}
 use Rattle.nf_server.specs.Book.{Answer, Begins, Book, Ends, Enters, Waits, denial_of_piece, event_of_body, is_unmade}
+use Rattle.nf_server.specs.Book.{Passes as Unchanged}
 use Rattle.nf_server.specs.Files.{SendsFile}
 use Rattle.nf_server.specs.Steps.{Closes, Heads, Judges, Passes, Scene, Starts, TakesIn, is_granted, no_words}
 use Rattle.nf_server.specs.Turn.{Answers, CutsShort, Meets, Responds, Turn, Writes, how_of, says_close, stays_granted}
@@ -69,8 +70,8 @@ pub grows_begins : (a b : Book) (now : ℕ) (words : Words) (request : Request) 
     → Begins a b now words request answer → Grows a b 1
 grows_begins a b now words request answer begins = here (is_unmade answer) begins.entry
   where
-    here : (unmade : Bool) → MatchBool unmade (Waits a b) (Enters a b now (Begin words request) answer) → Grows a b 1
-    here true waits = grows_more a b 0 1 (omega arith) (grows_waits a b waits)
+    here : (unmade : Bool) → MatchBool unmade (Unchanged a b) (Enters a b now (Begin words request) answer) → Grows a b 1
+    here true passes = grows_more a b 0 1 (omega arith) (grows_waits a b passes.waits)
     here false enters = grows_enters a b now (Begin words request) answer enters
 
 pub grows_ends : (a b : Book) (now : ℕ) (how : Ending) (answer : Answer) → Ends a b now how answer → Grows a b 1
@@ -80,7 +81,7 @@ grows_ends a b now (ending.Body bytes) answer ends = grows_enters a b now (event
 
 grows_starts : (a b : Book) (content : List Piece) (v : Response) → Starts a b content v → Grows a b 0
 grows_starts a b [] (response.File content None) (is, same) = grows_none a b same
-grows_starts a b (piece ∷ pieces) (response.File content (Some first)) (is, waits, given) = grows_waits a b waits
+grows_starts a b (piece ∷ pieces) (response.File content (Some first)) (is, waits, given, calm) = grows_waits a b waits
 grows_starts a b (piece ∷ pieces) (response.Lost fault) (waits, fails) = grows_waits a b waits
 grows_starts a b content other never = absurd never
 
@@ -127,7 +128,7 @@ takes_grow {C} reads head a b begun (Err fault) cuts =
 
 sends_grow : {C T : Type 0} (close : Bool) (content : List Piece) (first : Option (Vec ℕ Global)) (a b : Scene C) (result : Result T Ended)
     → SendsFile close content first a b result → Grew a b 0
-sends_grow close content first a b (Ok sent) (given, writes, all) = grows_waits a.book b.book writes.pieces.waits
+sends_grow close content first a b (Ok sent) (given, writes, all, calm) = grows_waits a.book b.book writes.pieces.waits
 sends_grow close content first a b (Err (ended.Cut why)) (given, writes, lacks, other) = grows_waits a.book b.book writes.pieces.waits
 sends_grow {C} close content first a b (Err ended.Memory) (inl same) = grows_none a.book b.book (ap (λ (x : Scene C). x.book) same)
 sends_grow close content first a b (Err ended.Memory) (inr (given, writes, lacks)) = grows_waits a.book b.book writes.pieces.waits

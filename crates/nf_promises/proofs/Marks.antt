@@ -106,7 +106,7 @@ says_not_done a b bytes w (Err by) other never told is done = absurd never
 sends_not_done : {C : Type 0} (close : Bool) (content : List Piece) (first : Option (Vec ℕ Global)) (a b : Scene C) (w : List ℕ)
     (result : Result (Unit {0}) Ended) → SendsFile close content first a b result → IsSome a.output → Appends a.output b.output w
     → is_done w ≡ true → ⊥
-sends_not_done close content first a b w (Ok sent) (given, writes, count) told is done =
+sends_not_done close content first a b w (Ok sent) (given, writes, count, calm) told is done =
     not_done a.output b.output (file_front close content given) w told writes.bytes_are (file_mark close (size_of content) (concat given)) is done
 sends_not_done close content first a b w (Err (ended.Cut why)) (given, writes, lacks, other) told is done =
     not_done a.output b.output (file_front close content given) w told writes.bytes_are (file_mark close (size_of content) (concat given)) is done

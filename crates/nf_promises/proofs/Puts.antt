@@ -1,6 +1,6 @@
 -- What a turn that took a PUT, and said that it stored it, leaves in the seat's book.
-use Rattle.std.proofs.Common.{ℕ, ◌≡◌, Bool, List, [], ◌∷◌, length, Option, None, Some, Result, Ok, Err, refl, sym, ap, subst, ◌∙◌, arith}
-use Rattle.std.specs.Prelude.{IfSome, IsOk, IsSome, OnOk}
+use Rattle.std.proofs.Common.{ℕ, ◌<◌, ◌≡◌, Bool, List, [], ◌∷◌, length, Option, None, Some, Result, Ok, Err, refl, sym, ap, subst, ◌∙◌, arith}
+use Rattle.std.specs.Prelude.{IfSome, IsOk, OnOk}
 use Rattle.nf_base.specs.declared.content.Piece.{Piece}
 use Rattle.nf_dav.specs.Asked.{request_of}
 use Rattle.nf_http.specs.Head.{Head}
@@ -14,14 +14,15 @@ use Rattle.nf_words.specs.declared.answer.Goal.TheVariants as goal
 use Rattle.nf_words.specs.declared.answer.LockKey.{LockKey}
 use Rattle.nf_words.specs.declared.answer.Reply.{Reply}
 use Rattle.nf_words.specs.declared.answer.Reply.TheVariants as reply
+use Rattle.nf_words.specs.declared.history.Entry.{Entry}
 use Rattle.nf_words.specs.declared.history.Event.TheVariants.{Begin}
 use Rattle.nf_words.specs.declared.request.Caller.{Caller}
 use Rattle.nf_words.specs.declared.request.Request.{Request}
 use Rattle.nf_words.specs.declared.request.Spot.{Spot}
 use Rattle.nf_words.specs.declared.request.Words.{Words}
 use Rattle.nf_defs.specs.declared.Seeker.{Seeker}
-use Rattle.nf_laws.specs.Wholes.{Blobs, blob_at}
-use Rattle.nf_server.specs.Book.{Answer, Book, EndsBody, Enters, Stores, TellsStill, event_of_body, state_after, state_of}
+use Rattle.nf_defs.specs.Blobs.{Blobs, blob_at}
+use Rattle.nf_server.specs.Book.{Answer, Book, EndsBody, Enters, Stores, event_of_body, next_blob_of, state_after, state_of}
 use Rattle.nf_server.specs.Steps.{Bodies, Closes, IsResponse, Judges, Passes, Scene, Starts, StoresBody, no_words, taken_length}
 use Rattle.nf_server.specs.Turn.{how_of, stays_granted}
 use Rattle.nf_server.specs.declared.begun.Begun.{Begun}
@@ -38,33 +39,35 @@ use Rattle.nf_words.specs.declared.answer.Goal.TheVariants.{Serve}
 
 -- ---- books
 
--- what a later GET is granted, and where its bytes are
+-- the body is told under the number that it was stored at, which is given
+abbrev pub Keeps : Book → State → List ℕ → Blobs → Type 0
+Keeps b before body shelf =
+    (id : ℕ) → blob_for before.tables.meta.next_blob (length body) ≡ Some id
+    → (id < next_blob_of b) × (blob_at shelf id ≡ Some body)
+
+-- what a later GET is granted, and where its bytes are, if the store tells them
 pub record IsKept (b : Book) (caller : Caller) (spot : Spot) (body : List ℕ) : Type 0 where
   pub before : State
   pub got : (seat now : ℕ) (words : Words)
       → answer_to (state_of b) seat now (Begin words (get_of caller spot)) ≡ Ok (reply.Granted (Serve (content_of_body before body)))
-  pub shelf : Blobs
-  pub told : b.told ≡ Some shelf
-  pub bytes : (id : ℕ) → blob_for before.tables.meta.next_blob (length body) ≡ Some id → blob_at shelf id ≡ Some body
+  pub bytes : IfSome b.told (Keeps b before body)
 
-told_on : (old new : Option Blobs) → TellsStill old new → IsSome old → IsSome new
-told_on None new still told = absurd (cc)
-told_on (Some x) None still told = absurd still
-told_on (Some x) (Some y) still told = refl
-
-some_shelf : (told : Option Blobs) → IsSome told → (shelf : Blobs) × (told ≡ Some shelf)
-some_shelf None told = absurd (cc)
-some_shelf (Some shelf) told = (shelf, refl)
+stored_keeps : (b : Book) (told : Option Blobs) (s middle : State) (e : Entry) (body : List ℕ)
+    → (after s e).tables.meta.next_blob ≡ next_blob_of b → blob_to s e.seat e.moment e.event ≡ blob_for middle.tables.meta.next_blob (length body)
+    → IfSome told (Stores s e body) → IfSome told (Keeps b middle body)
+stored_keeps b None s middle e body next at stores = tt
+stored_keeps b (Some shelf) s middle e body next at stores = λ id is.
+    let there = stores id (at ∙ is) in (subst (λ (n : ℕ). id < n) next there.0, there.1)
 
 on_ok : {P : Type 0} (answer : Answer) → IsOk answer → OnOk answer P → P
 on_ok (Ok r) ok is = is
 on_ok (Err refusal) ok is = absurd (cc)
 
 kept_books : (a m b : Book) (now moment : ℕ) (caller : Caller) (spot : Spot) (n : ℕ) (who : Seeker) (key : LockKey) (size : ℕ) (body : List ℕ)
-    (answer : Answer) → IsSound (state_of a) → IsSome a.told → OnlyOwn a m → OnlyOwn m b
+    (answer : Answer) → IsSound (state_of a) → OnlyOwn a m → OnlyOwn m b
     → Enters a m now (Begin no_words (put_of caller spot n)) (Ok (reply.Granted (goal.Store who key size)))
     → EndsBody m b moment body answer → IsOk answer → length body ≡ size → IsKept b caller spot body
-kept_books a m b now moment caller spot n who key size body answer sound told one two enters ends ok long =
+kept_books a m b now moment caller spot n who key size body answer sound one two enters ends ok long =
     let first = enters.entry in
     let second = ends.enters.entry in
     let s = state_of a in
@@ -78,17 +81,14 @@ kept_books a m b now moment caller spot n who key size body answer sound told on
     let got = put_is_got begin.count end.count s first second no_words caller spot n who key size body sound begin.may begin.event_is begin.answer_is
     may end.event_is seat (subst (λ (x : Answer). IsOk x) (sym answered) ok) long in
     let last : state_of b ≡ after middle second = end.state ∙ ap (λ (x : State). after x second) begin.state in
-    let shelf = some_shelf b.told (told_on m.told b.told ends.enters.lasts.told (told_on a.told m.told enters.lasts.told told)) in
-    let stores : Stores (state_after m ends.enters.others) second body shelf.0 =
-    subst (λ (o : Option Blobs). IfSome o (Stores (state_after m ends.enters.others) second body)) shelf.1 (on_ok answer ok ends.stored) in
     let there : state_after m ends.enters.others ≡ middle =
     same_state m ends.enters.others (no_others m b moment (event_of_body body) answer ends.enters two) ∙ begin.state in
     record {
       before = middle;
       got = λ q t words. ap (λ (x : State). answer_to x q t (Begin words (get_of caller spot))) last ∙ got.got q t words;
-      shelf = shelf.0;
-      told = shelf.1;
-      bytes = λ id is. stores id (ap (λ (x : State). blob_to x second.seat second.moment second.event) there ∙ got.blob ∙ is);
+      bytes = stored_keeps b b.told (state_after m ends.enters.others) middle second body
+          (ap (λ (x : State). (after x second).tables.meta.next_blob) there ∙ sym (ap (λ (x : State). x.tables.meta.next_blob) last))
+          (ap (λ (x : State). blob_to x second.seat second.moment second.event) there ∙ got.blob) (on_ok answer ok ends.stored);
     }
 
 -- ---- what was begun
@@ -161,24 +161,24 @@ kept_stored : {C : Type 0} (reads : C → ℕ → C → Type 0) (head : Head) (w
     (caller : Caller) (spot : Spot) (n : ℕ) → request_of head ≡ Ok (put_of caller spot n)
     → Judges reads head a m (begun.Asked (Ok (reply.Granted (goal.Store who key n))))
     → Bodies m x n body → StoresBody reads body x b v → SaysStored v
-    → IsSound (state_of a.book) → IsSome a.book.told → OnlyOwn a.book m.book → OnlyOwn m.book b.book → IsKept b.book caller spot body
+    → IsSound (state_of a.book) → OnlyOwn a.book m.book → OnlyOwn m.book b.book → IsKept b.book caller spot body
 kept_stored {C} reads head who key v a m x b body caller spot n asked (r, now, is, read, begins, only) bodies
-    (moment, answer, later, ends, answers, more) says sound told one two =
+    (moment, answer, later, ends, answers, more) says sound one two =
     let book : x.book ≡ m.book = ap (λ (y : Scene C). y.book) bodies.only in
-    kept_books a.book m.book b.book now moment caller spot n who key n body answer sound told one two
+    kept_books a.book m.book b.book now moment caller spot n who key n body answer sound one two
     (asked_enters a.book m.book now head caller spot n r (Ok (reply.Granted (goal.Store who key n))) asked is begins.entry)
     (subst (λ (k : Book). EndsBody k b.book moment body answer) book ends) (stored_ok answer v answers says) bodies.taken.0
 
 kept_taken : {C : Type 0} (reads : C → ℕ → C → Type 0) (head : Head) (begun : Begun) (v : Response) (a m x b : Scene C) (body : List ℕ)
     (caller : Caller) (spot : Spot) (n : ℕ) → request_of head ≡ Ok (put_of caller spot n)
     → Judges reads head a m begun → Bodies m x (taken_length head begun) body → Passes reads body x b begun v → SaysStored v
-    → IsSound (state_of a.book) → IsSome a.book.told → OnlyOwn a.book m.book → OnlyOwn m.book b.book → IsKept b.book caller spot body
-kept_taken {C} reads head begun v a m x b body caller spot n asked judges bodies passes says sound told one two =
+    → IsSound (state_of a.book) → OnlyOwn a.book m.book → OnlyOwn m.book b.book → IsKept b.book caller spot body
+kept_taken {C} reads head begun v a m x b body caller spot n asked judges bodies passes says sound one two =
     let begins = put_begun reads head begun v a m x b body caller spot n asked judges passes says one in
     kept_stored reads head begins.who begins.key v a m x b body caller spot n asked
     (subst (λ (w : Begun). Judges reads head a m w) begins.is judges)
     (subst (λ (w : Begun). Bodies m x (taken_length head w) body) begins.is bodies)
-    (subst (λ (w : Begun). Passes reads body x b w v) begins.is passes) says sound told one two
+    (subst (λ (w : Begun). Passes reads body x b w v) begins.is passes) says sound one two
 
 -- ---- the turn
 
@@ -192,8 +192,8 @@ closes_book reads (response.File content first) a b result says same = absurd sa
 
 pub put_is_kept : {C : Type 0} (reads : C → ℕ → C → Type 0) (last : Bool) (caller : Caller) (spot : Spot) (body : List ℕ) (a b : Scene C)
     (end : Option Ended) → Puts reads last caller spot body a b end
-    → IsSound (state_of a.book) → IsSome a.book.told → OnlyOwn a.book b.book → IsKept b.book caller spot body
-put_is_kept reads last caller spot body a b end put sound told only =
+    → IsSound (state_of a.book) → OnlyOwn a.book b.book → IsKept b.book caller spot body
+put_is_kept reads last caller spot body a b end put sound only =
     let answers = put.answers in
     let v = answers.response in
     let same : put.behind.book ≡ a.book = heads_same a put.behind (Ok (Some put.head)) put.heads in
@@ -212,7 +212,7 @@ put_is_kept reads last caller spot body a b end put sound told only =
     only_within put.behind.book put.judged.book answers.taken.book b.book 1 1 1 front second third behind in
     let kept = kept_taken reads put.head put.begun v put.behind put.judged answers.takes.0 answers.taken answers.takes.1
     caller spot (length body) put.asked put.judges answers.takes.2 answers.takes.3
-    put.stored (subst (λ (k : Book). IsSound (state_of k)) (sym same) sound) (subst (λ (k : Book). IsSome k.told) (sym same) told) one two in
+    put.stored (subst (λ (k : Book). IsSound (state_of k)) (sym same) sound) one two in
     let book : b.book ≡ answers.taken.book =
     closes_book reads v answers.sent b answers.result put.stored answers.closes
     ∙ book_of answers.taken answers.sent (stored_only last put.head v answers.taken answers.sent answers.result put.stored answers.responds) in

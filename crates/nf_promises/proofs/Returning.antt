@@ -1,14 +1,17 @@
 -- What is put is what is got.
-use Rattle.std.proofs.Common.{ℕ, ◌≡◌, ◌||◌, ◌≤◌, Bool, true, false, List, Option, Some, Result, Ok, Err, inl, inr, refl, sym, ap, subst, ◌∙◌, arith}
+use Rattle.std.proofs.Common.{ℕ, ◌≡◌, ◌||◌, ◌≤◌, ◌⊎◌, ◌++◌, length, Bool, true, false, List, Option, None, Some, Result, Ok, Err, inl, inr, refl, sym, ap, subst, ◌∙◌, arith}
 use Rattle.std.specs.Io.KnownBytes.{Appends}
+use Rattle.nf_defs.specs.Blobs.{Blobs}
 use Rattle.nf_dav.specs.Asked.{request_of}
+use Rattle.nf_dav.specs.Reply.{file_head, refusal_reply}
 use Rattle.nf_http.specs.Head.{Head, closes_session}
 use Rattle.nf_http.specs.declared.wire.WireFault.{WireFault}
 use Rattle.nf_http.specs.declared.wire.WireFault.TheVariants as wire
+use Rattle.nf_words.specs.declared.answer.Denial.TheVariants as denial
 use Rattle.nf_words.specs.declared.answer.Reply.TheVariants as reply
 use Rattle.nf_words.specs.declared.request.Caller.{Caller}
 use Rattle.nf_words.specs.declared.request.Spot.{Spot}
-use Rattle.nf_server.specs.Book.{Book, Ends, Struck}
+use Rattle.nf_server.specs.Book.{Book, Ends}
 use Rattle.nf_server.specs.Steps.{Closes, EndsBy, Judges, Scene, TakesIn}
 use Rattle.nf_server.specs.Turn.{Answers, Meets, Responds, Writes, end_by, end_of, how_of, says_close, stays_granted}
 use Rattle.nf_server.specs.declared.backend.Ending.{Ending}
@@ -18,12 +21,13 @@ use Rattle.nf_server.specs.declared.ended.Ended.{Ended}
 use Rattle.nf_server.specs.declared.ended.Ended.TheVariants as ended
 use Rattle.nf_server.specs.declared.response.Response.{Response}
 use Rattle.nf_server.specs.declared.response.Response.TheVariants as response
-use Rattle.nf_promises.proofs.Alone.{lasts_same, only_within}
+use Rattle.nf_server.proofs.Lasting.{lasts_same}
+use Rattle.nf_promises.proofs.Alone.{only_within}
 use Rattle.nf_promises.proofs.Gets.{Shown, begun_shown}
 use Rattle.nf_promises.proofs.Growing.{answers_grow, grows_none, grows_on, heads_same, judges_grow, meets_grow}
 use Rattle.nf_promises.proofs.Puts.{IsKept, put_is_kept}
 use Rattle.nf_promises.proofs.Touches.{closes_only, judges_only, output_of, passes_only}
-use Rattle.nf_promises.specs.Kept.{FailsStore, IsWritten, OnlyOwn, PutThenGet, ShowsFile, get_of}
+use Rattle.nf_promises.specs.Kept.{AreOfBody, FailsStore, IsWritten, OnlyOwn, PutThenGet, ShowsDamage, ShowsFile, get_of}
 
 pub takes_output : {C : Type 0} (reads : C → ℕ → C → Type 0) (head : Head) (a b : Scene C) (begun : Begun) (v : Response)
     → TakesIn reads head a b begun (Ok v) → b.output ≡ a.output
@@ -76,35 +80,57 @@ cut_not_written fault a b other ends written = written
 
 -- ---- both turns
 
-fails_later : (k m b : Book) → m.strikes ≤ b.strikes → FailsStore k m → FailsStore k b
-fails_later k m b later (inl struck) =
-    let rest : Struck k.strikes b.strikes = omega (arith, later, struck) in inl rest
-fails_later k m b later (inr some) = inr some
-
 pub appends_by : (old new first last : Option (List ℕ)) (bytes : List ℕ) → first ≡ old → last ≡ new → Appends first last bytes → Appends old new bytes
 appends_by old new first last bytes front end is =
     subst (λ (o : Option (List ℕ)). Appends o new bytes) front (subst (λ (o : Option (List ℕ)). Appends first o bytes) end is)
 
+damage_by : {C : Type 0} (told : Option Blobs) (close : Bool) (k a b c : Scene C) → a.output ≡ k.output → b.output ≡ c.output
+    → ShowsDamage told close a b → ShowsDamage told close k c
+damage_by None close k a b c front end (damage, is) = (damage, appends_by k.output c.output a.output b.output _ front end is)
+damage_by (Some shelf) close k a b c front end never = never
+
 shown_later : {C : Type 0} (close : Bool) (body : List ℕ) (k a b c : Scene C) → a.output ≡ k.output → b.output ≡ c.output
     → a.book.strikes ≤ c.book.strikes → Shown close body k.book a b → ShowsFile close body k c
-shown_later close body k a b c front end later (inl is) = inl (appends_by k.output c.output a.output b.output _ front end is)
+shown_later close body k a b c front end later (inl (bytes, are, is)) =
+    inl (bytes, are, appends_by k.output c.output a.output b.output _ front end is)
 shown_later close body k a b c front end later (inr (inl is)) = inr (inl (appends_by k.output c.output a.output b.output _ front end is))
-shown_later close body k a b c front end later (inr (inr (is, fails))) =
-    inr (inr (appends_by k.output c.output a.output b.output _ front end is, fails_later k.book a.book c.book later fails))
+shown_later close body k a b c front end later (inr (inr (inl (is, fails)))) =
+    let still : FailsStore k.book c.book = omega (arith, later, fails) in
+    inr (inr (inl (appends_by k.output c.output a.output b.output _ front end is, still)))
+shown_later close body k a b c front end later (inr (inr (inr damage))) = inr (inr (inr (damage_by k.book.told close k a b c front end damage)))
 
 -- nor does taking a head write anything
 pub front_shown : {C : Type 0} (close : Bool) (body : List ℕ) (k a c : Scene C) → a.output ≡ k.output → a.book ≡ k.book
     → ShowsFile close body a c → ShowsFile close body k c
-front_shown close body k a c front book (inl is) = inl (appends_by k.output c.output a.output c.output _ front refl is)
+front_shown close body k a c front book (inl (bytes, are, is)) =
+    inl (
+      bytes,
+      subst (λ (x : Book). AreOfBody x.told body bytes) book are,
+      appends_by k.output c.output a.output c.output _ front refl is,
+    )
 front_shown close body k a c front book (inr (inl is)) = inr (inl (appends_by k.output c.output a.output c.output _ front refl is))
-front_shown close body k a c front book (inr (inr (is, fails))) =
-    inr (inr (appends_by k.output c.output a.output c.output _ front refl is, subst (λ (x : Book). FailsStore x c.book) book fails))
+front_shown close body k a c front book (inr (inr (inl (is, fails)))) =
+    inr (inr (inl (appends_by k.output c.output a.output c.output _ front refl is, subst (λ (x : Book). FailsStore x c.book) book fails)))
+front_shown close body k a c front book (inr (inr (inr damage))) =
+    inr (inr (inr (subst (λ (x : Book). ShowsDamage x.told close k c) book (damage_by a.book.told close k a c c front refl damage))))
+
+-- over a store that tells, it is the body
+pub told_shown : {C : Type 0} (close : Bool) (body : List ℕ) (shelf : Blobs) (a b : Scene C) → a.book.told ≡ Some shelf → ShowsFile close body a b
+    → Appends a.output b.output (file_head close (length body) ++ body)
+    ⊎ Appends a.output b.output (refusal_reply close denial.Memory)
+    ⊎ (Appends a.output b.output (refusal_reply close denial.Store) × FailsStore a.book b.book)
+told_shown close body shelf a b told (inl (bytes, are, is)) =
+    let same : bytes ≡ body = subst (λ (o : Option Blobs). AreOfBody o body bytes) told are in
+    inl (subst (λ (z : List ℕ). Appends a.output b.output (file_head close (length body) ++ z)) same is)
+told_shown close body shelf a b told (inr (inl is)) = inr (inl is)
+told_shown close body shelf a b told (inr (inr (inl fails))) = inr (inr fails)
+told_shown close body shelf a b told (inr (inr (inr damage))) = absurd (subst (λ (o : Option Blobs). ShowsDamage o close a b) told damage)
 
 writes_strikes : {C : Type 0} (close : Bool) (v : Response) (a b : Scene C) → Writes {T = Unit {0}} close v a b (Ok tt)
     → a.book.strikes ≤ b.book.strikes
 writes_strikes {C} close (response.Denied refusal) a b wrote = (lasts_same a.book b.book (ap (λ (x : Scene C). x.book) wrote.only)).strikes
 writes_strikes {C} close (response.Lost fault) a b wrote = (lasts_same a.book b.book (ap (λ (x : Scene C). x.book) wrote.only)).strikes
-writes_strikes close (response.File content first) a b (given, writes, count) = writes.pieces.waits.lasts.strikes
+writes_strikes close (response.File content first) a b (given, writes, count, calm) = writes.pieces.waits.lasts.strikes
 writes_strikes {C} close response.Made a b wrote = (lasts_same a.book b.book (ap (λ (x : Scene C). x.book) wrote.only)).strikes
 writes_strikes {C} close response.Done a b wrote = (lasts_same a.book b.book (ap (λ (x : Scene C). x.book) wrote.only)).strikes
 
@@ -139,7 +165,7 @@ meets_shown reads last head caller spot body k b end (m, begun, judges, inr cuts
     absurd (cut_not_written cuts.fault cuts.cut cuts.sent cuts.by cuts.responds (subst (λ (e : Option Ended). IsWritten e) cuts.ends written))
 
 pub put_then_get : {C : Type 0} (reads : C → ℕ → C → Type 0) → PutThenGet reads
-put_then_get {C} reads caller spot body a b c first last end done put get sound told only written =
+put_then_get {C} reads caller spot body a b c first last end done put get sound only written =
     let same : get.behind.book ≡ b.book = heads_same b get.behind (Ok (Some get.head)) get.heads in
     let none = grows_none a.book a.book refl in
     let heads = grows_none a.book put.behind.book (heads_same a put.behind (Ok (Some put.head)) put.heads) in
@@ -147,7 +173,7 @@ put_then_get {C} reads caller spot body a b c first last end done put get sound 
     (meets_grow reads first put.head put.behind b end (put.judged, put.begun, put.judges, inl put.answers)) in
     let two = grows_on b.book get.behind.book c.book 0 3 3 (omega arith) (grows_none b.book get.behind.book same)
     (meets_grow reads last get.head get.behind c done get.meets) in
-    let kept = put_is_kept reads first caller spot body a b end put sound told (only_within a.book a.book b.book c.book 0 3 3 none one two only) in
+    let kept = put_is_kept reads first caller spot body a b end put sound (only_within a.book a.book b.book c.book 0 3 3 none one two only) in
     let rest : OnlyOwn b.book c.book = only_within a.book b.book c.book c.book 3 3 0 one two (grows_none c.book c.book refl) only in
     let shown = meets_shown reads last get.head caller spot body get.behind c done get.meets get.asked
     (subst (λ (k : Book). IsKept k caller spot body) (sym same) kept) (subst (λ (k : Book). OnlyOwn k c.book) (sym same) rest) written in

@@ -1,11 +1,13 @@
 -- What is put is what is got.
-use Rattle.std.specs.Prelude.{◌≡◌, ◌≢◌, ◌⊎◌, ℕ, ◌+◌, ◌≤◌, Bool, ◌||◌, List, [], ◌++◌, length, Option, None, Some, IsSome, Ok}
+use Rattle.std.specs.Prelude.{◌≡◌, ◌⊎◌, ℕ, ◌+◌, ◌-◌, ◌^◌, ◌≤◌, min, Bool, ◌||◌, List, ◌++◌, length, Option, None, Some, IsSome, Ok}
 use Rattle.std.specs.Io.KnownBytes.{Appends}
+use Rattle.sha2.specs.Sha256.{sha256}
+use Rattle.nf_defs.specs.Blobs.{Blobs}
 use Rattle.nf_dav.specs.Asked.{request_of}
 use Rattle.nf_dav.specs.Reply.{done_reply, file_head, made_reply, refusal_reply}
 use Rattle.httparse.specs.Grammar.{IsRequestHead, RequestHead, print_request}
 use Rattle.nf_http.specs.Head.{Head, closes_session, head_fault, head_of}
-use Rattle.nf_server.specs.Book.{Book, Struck, state_of}
+use Rattle.nf_server.specs.Book.{Book, state_of}
 use Rattle.nf_server.specs.Steps.{Heads, Judges, Scene}
 use Rattle.nf_server.specs.Turn.{Answers, Meets, Turn}
 use Rattle.nf_server.specs.declared.begun.Begun.{Begun}
@@ -14,6 +16,7 @@ use Rattle.nf_server.specs.declared.ended.Ended.TheVariants as ended
 use Rattle.nf_server.specs.declared.response.Response.{Response}
 use Rattle.nf_server.specs.declared.response.Response.TheVariants as response
 use Rattle.nf_words.specs.Sound.{IsSound}
+use Rattle.nf_words.specs.declared.answer.Damage.{Damage}
 use Rattle.nf_words.specs.declared.answer.Denial.TheVariants as denial
 use Rattle.nf_words.specs.declared.request.Caller.{Caller}
 use Rattle.nf_words.specs.declared.request.Request.{Request}
@@ -71,25 +74,38 @@ IsWritten (Some other) = ⊥
 abbrev pub OnlyOwn : Book → Book → Type 0
 OnlyOwn a b = length b.known + length a.own ≡ length a.known + length b.own
 
--- the store failed, which it counted; or a piece was damaged when the run was opened
+-- the store failed, which it counted: the strikes rose, or stand at their last value
 abbrev pub FailsStore : Book → Book → Type 0
-FailsStore a b = Struck a.strikes b.strikes ⊎ (a.damaged ≢ [])
+FailsStore a b = min (a.strikes + 1) (2 ^ 64 - 1) ≤ b.strikes
 
--- a file of these bytes was written; or that there is no memory; or that the store failed
+-- the very bytes of a body, where the store tells; and where it tells nothing, bytes of its length and SHA-256 digest (FIPS
+-- 180-4)
+abbrev pub AreOfBody : Option Blobs → List ℕ → List ℕ → Type 0
+AreOfBody None body bytes = (length bytes ≡ length body) × (sha256 bytes ≡ sha256 body)
+AreOfBody (Some shelf) body bytes = bytes ≡ body
+
+-- that they are damaged, only where the store tells nothing: what it tells under a number it tells for good
+abbrev pub ShowsDamage : {C : Type 0} → Option Blobs → Bool → Scene C → Scene C → Type 0
+ShowsDamage None close a b = (damage : Damage) × Appends a.output b.output (refusal_reply close (denial.Damaged damage))
+ShowsDamage (Some shelf) close a b = ⊥
+
+-- a file of a body's bytes was written; or that there is no memory; or that the store failed; or that they are damaged
 abbrev pub ShowsFile : {C : Type 0} → Bool → List ℕ → Scene C → Scene C → Type 0
 ShowsFile close body a b =
-    Appends a.output b.output (file_head close (length body) ++ body)
+    ((bytes : List ℕ) × AreOfBody a.book.told body bytes
+    × Appends a.output b.output (file_head close (length body) ++ bytes))
     ⊎ Appends a.output b.output (refusal_reply close denial.Memory)
     ⊎ (Appends a.output b.output (refusal_reply close denial.Store) × FailsStore a.book b.book)
+    ⊎ ShowsDamage a.book.told close a b
 
--- the body of a PUT that was made or done is what the next turn's GET of its path by the same caller is answered, byte
--- for byte, where the answer is written whole: over a sound state and a store that tells its bytes
+-- the body of a PUT that was made or done is what the next turn's GET of its path by the same caller is answered, where
+-- the answer is written whole: over a sound state, and byte for byte over a store that tells its bytes
 abbrev pub PutThenGet : {C : Type 0} → (C → ℕ → C → Type 0) → Type 0
 PutThenGet {C} reads =
     (caller : Caller) (spot : Spot) (body : List ℕ)
     (a b c : Scene C) (first last : Bool) (end done : Option Ended)
     → Puts reads first caller spot body a b end → (get : Gets reads last caller spot b c done)
-    → IsSound (state_of a.book) → IsSome a.book.told → OnlyOwn a.book c.book → IsWritten done
+    → IsSound (state_of a.book) → OnlyOwn a.book c.book → IsWritten done
     → ShowsFile (last || closes_session get.head) body b c
 
 -- ---- the same of bytes
@@ -114,5 +130,5 @@ PutThenGetOfBytes {C} reads =
     → Prints put (put_of caller spot (length body)) → Prints get (get_of caller spot)
     → a.input ≡ Some (print_request put ++ body ++ print_request get ++ rest) → IsSome a.output
     → Turn reads first a b end → SaysDone a b → Turn reads last b c done → IsWritten done
-    → IsSound (state_of a.book) → IsSome a.book.told → OnlyOwn a.book c.book
+    → IsSound (state_of a.book) → OnlyOwn a.book c.book
     → ShowsFile (last || closes_session (head_of get)) body b c

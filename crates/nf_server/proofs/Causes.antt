@@ -14,7 +14,8 @@ use Rattle.nf_words.specs.declared.answer.Reply.TheVariants as reply
 use Rattle.nf_words.specs.declared.history.Event.{Event}
 use Rattle.nf_words.specs.declared.request.Request.{Request}
 use Rattle.nf_words.specs.declared.request.Words.{Words}
-use Rattle.nf_server.specs.Book.{Answer, Begins, Book, Ends, Enters, Lasts, Waits, is_unmade}
+use Rattle.nf_server.specs.Book.{Answer, Begins, Book, Ends, Enters, Lasts, is_unmade}
+use Rattle.nf_server.specs.Book.{Passes as Unchanged}
 use Rattle.nf_server.specs.Files.{SendsFile, WritesPieces}
 use Rattle.nf_server.specs.Laws.{CountsFault, Follows, SessionsFollow}
 use Rattle.nf_server.specs.Session.{Through}
@@ -28,20 +29,7 @@ use Rattle.nf_server.specs.declared.ended.Ended.{Ended}
 use Rattle.nf_server.specs.declared.ended.Ended.TheVariants as ended
 use Rattle.nf_server.specs.declared.response.Response.{Response}
 use Rattle.nf_server.specs.declared.response.Response.TheVariants as response
-use Rattle.nf_server.proofs.Sendings.{waits_refl, waits_then}
-
--- ---- what only goes on
-
-lasts_then : (a m b : Book) → Lasts a m → Lasts m b → Lasts a b
-lasts_then a m b p q =
-    let bare : Book → Book = λ (z : Book). record z { own = []; known = [] } in
-    let waits : (x y : Book) → Lasts x y → Waits (bare x) (bare y) = λ (x y : Book) (z : Lasts x y). record {
-      lasts = record { opening = z.opening; seat = z.seat; damaged = z.damaged; strikes = z.strikes; told = z.told };
-      own = refl;
-      known = ([], refl);
-    } in
-    let all = (waits_then (bare a) (bare m) (bare b) (waits a m p) (waits m b q)).lasts in
-    record { opening = all.opening; seat = all.seat; damaged = all.damaged; strikes = all.strikes; told = all.told }
+use Rattle.nf_server.proofs.Lasting.{lasts_same, lasts_then, lasts_refl}
 
 -- nothing failed
 record Calm {C : Type 0} (a b : Scene C) : Type 0 where
@@ -50,7 +38,7 @@ record Calm {C : Type 0} (a b : Scene C) : Type 0 where
   write : b.write_faults ≡ a.write_faults
 
 calm_refl : {C : Type 0} (a : Scene C) → Calm a a
-calm_refl a = record { lasts = (waits_refl a.book).lasts; read = refl; write = refl }
+calm_refl a = record { lasts = lasts_refl a.book; read = refl; write = refl }
 
 calm_same : {C : Type 0} (a b : Scene C) → b ≡ a → Calm a b
 calm_same a b same = subst (λ (z : Scene _). Calm a z) (sym same) (calm_refl a)
@@ -121,6 +109,7 @@ denial_is_none closes denial.TooLarge = close_is_none closes
 denial_is_none closes denial.Body = close_is_none closes
 denial_is_none closes denial.Head = close_is_none closes
 denial_is_none closes denial.Store = close_is_none closes
+denial_is_none closes (denial.Damaged damage) = close_is_none closes
 denial_is_none closes denial.RunFull = refl
 denial_is_none closes denial.Coding = close_is_none closes
 denial_is_none closes denial.NotBuilt = refl
@@ -145,21 +134,21 @@ asks_calm a b only lasts = record {
 
 reads_calm : {C : Type 0} (a b : Scene C) → OnlyReads a b → b.read_faults ≡ a.read_faults → Calm a b
 reads_calm a b only read = record {
-  lasts = subst (λ (z : Book). Lasts a.book z) (sym (ap (λ (s : Scene _). s.book) only)) (waits_refl a.book).lasts;
+  lasts = lasts_same a.book b.book (ap (λ (s : Scene _). s.book) only);
   read = read;
   write = ap (λ (s : Scene _). s.write_faults) only;
 }
 
 wrote_calm : {C : Type 0} (a b : Scene C) (bytes : List ℕ) → Wrote a b bytes → Calm a b
 wrote_calm a b bytes wrote = record {
-  lasts = subst (λ (z : Book). Lasts a.book z) (sym (ap (λ (s : Scene _). s.book) wrote.only)) (waits_refl a.book).lasts;
+  lasts = lasts_same a.book b.book (ap (λ (s : Scene _). s.book) wrote.only);
   read = ap (λ (s : Scene _). s.read_faults) wrote.only;
   write = ap (λ (s : Scene _). s.write_faults) wrote.only;
 }
 
 part_follows : {C : Type 0} (a b : Scene C) (bytes : List ℕ) → WrotePart a b bytes → Follows a b (Some ended.WriteFault)
 part_follows a b bytes wrote = record {
-  lasts = subst (λ (z : Book). Lasts a.book z) (sym (ap (λ (s : Scene _). s.book) wrote.only)) (waits_refl a.book).lasts;
+  lasts = lasts_same a.book b.book (ap (λ (s : Scene _). s.book) wrote.only);
   counts = (ap (λ (s : Scene _). s.read_faults) wrote.only, wrote.cause);
 }
 
@@ -171,8 +160,8 @@ bodies_calm a b n body bodies =
 begins_lasts : (a b : Book) (now : ℕ) (words : Words) (r : Request) (answer : Answer) → Begins a b now words r answer → Lasts a b
 begins_lasts a b now words r answer begins = here (is_unmade answer) _ begins.entry
   where
-    here : (unmade : Bool) (event : Event) → MatchBool unmade (Waits a b) (Enters a b now event answer) → Lasts a b
-    here true event waits = waits.lasts
+    here : (unmade : Bool) (event : Event) → MatchBool unmade (Unchanged a b) (Enters a b now event answer) → Lasts a b
+    here true event passes = passes.waits.lasts
     here false event made = made.lasts
 
 judges_calm : {C : Type 0} (reads : C → ℕ → C → Type 0) (head : Head) (a b : Scene C) (v : Begun) → Judges reads head a b v → Calm a b
@@ -181,7 +170,7 @@ judges_calm reads head a b (begun.Asked answer) (r, now, of, read, begins, only)
     asks_calm a b only (begins_lasts a.book b.book now _ r answer begins)
 
 starts_lasts : (a b : Book) (content : List Piece) (v : Response) → Starts a b content v → Lasts a b
-starts_lasts a b [] (response.File content None) starts = subst (λ (z : Book). Lasts a z) (sym starts.1) (waits_refl a).lasts
+starts_lasts a b [] (response.File content None) starts = lasts_same a b starts.1
 starts_lasts a b [] (response.File content (Some first)) starts = absurd starts
 starts_lasts a b [] (response.Lost fault) starts = absurd starts
 starts_lasts a b [] (response.Denied d) starts = absurd starts
@@ -269,7 +258,7 @@ writes_follows T close response.Done a b by writes = says_follows T a b _ by wri
 writes_calm : {C : Type 0} (T : Type 0) (close : Bool) (v : Response) (a b : Scene C) (sent : T) → Writes {T = T} close v a b (Ok sent) → Calm a b
 writes_calm T close (response.Denied d) a b sent writes = wrote_calm a b _ writes
 writes_calm T close (response.Lost fault) a b sent writes = wrote_calm a b _ writes
-writes_calm T close (response.File content first) a b sent (given, writes, all) = pieces_calm close content first a b given writes
+writes_calm T close (response.File content first) a b sent (given, writes, all, unstruck) = pieces_calm close content first a b given writes
 writes_calm T close response.Made a b sent writes = wrote_calm a b _ writes
 writes_calm T close response.Done a b sent writes = wrote_calm a b _ writes
 
@@ -299,7 +288,7 @@ refused_follows : {C : Type 0} (T : Type 0) (a m b : Scene C) (fault : WireFault
 refused_follows T a m b wire.ReadFault by only cause ends =
     subst (λ (z : Option Ended). Follows a b z) (sym (ap (λ (e : Ended). Some e) ends.0))
     (subst (λ (z : Scene _). Follows a z (Some ended.ReadFault)) (sym ends.1) (record {
-      lasts = subst (λ (z : Book). Lasts a.book z) (sym (ap (λ (s : Scene _). s.book) only)) (waits_refl a.book).lasts;
+      lasts = lasts_same a.book m.book (ap (λ (s : Scene _). s.book) only);
       counts = (cause, ap (λ (s : Scene _). s.write_faults) only);
     }))
 refused_follows T a m b wire.Memory by only cause ends =

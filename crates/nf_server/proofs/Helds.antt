@@ -8,7 +8,7 @@ use Rattle.nf_words.specs.declared.history.Event.{Event}
 use Rattle.nf_words.specs.declared.history.Event.TheVariants.{Begin}
 use Rattle.nf_words.specs.declared.request.Request.{Request}
 use Rattle.nf_words.specs.declared.request.Words.{Words}
-use Rattle.nf_server.specs.Book.{Answer, Book, Begins, Ends, EndsBody, Enters, Waits, granted, held, held_after, is_unmade, is_unmade_by}
+use Rattle.nf_server.specs.Book.{Answer, Book, Begins, Ends, EndsBody, Enters, Passes, Waits, granted, held, held_after, is_unmade, is_unmade_by}
 use Rattle.nf_server.specs.Files.{IsResponding}
 use Rattle.nf_server.specs.Steps.{IsBegun, IsClosing, IsResponse, is_granted}
 use Rattle.nf_server.specs.Turn.{stays_granted}
@@ -32,12 +32,12 @@ enters_holds a b now event answer enters =
     ap (held_after None) enters.own ∙ held_push None a.own (enters.entry, answer)
 
 begins_holds : (a b : Book) (now : ℕ) (event : Event) (answer : Answer) → held a ≡ None
-    → MatchBool (is_unmade answer) (Waits a b) (Enters a b now event answer) → held b ≡ granted answer
+    → MatchBool (is_unmade answer) (Passes a b) (Enters a b now event answer) → held b ≡ granted answer
 begins_holds a b now event (Ok answered) idle enters = enters_holds a b now event (Ok answered) enters
 begins_holds a b now event (Err refusal) idle enters = here (is_unmade_by refusal) enters
   where
-    here : (unmade : Bool) → MatchBool unmade (Waits a b) (Enters a b now event (Err refusal)) → held b ≡ None
-    here true waits = waits_holds a b waits ∙ idle
+    here : (unmade : Bool) → MatchBool unmade (Passes a b) (Enters a b now event (Err refusal)) → held b ≡ None
+    here true passes = waits_holds a b passes.waits ∙ idle
     here false made = enters_holds a b now event (Err refusal) made
 
 pub begins_begun : (a b : Book) (now : ℕ) (words : Words) (r : Request) (answer : Answer) → held a ≡ None

@@ -1,3 +1,4 @@
+pub mod Lasting
 pub mod Helds
 pub mod Same
 pub mod Takes
@@ -6,3 +7,4 @@ pub mod Sendings
 pub mod Causes
 pub mod Faults
 pub mod Books
+pub mod Strikes

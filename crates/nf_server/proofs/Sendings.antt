@@ -1,80 +1,33 @@
 -- A file that is sent piece by piece.
-use Rattle.std.proofs.Common.{◌≡◌, ℕ, ◌+◌, ◌<◌, List, [], ◌∷◌, ◌++◌, length, take, refl, sym, ◌∙◌, ap, subst, inl, inr, arith, append-nil, append_assoc, length-append, Result, Ok, Err}
+use Rattle.std.proofs.Common.{◌≡◌, ℕ, ◌+◌, ◌-◌, ◌^◌, ◌<◌, List, [], ◌∷◌, ◌++◌, length, take, sym, ◌∙◌, ap, subst, inl, inr, arith, append-nil, append_assoc, length-append, Result, Ok, Err}
 use Rattle.std.proofs.Math.Seq.{take-append-add}
 use Rattle.std.proofs.lemmas.List.{take-append-le}
 use Rattle.std.proofs.lemmas.List.Folds.{concat-append}
 use Rattle.std.proofs.KnownBytes.{Appends-trans}
-use Rattle.std.specs.Prelude.{Bool, min, Option, None, Some, IfSome, slice_get, Vec}
+use Rattle.std.specs.Prelude.{Bool, min, Option, None, Some, slice_get, Vec}
 use Rattle.std.specs.List.{concat}
 use Rattle.std.specs.declared.alloc.Global.{Global}
 use Rattle.std.specs.Io.KnownBytes.{Appends}
 use Rattle.nf_outside.specs.Causes.{Rose}
 use Rattle.nf_base.specs.Content.{size_of}
 use Rattle.nf_base.specs.declared.content.Piece.{Piece}
-use Rattle.nf_words.specs.declared.history.Entry.{Entry}
 use Rattle.nf_dav.specs.Reply.{file_head}
-use Rattle.nf_laws.specs.Wholes.{Blobs, blob_at}
-use Rattle.nf_server.specs.Book.{Book, FailsPiece, IsPiece, TellsStill, Waits, held}
+use Rattle.nf_server.specs.Book.{Book, FailsPiece, IsPiece, Waits, held}
 use Rattle.nf_server.specs.Files.{AreGiven, IsStarted, Lacks, SendsFile, SendsPiece, SendsPieces, TakesPiece, WritesPieces, file_front, taken_first}
 use Rattle.nf_server.specs.Steps.{Scene, Says, Sends, Wrote}
 use Rattle.nf_server.specs.declared.backend.PieceFault.{PieceFault}
 use Rattle.nf_server.specs.declared.backend.PieceFault.TheVariants as fault
 use Rattle.nf_server.specs.declared.ended.Ended.{Ended}
 use Rattle.nf_server.specs.declared.ended.Ended.TheVariants as ended
-
--- ---- books that go on
-
-tells_refl : (told : Option Blobs) → TellsStill told told
-tells_refl None = refl
-tells_refl (Some shelf) = λ id bytes at. at
-
-tells_then : (a m b : Option Blobs) → TellsStill a m → TellsStill m b → TellsStill a b
-tells_then None m b p q = subst (λ (z : Option Blobs). TellsStill z b) p q
-tells_then (Some x) None b p q = absurd p
-tells_then (Some x) (Some y) None p q = absurd q
-tells_then (Some x) (Some y) (Some z) p q = λ id bytes at. q id bytes (p id bytes at)
-
-pub waits_refl : (a : Book) → Waits a a
-waits_refl a = record {
-  lasts = record { opening = refl; seat = refl; damaged = refl; strikes = omega arith; told = tells_refl a.told };
-  own = refl;
-  known = ([], sym (append-nil a.known));
-}
-
-pub waits_then : (a m b : Book) → Waits a m → Waits m b → Waits a b
-waits_then a m b p q = record {
-  lasts = record {
-    opening = q.lasts.opening ∙ p.lasts.opening;
-    seat = q.lasts.seat ∙ p.lasts.seat;
-    damaged = q.lasts.damaged ∙ p.lasts.damaged;
-    strikes = omega (arith, p.lasts.strikes, q.lasts.strikes);
-    told = tells_then a.told m.told b.told p.lasts.told q.lasts.told;
-  };
-  own = q.own ∙ p.own;
-  known = (p.known.0 ++ q.known.0, q.known.1 ∙ ap (λ (z : List Entry). z ++ q.known.0) p.known.1 ∙ append_assoc a.known p.known.0 q.known.0);
-}
+use Rattle.nf_server.proofs.Lasting.{piece_lasts, waits_same, waits_then}
 
 -- ---- pieces that were given
-
-told_still : (old new : Option Blobs) (id : ℕ) (bytes : List ℕ) → TellsStill old new
-    → IfSome old (λ shelf. blob_at shelf id ≡ Some bytes) → IfSome new (λ shelf. blob_at shelf id ≡ Some bytes)
-told_still None None id bytes tells at = tt
-told_still None (Some new) id bytes tells at = absurd (cc)
-told_still (Some old) None id bytes tells at = absurd tells
-told_still (Some old) (Some new) id bytes tells at = tells id bytes at
-
-piece_still : (a b : Book) (piece : Piece) (bytes : List ℕ) → Waits a b → IsPiece a piece bytes → IsPiece b piece bytes
-piece_still a b piece bytes waits is = record {
-  size = is.size;
-  digest = is.digest;
-  told = told_still a.told b.told piece.blob bytes waits.lasts.told is.told;
-}
 
 given_still : (a b : Book) (content : List Piece) (given : List (List ℕ)) → Waits a b → AreGiven a content given → AreGiven b content given
 given_still a b content [] waits are = tt
 given_still a b [] (bytes ∷ given) waits are = absurd are
 given_still a b (piece ∷ content) (bytes ∷ given) waits are =
-    (piece_still a b piece bytes waits are.0, given_still a b content given waits are.1)
+    (piece_lasts a b piece bytes waits.lasts are.0, given_still a b content given waits are.1)
 
 given_more : (b : Book) (content : List Piece) (given : List (List ℕ)) (piece : Piece) (bytes : List ℕ) → AreGiven b content given
     → slice_get content (length given) ≡ Some piece → IsPiece b piece bytes → AreGiven b content (given ++ bytes ∷ [])
@@ -148,18 +101,26 @@ took_sends a b p =
     cc
 
 same_waits : {C : Type 0} (a b : Scene C) → b.book ≡ a.book → Waits a.book b.book
-same_waits a b is = subst (λ (z : Book). Waits a.book z) (sym is) (waits_refl a.book)
+same_waits a b is = waits_same a.book b.book is
 
 -- a write leaves what is held
 pub book_held : {C : Type 0} (a b : Scene C) → b ≡ record a { output = b.output } → held b.book ≡ held a.book
 book_held a b p = ap (λ (z : Scene _). held z.book) p
 
+-- why a piece isn't given, as of an earlier book with as many strikes
+fails_since : (piece : Piece) (m a b : Book) (why : PieceFault) → m.strikes ≡ a.strikes → FailsPiece m b piece why → FailsPiece a b piece why
+fails_since piece m a b fault.Store same struck = struck ∙ ap (λ n. min (n + 1) (2 ^ 64 - 1)) same
+fails_since piece m a b (fault.Damaged damage) same damaged = (damaged.0 ∙ same, damaged.1, damaged.2)
+fails_since piece m a b fault.Memory same none = none ∙ same
+
 -- ---- a file so far
 
 module _ {C : Type 0} (close : Bool) (content : List Piece) (first : Option (Vec ℕ Global)) where
-  -- so many pieces were sent behind the head
+  -- so many pieces were sent behind the head, without a strike
   abbrev pub SentSome : Scene C → Scene C → ℕ → Type 0
-  SentSome a b n = (given : List (List ℕ)) × (length given ≡ n) × WritesPieces close content first a b given
+  SentSome a b n =
+      (given : List (List ℕ)) × (length given ≡ n) × WritesPieces close content first a b given
+      × (b.book.strikes ≡ a.book.strikes)
 
   pieces_then : (a m b : Scene C) (given : List (List ℕ)) → SendsPieces content first a m given → OnlySends m b → Waits m.book b.book
       → SendsPieces content first a b given
@@ -195,10 +156,11 @@ module _ {C : Type 0} (close : Bool) (content : List Piece) (first : Option (Vec
   -- ---- the head and the first piece
 
   breaks_off : (a b : Scene C) (given : List (List ℕ)) → SendsPieces content first a b given → IsFront a.output b.output (file_front close content given)
-      → Rose a.write_faults b.write_faults → SendsFile {T = Unit {0}} close content first a b (Err ended.WriteFault)
-  breaks_off a b given sends is rose = (
+      → Rose a.write_faults b.write_faults → b.book.strikes ≡ a.book.strikes
+      → SendsFile {T = Unit {0}} close content first a b (Err ended.WriteFault)
+  breaks_off a b given sends is rose unstruck = (
     given,
-    record { pieces = sends; count = is.count; less = is.less; bytes_are = is.bytes_are; cause = rose },
+    record { pieces = sends; count = is.count; less = is.less; bytes_are = is.bytes_are; cause = rose; unstruck = unstruck },
   )
 
   pub head_failed : (T : Type 0) (a b : Scene C) (by : Ended) → IsStarted a.book content first
@@ -208,6 +170,7 @@ module _ {C : Type 0} (close : Bool) (content : List Piece) (first : Option (Vec
       (front_before a.output b.output (file_head close (size_of content)) (concat (taken_first first))
       (record { count = says.count; less = says.less; bytes_are = says.bytes_are }))
       says.cause
+      (ap (λ (z : Scene C). z.book.strikes) says.only)
   head_failed T a b ended.Memory started says = inl says
   head_failed T a b ended.Closed started says = absurd says
   head_failed T a b ended.BadMessage started says = absurd says
@@ -230,6 +193,7 @@ module _ {C : Type 0} (close : Bool) (content : List Piece) (first : Option (Vec
     },
     no_pieces content (sym (ap (λ (z : Option (Vec ℕ Global)). length (taken_first z)) none) ∙ started.count)
         (ap (λ (z : Option (Vec ℕ Global)). length (taken_first z)) none),
+    ap (λ (z : Scene C). z.book.strikes) wrote.only,
   )
     where
       no_pieces : (pieces : List Piece) → 0 ≡ min 1 (length pieces) → length (taken_first first) ≡ 0 → length (taken_first first) ≡ length pieces
@@ -255,6 +219,7 @@ module _ {C : Type 0} (close : Bool) (content : List Piece) (first : Option (Vec
             (Appends-trans a.output m.output b.output _ piece.items head.bytes_are wrote.bytes_are);
         no_fault = ap (λ (z : Scene C). z.write_faults) wrote.only ∙ ap (λ (z : Scene C). z.write_faults) head.only;
       },
+      ap (λ (z : Scene C). z.book.strikes) wrote.only ∙ ap (λ (z : Scene C). z.book.strikes) head.only,
     )
 
     pub first_failed : (T : Type 0) (by : Ended) → Sends {T = T} m b piece.items (Err by)
@@ -267,6 +232,7 @@ module _ {C : Type 0} (close : Bool) (content : List Piece) (first : Option (Vec
         (front_behind a.output m.output b.output _ piece.items head.bytes_are
         (record { count = sends.count; less = sends.less; bytes_are = sends.bytes_are })))
         (subst (λ z. Rose z b.write_faults) (ap (λ (z : Scene C). z.write_faults) head.only) sends.cause)
+        (ap (λ (z : Scene C). z.book.strikes) sends.only ∙ ap (λ (z : Scene C). z.book.strikes) head.only)
     first_failed T ended.Memory sends = absurd sends
     first_failed T ended.Closed sends = absurd sends
     first_failed T ended.BadMessage sends = absurd sends
@@ -286,10 +252,10 @@ module _ {C : Type 0} (close : Bool) (content : List Piece) (first : Option (Vec
       → TakesPiece content n m t (Ok piece) → SendsPieces content first a t (given ++ piece.items ∷ [])
   took_more a m t given n piece count sends takes =
       pieces_more a t given takes.gives.piece piece.items (took_then a m t given n (Ok piece) sends takes)
-      (ap (slice_get content) count ∙ takes.gives.at_index) takes.gives.given
+      (ap (slice_get content) count ∙ takes.gives.at_index) takes.gives.given.0
 
   pub piece_sent : (T : Type 0) (sent : T) (a m b : Scene C) (n : ℕ) → SentSome a m n → SendsPiece content n m b (Ok sent) → SentSome a b (n + 1)
-  piece_sent T sent a m b n (given, count, so_far) (t, piece, takes, wrote) = (
+  piece_sent T sent a m b n (given, count, so_far, unstruck) (t, piece, takes, wrote) = (
     given ++ piece.items ∷ [],
     length-append given (piece.items ∷ []) ∙ ap (λ z. z + 1) count,
     record {
@@ -303,11 +269,13 @@ module _ {C : Type 0} (close : Bool) (content : List Piece) (first : Option (Vec
       no_fault =
           ap (λ (z : Scene C). z.write_faults) wrote.only ∙ ap (λ (z : Scene C). z.write_faults) takes.only ∙ so_far.no_fault;
     },
+    ap (λ (z : Scene C). z.book.strikes) wrote.only ∙ takes.gives.given.1 ∙ unstruck,
   )
 
   lacks : (a m b : Scene C) (given : List (List ℕ)) (n : ℕ) (why : PieceFault) → length given ≡ n → WritesPieces close content first a m given
-      → TakesPiece content n m b (Err why) → WritesPieces close content first a b given × Lacks content a b given why
-  lacks a m b given n why count so_far takes = (
+      → m.book.strikes ≡ a.book.strikes → TakesPiece content n m b (Err why)
+      → WritesPieces close content first a b given × Lacks content a b given why
+  lacks a m b given n why count so_far unstruck takes = (
     record {
       pieces = took_then a m b given n (Err why) so_far.pieces takes;
       bytes_are = subst (λ (z : Option (List ℕ)). Appends a.output z (file_front close content given)) (sym (ap (λ (z : Scene C). z.output) takes.only)) so_far.bytes_are;
@@ -316,18 +284,13 @@ module _ {C : Type 0} (close : Bool) (content : List Piece) (first : Option (Vec
     record {
       piece = takes.gives.piece;
       at_index = ap (slice_get content) count ∙ takes.gives.at_index;
-      failed = fails why takes.gives.given;
+      failed = fails_since takes.gives.piece m.book a.book b.book why unstruck takes.gives.given;
     },
   )
-    where
-      fails : (why : PieceFault) → FailsPiece m.book b.book takes.gives.piece why → FailsPiece a.book b.book takes.gives.piece why
-      fails fault.Store struck = omega (arith, so_far.pieces.waits.lasts.strikes, struck)
-      fails fault.Damaged damaged = damaged
-      fails fault.Memory none = tt
 
   pub piece_failed : (T : Type 0) (a m b : Scene C) (n : ℕ) (by : Ended) → SentSome a m n → SendsPiece {T = T} content n m b (Err by)
       → SendsFile {T = Unit {0}} close content first a b (Err by)
-  piece_failed T a m b n ended.WriteFault (given, count, so_far) (t, piece, takes, part) =
+  piece_failed T a m b n ended.WriteFault (given, count, so_far, unstruck) (t, piece, takes, part) =
       breaks_off a b (given ++ piece.items ∷ [])
       (pieces_then a t b (given ++ piece.items ∷ []) (took_more a m t given n piece count so_far.pieces takes)
       (part_sends t b part.only) (same_waits t b (ap (λ (z : Scene C). z.book) part.only)))
@@ -336,10 +299,11 @@ module _ {C : Type 0} (close : Bool) (content : List Piece) (first : Option (Vec
       (subst (λ (z : Option (List ℕ)). IsFront z b.output piece.items) (ap (λ (z : Scene C). z.output) takes.only)
       (record { count = part.count; less = part.less; bytes_are = part.bytes_are }))))
       (subst (λ z. Rose z b.write_faults) (ap (λ (z : Scene C). z.write_faults) takes.only ∙ so_far.no_fault) part.cause)
-  piece_failed T a m b n (ended.Cut why) (given, count, so_far) sends =
-      let cut = lacks a m b given n why count so_far sends.0 in (given, cut.0, cut.1, sends.1)
-  piece_failed T a m b n ended.Memory (given, count, so_far) sends =
-      let cut = lacks a m b given n fault.Memory count so_far sends in inr (given, cut.0, cut.1)
+      (ap (λ (z : Scene C). z.book.strikes) part.only ∙ takes.gives.given.1 ∙ unstruck)
+  piece_failed T a m b n (ended.Cut why) (given, count, so_far, unstruck) sends =
+      let cut = lacks a m b given n why count so_far unstruck sends.0 in (given, cut.0, cut.1, sends.1)
+  piece_failed T a m b n ended.Memory (given, count, so_far, unstruck) sends =
+      let cut = lacks a m b given n fault.Memory count so_far unstruck sends in inr (given, cut.0, cut.1)
   piece_failed T a m b n ended.Closed so_far sends = absurd sends
   piece_failed T a m b n ended.BadMessage so_far sends = absurd sends
   piece_failed T a m b n ended.NotBuilt so_far sends = absurd sends
@@ -347,7 +311,7 @@ module _ {C : Type 0} (close : Bool) (content : List Piece) (first : Option (Vec
   piece_failed T a m b n ended.ReadFault so_far sends = absurd sends
 
   pub all_sent : (a b : Scene C) (n : ℕ) → SentSome a b n → n ≡ length content → SendsFile {T = Unit {0}} close content first a b (Ok tt)
-  all_sent a b n (given, count, so_far) is = (given, so_far, count ∙ is)
+  all_sent a b n (given, count, so_far, unstruck) is = (given, so_far, count ∙ is, unstruck)
 
 -- a piece that was given, and then written or not
 pub piece_written : {C T : Type 0} (content : List Piece) (n : ℕ) (a m b : Scene C) (piece : Vec ℕ Global) (result : Result T Ended)

@@ -1,15 +1,18 @@
 -- What a seat knows of the site: the history that it has seen, its own entries with their answers, and the blobs.
-use Rattle.std.specs.Prelude.{◌≡◌, ℕ, Bool, true, false, max, min, ◌+◌, ◌-◌, ◌^◌, ◌<◌, ◌≤◌, ◌==◌, List, [], ◌∷◌, ◌++◌, length, Option, None, Some, Result, Ok, Err, OnOk, if◌then◌else◌, slice_get, IfSome, Contains, MatchBool, Vec}
+use Rattle.std.specs.Prelude.{◌≡◌, ◌≢◌, ℕ, Bool, true, false, max, min, ◌+◌, ◌-◌, ◌^◌, ◌<◌, ◌≤◌, ◌==◌, List, [], ◌∷◌, ◌++◌, length, Option, None, Some, Result, Ok, Err, OnOk, if◌then◌else◌, slice_get, IfSome, MatchBool, Vec, option_map}
 use Rattle.std.specs.declared.alloc.Global.{Global}
 use Rattle.sha2.specs.Sha256.{sha256}
 use Rattle.nf_base.specs.declared.content.Piece.{Piece}
 use Rattle.nf_base.specs.declared.content.TheConstants.{MAX_BODY}
 use Rattle.nf_base.specs.declared.rows.Row.{Row}
-use Rattle.nf_laws.specs.Wholes.{Blobs, blob_at}
+use Rattle.nf_defs.specs.Blobs.{Blobs, blob_at}
+use Rattle.nf_laws.specs.Wholes.{IsDamaged}
 use Rattle.nf_words.specs.State.{State, opened}
 use Rattle.nf_words.specs.Step.{blob_to}
 use Rattle.nf_words.specs.History.{IsLegal, MayBring, MayCome, after, answer_at, most_entries, replay}
+use Rattle.nf_words.specs.declared.answer.Damage.{Damage}
 use Rattle.nf_words.specs.declared.answer.Denial.{Denial}
+use Rattle.nf_words.specs.declared.answer.Measure.{Measure}
 use Rattle.nf_words.specs.declared.answer.Denial.TheVariants as denial
 use Rattle.nf_words.specs.declared.answer.Goal.{Goal}
 use Rattle.nf_words.specs.declared.answer.Goal.TheVariants.{Serve, Store}
@@ -18,6 +21,8 @@ use Rattle.nf_words.specs.declared.answer.Reply.TheVariants as reply
 use Rattle.nf_words.specs.declared.history.Entry.{Entry}
 use Rattle.nf_words.specs.declared.history.Event.{Event}
 use Rattle.nf_words.specs.declared.history.Event.TheVariants.{Begin, End}
+use Rattle.nf_words.specs.declared.history.Mark.{Mark}
+use Rattle.nf_words.specs.declared.history.Mark.TheVariants as mark
 use Rattle.nf_words.specs.declared.history.Outcome.{Outcome}
 use Rattle.nf_words.specs.declared.history.Outcome.TheVariants.{Sent, Gone, Body}
 use Rattle.nf_words.specs.declared.request.Request.{Request}
@@ -31,15 +36,13 @@ abbrev pub Answer : Type 0
 Answer = Result Reply Denial
 
 -- the rows that the run was opened with, the seat's number, the history that it has seen, its own entries with their
--- answers, how often the store failed it, the pieces that were damaged at the opening, and the blobs, where the store
--- tells them
+-- answers, how often the store failed it, and the blobs, where the store tells them
 pub record Book : Type 0 where
   pub opening : List Row
   pub seat : ℕ
   pub known : List Entry
   pub own : List (Entry × Answer)
   pub strikes : ℕ
-  pub damaged : List Piece
   pub told : Option Blobs
 
 -- the state after what the seat has seen, and more
@@ -80,19 +83,33 @@ held b = held_after None b.own
 
 -- ---- how a book goes on
 
--- whether the store tells stays, and what was told is told still
-abbrev pub TellsStill : Option Blobs → Option Blobs → Type 0
-TellsStill None new = new ≡ None
-TellsStill (Some old) None = ⊥
-TellsStill (Some old) (Some new) = (id : ℕ) (bytes : List ℕ) → blob_at old id ≡ Some bytes → blob_at new id ≡ Some bytes
+-- the number of the next blob, by what the seat has seen
+abbrev pub next_blob_of : Book → ℕ
+next_blob_of b = (state_of b).tables.meta.next_blob
+
+-- whether the store tells stays, and under each number that was given it tells what it told
+abbrev pub TellsStill : ℕ → Option Blobs → Option Blobs → Type 0
+TellsStill next None new = new ≡ None
+TellsStill next (Some old) None = ⊥
+TellsStill next (Some old) (Some new) = (id : ℕ) → id < next → blob_at new id ≡ blob_at old id
+
+-- one strike more, or as many as are counted
+abbrev pub Struck : ℕ → ℕ → Type 0
+Struck before now = now ≡ min (before + 1) (2 ^ 64 - 1)
+
+-- a step whose store failed is a strike, and no other is
+abbrev pub Strikes : Mark → ℕ → ℕ → Type 0
+Strikes mark.Answered before now = now ≡ before
+Strikes mark.Store before now = Struck before now
+Strikes mark.Memory before now = now ≡ before
 
 -- what every call keeps
 pub record Lasts (a b : Book) : Type 0 where
   pub opening : b.opening ≡ a.opening
   pub seat : b.seat ≡ a.seat
-  pub damaged : b.damaged ≡ a.damaged
   pub strikes : a.strikes ≤ b.strikes
-  pub told : TellsStill a.told b.told
+  pub next_blob : next_blob_of a ≤ next_blob_of b
+  pub told : TellsStill (next_blob_of a) a.told b.told
 
 -- the seat makes no entry; others' may have come
 pub record Waits (a b : Book) : Type 0 where
@@ -112,6 +129,7 @@ pub record Enters (a b : Book) (now : ℕ) (event : Event) (answer : Answer) : T
   pub event_is : entry.event ≡ event
   pub moment_is : entry.moment ≡ max (state_after a others).seen now
   pub answer_is : answer ≡ answer_at (state_after a others) entry entry.mark
+  pub strikes : Strikes entry.mark a.strikes b.strikes
   pub may_come : MayCome (length (a.known ++ others)) (state_after a others) entry
 
 -- ---- the Begin
@@ -139,39 +157,56 @@ IsOfBegin (Ok reply.Done) = Unit {0}
 IsOfBegin (Ok reply.Closed) = ⊥
 IsOfBegin (Err refusal) = Unit {0}
 
+-- nothing was done
+pub record Passes (a b : Book) : Type 0 where
+  pub waits : Waits a b
+  pub unstruck : b.strikes ≡ a.strikes
+
 -- it finds the run full exactly where there is no room: an entry that is made may come, and so had room
 pub record Begins (a b : Book) (now : ℕ) (words : Words) (request : Request) (answer : Answer) : Type 0 where
-  pub entry : MatchBool (is_unmade answer) (Waits a b) (Enters a b now (Begin words request) answer)
+  pub entry : MatchBool (is_unmade answer) (Passes a b) (Enters a b now (Begin words request) answer)
   pub answered : IsOfBegin answer
   pub full : answer ≡ Err denial.RunFull → most_entries < entries_wanted b
   pub room : answer ≡ Err denial.Memory → entries_wanted b ≤ most_entries
 
 -- ---- pieces
 
+-- the store tells these bytes under a number that was given
+pub record TellsPiece (b : Book) (piece : Piece) (bytes : List ℕ) (shelf : Blobs) : Type 0 where
+  pub given : piece.blob < next_blob_of b
+  pub there : blob_at shelf piece.blob ≡ Some bytes
+
 -- bytes of the piece's size and digest, and where the store tells, those under its number
 pub record IsPiece (b : Book) (piece : Piece) (bytes : List ℕ) : Type 0 where
   pub size : length bytes ≡ piece.size
   pub digest : sha256 bytes ≡ piece.digest
-  pub told : IfSome b.told (λ shelf. blob_at shelf piece.blob ≡ Some bytes)
+  pub told : IfSome b.told (TellsPiece b piece bytes)
 
--- the strikes rose, or stand at their last value
-abbrev pub Struck : ℕ → ℕ → Type 0
-Struck before now = min (before + 1) (2 ^ 64 - 1) ≤ now
+-- what the store has of a blob isn't what the piece says: it has none, or bytes of another length or digest
+abbrev pub Differs : Piece → Damage → Type 0
+Differs piece damage =
+    (damage.blob ≡ piece.blob) × (damage.wanted.length ≡ piece.size) × (damage.wanted.digest ≡ piece.digest)
+    × (damage.found ≢ Some damage.wanted)
 
--- the denial of a piece that isn't given
-abbrev pub denial_of_piece : PieceFault → Denial
-denial_of_piece fault.Store = denial.Store
-denial_of_piece fault.Damaged = denial.Store
-denial_of_piece fault.Memory = denial.Memory
+-- what the store tells there is what the damage says
+abbrev pub measured : Option (List ℕ) → Option Measure
+measured bytes = option_map (λ bytes. record { length = length bytes; digest = sha256 bytes }) bytes
 
--- why it isn't: the store failed, which is a strike; or it was damaged at the opening; want of memory is free
+-- the piece was damaged at the opening
+pub record TellsDamage (b : Book) (piece : Piece) (damage : Damage) (shelf : Blobs) : Type 0 where
+  pub damaged : IsDamaged b.opening shelf piece
+  pub found : damage.found ≡ measured (blob_at shelf piece.blob)
+
+-- why a piece isn't given: the store failed, which is a strike; or it has other bytes, and where it tells, had them at the
+-- opening; want of memory is free
 abbrev pub FailsPiece : Book → Book → Piece → PieceFault → Type 0
 FailsPiece a b piece fault.Store = Struck a.strikes b.strikes
-FailsPiece a b piece fault.Damaged = IfSome b.told (λ shelf. Contains b.damaged piece)
-FailsPiece a b piece fault.Memory = Unit {0}
+FailsPiece a b piece (fault.Damaged damage) =
+    (b.strikes ≡ a.strikes) × Differs piece damage × IfSome b.told (TellsDamage b piece damage)
+FailsPiece a b piece fault.Memory = b.strikes ≡ a.strikes
 
 abbrev pub GivesOrFails : Book → Book → Piece → Result (Vec ℕ Global) PieceFault → Type 0
-GivesOrFails a b piece (Ok bytes) = IsPiece b piece bytes.items
+GivesOrFails a b piece (Ok bytes) = IsPiece b piece bytes.items × (b.strikes ≡ a.strikes)
 GivesOrFails a b piece (Err fault) = FailsPiece a b piece fault
 
 pub record GivesPiece (a b : Book) (content : List Piece) (index : ℕ)
@@ -180,6 +215,12 @@ pub record GivesPiece (a b : Book) (content : List Piece) (index : ℕ)
   pub piece : Piece
   pub at_index : slice_get content index ≡ Some piece
   pub given : GivesOrFails a b piece result
+
+-- the denial of a piece that isn't given
+abbrev pub denial_of_piece : PieceFault → Denial
+denial_of_piece fault.Store = denial.Store
+denial_of_piece (fault.Damaged damage) = denial.Damaged damage
+denial_of_piece fault.Memory = denial.Memory
 
 -- ---- the End
 
@@ -202,9 +243,11 @@ IsOfBody (Ok reply.Closed) = ⊥
 IsOfBody (Ok (reply.Granted goal)) = ⊥
 IsOfBody (Err refusal) = Unit {0}
 
--- where the entry's step stores a blob, the body is told under its number
+-- where the entry's step stores a blob, the body is told under its number, which is given then
 abbrev pub Stores : State → Entry → List ℕ → Blobs → Type 0
-Stores s e body shelf = (id : ℕ) → blob_to s e.seat e.moment e.event ≡ Some id → blob_at shelf id ≡ Some body
+Stores s e body shelf =
+    (id : ℕ) → blob_to s e.seat e.moment e.event ≡ Some id
+    → (id < (after s e).tables.meta.next_blob) × (blob_at shelf id ≡ Some body)
 
 abbrev pub event_of_body : List ℕ → Event
 event_of_body body = End (Body (sha256 body) (length body))

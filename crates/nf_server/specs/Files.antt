@@ -88,8 +88,9 @@ pub record BreaksOff {C : Type 0} (close : Bool) (content : List Piece) (first :
   pub less : count < length (file_front close content given)
   pub bytes_are : Appends a.output b.output (take count (file_front close content given))
   pub cause : Rose a.write_faults b.write_faults
+  pub unstruck : b.book.strikes ≡ a.book.strikes
 
--- the piece behind the given ones wasn't
+-- the piece behind the given ones wasn't, and that alone is told by the strikes
 pub record Lacks {C : Type 0} (content : List Piece) (a b : Scene C) (given : List (List ℕ))
     (why : PieceFault) : Type 0 where
   pub piece : Piece
@@ -102,6 +103,7 @@ abbrev pub SendsFile : {C T : Type 0} → Bool → List Piece → Option (Vec �
     → Scene C → Scene C → Result T Ended → Type 0
 SendsFile close content first a b (Ok sent) =
     (given : List (List ℕ)) × WritesPieces close content first a b given × (length given ≡ length content)
+    × (b.book.strikes ≡ a.book.strikes)
 SendsFile close content first a b (Err (ended.Cut why)) =
     (given : List (List ℕ)) × WritesPieces close content first a b given
     × Lacks content a b given why × (why ≢ fault.Memory)

@@ -1,21 +1,26 @@
 -- What follows from the relation of a turn, and from a book that is one legal history.
-use Rattle.std.specs.Prelude.{◌≡◌, ◌⊎◌, ℕ, ◌==◌, Bool, List, [], ◌∷◌, ◌++◌, Option, Some, Ok, Err, option_map, if◌then◌else◌}
+use Rattle.std.specs.Prelude.{◌≡◌, ◌⊎◌, ℕ, ◌+◌, ◌-◌, ◌^◌, ◌≤◌, ◌==◌, Bool, true, false, List, [], ◌∷◌, ◌++◌, length, count_by, Option, None, Some, Result, Ok, Err, option_map, if◌then◌else◌}
+use mathlib.Core.Logic.{inl, inr}
 use Rattle.nf_http.specs.Head.{Head}
 use Rattle.nf_http.specs.declared.wire.WireFault.{WireFault}
 use Rattle.nf_http.specs.declared.wire.WireFault.TheVariants as wire
 use Rattle.nf_words.specs.State.{State, ticket_of}
 use Rattle.nf_words.specs.History.{answer_at, replay}
+use Rattle.nf_words.specs.declared.answer.Denial.TheVariants as denial
 use Rattle.nf_words.specs.declared.answer.Goal.{Goal}
 use Rattle.nf_words.specs.declared.history.Entry.{Entry}
 use Rattle.nf_outside.specs.Causes.{Rose}
 use Rattle.nf_server.specs.Book.{Answer, Book, IsBook, Lasts, held, own_from, state_of}
 use Rattle.nf_server.specs.Steps.{Scene, Heads, Cuts, Judges, Closes, cutting, is_granted, taken_length}
-use Rattle.nf_server.specs.Session.{Session}
+use Rattle.nf_server.specs.Session.{Session, Through}
 use Rattle.nf_server.specs.Turn.{Turn}
 use Rattle.nf_server.specs.declared.backend.Ending.TheVariants as ending
+use Rattle.nf_server.specs.declared.backend.PieceFault.TheVariants as fault
 use Rattle.nf_server.specs.declared.begun.Begun.{Begun}
 use Rattle.nf_server.specs.declared.ended.Ended.{Ended}
 use Rattle.nf_server.specs.declared.ended.Ended.TheVariants as ended
+use Rattle.nf_server.specs.declared.response.Response.{Response}
+use Rattle.nf_server.specs.declared.response.Response.TheVariants as response
 
 -- a head was taken and less than its body, and what was granted is gone
 pub record LosesBody {C : Type 0} (reads : C → ℕ → C → Type 0) (a b : Scene C) (fault : WireFault) : Type 0 where
@@ -48,6 +53,74 @@ pub record Follows {C : Type 0} (a b : Scene C) (end : Option Ended) : Type 0 wh
 
 abbrev pub SessionsFollow : {C : Type 0} → (C → ℕ → C → Type 0) → Type 0
 SessionsFollow {C} reads = (a b : Scene C) (end : Option Ended) → Session reads a b end → Follows a b end
+
+-- ---- strikes
+
+-- the answer of an entry whose store failed
+abbrev pub is_failed : Answer → Bool
+is_failed (Err denial.Store) = true
+is_failed answer = false
+
+-- how many of these entries are answered so
+abbrev pub failed_entries : List (Entry × Answer) → ℕ
+failed_entries entries = count_by (λ made. is_failed made.1) entries
+
+-- the first piece of a file, where the store failed at it
+abbrev pub failed_first : Response → ℕ
+failed_first (response.Lost fault.Store) = 1
+failed_first other = 0
+
+-- a piece behind it, at which the writing ended so
+abbrev pub failed_by : Ended → ℕ
+failed_by (ended.Cut fault.Store) = 1
+failed_by other = 0
+
+abbrev pub failed_behind : Result (Option Ended) Ended → ℕ
+failed_behind (Ok end) = 0
+failed_behind (Err by) = failed_by by
+
+-- how many pieces the store failed at in a turn
+abbrev pub failed_pieces : {C : Type 0} (reads : C → ℕ → C → Type 0) (last : Bool) (a b : Scene C)
+    (end : Option Ended)
+    → Turn reads last a b end → ℕ
+failed_pieces reads last a b end (inl ended) = 0
+failed_pieces reads last a b end (inr (inl refused)) = 0
+failed_pieces reads last a b end (inr (inr (m, head, heads, (asked, begun, judged, inl answers)))) =
+    failed_first answers.response + failed_behind answers.result
+failed_pieces reads last a b end (inr (inr (m, head, heads, (asked, begun, judged, inr cut)))) = 0
+
+-- in some turns
+abbrev pub failed_through : {C : Type 0} (reads : C → ℕ → C → Type 0) (a : Scene C) (scenes : List (Scene C))
+    (b : Scene C)
+    → Through reads a scenes b → ℕ
+failed_through reads a [] b through = 0
+failed_through reads a (m ∷ scenes) b through =
+    failed_pieces reads false a m None through.0 + failed_through reads m scenes b through.1
+
+-- and in a session
+abbrev pub failed_in : {C : Type 0} (reads : C → ℕ → C → Type 0) (a b : Scene C) (end : Option Ended)
+    → Session reads a b end → ℕ
+failed_in reads a b end session =
+    failed_through reads a session.scenes session.before session.through
+    + failed_pieces reads (length session.scenes == 9999) session.before b end session.turn
+
+-- as many more; or fewer, and the last value
+abbrev pub Counted : ℕ → ℕ → ℕ → Type 0
+Counted before n now = (now ≡ before + n) ⊎ ((now ≡ 2 ^ 64 - 1) × (now ≤ before + n))
+
+-- each of the seat's new entries at which the store failed, and each of so many pieces, is a strike, and nothing else is
+pub record CountsStrikes (a b : Book) (pieces : ℕ) : Type 0 where
+  pub entries : List (Entry × Answer)
+  pub own : b.own ≡ a.own ++ entries
+  pub counted : Counted a.strikes (failed_entries entries + pieces) b.strikes
+
+-- a session tells every failure of the store that was met in it
+abbrev pub StrikesCount : {C : Type 0} → (C → ℕ → C → Type 0) → Type 0
+StrikesCount {C} reads =
+    (a b : Scene C) (end : Option Ended) (session : Session reads a b end)
+    → CountsStrikes a.book b.book (failed_in reads a b end session)
+
+-- ---- what is held
 
 -- the goal of a seat's ticket
 abbrev pub goal_in : State → ℕ → Option Goal

@@ -160,7 +160,7 @@ IsResponse (Err refusal) v = v ≡ response.Denied refusal
 abbrev pub Starts : Book → Book → List Piece → Response → Type 0
 Starts a b [] (response.File content None) = (content ≡ []) × (b ≡ a)
 Starts a b (piece ∷ pieces) (response.File content (Some first)) =
-    (content ≡ piece ∷ pieces) × Waits a b × IsPiece b piece first.items
+    (content ≡ piece ∷ pieces) × Waits a b × IsPiece b piece first.items × (b.strikes ≡ a.strikes)
 Starts a b (piece ∷ pieces) (response.Lost fault) = Waits a b × FailsPiece a b piece fault
 Starts a b content other = ⊥
 

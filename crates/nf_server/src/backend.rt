@@ -6,7 +6,7 @@ ghost use Rattle.nf_words.specs.declared.answer.Goal.TheVariants.{Serve};
 ghost use Rattle.nf_server.specs.Book.{Book, Begins, Ends, GivesPiece, MayEnd, denial_of_piece, held};
 
 use nf_base::{Content, Moment};
-use nf_words::{Answer, Denial, Request, Words};
+use nf_words::{Answer, Damage, Denial, Request, Words};
 
 /// How what was granted ends.
 #[derive(Drop)]
@@ -25,7 +25,7 @@ pub enum PieceFault {
     /// The store failed, and counted it.
     Store,
     /// The store has other bytes, or none.
-    Damaged,
+    Damaged(Damage),
     /// There is no memory.
     Memory,
 }
@@ -37,7 +37,7 @@ impl PieceFault {
     {
         match self {
             PieceFault::Store => Denial::Store,
-            PieceFault::Damaged => Denial::Store,
+            PieceFault::Damaged(damage) => Denial::Damaged(damage),
             PieceFault::Memory => Denial::Memory,
         }
     }

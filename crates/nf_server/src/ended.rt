@@ -2,7 +2,7 @@
 
 ghost use Rattle.std.specs.Prelude.{◌≡◌, ◌||◌, is_some};
 ghost use Rattle.nf_http.specs.Head.{closes_session};
-ghost use Rattle.nf_server.specs.Turn.{end_by as spec_end_by, end_of as spec_end, end_of_denial as denial_end};
+ghost use Rattle.nf_server.specs.Turn.{end_by as spec_end_by, end_of as spec_end};
 
 use crate::backend::PieceFault;
 use crate::response::Response;
@@ -36,17 +36,8 @@ pub fn end_of(message: &Message, response: &Response) -> Option<Ended>
 {
     let closes = message.closes_session();
     match response {
-        Response::Denied(denial) => end_of_denial(closes, denial),
-        _ => closes.then_some(Ended::Closed),
-    }
-}
-
-fn end_of_denial(closes: bool, denial: &Denial) -> Option<Ended>
-    ensures { result ≡ denial_end closes denial.now }
-{
-    match denial {
-        Denial::RunFull => Some(Ended::RunFull),
-        Denial::NotBuilt => Some(Ended::NotBuilt),
+        Response::Denied(Denial::RunFull) => Some(Ended::RunFull),
+        Response::Denied(Denial::NotBuilt) => Some(Ended::NotBuilt),
         _ => closes.then_some(Ended::Closed),
     }
 }

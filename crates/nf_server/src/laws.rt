@@ -1,6 +1,6 @@
 //! What follows from the definitions. Each function does nothing, and its clause is the law.
 
-ghost use Rattle.nf_server.specs.Laws.{HeldIsTicket, OwnGrows, ReadFaultsStoreNothing, SessionsFollow};
+ghost use Rattle.nf_server.specs.Laws.{HeldIsTicket, OwnGrows, ReadFaultsStoreNothing, SessionsFollow, StrikesCount};
 
 use nf_outside::Clock;
 
@@ -12,6 +12,11 @@ pub fn read_faults_store_nothing<C: Clock>()
 /// A session counts a fault of its input or output where it ends by that, and nowhere else; what its seat knows only goes on.
 pub fn sessions_follow<C: Clock>()
     ensures { SessionsFollow C.reads }
+{}
+
+/// A session counts each failure of the store: those by which its own entries are answered, and those of pieces that it sends.
+pub fn strikes_count<C: Clock>()
+    ensures { StrikesCount C.reads }
 {}
 
 /// What a seat holds by its own entries is its ticket in the state of all that it has seen.

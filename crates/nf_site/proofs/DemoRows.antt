@@ -1,94 +1,56 @@
--- The state over the demonstration rows is sound.
-use Rattle.std.proofs.Common.{◌≡◌, ◌≢◌, ℕ, zero, suc, ◌<◌, ◌≤◌, List, [], ◌∷◌, get_or, refl, sym, ap, subst, arith}
-use Rattle.std.specs.List.{All, AllByRecursion, AllPairs}
-use Rattle.std.proofs.lemmas.List.Elements.{All-from_recursion, All-nil}
-use Rattle.std.proofs.lemmas.List.Kept.{AllPairs-cons}
-use Rattle.nf_base.specs.declared.content.Piece.{Piece}
-use Rattle.nf_base.specs.declared.rows.NodeRow.{NodeRow}
-use Rattle.nf_base.specs.declared.rows.Place.{Place}
-use Rattle.nf_base.specs.declared.rows.Place.TheVariants.{Root}
-use Rattle.nf_defs.specs.Tables.{Tables, tables_of}
-use Rattle.nf_defs.specs.Tree.{content_of}
-use Rattle.nf_site.specs.Demo.{demo_rows}
-use Rattle.nf_words.specs.Sound.{AreApart, HasRoot, IsNodeSound, IsPieceSound, IsPlaceSound, IsSound, root_of_user}
-use Rattle.nf_words.specs.State.{opened}
+-- The demonstration rows break no rule: the digests of the tokens are computed, and then the rules.
+use Rattle.std.proofs.Common.{◌≡◌, ℕ, List, [], ◌∷◌, codes, refl, subst, sym}
+use Rattle.sha2.specs.Sha256.{compress, digest_bytes, first_words, hash_after, rounds, schedule, sha256}
+use Rattle.nf_base.specs.declared.rows.Row.{Row}
+use Rattle.nf_base.specs.declared.rows.Row.TheVariants as row
+use Rattle.nf_rows.specs.Spelling.{spelled}
+use Rattle.nf_rules.specs.Rules.{AreUnbroken, leads, leads_within}
+use Rattle.nf_site.specs.Demo.{demo_rows, hello_file, root, user}
 
--- ---- lists that are written out
+abbrev alice_digest : List ℕ
+alice_digest =
+    0xA4 ∷ 0x2A ∷ 0xC5 ∷ 0x10 ∷ 0x88 ∷ 0x69 ∷ 0xB5 ∷ 0x99 ∷ 0xBC ∷ 0xBA ∷ 0xC2 ∷ 0x10 ∷ 0x69 ∷ 0xF6 ∷ 0x3F ∷ 0xB4
+    ∷ 0x7F ∷ 0x07 ∷ 0x45 ∷ 0x2F ∷ 0xCC ∷ 0x4B ∷ 0x87 ∷ 0xE8 ∷ 0x9B ∷ 0x3C ∷ 0x06 ∷ 0xA9 ∷ 0x45 ∷ 0x61 ∷ 0x2D ∷ 0x0B ∷ []
 
--- what holds of each two elements, by recursion on the list
-abbrev Pairs : {X : Type 0} → (X → X → Type 0) → List X → Type 0
-Pairs R [] = Unit {0}
-Pairs R (x ∷ xs) = AllByRecursion (R x) xs × Pairs R xs
+alice_is : sha256 (codes "alice-1") ≡ alice_digest
+unfolding first_words schedule rounds compress hash_after digest_bytes sha256
+alice_is = refl
 
-all_pairs : {X : Type 0} (R : X → X → Type 0) (xs : List X) → Pairs R xs → AllPairs R xs
-all_pairs R [] h = λ i j d before within. absurd (omega arith)
-all_pairs R (x ∷ xs) h = AllPairs-cons R x xs (All-from_recursion (R x) xs h.0) (all_pairs R xs h.1)
+abbrev bob_digest : List ℕ
+bob_digest =
+    0xA5 ∷ 0xFC ∷ 0x3E ∷ 0xAC ∷ 0x91 ∷ 0x07 ∷ 0xFE ∷ 0x9B ∷ 0x44 ∷ 0x99 ∷ 0x65 ∷ 0x91 ∷ 0x6D ∷ 0x54 ∷ 0xB3 ∷ 0x34
+    ∷ 0x23 ∷ 0x3B ∷ 0x80 ∷ 0x77 ∷ 0xA3 ∷ 0x7F ∷ 0x78 ∷ 0x2D ∷ 0x9B ∷ 0x59 ∷ 0xE6 ∷ 0xE9 ∷ 0x8E ∷ 0x04 ∷ 0xDE ∷ 0xF8 ∷ []
 
--- names that begin differently differ
-begins_apart : (a b : List ℕ) → get_or a 0 0 < get_or b 0 0 → a ≢ b
-begins_apart a b less same = omega (arith, ap (λ (name : List ℕ). get_or name 0 0) same)
+bob_is : sha256 (codes "bob-1") ≡ bob_digest
+unfolding first_words schedule rounds compress hash_after digest_bytes sha256
+bob_is = refl
 
--- ---- the demonstration rows
+abbrev carol_digest : List ℕ
+carol_digest =
+    0xB5 ∷ 0x2A ∷ 0x4A ∷ 0xBE ∷ 0x79 ∷ 0xE1 ∷ 0x55 ∷ 0x21 ∷ 0xCF ∷ 0xB9 ∷ 0x82 ∷ 0x70 ∷ 0xBB ∷ 0xB4 ∷ 0xDF ∷ 0x9A
+    ∷ 0x21 ∷ 0x80 ∷ 0xDF ∷ 0x89 ∷ 0x70 ∷ 0x28 ∷ 0xE9 ∷ 0xEF ∷ 0x5B ∷ 0x20 ∷ 0x78 ∷ 0xFE ∷ 0x89 ∷ 0x8E ∷ 0x3B ∷ 0x86 ∷ []
 
-abbrev demo : Tables
-demo = tables_of demo_rows
+carol_is : sha256 (codes "carol-1") ≡ carol_digest
+unfolding first_words schedule rounds compress hash_after digest_bytes sha256
+carol_is = refl
 
--- a root's row is sound
-root_sound : (row : NodeRow) → 1 ≤ row.id → row.id < 5 → row.changed ≡ 0 → row.content ≡ [] → row.place ≡ Root
-    → row.id ≡ root_of_user demo row.owner → IsNodeSound demo row
-root_sound row some given first empty place own = record {
-  some = some;
-  given = given;
-  changed = omega arith;
-  pieces = subst (λ (c : List Piece). All (IsPieceSound demo) c) (sym empty) (All-nil (IsPieceSound demo));
-  folder = λ is. empty;
-  place = subst (λ (p : Place). IsPlaceSound demo row p) (sym place) own;
-  steps = 0;
-  shallow = omega arith;
-  present = cc;
-}
+-- the demonstration rows, with these digests
+abbrev rows_with : List ℕ → List ℕ → List ℕ → List Row
+rows_with alice bob carol =
+    row.Meta (record { next_user = 4; next_group = 3; next_node = 5; next_share = 1; next_blob = 2; last = 0 })
+    ∷ user 1 (codes "alice") ∷ user 2 (codes "bob") ∷ user 3 (codes "carol")
+    ∷ row.Token (record { digest = alice; user = 1 }) ∷ row.Token (record { digest = bob; user = 2 })
+    ∷ row.Token (record { digest = carol; user = 3 })
+    ∷ row.Group (record { id = 1; name = codes "admin" }) ∷ row.Group (record { id = 2; name = codes "board" })
+    ∷ row.Member (record { group = 1; user = 1 })
+    ∷ root 1 (codes "alice") ∷ root 2 (codes "bob") ∷ root 3 (codes "carol") ∷ hello_file ∷ []
 
--- three roots and a file
-nodes_sound : All (IsNodeSound demo) demo.nodes
-nodes_sound zero d within = root_sound _ (omega arith) (omega arith) refl refl refl refl
-nodes_sound (suc zero) d within = root_sound _ (omega arith) (omega arith) refl refl refl refl
-nodes_sound (suc (suc zero)) d within = root_sound _ (omega arith) (omega arith) refl refl refl refl
-nodes_sound (suc (suc (suc zero))) d within = record {
-  some = omega arith;
-  given = omega arith;
-  changed = omega arith;
-  pieces = All-from_recursion (IsPieceSound demo) (content_of demo.nodes 4)
-      (record { some = omega arith; few = omega arith; first = omega arith; given = omega arith }, tt);
-  folder = λ is. cc;
-  place = (refl, refl);
-  steps = 1;
-  shallow = omega arith;
-  present = refl;
-}
-nodes_sound (suc (suc (suc (suc k)))) d within = absurd (omega arith)
+computed : AreUnbroken (rows_with alice_digest bob_digest carol_digest)
+unfolding spelled leads leads_within
+computed = refl
 
-roots_there : All (HasRoot demo) demo.users
-roots_there zero d within = record { row = _; there = refl; place = refl; folder = refl; owner = refl; name = refl }
-roots_there (suc zero) d within = record { row = _; there = refl; place = refl; folder = refl; owner = refl; name = refl }
-roots_there (suc (suc zero)) d within = record { row = _; there = refl; place = refl; folder = refl; owner = refl; name = refl }
-roots_there (suc (suc (suc k))) d within = absurd (omega arith)
-
-pub demo_sound : IsSound (opened demo_rows)
-demo_sound = record {
-  rows = record {
-    counters = record { users = omega arith; groups = omega arith; nodes = omega arith; shares = omega arith; blobs = omega arith };
-    rising = all_pairs (λ (a b : NodeRow). a.id < b.id) demo.nodes
-        ((omega arith, (omega arith, (omega arith, tt))), ((omega arith, (omega arith, tt)), ((omega arith, tt), (tt, tt))));
-    nodes = nodes_sound;
-    names = all_pairs AreApart demo.nodes (
-      (λ p i j. begins_apart _ _ (omega arith), (λ p i j. begins_apart _ _ (omega arith), (λ p n. cc, tt))),
-      ((λ p i j. begins_apart _ _ (omega arith), (λ p n. cc, tt)), ((λ p n. cc, tt), (tt, tt))),
-    );
-    roots = roots_there;
-    few_nodes = omega arith;
-    few_pieces = omega arith;
-  };
-  seen = omega arith;
-  seats = λ i j d before within. absurd (omega arith);
-  goals = All-nil _;
-}
+pub demo_unbroken : AreUnbroken demo_rows
+demo_unbroken =
+    subst (λ (alice : List ℕ). AreUnbroken (rows_with alice (sha256 (codes "bob-1")) (sha256 (codes "carol-1")))) (sym alice_is)
+    (subst (λ (bob : List ℕ). AreUnbroken (rows_with alice_digest bob (sha256 (codes "carol-1")))) (sym bob_is)
+    (subst (λ (carol : List ℕ). AreUnbroken (rows_with alice_digest bob_digest carol)) (sym carol_is) computed))

@@ -2,7 +2,14 @@
 use Rattle.std.proofs.Common.{ℕ, ◌+◌, ◌≤◌, ◌≡◌, Bool, true, false, not, ◌==◌, List, [], ◌∷◌, ◌++◌, Option, IsSome, find, filter, length, vec_capacity, Result, Ok, Err, refl, sym, ap, subst, ◌∙◌, arith, length-append}
 use Rattle.std.specs.Prelude.{None, Some}
 use Rattle.nf_base.specs.declared.rows.Row.{Row}
-use Rattle.nf_defs.specs.Tables.{Tables}
+use Rattle.nf_defs.specs.Tables.{Tables, tables_of}
+use Rattle.nf_rules.specs.Ruled.{AreRuled}
+use Rattle.nf_rules.specs.Rules.{AreUnbroken}
+use Rattle.nf_rules.proofs.Stays.{stays_ruled}
+use Rattle.nf_rules.proofs.Unbroken.{unbroken_are_ruled}
+use Rattle.nf_base.specs.KeptRows.{IsKept}
+use Rattle.std.specs.Prelude.{All}
+use Rattle.std.proofs.lemmas.List.Elements.{All-nil}
 use Rattle.nf_words.specs.Changes.{with_goal, goal_of}
 use Rattle.nf_words.specs.History.{MayAsk, MayBear, MayCome, MayEnd, LeavesRoom, after, replay}
 use Rattle.nf_words.specs.State.{State, opened, ticket_of, without_ticket}
@@ -120,12 +127,15 @@ held_step old new site e is held before asked marked room kept capacity =
     record { not_before = before; asked = asked; room = leaves_room site e.event room; marked = marked } in
     let more = history_more site.kept e (subst (λ (x : Held). IsHistory x.kept) is held.history) may in
     let sound = sound_after (length site.kept.history) site.kept.state e (subst (λ (x : Held). IsSound x.kept.state) is held.sound) may in
+    let ruled = stays_ruled (length site.kept.history) site.kept.state (e ∷ [])
+    (subst (λ (x : Held). AreRuled x.kept.state.tables) is held.ruled) (subst (λ (x : Held). IsSound x.kept.state) is held.sound) (may, tt) in
     let ends : length site.kept.history + length site.kept.state.tickets ≤ site.entries =
     subst (λ (x : Held). length x.kept.history + length x.kept.state.tickets ≤ x.entries) is held.ends in
     let left = ends_left site e.seat e.moment e.event e.mark ends asked room in
     record {
       history = subst IsHistory (sym kept) more;
       sound = subst (λ (k : Kept). IsSound k.state) (sym kept) sound;
+      ruled = subst (λ (k : Kept). AreRuled k.state.tables) (sym kept) ruled;
       ends = omega (
         arith,
         ap (λ (k : Kept). length k.history) kept,
@@ -157,14 +167,17 @@ bears_step s seat now event act sound asked decides =
 
 -- ---- a site's fields
 
--- a site that was just opened over rows that are sound
-pub opened_held : (site : Inside) (rows : List Row) → IsSound (opened rows)
+-- a site that was just opened over rows whose tables keep the rules
+pub opened_held : (site : Inside) (rows : List Row) → AreRuled (tables_of rows)
     → site.opening ≡ rows → site.current.state ≡ opened rows → site.history.items ≡ [] → IsHeld site
-opened_held site rows sound opening state none =
+opened_held site rows ruled opening state none =
     let kept : kept_of site ≡ opened_over rows = λ i. record { opening = opening i; state = state i; history = none i } in
+    let sound : IsSound (opened rows) =
+    record { rows = ruled.sound; seen = omega arith; seats = λ i j d before within. absurd (omega arith); goals = All-nil _ } in
     record {
       history = subst IsHistory (sym kept) (record { legal = tt; replayed = refl });
       sound = subst IsSound (sym state) sound;
+      ruled = subst (λ (s : State). AreRuled s.tables) (sym state) ruled;
       ends = omega (arith, ap (λ (es : List Entry). length es) none, ap (λ (s : State). length s.tickets) state);
     }
 
@@ -201,3 +214,7 @@ adopted old new site plan is held ready opening state history capacity =
     state ∙ ap (λ (p : Planned). stepped_by old.current.state plan.seat plan.moment plan.event p.decision) here.planned in
     let kept : kept_of new ≡ entered (kept_of old) e = λ i. record { opening = opening i; state = stepped i; history = history i } in
     held_step old new (held_of old) e refl held here.not_before here.asked tt (entry_room (held_of old) plan.event here.room) kept capacity
+
+-- rows that break no rule, as a list of rows holds them
+pub kept_ruled : (rows held : List Row) → rows ≡ held → All IsKept held → AreUnbroken rows → AreRuled (tables_of rows)
+kept_ruled rows held are kept unbroken = unbroken_are_ruled rows (subst (λ (all : List Row). All IsKept all) (sym are) kept) unbroken

@@ -4,3 +4,4 @@ pub mod Plans
 pub mod PlanView
 pub mod Demo
 pub mod View
+pub mod Built

@@ -11,7 +11,7 @@ use nf_base::{
 use std::alloc::{AllocError, Global};
 
 /// Alice, bob and carol with a token each, two groups, and one file of alice's.
-pub(crate) fn demo_rows(alloc: Global) -> Result<RowList, AllocError>
+pub fn demo_rows(alloc: Global) -> Result<RowList, AllocError>
     ensures { IfOk result (λ rows. rows ≡ demo_rows) }
 {
     let mut rows = RowList::new(alloc);

@@ -2,10 +2,13 @@
 #![tactic(auto)]
 
 mod demo;
+pub mod laws;
 mod plan;
 mod site;
 #[cfg(test)]
 mod tests;
 
+pub use demo::demo_rows;
+pub use nf_opening::{Broken, SiteFault};
 pub use plan::Plan;
 pub use site::{RoomFault, Site};

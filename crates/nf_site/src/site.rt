@@ -1,9 +1,11 @@
 //! The site.
 
 ghost use Rattle.std.specs.Prelude.{◌≡◌, ◌≢◌, ◌<◌, ◌↔◌, Err, IfOk, OnOk};
-ghost use Rattle.nf_site.specs.Demo.{demo_rows};
+ghost use Rattle.nf_defs.specs.Tables.{rows_of};
+ghost use Rattle.nf_rules.specs.Ruled.{AreRuled};
+ghost use Rattle.nf_site.specs.Built.{IsBuilt};
 ghost use Rattle.nf_site.specs.Held.{HasEntryRoom, HasNodeRoom, HasRoom, entries_wanted};
-ghost use Rattle.nf_site.specs.Kept.{IsHistory, entry, entered, moment_of, opened_over, stepped};
+ghost use Rattle.nf_site.specs.Kept.{IsHistory, entry, entered, moment_of, stepped};
 ghost use Rattle.nf_site.specs.Plans.{IsPlannedAtEnd, IsReady, plan_at, plan_of};
 ghost use Rattle.nf_words.specs.Endings.{end_decision};
 ghost use Rattle.nf_words.specs.History.{MayAsk, MayBear, most_entries};
@@ -14,10 +16,10 @@ ghost use Rattle.nf_words.specs.declared.history.Mark.TheVariants.{Answered};
 ghost use Rattle.nf_site.specs.declared.site.RoomFault.TheVariants.{Full};
 
 use crate::Plan;
-use crate::demo::demo_rows;
 use crate::plan::Deed;
 use nf_base::{Changes, Moment, RowList};
 use nf_decide::{Call, State, changes, decide_end};
+use nf_opening::{SiteFault, judge};
 use nf_words::{Allowed, Answer, Denial, Entry, Event, Mark, Outcome};
 use std::alloc::{AllocError, Global};
 use std::marker::Model;
@@ -65,12 +67,12 @@ impl Model for Site {
 }
 
 impl Site {
-    /// A site over the demonstration rows.
-    pub fn demo(alloc: Global) -> Result<Site, AllocError>
-        ensures { IfOk result (λ site. site.kept ≡ opened_over demo_rows) }
+    /// A site over rows that were stored.
+    pub fn build(alloc: Global, opening: RowList) -> Result<Site, SiteFault>
+        ensures { IsBuilt opening result }
     {
-        let opening = demo_rows(alloc)?;
-        let current = State::open(alloc, opening.rows())?;
+        let loaded = judge(alloc, opening.rows())?;
+        let current = State::open(alloc, loaded)?;
         Ok(Site {
             opening,
             current,
@@ -246,10 +248,18 @@ impl Site {
         &self.opening
     }
 
+    /// The rows as they are now, by rising kind and key.
+    pub fn rows(&self, alloc: Global) -> Result<RowList, AllocError>
+        ensures { IfOk result (λ rows. rows ≡ rows_of self.now.kept.state.tables) }
+    {
+        self.current.rows(alloc)
+    }
+
     pub fn history(&self) -> &[Entry]
         ensures entries { result.now ≡ self.now.kept.history }
         ensures legal { IsHistory self.now.kept }
         ensures sound { IsSound self.now.kept.state }
+        ensures ruled { AreRuled self.now.kept.state.tables }
     {
         &self.history
     }

@@ -1,11 +1,13 @@
 //! Several seats, and want of memory. What is answered to one seat the suite's cases show.
 
 ghost use Rattle.std.specs.Prelude.{◌≡◌, ℕ, List, [], ◌∷◌, ◌++◌, Some, IfOk, OnOk, IsNone};
+ghost use Rattle.nf_site.specs.Demo.{demo_rows};
+ghost use Rattle.nf_site.specs.Kept.{opened_over};
 ghost use Rattle.nf_words.specs.History.{MayWant};
 ghost use Rattle.nf_words.specs.State.{ticket_for, ticket_of, without_ticket};
 ghost use Rattle.nf_words.specs.declared.history.Outcome.TheVariants.{Body};
 
-use crate::Site;
+use crate::{Site, demo_rows};
 use nf_base::{BlobId, Digest, Moment, Name, Path};
 use nf_words::{
     Answer, Caller, Denial, Event, Goal, Mark, Outcome, Reply, Request, Spot, Wanted, Words,
@@ -17,6 +19,16 @@ const WORDS: Words = Words {
     first: 1,
     second: 2,
 };
+
+/// A site over the demonstration rows.
+fn demo(alloc: Global) -> Result<Site, Fail>
+    ensures { IfOk result (λ site. site.kept ≡ opened_over demo_rows) }
+{
+    match Site::build(alloc, demo_rows(alloc)?) {
+        Ok(site) => Ok(site),
+        Err(_) => Err("no site")?,
+    }
+}
 
 /// A PUT of so many bytes to a file of alice's, or its DELETE.
 fn request(alloc: Global, length: Option<u8>, name: &str) -> Result<Request, Fail>
@@ -129,7 +141,7 @@ fn lose(site: &mut Site, seat: u64, goal: &Goal) -> Result<(), Fail>
 #[test]
 fn stores_the_first_of_two(rt: HostRuntime) -> Result<(), Fail> {
     let alloc = rt.alloc();
-    let mut site = Site::demo(alloc)?;
+    let mut site = demo(alloc)?;
     let first = start(alloc, &mut site, 1, 2, "x")?;
     let second = start(alloc, &mut site, 2, 3, "x")?;
     let (answer, blob) = store(alloc, &mut site, 1, &first)?;
@@ -149,7 +161,7 @@ fn stores_the_first_of_two(rt: HostRuntime) -> Result<(), Fail> {
 #[test]
 fn stores_nothing_over_what_is_gone(rt: HostRuntime) -> Result<(), Fail> {
     let alloc = rt.alloc();
-    let mut site = Site::demo(alloc)?;
+    let mut site = demo(alloc)?;
     let goal = start(alloc, &mut site, 1, 2, "hello.txt")?;
     remove(alloc, &mut site, 2, "hello.txt")?;
     let (answer, _) = store(alloc, &mut site, 1, &goal)?;
@@ -160,7 +172,7 @@ fn stores_nothing_over_what_is_gone(rt: HostRuntime) -> Result<(), Fail> {
 #[test]
 fn an_end_without_memory_changes_no_row(rt: HostRuntime) -> Result<(), Fail> {
     let alloc = rt.alloc();
-    let mut site = Site::demo(alloc)?;
+    let mut site = demo(alloc)?;
     let goal = start(alloc, &mut site, 1, 2, "x")?;
     lose(&mut site, 1, &goal)?;
     let entries = site.history();

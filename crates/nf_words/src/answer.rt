@@ -3,7 +3,7 @@
 ghost use Rattle.std.specs.Prelude.{◌≡◌};
 ghost use Rattle.nf_words.specs.Limits.{count_of};
 
-use nf_base::{BlobId, Content, Name, NameFault, NodeId, NodeRow};
+use nf_base::{BlobId, Content, Digest, Name, NameFault, NodeId, NodeRow};
 use nf_defs::Seeker;
 use std::marker::Model;
 
@@ -36,6 +36,8 @@ pub enum Denial {
     Head,
     /// 500: the store failed.
     Store,
+    /// 500: the store hasn't the bytes that a row names.
+    Damaged(Damage),
     /// 500: the run has no room for two more entries.
     RunFull,
     /// 501: the message has a transfer coding.
@@ -53,6 +55,23 @@ pub enum Denial {
 pub enum TargetFault {
     /// It is a root.
     Root,
+}
+
+/// A blob that isn't what a row says of it.
+#[derive(Clone, Copy, PartialEq, Eq)]
+pub struct Damage {
+    pub blob: BlobId,
+    /// What the row says.
+    pub wanted: Measure,
+    /// What the store has, if it has any such blob.
+    pub found: Option<Measure>,
+}
+
+/// How many bytes there are, and their digest.
+#[derive(Clone, Copy, PartialEq, Eq)]
+pub struct Measure {
+    pub length: u64,
+    pub digest: Digest,
 }
 
 /// A limit of the site.

@@ -7,7 +7,9 @@ mod history;
 mod laws;
 mod request;
 
-pub use answer::{Allowed, Answer, Denial, Goal, Limit, LockKey, NodeIds, Reply, TargetFault};
+pub use answer::{
+    Allowed, Answer, Damage, Denial, Goal, Limit, LockKey, Measure, NodeIds, Reply, TargetFault,
+};
 pub use history::{Entry, Event, Mark, Outcome, Ticket};
 pub use laws::{
     ends_free, grants_ticket, marks_answer, others_keep, refusals_keep, rules_in_order,

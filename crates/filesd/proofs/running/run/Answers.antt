@@ -1,50 +1,45 @@
-use Rattle.std.proofs.Common.{◌∙◌, refl, sym, ap, subst}
-use Rattle.nf_promises.specs.Room.{IsAlone, IsFresh}
-use Rattle.nf_server.specs.Book.{held}
-use Rattle.nf_server.proofs.Causes.{session_follows}
-use Rattle.nf_site.specs.Held.{Held}
-use Rattle.nf_site.specs.Kept.{Kept}
-use Rattle.filesd.specs.Desk.{book_of}
-use Rattle.filesd.proofs.Desks.{is_alone, no_tickets}
+use Rattle.std.proofs.Common.{List, subst}
+use Rattle.std.specs.Prelude.{Option, Some, Result, Ok, map}
+use Rattle.std.specs.String.{string_bytes}
+use Rattle.std.specs.declared.alloc.AllocError.{AllocError}
+use Rattle.nf_base.specs.declared.rows.Row.{Row}
+use Rattle.nf_command.proofs.Readings.{init_is_read}
+use Rattle.nf_command.specs.First.{init_rows}
+use Rattle.nf_command.specs.Reading.{ReadsCommand}
+use Rattle.nf_command.specs.declared.command.Command.{Command}
+use Rattle.nf_command.specs.declared.command.Command.TheVariants as commands
+use Rattle.filesd.specs.Init.{Inits}
+use Rattle.filesd.specs.Outside.{outlet}
+use Rattle.filesd.proofs.Beginning.{inits_beside, rows_are}
 use Rattle.filesd.proofs.OneFile.{serves_one}
-use Rattle.filesd.proofs.Runs.{has_room, read_rose, write_rose}
+use Rattle.filesd.proofs.Serving.{runs_read, runs_write}
 use Rattle.filesd.proofs.running.run.Goals as goal
 
-pub returns-in-Ok-clause-opening : goal.returns-in-Ok-clause-opening
-returns-in-Ok-clause-opening g c =
-    ap (λ (h : Held). h.kept.opening) c.into_site.ensures.site
-    ∙ (session_follows g.C.Clock.reads _ _ c.serve_session-end.result c.serve_session-end.ensures.session.2).lasts.opening
-    ∙ ap (λ (k : Kept). k.opening) c.in-Ok.ensures.site
+pub returns-in-Ok-Some-Batch-clause-one_file : goal.returns-in-Ok-Some-Batch-clause-one_file
+returns-in-Ok-Some-Batch-clause-one_file g c = λ batch.
+    serves_one g.C.Clock.reads _ _ c.batch.result.status c.batch.result.site c.batch.ensures.runs c.batch.ensures.leaves
 
-pub returns-in-Ok-clause-idle : goal.returns-in-Ok-clause-idle
-returns-in-Ok-clause-idle g c =
-    no_tickets c.into_site.result.kept c.serve_session-end.new.backend.store.blobs c.into_site.ensures.history c.into_site.ensures.alone
-    (ap (λ (h : Held). held (book_of h.kept c.serve_session-end.new.backend.store.blobs)) c.into_site.ensures.site ∙ c.serve_session-end.ensures.idle)
+pub returns-in-Ok-Some-Batch-clause-read : goal.returns-in-Ok-Some-Batch-clause-read
+returns-in-Ok-Some-Batch-clause-read g c =
+    runs_read g.C.Clock.reads _ _ c.batch.result.status c.batch.result.site c.batch.ensures.runs
 
-pub returns-in-Ok-clause-room : goal.returns-in-Ok-clause-room
-returns-in-Ok-clause-room g c =
-    has_room g.C.Clock.reads _ _ c.serve_session-end.result c.status_of.result c.serve_session-end.ensures.session.2 c.status_of.ensures
-    (subst (λ (k : Kept). IsFresh (book_of k c.in-Ok.desk.store.blobs)) (sym c.in-Ok.ensures.site) (record { known = refl; own = refl }))
-    (subst (λ (h : Held). IsAlone (book_of h.kept c.serve_session-end.new.backend.store.blobs)) c.into_site.ensures.site
-    (is_alone c.into_site.result.kept c.serve_session-end.new.backend.store.blobs c.into_site.ensures.alone))
+pub returns-in-Ok-Some-Batch-clause-write : goal.returns-in-Ok-Some-Batch-clause-write
+returns-in-Ok-Some-Batch-clause-write g c =
+    runs_write g.C.Clock.reads _ _ c.batch.result.status c.batch.result.site c.batch.ensures.runs
 
-pub returns-in-Ok-clause-read : goal.returns-in-Ok-clause-read
-returns-in-Ok-clause-read g c =
-    read_rose g.C.Clock.reads _ _ c.serve_session-end.result c.status_of.result c.serve_session-end.ensures.session.2 c.status_of.ensures
-
-pub returns-in-Ok-clause-write : goal.returns-in-Ok-clause-write
-returns-in-Ok-clause-write g c =
-    write_rose g.C.Clock.reads _ _ c.serve_session-end.result c.status_of.result c.serve_session-end.ensures.session.2 c.status_of.ensures
-
-pub returns-in-Ok-clause-one_file : goal.returns-in-Ok-clause-one_file
-returns-in-Ok-clause-one_file g c = λ batch.
-    serves_one g.C.Clock.reads _ _ c.serve_session-end.result c.status_of.result
-    (g.S.Ends.left c.args.input.now) (g.O.Ends.written c.args.output.now) (g.O.Ends.written c.serve_session-end.new.output)
-    c.serve_session-end.ensures.session.2 c.status_of.ensures refl refl refl
-    (record {
-      first = λ i. book_of (c.in-Ok.ensures.site i) (c.in-Ok.ensures.store i);
-      alone =
-          subst (λ (h : Held). IsAlone (book_of h.kept c.serve_session-end.new.backend.store.blobs)) c.into_site.ensures.site
-          (is_alone c.into_site.result.kept c.serve_session-end.new.backend.store.blobs c.into_site.ensures.alone);
-      strikes = refl;
-    })
+pub returns-in-Ok-Some-Init-clause-init : goal.returns-in-Ok-Some-Init-clause-init
+returns-in-Ok-Some-Init-clause-init g c = λ name token quota is.
+    let init = c.in-Ok-Some-Init.init in
+    let words = map string_bytes c.args.words.now in
+    let read : ReadsCommand words (Ok (Some (commands.Init init))) =
+    subst (λ (command : Command). ReadsCommand words (Ok (Some command))) c.in-Ok-Some-Init.field-0-0-is
+    (subst (λ (command : Option Command). ReadsCommand words (Ok command)) c.in-Ok-Some-Init.field-0-is
+    (subst (λ (read : Result (Option Command) AllocError). ReadsCommand words read) c.in-Ok-Some-Init.is c.command_of.ensures)) in
+    let gives = init_is_read words name token quota (Ok (Some (commands.Init init))) is read in
+    let rows = rows_are init.name init.token init.quota name token quota gives.0 gives.1 gives.2 in
+    inits_beside (g.S.Ends.left c.args.input.now) (g.S.Ends.read_faults c.args.input.now) c.args.clock.now (init_rows name token quota) _ _
+    c.initialize.result.status c.initialize.result.site
+    (subst (λ (these : List Row). Inits these
+    (outlet g.O.Ends g.K.Keeper c.args.output.now c.args.keeper)
+    (outlet g.O.Ends g.K.Keeper c.initialize.new.output c.initialize.result.keeper)
+    c.initialize.result.status c.initialize.result.site) rows c.initialize.ensures.inits)

@@ -1,14 +1,5 @@
-use Rattle.std.proofs.Common.{sym, subst, ◌∙◌}
-use Rattle.nf_decide.specs.Rising.{AreRising}
-use Rattle.nf_decide.proofs.Loads.{rising_more, rows_more}
+use Rattle.nf_decide.proofs.Openings.{people_of}
 use Rattle.nf_decide.proofs.tables.Tables.of.Goals as goal
 
-pub loop-row-preserved : goal.loop-row-preserved
-loop-row-preserved c =
-    let t = c.loop-row.tables.tables in
-    let row = c.in_ok-copy.field-0 in
-    record {
-      left = rows_more t c.put.new.self.tables c.args.rows.now c.loop-row.row-index row c.loop-row-test.true (cc (c.in_ok-copy.ensures, c.row-item.is)) c.in_ok-put.ensures
-          ∙ c.loop-row.invariant.left;
-      rising = subst AreRising (sym c.in_ok-put.ensures) (rising_more t row c.loop-row.invariant.rising);
-    }
+pub load-requires : goal.load-requires
+load-requires c = people_of _ (rw (← c.loaded.view_is) at c.requires)

@@ -1,0 +1,82 @@
+-- A run of `batch`, from what its parts say.
+use Rattle.std.proofs.Common.{◌≡◌, ℕ, ◌≤◌, List, [], ◌∷◌, length, refl, ◌∙◌, ap, subst}
+use Rattle.std.specs.Prelude.{Option, None, Some}
+use Rattle.nf_base.specs.declared.rows.Row.{Row}
+use Rattle.nf_desk.specs.Desk.{book_of}
+use Rattle.nf_desk.specs.Opened.{Opens, first_blob, told_first}
+use Rattle.nf_desk.specs.Opening.{OpensTo}
+use Rattle.nf_desk.specs.declared.first.First.{First}
+use Rattle.nf_desk.specs.declared.first.Opening.TheVariants.{Either}
+use Rattle.nf_keeper.specs.Keeping.{Stored}
+use Rattle.nf_outside.specs.Causes.{Rose}
+use Rattle.nf_rows.specs.Spelling.{Raw}
+use Rattle.nf_rules.specs.Rules.{AreUnbroken}
+use Rattle.nf_server.proofs.Causes.{session_follows}
+use Rattle.nf_server.specs.Book.{Book}
+use Rattle.nf_server.specs.Session.{Session}
+use Rattle.nf_server.specs.declared.ended.Ended.{Ended}
+use Rattle.nf_site.specs.Demo.{demo_rows}
+use Rattle.nf_site.specs.Held.{Held}
+use Rattle.nf_site.specs.Kept.{Kept, opened_over}
+use Rattle.nf_told.specs.Told.{Told}
+use Rattle.filesd.specs.Opening.{IsUnopened, WhyUnopened, demo_blob, told_opened}
+use Rattle.filesd.specs.Opening as opening
+use Rattle.filesd.specs.Outside.{Outside}
+use Rattle.filesd.specs.Session.{Runs, Serves, first_book, scene_of, status_of}
+use Rattle.filesd.specs.declared.status.Status.{Status}
+use Rattle.filesd.specs.declared.status.Status.TheVariants as exit
+use Rattle.filesd.proofs.Runs.{read_rose, write_rose}
+
+-- what is told once the demonstration rows are the first
+told_is : (first : First) (raws : List Raw) (told : Option Told) → first.rows ≡ demo_rows → first_blob first ≡ demo_blob
+    → told_first first raws told ≡ told_opened raws told
+told_is first [] told rows blob =
+    ap (λ (these : List Row). opening.told_first these (first_blob first) told) rows
+    ∙ ap (λ (stored : Option Stored). opening.told_first demo_rows stored told) blob
+told_is first (raw ∷ raws) told rows blob = refl
+
+-- the book with which the session begins
+book_is : (k : Kept) (rows : List Row) (told now : Option Told) (before faults : ℕ) → k ≡ opened_over rows → told ≡ now → faults ≡ before
+    → book_of k told faults ≡ first_book rows now before
+book_is k rows told now before faults begun tells same =
+    ap (λ (z : Kept). book_of z told faults) begun ∙ ap (λ (o : Option Told). book_of (opened_over rows) o faults) tells
+    ∙ ap (λ (n : ℕ). book_of (opened_over rows) now n) same
+
+-- a session over a desk that was opened so
+pub serves : {C : Type 0} (reads : C → ℕ → C → Type 0) (a b : Outside C) (status : Status) (site : Held) (first : First) (k : Kept)
+    (told : Option Told) (faults : ℕ) (end : Option Ended) (kept : List ℕ)
+    → Opens (Either first) a.told told k → first.rows ≡ demo_rows → first_blob first ≡ demo_blob → AreUnbroken k.opening → faults ≡ a.faults
+    → status ≡ status_of end → length kept ≤ 8192
+    → Session reads (scene_of a [] (book_of k told faults)) (scene_of b kept (book_of site.kept b.told b.faults)) end
+    → Serves reads a b status site
+serves reads a b status site first k told faults end kept opens rows blob unbroken same ended few session = record {
+  raws = opens.raws;
+  loaded = opens.loaded;
+  rows = k.opening;
+  opens = subst (λ (these : List Row). OpensTo these opens.raws k.opening) rows opens.rows;
+  unbroken = unbroken;
+  end = end;
+  ended = ended;
+  kept = kept;
+  few = few;
+  session = subst (λ (book : Book). Session reads (scene_of a [] book) (scene_of b kept (book_of site.kept b.told b.faults)) end)
+      (book_is k k.opening told (told_opened opens.raws a.told) a.faults faults opens.begun
+      (opens.told ∙ told_is first opens.raws a.told rows blob) same) session;
+  opening = (session_follows reads _ _ end session).lasts.opening;
+}
+
+-- ---- faults of the ends
+
+unopened_by : {C : Type 0} (a b : Outside C) (status wanted : Status) → IsUnopened a b status → status ≡ wanted
+    → WhyUnopened a.told a.faults b.faults wanted
+unopened_by a b status wanted unopened is = subst (λ (z : Status). WhyUnopened a.told a.faults b.faults z) is unopened.why
+
+pub runs_read : {C : Type 0} (reads : C → ℕ → C → Type 0) (a b : Outside C) (status : Status) (site : Option Held) → Runs reads a b status site
+    → status ≡ exit.ReadFault → Rose a.read_faults b.read_faults
+runs_read reads a b status None unopened is = absurd (unopened_by a b status exit.ReadFault unopened is)
+runs_read reads a b status (Some site) serves is = read_rose reads _ _ serves.end status serves.session serves.ended is
+
+pub runs_write : {C : Type 0} (reads : C → ℕ → C → Type 0) (a b : Outside C) (status : Status) (site : Option Held) → Runs reads a b status site
+    → status ≡ exit.WriteFault → Rose a.write_faults b.write_faults
+runs_write reads a b status None unopened is = absurd (unopened_by a b status exit.WriteFault unopened is)
+runs_write reads a b status (Some site) serves is = write_rose reads _ _ serves.end status serves.session serves.ended is

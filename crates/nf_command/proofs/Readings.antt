@@ -1,0 +1,45 @@
+-- The words of a command are read as that command.
+use Rattle.std.proofs.Common.{◌≡◌, ◌≤◌, ◌∙◌, ℕ, List, [], ◌∷◌, get_or, codes, Option, None, Some, Result, Ok, Err, MatchResult, refl, sym, ap, arith, inl, inr}
+use Rattle.std.specs.Prelude.{decimal}
+use Rattle.std.specs.declared.alloc.AllocError.{AllocError}
+use Rattle.std.proofs.lemmas.Fmt.{decimal_injective}
+use Rattle.sha2.specs.Sha256.{sha256}
+use Rattle.nf_rules.specs.Rules.{most_quota}
+use Rattle.nf_command.specs.Command.{IsBatch, IsCommand, IsInit}
+use Rattle.nf_command.specs.Reading.{GivesInit, IsNearlyInit, ReadsCommand}
+use Rattle.nf_command.specs.declared.command.Command.{Command}
+use Rattle.nf_command.specs.declared.command.Command.TheVariants as commands
+
+pub batch_is_read : (words : List (List ℕ)) (read : Result (Option Command) AllocError) → IsBatch words → ReadsCommand words read
+    → read ≡ Ok (Some commands.Batch)
+batch_is_read words (Ok (Some commands.Batch)) batch reads = refl
+batch_is_read words (Ok (Some (commands.Init init))) batch reads = absurd (cc (sym batch ∙ reads.1.spelled))
+batch_is_read words (Ok None) batch reads = absurd (reads (inl batch))
+batch_is_read words (Err error) batch reads = absurd (cc (sym batch ∙ reads.3))
+
+-- the words say one name, one token and one quota
+same_init : (name token : List ℕ) (quota : ℕ) (other secret : List ℕ) (number : ℕ) → quota ≤ most_quota → number ≤ most_quota
+    → codes "init" ∷ name ∷ token ∷ decimal quota ∷ [] ≡ codes "init" ∷ other ∷ secret ∷ decimal number ∷ []
+    → (name ≡ other) × (token ≡ secret) × (quota ≡ number)
+same_init name token quota other secret number few least same = (
+  ap (λ (words : List (List ℕ)). get_or words 1 []) same,
+  ap (λ (words : List (List ℕ)). get_or words 2 []) same,
+  decimal_injective quota number (omega arith) (omega arith) (ap (λ (words : List (List ℕ)). get_or words 3 []) same),
+)
+
+pub init_is_read : (words : List (List ℕ)) (name token : List ℕ) (quota : ℕ) (read : Result (Option Command) AllocError)
+    → IsInit words name token quota → ReadsCommand words read → GivesInit read name token quota
+init_is_read words name token quota (Ok (Some commands.Batch)) is reads = absurd (cc (sym is.spelled ∙ reads))
+init_is_read words name token quota (Ok (Some (commands.Init init))) is reads =
+    let same = same_init init.name reads.0 init.quota name token quota reads.1.few is.few (sym reads.1.spelled ∙ is.spelled) in
+    (same.0, reads.2 ∙ ap sha256 same.1, same.2)
+init_is_read words name token quota (Ok None) is reads = reads (inr (name, token, quota, is))
+init_is_read words name token quota (Err error) is reads = tt
+
+pub others_are_refused : (words : List (List ℕ)) (read : Result (Option Command) AllocError) → (IsCommand words → ⊥)
+    → ReadsCommand words read → MatchResult read (λ command. command ≡ None) (λ error. IsNearlyInit words)
+others_are_refused words (Ok (Some commands.Batch)) none reads = absurd (none (inl reads))
+others_are_refused words (Ok (Some (commands.Init init))) none reads =
+    absurd (none (inr (init.name, reads.0, init.quota, reads.1)))
+others_are_refused words (Ok None) none reads = refl
+others_are_refused words (Err error) none reads = reads

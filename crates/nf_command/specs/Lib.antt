@@ -1,0 +1,4 @@
+pub mod Command
+pub mod First
+pub mod Numbers
+pub mod Reading

@@ -1,0 +1,39 @@
+//! What follows from the definitions. Each function does nothing, and its clause is the law.
+
+ghost use Rattle.std.specs.Prelude.{◌≡◌, ◌≤◌, ◌∷◌, ℕ, List, Option, None, Some, Result, Ok, MatchResult};
+ghost use Rattle.std.specs.declared.alloc.AllocError.{AllocError};
+ghost use Rattle.nf_base.specs.Naming.{IsName};
+ghost use Rattle.nf_base.specs.declared.rows.MetaRow.{MetaRow};
+ghost use Rattle.nf_base.specs.declared.rows.Row.{Row};
+ghost use Rattle.nf_base.specs.declared.rows.Row.TheVariants.{Meta};
+ghost use Rattle.nf_rules.specs.Rules.{AreUnbroken, most_quota};
+ghost use Rattle.nf_command.specs.Command.{IsBatch, IsCommand, IsInit};
+ghost use Rattle.nf_command.specs.First.{init_rows};
+ghost use Rattle.nf_command.specs.Reading.{GivesInit, IsNearlyInit, ReadsCommand};
+ghost use Rattle.nf_command.specs.declared.command.Command.{Command};
+ghost use Rattle.nf_command.specs.declared.command.Command.TheVariants.{Batch};
+
+/// The words of a `batch` are always read as one.
+pub fn batch_is_read()
+    ensures { (words : List (List ℕ)) (read : Result (Option Command) AllocError) → IsBatch words → ReadsCommand words read → read ≡ Ok (Some Batch) }
+{}
+
+/// Those of an `init` are read as that one, but for want of memory.
+pub fn init_is_read()
+    ensures { (words : List (List ℕ)) (name : List ℕ) (token : List ℕ) (quota : ℕ) (read : Result (Option Command) AllocError) → IsInit words name token quota → ReadsCommand words read → GivesInit read name token quota }
+{}
+
+/// Words that are no command are told so, or they are those of an `init` but for the name, and memory was wanting.
+pub fn others_are_refused()
+    ensures { (words : List (List ℕ)) (read : Result (Option Command) AllocError) → (IsCommand words → ⊥) → ReadsCommand words read → MatchResult read (λ command. command ≡ None) (λ error. IsNearlyInit words) }
+{}
+
+/// The rows that a store begins with break no rule.
+pub fn init_is_unbroken()
+    ensures { (name : List ℕ) (token : List ℕ) (quota : ℕ) → IsName name → quota ≤ most_quota → AreUnbroken (init_rows name token quota) }
+{}
+
+/// The first of them is the meta row.
+pub fn init_begins_with_meta()
+    ensures { (name : List ℕ) (token : List ℕ) (quota : ℕ) → (meta : MetaRow) × (others : List Row) × (init_rows name token quota ≡ Meta meta ∷ others) }
+{}

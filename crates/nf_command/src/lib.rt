@@ -1,0 +1,12 @@
+//! The words of the command line, and the rows that a store begins with.
+#![tactic(auto)]
+
+mod command;
+mod first;
+pub mod laws;
+mod quota;
+#[cfg(test)]
+mod tests;
+
+pub use command::{Command, Init, command_of};
+pub use first::init_rows;

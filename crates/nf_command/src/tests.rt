@@ -1,0 +1,104 @@
+//! Words that are a command, and words that aren't.
+
+use crate::{Command, command_of, init_rows};
+use nf_base::{Digest, Row};
+use std::alloc::{AllocError, Global};
+use std::test::Fail;
+
+fn words_of(alloc: Global, line: &str) -> Result<Vec<String>, AllocError> {
+    let mut words = Vec::new(alloc);
+    for word in line.split('|') {
+        words.push(String::from_str(alloc, word)?)?;
+    }
+    Ok(words)
+}
+
+// What the words of a line are, which stand between its bars.
+fn kind(alloc: Global, line: &str) -> Result<&'static str, AllocError> {
+    Ok(match command_of(alloc, &words_of(alloc, line)?)? {
+        Some(Command::Batch) => "batch",
+        Some(Command::Init(_)) => "init",
+        None => "none",
+    })
+}
+
+#[test]
+fn reads_commands(rt: HostRuntime) -> Result<(), Fail> {
+    let lines = [
+        ("batch", "batch"),
+        ("init|alice|alice-1|1073741824", "init"),
+        ("init|é (2).txt|!|0", "init"),
+        ("init|alice|~|1099511627776", "init"),
+        ("init|a-|b-|10", "init"),
+        ("", "none"),
+        ("--help", "none"),
+        ("-h", "none"),
+        ("help", "none"),
+        ("--", "none"),
+        ("Batch", "none"),
+        ("batch ", "none"),
+        ("batch|", "none"),
+        ("batch|batch", "none"),
+        ("init", "none"),
+        ("init|alice", "none"),
+        ("init|alice|alice-1", "none"),
+        ("init|alice|alice-1|5|", "none"),
+        ("batch|alice|alice-1|5", "none"),
+        ("init|-a|alice-1|5", "none"),
+        ("init|alice|-1|5", "none"),
+        ("init||alice-1|5", "none"),
+        ("init|..|alice-1|5", "none"),
+        ("init|a/b|alice-1|5", "none"),
+        ("init|a\\b|alice-1|5", "none"),
+        ("init|alice||5", "none"),
+        ("init|alice|alice 1|5", "none"),
+        ("init|alice|alice\x7f|5", "none"),
+        ("init|alice|é|5", "none"),
+        ("init|alice|alice-1|", "none"),
+        ("init|alice|alice-1|00", "none"),
+        ("init|alice|alice-1|01", "none"),
+        ("init|alice|alice-1|+1", "none"),
+        ("init|alice|alice-1|-1", "none"),
+        ("init|alice|alice-1| 1", "none"),
+        ("init|alice|alice-1|1_000", "none"),
+        ("init|alice|alice-1|0x1", "none"),
+        ("init|alice|alice-1|1099511627777", "none"),
+        ("init|alice|alice-1|18446744073709551616", "none"),
+    ];
+    for (line, wanted) in lines {
+        assert_eq!(rt; kind(rt.alloc(), line)?, wanted, "at {line}");
+    }
+    let none: [String; 0] = [];
+    assert!(rt; command_of(rt.alloc(), &none)?.is_none());
+    Ok(())
+}
+
+#[test]
+fn tokens_have_up_to_128_bytes(rt: HostRuntime) -> Result<(), Fail> {
+    for (length, wanted) in [(0, "none"), (1, "init"), (128, "init"), (129, "none")] {
+        let token = "x".repeat(rt.alloc(), length)?;
+        let line = format!(in rt.alloc(); "init|alice|{token}|5")?;
+        assert_eq!(rt; kind(rt.alloc(), line.as_str())?, wanted, "at {length}");
+    }
+    Ok(())
+}
+
+#[test]
+fn makes_an_administrator(rt: HostRuntime) -> Result<(), Fail> {
+    let words = words_of(rt.alloc(), "init|root|s3cret|4096")?;
+    let Some(Command::Init(init)) = command_of(rt.alloc(), &words)? else {
+        return Err("no init".into());
+    };
+    let rows = init_rows(rt.alloc(), &init)?;
+    assert_eq!(rt; rows.rows().len(), 6);
+    let Some(Row::User(user)) = rows.rows().get(1) else {
+        return Err("no user".into());
+    };
+    assert_eq!(rt; user.name.as_bytes(), b"root".as_slice());
+    assert_eq!(rt; user.quota, 4096);
+    let Some(Row::Token(token)) = rows.rows().get(2) else {
+        return Err("no token".into());
+    };
+    assert_eq!(rt; token.digest, Digest::of(b"s3cret"));
+    Ok(())
+}

@@ -1,0 +1,5 @@
+pub mod Puts
+pub mod Loads
+pub mod Blobs
+pub mod Tables
+pub mod Lookups

@@ -1,0 +1,315 @@
+-- The desk's seat: what it holds is its ticket's, and how its Begins and Ends are answered.
+use Rattle.std.proofs.Common.{◌≡◌, ◌⊎◌, inl, inr, ℕ, ◌+◌, ◌<◌, ◌≤◌, ◌==◌, Bool, true, false, List, [], length, Result, Ok, Err, IsNone, refl, sym, ap, subst, ◌∙◌, arith}
+use Rattle.std.specs.Prelude.{Option, None, Some, option_map, OnOk, MatchBool}
+use Rattle.sha2.specs.Sha256.{sha256}
+use Rattle.std.specs.Option.{IfSome}
+use Rattle.std.proofs.lemmas.Bool.{eqb-true}
+use Rattle.std.proofs.lemmas.Option.{none-some, same_Some}
+use Rattle.nf_base.specs.declared.content.TheConstants.{MAX_BODY}
+use Rattle.nf_defs.specs.Tables.{Tables}
+use Rattle.nf_defs.specs.declared.Seeker.{Seeker}
+use Rattle.nf_words.specs.Actors.{actor_of}
+use Rattle.nf_words.specs.Changes.{reply_to}
+use Rattle.nf_words.specs.Endings.{ends_goal, ends_ticket}
+use Rattle.nf_words.specs.History.{MayAsk, MayBring, MayCome, MayWant, after, answer_at, most_entries}
+use Rattle.nf_words.specs.Sound.{IsSound}
+use Rattle.nf_words.specs.State.{State, ticket_for, ticket_of}
+use Rattle.nf_words.specs.Step.{answer_to, answered_by, blob_to, decision_of}
+use Rattle.nf_words.specs.declared.answer.Allowed.{Allowed}
+use Rattle.nf_words.specs.declared.answer.Allowed.TheVariants as allowed
+use Rattle.nf_words.specs.declared.answer.LockKey.{LockKey}
+use Rattle.nf_words.specs.declared.answer.Denial.{Denial}
+use Rattle.nf_words.specs.declared.answer.Denial.TheVariants as denial
+use Rattle.nf_words.specs.declared.answer.Goal.{Goal}
+use Rattle.nf_words.specs.declared.answer.Goal.TheVariants.{Serve, Store}
+use Rattle.nf_words.specs.declared.answer.Reply.{Reply}
+use Rattle.nf_words.specs.declared.answer.Reply.TheVariants as reply
+use Rattle.nf_words.specs.declared.history.Entry.{Entry}
+use Rattle.nf_words.specs.declared.history.Event.{Event}
+use Rattle.nf_words.specs.declared.history.Event.TheVariants.{Begin, End}
+use Rattle.nf_words.specs.declared.history.Mark.{Mark}
+use Rattle.nf_words.specs.declared.history.Mark.TheVariants as mark
+use Rattle.nf_words.specs.declared.history.Outcome.{Outcome}
+use Rattle.nf_words.specs.declared.history.Outcome.TheVariants.{Sent, Gone, Body}
+use Rattle.nf_words.specs.declared.history.Ticket.{Ticket}
+use Rattle.nf_words.specs.declared.request.Request.{Request}
+use Rattle.nf_words.specs.declared.request.Words.{Words}
+use Rattle.nf_words.proofs.Known.{Known, found_passes, known_change}
+use Rattle.nf_words.proofs.Marks.{is_failure, never_failed}
+use Rattle.nf_words.proofs.Opens.{begins_open, bodies_open, ends_grant_nothing}
+use Rattle.nf_laws.proofs.Blobs.{blobs_are_new}
+use Rattle.nf_laws.specs.Wholes.{blob_under}
+use Rattle.nf_server.specs.Book.{Answer, Begins, Ends, EndsBody, IsOfBegin, IsOfBody, MayEnd, Passes, Stores, entries_wanted, event_of_body, held, is_unmade, is_unmade_by, outcome_of, state_after}
+use Rattle.nf_server.proofs.Books.{held_is_ticket}
+use Rattle.nf_server.specs.declared.backend.Ending.{Ending}
+use Rattle.nf_server.specs.declared.backend.Ending.TheVariants as ending
+use Rattle.nf_site.specs.Held.{entries_wanted as site_wanted}
+use Rattle.nf_site.specs.Kept.{Kept, IsHistory, entered, moment_of}
+use Rattle.nf_told.specs.Told.{Told}
+use Rattle.nf_desk.specs.Desk.{book_of, seat}
+use Rattle.nf_desk.specs.Stepping.{Asks, Makes, Standing, Steps, entry_at}
+use Rattle.nf_desk.proofs.Entering.{book, enters, state_again, steps_enter, waits}
+use Rattle.nf_desk.proofs.Tellings.{blobs_in, steps_still, steps_told, told_after}
+
+-- ---- what the seat holds
+
+-- what a ticket is for
+abbrev pub goal_in : Option Ticket → Option Goal
+goal_in o = option_map (λ (ticket : Ticket). ticket.goal) o
+
+held_is : (a : Standing) → IsHistory a.site → held (book a) ≡ goal_in (ticket_of a.site.state seat)
+held_is a h =
+    held_is_ticket (book a) (record { legal = h.legal; own = refl })
+    ∙ ap (λ (s : State). goal_in (ticket_of s seat)) (sym h.replayed)
+
+some_none : (o : Option Ticket) → goal_in o ≡ None → IsNone o
+some_none None is = refl
+some_none (Some ticket) is = absurd (none-some ticket.goal (sym is))
+
+has_goal : (o : Option Ticket) (goal : Goal) → goal_in o ≡ Some goal → (ticket : Ticket) × (o ≡ Some ticket) × (ticket.goal ≡ goal)
+has_goal None goal is = absurd (none-some goal is)
+has_goal (Some ticket) goal is = (ticket, refl, same_Some ticket.goal goal is)
+
+-- a seat that holds something has its ticket
+pub ticket_is : (a : Standing) (goal : Goal) → IsHistory a.site → held (book a) ≡ Some goal
+    → (ticket : Ticket) × (ticket_of a.site.state seat ≡ Some ticket) × (ticket.goal ≡ goal)
+ticket_is a goal h holds = has_goal (ticket_of a.site.state seat) goal (sym (held_is a h) ∙ holds)
+
+-- an idle seat may ask
+pub may_ask : (a : Standing) (words : Words) (request : Request) → IsHistory a.site → held (book a) ≡ None → MayWant request
+    → MayAsk a.site.state seat (Begin words request)
+may_ask a words request h idle wants = (some_none (ticket_of a.site.state seat) (sym (held_is a h) ∙ idle), wants)
+
+-- what may end so of the seat's goal may end so of its ticket
+pub may_end : (a : Standing) (how : Ending) → IsHistory a.site → MayEnd (held (book a)) how → MayAsk a.site.state seat (End (outcome_of how))
+may_end a how h may = here (held (book a)) refl may
+  where
+    here : (o : Option Goal) → held (book a) ≡ o → MayEnd o how → MayAsk a.site.state seat (End (outcome_of how))
+    here None e may = absurd may
+    here (Some goal) e may =
+        let ticket = ticket_is a goal h e in
+        subst (λ (o : Option Ticket). Rattle.nf_words.specs.History.MayEnd o (outcome_of how)) (sym ticket.1)
+        (subst (λ (g : Goal). MayBring g (outcome_of how)) (sym ticket.2) may)
+
+-- ---- a Begin that finds no room
+
+wanted_is : (a : Standing) → IsHistory a.site → entries_wanted (book a) ≡ site_wanted a.site
+wanted_is a h = ap (λ (s : State). length a.site.history + length s.tickets + 2) (sym h.replayed)
+
+passes : (a : Standing) → Passes (book a) (book a)
+passes a = record { waits = waits a a refl refl (omega arith); unstruck = refl }
+
+finds_none : (a : Standing) (now : ℕ) (words : Words) (request : Request) (answer : Answer) → IsHistory a.site
+    → ((answer ≡ Err denial.RunFull) × (most_entries < site_wanted a.site)) ⊎ ((answer ≡ Err denial.Memory) × (site_wanted a.site ≤ most_entries))
+    → Begins (book a) (book a) now words request answer
+finds_none a now words request answer h (inl full) =
+    subst (λ (x : Answer). Begins (book a) (book a) now words request x) (sym full.0)
+    (record {
+      entry = passes a;
+      answered = tt;
+      full = λ is. subst (λ (n : ℕ). most_entries < n) (sym (wanted_is a h)) full.1;
+      room = λ is. absurd (cc);
+    })
+finds_none a now words request answer h (inr memory) =
+    subst (λ (x : Answer). Begins (book a) (book a) now words request x) (sym memory.0)
+    (record {
+      entry = passes a;
+      answered = tt;
+      full = λ is. absurd (cc);
+      room = λ is. subst (λ (n : ℕ). n ≤ most_entries) (sym (wanted_is a h)) memory.1;
+    })
+
+-- ---- a Begin that is made
+
+is_memory : (b : Bool) → b ≡ true → b ≡ false → ⊥
+is_memory true is not = cc
+is_memory false is not = cc
+
+unmade_fails : (refusal : Denial) → is_unmade_by refusal ≡ true → is_failure refusal ≡ true
+unmade_fails denial.RunFull is = refl
+unmade_fails denial.Memory is = refl
+unmade_fails other is = cc
+
+is_made : (s : State) (n now : ℕ) (event : Event) (answer : Answer) → answer ≡ answer_to s n now event → is_unmade answer ≡ false
+is_made s n now event (Ok answered) is = refl
+is_made s n now event (Err refusal) is = here (is_unmade_by refusal) refl
+  where
+    here : (a : Bool) → is_unmade_by refusal ≡ a → a ≡ false
+    here false e = refl
+    here true e = absurd (never_failed s n now event refusal (unmade_fails refusal e) (sym is))
+
+put_short : (t : Tables) (now : ℕ) (who : Option ℕ) (act : Allowed) (by : Seeker) (key : LockKey) (size : ℕ) → Known t now who act
+    → reply_to act ≡ reply.Granted (Store by key size) → size ≤ MAX_BODY
+put_short t now who (allowed.Get node content) by key size known is = absurd (cc)
+put_short t now who (allowed.Put other lock length) by key size known is =
+    let same : length ≡ size = cc in subst (λ (n : ℕ). n ≤ MAX_BODY) same known.short
+put_short t now who (allowed.StoreNew row blob) by key size known is = absurd (cc)
+put_short t now who (allowed.StoreOver node content blob) by key size known is = absurd (cc)
+put_short t now who (allowed.Mkcol row) by key size known is = absurd (cc)
+put_short t now who (allowed.Delete nodes) by key size known is = absurd (cc)
+put_short t now who allowed.Close by key size known is = absurd (cc)
+
+ok_same : (x y : Reply) → ◌≡◌ {A = Answer} (Ok x) (Ok y) → x ≡ y
+ok_same x y is = cc
+
+granted_short : (t : Tables) (now : ℕ) (who : Option ℕ) (decision : Result Allowed Denial) (by : Seeker) (key : LockKey) (size : ℕ)
+    → ((act : Allowed) → decision ≡ Ok act → Known t now who act) → answered_by decision ≡ Ok (reply.Granted (Store by key size)) → size ≤ MAX_BODY
+granted_short t now who (Ok act) by key size known is = put_short t now who act by key size (known act refl) (ok_same (reply_to act) _ is)
+granted_short t now who (Err refusal) by key size known is = absurd (cc)
+
+of_begin : (s : State) (now : ℕ) (words : Words) (request : Request) (answer : Answer) → IsSound s → MayAsk s seat (Begin words request)
+    → answer ≡ answer_to s seat now (Begin words request) → IsOfBegin answer
+of_begin s now words request (Ok (reply.Granted (Store by key size))) sound asked is =
+    granted_short s.tables now (actor_of s seat (Begin words request)) (decision_of s seat now (Begin words request)) by key size
+    (λ act done. known_change s seat now (Begin words request) act sound asked done) (sym is)
+of_begin s now words request (Ok (reply.Granted (Serve content))) sound asked is = tt
+of_begin s now words request (Ok reply.Made) sound asked is = tt
+of_begin s now words request (Ok reply.Done) sound asked is = tt
+of_begin s now words request (Ok reply.Closed) sound asked is = absurd (begins_open s seat now words request (sym is))
+of_begin s now words request (Err refusal) sound asked is = tt
+
+-- its answer isn't that of one that isn't made, whatever its mark, and is a Begin's
+record BeginAnswer (answer : Answer) : Type 0 where
+  made : is_unmade answer ≡ false
+  answered : IsOfBegin answer
+
+begin_answer : (k : Kept) (now : ℕ) (words : Words) (request : Request) (m : Mark) (answer : Answer) → IsSound k.state
+    → MayCome (length k.history) k.state (entry_at k now (Begin words request) m)
+    → answer ≡ answer_at k.state (entry_at k now (Begin words request) m) m → BeginAnswer answer
+begin_answer k now words request mark.Answered answer sound may is = record {
+  made = is_made k.state seat (moment_of k.state now) (Begin words request) answer is;
+  answered = of_begin k.state (moment_of k.state now) words request answer sound may.asked is;
+}
+begin_answer k now words request mark.Store answer sound may is = subst BeginAnswer (sym is) (record { made = refl; answered = tt })
+begin_answer k now words request mark.Memory answer sound may is = absurd may.marked
+
+match_false : (P Q : Type 0) (b : Bool) → b ≡ false → Q → MatchBool b P Q
+match_false P Q b is q = subst (λ (c : Bool). MatchBool c P Q) (sym is) q
+
+begins_made : (a b : Standing) (now : ℕ) (words : Words) (request : Request) (answer : Answer) → IsHistory a.site → IsSound a.site.state
+    → Steps a b now (Begin words request) [] answer → Begins (book a) (book b) now words request answer
+begins_made a b now words request answer h sound steps =
+    let of = begin_answer a.site now words request steps.mark answer sound steps.makes.may_come steps.makes.answered in
+    record {
+      entry = match_false _ _ (is_unmade answer) of.made (steps_enter a b now (Begin words request) [] answer h sound steps);
+      answered = of.answered;
+      full = λ is. absurd (is_memory (is_unmade answer) (ap is_unmade is) of.made);
+      room = λ is. absurd (is_memory (is_unmade answer) (ap is_unmade is) of.made);
+    }
+
+pub begins : (a b : Standing) (now : ℕ) (words : Words) (request : Request) (answer : Answer) → IsHistory a.site → IsSound a.site.state
+    → Asks a b now words request answer → Begins (book a) (book b) now words request answer
+begins a b now words request answer h sound (inl steps) = begins_made a b now words request answer h sound steps
+begins a b now words request answer h sound (inr none) =
+    subst (λ (z : Standing). Begins (book a) (book z) now words request answer) (sym none.same)
+    (finds_none a now words request answer h none.why)
+
+-- ---- the End of what brings nothing
+
+closed_of : (ticket : Option Ticket) (t : Tables) (now : ℕ) (outcome : Outcome)
+    → ((goal : Goal) → ends_goal t now outcome goal ≡ Ok allowed.Close) → answered_by (ends_ticket t now outcome ticket) ≡ Ok reply.Closed
+closed_of None t now outcome closes = refl
+closed_of (Some ticket) t now outcome closes = ap answered_by (closes ticket.goal)
+
+pub ends_sent : (a b : Standing) (now : ℕ) (answer : Answer) → IsHistory a.site → IsSound a.site.state
+    → Makes a.site b.site now (End Sent) mark.Answered answer → Steps a b now (End Sent) [] answer
+    → Ends (book a) (book b) now ending.Sent answer
+ends_sent a b now answer h sound makes steps = record {
+  enters = steps_enter a b now (End Sent) [] answer h sound steps;
+  answered = makes.answered ∙ closed_of (ticket_of a.site.state seat) a.site.state.tables (moment_of a.site.state now) Sent (λ goal. refl);
+}
+
+pub ends_gone : (a b : Standing) (now : ℕ) (answer : Answer) → IsHistory a.site → IsSound a.site.state
+    → Makes a.site b.site now (End Gone) mark.Answered answer → Steps a b now (End Gone) [] answer
+    → Ends (book a) (book b) now ending.Gone answer
+ends_gone a b now answer h sound makes steps = record {
+  enters = steps_enter a b now (End Gone) [] answer h sound steps;
+  answered = makes.answered ∙ closed_of (ticket_of a.site.state seat) a.site.state.tables (moment_of a.site.state now) Gone (λ goal. refl);
+}
+
+-- ---- the End of a body
+
+-- it isn't answered as a Begin is, nor as one that brings nothing
+body_goal : (goal : Goal) (body : List ℕ) → MayBring goal (Body (sha256 body) (length body))
+    → (by : Seeker) × (key : LockKey) × (size : ℕ) × (goal ≡ Store by key size)
+body_goal (Serve content) body may = absurd may
+body_goal (Store by key size) body may = (by, key, size, refl)
+
+body_ticket : (s : State) (body : List ℕ) (ticket : Option Ticket) → ticket_of s seat ≡ ticket
+    → Rattle.nf_words.specs.History.MayEnd ticket (Body (sha256 body) (length body))
+    → (by : Seeker) × (key : LockKey) × (size : ℕ) × (ticket_of s seat ≡ Some (ticket_for seat (Store by key size)))
+body_ticket s body None is may = absurd may
+body_ticket s body (Some ticket) is may =
+    let goal = body_goal ticket.goal body may in
+    let its : ticket.seat ≡ seat = eqb-true ticket.seat seat (found_passes (λ (ticket : Ticket). ticket.seat == seat) s.tickets ticket is) in
+    (goal.0, goal.1, goal.2, is ∙ ap Some (same_ticket ticket its goal.3))
+  where
+    same_ticket : (ticket : Ticket) → ticket.seat ≡ seat → {goal : Goal} → ticket.goal ≡ goal → ticket ≡ ticket_for seat goal
+    same_ticket ticket its {goal} is = ap (λ (n : ℕ). ticket_for n ticket.goal) its ∙ ap (ticket_for seat) is
+
+of_body : (s : State) (now : ℕ) (body : List ℕ) (by : Seeker) (key : LockKey) (size : ℕ) (answer : Answer)
+    → ticket_of s seat ≡ Some (ticket_for seat (Store by key size)) → answer ≡ answer_to s seat now (event_of_body body) → IsOfBody answer
+of_body s now body by key size (Ok reply.Made) has is = tt
+of_body s now body by key size (Ok reply.Done) has is = tt
+of_body s now body by key size (Ok reply.Closed) has is =
+    absurd (bodies_open s seat now (sha256 body) (length body) by key size has (sym is))
+of_body s now body by key size (Ok (reply.Granted goal)) has is =
+    absurd (ends_grant_nothing s seat now (Body (sha256 body) (length body)) goal (sym is))
+of_body s now body by key size (Err refusal) has is = tt
+
+marked_of_body : (k : Kept) (now : ℕ) (body : List ℕ) (m : Mark) (answer : Answer)
+    → MayAsk k.state seat (event_of_body body) → answer ≡ answer_at k.state (entry_at k now (event_of_body body) m) m → IsOfBody answer
+marked_of_body k now body mark.Answered answer asked is =
+    let has = body_ticket k.state body (ticket_of k.state seat) refl asked in
+    of_body k.state (moment_of k.state now) body has.0 has.1 has.2 answer has.3 is
+marked_of_body k now body mark.Store answer asked is = subst IsOfBody (sym is) tt
+marked_of_body k now body mark.Memory answer asked is = subst IsOfBody (sym is) tt
+
+-- an answer that isn't a refusal is of an entry whose step was made
+blob_marked : (s : State) (e : Entry) (m : Mark) (reply : Reply) (id : ℕ) → ◌≡◌ {A = Answer} (Ok reply) (answer_at s e m)
+    → blob_to s e.seat e.moment e.event ≡ Some id → blob_under s e m ≡ Some id
+blob_marked s e mark.Answered reply id is stores = stores
+blob_marked s e mark.Store reply id is stores = absurd (cc)
+blob_marked s e mark.Memory reply id is stores = absurd (cc)
+
+stored_some : (n : ℕ) (s : State) (e : Entry) (body : List ℕ) (reply : Reply) (before : Option Told) → IsSound s → MayCome n s e
+    → ◌≡◌ {A = Answer} (Ok reply) (answer_at s e e.mark) → IfSome (blobs_in (option_map (told_after s e body) before)) (Stores s e body)
+stored_some n s e body reply None sound may is = tt
+stored_some n s e body reply (Some told) sound may is = λ id stores.
+    let marked = blob_marked s e e.mark reply id is stores in
+    ((blobs_are_new.next n s e id sound may marked).1, blobs_are_new.stored s e body told.blobs id marked)
+
+stored_at : (n : ℕ) (s : State) (e : Entry) (body : List ℕ) (answer : Answer) (before : Option Told) → IsSound s → MayCome n s e
+    → answer ≡ answer_at s e e.mark → OnOk answer (IfSome (blobs_in (option_map (told_after s e body) before)) (Stores s e body))
+stored_at n s e body (Ok reply) before sound may is = stored_some n s e body reply before sound may is
+stored_at n s e body (Err refusal) before sound may is = tt
+
+-- in the state that the book knows
+steps_stored : (a b : Standing) (now : ℕ) (body : List ℕ) (answer : Answer) → IsHistory a.site → IsSound a.site.state
+    → (steps : Steps a b now (event_of_body body) body answer)
+    → OnOk answer (IfSome (blobs_in b.told) (Stores (state_after (book a) []) (entry_at a.site now (event_of_body body) steps.mark) body))
+steps_stored a b now body answer h sound steps =
+    let e = entry_at a.site now (event_of_body body) steps.mark in
+    subst (λ (s : State). OnOk answer (IfSome (blobs_in b.told) (Stores s e body))) (sym (state_again a h))
+    (subst (λ (o : Option Told). OnOk answer (IfSome (blobs_in o) (Stores a.site.state e body)))
+    (sym (steps_told a b now (event_of_body body) body answer sound steps))
+    (stored_at (length a.site.history) a.site.state e body answer a.told sound steps.makes.may_come steps.makes.answered))
+
+ends_entered : (a b : Standing) (now : ℕ) (body : List ℕ) (answer : Answer) → IsHistory a.site → IsSound a.site.state
+    → (steps : Steps a b now (event_of_body body) body answer)
+    → EndsBody (book a) (book_of (entered a.site (entry_at a.site now (event_of_body body) steps.mark)) b.told b.faults) now body answer
+unfolding enters
+ends_entered a b now body answer h sound steps =
+    let e = entry_at a.site now (event_of_body body) steps.mark in
+    record {
+      enters = enters a e b.told b.faults now (event_of_body body) answer h steps.makes.may_come refl refl refl steps.makes.answered
+          (steps_still a b now (event_of_body body) body answer sound steps) steps.rises steps.strikes;
+      answered = marked_of_body a.site now body steps.mark answer steps.makes.may_come.asked steps.makes.answered;
+      stored = steps_stored a b now body answer h sound steps;
+    }
+
+pub ends_body : (a b : Standing) (now : ℕ) (body : List ℕ) (answer : Answer) → IsHistory a.site → IsSound a.site.state
+    → Steps a b now (event_of_body body) body answer → EndsBody (book a) (book b) now body answer
+ends_body a b now body answer h sound steps =
+    subst (λ (k : Kept). EndsBody (book a) (book_of k b.told b.faults) now body answer) (sym steps.makes.site)
+    (ends_entered a b now body answer h sound steps)

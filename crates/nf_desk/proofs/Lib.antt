@@ -1,0 +1,5 @@
+mod Desks
+mod Entering
+mod Giving
+mod Loadings
+mod Tellings

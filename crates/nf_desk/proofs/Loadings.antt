@@ -1,0 +1,235 @@
+-- What the rows that are loaded, or the first ones, make of a desk.
+use Rattle.std.proofs.Common.{◌≡◌, ◌≢◌, ℕ, ◌+◌, ◌<◌, ◌==◌, Bool, true, false, List, [], ◌∷◌, ◌++◌, length, get_or, map, take, drop, refl, sym, ap, subst, ◌∙◌, arith}
+use Rattle.std.specs.Prelude.{Option, None, Some, not, option_map, if◌then◌else◌, Result, Ok, Err, IfOk, OnOk}
+use Rattle.std.specs.List.{All, Contains, list_any}
+use Rattle.std.specs.Option.{IfSome, option_or}
+use Rattle.std.proofs.lemmas.Bool.{eqb-true, false≢true}
+use Rattle.std.proofs.lemmas.List.{get_or-map, length-map, length-take-le, map-append, take_more}
+use Rattle.std.proofs.lemmas.List.Elements.{All-nil, All-push}
+use Rattle.std.proofs.lemmas.List.Folds.{Any-from_list_any}
+use Rattle.std.proofs.lemmas.Option.{IfSome_then, none-some, slice_get_read}
+use Rattle.nf_base.specs.declared.changes.Change.TheVariants.{Put}
+use Rattle.nf_base.specs.declared.rows.MetaRow.{MetaRow}
+use Rattle.nf_base.specs.declared.rows.Row.{Row}
+use Rattle.nf_base.specs.declared.rows.Row.TheVariants as rows
+use Rattle.nf_defs.specs.Tables.{tables_of}
+use Rattle.nf_keeper.specs.Keeping.{AreTold, applied}
+use Rattle.nf_laws.proofs.Opening.{opens_whole}
+use Rattle.nf_rows.specs.Spelling.{Fits, Raw, spelling_of}
+use Rattle.nf_rules.specs.Rules.{AreUnbroken, Rule, broken_at, first_broken, first_index, is_meta, is_twice, lacks_meta, rules}
+use Rattle.nf_site.specs.Held.{Held}
+use Rattle.nf_site.specs.Kept.{Kept, opened_over}
+use Rattle.nf_told.proofs.Follows.{told_again, told_begins}
+use Rattle.nf_told.specs.Told.{AreFit, AreRisingRaws, FitsChange, Told, told_all, told_of}
+use Rattle.nf_words.specs.declared.history.Entry.{Entry}
+use Rattle.nf_desk.specs.Desk.{IsDesk, seat}
+use Rattle.nf_desk.specs.Opened.{AreUnread, IsEither, IsFresh, IsSpelled, IsUnreadAt, Opens, first_blob, first_of, told_first}
+use Rattle.nf_desk.specs.Opening.{AreSpelled, BeginsWithMeta, IsLoaded, IsUnread, OpensTo}
+use Rattle.nf_desk.specs.declared.first.First.{First}
+use Rattle.nf_desk.specs.declared.first.OpenFault.{OpenFault}
+use Rattle.nf_desk.specs.declared.first.OpenFault.TheVariants as fault
+use Rattle.nf_desk.specs.declared.first.Opening.{Opening}
+use Rattle.nf_desk.specs.declared.first.Opening.TheVariants.{Fresh, Either}
+
+-- ---- rows that are read
+
+-- one more
+pub spelled_more : (raws : List Raw) (i : ℕ) (raw : Raw) (rows more : List Row) (row : Row) → i < length raws → raw ≡ get_or raws i raw
+    → AreSpelled (take i raws) rows → IsSpelled raw row → more ≡ rows ++ row ∷ [] → AreSpelled (take (i + 1) raws) more
+spelled_more raws i raw rows more row less at before is same =
+    subst (AreSpelled (take (i + 1) raws)) (sym same)
+    (record {
+      spelled = map-append spelling_of rows (row ∷ [])
+          ∙ ap (λ (before : List Raw). before ++ spelling_of row ∷ []) before.spelled
+          ∙ ap (λ (last : Raw). take i raws ++ last ∷ []) (is.spelled ∙ at)
+          ∙ sym (take_more raws i raw less);
+      fit = All-push Fits rows row before.fit is.fit;
+    })
+
+-- those before one that can't be read are as many as its index
+count_is : (raws : List Raw) (i : ℕ) (rows : List Row) → i < length raws → AreSpelled (take i raws) rows → length rows ≡ i
+count_is raws i rows less before =
+    sym (length-map rows spelling_of) ∙ ap (λ (these : List Raw). length these) before.spelled ∙ length-take-le i raws (omega arith)
+
+pub unread_here : (raws : List Raw) (i : ℕ) (raw : Raw) (rows : List Row) (why : OpenFault) → i < length raws → raw ≡ get_or raws i raw
+    → AreSpelled (take i raws) rows → IsUnreadAt raw (length rows) why → AreUnread raws why
+unread_here raws i raw rows fault.Failed less at before is = is
+unread_here raws i raw rows (fault.Unread index why) less at before is =
+    subst (λ (n : ℕ). IsUnread raws n why) (sym (is.0 ∙ count_is raws i rows less before))
+    (record { before = (rows, before); raw = raw; at_index = slice_get_read raws (length raws) i raw refl less at; unread = is.1 })
+unread_here raws i raw rows (fault.Broken broken) less at before is = is
+unread_here raws i raw rows fault.Memory less at before is = tt
+unread_here raws i raw rows fault.Found less at before is = is
+
+-- ---- rows that break no rule have a meta row
+
+or_none : {X : Type 0} (o p : Option X) → option_or o p ≡ None → (o ≡ None) × (p ≡ None)
+or_none None p is = (refl, is)
+or_none (Some x) p is = absurd (cc)
+
+map_none : {X Y : Type 0} (f : X → Y) (o : Option X) → option_map f o ≡ None → o ≡ None
+map_none f None is = refl
+map_none f (Some x) is = absurd (cc)
+
+rule_kept : (rule : Rule) (others : List Rule) (all : List Row) → first_broken (rule ∷ others) all ≡ None
+    → (broken_at rule all ≡ None) × (first_broken others all ≡ None)
+rule_kept rule others all is =
+    let parts = or_none _ (first_broken others all) is in (map_none _ (broken_at rule all) parts.0, parts.1)
+
+lacks_none : (rule : Rule) (all : List Row) → broken_at rule all ≡ None → rule.lacks all ≡ false
+lacks_none rule all is = here (rule.lacks all) refl (or_none (first_index (rule.breaks all) all) (if rule.lacks all then Some (length all) else None) is).1
+  where
+    here : (a : Bool) → rule.lacks all ≡ a → (if rule.lacks all then Some (length all) else None) ≡ None → a ≡ false
+    here false e is = refl
+    here true e is = absurd (none-some (length all) (sym (simp e at is)))
+
+not_false : (a : Bool) → not a ≡ false → a ≡ true
+not_false true is = refl
+not_false false is = cc
+
+unbroken_meta : (all : List Row) → AreUnbroken all → list_any is_meta all ≡ true
+unbroken_meta all is = not_false (list_any is_meta all) (lacks_none second all (rule_kept second others all (rule_kept first (second ∷ others) all is).1).0)
+  where
+    first : Rule
+    first = get_or rules 0 (record { number = 0; breaks = is_twice; lacks = lacks_meta })
+
+    second : Rule
+    second = get_or rules 1 first
+
+    others : List Rule
+    others = drop 2 rules
+
+meta_of : (row : Row) → is_meta row ≡ true → (meta : MetaRow) × (row ≡ rows.Meta meta)
+meta_of (rows.Meta meta) is = (meta, refl)
+meta_of other is = absurd (cc)
+
+has_meta : (all : List Row) → AreUnbroken all → (meta : MetaRow) × Contains all (rows.Meta meta)
+has_meta all unbroken =
+    let some = Any-from_list_any is_meta all (unbroken_meta all unbroken) in
+    let meta = meta_of some.1 some.4 in
+    (meta.0, subst (Contains all) meta.1 (some.0, some.2, some.3))
+
+-- ---- the rows that are told when a desk is opened
+
+record AreToldRows (all : List Row) (keeper : Option Told) : Type 0 where
+  fit : AreFit (tables_of all)
+  told : IfSome keeper (λ told. told.rows ≡ told_of (tables_of all))
+
+first_told : (first : First) (all : List Row) (before : Option Told) → AreTold before [] → all ≡ first.rows
+    → All Fits all → BeginsWithMeta first.rows → AreToldRows all (told_first first [] before)
+first_told first all before told same fit meta =
+    let law = told_begins meta.0 meta.1 (subst (All Fits) (same ∙ meta.2) fit) in
+    record {
+      fit = subst (λ (these : List Row). AreFit (tables_of these)) (sym (same ∙ meta.2)) law.fit;
+      told = here before told (ap (λ (these : List Row). told_all [] (map Put these)) meta.2 ∙ law.told
+          ∙ ap (λ (these : List Row). told_of (tables_of these)) (sym (same ∙ meta.2)));
+    }
+  where
+    here : (before : Option Told) → AreTold before [] → told_all [] (map Put first.rows) ≡ told_of (tables_of all)
+        → IfSome (told_first first [] before) (λ told. told.rows ≡ told_of (tables_of all))
+    here None told is = tt
+    here (Some old) told is = ap (λ (raws : List Raw). told_all raws (map Put first.rows)) (sym told) ∙ is
+
+loaded_told : (all : List Row) (raws : List Raw) (before : Option Told) → AreTold before raws → AreRisingRaws raws
+    → AreSpelled raws all → AreUnbroken all → AreToldRows all before
+loaded_told all raws before told rising spelled unbroken =
+    let meta = has_meta all unbroken in
+    let law = told_again all meta.0 spelled.fit (subst AreRisingRaws (sym spelled.spelled) rising) meta.1 in
+    record { fit = law.fit; told = here before told (sym spelled.spelled ∙ law.told) }
+  where
+    here : (before : Option Told) → AreTold before raws → raws ≡ told_of (tables_of all)
+        → IfSome before (λ told. told.rows ≡ told_of (tables_of all))
+    here None told is = tt
+    here (Some old) told is = sym told ∙ is
+
+rows_told : (first : First) (all : List Row) (raws : List Raw) (before : Option Told) → IsLoaded before raws
+    → OpensTo first.rows raws all → AreUnbroken all → All Fits all → BeginsWithMeta first.rows → AreToldRows all (told_first first raws before)
+rows_told first all [] before loaded opens unbroken fit meta = first_told first all before loaded.told opens fit meta
+rows_told first all (raw ∷ raws) before loaded opens unbroken fit meta =
+    loaded_told all (raw ∷ raws) before loaded.told loaded.rising opens unbroken
+
+-- ---- the desk
+
+begun_desk : (all : List Row) (keeper : Option Told) → AreToldRows all keeper → IsDesk (opened_over all) keeper
+begun_desk all keeper told = record {
+  alone = All-nil (λ (e : Entry). e.seat ≡ seat);
+  fit = told.fit;
+  told = IfSome_then keeper told.told (λ one is. record { rows = is; whole = opens_whole all one.blobs });
+}
+
+pub opened_desk : (opening : Opening) (before after : Option Told) (k : Kept) → Opens opening before after k
+    → AreUnbroken k.opening → All Fits k.opening → BeginsWithMeta (first_of opening).rows → IsDesk k after
+opened_desk opening before after k opens unbroken fit meta =
+    subst (λ (z : Kept). IsDesk z after) (sym opens.begun)
+    (subst (λ (o : Option Told). IsDesk (opened_over k.opening) o) (sym opens.told)
+    (begun_desk k.opening (told_first (first_of opening) opens.raws before)
+    (rows_told (first_of opening) k.opening opens.raws before opens.loaded opens.rows unbroken fit meta)))
+
+-- ---- what is opened
+
+-- whether no rows were loaded
+pub are_none : (raws shown : List Raw) (empty : Bool) → empty ≡ (length shown == 0) → shown ≡ raws → empty ≡ true → raws ≡ []
+are_none raws shown empty is same none = sym same ∙ none_is shown (eqb-true (length shown) 0 (sym is ∙ none))
+  where
+    none_is : (these : List Raw) → length these ≡ 0 → these ≡ []
+    none_is [] is = refl
+    none_is (raw ∷ these) is = absurd (omega (arith, is))
+
+pub are_some : (raws shown : List Raw) (empty : Bool) → empty ≡ (length shown == 0) → shown ≡ raws → empty ≡ false → raws ≢ []
+are_some raws shown empty is same some = λ none.
+    false≢true (sym some ∙ is ∙ ap (λ (these : List Raw). length these == 0) (same ∙ none))
+
+-- over the first rows, where none were loaded
+opens_none : (opening : Opening) (before after : Option Told) (first : First) (k : Kept) → AreTold before [] → AreRisingRaws []
+    → first ≡ first_of opening → k ≡ opened_over first.rows
+    → after ≡ option_map (applied (map Put first.rows) (first_blob first)) before → Opens opening before after k
+opens_none opening before after first k told rising same is made =
+    subst (λ (z : Kept). Opens opening before after z) (sym is)
+    (record {
+      raws = [];
+      loaded = record { told = told; rising = rising };
+      fresh = λ _. refl;
+      rows = ap (λ (z : First). z.rows) same;
+      begun = refl;
+      told = subst (λ (z : First). after ≡ told_first z [] before) same made;
+    })
+
+pub opens_first : (opening : Opening) (before loaded after : Option Told) (raws : List Raw) (first : First) (result : Result Held OpenFault)
+    → raws ≡ [] → AreTold before raws → AreRisingRaws raws → loaded ≡ before → first ≡ first_of opening
+    → IfOk result (λ site. site.kept ≡ opened_over first.rows)
+    → OnOk result (after ≡ option_map (applied (map Put first.rows) (first_blob first)) loaded)
+    → IfOk result (λ site. Opens opening before after site.kept)
+opens_first opening before loaded after raws first (Ok site) none told rising still same is made =
+    opens_none opening before after first site.kept (subst (AreTold before) none told) (subst AreRisingRaws none rising) same is
+    (subst (λ (o : Option Told). after ≡ option_map (applied (map Put first.rows) (first_blob first)) o) still made)
+opens_first opening before loaded after raws first (Err why) none told rising still same is made = tt
+
+-- a Put fits where its row does
+puts_fit : (all : List Row) → All FitsChange (map Put all) → All Fits all
+puts_fit all fits = λ k d within.
+    subst FitsChange (get_or-map Put all k d (Put d) within) (fits k (Put d) (omega (arith, length-map all Put)))
+
+pub first_fit : (first : First) (result : Result Held OpenFault) → IfOk result (λ site. site.kept ≡ opened_over first.rows)
+    → OnOk result (All FitsChange (map Put first.rows)) → IfOk result (λ site. All Fits site.kept.opening)
+first_fit first (Ok site) is fits = subst (λ (k : Kept). All Fits k.opening) (sym is) (puts_fit first.rows fits)
+first_fit first (Err why) is fits = tt
+
+-- over the rows that were loaded
+pub opens_loaded : (opening : Opening) (before after : Option Told) (raws : List Raw) (all : List Row) (k : Kept) → raws ≢ []
+    → AreTold before raws → AreRisingRaws raws → after ≡ before → IsEither opening → AreSpelled raws all → k ≡ opened_over all
+    → Opens opening before after k
+opens_loaded opening before after [] all k some told rising still either spelled is = absurd (some refl)
+opens_loaded opening before after (raw ∷ raws) all k some told rising still either spelled is =
+    subst (λ (z : Kept). Opens opening before after z) (sym is)
+    (record {
+      raws = raw ∷ raws;
+      loaded = record { told = told; rising = rising };
+      fresh = λ fresh. absurd (never opening fresh either);
+      rows = spelled;
+      begun = refl;
+      told = still;
+    })
+  where
+    never : (opening : Opening) → IsFresh opening → IsEither opening → ⊥
+    never (Fresh first) fresh either = either
+    never (Either first) fresh either = fresh

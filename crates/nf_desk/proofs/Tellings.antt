@@ -1,0 +1,208 @@
+-- What the keeper tells after a step is true of the site after it.
+use Rattle.std.proofs.Common.{◌≡◌, ℕ, inl, inr, List, [], ◌∷◌, length, refl, sym, ap, subst, ◌∙◌, arith}
+use Rattle.std.specs.Prelude.{Option, None, Some, option_map}
+use Rattle.std.specs.Option.{IfSome}
+use Rattle.std.proofs.lemmas.List.Elements.{All-nil, All-push}
+use Rattle.nf_base.specs.declared.changes.Change.{Change}
+use Rattle.nf_defs.specs.Blobs.{Blobs, with_blob}
+use Rattle.nf_defs.specs.Rising.{AreRising}
+use Rattle.nf_defs.specs.Tables.{Tables}
+use Rattle.nf_keeper.specs.Keeping.{Stored, applied, with_stored}
+use Rattle.nf_laws.proofs.Blobs.{blobs_are_new, stays_whole}
+use Rattle.nf_laws.proofs.Telling.{changes_tell}
+use Rattle.nf_laws.specs.Wholes.{Brings, blob_in}
+use Rattle.nf_server.specs.Book.{Answer, TellsStill}
+use Rattle.nf_site.specs.Kept.{Kept, answered, entered, entry, moment_of}
+use Rattle.nf_told.proofs.Follows.{told_follows}
+use Rattle.nf_told.specs.Told.{AreFit, FitsChange, Told, told_all, told_of}
+use Rattle.nf_words.specs.Endings.{ends_ticket}
+use Rattle.nf_words.specs.History.{MayCome, after_mark, failed}
+use Rattle.nf_words.specs.Sound.{IsSound}
+use Rattle.nf_words.specs.State.{State, ticket_of}
+use Rattle.nf_words.specs.Step.{blob_to, changes_by, changes_to, step}
+use Rattle.nf_words.specs.declared.history.Entry.{Entry}
+use Rattle.nf_words.specs.declared.history.Event.{Event}
+use Rattle.nf_words.specs.declared.history.Event.TheVariants.{Begin, End}
+use Rattle.nf_words.specs.declared.history.Mark.{Mark}
+use Rattle.nf_words.specs.declared.history.Mark.TheVariants as mark
+use Rattle.nf_words.specs.declared.history.Outcome.{Outcome}
+use Rattle.nf_words.specs.declared.history.Outcome.TheVariants.{Sent, Gone, Body}
+use Rattle.nf_words.specs.declared.history.Ticket.{Ticket}
+use Rattle.nf_words.specs.declared.request.Request.{Request}
+use Rattle.nf_words.specs.declared.request.Words.{Words}
+use Rattle.nf_desk.specs.Desk.{IsDesk, TellsSite, seat}
+use Rattle.nf_desk.specs.Stepping.{Asks, IsEmpty, Makes, Standing, Steps, Tells, entry_at, standing, stored_by, told_by}
+
+-- ---- what is told after an entry, as a function
+
+abbrev changes_under : State → Entry → Mark → List Change
+changes_under s e mark.Answered = changes_to s e.seat e.moment e.event
+changes_under s e mark.Store = []
+changes_under s e mark.Memory = []
+
+-- what is told with some changes, and with some bytes in a blob
+abbrev told_with : List Change → Option ℕ → List ℕ → Told → Told
+told_with changes blob body told = record { rows = told_all told.rows changes; blobs = with_blob told.blobs blob body }
+
+abbrev pub told_after : State → Entry → List ℕ → Told → Told
+told_after s e body = told_with (changes_under s e e.mark) (blob_in s e) body
+
+with_stored_by : (blobs : Blobs) (blob : Option ℕ) (body : List ℕ) → with_stored blobs (stored_by blob body) ≡ with_blob blobs blob body
+with_stored_by blobs None body = refl
+with_stored_by blobs (Some id) body = refl
+
+-- nothing changes and nothing is stored
+told_same : (before : Option Told) (body : List ℕ) → before ≡ option_map (told_with [] None body) before
+told_same None body = refl
+told_same (Some told) body = refl
+
+told_more : (changes : List Change) (blob : Option ℕ) (body : List ℕ) (before : Option Told)
+    → option_map (applied changes (stored_by blob body)) before ≡ option_map (told_with changes blob body) before
+told_more changes blob body None = refl
+told_more changes blob body (Some told) =
+    ap (λ (blobs : Blobs). Some (record { rows = told_all told.rows changes; blobs = blobs })) (with_stored_by told.blobs blob body)
+
+told_by_is : (changes : List Change) (blob : Option ℕ) (body : List ℕ) (before : Option Told) → (changes ≡ [] → blob ≡ None)
+    → told_by changes (stored_by blob body) before ≡ option_map (told_with changes blob body) before
+told_by_is [] blob body before none =
+    subst (λ (o : Option ℕ). before ≡ option_map (told_with [] o body) before) (sym (none refl)) (told_same before body)
+told_by_is (change ∷ changes) blob body before none = told_more (change ∷ changes) blob body before
+
+-- ---- a step that changes nothing stores nothing
+
+no_blob : (n : ℕ) (s : State) (by moment : ℕ) (event : Event) → IsSound s → MayCome n s (answered by moment event)
+    → changes_to s by moment event ≡ [] → blob_to s by moment event ≡ None
+no_blob n s by moment event sound may nothing = here (blob_to s by moment event) refl
+  where
+    same : (step s by moment event).tables ≡ s.tables
+    same = (changes_tell.none s by moment event sound may.asked).0 nothing
+
+    here : (blob : Option ℕ) → blob_to s by moment event ≡ blob → blob ≡ None
+    here None is = refl
+    here (Some id) is =
+        let new = blobs_are_new.next n s (answered by moment event) id sound may is in
+        let kept : (step s by moment event).tables.meta.next_blob ≡ s.tables.meta.next_blob = ap (λ (t : Tables). t.meta.next_blob) same in
+        absurd (omega (arith, new.0, new.1, kept))
+
+-- an End that brings nothing changes nothing
+empty_changes : (s : State) (by now : ℕ) (outcome : Outcome) → IsEmpty outcome → changes_to s by now (End outcome) ≡ []
+empty_changes s by now outcome empty = here outcome (ticket_of s by) empty
+  where
+    here : (outcome : Outcome) (ticket : Option Ticket) → IsEmpty outcome → changes_by s.tables now (ends_ticket s.tables now outcome ticket) ≡ []
+    here Sent None empty = refl
+    here Sent (Some ticket) empty = refl
+    here Gone None empty = refl
+    here Gone (Some ticket) empty = refl
+    here (Body digest size) ticket empty = absurd empty
+
+-- so it is a step of which the keeper isn't told
+pub empty_steps : (k l : Kept) (told : Option Told) (faults now : ℕ) (outcome : Outcome) (answer : Answer) → IsEmpty outcome
+    → Makes k l now (End outcome) mark.Answered answer → Steps (standing k told faults) (standing l told faults) now (End outcome) [] answer
+empty_steps k l told faults now outcome answer empty makes = record {
+  mark = mark.Answered;
+  makes = makes;
+  tells = subst (λ (changes : List Change). Tells mark.Answered changes (stored_by (blob_to k.state seat (moment_of k.state now) (End outcome)) []) told told)
+      (sym (empty_changes k.state seat (moment_of k.state now) outcome empty))
+      (refl, All-nil FitsChange);
+  strikes = refl;
+  rises = omega arith;
+}
+
+-- ---- what is told after a step
+
+told_is : (n : ℕ) (s : State) (moment : ℕ) (event : Event) (m : Mark) (body : List ℕ) (before now : Option Told) → IsSound s
+    → MayCome n s (entry seat moment event m) → Tells m (changes_to s seat moment event) (stored_by (blob_to s seat moment event) body) before now
+    → now ≡ option_map (told_after s (entry seat moment event m) body) before
+told_is n s moment event mark.Answered body before now sound may tells =
+    tells.0 ∙ told_by_is (changes_to s seat moment event) (blob_to s seat moment event) body before (no_blob n s seat moment event sound may)
+told_is n s moment event mark.Store body before now sound may tells = tells ∙ told_same before body
+told_is n s moment event mark.Memory body before now sound may tells = tells ∙ told_same before body
+
+pub steps_told : (a b : Standing) (now : ℕ) (event : Event) (body : List ℕ) (answer : Answer) → IsSound a.site.state
+    → (steps : Steps a b now event body answer)
+    → b.told ≡ option_map (told_after a.site.state (entry_at a.site now event steps.mark) body) a.told
+steps_told a b now event body answer sound steps =
+    told_is (length a.site.history) a.site.state (moment_of a.site.state now) event steps.mark body a.told b.told sound steps.makes.may_come steps.tells
+
+-- ---- the rows
+
+failed_tables : (s : State) (by now : ℕ) (event : Event) → (failed s by now event).tables ≡ s.tables
+failed_tables s by now (Begin words request) = refl
+failed_tables s by now (End outcome) = refl
+
+-- each row after the entry has a spelling, and the rows that are told are those
+record FollowsRows (s : State) (e : Entry) (m : Mark) : Type 0 where
+  rows : told_of (after_mark s e m).tables ≡ told_all (told_of s.tables) (changes_under s e m)
+  fit : AreFit (after_mark s e m).tables
+
+failed_rows : (s t : State) → t.tables ≡ s.tables → AreFit s.tables → (told_of t.tables ≡ told_of s.tables) × AreFit t.tables
+failed_rows s t same fit = (ap told_of same, subst AreFit (sym same) fit)
+
+rows_follow : (n : ℕ) (s : State) (moment : ℕ) (event : Event) (m : Mark) (stored : Option Stored) (before now : Option Told)
+    → IsSound s → AreRising s.tables → AreFit s.tables → MayCome n s (entry seat moment event m)
+    → Tells m (changes_to s seat moment event) stored before now → FollowsRows s (entry seat moment event m) m
+rows_follow n s moment event mark.Answered stored before now sound rising fit may tells =
+    let changes = changes_to s seat moment event in
+    let put = changes_tell.put s seat moment event sound may.asked in
+    let next = told_follows s.tables changes rising fit tells.1 (changes_tell.droppable s seat moment event) in
+    record { rows = ap told_of (sym put) ∙ next.told; fit = subst AreFit put next.fit }
+rows_follow n s moment event mark.Store stored before now sound rising fit may tells =
+    let same = failed_rows s (failed s seat moment event) (failed_tables s seat moment event) fit in
+    record { rows = same.0; fit = same.1 }
+rows_follow n s moment event mark.Memory stored before now sound rising fit may tells =
+    let same = failed_rows s (failed s seat moment event) (failed_tables s seat moment event) fit in
+    record { rows = same.0; fit = same.1 }
+
+-- ---- the desk goes on
+
+map_some : (P Q : Told → Type 0) (f : Told → Told) (o : Option Told) → ((told : Told) → P told → Q (f told)) → IfSome o P
+    → IfSome (option_map f o) Q
+map_some P Q f None goes has = tt
+map_some P Q f (Some told) goes has = goes told has
+
+tells_after : (k : Kept) (e : Entry) (body : List ℕ) (told : Told) → IsSound k.state → MayCome (length k.history) k.state e → Brings body e.event
+    → FollowsRows k.state e e.mark → TellsSite k told → TellsSite (entered k e) (told_after k.state e body told)
+tells_after k e body told sound may brings follows tells = record {
+  rows = ap (λ rows. told_all rows (changes_under k.state e e.mark)) tells.rows ∙ sym follows.rows;
+  whole = stays_whole (length k.history) k.state e body k.opening told.blobs sound may brings tells.whole;
+}
+
+pub steps_desk : (a b : Standing) (now : ℕ) (event : Event) (body : List ℕ) (answer : Answer) → IsSound a.site.state
+    → AreRising a.site.state.tables → Brings body event → Steps a b now event body answer → IsDesk a.site a.told → IsDesk b.site b.told
+steps_desk a b now event body answer sound rising brings steps desk =
+    let e = entry_at a.site now event steps.mark in
+    let rows = rows_follow (length a.site.history) a.site.state (moment_of a.site.state now) event steps.mark
+    (stored_by (blob_to a.site.state seat (moment_of a.site.state now) event) body) a.told b.told sound rising desk.fit steps.makes.may_come steps.tells in
+    subst (λ (k : Kept). IsDesk k b.told) (sym steps.makes.site)
+    (subst (λ (o : Option Told). IsDesk (entered a.site e) o) (sym (steps_told a b now event body answer sound steps))
+    (record {
+      alone = All-push (λ (x : Entry). x.seat ≡ seat) a.site.history e desk.alone refl;
+      fit = rows.fit;
+      told = map_some (TellsSite a.site) (TellsSite (entered a.site e)) (told_after a.site.state e body) a.told
+          (λ told tells. tells_after a.site e body told sound steps.makes.may_come brings rows tells) desk.told;
+    }))
+
+pub asks_desk : (a b : Standing) (now : ℕ) (words : Words) (request : Request) (answer : Answer) → IsSound a.site.state
+    → AreRising a.site.state.tables → Asks a b now words request answer → IsDesk a.site a.told → IsDesk b.site b.told
+asks_desk a b now words request answer sound rising (inl steps) desk =
+    steps_desk a b now (Begin words request) [] answer sound rising tt steps desk
+asks_desk a b now words request answer sound rising (inr none) desk =
+    subst (λ (z : Standing). IsDesk z.site z.told) (sym none.same) desk
+
+-- ---- the blobs
+
+abbrev pub blobs_in : Option Told → Option Blobs
+blobs_in told = option_map (λ told. told.blobs) told
+
+-- numbers that were given keep their bytes
+still_by : (n : ℕ) (s : State) (e : Entry) (body : List ℕ) (before : Option Told) → IsSound s → MayCome n s e
+    → TellsStill s.tables.meta.next_blob (blobs_in before) (blobs_in (option_map (told_after s e body) before))
+still_by n s e body None sound may = refl
+still_by n s e body (Some told) sound may = λ id less. blobs_are_new.same n s e body told.blobs id sound may less
+
+pub steps_still : (a b : Standing) (now : ℕ) (event : Event) (body : List ℕ) (answer : Answer) → IsSound a.site.state
+    → Steps a b now event body answer → TellsStill a.site.state.tables.meta.next_blob (blobs_in a.told) (blobs_in b.told)
+steps_still a b now event body answer sound steps =
+    subst (λ (o : Option Told). TellsStill a.site.state.tables.meta.next_blob (blobs_in a.told) (blobs_in o))
+    (sym (steps_told a b now event body answer sound steps))
+    (still_by (length a.site.history) a.site.state (entry_at a.site now event steps.mark) body a.told sound steps.makes.may_come)

@@ -1,0 +1,6 @@
+pub mod Desk
+pub mod Faults
+pub mod Opened
+pub mod Opening
+pub mod Pieces
+pub mod Stepping

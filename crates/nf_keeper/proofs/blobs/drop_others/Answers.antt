@@ -1,0 +1,17 @@
+use Rattle.std.proofs.Common.{◌≡◌, ℕ, List, rules, sym, subst}
+use Rattle.std.proofs.lemmas.Fn.{filter_same}
+use Rattle.std.proofs.lemmas.List.Kept.{AllPairs-filter}
+use Rattle.std.specs.declared.cmp.Ordering.TheVariants.{Less}
+use Rattle.nf_defs.specs.Blobs.{blob_key}
+use Rattle.nf_defs.specs.Puts.{key_cmp}
+use Rattle.nf_defs.specs.Rising.{IsRising}
+use Rattle.nf_keeper.specs.Keeping.{is_kept}
+use Rattle.nf_keeper.proofs.blobs.drop_others.Goals as goal
+
+pub returns-clause-kept : goal.returns-clause-kept
+returns-clause-kept c = filter_same _ _ _ (λ x b f' k. search rules) _ _ c.retain.ensures.filtered
+
+pub returns-clause-rising : goal.returns-clause-rising
+returns-clause-rising c =
+    subst (λ (xs : List (ℕ × List ℕ)). IsRising blob_key xs) (sym (returns-clause-kept c))
+    (AllPairs-filter (λ a b. key_cmp (blob_key a) (blob_key b) ≡ Less) (is_kept c.args.keep.now) c.args.blobs.now.items c.requires)

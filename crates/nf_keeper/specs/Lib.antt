@@ -1,0 +1,4 @@
+pub mod Keeping
+pub mod Views
+pub mod Memory
+pub mod Spelled

@@ -1,0 +1,92 @@
+//! Each call of a keeper in memory, with one that fails between them.
+
+use crate::*;
+use nf_base::{BlobId, Change, Changes, GroupId, MemberRow, Row, RowKey, UserId};
+use nf_rows::RawRow;
+use std::alloc::{AllocError, Global};
+use std::process::Abort;
+use std::test::Fail;
+
+fn member(user: u32) -> MemberRow {
+    MemberRow {
+        group: GroupId::new(1),
+        user: UserId::new(user),
+    }
+}
+
+// The last byte of the key and of the body of each row that is told.
+fn told(alloc: Global, keeper: &mut MemKeeper) -> Result<Vec<(u8, u8)>, Fail> {
+    let rows = match keeper.load() {
+        Ok(rows) => rows,
+        Err(_) => return Err(Fail::from("no rows")),
+    };
+    let mut told = Vec::new(alloc);
+    for row in rows.rows() {
+        let key = row.key().last().copied().unwrap_or(0);
+        told.push((key, row.body().last().copied().unwrap_or(0)))?;
+    }
+    Ok(told)
+}
+
+fn has(keeper: &mut MemKeeper, id: u64, bytes: Option<&[u8]>) -> bool {
+    match keeper.blob(BlobId::new(id)) {
+        Ok(kept) => kept.as_deref() == bytes,
+        Err(_) => false,
+    }
+}
+
+#[test]
+fn keeps_what_is_applied(rt: HostRuntime) -> Result<(), Fail> {
+    let alloc = rt.alloc();
+    let mut keeper = MemKeeper::new(alloc, &[2, 4])?;
+    let mut changes = Changes::new(alloc);
+    changes.push(Change::Put(Row::Member(member(2))))?;
+    changes.push(Change::Put(Row::Member(member(1))))?;
+    let blob = NewBlob {
+        id: BlobId::new(7),
+        bytes: b"seven",
+    };
+    assert!(rt; keeper.apply(&changes, Some(&blob)) == Ok(()));
+    assert!(rt; keeper.load().is_err());
+    assert_eq!(rt;
+        told(alloc, &mut keeper)?.as_slice(),
+        [(1, 1), (2, 1)].as_slice()
+    );
+    let mut drops = Changes::new(alloc);
+    drops.push(Change::Drop(RowKey::Member {
+        group: GroupId::new(1),
+        user: UserId::new(1),
+    }))?;
+    assert!(rt; keeper.apply(&drops, None) == Err(KeepFault::Failed));
+    assert!(rt; has(&mut keeper, 7, Some(b"seven")));
+    assert!(rt; keeper.apply(&drops, None) == Ok(()));
+    assert_eq!(rt; told(alloc, &mut keeper)?.as_slice(), [(2, 1)].as_slice());
+    assert!(rt; keeper.sweep(&[BlobId::new(8)]) == Ok(()));
+    assert!(rt; has(&mut keeper, 7, None));
+    assert_eq!(rt; keeper.faults(), 2);
+    Ok(())
+}
+
+#[test]
+fn holds_what_it_is_given(rt: HostRuntime) -> Result<(), Fail> {
+    let alloc = rt.alloc();
+    let mut rows = RawRows::new(alloc);
+    for (key, body) in [(2, 1), (1, 2), (2, 3)] {
+        let key = vec![in alloc; key]?;
+        rows.push(RawRow::from_parts(5, key, vec![in alloc; body]?))?;
+    }
+    let mut blobs = BlobList::new(alloc);
+    for (id, byte) in [(9, b'a'), (4, b'b'), (9, b'c')] {
+        blobs.put(BlobId::new(id), vec![in alloc; byte]?)?;
+    }
+    let mut keeper = MemKeeper::holding(alloc, rows, blobs, &[])?;
+    assert_eq!(rt;
+        told(alloc, &mut keeper)?.as_slice(),
+        [(1, 2), (2, 3)].as_slice()
+    );
+    assert!(rt; has(&mut keeper, 9, Some(b"c")));
+    keeper.set_blob(BlobId::new(4), b"other".to_vec(alloc)?)?;
+    assert!(rt; has(&mut keeper, 4, Some(b"other")));
+    assert_eq!(rt; keeper.faults(), 0);
+    Ok(())
+}

@@ -1,0 +1,61 @@
+-- Blobs are whole for the rows that a run is opened with, but for damage.
+use Rattle.std.proofs.Common.{ℕ, ◌==◌, ◌≡◌, ◌⊎◌, Bool, true, false, bytes_eq, List, length, get_or, refl, sym, ap, ◌∙◌, inl, inr}
+use Rattle.std.specs.Prelude.{Option, None, Some}
+use Rattle.std.specs.Bool.{Decides}
+use Rattle.std.specs.List.{Contains}
+use Rattle.std.proofs.lemmas.Bool.{both_ways, eq-eqb, eqb-true}
+use Rattle.std.proofs.lemmas.List.Elements.{All-contains_itself, All-nil, All-weaker}
+use Rattle.std.proofs.lemmas.Option.{none-some, same_Some}
+use Rattle.std.proofs.lemmas.Slice.Eq.{bytes_eq-Decides}
+use Rattle.sha2.specs.Sha256.{sha256}
+use Rattle.nf_base.specs.declared.content.Piece.{Piece}
+use Rattle.nf_base.specs.declared.rows.NodeRow.{NodeRow}
+use Rattle.nf_base.specs.declared.rows.Row.{Row}
+use Rattle.nf_defs.proofs.Loads.{nodes_given}
+use Rattle.nf_defs.specs.Blobs.{Blobs, blob_at}
+use Rattle.nf_defs.specs.Tables.{tables_of}
+use Rattle.nf_laws.specs.Wholes.{IsGoalHeld, IsHeld, IsNamed, IsThere, OpensWhole}
+use Rattle.nf_words.specs.declared.history.Ticket.{Ticket}
+
+-- a piece's bytes are there or they aren't
+pub there_or_not : (blobs : Blobs) (piece : Piece) → IsThere blobs piece ⊎ (IsThere blobs piece → ⊥)
+there_or_not blobs piece = found (blob_at blobs piece.blob) refl
+  where
+    found : (o : Option (List ℕ)) → blob_at blobs piece.blob ≡ o → IsThere blobs piece ⊎ (IsThere blobs piece → ⊥)
+    found None e = inr (λ is. none-some is.bytes (sym e ∙ is.there))
+    found (Some bytes) e = sized (length bytes == piece.size) refl
+      where
+        same : (is : IsThere blobs piece) → bytes ≡ is.bytes
+        same is = same_Some bytes is.bytes (sym e ∙ is.there)
+
+        sized : (a : Bool) → (length bytes == piece.size) ≡ a → IsThere blobs piece ⊎ (IsThere blobs piece → ⊥)
+        sized false size =
+            inr (λ is. both_ways (length bytes == piece.size) size (eq-eqb (length bytes) piece.size (ap length (same is) ∙ is.size)))
+        sized true size = digested (bytes_eq (sha256 bytes) piece.digest) refl
+          where
+            decides : Decides (bytes_eq (sha256 bytes) piece.digest) (sha256 bytes ≡ piece.digest)
+            decides = bytes_eq-Decides (sha256 bytes) piece.digest
+
+            digested : (a : Bool) → bytes_eq (sha256 bytes) piece.digest ≡ a → IsThere blobs piece ⊎ (IsThere blobs piece → ⊥)
+            digested false digest =
+                inr (λ is. both_ways (bytes_eq (sha256 bytes) piece.digest) digest (decides.1 (ap sha256 (same is) ∙ is.digest)))
+            digested true digest =
+                inl (record { bytes = bytes; there = e; size = eqb-true (length bytes) piece.size size; digest = decides.0 digest })
+
+-- so one that the rows name is there or damaged
+named_held : (rows : List Row) (blobs : Blobs) (piece : Piece) → IsNamed rows piece → IsHeld rows blobs piece
+named_held rows blobs piece named =
+    elim (there_or_not blobs piece) [
+      | inl there ↦ inl there
+      | inr broken ↦ inr (record { named = named; broken = broken })
+    ]
+
+pub opens_whole : OpensWhole
+opens_whole rows blobs = record {
+  nodes = λ k d within.
+      let row : NodeRow = get_or (tables_of rows).nodes k d in
+      All-weaker (Contains row.content) (IsHeld rows blobs)
+      (λ piece named. named_held rows blobs piece (record { row = row; among = nodes_given rows k d within; named = named }))
+      row.content (All-contains_itself row.content);
+  tickets = All-nil (λ (ticket : Ticket). IsGoalHeld rows blobs ticket.goal);
+}

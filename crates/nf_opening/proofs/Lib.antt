@@ -1,0 +1,5 @@
+pub mod Firsts
+pub mod Halves
+pub mod Leads
+pub mod NameKeys
+pub mod Scans

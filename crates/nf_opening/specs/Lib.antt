@@ -1,0 +1,4 @@
+pub mod Again
+pub mod Judged
+pub mod Names
+pub mod Ways

@@ -1,0 +1,132 @@
+//! Rules that a row keeps by itself, or beside the counters.
+
+ghost use Rattle.std.specs.Prelude.{◌≡◌, not, nat_lt};
+ghost use Rattle.nf_base.specs.declared.rows.Row.TheVariants as rows;
+ghost use Rattle.nf_defs.specs.Tables.{tables_of};
+ghost use Rattle.nf_rules.specs.Rules.{are_counters, are_numbers, first_index, has_ungiven_blob, is_given, is_later, is_lavish, is_place_given};
+
+use crate::first::first;
+use nf_base::{BlobId, MetaRow, NodeId, NodeRow, Piece, Place, Row};
+
+/// The most bytes that a user's quota may be.
+const MOST_QUOTA: u64 = 1_099_511_627_776;
+
+/// The first row of a kind that isn't built yet.
+pub(crate) fn first_later(rows: &[Row]) -> Option<usize>
+    ensures { result ≡ first_index is_later rows.now }
+{
+    first(rows, |row| is_later(row))
+}
+
+fn is_later(row: &Row) -> bool
+    ensures { result ≡ is_later row.now }
+{
+    match row {
+        Row::Meta(_)
+        | Row::User(_)
+        | Row::Token(_)
+        | Row::Group(_)
+        | Row::Member(_)
+        | Row::Node(_) => false,
+        Row::Share(_)
+        | Row::Mount(_)
+        | Row::Version(_)
+        | Row::Item(_)
+        | Row::Upload(_)
+        | Row::Chunk(_) => true,
+    }
+}
+
+/// The first row with a number that wasn't given, or a moment to come.
+pub(crate) fn first_ungiven(meta: &MetaRow, rows: &[Row]) -> Option<usize>
+    requires { meta.now ≡ (tables_of rows.now).meta }
+    ensures { result ≡ first_index (λ row. not (are_numbers (tables_of rows.now).meta row)) rows.now }
+{
+    first(rows, |row| !are_numbers(meta, row))
+}
+
+fn are_numbers(meta: &MetaRow, row: &Row) -> bool
+    ensures { result ≡ are_numbers meta.now row.now }
+{
+    let next_user = u64::from(meta.next_user.number());
+    let next_group = u64::from(meta.next_group.number());
+    match row {
+        Row::Meta(row) => are_counters(row),
+        Row::User(row) => {
+            is_given(next_user, u64::from(row.id.number()))
+                && is_given(meta.next_node.number(), row.root.number())
+        }
+        Row::Token(row) => is_given(next_user, u64::from(row.user.number())),
+        Row::Group(row) => is_given(next_group, u64::from(row.id.number())),
+        Row::Member(row) => {
+            is_given(next_group, u64::from(row.group.number()))
+                && is_given(next_user, u64::from(row.user.number()))
+        }
+        Row::Node(row) => are_node_numbers(meta, row),
+        _ => true,
+    }
+}
+
+fn are_node_numbers(meta: &MetaRow, row: &NodeRow) -> bool
+    ensures { result ≡ are_numbers meta.now (rows.Node row.now) }
+{
+    is_given(meta.next_node.number(), row.id.number())
+        && is_given(
+            u64::from(meta.next_user.number()),
+            u64::from(row.owner.number()),
+        )
+        && is_place_given(meta.next_node, row.place)
+        && !has_ungiven_blob(meta.next_blob, row.content.pieces())
+        && row.changed <= meta.last
+}
+
+/// Whether the number was given, where that is the next.
+fn is_given(next: u64, id: u64) -> bool
+    ensures { result ≡ is_given next id }
+{
+    0 < id && id < next
+}
+
+/// Whether all counters count from 1 on.
+fn are_counters(meta: &MetaRow) -> bool
+    ensures { result ≡ are_counters meta.now }
+{
+    0 < meta.next_user.number()
+        && 0 < meta.next_group.number()
+        && 0 < meta.next_node.number()
+        && 0 < meta.next_share.number()
+        && 0 < meta.next_blob.number()
+}
+
+fn is_place_given(next: NodeId, place: Place) -> bool
+    ensures { result ≡ is_place_given next place }
+{
+    match place {
+        Place::Inside(folder) => is_given(next.number(), folder.number()),
+        Place::Root | Place::Trash => true,
+    }
+}
+
+fn has_ungiven_blob(next: BlobId, content: &[Piece]) -> bool
+    ensures { result ≡ has_ungiven_blob next content.now }
+{
+    content
+        .iter()
+        .any(|piece| !is_given(next.number(), piece.blob.number()))
+}
+
+/// The first user whose quota is too large.
+pub(crate) fn first_lavish(rows: &[Row]) -> Option<usize>
+    ensures { result ≡ first_index is_lavish rows.now }
+{
+    first(rows, |row| is_lavish(row))
+}
+
+fn is_lavish(row: &Row) -> bool
+    ensures { result ≡ is_lavish row.now }
+{
+    match row {
+        Row::User(row) => row.quota > MOST_QUOTA,
+        _ => false,
+    }
+}

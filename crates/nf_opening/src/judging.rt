@@ -1,0 +1,53 @@
+//! All rules, in their order.
+
+ghost use Rattle.std.specs.Prelude.{◌≡◌, IfOk};
+ghost use Rattle.std.specs.Option.{option_map_or};
+ghost use Rattle.nf_defs.specs.Rising.{AreRising};
+ghost use Rattle.nf_defs.specs.Tables.{tables_of};
+ghost use Rattle.nf_opening.specs.Judged.{AreJudged, IsFaultAt};
+
+use crate::alone::{first_later, first_lavish, first_ungiven};
+use crate::keys::first_twice;
+use crate::limits::first_beyond;
+use crate::names::first_namesake;
+use crate::placed::first_astray;
+use crate::present::first_dangling;
+use crate::{Broken, Loaded, SiteFault};
+use nf_base::Row;
+use std::alloc::Global;
+
+/// The tables of rows that break no rule.
+pub fn judge(alloc: Global, rows: &[Row]) -> Result<Loaded, SiteFault>
+    ensures judged { AreJudged rows.now result }
+    ensures tables { IfOk result (λ loaded. loaded ≡ tables_of rows.now) }
+{
+    let loaded = Loaded::of(alloc, rows)?;
+    judge_rows(alloc, &loaded, rows)?;
+    Ok(loaded)
+}
+
+fn judge_rows(alloc: Global, loaded: &Loaded, rows: &[Row]) -> Result<(), SiteFault>
+    requires tables { loaded.now ≡ tables_of rows.now }
+    requires rising { AreRising loaded.now }
+    ensures { AreJudged rows.now result }
+{
+    keeps(0, first_later(rows))?;
+    keeps(1, first_twice(alloc, rows)?)?;
+    keeps(2, first_ungiven(&loaded.meta, rows))?;
+    keeps(3, first_dangling(loaded, rows))?;
+    keeps(4, first_namesake(alloc, rows)?)?;
+    keeps(5, first_astray(loaded, rows))?;
+    keeps(7, first_beyond(loaded, rows))?;
+    keeps(8, first_lavish(rows))?;
+    Ok(())
+}
+
+/// A rule is kept that no row breaks.
+fn keeps(rule: u8, index: Option<usize>) -> Result<(), Broken>
+    ensures { IsFaultAt rule index result }
+{
+    match index {
+        None => Ok(()),
+        Some(index) => Err(Broken { rule, index }),
+    }
+}

@@ -1,0 +1,21 @@
+//! Rows that were stored: they are loaded into tables, and judged by the rules before anything is served.
+#![tactic(auto)]
+
+mod again;
+mod alone;
+mod fault;
+mod first;
+mod judging;
+mod keys;
+mod limits;
+mod loaded;
+mod names;
+mod numbered;
+mod placed;
+mod present;
+#[cfg(test)]
+mod tests;
+
+pub use fault::{Broken, SiteFault};
+pub use judging::judge;
+pub use loaded::Loaded;

@@ -1,0 +1,93 @@
+//! The rule that users have their roots and that nodes lead to them.
+
+ghost use Rattle.std.specs.Prelude.{◌≡◌, not, option_copied};
+ghost use Rattle.nf_base.specs.declared.rows.Row.TheVariants as rows;
+ghost use Rattle.nf_defs.specs.Rising.{AreRising};
+ghost use Rattle.nf_defs.specs.Tables.{tables_of};
+ghost use Rattle.nf_rules.specs.Rules.{first_index, is_placed, is_root_of, leads};
+ghost use Rattle.nf_opening.specs.Ways.{folder_above, is_own_root};
+
+use crate::Loaded;
+use crate::first::first;
+use nf_base::{NodeKind, NodeRow, Place, Row, UserRow};
+
+/// The first user who has no root, or node that doesn't lead to one.
+pub(crate) fn first_astray(loaded: &Loaded, rows: &[Row]) -> Option<usize>
+    requires tables { loaded.now ≡ tables_of rows.now }
+    requires rising { AreRising loaded.now }
+    ensures { result ≡ first_index (λ row. not (is_placed (tables_of rows.now) row)) rows.now }
+{
+    first(rows, |row| !is_placed(loaded, row))
+}
+
+fn is_placed(loaded: &Loaded, row: &Row) -> bool
+    requires { AreRising loaded.now }
+    ensures { result ≡ is_placed loaded.now row.now }
+{
+    match row {
+        Row::User(row) => has_root(loaded, row),
+        Row::Node(row) => leads(loaded, row),
+        _ => true,
+    }
+}
+
+fn has_root(loaded: &Loaded, user: &UserRow) -> bool
+    requires { AreRising loaded.now }
+    ensures { result ≡ is_placed loaded.now (rows.User user.now) }
+{
+    match loaded.node(user.root) {
+        Some(root) => is_root_of(user, root),
+        None => false,
+    }
+}
+
+fn is_root_of(user: &UserRow, node: &NodeRow) -> bool
+    ensures { result ≡ is_root_of user.now node.now }
+{
+    node.place == Place::Root
+        && node.kind == NodeKind::Folder
+        && node.owner == user.id
+        && node.name.as_bytes() == user.name.as_bytes()
+}
+
+/// Whether the node leads to its owner's root, at most 64 folders up.
+fn leads(loaded: &Loaded, node: &NodeRow) -> bool
+    requires { AreRising loaded.now }
+    ensures { result ≡ leads loaded.now node.now }
+{
+    let mut at = node;
+    for step in 0..64u32 {
+        let _ = step;
+        match folder_above(loaded, at) {
+            Some(folder) => at = folder,
+            None => return is_own_root(loaded, at),
+        }
+    }
+    is_own_root(loaded, at)
+}
+
+/// The folder that a node is in, where it has the same owner.
+fn folder_above<'a>(loaded: &'a Loaded, node: &NodeRow) -> Option<&'a NodeRow>
+    requires { AreRising loaded.now }
+    ensures { option_copied result ≡ folder_above loaded.now node.now }
+{
+    let Place::Inside(folder) = node.place else {
+        return None;
+    };
+    let folder = loaded.node(folder)?;
+    if folder.kind == NodeKind::Folder && folder.owner == node.owner {
+        Some(folder)
+    } else {
+        None
+    }
+}
+
+fn is_own_root(loaded: &Loaded, node: &NodeRow) -> bool
+    requires { AreRising loaded.now }
+    ensures { result ≡ is_own_root loaded.now node.now }
+{
+    match loaded.user(node.owner) {
+        Some(user) => node.place == Place::Root && user.root == node.id,
+        None => node.place == Place::Root && node.id.number() == 0,
+    }
+}

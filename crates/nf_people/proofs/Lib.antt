@@ -1,0 +1,3 @@
+pub mod NameIndex
+pub mod Quotas
+pub mod Members

@@ -1,0 +1,9 @@
+pub mod Among
+pub mod Apart
+pub mod Firsts
+pub mod Leading
+pub mod Ruled
+pub mod Shared
+pub mod Stacked
+pub mod Stays
+pub mod Unbroken

@@ -1,0 +1,294 @@
+-- Rows that break no rule make tables that keep the rules.
+use Rattle.std.proofs.Common.{◌≡◌, ℕ, ◌<◌, ◌≤◌, Bool, true, false, not, List, [], ◌∷◌, length, get_or, Option, None, Some, refl, sym, ap, ◌∙◌, arith, ⊎_elim}
+use Rattle.std.specs.Prelude.{nat_lt}
+use Rattle.std.specs.List.{All, AllPairs}
+use Rattle.std.specs.Option.{option_map_or}
+use Rattle.std.specs.Ordering.{MatchOrdering, nat_cmp, ordering_then}
+use Rattle.std.specs.declared.cmp.Ordering.{Ordering}
+use Rattle.std.specs.declared.cmp.Ordering.TheVariants.{Less, Equal, Greater}
+use Rattle.std.proofs.lemmas.Bool.{and_cases, and_parts, cases_lt, eqb-true, false≢true, ltb-false, ltb-true, not-false, not-true, or_parts}
+use Rattle.std.proofs.lemmas.Cmp.{ranked}
+use Rattle.std.proofs.lemmas.List.Elements.{All-cons, All-head, All-nil, All-tail, All-weaker}
+use Rattle.std.proofs.lemmas.List.Sums.{sum_by-cons}
+use Rattle.std.proofs.lemmas.Slice.Eq.{bytes_eq-Decides}
+use Rattle.nf_base.proofs.Naming.{slice_cmp-Equal}
+use Rattle.nf_base.specs.Keys.{key_of}
+use Rattle.nf_base.specs.KeptRows.{IsKept}
+use Rattle.nf_base.specs.declared.content.Piece.{Piece}
+use Rattle.nf_base.specs.declared.rows.Row.{Row}
+use Rattle.nf_base.specs.declared.rows.Row.TheVariants as rows
+use Rattle.nf_base.specs.declared.rows.MetaRow.{MetaRow}
+use Rattle.nf_base.specs.declared.rows.NodeKind.{NodeKind}
+use Rattle.nf_base.specs.declared.rows.NodeKind.TheVariants.{Folder, File}
+use Rattle.nf_base.specs.declared.rows.NodeRow.{NodeRow}
+use Rattle.nf_base.specs.declared.rows.Place.{Place}
+use Rattle.nf_base.specs.declared.rows.Place.TheVariants.{Root, Inside, Trash}
+use Rattle.nf_base.specs.declared.rows.UserRow.{UserRow}
+use Rattle.nf_defs.specs.Changes.{numbers_of}
+use Rattle.nf_defs.specs.Keys.{group_key, node_key, user_key}
+use Rattle.nf_defs.specs.Puts.{key_cmp}
+use Rattle.nf_defs.specs.Rising.{IsRising}
+use Rattle.nf_defs.specs.Tables.{Tables, tables_of}
+use Rattle.nf_defs.specs.Tree.{is_folder_kind, is_root_place, node_row, piece_count}
+use Rattle.nf_laws.proofs.Climbs.{node_row_each}
+use Rattle.nf_words.specs.Limits.{count_of}
+use Rattle.nf_words.specs.Sound.{AreCounters, AreSound, HasRoot, IsNodeSound}
+use Rattle.nf_words.specs.declared.answer.Limit.TheVariants as limit
+use Rattle.nf_rules.specs.Keys.{child_key, name_key}
+use Rattle.nf_rules.specs.Laws.{UnbrokenAreRuled}
+use Rattle.nf_rules.specs.Ruled.{IsGiven}
+use Rattle.nf_rules.specs.Rules.{AreUnbroken, are_counters, are_numbers, has_ungiven_blob, is_beyond, is_given, is_later, is_lavish, is_placed, is_root_of, lacks_meta, leads, most_groups, most_members, most_quota, most_tokens, most_users, names_are_there, rules}
+use Rattle.nf_rules.proofs.Among.{all_have, meta_has, tables_rise}
+use Rattle.nf_rules.proofs.Firsts.{keep_each}
+use Rattle.nf_rules.proofs.Leading.{climbs, place_of_leading}
+use Rattle.nf_rules.proofs.Shared.{AreUnshared, IsAmong, each_among, one_has}
+use Rattle.nf_rules.proofs.Shared as shared
+
+-- ---- numbers
+
+given : (next id : ℕ) → is_given next id ≡ true → IsGiven next id
+given next id is =
+    let parts = and_parts (nat_lt 0 id) (nat_lt id next) is in
+    record { first = ltb-true 0 id parts.0; below = ltb-true id next parts.1 }
+
+counters : (meta : MetaRow) → are_counters meta ≡ true → AreCounters meta
+counters meta is =
+    let blobs = and_parts _ _ is in
+    let shares = and_parts _ _ blobs.0 in
+    let nodes = and_parts _ _ shares.0 in
+    let groups = and_parts _ _ nodes.0 in
+    record {
+      users = ltb-true 0 meta.next_user groups.0;
+      groups = ltb-true 0 meta.next_group groups.1;
+      nodes = ltb-true 0 meta.next_node nodes.1;
+      shares = ltb-true 0 meta.next_share shares.1;
+      blobs = ltb-true 0 meta.next_blob blobs.1;
+    }
+
+none_ungiven : (next : ℕ) (content : List Piece) → has_ungiven_blob next content ≡ false
+    → All (λ (piece : Piece). IsGiven next piece.blob) content
+none_ungiven next [] none = All-nil (λ (piece : Piece). IsGiven next piece.blob)
+none_ungiven next (piece ∷ content) none =
+    let parts = or_parts (not (is_given next piece.blob)) (has_ungiven_blob next content) none in
+    All-cons (λ (piece : Piece). IsGiven next piece.blob) piece content
+    (given next piece.blob (not-false (is_given next piece.blob) parts.0)) (none_ungiven next content parts.1)
+
+-- ---- keys
+
+pub not_below : (a b : List ℕ) → key_cmp a b ≡ Less → a ≡ b → ⊥
+not_below a b less same = let equal : key_cmp a b ≡ Equal = (slice_cmp-Equal a b).1 same in cc
+
+below_one : (a b : ℕ) → key_cmp (a ∷ []) (b ∷ []) ≡ Less → a < b
+below_one a b less = here (nat_cmp a b) (ranked a b _ refl) less
+  where
+    here : (r : Ordering) → MatchOrdering r (a < b) (a ≡ b) (b < a) → ordering_then r Equal ≡ Less → a < b
+    here Less h e = h
+    here Equal h e = absurd (cc)
+    here Greater h e = absurd (cc)
+
+-- rows of one kind share no name, since the rows that were put into the tables share none
+names_differ : {R : Type 0} (key : R → List ℕ) (row_of : R → Row) → ((row : R) → numbers_of (key_of (row_of row)) ≡ key row)
+    → (all : List Row) (some : List R) → AreUnshared name_key all → IsRising key some → All (λ row. IsAmong all (row_of row)) some
+    → AllPairs (λ a b. shared.AreApart name_key (row_of a) (row_of b)) some
+names_differ {R = R} key row_of keyed all some unshared rising among i j d before within name first second =
+    let a : R = get_or some i d in
+    let b : R = get_or some j d in
+    let same : row_of a ≡ row_of b =
+    one_has name_key all (row_of a) (row_of b) name unshared (among i d (omega arith)) (among j d within) first second in
+    not_below (key a) (key b) (rising i j d before within) (sym (keyed a) ∙ ap (λ (row : Row). numbers_of (key_of row)) same ∙ keyed b)
+
+-- ---- nodes
+
+node_sound : (t : Tables) (row : NodeRow) → are_numbers t.meta (rows.Node row) ≡ true → IsKept (rows.Node row) → leads t row ≡ true
+    → node_row t.nodes row.id ≡ Some row → IsNodeSound t row
+node_sound t row numbers kept leading there =
+    let last = and_parts _ _ numbers in
+    let blobs = and_parts _ _ last.0 in
+    let place = and_parts _ _ blobs.0 in
+    let ids = and_parts _ _ place.0 in
+    let id = given t.meta.next_node row.id ids.0 in
+    let blob = none_ungiven t.meta.next_blob row.content (not-true (has_ungiven_blob t.meta.next_blob row.content) blobs.1) in
+    let up = climbs t row there leading in
+    record {
+      some = id.first;
+      given = id.below;
+      changed = ltb-false t.meta.last row.changed (not-true (nat_lt t.meta.last row.changed) last.1);
+      pieces = λ k d within.
+          let sized = kept.0.sized k d within in
+          record { some = sized.some; few = sized.few; first = (blob k d within).first; given = (blob k d within).below };
+      folder = λ is. kept.1 (is_folder row.kind is);
+      place = place_of_leading t row leading;
+      steps = up.0;
+      shallow = up.1;
+      present = up.2;
+    }
+  where
+    is_folder : (kind : NodeKind) → is_folder_kind kind ≡ true → kind ≡ Folder
+    is_folder Folder is = refl
+    is_folder File is = absurd (false≢true is)
+
+has_root : (t : Tables) (user : UserRow) → is_placed t (rows.User user) ≡ true → HasRoot t user
+has_root t user is = here (node_row t.nodes user.root) refl is
+  where
+    at_root : (place : Place) → is_root_place place ≡ true → place ≡ Root
+    at_root Root is = refl
+    at_root (Inside folder) is = absurd (false≢true is)
+    at_root Trash is = absurd (false≢true is)
+
+    here : (o : Option NodeRow) → node_row t.nodes user.root ≡ o → option_map_or (is_root_of user) o false ≡ true → HasRoot t user
+    here None e is = absurd (false≢true is)
+    here (Some row) e is =
+        let name = and_parts _ _ is in
+        let owner = and_parts _ _ name.0 in
+        let kind = and_parts _ _ owner.0 in
+        record {
+          row = row;
+          there = e;
+          place = at_root row.place kind.0;
+          folder = kind.1;
+          owner = eqb-true row.owner user.id owner.1;
+          name = (bytes_eq-Decides row.name user.name).0 name.1;
+        }
+
+-- ---- the limits
+
+few : {R : Type 0} (some : List R) (most : ℕ) → All (λ row. nat_lt most (length some) ≡ false) some → length some ≤ most
+few [] most within = omega arith
+few (x ∷ some) most within =
+    ltb-false most (length (x ∷ some)) (All-head (λ row. nat_lt most (length (x ∷ some)) ≡ false) x some within)
+
+no_pieces : (some : List NodeRow) → All (λ (row : NodeRow). length row.content ≡ 0) some → piece_count some ≡ 0
+no_pieces [] none = refl
+no_pieces (x ∷ some) none =
+    omega (
+      arith,
+      sum_by-cons (λ (row : NodeRow). length row.content) x some,
+      All-head (λ (row : NodeRow). length row.content ≡ 0) x some none,
+      no_pieces some (All-tail (λ (row : NodeRow). length row.content ≡ 0) x some none),
+    )
+
+few_pieces : (t : Tables) → All (λ (row : NodeRow). is_beyond t (rows.Node row) ≡ false) t.nodes → piece_count t.nodes ≤ count_of limit.Pieces
+few_pieces t within =
+    ⊎_elim
+    (λ more. absurd (omega (
+      arith,
+      no_pieces t.nodes (All-weaker (λ (row : NodeRow). is_beyond t (rows.Node row) ≡ false)
+          (λ (row : NodeRow). length row.content ≡ 0) (none more) t.nodes within),
+    )))
+    (λ le. le)
+    (cases_lt (count_of limit.Pieces) (piece_count t.nodes))
+  where
+    none : count_of limit.Pieces < piece_count t.nodes → (row : NodeRow) → is_beyond t (rows.Node row) ≡ false → length row.content ≡ 0
+    none more row is =
+        let parts = or_parts (nat_lt (count_of limit.Nodes) (length t.nodes)) _ is in
+        ⊎_elim
+        (λ e. omega (arith, ltb-false 0 (length row.content) e))
+        (λ e. absurd (omega (arith, ltb-false (count_of limit.Pieces) (piece_count t.nodes) e)))
+        (and_cases (nat_lt 0 (length row.content)) (nat_lt (count_of limit.Pieces) (piece_count t.nodes)) parts.1)
+
+-- ---- the tables
+
+-- what no broken rule says of each row
+record Known (all : List Row) : Type 0 where
+  early : All (λ row. is_later row ≡ false) all
+  meta : lacks_meta all ≡ false
+  numbers : All (λ row. are_numbers (tables_of all).meta row ≡ true) all
+  there : All (λ row. names_are_there (tables_of all) row ≡ true) all
+  names : AreUnshared name_key all
+  placed : All (λ row. is_placed (tables_of all) row ≡ true) all
+  few : All (λ row. is_beyond (tables_of all) row ≡ false) all
+  modest : All (λ row. is_lavish row ≡ false) all
+
+passes : (test : Row → Bool) (all : List Row) → All (λ row. not (test row) ≡ false) all → All (λ row. test row ≡ true) all
+passes test all = All-weaker (λ row. not (test row) ≡ false) (λ row. test row ≡ true) (λ row fails. not-false (test row) fails) all
+
+known : (all : List Row) → AreUnbroken all → Known all
+known all none =
+    let kept = keep_each rules all none in
+    let t = tables_of all in
+    record {
+      early = kept.0.0;
+      meta = kept.1.0.1;
+      numbers = passes (are_numbers t.meta) all kept.1.1.0.0;
+      there = passes (names_are_there t) all kept.1.1.1.0.0;
+      names = kept.1.1.1.1.0.0;
+      placed = passes (is_placed t) all kept.1.1.1.1.1.0.0;
+      few = kept.1.1.1.1.1.1.0.0;
+      modest = kept.1.1.1.1.1.1.1.0.0;
+    }
+
+sound : (all : List Row) → All IsKept all → Known all → AreSound (tables_of all)
+sound all kept h =
+    let t : Tables = tables_of all in
+    let rising = tables_rise all in
+    let among = all_have (IsAmong all) all h.early (each_among all) in
+    let numbers = all_have (λ row. are_numbers t.meta row ≡ true) all h.early h.numbers in
+    let keeps = all_have IsKept all h.early kept in
+    let placed = all_have (λ row. is_placed t row ≡ true) all h.early h.placed in
+    let within = all_have (λ row. is_beyond t row ≡ false) all h.early h.few in
+    let apart = names_differ node_key rows.Node (λ row. refl) all t.nodes h.names rising.nodes among.nodes in
+    let rises : AllPairs (λ (a b : NodeRow). a.id < b.id) t.nodes =
+    λ i j d before less. below_one (get_or t.nodes i d).id (get_or t.nodes j d).id (rising.nodes i j d before less) in
+    record {
+      counters = counters t.meta (meta_has (λ row. are_numbers t.meta row ≡ true) all h.meta h.numbers);
+      rising = rises;
+      nodes = λ k d less. node_sound t (get_or t.nodes k d) (numbers.nodes k d less) (keeps.nodes k d less) (placed.nodes k d less)
+          (node_row_each t.nodes rises k d less);
+      names = λ i j d before less folder place other same.
+          let a : NodeRow = get_or t.nodes i d in
+          let b : NodeRow = get_or t.nodes j d in
+          apart i j d before less (6 ∷ folder ∷ a.name)
+          (ap (λ (p : Place). child_key p a.name) place)
+          (ap (λ (p : Place). child_key p b.name) other ∙ ap (λ (name : List ℕ). Some (6 ∷ folder ∷ name)) (sym same));
+      roots = All-weaker (λ (row : UserRow). is_placed t (rows.User row) ≡ true) (HasRoot t) (has_root t) t.users placed.users;
+      few_nodes = few t.nodes (count_of limit.Nodes)
+          (All-weaker (λ (row : NodeRow). is_beyond t (rows.Node row) ≡ false)
+          (λ (row : NodeRow). nat_lt (count_of limit.Nodes) (length t.nodes) ≡ false)
+          (λ row fails. (or_parts (nat_lt (count_of limit.Nodes) (length t.nodes)) _ fails).0) t.nodes within.nodes);
+      few_pieces = few_pieces t within.nodes;
+    }
+
+pub unbroken_are_ruled : UnbrokenAreRuled
+unbroken_are_ruled all kept none =
+    let h = known all none in
+    let t : Tables = tables_of all in
+    let rising = tables_rise all in
+    let among = all_have (IsAmong all) all h.early (each_among all) in
+    let numbers = all_have (λ row. are_numbers t.meta row ≡ true) all h.early h.numbers in
+    let there = all_have (λ row. names_are_there t row ≡ true) all h.early h.there in
+    let within = all_have (λ row. is_beyond t row ≡ false) all h.early h.few in
+    let modest = all_have (λ row. is_lavish row ≡ false) all h.early h.modest in
+    let users = names_differ user_key rows.User (λ row. refl) all t.users h.names rising.users among.users in
+    let groups = names_differ group_key rows.Group (λ row. refl) all t.groups h.names rising.groups among.groups in
+    record {
+      sound = sound all kept h;
+      rising = rising;
+      owners = λ k d less. (and_parts _ _ (there.nodes k d less)).0;
+      users = λ k d less.
+          let parts = and_parts _ _ (numbers.users k d less) in
+          record {
+            id = given t.meta.next_user _ parts.0;
+            root = given t.meta.next_node _ parts.1;
+            quota = ltb-false most_quota _ (modest.users k d less);
+          };
+      tokens = λ k d less. record { given = given t.meta.next_user _ (numbers.tokens k d less); user = there.tokens k d less };
+      groups = λ k d less. record { id = given t.meta.next_group _ (numbers.groups k d less) };
+      members = λ k d less.
+          let parts = and_parts _ _ (numbers.members k d less) in
+          let names = and_parts _ _ (there.members k d less) in
+          record {
+            given_group = given t.meta.next_group _ parts.0;
+            given_user = given t.meta.next_user _ parts.1;
+            group = names.0;
+            user = names.1;
+          };
+      user_names = λ i j d before less same. users i j d before less (2 ∷ (get_or t.users i d).name) refl
+          (ap (λ (name : List ℕ). Some (2 ∷ name)) (sym same));
+      group_names = λ i j d before less same. groups i j d before less (4 ∷ (get_or t.groups i d).name) refl
+          (ap (λ (name : List ℕ). Some (4 ∷ name)) (sym same));
+      few_users = few t.users most_users within.users;
+      few_groups = few t.groups most_groups within.groups;
+      few_tokens = few t.tokens most_tokens within.tokens;
+      few_members = few t.members most_members within.members;
+      later = among.later;
+    }

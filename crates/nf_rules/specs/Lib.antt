@@ -1,0 +1,4 @@
+pub mod Keys
+pub mod Rules
+pub mod Ruled
+pub mod Laws

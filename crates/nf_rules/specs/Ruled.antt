@@ -1,0 +1,65 @@
+-- What the rules say of tables.
+use Rattle.std.specs.Prelude.{◌≡◌, ◌≢◌, ℕ, ◌<◌, ◌≤◌, All, true, [], length}
+use Rattle.std.specs.List.{AllPairs}
+use Rattle.nf_base.specs.declared.rows.UserRow.{UserRow}
+use Rattle.nf_base.specs.declared.rows.TokenRow.{TokenRow}
+use Rattle.nf_base.specs.declared.rows.GroupRow.{GroupRow}
+use Rattle.nf_base.specs.declared.rows.MemberRow.{MemberRow}
+use Rattle.nf_base.specs.declared.rows.NodeRow.{NodeRow}
+use Rattle.nf_defs.specs.Rising.{AreRising}
+use Rattle.nf_defs.specs.Tables.{Tables}
+use Rattle.nf_words.specs.Sound.{AreSound}
+use Rattle.nf_rules.specs.Rules.{is_group, is_user, most_groups, most_members, most_quota, most_tokens, most_users}
+
+-- the number was given, where that is the next
+pub record IsGiven (next id : ℕ) : Type 0 where
+  pub first : 1 ≤ id
+  pub below : id < next
+
+-- a user's number and its root's were given, and its quota isn't beyond the greatest
+pub record IsUserRuled (t : Tables) (row : UserRow) : Type 0 where
+  pub id : IsGiven t.meta.next_user row.id
+  pub root : IsGiven t.meta.next_node row.root
+  pub quota : row.quota ≤ most_quota
+
+-- a token's user was given and is there
+pub record IsTokenRuled (t : Tables) (row : TokenRow) : Type 0 where
+  pub given : IsGiven t.meta.next_user row.user
+  pub user : is_user t row.user ≡ true
+
+-- a group's number was given
+pub record IsGroupRuled (t : Tables) (row : GroupRow) : Type 0 where
+  pub id : IsGiven t.meta.next_group row.id
+
+-- a member's group and user were given and are there
+pub record IsMemberRuled (t : Tables) (row : MemberRow) : Type 0 where
+  pub given_group : IsGiven t.meta.next_group row.group
+  pub given_user : IsGiven t.meta.next_user row.user
+  pub group : is_group t row.group ≡ true
+  pub user : is_user t row.user ≡ true
+
+-- there is no row of a kind that isn't built yet
+pub record HasNoLater (t : Tables) : Type 0 where
+  pub shares : t.shares ≡ []
+  pub mounts : t.mounts ≡ []
+  pub versions : t.versions ≡ []
+  pub items : t.items ≡ []
+  pub uploads : t.uploads ≡ []
+  pub chunks : t.chunks ≡ []
+
+-- the tables of rows that break no rule
+pub record AreRuled (t : Tables) : Type 0 where
+  pub sound : AreSound t
+  pub rising : AreRising t
+  pub owners : All (λ (row : NodeRow). is_user t row.owner ≡ true) t.nodes
+  pub users : All (IsUserRuled t) t.users
+  pub tokens : All (IsTokenRuled t) t.tokens
+  pub groups : All (IsGroupRuled t) t.groups
+  pub members : All (IsMemberRuled t) t.members
+  pub user_names : AllPairs (λ (a b : UserRow). a.name ≢ b.name) t.users
+  pub group_names : AllPairs (λ (a b : GroupRow). a.name ≢ b.name) t.groups
+  pub few_users : length t.users ≤ most_users
+  pub few_groups : length t.groups ≤ most_groups
+  pub few_tokens : length t.tokens ≤ most_tokens
+  pub few_members : length t.members ≤ most_members
+  pub later : HasNoLater t

@@ -1,0 +1,208 @@
+-- The rules that stored rows keep. A row breaks a rule among all the rows that were loaded; rows that break a rule together each
+-- break it.
+use Rattle.std.specs.Prelude.{◌≡◌, ℕ, zero, suc, ◌==◌, ◌&&◌, ◌||◌, Bool, false, true, not, nat_lt, bytes_eq, List, [], ◌∷◌, map, length, Option, None, Some, option_map, is_some, if◌then◌else◌}
+use Rattle.std.specs.List.{list_any}
+use Rattle.std.specs.Option.{option_map_or, option_or}
+use Rattle.nf_base.specs.declared.content.Piece.{Piece}
+use Rattle.nf_base.specs.declared.rows.MetaRow.{MetaRow}
+use Rattle.nf_base.specs.declared.rows.NodeRow.{NodeRow}
+use Rattle.nf_base.specs.declared.rows.UserRow.{UserRow}
+use Rattle.nf_base.specs.declared.rows.GroupRow.{GroupRow}
+use Rattle.nf_base.specs.declared.rows.Row.{Row}
+use Rattle.nf_base.specs.declared.rows.Row.TheVariants as rows
+use Rattle.nf_base.specs.declared.rows.Place.{Place}
+use Rattle.nf_base.specs.declared.rows.Place.TheVariants.{Root, Inside, Trash}
+use Rattle.nf_defs.specs.People.{user_row}
+use Rattle.nf_defs.specs.Tables.{Tables, tables_of}
+use Rattle.nf_defs.specs.Tree.{is_folder_kind, is_root_place, node_row, piece_count}
+use Rattle.nf_words.specs.Limits.{count_of}
+use Rattle.nf_words.specs.Sound.{root_of_user}
+use Rattle.nf_words.specs.declared.answer.Limit.TheVariants as limit
+use Rattle.nf_rules.specs.Keys.{is_shared, name_key, spelled_key}
+
+-- ---- 0: the row is of a kind that isn't built yet
+
+abbrev pub is_later : Row → Bool
+is_later (rows.Meta row) = false
+is_later (rows.User row) = false
+is_later (rows.Token row) = false
+is_later (rows.Group row) = false
+is_later (rows.Member row) = false
+is_later (rows.Node row) = false
+is_later other = true
+
+-- ---- 1: there is one meta row, and no key comes twice
+
+abbrev pub is_twice : List Row → Row → Bool
+is_twice all row = is_shared (map spelled_key all) (spelled_key row)
+
+abbrev pub is_meta : Row → Bool
+is_meta (rows.Meta row) = true
+is_meta other = false
+
+abbrev pub lacks_meta : List Row → Bool
+lacks_meta all = not (list_any is_meta all)
+
+-- ---- 2: each number was given, from 1 on, and no moment is to come
+
+-- the number was given, where that is the next
+abbrev pub is_given : ℕ → ℕ → Bool
+is_given next id = nat_lt 0 id && nat_lt id next
+
+abbrev pub are_counters : MetaRow → Bool
+are_counters meta =
+    nat_lt 0 meta.next_user && nat_lt 0 meta.next_group && nat_lt 0 meta.next_node && nat_lt 0 meta.next_share && nat_lt 0 meta.next_blob
+
+abbrev pub is_place_given : ℕ → Place → Bool
+is_place_given next Root = true
+is_place_given next (Inside folder) = is_given next folder
+is_place_given next Trash = true
+
+abbrev pub has_ungiven_blob : ℕ → List Piece → Bool
+has_ungiven_blob next content = list_any (λ (piece : Piece). not (is_given next piece.blob)) content
+
+abbrev pub are_numbers : MetaRow → Row → Bool
+are_numbers meta (rows.Meta row) = are_counters row
+are_numbers meta (rows.User row) = is_given meta.next_user row.id && is_given meta.next_node row.root
+are_numbers meta (rows.Token row) = is_given meta.next_user row.user
+are_numbers meta (rows.Group row) = is_given meta.next_group row.id
+are_numbers meta (rows.Member row) = is_given meta.next_group row.group && is_given meta.next_user row.user
+are_numbers meta (rows.Node row) =
+    is_given meta.next_node row.id && is_given meta.next_user row.owner && is_place_given meta.next_node row.place
+    && not (has_ungiven_blob meta.next_blob row.content) && not (nat_lt meta.last row.changed)
+are_numbers meta other = true
+
+-- ---- 3: what a row names is there
+
+abbrev pub is_user : Tables → ℕ → Bool
+is_user t user = is_some (user_row t.users user)
+
+abbrev pub is_group : Tables → ℕ → Bool
+is_group t group = list_any (λ (row : GroupRow). row.id == group) t.groups
+
+abbrev pub is_node : Tables → ℕ → Bool
+is_node t node = is_some (node_row t.nodes node)
+
+abbrev pub is_place_there : Tables → Place → Bool
+is_place_there t Root = true
+is_place_there t (Inside folder) = is_node t folder
+is_place_there t Trash = true
+
+abbrev pub names_are_there : Tables → Row → Bool
+names_are_there t (rows.User row) = is_node t row.root
+names_are_there t (rows.Token row) = is_user t row.user
+names_are_there t (rows.Member row) = is_group t row.group && is_user t row.user
+names_are_there t (rows.Node row) = is_user t row.owner && is_place_there t row.place
+names_are_there t other = true
+
+-- ---- 4: no name is there twice, among the users, the groups, or the children of a folder
+
+abbrev pub is_namesake : List Row → Row → Bool
+is_namesake all row = is_shared (map name_key all) (name_key row)
+
+-- ---- 5: users have their roots, and nodes lead to them
+
+abbrev pub is_root_of : UserRow → NodeRow → Bool
+is_root_of user node = is_root_place node.place && is_folder_kind node.kind && node.owner == user.id && bytes_eq node.name user.name
+
+-- the node is its owner's root, or in a folder of the same owner from which a way leads on; nothing is in the trash yet
+abbrev pub leads_from : Tables → NodeRow → Place → (NodeRow → Bool) → Bool
+leads_from t row Root onward = row.id == root_of_user t row.owner
+leads_from t row (Inside folder) onward =
+    option_map_or (λ parent. is_folder_kind parent.kind && parent.owner == row.owner && onward parent) (node_row t.nodes folder) false
+leads_from t row Trash onward = false
+
+-- it leads to its owner's root, at most so many folders up
+unfoldable pub leads_within : ℕ → Tables → NodeRow → Bool
+leads_within zero t row = leads_from t row row.place (λ parent. false)
+leads_within (suc k) t row = leads_from t row row.place (leads_within k t)
+
+unfoldable pub leads : Tables → NodeRow → Bool
+leads t row = leads_within 64 t row
+
+abbrev pub is_placed : Tables → Row → Bool
+is_placed t (rows.User row) = option_map_or (is_root_of row) (node_row t.nodes row.root) false
+is_placed t (rows.Node row) = leads t row
+is_placed t other = true
+
+-- ---- 7: the limits
+
+abbrev pub most_users : ℕ
+most_users = 4096
+
+abbrev pub most_groups : ℕ
+most_groups = 4096
+
+abbrev pub most_tokens : ℕ
+most_tokens = 16384
+
+abbrev pub most_members : ℕ
+most_members = 65536
+
+-- the row is one of too many
+abbrev pub is_beyond : Tables → Row → Bool
+is_beyond t (rows.User row) = nat_lt most_users (length t.users)
+is_beyond t (rows.Token row) = nat_lt most_tokens (length t.tokens)
+is_beyond t (rows.Group row) = nat_lt most_groups (length t.groups)
+is_beyond t (rows.Member row) = nat_lt most_members (length t.members)
+is_beyond t (rows.Node row) =
+    nat_lt (count_of limit.Nodes) (length t.nodes)
+    || nat_lt 0 (length row.content) && nat_lt (count_of limit.Pieces) (piece_count t.nodes)
+is_beyond t other = false
+
+-- ---- 8: the quotas
+
+abbrev pub most_quota : ℕ
+most_quota = 1099511627776
+
+abbrev pub is_lavish : Row → Bool
+is_lavish (rows.User row) = nat_lt most_quota row.quota
+is_lavish other = false
+
+-- ---- all of them
+
+-- a rule: its number, whether a row breaks it, and whether a row is missing
+pub record Rule : Type 0 where
+  pub number : ℕ
+  pub breaks : List Row → Row → Bool
+  pub lacks : List Row → Bool
+
+abbrev nothing : List Row → Bool
+nothing all = false
+
+-- by rising number. What comes later adds a line
+abbrev pub rules : List Rule
+rules =
+    record { number = 0; breaks = λ all row. is_later row; lacks = nothing }
+    ∷ record { number = 1; breaks = is_twice; lacks = lacks_meta }
+    ∷ record { number = 2; breaks = λ all row. not (are_numbers (tables_of all).meta row); lacks = nothing }
+    ∷ record { number = 3; breaks = λ all row. not (names_are_there (tables_of all) row); lacks = nothing }
+    ∷ record { number = 4; breaks = is_namesake; lacks = nothing }
+    ∷ record { number = 5; breaks = λ all row. not (is_placed (tables_of all) row); lacks = nothing }
+    ∷ record { number = 7; breaks = λ all row. is_beyond (tables_of all) row; lacks = nothing }
+    ∷ record { number = 8; breaks = λ all row. is_lavish row; lacks = nothing }
+    ∷ []
+
+-- the first index of a row that passes the test
+abbrev pub first_index : {X : Type 0} → (X → Bool) → List X → Option ℕ
+first_index test [] = None
+first_index test (x ∷ xs) = if test x then Some 0 else option_map suc (first_index test xs)
+
+-- the first row that breaks a rule; a missing row would come behind the last
+abbrev pub broken_at : Rule → List Row → Option ℕ
+broken_at rule all = option_or (first_index (rule.breaks all) all) (if rule.lacks all then Some (length all) else None)
+
+-- a rule that is broken, and where
+pub record Broken : Type 0 where
+  pub rule : ℕ
+  pub index : ℕ
+
+-- the first of some rules that is broken, and the first row that breaks it
+abbrev pub first_broken : List Rule → List Row → Option Broken
+first_broken [] all = None
+first_broken (rule ∷ others) all =
+    option_or (option_map (λ at. record { rule = rule.number; index = at }) (broken_at rule all)) (first_broken others all)
+
+-- no rule is broken
+abbrev pub AreUnbroken : List Row → Type 0
+AreUnbroken all = first_broken rules all ≡ None

@@ -1,0 +1,5 @@
+pub mod Orders
+mod Mapped
+mod Segments
+mod Changed
+pub mod Follows
