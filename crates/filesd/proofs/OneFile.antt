@@ -1,5 +1,5 @@
 -- One GET of a file that is there, from what a session says.
-use Rattle.std.proofs.Common.{◌≡◌, ◌⊎◌, ℕ, ◌<◌, ◌==◌, Bool, true, false, List, [], ◌∷◌, ◌++◌, length, refl, sym, ◌∙◌, ap, subst, inl, inr, arith, append-nil, length-append, if◌then◌else◌, Result, Ok, Err}
+use Rattle.std.proofs.Common.{◌≡◌, ◌⊎◌, ℕ, ◌<◌, ◌==◌, ◌||◌, Bool, true, false, List, [], ◌∷◌, ◌++◌, length, refl, sym, ◌∙◌, ap, subst, inl, inr, arith, append-nil, length-append, if◌then◌else◌, Result, Ok, Err}
 use Rattle.std.specs.Prelude.{Option, None, Some, IfSome, Vec}
 use Rattle.std.specs.Io.KnownBytes.{Appends, Consumes}
 use Rattle.std.specs.declared.alloc.Global.{Global}
@@ -7,7 +7,8 @@ use Rattle.std.proofs.lemmas.Bool.{eqb-false}
 use Rattle.std.proofs.lemmas.Option.{none-some, same_Some}
 use Rattle.httparse.specs.Grammar.{RequestHead, print_request, IsRequestHead}
 use Rattle.nf_base.specs.declared.content.Piece.{Piece}
-use Rattle.nf_dav.specs.Reply.{done_reply, file_head, made_reply, refusal_reply}
+use Rattle.nf_dav.specs.Reply.{done_reply, file_head, listing_reply, made_reply, refusal_reply}
+use Rattle.nf_dav.specs.declared.replies.Manner.{Manner}
 use Rattle.nf_http.specs.Head.{Head, closes_session, head_of}
 use Rattle.nf_http.specs.Next.{IsNext}
 use Rattle.nf_http.specs.Told.{stream}
@@ -17,19 +18,20 @@ use Rattle.nf_base.specs.declared.rows.Row.{Row}
 use Rattle.nf_desk.specs.Desk.{book_of}
 use Rattle.nf_desk.specs.Opening.{IsLoaded, OpensTo}
 use Rattle.nf_keeper.specs.Keeping.{AreTold}
-use Rattle.nf_promises.specs.Kept.{FailsStore, Gets, IsWritten, OnlyOwn, Prints, ShowsFile, get_of}
+use Rattle.nf_promises.specs.Kept.{FailsStore, Gets, IsWritten, OnlyOwn, Prints, ShowsFile, get_of, plainly, waits}
 use Rattle.nf_promises.specs.Room.{IsAlone}
 use Rattle.nf_promises.proofs.Bytes.{head_is, turn_gets}
 use Rattle.nf_promises.proofs.Growing.{heads_same}
 use Rattle.nf_promises.proofs.Puts.{IsKept, Keeps}
-use Rattle.nf_promises.proofs.Returning.{appends_by, cut_not_written, front_shown, meets_shown, told_shown}
+use Rattle.nf_promises.proofs.Returning.{appends_by, cut_not_written, front_shown, meets_shown, stop_not_written, told_shown}
 use Rattle.nf_rows.specs.Spelling.{Raw}
 use Rattle.nf_promises.proofs.Touches.{closes_only, input_of, judges_only, passes_only, says_only}
 use Rattle.nf_server.specs.Book.{Book, denial_of_piece, next_blob_of, state_of}
 use Rattle.nf_server.specs.Files.{SendsFile}
 use Rattle.nf_server.specs.Session.{Session, Through}
 use Rattle.nf_server.specs.Steps.{Heads, OnlyWrites, Scene}
-use Rattle.nf_server.specs.Turn.{Meets, Responds, Turn, Writes, how_of, says_close, stays_granted}
+use Rattle.nf_server.specs.Turn.{Meets, Responds, Turn, Way, Writes, how_of, manner_of, stays_granted, way_of}
+use Rattle.nf_server.proofs.Inviting.{invites_wrote, stops_sends}
 use Rattle.nf_server.specs.declared.ended.Ended.{Ended}
 use Rattle.nf_server.specs.declared.ended.Ended.TheVariants as ended
 use Rattle.nf_server.specs.declared.response.Response.{Response}
@@ -118,17 +120,18 @@ sends_input {C} close content first a b (Err ended.Memory) (inr (given, writes, 
 sends_input {C} close content first a b (Err ended.WriteFault) (given, breaks) = ap (λ (x : Scene C). x.input) breaks.pieces.only
 sends_input close content first a b (Err other) never = absurd never
 
-response_input : {C T : Type 0} (close : Bool) (v : Response) (a b : Scene C) (result : Result T Ended) → Writes close v a b result → b.input ≡ a.input
-response_input close (response.Denied refusal) a b result says = writes_input a b (says_only a b (refusal_reply close refusal) result says)
-response_input close (response.Lost fault) a b result says = writes_input a b (says_only a b (refusal_reply close (denial_of_piece fault)) result says)
-response_input close (response.File content first) a b result sends = sends_input close content first a b result sends
-response_input close response.Made a b result says = writes_input a b (says_only a b (made_reply close) result says)
-response_input close response.Done a b result says = writes_input a b (says_only a b (done_reply close) result says)
+response_input : {C T : Type 0} (manner : Manner) (v : Response) (a b : Scene C) (result : Result T Ended) → Writes manner v a b result → b.input ≡ a.input
+response_input manner (response.Denied refusal) a b result says = writes_input a b (says_only a b (refusal_reply manner refusal) result says)
+response_input manner (response.Lost fault) a b result says = writes_input a b (says_only a b (refusal_reply manner (denial_of_piece fault)) result says)
+response_input manner (response.File content first) a b result sends = sends_input manner.close content first a b result sends
+response_input manner response.Made a b result says = writes_input a b (says_only a b (made_reply manner.close) result says)
+response_input manner response.Done a b result says = writes_input a b (says_only a b (done_reply manner.close) result says)
+response_input manner (response.Listing lines) a b result says = writes_input a b (says_only a b (listing_reply manner.close lines) result says)
 
-responds_input : {C : Type 0} (last : Bool) (head : Head) (v : Response) (a b : Scene C) (result : Result (Option Ended) Ended)
-    → Responds last head v a b result → b.input ≡ a.input
-responds_input last head v a b (Ok end) (is, writes) = response_input {T = Unit {0}} (says_close last head v) v a b (Ok tt) writes
-responds_input last head v a b (Err by) writes = response_input {T = Unit {0}} (says_close last head v) v a b (Err by) writes
+responds_input : {C : Type 0} (last : Bool) (way : Way) (v : Response) (a b : Scene C) (result : Result (Option Ended) Ended)
+    → Responds last way v a b result → b.input ≡ a.input
+responds_input last way v a b (Ok end) (is, writes) = response_input {T = Unit {0}} (manner_of last way v) v a b (Ok tt) writes
+responds_input last way v a b (Err by) writes = response_input {T = Unit {0}} (manner_of last way v) v a b (Err by) writes
 
 no_more : (new : Option (List ℕ)) (body : List ℕ) → Consumes (Some []) new body → new ≡ Some []
 no_more None body c = absurd c
@@ -137,17 +140,21 @@ no_more (Some rest) (x ∷ body) c = cc
 
 meets_leave : {C : Type 0} (reads : C → ℕ → C → Type 0) (last : Bool) (head : Head) (k b : Scene C) (end : Option Ended)
     → Meets reads last head k b end → IsWritten end → k.input ≡ Some [] → b.input ≡ Some []
-meets_leave {C} reads last head k b end (m, begun, judges, inl answers) written none =
+meets_leave reads last head k b end (m, begun, judges, inl stops) written none =
+    absurd (stop_not_written m stops.sent stops.by (stops_sends head begun m stops.sent (Unit {0}) stops.by stops.invites)
+    (subst (λ (e : Option Ended). IsWritten e) stops.ends written))
+meets_leave {C} reads last head k b end (m, begun, judges, inr (n, invites, inl answers)) written none =
     let v = answers.response in
     let x : Scene C = answers.takes.0 in
     let body = answers.takes.1 in
-    let front : m.input ≡ Some [] = input_of k m (judges_only reads head k m begun judges) ∙ none in
+    let front : n.input ≡ Some [] = ap (λ (y : Scene C). y.input) (invites_wrote head begun m n (Unit {0}) tt invites).only
+    ∙ input_of k m (judges_only reads head k m begun judges) ∙ none in
     let taken : x.input ≡ Some [] = no_more x.input body
     (subst (λ (o : Option (List ℕ)). Consumes o x.input body) front answers.takes.2.taken.1) in
     input_of answers.sent b (closes_only reads (how_of v answers.result) (stays_granted v) answers.sent b answers.closes)
-    ∙ responds_input last head v answers.taken answers.sent answers.result answers.responds
+    ∙ responds_input last (way_of head begun) v answers.taken answers.sent answers.result answers.responds
     ∙ input_of x answers.taken (passes_only reads body x answers.taken begun v answers.takes.3) ∙ taken
-meets_leave reads last head k b end (m, begun, judges, inr cuts) written none =
+meets_leave reads last head k b end (m, begun, judges, inr (n, invites, inr cuts)) written none =
     absurd (cut_not_written cuts.fault cuts.cut cuts.sent cuts.by cuts.responds (subst (λ (e : Option Ended). IsWritten e) cuts.ends written))
 
 -- ---- the turn of the one message
@@ -169,60 +176,67 @@ one_left reads caller spot h a b end prints input written turn =
 
 one_shown : {C : Type 0} (reads : C → ℕ → C → Type 0) (caller : Caller) (spot : Spot) (h : RequestHead) (body : List ℕ) (a b : Scene C)
     (end : Option Ended) → Prints h (get_of caller spot) → a.input ≡ Some (print_request h) → IsWritten end → Turn reads false a b end
-    → IsKept a.book caller spot body → OnlyOwn a.book b.book → ShowsFile (closes_session (head_of h)) body a b
+    → IsKept a.book caller spot body → OnlyOwn a.book b.book → ShowsFile (closes_session (head_of h)) (waits (head_of h)) body a b
 one_shown {C} reads caller spot h body a b end prints input written turn kept only =
     let get = (gets_one reads caller spot h a b end prints input written turn).0 in
     let is : get.head ≡ head_of h = (gets_one reads caller spot h a b end prints input written turn).1 in
     let same : get.behind.book ≡ a.book = heads_same a get.behind (Ok (Some get.head)) get.heads in
     let shown = meets_shown reads false get.head caller spot body get.behind b end get.meets get.asked
     (subst (λ (k : Book). IsKept k caller spot body) (sym same) kept) (subst (λ (k : Book). OnlyOwn k b.book) (sym same) only) written in
-    subst (λ (head : Head). ShowsFile (closes_session head) body a b) is
-    (front_shown (closes_session get.head) body a get.behind b (ap (λ (x : Scene C). x.output) get.heads.only) same shown)
+    subst (λ (head : Head). ShowsFile (closes_session head) (waits head) body a b) is
+    (front_shown (closes_session get.head) (waits get.head) body a get.behind b (ap (λ (x : Scene C). x.output) get.heads.only) same shown)
 
 -- ---- the session
 
--- the file itself was written; or that there is no memory; or that the store failed
-abbrev Shows : {C : Type 0} → Bool → List ℕ → Scene C → Scene C → Type 0
-Shows close body a b =
+-- the file itself was written; or that there is no memory, at the Begin or later; or that the store failed
+abbrev Shows : {C : Type 0} → Bool → Bool → List ℕ → Scene C → Scene C → Type 0
+Shows close unsent body a b =
     Appends a.output b.output (file_head close (length body) ++ body)
-    ⊎ Appends a.output b.output (refusal_reply close denial.Memory)
-    ⊎ (Appends a.output b.output (refusal_reply close denial.Store) × FailsStore a.book b.book)
+    ⊎ Appends a.output b.output (refusal_reply (plainly close) denial.Memory)
+    ⊎ Appends a.output b.output (refusal_reply (plainly (close || unsent)) denial.Memory)
+    ⊎ (Appends a.output b.output (refusal_reply (plainly close) denial.Store) × FailsStore a.book b.book)
 
-back_shown : {C : Type 0} (close : Bool) (body : List ℕ) (a m b : Scene C) → b.output ≡ m.output → b.book ≡ m.book
-    → Shows close body a m → Shows close body a b
-back_shown close body a m b out book (inl is) = inl (appends_by a.output b.output a.output m.output _ refl (sym out) is)
-back_shown close body a m b out book (inr (inl is)) = inr (inl (appends_by a.output b.output a.output m.output _ refl (sym out) is))
-back_shown close body a m b out book (inr (inr (is, fails))) =
-    inr (inr (
+back_shown : {C : Type 0} (close unsent : Bool) (body : List ℕ) (a m b : Scene C) → b.output ≡ m.output → b.book ≡ m.book
+    → Shows close unsent body a m → Shows close unsent body a b
+back_shown close unsent body a m b out book (inl is) = inl (appends_by a.output b.output a.output m.output _ refl (sym out) is)
+back_shown close unsent body a m b out book (inr (inl is)) = inr (inl (appends_by a.output b.output a.output m.output _ refl (sym out) is))
+back_shown close unsent body a m b out book (inr (inr (inl is))) =
+    inr (inr (inl (appends_by a.output b.output a.output m.output _ refl (sym out) is)))
+back_shown close unsent body a m b out book (inr (inr (inr (is, fails)))) =
+    inr (inr (inr (
       appends_by a.output b.output a.output m.output _ refl (sym out) is,
       subst (λ (x : Book). FailsStore a.book x) (sym book) fails,
-    ))
+    )))
 
 through_shown : {C : Type 0} (reads : C → ℕ → C → Type 0) (caller : Caller) (spot : Spot) (h : RequestHead) (body : List ℕ) (shelf : Blobs)
     (a : Scene C) (scenes : List (Scene C)) (p b : Scene C) → Prints h (get_of caller spot) → a.input ≡ Some (print_request h)
     → a.book.told ≡ Some shelf → IsKept a.book caller spot body → OnlyOwn a.book b.book
-    → Through reads a scenes p → Turn reads (length scenes == 9999) p b (Some ended.Closed) → Shows (closes_session (head_of h)) body a b
+    → Through reads a scenes p → Turn reads (length scenes == 9999) p b (Some ended.Closed) → Shows (closes_session (head_of h)) (waits (head_of h)) body a b
 through_shown {C} reads caller spot h body shelf a [] p b prints input told kept only through turn =
-    told_shown (closes_session (head_of h)) body shelf a b told
+    told_shown (closes_session (head_of h)) (waits (head_of h)) body shelf a b told
     (one_shown reads caller spot h body a b (Some ended.Closed) prints input tt
     (subst (λ (z : Scene C). Turn reads false z b (Some ended.Closed)) (sym through) turn) kept only)
 through_shown {C} reads caller spot h body shelf a (m ∷ scenes) p b prints input told kept only through turn =
     let left = one_left reads caller spot h a m None prints input tt through.0 in
     let heads = rest_silent reads m scenes p b _ left through.1 turn in
     let book : b.book ≡ m.book = heads_same m b (Ok None) heads in
-    back_shown (closes_session (head_of h)) body a m b (ap (λ (x : Scene C). x.output) heads.only) book
-    (told_shown (closes_session (head_of h)) body shelf a m told
+    back_shown (closes_session (head_of h)) (waits (head_of h)) body a m b (ap (λ (x : Scene C). x.output) heads.only) book
+    (told_shown (closes_session (head_of h)) (waits (head_of h)) body shelf a m told
     (one_shown reads caller spot h body a m None prints input tt through.0 kept (subst (λ (x : Book). OnlyOwn a.book x) book only)))
 
-shown_outputs : {C : Type 0} (close : Bool) (body before output : List ℕ) (a b : Scene C) → a.output ≡ Some before → b.output ≡ Some output
-    → Shows close body a b
-    → (output ≡ before ++ (file_head close (length body) ++ body)) ⊎ (output ≡ before ++ refusal_reply close denial.Memory)
-    ⊎ ((output ≡ before ++ refusal_reply close denial.Store) × FailsStore a.book b.book)
-shown_outputs close body before output a b first last (inl is) = inl (appends_by (Some before) (Some output) a.output b.output _ first last is)
-shown_outputs close body before output a b first last (inr (inl is)) =
+shown_outputs : {C : Type 0} (close unsent : Bool) (body before output : List ℕ) (a b : Scene C) → a.output ≡ Some before → b.output ≡ Some output
+    → Shows close unsent body a b
+    → (output ≡ before ++ (file_head close (length body) ++ body)) ⊎ (output ≡ before ++ refusal_reply (plainly close) denial.Memory)
+    ⊎ (output ≡ before ++ refusal_reply (plainly (close || unsent)) denial.Memory)
+    ⊎ ((output ≡ before ++ refusal_reply (plainly close) denial.Store) × FailsStore a.book b.book)
+shown_outputs close unsent body before output a b first last (inl is) =
+    inl (appends_by (Some before) (Some output) a.output b.output _ first last is)
+shown_outputs close unsent body before output a b first last (inr (inl is)) =
     inr (inl (appends_by (Some before) (Some output) a.output b.output _ first last is))
-shown_outputs close body before output a b first last (inr (inr (is, fails))) =
-    inr (inr (appends_by (Some before) (Some output) a.output b.output _ first last is, fails))
+shown_outputs close unsent body before output a b first last (inr (inr (inl is))) =
+    inr (inr (inl (appends_by (Some before) (Some output) a.output b.output _ first last is)))
+shown_outputs close unsent body before output a b first last (inr (inr (inr (is, fails)))) =
+    inr (inr (inr (appends_by (Some before) (Some output) a.output b.output _ first last is, fails)))
 
 -- ---- the run
 
@@ -256,8 +270,9 @@ closed_one : {C : Type 0} (reads : C → ℕ → C → Type 0) (told : Told) (fa
     → (h : RequestHead) (caller : Caller) (spot : Spot) (body : List ℕ)
     → Prints h (get_of caller spot) → IsFileOf (fresh_book told faults) caller spot body → input ≡ print_request h
     → (output ≡ before ++ (file_head (closes_session (head_of h)) (length body) ++ body))
-    ⊎ (output ≡ before ++ refusal_reply (closes_session (head_of h)) denial.Memory)
-    ⊎ ((output ≡ before ++ refusal_reply (closes_session (head_of h)) denial.Store) × FailsStore a.book b.book)
+    ⊎ (output ≡ before ++ refusal_reply (plainly (closes_session (head_of h))) denial.Memory)
+    ⊎ (output ≡ before ++ refusal_reply (plainly (closes_session (head_of h) || waits (head_of h))) denial.Memory)
+    ⊎ ((output ≡ before ++ refusal_reply (plainly (closes_session (head_of h))) denial.Store) × FailsStore a.book b.book)
 closed_one reads told faults a b input before output session left first last fresh alone h caller spot body prints file is =
     let shelf : Blobs = put_blob told.blobs 1 hello in
     let tells : a.book.told ≡ Some shelf = ap (λ (k : Book). k.told) fresh in
@@ -265,7 +280,7 @@ closed_one reads told faults a b input before output session left first last fre
     subst (λ (k : Book). IsKept k caller spot body) (sym fresh) (is_kept (fresh_book told faults) shelf caller spot body refl file) in
     let only : OnlyOwn a.book b.book =
     subst (λ (k : Book). OnlyOwn k b.book) (sym fresh) (omega (arith, alone)) in
-    shown_outputs (closes_session (head_of h)) body before output a b first last
+    shown_outputs (closes_session (head_of h)) (waits (head_of h)) body before output a b first last
     (through_shown reads caller spot h body shelf a session.scenes session.before b prints (left ∙ ap (λ (bytes : List ℕ). Some bytes) is)
     tells kept only session.through session.turn)
 

@@ -21,7 +21,7 @@ use Rattle.nf_words.specs.Endings.{blob_for, content_in, unless_refused}
 use Rattle.nf_words.specs.Laws.{Pass}
 use Rattle.nf_words.specs.Rules.{rules}
 use Rattle.nf_words.specs.Step.{answer_to, answered_by, call_of}
-use Rattle.nf_words.specs.Places.{forbidden_rule, place_rule, built_rule, exists_rule, target_rule, lost, unbuilt}
+use Rattle.nf_words.specs.Places.{forbidden_rule, place_rule, exists_rule, target_rule, overwrite_rule, lost}
 use Rattle.nf_words.specs.Limits.{limit_rule}
 use Rattle.nf_words.specs.declared.answer.Denial.{Denial}
 use Rattle.nf_words.specs.declared.answer.Denial.TheVariants as denial
@@ -63,7 +63,7 @@ holds = ap (λ (rows : List TokenRow). holder_of rows secret) tokens ∙ holder_
 hello_granted : (seat now : ℕ) (words : Words)
     → answer_to (opened demo_rows) seat now (Begin words (get_of (Token secret) spot))
     ≡ Ok (Granted (Serve (content_in (blob_for 1 6) (sha256 hello) 6)))
-unfolding token_rule not_you_rule forbidden_rule place_rule built_rule exists_rule target_rule limit_rule
+unfolding token_rule not_you_rule forbidden_rule place_rule exists_rule target_rule overwrite_rule limit_rule
 hello_granted seat now words =
     let s = opened demo_rows in
     let call : Call = call_of s seat now words (get_of (Token secret) spot) in
@@ -76,8 +76,7 @@ hello_granted seat now words =
     let not_you : not_you_rule unshared call ≡ None =
     ap (λ (o : Option UserRow). if list_all (λ name. option_map_or (λ row. bytes_eq row.name name) o false) (codes "alice" ∷ []) then None else Some denial.NotYou) row in
     let led : place_rule unshared call ≡ None = ap lost places in
-    let built : built_rule unshared call ≡ None = ap (unbuilt s.tables.nodes (Get spot)) places in
-    let pass : Pass rules unshared call = (token, (not_you, (refl, (led, (built, (refl, (refl, (refl, tt)))))))) in
+    let pass : Pass rules unshared call = (token, (not_you, (refl, (led, (refl, (refl, (refl, (refl, tt)))))))) in
     ap (λ (refusal : Option Denial). answered_by (unless_refused refusal (allowed_of call))) (none_of rules unshared call pass)
     ∙ ap (λ (p : Places). answered_by (Ok (given s.tables now (asker_of call) (Get spot) p))) places
 

@@ -1,11 +1,11 @@
 -- The plainest run, said without its session: one GET of a file that is there.
-use Rattle.std.specs.Prelude.{◌≡◌, ◌⊎◌, ℕ, min, ◌+◌, ◌-◌, ◌^◌, ◌<◌, ◌≤◌, List, [], ◌∷◌, ◌++◌, codes, length, Some, Ok, IfSome}
+use Rattle.std.specs.Prelude.{◌≡◌, ◌⊎◌, ℕ, min, ◌+◌, ◌-◌, ◌^◌, ◌<◌, ◌≤◌, ◌||◌, List, [], ◌∷◌, ◌++◌, codes, length, Some, Ok, IfSome}
 use Rattle.sha2.specs.Sha256.{sha256}
 use Rattle.httparse.specs.Grammar.{RequestHead, print_request}
 use Rattle.nf_dav.specs.Reply.{file_head, refusal_reply}
 use Rattle.nf_defs.specs.Blobs.{blob_at}
 use Rattle.nf_http.specs.Head.{closes_session, head_of}
-use Rattle.nf_promises.specs.Kept.{Prints, get_of}
+use Rattle.nf_promises.specs.Kept.{Prints, get_of, plainly, waits}
 use Rattle.nf_server.specs.Book.{Book, state_of}
 use Rattle.nf_site.specs.Demo.{demo_rows, hello}
 use Rattle.nf_told.specs.Told.{Told}
@@ -48,8 +48,9 @@ ServesOneFile a b status =
     → status ≡ exit.Done
     → Prints h (get_of caller spot) → IsFileOf (fresh_book told a.faults) caller spot body → input ≡ print_request h
     → (output ≡ before ++ (file_head (closes_session (head_of h)) (length body) ++ body))
-    ⊎ (output ≡ before ++ refusal_reply (closes_session (head_of h)) denial.Memory)
-    ⊎ ((output ≡ before ++ refusal_reply (closes_session (head_of h)) denial.Store) × (min (a.faults + 1) (2 ^ 64 - 1) ≤ b.faults))
+    ⊎ (output ≡ before ++ refusal_reply (plainly (closes_session (head_of h))) denial.Memory)
+    ⊎ (output ≡ before ++ refusal_reply (plainly (closes_session (head_of h) || waits (head_of h))) denial.Memory)
+    ⊎ ((output ≡ before ++ refusal_reply (plainly (closes_session (head_of h))) denial.Store) × (min (a.faults + 1) (2 ^ 64 - 1) ≤ b.faults))
 
 -- the demonstration file is one, for its owner's token
 abbrev pub HelloIsServed : Type 0

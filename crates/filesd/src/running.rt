@@ -24,6 +24,7 @@ use nf_desk::{Desk, First, Opening, Unopened};
 use nf_http::send;
 use nf_keeper::Keeper;
 use nf_outside::{Clock, Sink, Source};
+use nf_routes::Routes;
 use nf_server::serve_session;
 use nf_site::Site;
 use std::alloc::Global;
@@ -103,9 +104,13 @@ fn batch<S: Source, O: Sink, K: Keeper + Drop, C: Clock>(
         Ok(first) => first,
         Err(_) => return unopened(Status::Memory, keeper),
     };
+    let routes = match Routes::new(alloc) {
+        Ok(routes) => routes,
+        Err(_) => return unopened(Status::Memory, keeper),
+    };
     match Desk::open(alloc, keeper, Opening::Either(first)) {
         Ok(mut desk) => {
-            let end = serve_session(alloc, input, output, clock, &mut desk);
+            let end = serve_session(alloc, &routes, input, output, clock, &mut desk);
             handed_out(status_of(end), desk)
         }
         Err(Unopened { fault, keeper }) => unopened(status_of_fault(fault), keeper),

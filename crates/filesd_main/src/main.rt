@@ -1,11 +1,16 @@
 //! The file server's program.
 #![tactic(auto)]
 
-use filesd::{Status, run};
-use nf_keeper::MemKeeper;
+use filesd::{Finished, Status, run};
+use nf_keeper::{Keeper, MemKeeper};
+use nf_keeper_sql::SqlKeeper;
 use nf_outside::{Input, Output, RealClock};
-use std::env;
+use sqlite::{Connection, Error, ErrorCode};
+use std::env::{self, VarError};
 use std::process::ExitCode;
+
+#[cfg(test)]
+mod tests;
 
 /// Serves standard input and output by the words, and says on standard error how it ended, if not well.
 fn main(rt: HostRuntime) -> ExitCode {
@@ -17,28 +22,60 @@ fn main(rt: HostRuntime) -> ExitCode {
     ExitCode::from(status.code())
 }
 
+/// Over the file that FILESD_STORE names, or else over a keeper in memory.
 fn serve(rt: &HostRuntime) -> Status {
-    let Ok(words) = words(rt) else {
-        return Status::Memory;
+    match env::var(rt, "FILESD_STORE") {
+        Ok(path) => serve_file(rt, &path),
+        Err(VarError::NotPresent) => serve_memory(rt),
+        Err(VarError::NotUnicode) => {
+            let _ = eprintln!(rt; "filesd: the path of the store is no text");
+            Status::StoreFault
+        }
+        Err(VarError::OutOfMemory) => Status::Memory,
+    }
+}
+
+fn serve_memory(rt: &HostRuntime) -> Status {
+    match MemKeeper::new(rt.alloc(), &[]) {
+        Ok(keeper) => serve_over(rt, keeper).status,
+        Err(_) => Status::Memory,
+    }
+}
+
+fn serve_file(rt: &HostRuntime, path: &str) -> Status {
+    let connection = match Connection::open(rt, path) {
+        Ok(connection) => connection,
+        Err(Error::SqliteFailure(ErrorCode::OutOfMemory)) => return Status::Memory,
+        Err(error) => {
+            let _ = eprintln!(rt; "filesd: the store can't be opened: {error}");
+            return Status::StoreFault;
+        }
     };
-    let mut input = Input::new(rt.stdin());
-    let mut output = Output::new(rt.stdout());
-    let Ok(clock) = rt.clone() else {
-        return Status::Memory;
-    };
-    let mut clock = RealClock::new(clock);
-    let Ok(keeper) = MemKeeper::new(rt.alloc(), &[]) else {
-        return Status::Memory;
+    let finished = serve_over(rt, SqlKeeper::over(rt.alloc(), connection));
+    // Whatever was answered is in the log already, from which the next opening takes it.
+    if let Err(error) = finished.keeper.into_connection().close() {
+        let _ = eprintln!(rt; "filesd: the store's log can't be copied back: {error}");
+    }
+    finished.status
+}
+
+fn serve_over<K: Keeper + Drop>(rt: &HostRuntime, keeper: K) -> Finished<K> {
+    let clock: Result<_, _> = rt.clone();
+    let (Ok(words), Ok(clock)) = (words(rt), clock) else {
+        return Finished {
+            status: Status::Memory,
+            keeper,
+            site: None,
+        };
     };
     run(
         rt.alloc(),
         &words,
-        &mut input,
-        &mut output,
+        &mut Input::new(rt.stdin()),
+        &mut Output::new(rt.stdout()),
         keeper,
-        &mut clock,
+        &mut RealClock::new(clock),
     )
-    .status
 }
 
 // The words after the program's own name.

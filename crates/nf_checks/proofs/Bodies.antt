@@ -13,6 +13,7 @@ use Rattle.nf_http.specs.declared.wire.WireFault.TheVariants as wire
 use Rattle.nf_words.specs.declared.answer.Denial.{Denial}
 use Rattle.nf_words.specs.declared.answer.Goal.TheVariants as goal
 use Rattle.nf_words.specs.declared.answer.Reply.TheVariants as reply
+use Rattle.nf_words.specs.declared.listing.ListingLine.{ListingLine}
 use Rattle.nf_server.specs.Book.{Answer, Book, EndsBody, Waits, event_of_body}
 use Rattle.nf_server.specs.Steps.{Bodies, Cuts, IsResponse, Passes, Scene, Starts, StartsFile, StoresBody, TakesIn, cutting, taken_length}
 use Rattle.nf_server.specs.declared.begun.Begun.{Begun}
@@ -33,15 +34,20 @@ Similar (response.Denied one) (response.Denied other) = one ≡ other
 Similar (response.File one first) (response.File other also) = one ≡ other
 Similar response.Made response.Made = Unit {0}
 Similar response.Done response.Done = Unit {0}
+Similar (response.Listing one) (response.Listing other) = one ≡ other
 Similar one other = ⊥
 
 denied : (v w : Response) (r : Denial) → v ≡ response.Denied r → w ≡ response.Denied r → Similar v w
 denied v w r p q = subst (λ z. Similar z w) (sym p) (subst (λ z. Similar (response.Denied r) z) (sym q) refl)
 
+listed : (v w : Response) (lines : List ListingLine) → v ≡ response.Listing lines → w ≡ response.Listing lines → Similar v w
+listed v w lines p q = subst (λ z. Similar z w) (sym p) (subst (λ z. Similar (response.Listing lines) z) (sym q) refl)
+
 similar : (answer : Answer) (v w : Response) → IsResponse answer v → IsResponse answer w → Similar v w
 similar (Ok reply.Made) v w p q = subst (λ z. Similar z w) (sym p) (subst (λ z. Similar response.Made z) (sym q) tt)
 similar (Ok reply.Done) v w p q = subst (λ z. Similar z w) (sym p) (subst (λ z. Similar response.Done z) (sym q) tt)
 similar (Ok reply.Closed) v w p q = absurd p
+similar (Ok (reply.Listing lines)) v w p q = listed v w lines p q
 similar (Ok (reply.Granted goal)) v w p q = absurd p
 similar (Err refusal) v w p q = denied v w refusal p q
 
@@ -131,6 +137,8 @@ passes_same reads body a b c d (begun.Asked (Ok (reply.Granted (goal.Store who k
 passes_same reads body a b c d (begun.Asked (Ok reply.Made)) v w steady same p q calm still alone also = plain_same a b c d (Ok reply.Made) v w same p q
 passes_same reads body a b c d (begun.Asked (Ok reply.Done)) v w steady same p q calm still alone also = plain_same a b c d (Ok reply.Done) v w same p q
 passes_same reads body a b c d (begun.Asked (Ok reply.Closed)) v w steady same p q calm still alone also = absurd p.0
+passes_same reads body a b c d (begun.Asked (Ok (reply.Listing lines))) v w steady same p q calm still alone also =
+    plain_same a b c d (Ok (reply.Listing lines)) v w same p q
 passes_same reads body a b c d (begun.Asked (Err refusal)) v w steady same p q calm still alone also = plain_same a b c d (Err refusal) v w same p q
 
 pub passes_go : {C : Type 0} (reads : C → ℕ → C → Type 0) (body : List ℕ) (a b : Scene C) (x : Begun) (v : Response)
@@ -143,6 +151,7 @@ passes_go {C = C} reads body a b (begun.Asked (Ok (reply.Granted (goal.Store who
 passes_go reads body a b (begun.Asked (Ok reply.Made)) v p calm = goes_self a b p.1
 passes_go reads body a b (begun.Asked (Ok reply.Done)) v p calm = goes_self a b p.1
 passes_go reads body a b (begun.Asked (Ok reply.Closed)) v p calm = absurd p.0
+passes_go reads body a b (begun.Asked (Ok (reply.Listing lines))) v p calm = goes_self a b p.1
 passes_go reads body a b (begun.Asked (Err refusal)) v p calm = goes_self a b p.1
 
 -- ---- the body itself

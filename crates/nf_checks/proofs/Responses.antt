@@ -9,16 +9,16 @@ use Rattle.std.specs.declared.option.Option.TheVariants.{Some}
 use Rattle.std.specs.List.{concat}
 use Rattle.nf_base.specs.Content.{size_of}
 use Rattle.nf_base.specs.declared.content.Piece.{Piece}
-use Rattle.nf_http.specs.Head.{Head, closes_session}
 use Rattle.nf_http.specs.declared.wire.WireFault.{WireFault}
 use Rattle.nf_http.specs.declared.wire.WireFault.TheVariants as wire
 use Rattle.nf_http.specs.Next.{IsOfBytes}
 use Rattle.nf_words.specs.declared.answer.Denial.{Denial}
-use Rattle.nf_dav.specs.Reply.{done_reply, file_head, made_reply, refusal_reply}
+use Rattle.nf_dav.specs.Reply.{done_reply, file_head, last_manner, listing_reply, made_reply, refusal_reply}
+use Rattle.nf_dav.specs.declared.replies.Manner.{Manner}
 use Rattle.nf_server.specs.Book.{Book, IsPiece, denial_of_piece}
 use Rattle.nf_server.specs.Files.{AreGiven, SendsFile, WritesPieces, file_front}
-use Rattle.nf_server.specs.Steps.{EndsBy, EndsSo, Says, Scene, Wrote, denial_of}
-use Rattle.nf_server.specs.Turn.{Responds, Writes, end_by, end_of, how_of, says_close, stays_granted}
+use Rattle.nf_server.specs.Steps.{EndsBy, EndsSo, Says, Scene, Sends, Wrote, denial_of}
+use Rattle.nf_server.specs.Turn.{Responds, Way, Writes, end_by, end_of, how_of, manner_of, stays_granted}
 use Rattle.nf_server.specs.declared.ended.Ended.{Ended}
 use Rattle.nf_server.specs.declared.ended.Ended.TheVariants as ended
 use Rattle.nf_server.specs.declared.response.Response.{Response}
@@ -158,30 +158,34 @@ files_same a b c d close content first other same (xs, p, n, calm) (ys, q, m, st
 
 -- ---- any response
 
-pub writes_same : {C : Type 0} (a b c d : Scene C) (close : Bool) (v w : Response)
-    → Similar v w → AreSame a c → Writes {T = Unit {0}} close v a b (Ok tt) → Writes {T = Unit {0}} close w c d (Ok tt)
+pub writes_same : {C : Type 0} (a b c d : Scene C) (manner : Manner) (v w : Response)
+    → Similar v w → AreSame a c → Writes {T = Unit {0}} manner v a b (Ok tt) → Writes {T = Unit {0}} manner w c d (Ok tt)
     → IsAlone a.book b.book → IsAlone c.book d.book → AreSame b d ⊎ Clash b d
-writes_same a b c d close (response.Denied r) (response.Denied s) is same p q alone also =
-    let bytes : Wrote c d (refusal_reply close r) = subst (λ z. Wrote c d (refusal_reply close z)) (sym is) q in
-    inl (wrote_same a b c d (refusal_reply close r) same p bytes)
-writes_same a b c d close (response.File one first) (response.File two other) is same p q alone also =
-    let file : Whole close one other c d = subst (λ z. Whole close z other c d) (sym is) q in
-    files_same a b c d close one first other same p file alone also
-writes_same a b c d close response.Made response.Made is same p q alone also = inl (wrote_same a b c d (made_reply close) same p q)
-writes_same a b c d close response.Done response.Done is same p q alone also = inl (wrote_same a b c d (done_reply close) same p q)
-writes_same a b c d close one two is same p q alone also = absurd is
+writes_same a b c d manner (response.Denied r) (response.Denied s) is same p q alone also =
+    let bytes : Wrote c d (refusal_reply manner r) = subst (λ z. Wrote c d (refusal_reply manner z)) (sym is) q in
+    inl (wrote_same a b c d (refusal_reply manner r) same p bytes)
+writes_same a b c d manner (response.File one first) (response.File two other) is same p q alone also =
+    let file : Whole manner.close one other c d = subst (λ z. Whole manner.close z other c d) (sym is) q in
+    files_same a b c d manner.close one first other same p file alone also
+writes_same a b c d manner response.Made response.Made is same p q alone also = inl (wrote_same a b c d (made_reply manner.close) same p q)
+writes_same a b c d manner response.Done response.Done is same p q alone also = inl (wrote_same a b c d (done_reply manner.close) same p q)
+writes_same a b c d manner (response.Listing one) (response.Listing other) is same p q alone also =
+    let bytes : Wrote c d (listing_reply manner.close one) = subst (λ z. Wrote c d (listing_reply manner.close z)) (sym is) q in
+    inl (wrote_same a b c d (listing_reply manner.close one) same p bytes)
+writes_same a b c d manner one two is same p q alone also = absurd is
 
-pub writes_go : {C : Type 0} (a b : Scene C) (close : Bool) (v : Response)
-    → Writes {T = Unit {0}} close v a b (Ok tt) → Goes a b
-writes_go a b close (response.Denied r) p = wrote_goes a b (refusal_reply close r) p
-writes_go a b close (response.Lost fault) p = wrote_goes a b (refusal_reply close (denial_of_piece fault)) p
-writes_go a b close (response.File content first) p = record {
+pub writes_go : {C : Type 0} (a b : Scene C) (manner : Manner) (v : Response)
+    → Writes {T = Unit {0}} manner v a b (Ok tt) → Goes a b
+writes_go a b manner (response.Denied r) p = wrote_goes a b (refusal_reply manner r) p
+writes_go a b manner (response.Lost fault) p = wrote_goes a b (refusal_reply manner (denial_of_piece fault)) p
+writes_go a b manner (response.File content first) p = record {
   book = waits_grow a.book b.book p.1.pieces.waits;
-  bytes = file_front close content p.0;
+  bytes = file_front manner.close content p.0;
   output = p.1.bytes_are;
 }
-writes_go a b close response.Made p = wrote_goes a b (made_reply close) p
-writes_go a b close response.Done p = wrote_goes a b (done_reply close) p
+writes_go a b manner response.Made p = wrote_goes a b (made_reply manner.close) p
+writes_go a b manner response.Done p = wrote_goes a b (done_reply manner.close) p
+writes_go a b manner (response.Listing lines) p = wrote_goes a b (listing_reply manner.close lines) p
 
 -- ---- how the response ends the session
 
@@ -208,32 +212,40 @@ unsent a b close content first ended.ReadFault p calm = calm
 unsent a b close content first ended.WriteFault p calm = calm
 unsent a b close content first ended.Memory p calm = calm
 
-unwritten : {C : Type 0} (a b : Scene C) (close : Bool) (v : Response) (by : Ended)
-    → Writes {T = Unit {0}} close v a b (Err by) → IsCalmEnded by → ⊥
-unwritten a b close (response.Denied r) by p calm = unsaid a b (refusal_reply close r) by p calm
-unwritten a b close (response.Lost fault) by p calm = unsaid a b (refusal_reply close (denial_of_piece fault)) by p calm
-unwritten a b close (response.File content first) by p calm = unsent a b close content first by p calm
-unwritten a b close response.Made by p calm = unsaid a b (made_reply close) by p calm
-unwritten a b close response.Done by p calm = unsaid a b (done_reply close) by p calm
+unwritten : {C : Type 0} (a b : Scene C) (manner : Manner) (v : Response) (by : Ended)
+    → Writes {T = Unit {0}} manner v a b (Err by) → IsCalmEnded by → ⊥
+unwritten a b manner (response.Denied r) by p calm = unsaid a b (refusal_reply manner r) by p calm
+unwritten a b manner (response.Lost fault) by p calm = unsaid a b (refusal_reply manner (denial_of_piece fault)) by p calm
+unwritten a b manner (response.File content first) by p calm = unsent a b manner.close content first by p calm
+unwritten a b manner response.Made by p calm = unsaid a b (made_reply manner.close) by p calm
+unwritten a b manner response.Done by p calm = unsaid a b (done_reply manner.close) by p calm
+unwritten a b manner (response.Listing lines) by p calm = unsaid a b (listing_reply manner.close lines) by p calm
+
+-- whoever is invited is told
+pub untold : {C : Type 0} (a b : Scene C) (bytes : List ℕ) (by : Ended)
+    → Sends {T = Unit {0}} a b bytes (Err by) → IsCalmEnded by → ⊥
+untold a b bytes ended.WriteFault sends calm = calm
+untold a b bytes by sends calm = sends
 
 -- so a calm end is the response's own
-pub record IsWritten {C : Type 0} (last : Bool) (head : Head) (v : Response) (a b : Scene C)
+pub record IsWritten {C : Type 0} (last : Bool) (way : Way) (v : Response) (a b : Scene C)
     (result : Result (Option Ended) Ended) (end : Option Ended) : Type 0 where
   pub whole : result ≡ Ok end
-  pub end_is : end ≡ end_of (closes_session head) v
-  pub written : Writes {T = Unit {0}} (says_close last head v) v a b (Ok tt)
+  pub end_is : end ≡ end_of way.closes v
+  pub written : Writes {T = Unit {0}} (manner_of last way v) v a b (Ok tt)
 
-pub written_of : {C : Type 0} (last : Bool) (head : Head) (v : Response) (a b : Scene C)
+pub written_of : {C : Type 0} (last : Bool) (way : Way) (v : Response) (a b : Scene C)
     (result : Result (Option Ended) Ended) (end : Option Ended)
-    → Responds last head v a b result → end ≡ end_by result → IsCalmEnd end → IsWritten last head v a b result end
-written_of last head v a b (Ok e) end p is calm = record { whole = ap (λ z. Ok z) (sym is); end_is = is ∙ p.0; written = p.1 }
-written_of last head v a b (Err by) end p is calm = absurd (unwritten a b (says_close last head v) v by p (subst (λ z. IsCalmEnd z) is calm))
+    → Responds last way v a b result → end ≡ end_by result → IsCalmEnd end → IsWritten last way v a b result end
+written_of last way v a b (Ok e) end p is calm = record { whole = ap (λ z. Ok z) (sym is); end_is = is ∙ p.0; written = p.1 }
+written_of last way v a b (Err by) end p is calm = absurd (unwritten a b (manner_of last way v) v by p (subst (λ z. IsCalmEnd z) is calm))
 
 pub ends_similar : (closes : Bool) (v w : Response) → Similar v w → end_of closes v ≡ end_of closes w
 ends_similar closes (response.Denied r) (response.Denied s) is = ap (λ z. end_of closes (response.Denied z)) is
 ends_similar closes (response.File one first) (response.File two other) is = refl
 ends_similar closes response.Made response.Made is = refl
 ends_similar closes response.Done response.Done is = refl
+ends_similar closes (response.Listing one) (response.Listing other) is = refl
 ends_similar closes one two is = absurd is
 
 pub stays_similar : (v w : Response) → Similar v w → stays_granted v ≡ stays_granted w
@@ -241,6 +253,7 @@ stays_similar (response.Denied r) (response.Denied s) is = refl
 stays_similar (response.File one first) (response.File two other) is = refl
 stays_similar response.Made response.Made is = refl
 stays_similar response.Done response.Done is = refl
+stays_similar (response.Listing one) (response.Listing other) is = refl
 stays_similar one two is = absurd is
 
 pub how_similar : (v w : Response) (one two : Option Ended) → Similar v w
@@ -249,6 +262,7 @@ how_similar (response.Denied r) (response.Denied s) one two is = refl
 how_similar (response.File a first) (response.File b other) one two is = refl
 how_similar response.Made response.Made one two is = refl
 how_similar response.Done response.Done one two is = refl
+how_similar (response.Listing a) (response.Listing b) one two is = refl
 how_similar v w one two is = absurd is
 
 -- ---- no message
@@ -257,10 +271,10 @@ how_similar v w one two is = absurd is
 pub record IsDenied {C : Type 0} (fault : WireFault) (a b : Scene C) (by : Ended) : Type 0 where
   pub end_is : by ≡ ended.BadMessage
   pub bytes : IsOfBytes (Err fault)
-  pub wrote : Wrote a b (refusal_reply true (denial_of fault))
+  pub wrote : Wrote a b (refusal_reply last_manner (denial_of fault))
 
 ends_so : {C : Type 0} (refusal : Denial) (a b : Scene C) (by : Ended) → EndsSo refusal a b by → IsCalmEnded by
-    → (by ≡ ended.BadMessage) × Wrote a b (refusal_reply true refusal)
+    → (by ≡ ended.BadMessage) × Wrote a b (refusal_reply last_manner refusal)
 ends_so refusal a b ended.BadMessage p calm = (refl, p)
 ends_so refusal a b ended.WriteFault p calm = absurd calm
 ends_so refusal a b ended.Memory p calm = absurd calm
@@ -270,7 +284,7 @@ told_so : {C : Type 0} (fault : WireFault) (a b : Scene C) (by : Ended) → IsOf
     → EndsSo (denial_of fault) a b by
     → IsCalmEnded by → IsDenied fault a b by
 told_so fault a b by bytes p calm =
-    let so : (by ≡ ended.BadMessage) × Wrote a b (refusal_reply true (denial_of fault)) = ends_so (denial_of fault) a b by p calm in
+    let so : (by ≡ ended.BadMessage) × Wrote a b (refusal_reply last_manner (denial_of fault)) = ends_so (denial_of fault) a b by p calm in
     record { end_is = so.0; bytes = bytes; wrote = so.1 }
 
 pub denied_of : {C : Type 0} (fault : WireFault) (a b : Scene C) (by : Ended) → EndsBy fault a b by → IsCalmEnded by

@@ -1,23 +1,25 @@
 -- A turn in two scenes that are the same.
-use Rattle.std.proofs.Common.{◌≡◌, ◌⊎◌, ℕ, ◌||◌, Bool, true, sym, ◌∙◌, ap, subst, inl, inr, Ok, Err, is_some}
+use Rattle.std.proofs.Common.{◌≡◌, ◌⊎◌, ℕ, ◌||◌, Bool, sym, ◌∙◌, ap, subst, inl, inr, Ok, Err, is_some}
 use Rattle.std.specs.declared.option.Option.{Option}
 use Rattle.std.specs.declared.option.Option.TheVariants.{None, Some}
-use Rattle.nf_http.specs.Head.{Head, closes_session}
+use Rattle.nf_http.specs.Head.{Head}
 use Rattle.nf_http.specs.Next.{IsOfBytes}
 use Rattle.nf_http.specs.declared.wire.WireFault.{WireFault}
 use Rattle.nf_words.specs.declared.answer.Denial.TheVariants as denial
-use Rattle.nf_dav.specs.Reply.{refusal_reply}
+use Rattle.nf_dav.specs.Reply.{continue_reply, last_manner, refusal_reply}
+use Rattle.nf_dav.specs.declared.replies.Manner.{Manner}
 use Rattle.nf_server.specs.Steps.{Closes, Heads, Judges, Scene, TakesIn, Wrote, denial_of, is_granted, taken_length}
-use Rattle.nf_server.specs.Turn.{Answers, CutsShort, Turn, Writes, end_of, how_of, says_close, stays_granted}
+use Rattle.nf_server.specs.Turn.{Answers, CutsShort, Turn, Way, Writes, end_of, how_of, manner_of, stays_granted, way_of}
 use Rattle.nf_server.specs.declared.backend.Ending.TheVariants as ending
 use Rattle.nf_server.specs.declared.begun.Begun.{Begun}
 use Rattle.nf_server.specs.declared.ended.Ended.{Ended}
 use Rattle.nf_server.specs.declared.ended.Ended.TheVariants as ended
 use Rattle.nf_server.specs.declared.response.Response.{Response}
+use Rattle.nf_server.proofs.Inviting.{invited_bytes, invites_wrote, stops_sends}
 use Rattle.nf_checks.specs.Alike.{AreSame, Clash, IsAlone, IsCalmBegun, IsCalmEnd, IsCalmResponse, IsCalmTurn, IsSteady}
 use Rattle.nf_checks.proofs.Bodies.{IsCut, Similar, cut_of, cuts_same, takes_go, takes_same, never_cut}
 use Rattle.nf_checks.proofs.Goes.{Goes, alone_first, alone_then, clash_on, goes_on}
-use Rattle.nf_checks.proofs.Responses.{IsDenied, IsWritten, denied_of, ends_similar, how_similar, stays_similar, writes_go, writes_same, written_of}
+use Rattle.nf_checks.proofs.Responses.{IsDenied, IsWritten, denied_of, ends_similar, how_similar, stays_similar, untold, writes_go, writes_same, written_of}
 use Rattle.nf_checks.proofs.Scenes.{closes_go, closes_same, heads_same, judges_go, judges_same, reads_stay, same_back, stays_go, wrote_goes, wrote_same}
 
 -- ---- what a calm turn is
@@ -30,9 +32,9 @@ record IsAnswered {C : Type 0} (reads : C → ℕ → C → Type 0) (last : Bool
   pub response : Response
   pub takes : TakesIn reads head a taken begun (Ok response)
   pub calm : IsCalmResponse response
-  pub written : Writes {T = Unit {0}} (says_close last head response) response taken sent (Ok tt)
+  pub written : Writes {T = Unit {0}} (manner_of last (way_of head begun) response) response taken sent (Ok tt)
   pub closes : Closes reads (how_of {T = Option Ended} response (Ok end)) (stays_granted response) sent b
-  pub end_is : end ≡ end_of (closes_session head) response
+  pub end_is : end ≡ end_of (way_of head begun).closes response
 
 -- or its body was cut
 record IsCutShort {C : Type 0} (reads : C → ℕ → C → Type 0) (head : Head) (begun : Begun) (a b : Scene C)
@@ -41,7 +43,7 @@ record IsCutShort {C : Type 0} (reads : C → ℕ → C → Type 0) (head : Head
   pub sent : Scene C
   pub fault : WireFault
   pub cut : IsCut a left (taken_length head begun) fault
-  pub wrote : Wrote left sent (refusal_reply true denial.BadMessage)
+  pub wrote : Wrote left sent (refusal_reply last_manner denial.BadMessage)
   pub closes : Closes reads ending.Gone (is_granted begun) sent b
   pub end_is : end ≡ Some ended.BadMessage
 
@@ -53,8 +55,8 @@ answered_of : {C : Type 0} (reads : C → ℕ → C → Type 0) (last : Bool) (h
     (end : Option Ended)
     (p : Answers reads last head begun a b end) → IsCalmResponse p.response → IsCalmEnd end → IsAnswered reads last head begun a b end
 answered_of reads last head begun a b end p calm well =
-    let w : IsWritten last head p.response p.taken p.sent p.result end =
-    written_of last head p.response p.taken p.sent p.result end p.responds p.ends well in
+    let w : IsWritten last (way_of head begun) p.response p.taken p.sent p.result end =
+    written_of last (way_of head begun) p.response p.taken p.sent p.result end p.responds p.ends well in
     record {
       taken = p.taken;
       sent = p.sent;
@@ -77,7 +79,7 @@ cut_short_of reads head begun a b end p well =
       sent = p.sent;
       fault = p.fault;
       cut = cut;
-      wrote = subst (λ z. Wrote p.cut p.sent (refusal_reply true (denial_of z))) cut.fault_is d.wrote;
+      wrote = subst (λ z. Wrote p.cut p.sent (refusal_reply last_manner (denial_of z))) cut.fault_is d.wrote;
       closes = p.closes;
       end_is = p.ends ∙ ap (λ z. Some z) d.end_is;
     }
@@ -89,7 +91,7 @@ answered_goes : {C : Type 0} (reads : C → ℕ → C → Type 0) (last : Bool) 
     (p : IsAnswered reads last head begun a b end) → Goes a p.taken × Goes p.taken p.sent × Goes p.sent b
 answered_goes reads last head begun a b end p = (
   takes_go reads head a p.taken begun p.response p.takes p.calm,
-  writes_go p.taken p.sent (says_close last head p.response) p.response p.written,
+  writes_go p.taken p.sent (manner_of last (way_of head begun) p.response) p.response p.written,
   closes_go reads (how_of {T = Option Ended} p.response (Ok end)) (stays_granted p.response) p.sent b p.closes,
 )
 
@@ -98,7 +100,7 @@ cut_short_goes : {C : Type 0} (reads : C → ℕ → C → Type 0) (head : Head)
     (p : IsCutShort reads head begun a b end) → Goes a p.sent × Goes p.sent b
 cut_short_goes reads head begun a b end p = (
   goes_on a p.left p.sent (stays_go a p.left p.cut.stays)
-      (wrote_goes p.left p.sent (refusal_reply true denial.BadMessage) p.wrote),
+      (wrote_goes p.left p.sent (refusal_reply last_manner denial.BadMessage) p.wrote),
   closes_go reads ending.Gone (is_granted begun) p.sent b p.closes,
 )
 
@@ -126,7 +128,7 @@ answers_same : {C : Type 0} (reads : C → ℕ → C → Type 0) (last : Bool) (
     → IsAnswered reads last head begun c d also
     → IsAlone a.book b.book → IsAlone c.book d.book → EndsSame b d end also ⊎ Clash b d
 answers_same reads last head begun a b c d end also steady same p q alone lone =
-    wrote (writes_same p.taken p.sent q.taken q.sent close p.response q.response taken.0 taken.1 p.written written
+    wrote (writes_same p.taken p.sent q.taken q.sent manner p.response q.response taken.0 taken.1 p.written written
     (alone_first p.taken p.sent b g.1 g.2 alone1) (alone_first q.taken q.sent d h.1 h.2 lone1))
   where
     g : Goes a p.taken × Goes p.taken p.sent × Goes p.sent b
@@ -146,14 +148,18 @@ answers_same reads last head begun a b c d end also steady same p q alone lone =
         (alone_first a p.taken b g.0 (goes_on p.taken p.sent b g.1 g.2) alone)
         (alone_first c q.taken d h.0 (goes_on q.taken q.sent d h.1 h.2) lone)
 
-    close : Bool
-    close = says_close last head p.response
+    way : Way
+    way = way_of head begun
 
-    by_response : end_of (closes_session head) p.response ≡ end_of (closes_session head) q.response
-    by_response = ends_similar (closes_session head) p.response q.response taken.0
+    manner : Manner
+    manner = manner_of last way p.response
 
-    written : Writes {T = Unit {0}} (says_close last head p.response) q.response q.taken q.sent (Ok tt)
-    written = subst (λ z. Writes {T = Unit {0}} (last || is_some z) q.response q.taken q.sent (Ok tt)) (sym by_response) q.written
+    by_response : end_of way.closes p.response ≡ end_of way.closes q.response
+    by_response = ends_similar way.closes p.response q.response taken.0
+
+    written : Writes {T = Unit {0}} manner q.response q.taken q.sent (Ok tt)
+    written = subst (λ (z : Option Ended). Writes {T = Unit {0}} (record { close = last || is_some z; ocs = way.ocs; head_only = way.head_only }) q.response q.taken q.sent (Ok tt))
+        (sym by_response) q.written
 
     closes : Closes reads (how_of {T = Option Ended} p.response (Ok end)) (stays_granted p.response) q.sent d
     closes = subst (λ z. Closes reads z (stays_granted p.response) q.sent d) (sym (how_similar p.response q.response end also taken.0))
@@ -175,7 +181,7 @@ cut_shorts_same reads head begun a b c d end also steady same p q alone lone =
     let g : Goes a p.sent × Goes p.sent b = cut_short_goes reads head begun a b end p in
     let h : Goes c q.sent × Goes q.sent d = cut_short_goes reads head begun c d also q in
     let left : AreSame p.left q.left = cuts_same a p.left c q.left (taken_length head begun) p.fault q.fault same p.cut q.cut in
-    let sent : AreSame p.sent q.sent = wrote_same p.left p.sent q.left q.sent (refusal_reply true denial.BadMessage) left p.wrote q.wrote in
+    let sent : AreSame p.sent q.sent = wrote_same p.left p.sent q.left q.sent (refusal_reply last_manner denial.BadMessage) left p.wrote q.wrote in
     record {
       end_is = q.end_is ∙ sym p.end_is;
       scene = closes_same reads ending.Gone (is_granted begun) p.sent b q.sent d steady sent p.closes q.closes
@@ -213,7 +219,7 @@ record IsRefused {C : Type 0} (a b : Scene C) (end : Option Ended) : Type 0 wher
   pub fault : WireFault
   pub heads : Heads a read (Err fault)
   pub bytes : IsOfBytes (Err fault)
-  pub wrote : Wrote read b (refusal_reply true (denial_of fault))
+  pub wrote : Wrote read b (refusal_reply last_manner (denial_of fault))
   pub end_is : end ≡ Some ended.BadMessage
 
 record IsMet {C : Type 0} (reads : C → ℕ → C → Type 0) (last : Bool) (a b : Scene C) (end : Option Ended) : Type 0 where
@@ -224,7 +230,9 @@ record IsMet {C : Type 0} (reads : C → ℕ → C → Type 0) (last : Bool) (a 
   pub begun : Begun
   pub judges : Judges reads head read asked begun
   pub calm : IsCalmBegun begun
-  pub becomes : Becomes reads last head begun asked b end
+  pub told : Scene C
+  pub invites : Wrote asked told (invited_bytes head begun)
+  pub becomes : Becomes reads last head begun told b end
 
 abbrev IsCalm : {C : Type 0} (reads : C → ℕ → C → Type 0) (last : Bool) (a b : Scene C) (end : Option Ended) → Type 0
 IsCalm reads last a b end = IsOver a b end ⊎ (IsRefused a b end ⊎ IsMet reads last a b end)
@@ -243,7 +251,10 @@ calm_of reads last a b end (inr (inl (m, fault, by, heads, ends, is))) calm well
       wrote = d.wrote;
       end_is = is ∙ ap (λ z. Some z) d.end_is;
     }))
-calm_of reads last a b end (inr (inr (m, head, heads, (n, begun, judges, inl answers)))) calm well =
+calm_of reads last a b end (inr (inr (m, head, heads, (n, begun, judges, inl stops)))) calm well =
+    absurd (untold n stops.sent continue_reply stops.by (stops_sends head begun n stops.sent (Unit {0}) stops.by stops.invites)
+    (subst (λ z. IsCalmEnd z) stops.ends well))
+calm_of reads last a b end (inr (inr (m, head, heads, (n, begun, judges, inr (told, invites, inl answers))))) calm well =
     inr (inr (record {
       read = m;
       head = head;
@@ -252,9 +263,11 @@ calm_of reads last a b end (inr (inr (m, head, heads, (n, begun, judges, inl ans
       begun = begun;
       judges = judges;
       calm = calm.0;
-      becomes = inl (answered_of reads last head begun n b end answers calm.1 well);
+      told = told;
+      invites = invites_wrote head begun n told (Unit {0}) tt invites;
+      becomes = inl (answered_of reads last head begun told b end answers calm.1 well);
     }))
-calm_of reads last a b end (inr (inr (m, head, heads, (n, begun, judges, inr cut)))) calm well =
+calm_of reads last a b end (inr (inr (m, head, heads, (n, begun, judges, inr (told, invites, inr cut))))) calm well =
     inr (inr (record {
       read = m;
       head = head;
@@ -263,25 +276,30 @@ calm_of reads last a b end (inr (inr (m, head, heads, (n, begun, judges, inr cut
       begun = begun;
       judges = judges;
       calm = calm;
-      becomes = inr (cut_short_of reads head begun n b end cut well);
+      told = told;
+      invites = invites_wrote head begun n told (Unit {0}) tt invites;
+      becomes = inr (cut_short_of reads head begun told b end cut well);
     }))
 
 met_goes : {C : Type 0} (reads : C → ℕ → C → Type 0) (last : Bool) (a b : Scene C) (end : Option Ended)
     (p : IsMet reads last a b end)
-    → Goes p.read p.asked × Goes p.asked b
-met_goes reads last a b end p =
-    (judges_go reads p.head p.read p.asked p.begun p.judges p.calm, becomes_goes reads last p.head p.begun p.asked b end p.becomes)
+    → Goes p.read p.asked × Goes p.asked p.told × Goes p.told b
+met_goes reads last a b end p = (
+  judges_go reads p.head p.read p.asked p.begun p.judges p.calm,
+  wrote_goes p.asked p.told (invited_bytes p.head p.begun) p.invites,
+  becomes_goes reads last p.head p.begun p.told b end p.becomes,
+)
 
 calm_goes : {C : Type 0} (reads : C → ℕ → C → Type 0) (last : Bool) (a b : Scene C) (end : Option Ended)
     → IsCalm reads last a b end → Goes a b
 calm_goes reads last a b end (inl over) = stays_go a b (reads_stay a b over.heads.only)
 calm_goes reads last a b end (inr (inl p)) =
     goes_on a p.read b (stays_go a p.read (reads_stay a p.read p.heads.only))
-    (wrote_goes p.read b (refusal_reply true (denial_of p.fault)) p.wrote)
+    (wrote_goes p.read b (refusal_reply last_manner (denial_of p.fault)) p.wrote)
 calm_goes reads last a b end (inr (inr p)) =
-    let g : Goes p.read p.asked × Goes p.asked b = met_goes reads last a b end p in
+    let g = met_goes reads last a b end p in
     goes_on a p.read b (stays_go a p.read (reads_stay a p.read p.heads.only))
-    (goes_on p.read p.asked b g.0 g.1)
+    (goes_on p.read p.asked b g.0 (goes_on p.asked p.told b g.1 g.2))
 
 overs_same : {C : Type 0} (a b c d : Scene C) (end also : Option Ended)
     → AreSame a c → IsOver a b end → IsOver c d also → EndsSame b d end also
@@ -297,11 +315,11 @@ refuseds_same a b c d end also same p q =
     heads_same a p.read c q.read (Err p.fault) (Err q.fault) same p.heads q.heads p.bytes q.bytes in
     let agree : Err p.fault ≡ Err q.fault = heads.0 in
     let fault : q.fault ≡ p.fault = cc in
-    let wrote : Wrote q.read d (refusal_reply true (denial_of p.fault)) =
-    subst (λ z. Wrote q.read d (refusal_reply true (denial_of z))) fault q.wrote in
+    let wrote : Wrote q.read d (refusal_reply last_manner (denial_of p.fault)) =
+    subst (λ z. Wrote q.read d (refusal_reply last_manner (denial_of z))) fault q.wrote in
     record {
       end_is = q.end_is ∙ sym p.end_is;
-      scene = wrote_same p.read b q.read d (refusal_reply true (denial_of p.fault)) heads.1 p.wrote wrote;
+      scene = wrote_same p.read b q.read d (refusal_reply last_manner (denial_of p.fault)) heads.1 p.wrote wrote;
     }
 
 mets_same : {C : Type 0} (reads : C → ℕ → C → Type 0) (last : Bool) (a b c d : Scene C) (end also : Option Ended)
@@ -312,19 +330,28 @@ mets_same reads last a b c d end also steady same p q alone lone =
     heads_same a p.read c q.read (Ok (Some p.head)) (Ok (Some q.head)) same p.heads q.heads tt tt in
     let agree : Ok (Some p.head) ≡ Ok (Some q.head) = heads.0 in
     let head : p.head ≡ q.head = cc in
-    let g : Goes p.read p.asked × Goes p.asked b = met_goes reads last a b end p in
-    let h : Goes q.read q.asked × Goes q.asked d = met_goes reads last c d also q in
+    let g = met_goes reads last a b end p in
+    let h = met_goes reads last c d also q in
+    let on = goes_on p.asked p.told b g.1 g.2 in
+    let along = goes_on q.asked q.told d h.1 h.2 in
     let alone1 : IsAlone p.read.book b.book = subst (λ z. IsAlone z b.book) (sym (reads_stay a p.read p.heads.only).book) alone in
     let lone1 : IsAlone q.read.book d.book = subst (λ z. IsAlone z d.book) (sym (reads_stay c q.read q.heads.only).book) lone in
     let judges : Judges reads p.head q.read q.asked q.begun = subst (λ z. Judges reads z q.read q.asked q.begun) (sym head) q.judges in
     let asked : (q.begun ≡ p.begun) × AreSame p.asked q.asked =
     judges_same reads p.head p.read p.asked q.read q.asked p.begun q.begun steady heads.1 p.judges judges p.calm q.calm
-    (alone_first p.read p.asked b g.0 g.1 alone1) (alone_first q.read q.asked d h.0 h.1 lone1) in
-    let becomes : Becomes reads last p.head p.begun q.asked d also =
-    subst (λ z. Becomes reads last z p.begun q.asked d also) (sym head)
-    (subst (λ z. Becomes reads last q.head z q.asked d also) asked.0 q.becomes) in
-    become_same reads last p.head p.begun p.asked b q.asked d end also steady asked.1 p.becomes becomes
-    (alone_then p.read p.asked b g.0 g.1 alone1) (alone_then q.read q.asked d h.0 h.1 lone1)
+    (alone_first p.read p.asked b g.0 on alone1) (alone_first q.read q.asked d h.0 along lone1) in
+    let begun : q.begun ≡ p.begun = asked.0 in
+    let invites : Wrote q.asked q.told (invited_bytes p.head p.begun) =
+    subst (λ z. Wrote q.asked q.told (invited_bytes z p.begun)) (sym head)
+    (subst (λ z. Wrote q.asked q.told (invited_bytes q.head z)) begun q.invites) in
+    let told : AreSame p.told q.told =
+    wrote_same p.asked p.told q.asked q.told (invited_bytes p.head p.begun) asked.1 p.invites invites in
+    let becomes : Becomes reads last p.head p.begun q.told d also =
+    subst (λ z. Becomes reads last z p.begun q.told d also) (sym head)
+    (subst (λ z. Becomes reads last q.head z q.told d also) begun q.becomes) in
+    become_same reads last p.head p.begun p.told b q.told d end also steady told p.becomes becomes
+    (alone_then p.asked p.told b g.1 g.2 (alone_then p.read p.asked b g.0 on alone1))
+    (alone_then q.asked q.told d h.1 h.2 (alone_then q.read q.asked d h.0 along lone1))
 
 calms_same : {C : Type 0} (reads : C → ℕ → C → Type 0) (last : Bool) (a b c d : Scene C) (end also : Option Ended)
     → IsSteady reads → AreSame a c → IsCalm reads last a b end → IsCalm reads last c d also

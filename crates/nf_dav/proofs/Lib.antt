@@ -1,1 +1,3 @@
-pub mod Wants
+pub mod Asked
+pub mod Floats
+pub mod NotAsked

@@ -1,23 +1,30 @@
--- The request of a message: GET and DELETE (RFC 9110, sections 9.3.1 and 9.3.5), PUT (9.3.4) and MKCOL (RFC 4918, section 9.3) in a
--- user's files, by the holder of a token (RFC 6750, section 2.1).
-use Rattle.std.specs.Prelude.{◌≡◌, ⊤, ℕ, ◌-◌, Bool, ◌||◌, ◌&&◌, ◌==◌, nat_le, not, if◌then◌else◌, List, [], ◌∷◌, length, take, drop, codes, bytes_eq, Option, None, Some, Result, Ok, Err, option_map, option_and_then, position}
-use Rattle.std.specs.List.{list_any, slice_split}
+-- The request of a message: GET, PUT and DELETE (RFC 9110, section 9.3), MKCOL, COPY and MOVE (RFC 4918, sections 9.3, 9.8 and 9.9) in
+-- a user's files, by the holder of a token (RFC 6750, section 2.1).
+use Rattle.std.specs.Prelude.{◌≡◌, ⊤, ℕ, Bool, true, false, ◌||◌, ◌&&◌, ◌==◌, nat_le, not, if◌then◌else◌, List, [], ◌∷◌, length, take, drop, codes, bytes_eq, Option, None, Some, is_some, Result, Ok, Err, option_map, option_and_then}
+use Rattle.std.specs.List.{list_any}
 use Rattle.std.specs.Option.{option_map_or, option_or}
 use Rattle.sha2.specs.Sha256.{sha256}
 use Rattle.nf_base.specs.Naming.{name_fault, path_fault, same_ignoring_case}
 use Rattle.nf_base.specs.declared.name.NameFault.{NameFault}
-use Rattle.nf_http.specs.Fields.{first_value, has_field}
+use Rattle.nf_http.specs.Fields.{first_value}
 use Rattle.nf_http.specs.Head.{Head, length_of}
+use Rattle.nf_routes.specs.Methods.{method_of, takes}
+use Rattle.nf_routes.specs.Mounts.{route_of}
+use Rattle.nf_routes.specs.Targets.{segments_of}
+use Rattle.nf_routes.specs.declared.methods.Method.{Method}
+use Rattle.nf_routes.specs.declared.methods.Method.TheVariants as method
 use Rattle.nf_words.specs.declared.answer.Denial.{Denial}
 use Rattle.nf_words.specs.declared.answer.Denial.TheVariants as denial
+use Rattle.nf_words.specs.declared.answer.Parameter.{Parameter}
+use Rattle.nf_words.specs.declared.answer.Parameter.TheVariants as parameter
+use Rattle.nf_words.specs.declared.route.Route.{Route}
+use Rattle.nf_words.specs.declared.route.Route.TheVariants as route
 use Rattle.nf_words.specs.declared.request.Caller.{Caller}
 use Rattle.nf_words.specs.declared.request.Caller.TheVariants.{Absent, Token}
 use Rattle.nf_words.specs.declared.request.Request.{Request}
 use Rattle.nf_words.specs.declared.request.Spot.{Spot}
 use Rattle.nf_words.specs.declared.request.Wanted.{Wanted}
 use Rattle.nf_words.specs.declared.request.Wanted.TheVariants as wanted
-use Rattle.nf_dav.specs.declared.requests.Method.{Method}
-use Rattle.nf_dav.specs.declared.requests.Method.TheVariants as method
 use Rattle.nf_dav.specs.declared.requests.Unasked.{Unasked}
 use Rattle.nf_dav.specs.declared.requests.Unasked.TheVariants.{Refused, Memory}
 
@@ -33,98 +40,129 @@ caller_of_value (Some value) =
 abbrev pub caller_of : Head → Caller
 caller_of head = caller_of_value (first_value (codes "Authorization") head.fields)
 
--- ---- the method
+-- ---- the place
 
-abbrev pub method_of : List ℕ → Option Method
-method_of bytes =
-    if bytes_eq bytes (codes "GET") then Some method.Get
-    else if bytes_eq bytes (codes "PUT") then Some method.Put
-    else if bytes_eq bytes (codes "MKCOL") then Some method.Mkcol
-    else if bytes_eq bytes (codes "DELETE") then Some method.Delete
-    else None
-
--- what a method wants at a place, with a body of n bytes
-abbrev pub wanted_of : Method → ℕ → Spot → Wanted
-wanted_of method.Get n spot = wanted.Get spot
-wanted_of method.Put n spot = wanted.Put spot n
-wanted_of method.Mkcol n spot = wanted.Mkcol spot
-wanted_of method.Delete n spot = wanted.Delete spot
-
--- ---- the target
-
--- a byte that begins an escape or a query
-abbrev pub is_special : ℕ → Bool
-is_special b = b == 37 || b == 63
-
-abbrev pub is_slash : ℕ → Bool
-is_slash b = b == 47
-
--- what is behind a front
-abbrev pub behind : List ℕ → List ℕ → Option (List ℕ)
-behind front bytes = if bytes_eq (take (length front) bytes) front then Some (drop (length front) bytes) else None
-
--- from the first slash on, which ends a host
-abbrev pub from_slash : List ℕ → Option (List ℕ)
-from_slash bytes = option_map (λ at. drop at bytes) (position is_slash bytes)
-
--- the path of a target, which may begin with a scheme and a host (RFC 9112, section 3.2.2)
-abbrev pub path_in : List ℕ → Option (List ℕ)
-path_in target =
-    option_map_or from_slash (option_or (behind (codes "http://") target) (behind (codes "https://") target)) (Some target)
-
--- without one slash at its end
-abbrev pub without_slash : List ℕ → List ℕ
-without_slash path = if bytes_eq (drop (length path - 1) path) (codes "/") then take (length path - 1) path else path
-
--- the segments behind the fixed words of the files route: the user, and the names of the path
-abbrev pub files_segments : List ℕ → Option (List (List ℕ))
-files_segments target =
-    option_map (slice_split is_slash)
-    (option_and_then (λ path. behind (codes "/remote.php/dav/files/") (without_slash path)) (path_in target))
-
--- ---- the request
+-- the place of segments: the user's, and the names of the path
+abbrev pub spot_at : List (List ℕ) → Spot
+spot_at [] = record { user = None; path = [] }
+spot_at (user ∷ names) = record { user = Some user; path = names }
 
 -- the first bad name of the segments: the user's, or else the path's
 abbrev pub segments_fault : List (List ℕ) → Option NameFault
 segments_fault [] = None
 segments_fault (user ∷ names) = option_or (name_fault user) (path_fault names)
 
-abbrev pub spot_at : List (List ℕ) → Spot
-spot_at [] = record { user = None; path = [] }
-spot_at (user ∷ names) = record { user = Some user; path = names }
+abbrev pub target_spot : Head → Spot
+target_spot head = spot_at (segments_of head.target)
+
+-- ---- fields (RFC 4918, sections 10.2, 10.3 and 10.6)
+
+abbrev pub field : List ℕ → Head → Option (List ℕ)
+field name head = first_value name head.fields
+
+-- only the files route is built yet
+abbrev pub is_files : Route → Bool
+is_files route.Files = true
+is_files other = false
+
+-- a destination is a target on the files route, without a query
+abbrev pub is_destination : List ℕ → Bool
+is_destination value = not (list_any (λ b. b == 63) value) && option_map_or (λ route. is_files route) (route_of value) false
+
+-- the segments of the destination, where it can be read
+abbrev pub destination_of : Head → Option (List (List ℕ))
+destination_of head =
+    option_and_then (λ value. if is_destination value then Some (segments_of value) else None) (field (codes "Destination") head)
+
+-- `T`, which is the default, or `F`
+abbrev pub is_overwrite : List ℕ → Bool
+is_overwrite value = bytes_eq value (codes "T") || bytes_eq value (codes "F")
+
+abbrev pub overwrites : Head → Bool
+overwrites head = option_map_or (λ value. bytes_eq value (codes "T")) (field (codes "Overwrite") head) true
+
+-- `infinity`, which is the default, in any case: nothing less deep is moved, copied or removed
+abbrev pub is_infinite : List ℕ → Bool
+is_infinite value = same_ignoring_case value (codes "infinity")
+
+-- the refusal of a field that is there and can't be read
+abbrev pub unread : Parameter → (List ℕ → Bool) → Option (List ℕ) → Option Denial
+unread parameter test value = option_and_then (λ value. if test value then None else Some (denial.BadParameter parameter)) value
+
+abbrev pub depth_refusal : Head → Option Denial
+depth_refusal head = unread parameter.Depth is_infinite (field (codes "Depth") head)
+
+-- those of what has two places: `destination`, `overwrite`, `depth`
+abbrev pub transfer_refusal : Head → Option Denial
+transfer_refusal head =
+    option_or (if is_some (destination_of head) then None else Some (denial.BadParameter parameter.Destination))
+    (option_or (unread parameter.Overwrite is_overwrite (field (codes "Overwrite") head)) (depth_refusal head))
+
+abbrev pub parameter_refusal : Method → Head → Option Denial
+parameter_refusal method.Move head = transfer_refusal head
+parameter_refusal method.Copy head = transfer_refusal head
+parameter_refusal method.Delete head = depth_refusal head
+parameter_refusal other head = None
+
+-- ---- the request
 
 -- `body`: MKCOL takes none
 abbrev pub body_refusal : Method → ℕ → Option Denial
 body_refusal method.Mkcol n = if n == 0 then None else Some denial.Body
-body_refusal method.Get n = None
-body_refusal method.Put n = None
-body_refusal method.Delete n = None
+body_refusal other n = None
 
--- `body`, then `bad-name`
-abbrev pub asked_refusal : Head → Method → List (List ℕ) → Option Denial
-asked_refusal head m segments = option_or (body_refusal m (length_of head)) (option_map denial.BadName (segments_fault segments))
+-- the segments of the second place, where there is one
+abbrev pub second_segments : Method → Head → List (List ℕ)
+second_segments method.Move head = option_map_or (λ segments. segments) (destination_of head) []
+second_segments method.Copy head = option_map_or (λ segments. segments) (destination_of head) []
+second_segments other head = []
 
-abbrev pub request_at : Head → Method → List (List ℕ) → Request
-request_at head m segments = record { caller = caller_of head; wanted = wanted_of m (length_of head) (spot_at segments) }
+-- `bad-name`: the first in the target, or else in the destination
+abbrev pub name_refusal : Method → Head → Option Denial
+name_refusal m head =
+    option_map denial.BadName (option_or (segments_fault (segments_of head.target)) (segments_fault (second_segments m head)))
+
+-- what a method wants; the files route has no other
+abbrev pub wanted_of : Method → Head → Wanted
+wanted_of method.Get head = wanted.Get (target_spot head)
+wanted_of method.Put head = wanted.Put (target_spot head) (length_of head)
+wanted_of method.Mkcol head = wanted.Mkcol (target_spot head)
+wanted_of method.Delete head = wanted.Delete (target_spot head)
+wanted_of method.Move head = wanted.Move (target_spot head) (spot_at (second_segments method.Move head)) (overwrites head)
+wanted_of method.Copy head = wanted.Copy (target_spot head) (spot_at (second_segments method.Copy head)) (overwrites head)
+wanted_of method.Post head = wanted.Get (target_spot head)
 
 abbrev pub unless_refused : Option Denial → Request → Result Request Denial
 unless_refused None request = Ok request
 unless_refused (Some refusal) request = Err refusal
 
--- the request of a method and segments; without them it isn't built
-abbrev pub asked : Head → Option Method → Option (List (List ℕ)) → Result Request Denial
-asked head None segments = Err denial.NotBuilt
-asked head (Some m) None = Err denial.NotBuilt
-asked head (Some m) (Some segments) = unless_refused (asked_refusal head m segments) (request_at head m segments)
+-- `body`, `bad-parameter`, `bad-name`
+abbrev pub files_refusal : Method → Head → Option Denial
+files_refusal m head = option_or (body_refusal m (length_of head)) (option_or (parameter_refusal m head) (name_refusal m head))
 
--- the method and the target are those of a request that is built, as far as their bytes tell
-abbrev pub is_built : Head → Bool
-is_built head = not (has_field (codes "Expect") head.fields) && not (list_any is_special head.target)
+-- a request on the files route
+abbrev pub files_request : Method → Head → Result Request Denial
+files_request m head = unless_refused (files_refusal m head) (record { caller = caller_of head; wanted = wanted_of m head })
 
--- the request of a head, or its first refusal: `not-built`, `body`, `bad-name`
+abbrev pub routed : Route → Method → Head → Result Request Denial
+routed route m head =
+    if not (takes route m) then Err (denial.Method route)
+    else if is_files route then files_request m head
+    else Err denial.NotBuilt
+
+-- the only chunk that is moved is all of them
+abbrev pub is_stray : Route → Option Method → Bool
+is_stray route.Chunk (Some method.Move) = true
+is_stray route other = false
+
+abbrev pub on_route : Route → Option Method → Head → Result Request Denial
+on_route route m head =
+    if is_stray route m then Err denial.NotFound
+    else option_map_or (λ m. routed route m head) m (Err (denial.Method route))
+
+-- the request of a head, or its first refusal: `not-found`, `method`, `not-built`, `body`, `bad-parameter`, `bad-name`
 unfoldable pub request_of : Head → Result Request Denial
-request_of head =
-    if is_built head then asked head (method_of head.method) (files_segments head.target) else Err denial.NotBuilt
+request_of head = option_map_or (λ route. on_route route (method_of head.method) head) (route_of head.target) (Err denial.NotFound)
 
 -- what reading a request gives: it, or its refusal; want of memory is free
 abbrev pub GivesRequest : Head → Result Request Unasked → Type 0
@@ -132,19 +170,17 @@ GivesRequest head (Ok request) = request_of head ≡ Ok request
 GivesRequest head (Err (Refused denial)) = request_of head ≡ Err denial
 GivesRequest head (Err Memory) = ⊤
 
--- the same of the segments of a target
-abbrev pub GivesSpot : List (List ℕ) → Result Spot Unasked → Type 0
-GivesSpot segments (Ok spot) = (segments_fault segments ≡ None) × (spot ≡ spot_at segments)
-GivesSpot segments (Err (Refused refusal)) = option_map denial.BadName (segments_fault segments) ≡ Some refusal
-GivesSpot segments (Err Memory) = ⊤
+-- a refusal is told; want of memory is free
+abbrev pub Tells : Option Denial → Unasked → Type 0
+Tells refusal (Refused denial) = refusal ≡ Some denial
+Tells refusal Memory = ⊤
 
--- the same of a name and of a path in it
-abbrev pub GivesName : List ℕ → Result (List ℕ) Unasked → Type 0
-GivesName bytes (Ok name) = (name ≡ bytes) × (name_fault bytes ≡ None)
-GivesName bytes (Err (Refused refusal)) = option_map denial.BadName (name_fault bytes) ≡ Some refusal
-GivesName bytes (Err Memory) = ⊤
+-- what reading a part of a request gives: what it has to be, unless it is refused
+abbrev pub Gives : {A : Type 0} → Option Denial → (A → Type 0) → Result A Unasked → Type 0
+Gives refusal Is (Ok part) = (refusal ≡ None) × Is part
+Gives refusal Is (Err why) = Tells refusal why
 
-abbrev pub GivesPath : List (List ℕ) → Result (List (List ℕ)) Unasked → Type 0
-GivesPath segments (Ok path) = (path ≡ segments) × (path_fault segments ≡ None)
-GivesPath segments (Err (Refused refusal)) = option_map denial.BadName (path_fault segments) ≡ Some refusal
-GivesPath segments (Err Memory) = ⊤
+-- the same of what is refused for a name
+abbrev pub GivesNamed : {A : Type 0} → Option NameFault → A → Result A Unasked → Type 0
+GivesNamed fault named (Ok given) = (fault ≡ None) × (given ≡ named)
+GivesNamed fault named (Err why) = Tells (option_map denial.BadName fault) why

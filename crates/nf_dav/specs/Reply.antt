@@ -1,28 +1,41 @@
 -- The bytes of answers (RFC 9110, section 15; RFC 9112, sections 4 to 6).
-use Rattle.std.specs.Prelude.{ℕ, Bool, List, [], ◌++◌, if◌then◌else◌, length, codes, decimal}
-use Rattle.serde_json.specs.Data.{Data, number, string, object, member, no_members, unsigned}
+use Rattle.std.specs.Prelude.{ℕ, Bool, true, false, List, [], ◌++◌, map, if◌then◌else◌, length, codes, decimal}
+use Rattle.serde_json.specs.Data.{Data, number, string, array, object, member, no_members, unsigned}
+use Rattle.serde_json.specs.View.{items_of}
 use Rattle.serde_json.specs.Written.{compact_text}
 use Rattle.nf_base.specs.declared.name.NameFault.{NameFault}
 use Rattle.nf_base.specs.declared.name.NameFault.TheVariants as fault
+use Rattle.nf_base.specs.declared.rows.NodeKind.{NodeKind}
+use Rattle.nf_base.specs.declared.rows.NodeKind.TheVariants as kind
 use Rattle.nf_words.specs.Limits.{count_of}
 use Rattle.nf_words.specs.declared.answer.Denial.{Denial}
 use Rattle.nf_words.specs.declared.answer.Denial.TheVariants as denial
+use Rattle.nf_routes.specs.Methods.{allow_of}
 use Rattle.nf_words.specs.declared.answer.Limit.{Limit}
 use Rattle.nf_words.specs.declared.answer.Limit.TheVariants as limit
+use Rattle.nf_words.specs.declared.answer.Parameter.{Parameter}
+use Rattle.nf_words.specs.declared.answer.Parameter.TheVariants as parameter
 use Rattle.nf_words.specs.declared.answer.TargetFault.{TargetFault}
 use Rattle.nf_words.specs.declared.answer.TargetFault.TheVariants as target
+use Rattle.nf_words.specs.declared.route.Route.{Route}
+use Rattle.nf_words.specs.declared.route.Route.TheVariants as route
+use Rattle.nf_dav.specs.declared.replies.Manner.{Manner}
+use Rattle.nf_words.specs.declared.listing.ListingLine.{ListingLine}
 
 -- the status of a denial and its phrase
 abbrev pub status_of : Denial → List ℕ
 status_of denial.BadMessage = codes "400 Bad Request"
 status_of (denial.BadName fault) = codes "400 Bad Request"
+status_of (denial.BadParameter field) = codes "400 Bad Request"
 status_of denial.Token = codes "401 Unauthorized"
 status_of denial.NotYou = codes "403 Forbidden"
 status_of denial.ForbiddenName = codes "403 Forbidden"
 status_of (denial.BadTarget cause) = codes "403 Forbidden"
 status_of denial.NotFound = codes "404 Not Found"
+status_of (denial.Method route) = codes "405 Method Not Allowed"
 status_of denial.Exists = codes "405 Method Not Allowed"
 status_of denial.NoParent = codes "409 Conflict"
+status_of denial.Overwrite = codes "412 Precondition Failed"
 status_of denial.TooLarge = codes "413 Payload Too Large"
 status_of denial.Body = codes "415 Unsupported Media Type"
 status_of denial.Head = codes "431 Request Header Fields Too Large"
@@ -38,13 +51,16 @@ status_of (denial.Limit limit) = codes "507 Insufficient Storage"
 abbrev pub reason_of : Denial → List ℕ
 reason_of denial.BadMessage = codes "bad-message"
 reason_of (denial.BadName fault) = codes "bad-name"
+reason_of (denial.BadParameter field) = codes "bad-parameter"
 reason_of denial.Token = codes "token"
 reason_of denial.NotYou = codes "not-you"
 reason_of denial.ForbiddenName = codes "forbidden-name"
 reason_of (denial.BadTarget cause) = codes "bad-target"
 reason_of denial.NotFound = codes "not-found"
+reason_of (denial.Method route) = codes "method"
 reason_of denial.Exists = codes "exists"
 reason_of denial.NoParent = codes "no-parent"
+reason_of denial.Overwrite = codes "overwrite"
 reason_of denial.TooLarge = codes "too-large"
 reason_of denial.Body = codes "body"
 reason_of denial.Head = codes "head"
@@ -70,6 +86,8 @@ fault_word fault.Memory = codes "memory"
 -- the word of what makes a target unfit
 abbrev pub cause_word : TargetFault → List ℕ
 cause_word target.Root = codes "root"
+cause_word target.Same = codes "same"
+cause_word target.Inside = codes "inside"
 
 -- the word of a limit
 abbrev pub limit_word : Limit → List ℕ
@@ -77,9 +95,20 @@ limit_word limit.Nodes = codes "nodes"
 limit_word limit.Depth = codes "depth"
 limit_word limit.Pieces = codes "pieces"
 
--- the line that only some denials have: the methods of the files route (RFC 9110, section 10.2.1), and how to be known (section 11.6.1)
+-- the word of a field
+abbrev pub field_word : Parameter → List ℕ
+field_word parameter.Destination = codes "destination"
+field_word parameter.Overwrite = codes "overwrite"
+field_word parameter.Depth = codes "depth"
+
+-- the line of a route's methods (RFC 9110, section 10.2.1)
+abbrev pub allow_line : Route → List ℕ
+allow_line route = codes "Allow: " ++ allow_of route ++ codes "\r\n"
+
+-- the line that only some denials have: what the route takes, and how to be known (section 11.6.1). A place is on the files route
 abbrev pub own_line : Denial → List ℕ
-own_line denial.Exists = codes "Allow: GET, PUT, MKCOL, DELETE, MOVE, COPY\r\n"
+own_line denial.Exists = allow_line route.Files
+own_line (denial.Method route) = allow_line route
 own_line denial.Token = codes "WWW-Authenticate: Bearer\r\n"
 own_line other = []
 
@@ -97,6 +126,8 @@ head_bytes status close own kind n =
 abbrev pub refusal_object : Denial → Data
 refusal_object (denial.BadName f) =
     object (member (codes "fault") (string (fault_word f)) (member (codes "reason") (string (codes "bad-name")) no_members))
+refusal_object (denial.BadParameter field) =
+    object (member (codes "field") (string (field_word field)) (member (codes "reason") (string (codes "bad-parameter")) no_members))
 refusal_object (denial.BadTarget cause) =
     object (member (codes "cause") (string (cause_word cause)) (member (codes "reason") (string (codes "bad-target")) no_members))
 refusal_object (denial.Damaged damage) =
@@ -107,12 +138,86 @@ refusal_object (denial.Limit l) =
     (member (codes "reason") (string (codes "limit")) (member (codes "which") (string (limit_word l)) no_members)))
 refusal_object other = object (member (codes "reason") (string (reason_of other)) no_members)
 
-abbrev pub refusal_body : Denial → List ℕ
-refusal_body d = compact_text (refusal_object d)
+-- the number of its status
+abbrev pub code_of : Denial → ℕ
+code_of denial.BadMessage = 400
+code_of (denial.BadName fault) = 400
+code_of (denial.BadParameter field) = 400
+code_of denial.Token = 401
+code_of denial.NotYou = 403
+code_of denial.ForbiddenName = 403
+code_of (denial.BadTarget cause) = 403
+code_of denial.NotFound = 404
+code_of (denial.Method route) = 405
+code_of denial.Exists = 405
+code_of denial.NoParent = 409
+code_of denial.Overwrite = 412
+code_of denial.TooLarge = 413
+code_of denial.Body = 415
+code_of denial.Head = 431
+code_of denial.Store = 500
+code_of (denial.Damaged damage) = 500
+code_of denial.RunFull = 500
+code_of denial.Coding = 501
+code_of denial.NotBuilt = 501
+code_of denial.Memory = 503
+code_of (denial.Limit limit) = 507
 
-abbrev pub refusal_reply : Bool → Denial → List ℕ
-refusal_reply close d =
-    head_bytes (status_of d) close (own_line d) (codes "application/json") (length (refusal_body d)) ++ refusal_body d
+-- the envelope of an answer to an OCS request that is refused
+abbrev pub envelope : Denial → Data
+envelope d =
+    object (member (codes "ocs") (object
+    (member (codes "data") (refusal_object d)
+    (member (codes "meta") (object
+    (member (codes "message") (string (reason_of d))
+    (member (codes "status") (string (codes "failure"))
+    (member (codes "statuscode") (number (unsigned (code_of d))) no_members)))) no_members))) no_members)
+
+abbrev pub refusal_body : Bool → Denial → List ℕ
+refusal_body ocs d = compact_text (if ocs then envelope d else refusal_object d)
+
+-- how a refusal is written: whether it ends the session, answers an OCS request, and has its head alone (RFC 9110, section 9.3.2)
+abbrev pub refusal_reply : Manner → Denial → List ℕ
+refusal_reply manner d =
+    let body = refusal_body manner.ocs d in
+    head_bytes (status_of d) manner.close (own_line d) (codes "application/json") (length body)
+    ++ (if manner.head_only then [] else body)
+
+-- that to a message whose head couldn't be taken, or whose body was cut: it ends the session
+abbrev pub last_manner : Manner
+last_manner = record { close = true; ocs = false; head_only = false }
+
+-- the answer that invites a body (RFC 9110, section 15.2.1)
+abbrev pub continue_reply : List ℕ
+continue_reply = codes "HTTP/1.1 100 Continue\r\n\r\n"
+
+-- the word of what a node is
+abbrev pub kind_word : NodeKind → List ℕ
+kind_word kind.Folder = codes "folder"
+kind_word kind.File = codes "file"
+
+-- the object of a line of a listing, by rising key
+abbrev pub line_object : ListingLine → Data
+line_object line =
+    object
+    (member (codes "changed") (number (unsigned line.changed))
+    (member (codes "id") (number (unsigned line.id))
+    (member (codes "kind") (string (kind_word line.kind))
+    (member (codes "name") (string line.name)
+    (member (codes "owner") (string line.owner)
+    (member (codes "permissions") (number (unsigned line.permissions))
+    (member (codes "size") (number (unsigned line.size)) no_members)))))))
+
+abbrev pub listing_object : List ListingLine → Data
+listing_object listing = object (member (codes "entries") (array (items_of (map line_object listing))) no_members)
+
+abbrev pub listing_body : List ListingLine → List ℕ
+listing_body listing = compact_text (listing_object listing)
+
+-- the answer to what is listed
+abbrev pub listing_reply : Bool → List ListingLine → List ℕ
+listing_reply close listing =
+    head_bytes (codes "200 OK") close [] (codes "application/json") (length (listing_body listing)) ++ listing_body listing
 
 -- the head of an answer with a file of that size
 abbrev pub file_head : Bool → ℕ → List ℕ

@@ -1,8 +1,13 @@
 //! WebDAV (RFC 4918) over HTTP: the request that a message has, and the bytes of answers.
 #![tactic(auto)]
 
+mod fields;
+mod listings;
+mod refusals;
 mod replies;
 mod requests;
+mod spots;
+mod words;
 
-pub use replies::{done, file_head, made, refusal};
+pub use replies::{Manner, continue_answer, done, file_head, listing, made, refusal};
 pub use requests::{Unasked, request};

@@ -1,16 +1,18 @@
 //! The request of a message.
 
-ghost use Rattle.std.specs.Prelude.{◌≡◌, ◌<◌, None, Some, IfOk, IfSome, IsSome, [], ◌∷◌, codes, length, map, option_copied, option_map, position, if◌then◌else◌};
-ghost use Rattle.std.specs.List.{list_any, slice_split};
-ghost use Rattle.std.specs.Option.{option_map_or};
+ghost use Rattle.std.specs.Prelude.{◌≡◌, ◌≤◌, None, Some, Ok, IfOk, codes, if◌then◌else◌, option_copied};
 ghost use Rattle.nf_base.specs.Naming.{same_ignoring_case};
+ghost use Rattle.nf_http.specs.Head.{length_of};
 ghost use Rattle.nf_words.specs.History.{MayWant};
 ghost use Rattle.nf_words.specs.declared.answer.Denial.TheVariants.{Body};
-ghost use Rattle.nf_dav.specs.Asked.{GivesRequest, GivesSpot, GivesName, GivesPath, method_of, wanted_of, body_refusal, files_segments, path_in, from_slash, without_slash, is_built as built, is_slash, is_special, caller_of_value};
+ghost use Rattle.nf_dav.specs.Asked.{Gives, GivesRequest, body_refusal, caller_of_value, files_refusal, files_request as request_there, is_files as are_files, is_stray as strays, second_segments as second, spot_at, target_spot, wanted_of};
 
-use nf_base::{Digest, Name, NameFault, Path};
+use crate::fields::{overwrites, second_segments};
+use crate::spots::spot;
+use nf_base::Digest;
 use nf_http::Message;
-use nf_words::{Caller, Denial, Request, Spot, Wanted};
+use nf_routes::{Method, Routes, method_of, segments, takes};
+use nf_words::{Caller, Denial, Request, Route, Spot, Wanted};
 use std::alloc::{AllocError, Global};
 
 /// Why a message has no request.
@@ -32,63 +34,66 @@ impl From<AllocError> for Unasked {
     }
 }
 
-/// The methods of the files route that are built.
-#[derive(Clone, Copy, PartialEq, Eq)]
-pub enum Method {
-    Get,
-    Put,
-    Mkcol,
-    Delete,
-}
-
-const FILES: &[u8] = b"/remote.php/dav/files/";
-
-/// The request of a message; or why it has none, the first that holds of not built, a body that isn't taken, and a bad name.
+/// The request of a message; or why it has none, the first that holds of no such route, a method that the route doesn't have, not built, a
+/// body that isn't taken, a field that can't be read, and a bad name.
 #[tactic(auto, unfolding(crate::specs::Asked::request_of))]
-pub fn request(alloc: Global, message: &Message) -> Result<Request, Unasked>
+pub fn request(routes: &Routes, alloc: Global, message: &Message) -> Result<Request, Unasked>
     ensures gives { GivesRequest message.now result }
     ensures may_want { IfOk result MayWant }
 {
-    if !is_built(message) {
+    let Some(route) = routes.find(alloc, message.target())? else {
+        return Err(Unasked::Refused(Denial::NotFound));
+    };
+    let method = method_of(message.method());
+    if is_stray(route, method) {
+        return Err(Unasked::Refused(Denial::NotFound));
+    }
+    let Some(method) = method else {
+        return Err(Unasked::Refused(Denial::Method(route)));
+    };
+    if !takes(route, method) {
+        return Err(Unasked::Refused(Denial::Method(route)));
+    }
+    if !is_files(route) {
         return Err(Unasked::Refused(Denial::NotBuilt));
     }
-    let Some(method) = method_named(message.method()) else {
-        return Err(Unasked::Refused(Denial::NotBuilt));
-    };
-    let Some(rest) = behind_files(message.target()) else {
-        return Err(Unasked::Refused(Denial::NotBuilt));
-    };
+    files_request(routes, alloc, method, message)
+}
+
+// The only chunk that is moved is all of them.
+fn is_stray(route: Route, method: Option<Method>) -> bool
+    ensures { result ≡ strays route method }
+{
+    matches!((route, method), (Route::Chunk, Some(Method::Move)))
+}
+
+/// Only the files route is built yet.
+pub fn is_files(route: Route) -> bool
+    ensures { result ≡ are_files route }
+{
+    matches!(route, Route::Files)
+}
+
+// A request on the files route.
+fn files_request(
+    routes: &Routes,
+    alloc: Global,
+    method: Method,
+    message: &Message,
+) -> Result<Request, Unasked>
+    ensures gives { Gives (files_refusal method message.now) (λ request. request_there method message.now ≡ Ok request) result }
+    ensures short { length_of message.now ≤ 16777216 }
+{
     if takes_no_body(method, message.length()) {
         return Err(Unasked::Refused(Denial::Body));
     }
-    let spot = spot(alloc, rest)?;
-    let caller = caller(message.field(b"Authorization"));
+    let second = second_segments(routes, alloc, method, message)?;
+    let source = spot(alloc, &segments(alloc, message.target())?)?;
+    let target = spot(alloc, &second)?;
     Ok(Request {
-        caller,
-        wanted: wanted(method, message.length(), spot),
+        caller: caller(message.field(b"Authorization")),
+        wanted: wanted(method, message, source, target),
     })
-}
-
-fn is_built(message: &Message) -> bool
-    ensures { result ≡ built message.now }
-{
-    message.field(b"Expect").is_none() && !has_special(message.target())
-}
-
-fn method_named(bytes: &[u8]) -> Option<Method>
-    ensures { result ≡ method_of bytes.now }
-{
-    if bytes == b"GET".as_slice() {
-        Some(Method::Get)
-    } else if bytes == b"PUT".as_slice() {
-        Some(Method::Put)
-    } else if bytes == b"MKCOL".as_slice() {
-        Some(Method::Mkcol)
-    } else if bytes == b"DELETE".as_slice() {
-        Some(Method::Delete)
-    } else {
-        None
-    }
 }
 
 // Whether the method is refused for its body.
@@ -98,127 +103,31 @@ fn takes_no_body(method: Method, length: usize) -> bool
     method == Method::Mkcol && length > 0
 }
 
-fn wanted(method: Method, length: usize, spot: Spot) -> Wanted
-    ensures { result ≡ wanted_of method length spot }
+// What is wanted, with the second place of a method that has two. The files route has no POST.
+fn wanted(method: Method, message: &Message, source: Spot, target: Spot) -> Wanted
+    requires source { source ≡ target_spot message.now }
+    requires target { target ≡ spot_at (second method message.now) }
+    ensures { result ≡ wanted_of method message.now }
 {
     match method {
-        Method::Get => Wanted::Get(spot),
+        Method::Get | Method::Post => Wanted::Get(source),
         Method::Put => Wanted::Put {
-            spot,
-            length: length as u64,
+            spot: source,
+            length: message.length() as u64,
         },
-        Method::Mkcol => Wanted::Mkcol(spot),
-        Method::Delete => Wanted::Delete(spot),
+        Method::Mkcol => Wanted::Mkcol(source),
+        Method::Delete => Wanted::Delete(source),
+        Method::Move => Wanted::Move {
+            source,
+            target,
+            overwrite: overwrites(message),
+        },
+        Method::Copy => Wanted::Copy {
+            source,
+            target,
+            overwrite: overwrites(message),
+        },
     }
-}
-
-// What is behind the fixed words of the files route.
-fn behind_files(target: &[u8]) -> Option<&[u8]>
-    ensures { option_map (slice_split is_slash) (option_copied result) ≡ files_segments target.now }
-{
-    without_slash(path_in(target)?).strip_prefix(FILES)
-}
-
-// The path of a target, which may begin with a scheme and a host.
-fn path_in(target: &[u8]) -> Option<&[u8]>
-    ensures { option_copied result ≡ path_in target.now }
-{
-    let after_scheme = match target.strip_prefix(b"http://".as_slice()) {
-        Some(rest) => Some(rest),
-        None => target.strip_prefix(b"https://".as_slice()),
-    };
-    match after_scheme {
-        Some(rest) => from_slash(rest),
-        None => Some(target),
-    }
-}
-
-fn from_slash(bytes: &[u8]) -> Option<&[u8]>
-    ensures { option_copied result ≡ from_slash bytes.now }
-{
-    let at = first_slash(bytes)?;
-    Some(&bytes[at..])
-}
-
-fn first_slash(bytes: &[u8]) -> Option<usize>
-    ensures value { result ≡ position is_slash bytes.now }
-    ensures within { IfSome result (λ at. at < length bytes.now) }
-{
-    bytes.iter().position(|byte| *byte == b'/')
-}
-
-fn without_slash(path: &[u8]) -> &[u8]
-    ensures { result.now ≡ without_slash path.now }
-{
-    match path.strip_suffix(b"/".as_slice()) {
-        Some(front) => front,
-        None => path,
-    }
-}
-
-// The spot of a user and a path, with slashes between their names.
-fn spot(alloc: Global, rest: &[u8]) -> Result<Spot, Unasked>
-    ensures gives { GivesSpot (slice_split is_slash rest.now) result }
-    ensures user { IfOk result (λ spot. IsSome spot.user) }
-{
-    let (user, behind) = first_segment(rest);
-    let user = name(alloc, user)?;
-    let names = segments(alloc, behind)?;
-    let path = path(alloc, &names)?;
-    Ok(Spot {
-        user: Some(user),
-        path,
-    })
-}
-
-// The bytes before the first slash, and those behind it.
-fn first_segment(bytes: &[u8]) -> (&[u8], Option<&[u8]>)
-    ensures { slice_split is_slash bytes.now ≡ result.0.now ∷ option_map_or (slice_split is_slash) (option_copied result.1) [] }
-{
-    match first_slash(bytes) {
-        Some(at) => (&bytes[..at], Some(&bytes[at + 1..])),
-        None => (bytes, None),
-    }
-}
-
-// The segments behind a slash, none where there is no slash.
-fn segments(alloc: Global, behind: Option<&[u8]>) -> Result<Vec<Vec<u8>>, AllocError>
-    ensures { IfOk result (λ segments. map (λ segment. segment.items) segments.items ≡ option_map_or (slice_split is_slash) (option_copied behind.entry) []) }
-{
-    let mut segments = Vec::new(alloc);
-    let Some(bytes) = behind else {
-        return Ok(segments);
-    };
-    for segment in bytes.split(|byte| *byte == b'/') {
-        segments.push(segment.to_vec(alloc)?)?;
-    }
-    Ok(segments)
-}
-
-fn name(alloc: Global, bytes: &[u8]) -> Result<Name, Unasked>
-    ensures { GivesName bytes.now result }
-{
-    match Name::read(alloc, bytes) {
-        Ok(name) => Ok(name),
-        Err(NameFault::Memory) => Err(Unasked::Memory),
-        Err(fault) => Err(Unasked::Refused(Denial::BadName(fault))),
-    }
-}
-
-fn path(alloc: Global, names: &[Vec<u8>]) -> Result<Path, Unasked>
-    ensures { GivesPath (map (λ segment. segment.items) names.now) result }
-{
-    match Path::read(alloc, names) {
-        Ok(path) => Ok(path),
-        Err(NameFault::Memory) => Err(Unasked::Memory),
-        Err(fault) => Err(Unasked::Refused(Denial::BadName(fault))),
-    }
-}
-
-fn has_special(bytes: &[u8]) -> bool
-    ensures { result ≡ list_any is_special bytes.now }
-{
-    bytes.iter().any(|byte| *byte == b'%' || *byte == b'?')
 }
 
 // The caller of an Authorization field.

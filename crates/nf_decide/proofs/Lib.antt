@@ -1,3 +1,7 @@
-pub mod Climbs
-pub mod Contents
+pub mod Bears
+pub mod Copies
+pub mod Limited
+pub mod Named
+pub mod Numbers
 pub mod Openings
+pub mod Stamps

@@ -1,3 +1,4 @@
 pub mod Rows
 pub mod Current
+pub mod Asked
 pub mod Deciding

@@ -7,6 +7,6 @@ pub record Rows : Type 0 where
   pub tables : Tables
   pub room : ℕ
 
--- one node more fits where there is room for so many
-abbrev pub FitsNode : Tables → ℕ → Type 0
-FitsNode t room = length t.nodes + 1 ≤ room
+-- so many nodes more fit where there is room for that many in all
+abbrev pub FitsNodes : Tables → ℕ → ℕ → Type 0
+FitsNodes t room count = length t.nodes + count ≤ room

@@ -1,19 +1,22 @@
 //! What each act may do where its paths lead. Where a rule refuses it, nothing.
 
-ghost use Rattle.std.specs.Prelude.{◌≡◌, ◌≢◌, ℕ, IfOk, Some, []};
+ghost use Rattle.std.specs.Prelude.{◌≡◌, ◌≢◌, ℕ, IfOk, IfSome, IsSome, None, Some, []};
 ghost use Rattle.nf_base.specs.Kept.{IsPlain};
 ghost use Rattle.nf_defs.specs.declared.Found.TheVariants.{Free};
 ghost use Rattle.nf_words.specs.Calls.{last_name};
-ghost use Rattle.nf_words.specs.Changes.{deleted, made_folder, new_node, served, stored};
+ghost use Rattle.nf_words.specs.Changes.{copied, deleted, made_folder, moved, new_node, served, shown, stored};
+ghost use Rattle.nf_words.specs.Limits.{copy_limit};
 
-use crate::nodes::{content_of, owner_of, subtree};
+use crate::copying::copies_to;
+use crate::listing::listing_of;
+use crate::nodes::{content_of, is_folder, owner_of};
 use crate::tables::Tables;
 use nf_base::{Content, Moment, Name, NodeId, NodeKind, NodeRow, Place};
 use nf_defs::{Found, Seeker};
-use nf_words::{Allowed, LockKey, Spot};
+use nf_words::{Allowed, LockKey, Spot, Transfer};
 use std::alloc::{AllocError, Global};
 
-/// GET sends the content of the node that is there.
+/// GET lists the folder that is there, or sends the content of the file.
 pub(crate) fn served(
     alloc: Global,
     tables: &Tables,
@@ -22,12 +25,21 @@ pub(crate) fn served(
     ensures { IfOk result (λ allowed. allowed ≡ served tables.now.tables node) }
 {
     match node {
-        Some(node) => Ok(Allowed::Get {
-            node,
-            content: content_of(alloc, tables.nodes(), node)?,
-        }),
+        Some(node) => shown(alloc, tables, node),
         None => Ok(Allowed::Close),
     }
+}
+
+fn shown(alloc: Global, tables: &Tables, node: NodeId) -> Result<Allowed, AllocError>
+    ensures { IfOk result (λ allowed. allowed ≡ shown tables.now.tables node) }
+{
+    if is_folder(tables.tree(), node) {
+        return Ok(Allowed::List(listing_of(alloc, tables, node)?));
+    }
+    Ok(Allowed::Get {
+        node,
+        content: content_of(alloc, tables.tree(), node)?,
+    })
 }
 
 /// PUT stores over the file that is there, or under the name that is free.
@@ -84,15 +96,49 @@ pub(crate) fn made_folder(
 }
 
 /// DELETE removes the node that is there with all under it.
-pub(crate) fn deleted(
-    alloc: Global,
-    tables: &Tables,
-    node: Option<NodeId>,
-) -> Result<Allowed, AllocError>
-    ensures { IfOk result (λ allowed. allowed ≡ deleted tables.now.tables node) }
+pub(crate) fn deleted(node: Option<NodeId>) -> Allowed
+    ensures { result ≡ deleted node }
 {
     match node {
-        Some(node) => Ok(Allowed::Delete(subtree(alloc, tables.nodes(), node)?)),
+        Some(node) => Allowed::Delete(node),
+        None => Allowed::Close,
+    }
+}
+
+/// MOVE puts the node that is there into the target's folder, under the target's name.
+pub(crate) fn moved(spot: &Spot, transfer: Option<Transfer>) -> Result<Allowed, AllocError>
+    requires { IsSome transfer → spot.now.path ≢ [] }
+    ensures { IfOk result (λ allowed. allowed ≡ moved (last_name spot.now) transfer) }
+{
+    match transfer {
+        Some(transfer) => Ok(Allowed::Move {
+            transfer,
+            name: last_name(spot)?,
+        }),
+        None => Ok(Allowed::Close),
+    }
+}
+
+/// COPY puts copies of the node that is there, and of all under it, into the target's folder, under the target's name.
+pub(crate) fn copied(
+    alloc: Global,
+    tables: &Tables,
+    moment: Moment,
+    spot: &Spot,
+    transfer: Option<Transfer>,
+) -> Result<Allowed, AllocError>
+    requires named { IsSome transfer → spot.now.path ≢ [] }
+    requires few { IfSome transfer (λ transfer. copy_limit tables.now.tables transfer ≡ None) }
+    ensures { IfOk result (λ allowed. allowed ≡ copied tables.now.tables moment (last_name spot.now) transfer) }
+{
+    match transfer {
+        Some(transfer) => {
+            let name = last_name(spot)?;
+            Ok(Allowed::Copy {
+                rows: copies_to(alloc, tables, moment, &transfer, name)?,
+                replaced: transfer.replaced,
+            })
+        }
         None => Ok(Allowed::Close),
     }
 }
@@ -111,7 +157,7 @@ pub(crate) fn new_node(
 {
     NodeRow {
         id: tables.meta().next_node,
-        owner: owner_of(tables.nodes(), folder),
+        owner: owner_of(tables.tree(), folder),
         place: Place::Inside(folder),
         name,
         kind,

@@ -1,23 +1,12 @@
 //! What a request names, and what its paths lead to.
 
-ghost use Rattle.std.specs.Prelude.{◌≡◌, [], ◌∷◌, option_copied};
-ghost use Rattle.nf_words.specs.Calls.{named_in, paths_of, source_of, target_of, users_of};
-ghost use Rattle.nf_words.specs.Places.{lost, node_at};
+ghost use Rattle.std.specs.Prelude.{◌≡◌, option_copied};
+ghost use Rattle.nf_words.specs.Calls.{source_of, target_of};
+ghost use Rattle.nf_words.specs.Places.{is_kept, lost, node_at, node_found};
 
 use nf_base::NodeId;
 use nf_defs::Found;
 use nf_words::{Denial, Places, Spot, Wanted};
-
-/// The one place that is named.
-pub(crate) fn spot_of(wanted: &Wanted) -> &Spot
-    ensures users { users_of wanted.now ≡ named_in result.now.user }
-    ensures paths { paths_of wanted.now ≡ result.now.path ∷ [] }
-{
-    match wanted {
-        Wanted::Get(spot) | Wanted::Mkcol(spot) | Wanted::Delete(spot) => spot,
-        Wanted::Put { spot, length: _ } => spot,
-    }
-}
 
 /// The place of what is acted upon.
 pub(crate) fn source_of(wanted: &Wanted) -> Option<&Spot>
@@ -26,6 +15,8 @@ pub(crate) fn source_of(wanted: &Wanted) -> Option<&Spot>
     match wanted {
         Wanted::Get(spot) | Wanted::Delete(spot) => Some(spot),
         Wanted::Put { .. } | Wanted::Mkcol(_) => None,
+        Wanted::Move { source, .. } => Some(source),
+        Wanted::Copy { source, .. } => Some(source),
     }
 }
 
@@ -36,6 +27,8 @@ pub(crate) fn target_of(wanted: &Wanted) -> Option<&Spot>
     match wanted {
         Wanted::Put { spot, length: _ } | Wanted::Mkcol(spot) => Some(spot),
         Wanted::Get(_) | Wanted::Delete(_) => None,
+        Wanted::Move { target, .. } => Some(target),
+        Wanted::Copy { target, .. } => Some(target),
     }
 }
 
@@ -43,10 +36,24 @@ pub(crate) fn target_of(wanted: &Wanted) -> Option<&Spot>
 pub(crate) fn node_at(place: Option<Found>) -> Option<NodeId>
     ensures { result ≡ node_at place }
 {
-    match place? {
-        Found::At(node) => Some(node),
+    node_found(&place?)
+}
+
+/// The node that was found, if one is there.
+pub(crate) fn node_found(place: &Found) -> Option<NodeId>
+    ensures { result ≡ node_found place.now }
+{
+    match place {
+        Found::At(node) => Some(*node),
         Found::Free { .. } | Found::Missing { .. } => None,
     }
+}
+
+/// Whether something is at the target that isn't to be replaced.
+pub(crate) fn is_kept(overwrite: bool, places: &Places) -> bool
+    ensures { result ≡ is_kept overwrite places.now }
+{
+    !overwrite && node_at(places.target).is_some()
 }
 
 /// Why the act can't be done where what it needs isn't there.

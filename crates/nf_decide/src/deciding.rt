@@ -1,27 +1,30 @@
 //! The rules that refuse a request, and what a request that none of them refuses may do.
 
-ghost use Rattle.std.specs.Prelude.{◌≡◌, IfOk, Some, false, bytes_eq, option_and_then, option_copied, option_map};
+ghost use Rattle.std.specs.Prelude.{◌≡◌, ◌≤◌, IfOk, IfSome, None, Some, false, length, option_and_then, option_copied, option_map};
 ghost use Rattle.std.specs.Option.{option_map_or};
 ghost use Rattle.nf_defs.specs.Access.{unshared};
 ghost use Rattle.nf_defs.specs.People.{user_row};
-ghost use Rattle.nf_defs.specs.Tree.{found_from, is_folder, is_root};
-ghost use Rattle.nf_words.specs.Calls.{asker_of, caller_row, places_of, user_of};
+ghost use Rattle.nf_defs.specs.Tree.{found_from, is_folder};
+ghost use Rattle.nf_words.specs.Calls.{asker_of, caller_row, places_of, source_of, user_of};
 ghost use Rattle.nf_words.specs.Callers.{not_you_rule, token_rule};
 ghost use Rattle.nf_words.specs.Changes.{allowed_of};
-ghost use Rattle.nf_words.specs.Limits.{limit_at, limit_rule};
-ghost use Rattle.nf_words.specs.Places.{built_rule, exists_rule, forbidden_rule, has_forbidden, is_there, place_rule, target_rule};
-ghost use Rattle.nf_words.specs.Rules.{refusal_of};
+ghost use Rattle.nf_words.specs.Limits.{limit_at, limited};
+ghost use Rattle.nf_words.specs.Places.{exists_rule, forbidden_rule, has_forbidden, is_there, overwrite_rule, place_rule, target_rule, unfit};
 ghost use Rattle.nf_words.specs.Step.{call_decision};
-ghost use Rattle.nf_decide.specs.Deciding.{Follows};
+ghost use Rattle.nf_decide.specs.Asked.{is_called, is_forbidden, names_caller};
+ghost use Rattle.nf_decide.specs.Deciding.{Follows, IsNamed, early_refusal};
+ghost use Rattle.nf_tree.specs.Order.{AreRisingNodes};
 
-use crate::acting::{deleted, made_folder, served, stored};
-use crate::asked::{lost, node_at, source_of, spot_of, target_of};
-use crate::limits::{limit_at, pieces_of};
-use crate::nodes::{find, is_folder, is_root};
+use crate::acting::{copied, deleted, made_folder, moved, served, stored};
+use crate::asked::{is_kept, lost, node_at, source_of, target_of};
+use crate::limits::{copy_limit, limit_at, move_limit, pieces_of};
+use crate::nodes::is_folder;
 use crate::state::State;
 use crate::tables::Tables;
+use crate::transferring::{is_root_at, transfer_of, unfit_between};
 use nf_base::{Moment, Name, NodeId, UserId, UserRow};
 use nf_defs::{Found, Seeker};
+use nf_tree::Tree;
 use nf_words::{Allowed, Caller, Denial, Limit, Places, Request, Spot, TargetFault, Wanted, Words};
 use std::alloc::{AllocError, Global};
 use std::marker::Model;
@@ -62,17 +65,22 @@ impl<'a> Call<'a> {
     pub fn decide(&self, alloc: Global) -> Result<Result<Allowed, Denial>, AllocError>
         ensures { IfOk result (λ decision. decision ≡ call_decision self.entry.now) }
     {
-        match self.judge() {
-            Ok(seen) => Ok(Ok(self.allowed(alloc, &seen)?)),
-            Err(refusal) => Ok(Err(refusal)),
+        let seen = match self.judge() {
+            Ok(seen) => seen,
+            Err(refusal) => return Ok(Err(refusal)),
+        };
+        match self.limit(alloc, &seen.places)? {
+            Some(limit) => Ok(Err(Denial::Limit(limit))),
+            None => Ok(Ok(self.allowed(alloc, &seen)?)),
         }
     }
 
-    /// The rules in their order. The caller's row is looked up once, and each path once.
+    /// The rules in their order, but for the limits. The caller's row is looked up once, and each path once.
     fn judge(&self) -> Result<Seen, Denial>
-        ensures judged { Follows (refusal_of unshared) self.entry.now result }
+        ensures judged { Follows (early_refusal unshared) self.entry.now result }
         ensures asker { IfOk result (λ seen. seen.asker ≡ asker_of self.entry.now) }
         ensures places { IfOk result (λ seen. seen.places ≡ places_of self.entry.now) }
+        ensures named { IfOk result (λ _. IsNamed self.entry.now) }
     {
         // No `?` here: the check finds no proof of one over a number beside a refusal.
         let user = match self.token() {
@@ -84,10 +92,9 @@ impl<'a> Call<'a> {
         self.forbidden()?;
         let places = self.places(caller);
         self.lost(&places)?;
-        self.built(&places)?;
         self.exists(&places)?;
         self.target(&places)?;
-        self.limit(&places)?;
+        self.overwrite(&places)?;
         Ok(Seen {
             asker: asker_of(caller),
             places,
@@ -111,9 +118,11 @@ impl<'a> Call<'a> {
         requires { option_copied caller ≡ caller_row self.now }
         ensures { Follows (not_you_rule unshared) self.entry.now result }
     {
-        match &spot_of(&self.request.wanted).user {
-            Some(name) if !is_called(caller, name) => Err(Denial::NotYou),
-            Some(_) | None => Ok(()),
+        let wanted = &self.request.wanted;
+        if names_caller(caller, source_of(wanted)) && names_caller(caller, target_of(wanted)) {
+            Ok(())
+        } else {
+            Err(Denial::NotYou)
         }
     }
 
@@ -121,7 +130,8 @@ impl<'a> Call<'a> {
     fn forbidden(&self) -> Result<(), Denial>
         ensures { Follows (forbidden_rule unshared) self.entry.now result }
     {
-        if has_forbidden(spot_of(&self.request.wanted).path.names()) {
+        let wanted = &self.request.wanted;
+        if is_forbidden(source_of(wanted)) || is_forbidden(target_of(wanted)) {
             Err(Denial::ForbiddenName)
         } else {
             Ok(())
@@ -139,26 +149,16 @@ impl<'a> Call<'a> {
         }
     }
 
-    #[tactic(auto, unfolding(nf_words::specs::Places::built_rule))]
-    fn built(&self, places: &Places) -> Result<(), Denial>
-        requires { places.now ≡ places_of self.now }
-        ensures { Follows (built_rule unshared) self.entry.now result }
-    {
-        match &self.request.wanted {
-            Wanted::Get(_) if self.is_folder_at(places.source) => Err(Denial::NotBuilt),
-            Wanted::Get(_) | Wanted::Put { .. } | Wanted::Mkcol(_) | Wanted::Delete(_) => Ok(()),
-        }
-    }
-
     #[tactic(auto, unfolding(nf_words::specs::Places::exists_rule))]
     fn exists(&self, places: &Places) -> Result<(), Denial>
         requires { places.now ≡ places_of self.now }
         ensures { Follows (exists_rule unshared) self.entry.now result }
     {
         match &self.request.wanted {
-            Wanted::Put { .. } if self.is_folder_at(places.target) => Err(Denial::Exists),
+            Wanted::Put { .. } if is_folder_at(self.tree(), places.target) => Err(Denial::Exists),
             Wanted::Mkcol(_) if node_at(places.target).is_some() => Err(Denial::Exists),
             Wanted::Get(_) | Wanted::Put { .. } | Wanted::Mkcol(_) | Wanted::Delete(_) => Ok(()),
+            Wanted::Move { .. } | Wanted::Copy { .. } => Ok(()),
         }
     }
 
@@ -167,30 +167,55 @@ impl<'a> Call<'a> {
         requires { places.now ≡ places_of self.now }
         ensures { Follows (target_rule unshared) self.entry.now result }
     {
+        match self.unfit(places) {
+            Some(fault) => Err(Denial::BadTarget(fault)),
+            None => Ok(()),
+        }
+    }
+
+    /// What the act may not be done to.
+    fn unfit(&self, places: &Places) -> Option<TargetFault>
+        ensures { result ≡ unfit self.entry.now.state.tables.nodes self.entry.now.request.wanted places.now }
+    {
         match &self.request.wanted {
-            Wanted::Delete(_) if self.is_root_at(places.source) => {
-                Err(Denial::BadTarget(TargetFault::Root))
-            }
+            Wanted::Delete(_) if is_root_at(self.tree(), places.source) => Some(TargetFault::Root),
+            Wanted::Get(_) | Wanted::Put { .. } | Wanted::Mkcol(_) | Wanted::Delete(_) => None,
+            Wanted::Move { .. } | Wanted::Copy { .. } => unfit_between(self.tree(), places),
+        }
+    }
+
+    #[tactic(auto, unfolding(nf_words::specs::Places::overwrite_rule))]
+    fn overwrite(&self, places: &Places) -> Result<(), Denial>
+        requires { places.now ≡ places_of self.now }
+        ensures { Follows (overwrite_rule unshared) self.entry.now result }
+    {
+        match &self.request.wanted {
+            Wanted::Move { overwrite, .. } if is_kept(*overwrite, places) => Err(Denial::Overwrite),
+            Wanted::Copy { overwrite, .. } if is_kept(*overwrite, places) => Err(Denial::Overwrite),
+            Wanted::Move { .. } | Wanted::Copy { .. } => Ok(()),
             Wanted::Get(_) | Wanted::Put { .. } | Wanted::Mkcol(_) | Wanted::Delete(_) => Ok(()),
         }
     }
 
-    #[tactic(auto, unfolding(nf_words::specs::Limits::limit_rule))]
-    fn limit(&self, places: &Places) -> Result<(), Denial>
-        requires { places.now ≡ places_of self.now }
-        ensures { Follows (limit_rule unshared) self.entry.now result }
+    /// The limit that the step would pass.
+    fn limit(&self, alloc: Global, places: &Places) -> Result<Option<Limit>, AllocError>
+        ensures { IfOk result (λ limit. limit ≡ limited self.entry.now.state.tables self.entry.now.request.wanted places.now) }
     {
         let tables = self.state.tables();
-        let passed = match &self.request.wanted {
+        match &self.request.wanted {
             Wanted::Put { spot: _, length } => {
-                limit_there(tables, places.target, pieces_of(*length))
+                Ok(limit_there(tables, places.target, pieces_of(*length)))
             }
-            Wanted::Mkcol(_) => limit_there(tables, places.target, 0),
-            Wanted::Get(_) | Wanted::Delete(_) => None,
-        };
-        match passed {
-            Some(limit) => Err(Denial::Limit(limit)),
-            None => Ok(()),
+            Wanted::Mkcol(_) => Ok(limit_there(tables, places.target, 0)),
+            Wanted::Get(_) | Wanted::Delete(_) => Ok(None),
+            Wanted::Move { .. } => match transfer_of(tables.tree(), places) {
+                Some(transfer) => move_limit(alloc, tables, &transfer),
+                None => Ok(None),
+            },
+            Wanted::Copy { .. } => match transfer_of(tables.tree(), places) {
+                Some(transfer) => copy_limit(alloc, tables, &transfer),
+                None => Ok(None),
+            },
         }
     }
 
@@ -198,6 +223,8 @@ impl<'a> Call<'a> {
     fn allowed(&self, alloc: Global, seen: &Seen) -> Result<Allowed, AllocError>
         requires asker { seen.now.asker ≡ asker_of self.now }
         requires places { seen.now.places ≡ places_of self.now }
+        requires named { IsNamed self.now }
+        requires few { limited self.now.state.tables self.now.request.wanted (places_of self.now) ≡ None }
         ensures { IfOk result (λ allowed. allowed ≡ allowed_of self.entry.now) }
     {
         let tables = self.state.tables();
@@ -208,7 +235,14 @@ impl<'a> Call<'a> {
                 stored(Seeker::User(seen.asker), spot, *length, target)
             }
             Wanted::Mkcol(spot) => made_folder(alloc, tables, self.now, spot, target),
-            Wanted::Delete(_) => deleted(alloc, tables, node_at(source)),
+            Wanted::Delete(_) => Ok(deleted(node_at(source))),
+            Wanted::Move { target: spot, .. } => {
+                moved(spot, transfer_of(tables.tree(), &seen.places))
+            }
+            Wanted::Copy { target: spot, .. } => {
+                let transfer = transfer_of(tables.tree(), &seen.places);
+                copied(alloc, tables, self.now, spot, transfer)
+            }
         }
     }
 
@@ -227,12 +261,21 @@ impl<'a> Call<'a> {
         self.state.tables().people().row(user)
     }
 
+    fn tree(&self) -> &Tree
+        ensures { result.now.rows ≡ self.entry.now.state.tables.nodes }
+    {
+        self.state.tables().tree()
+    }
+
     /// Where the paths lead, from the caller's root.
     fn places(&self, caller: Option<&UserRow>) -> Places
         requires { option_copied caller ≡ caller_row self.now }
-        ensures { result ≡ places_of self.entry.now }
+        ensures places { result ≡ places_of self.entry.now }
+        ensures short { IfSome (source_of self.entry.now.request.wanted) (λ spot. length spot.path ≤ 64) }
+        ensures rising { AreRisingNodes self.entry.now.state.tables.nodes }
     {
         let root = root_of(caller);
+        self.state.tables().keeps();
         Places {
             source: self.found(root, source_of(&self.request.wanted)),
             target: self.found(root, target_of(&self.request.wanted)),
@@ -240,27 +283,20 @@ impl<'a> Call<'a> {
     }
 
     fn found(&self, root: NodeId, spot: Option<&Spot>) -> Option<Found>
-        ensures { result ≡ option_map (λ spot. found_from self.entry.now.state.tables.nodes 0 root spot.path) (option_copied spot.entry) }
+        ensures found { result ≡ option_map (λ spot. found_from self.entry.now.state.tables.nodes 0 root spot.path) (option_copied spot.entry) }
+        ensures short { IfSome (option_copied spot.entry) (λ spot. length spot.path ≤ 64) }
     {
-        Some(find(self.state.tables().nodes(), root, spot?.path.names()))
+        Some(self.tree().find(root, spot?.path.names()))
     }
+}
 
-    fn is_folder_at(&self, place: Option<Found>) -> bool
-        ensures { result ≡ is_there (is_folder self.entry.now.state.tables.nodes) place }
-    {
-        match node_at(place) {
-            Some(node) => is_folder(self.state.tables().nodes(), node),
-            None => false,
-        }
-    }
-
-    fn is_root_at(&self, place: Option<Found>) -> bool
-        ensures { result ≡ is_there (is_root self.entry.now.state.tables.nodes) place }
-    {
-        match node_at(place) {
-            Some(node) => is_root(self.state.tables().nodes(), node),
-            None => false,
-        }
+/// Whether a folder is there.
+fn is_folder_at(tree: &Tree, place: Option<Found>) -> bool
+    ensures { result ≡ is_there (is_folder tree.now.rows) place }
+{
+    match node_at(place) {
+        Some(node) => is_folder(tree, node),
+        None => false,
     }
 }
 
@@ -283,8 +319,21 @@ fn root_of(caller: Option<&UserRow>) -> NodeId
     }
 }
 
+/// Whether a place names no other user than the caller.
+fn names_caller(caller: Option<&UserRow>, spot: Option<&Spot>) -> bool
+    ensures { result ≡ names_caller (option_copied caller.entry) (option_copied spot.entry) }
+{
+    let Some(spot) = spot else {
+        return true;
+    };
+    match &spot.user {
+        Some(name) => is_called(caller, name),
+        None => true,
+    }
+}
+
 fn is_called(caller: Option<&UserRow>, name: &Name) -> bool
-    ensures { result ≡ option_map_or (λ row. bytes_eq row.name name.now) (option_copied caller.entry) false }
+    ensures { result ≡ is_called (option_copied caller.entry) name.now }
 {
     match caller {
         Some(row) => row.name.as_bytes() == name.as_bytes(),
@@ -296,6 +345,16 @@ fn limit_there(tables: &Tables, place: Option<Found>, pieces: u64) -> Option<Lim
     ensures { result ≡ option_and_then (limit_at tables.now.tables pieces) place }
 {
     limit_at(tables, &place?, pieces)
+}
+
+/// Whether the path of a place has a name that is forbidden.
+fn is_forbidden(spot: Option<&Spot>) -> bool
+    ensures { result ≡ is_forbidden (option_copied spot.entry) }
+{
+    match spot {
+        Some(spot) => has_forbidden(spot.path.names()),
+        None => false,
+    }
 }
 
 fn has_forbidden(names: &[Name]) -> bool

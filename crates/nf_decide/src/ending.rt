@@ -10,7 +10,7 @@ ghost use Rattle.nf_words.specs.declared.answer.Denial.TheVariants.{NotFound};
 
 use crate::acting::new_node;
 use crate::limits::{limit_at, pieces_of};
-use crate::nodes::{child_of, is_file, is_folder};
+use crate::nodes::{is_file, is_folder};
 use crate::tables::Tables;
 use nf_base::{BlobId, Content, Digest, Moment, NodeKind, Piece};
 use nf_defs::Found;
@@ -71,9 +71,9 @@ fn is_lost(tables: &Tables, key: &LockKey) -> bool
     ensures { key_lost tables.now.tables key.now ≡ (if result then Some NotFound else None) }
 {
     match key {
-        LockKey::Node(node) => !is_file(tables.nodes(), *node),
+        LockKey::Node(node) => !is_file(tables.tree(), *node),
         LockKey::Slot { folder, name } => {
-            !is_folder(tables.nodes(), *folder) || child_of(tables.nodes(), *folder, name).is_some()
+            !is_folder(tables.tree(), *folder) || tables.tree().child(*folder, name).is_some()
         }
     }
 }

@@ -3,16 +3,19 @@
 
 mod acting;
 mod asked;
+mod copying;
 mod deciding;
 mod ending;
 mod limits;
+mod listing;
 mod nodes;
 mod state;
 mod tables;
 mod telling;
+mod transferring;
 
 pub use deciding::Call;
 pub use ending::decide_end;
 pub use state::State;
 pub use tables::Tables;
-pub use telling::{blob_of, changes};
+pub use telling::{added_by, blob_of, changes};

@@ -1,40 +1,113 @@
 //! The limits of the site.
 
-ghost use Rattle.std.specs.Prelude.{◌≡◌, nat_lt};
-ghost use Rattle.nf_words.specs.Limits.{count_of, limit_at, limit_passed, pieces_of};
+ghost use Rattle.std.specs.Prelude.{◌≡◌, ◌≤◌, length, nat_lt, IfOk};
+ghost use Rattle.nf_defs.specs.Tree.{content_of, walk_of};
+ghost use Rattle.nf_words.specs.Limits.{copy_limit, count_of, deepest, deepest_in, limit_at, limit_passed, move_limit, pieces_in, pieces_of};
 
-use crate::nodes::{depth, piece_count};
 use crate::tables::Tables;
+use nf_base::NodeId;
 use nf_defs::Found;
-use nf_words::Limit;
+use nf_tree::Tree;
+use nf_words::{Limit, Transfer};
+use std::alloc::{AllocError, Global};
 
 /// The limit that is passed where a content of so many pieces is put there.
 pub(crate) fn limit_at(tables: &Tables, place: &Found, pieces: u64) -> Option<Limit>
     ensures { result ≡ limit_at tables.now.tables pieces place.now }
 {
     match place {
-        Found::At(_) => limit_passed(tables, 0, 0, pieces, pieces),
+        Found::At(_) => limit_passed(tables, 0, 0, u128::from(pieces), pieces),
         Found::Free { folder } => {
-            let deep = depth(tables.nodes(), *folder) + 1;
-            limit_passed(tables, 1, deep, pieces, pieces)
+            let deep = tables.tree().depth(*folder) + 1;
+            limit_passed(tables, 1, deep, u128::from(pieces), pieces)
         }
         Found::Missing { .. } => None,
     }
 }
 
+/// The limit that a move passes.
+pub(crate) fn move_limit(
+    alloc: Global,
+    tables: &Tables,
+    transfer: &Transfer,
+) -> Result<Option<Limit>, AllocError>
+    ensures { IfOk result (λ limit. limit ≡ move_limit tables.now.tables transfer.now) }
+{
+    let nodes = tables.tree().subtree(alloc, transfer.node)?;
+    let deep = deepest_in(tables.tree(), &nodes, transfer);
+    Ok(limit_passed(tables, 0, deep, 0, 0))
+}
+
+/// The limit that a copy passes. What it replaces still counts.
+pub(crate) fn copy_limit(
+    alloc: Global,
+    tables: &Tables,
+    transfer: &Transfer,
+) -> Result<Option<Limit>, AllocError>
+    ensures { IfOk result (λ limit. limit ≡ copy_limit tables.now.tables transfer.now) }
+{
+    let nodes = tables.tree().subtree(alloc, transfer.node)?;
+    let deep = deepest_in(tables.tree(), &nodes, transfer);
+    let pieces = pieces_in(tables.tree(), &nodes);
+    Ok(limit_passed(tables, nodes.len() as u64, deep, pieces, 0))
+}
+
+/// How deep the deepest of the nodes under a node would be, with that in the folder.
+fn deepest_in(tree: &Tree, nodes: &[NodeId], transfer: &Transfer) -> u32
+    requires { nodes.now ≡ walk_of tree.now.rows transfer.now.node }
+    ensures { result ≡ deepest_in tree.now.rows transfer.now.node transfer.now.folder }
+{
+    let below = deepest(tree, nodes).saturating_sub(tree.depth(transfer.node));
+    tree.depth(transfer.folder) + 1 + below
+}
+
+/// How deep the deepest of some nodes is.
+fn deepest(tree: &Tree, nodes: &[NodeId]) -> u32
+    ensures depth { result ≡ deepest tree.now.rows nodes.now }
+    ensures few { result ≤ 64 }
+{
+    let mut deep = 0;
+    for node in nodes {
+        deep = tree.depth(*node).max(deep);
+    }
+    deep
+}
+
+/// How many pieces some nodes name, with repeats. No sum of these passes a u128.
+fn pieces_in(tree: &Tree, nodes: &[NodeId]) -> u128
+    ensures { result ≡ pieces_in tree.now.rows nodes.now }
+{
+    let mut count = 0;
+    for node in nodes {
+        count += u128::from(pieces_at(tree, *node));
+    }
+    count
+}
+
+/// How many pieces a node names.
+fn pieces_at(tree: &Tree, node: NodeId) -> u32
+    ensures count { result ≡ length (content_of tree.now.rows node) }
+    ensures few { result ≤ 10000 }
+{
+    match tree.node(node) {
+        Some(row) => row.content.pieces().len() as u32,
+        None => 0,
+    }
+}
+
 /// The first limit that is passed by so many nodes more, the deepest of them so deep, so many pieces more, and so many new blobs.
-fn limit_passed(tables: &Tables, nodes: u64, deep: u32, pieces: u64, blobs: u64) -> Option<Limit>
+fn limit_passed(tables: &Tables, nodes: u64, deep: u32, pieces: u128, blobs: u64) -> Option<Limit>
     ensures { result ≡ limit_passed tables.now.tables nodes deep pieces blobs }
 {
     let meta = tables.meta();
-    let all_nodes = tables.nodes().len() as u128 + u128::from(nodes);
+    let all_nodes = tables.tree().count() as u128 + u128::from(nodes);
     if passes(all_nodes, Limit::Nodes) || meta.next_node.number() > u64::MAX - nodes {
         return Some(Limit::Nodes);
     }
     if passes(u128::from(deep), Limit::Depth) {
         return Some(Limit::Depth);
     }
-    let all_pieces = piece_count(tables.nodes()).saturating_add(u128::from(pieces));
+    let all_pieces = pieces.saturating_add(tables.tree().pieces() as u128);
     if passes(all_pieces, Limit::Pieces) || meta.next_blob.number() > u64::MAX - blobs {
         return Some(Limit::Pieces);
     }

@@ -1,14 +1,14 @@
 //! The state of the site, and the changes that steps make to it.
 
-ghost use Rattle.std.specs.Prelude.{◌≡◌, ◌≤◌, ◌==◌, not, filter, vec_capacity, length, [], ◌∷◌, ◌++◌, find, IfOk, OnOk, Ok, option_copied};
+ghost use Rattle.std.specs.Prelude.{◌≡◌, ◌+◌, ◌≤◌, ◌==◌, not, filter, vec_capacity, length, [], ◌∷◌, ◌++◌, find, IfOk, OnOk, Ok, option_copied};
 ghost use Rattle.nf_defs.specs.Tables.{rows_of};
 ghost use Rattle.nf_words.specs.Changes.{applied};
 ghost use Rattle.nf_words.specs.History.{failed};
 ghost use Rattle.nf_words.specs.State.{ticket_for, ticket_of};
 ghost use Rattle.nf_words.specs.Step.{stepped_by};
-ghost use Rattle.nf_decide.specs.Current.{BearsAct, FitsAct, FitsTicket};
+ghost use Rattle.nf_decide.specs.Current.{AreGiven, BearsAct, FitsAct, FitsTicket};
 ghost use Rattle.nf_rules.specs.Ruled.{AreRuled};
-ghost use Rattle.nf_decide.specs.Rows.{FitsNode};
+ghost use Rattle.nf_decide.specs.Rows.{FitsNodes};
 
 use crate::tables::Tables;
 use nf_base::{Moment, RowList};
@@ -84,28 +84,37 @@ impl State {
         ticket_of(&self.tickets, seat)
     }
 
-    /// Makes room for one ticket and one node more.
-    pub fn reserve(&mut self) -> Result<(), AllocError>
+    /// Makes room for one ticket more.
+    pub fn reserve_ticket(&mut self) -> Result<(), AllocError>
         ensures ticket { OnOk result (FitsTicket self.new.state self.new.room) }
-        ensures node { OnOk result (FitsNode self.new.state.tables self.new.room.nodes) }
+        ensures nodes { self.new.room.nodes ≡ self.old.room.nodes }
         ensures same { self.new.state ≡ self.old.state }
     {
-        self.tickets.reserve(1)?;
-        self.tables.reserve_node()
+        self.tickets.reserve(1)
     }
 
-    /// Makes room for one node more.
-    pub fn reserve_node(&mut self) -> Result<(), AllocError>
-        ensures node { OnOk result (FitsNode self.new.state.tables self.new.room.nodes) }
+    /// Makes room for so many nodes more.
+    pub fn reserve_nodes(&mut self, count: usize) -> Result<(), AllocError>
+        requires few { length self.old.state.tables.nodes + count ≤ 262144 }
+        ensures nodes { OnOk result (FitsNodes self.new.state.tables self.new.room.nodes count) }
+        ensures tickets { self.new.room.tickets ≡ self.old.room.tickets }
         ensures same { self.new.state ≡ self.old.state }
     {
-        self.tables.reserve_node()
+        self.tables.reserve(count)
+    }
+
+    /// Tells callers that the nodes fit; it does nothing.
+    pub fn keeps_room(&self)
+        ensures { FitsNodes self.now.state.tables self.now.room.nodes 0 }
+    {
+        self.tables.keeps_room();
     }
 
     /// Makes the step of a seat's event that no rule refuses. It takes no memory.
     pub fn change(&mut self, seat: u64, moment: Moment, event: &Event, act: Allowed)
         requires fits { FitsAct self.old.state self.old.room act }
         requires bears { BearsAct self.old.state.tables act }
+        requires given { AreGiven self.old.state.tables }
         ensures { self.new.state ≡ stepped_by self.old.state seat moment event.now (Ok act) }
     {
         self.leave(seat, moment, event);
@@ -115,10 +124,12 @@ impl State {
     fn apply(&mut self, seat: u64, moment: Moment, act: Allowed)
         requires fits { FitsAct self.old.state self.old.room act }
         requires bears { BearsAct self.old.state.tables act }
+        requires given { AreGiven self.old.state.tables }
         ensures { self.new.state ≡ applied self.old.state seat moment act }
     {
         match act {
             Allowed::Get { node: _, content } => self.grant(seat, Goal::Serve(content)),
+            Allowed::List(_) | Allowed::Close => {}
             Allowed::Put {
                 seeker,
                 key,
@@ -138,8 +149,9 @@ impl State {
                 blob,
             } => self.tables.replace(moment, node, content, blob),
             Allowed::Mkcol(row) => self.tables.create(moment, row, None),
-            Allowed::Delete(nodes) => self.tables.remove(moment, &nodes),
-            Allowed::Close => {}
+            Allowed::Delete(node) => self.tables.remove(moment, node),
+            Allowed::Move { transfer, name } => self.tables.transfer(moment, &transfer, name),
+            Allowed::Copy { rows, replaced } => self.tables.join(moment, rows, &replaced),
         }
     }
 

@@ -3,3 +3,5 @@ pub mod Loads
 pub mod Blobs
 pub mod Tables
 pub mod Lookups
+pub mod ByName
+pub mod Walks

@@ -1,5 +1,5 @@
 -- The desk's seat: what it holds is its ticket's, and how its Begins and Ends are answered.
-use Rattle.std.proofs.Common.{◌≡◌, ◌⊎◌, inl, inr, ℕ, ◌+◌, ◌<◌, ◌≤◌, ◌==◌, Bool, true, false, List, [], length, Result, Ok, Err, IsNone, refl, sym, ap, subst, ◌∙◌, arith}
+use Rattle.std.proofs.Common.{◌≡◌, ◌≢◌, ◌⊎◌, inl, inr, ℕ, ◌+◌, ◌<◌, ◌≤◌, ◌==◌, Bool, true, false, List, [], length, Result, Ok, Err, IsNone, refl, sym, ap, subst, ◌∙◌, arith}
 use Rattle.std.specs.Prelude.{Option, None, Some, option_map, OnOk, MatchBool}
 use Rattle.sha2.specs.Sha256.{sha256}
 use Rattle.std.specs.Option.{IfSome}
@@ -10,7 +10,8 @@ use Rattle.nf_defs.specs.Tables.{Tables}
 use Rattle.nf_defs.specs.declared.Seeker.{Seeker}
 use Rattle.nf_words.specs.Actors.{actor_of}
 use Rattle.nf_words.specs.Changes.{reply_to}
-use Rattle.nf_words.specs.Endings.{ends_goal, ends_ticket}
+use Rattle.nf_words.proofs.Steps.{put_grants_nothing}
+use Rattle.nf_words.specs.Endings.{end_refusal, ends_goal, ends_ticket, stored_at as stores_at, unless_refused}
 use Rattle.nf_words.specs.History.{MayAsk, MayBring, MayCome, MayWant, after, answer_at, most_entries}
 use Rattle.nf_words.specs.Sound.{IsSound}
 use Rattle.nf_words.specs.State.{State, ticket_for, ticket_of}
@@ -18,6 +19,8 @@ use Rattle.nf_words.specs.Step.{answer_to, answered_by, blob_to, decision_of}
 use Rattle.nf_words.specs.declared.answer.Allowed.{Allowed}
 use Rattle.nf_words.specs.declared.answer.Allowed.TheVariants as allowed
 use Rattle.nf_words.specs.declared.answer.LockKey.{LockKey}
+use Rattle.nf_words.specs.declared.answer.LockKey.TheVariants.{Node, Slot}
+use Rattle.nf_words.specs.declared.listing.ListingLine.{ListingLine}
 use Rattle.nf_words.specs.declared.answer.Denial.{Denial}
 use Rattle.nf_words.specs.declared.answer.Denial.TheVariants as denial
 use Rattle.nf_words.specs.declared.answer.Goal.{Goal}
@@ -141,12 +144,15 @@ is_made s n now event (Err refusal) is = here (is_unmade_by refusal) refl
 put_short : (t : Tables) (now : ℕ) (who : Option ℕ) (act : Allowed) (by : Seeker) (key : LockKey) (size : ℕ) → Known t now who act
     → reply_to act ≡ reply.Granted (Store by key size) → size ≤ MAX_BODY
 put_short t now who (allowed.Get node content) by key size known is = absurd (cc)
+put_short t now who (allowed.List listing) by key size known is = absurd (cc)
 put_short t now who (allowed.Put other lock length) by key size known is =
     let same : length ≡ size = cc in subst (λ (n : ℕ). n ≤ MAX_BODY) same known.short
 put_short t now who (allowed.StoreNew row blob) by key size known is = absurd (cc)
 put_short t now who (allowed.StoreOver node content blob) by key size known is = absurd (cc)
 put_short t now who (allowed.Mkcol row) by key size known is = absurd (cc)
-put_short t now who (allowed.Delete nodes) by key size known is = absurd (cc)
+put_short t now who (allowed.Delete node) by key size known is = absurd (cc)
+put_short t now who (allowed.Move transfer name) by key size known is = absurd (put_grants_nothing transfer.replaced (Store by key size) is)
+put_short t now who (allowed.Copy rows replaced) by key size known is = absurd (put_grants_nothing replaced (Store by key size) is)
 put_short t now who allowed.Close by key size known is = absurd (cc)
 
 ok_same : (x y : Reply) → ◌≡◌ {A = Answer} (Ok x) (Ok y) → x ≡ y
@@ -165,6 +171,7 @@ of_begin s now words request (Ok (reply.Granted (Store by key size))) sound aske
 of_begin s now words request (Ok (reply.Granted (Serve content))) sound asked is = tt
 of_begin s now words request (Ok reply.Made) sound asked is = tt
 of_begin s now words request (Ok reply.Done) sound asked is = tt
+of_begin s now words request (Ok (reply.Listing lines)) sound asked is = tt
 of_begin s now words request (Ok reply.Closed) sound asked is = absurd (begins_open s seat now words request (sym is))
 of_begin s now words request (Err refusal) sound asked is = tt
 
@@ -247,6 +254,19 @@ body_ticket s body (Some ticket) is may =
     same_ticket : (ticket : Ticket) → ticket.seat ≡ seat → {goal : Goal} → ticket.goal ≡ goal → ticket ≡ ticket_for seat goal
     same_ticket ticket its {goal} is = ap (λ (n : ℕ). ticket_for n ticket.goal) its ∙ ap (ticket_for seat) is
 
+-- what stores a body lists nothing
+stored_lists_nothing : (refusal : Option Denial) (t : Tables) (now : ℕ) (key : LockKey) (digest : List ℕ) (size : ℕ) (lines : List ListingLine)
+    → answered_by (unless_refused refusal (stores_at t now key digest size)) ≢ Ok (reply.Listing lines)
+stored_lists_nothing None t now (Node node) digest size lines = λ is. cc
+stored_lists_nothing None t now (Slot folder name) digest size lines = λ is. cc
+stored_lists_nothing (Some refusal) t now key digest size lines = λ is. cc
+
+body_lists_nothing : (s : State) (now : ℕ) (body : List ℕ) (by : Seeker) (key : LockKey) (size : ℕ) (lines : List ListingLine)
+    → ticket_of s seat ≡ Some (ticket_for seat (Store by key size)) → answer_to s seat now (event_of_body body) ≢ Ok (reply.Listing lines)
+body_lists_nothing s now body by key size lines has =
+    subst (λ (ticket : Option Ticket). answered_by (ends_ticket s.tables now (Body (sha256 body) (length body)) ticket) ≢ Ok (reply.Listing lines))
+    (sym has) (stored_lists_nothing (end_refusal s.tables key (length body)) s.tables now key (sha256 body) (length body) lines)
+
 of_body : (s : State) (now : ℕ) (body : List ℕ) (by : Seeker) (key : LockKey) (size : ℕ) (answer : Answer)
     → ticket_of s seat ≡ Some (ticket_for seat (Store by key size)) → answer ≡ answer_to s seat now (event_of_body body) → IsOfBody answer
 of_body s now body by key size (Ok reply.Made) has is = tt
@@ -255,6 +275,7 @@ of_body s now body by key size (Ok reply.Closed) has is =
     absurd (bodies_open s seat now (sha256 body) (length body) by key size has (sym is))
 of_body s now body by key size (Ok (reply.Granted goal)) has is =
     absurd (ends_grant_nothing s seat now (Body (sha256 body) (length body)) goal (sym is))
+of_body s now body by key size (Ok (reply.Listing lines)) has is = absurd (body_lists_nothing s now body by key size lines has (sym is))
 of_body s now body by key size (Err refusal) has is = tt
 
 marked_of_body : (k : Kept) (now : ℕ) (body : List ℕ) (m : Mark) (answer : Answer)

@@ -1,13 +1,12 @@
 -- The tables with a node more are sound.
-use Rattle.std.proofs.Common.{ℕ, suc, ◌==◌, ◌&&◌, ◌≡◌, ◌<◌, ◌≤◌, Bool, true, false, List, [], ◌∷◌, ◌++◌, Option, None, Some, find, length, option_map, bytes_eq, refl, sym, ap, subst, ◌∙◌, arith, le_refl, length-append}
+use Rattle.std.proofs.Common.{ℕ, suc, ◌==◌, ◌&&◌, ◌≡◌, ◌<◌, ◌≤◌, true, false, List, [], ◌∷◌, ◌++◌, Option, None, Some, length, bytes_eq, refl, sym, ap, subst, ◌∙◌, arith, le_refl, length-append}
 use Rattle.std.specs.List.{All}
 use Rattle.std.specs.Option.{option_and_then, option_map_or, option_or}
 use Rattle.std.proofs.lemmas.Bool.{and_from, both_ways, eq-eqb, eqb-true, ne_eqb}
-use Rattle.std.proofs.lemmas.List.Elements.{All-cons, All-nil, All-push, All-tail, All-head, All-weaker}
+use Rattle.std.proofs.lemmas.List.Elements.{All-push, All-weaker}
 use Rattle.std.proofs.lemmas.List.Folds.{find-append}
 use Rattle.std.proofs.lemmas.List.Quantifiers.{all_pairs_push}
 use Rattle.std.proofs.lemmas.List.Sums.{sum_by_push}
-use Rattle.std.proofs.lemmas.Option.{none-some}
 use Rattle.std.proofs.lemmas.Slice.Eq.{bytes_eq-Decides}
 use Rattle.nf_base.specs.declared.rows.NodeRow.{NodeRow}
 use Rattle.nf_base.specs.declared.rows.Place.{Place}
@@ -17,27 +16,8 @@ use Rattle.nf_defs.specs.Tree.{child_of, climb, folder_of, is_folder, is_in, is_
 use Rattle.nf_words.proofs.Known.{KnownNew}
 use Rattle.nf_words.specs.Changes.{created}
 use Rattle.nf_words.specs.Sound.{AreApart, AreSound, HasRoot, IsNodeSound, IsPlaceSound, root_of_user}
-use Rattle.nf_laws.proofs.Rows.{AreKept, blob_up, body_sound, folder_kept, folder_there, climb_kept, found_is, node_kept, none_above, root_kept, stamp}
+use Rattle.nf_laws.proofs.Rows.{AreKept, blob_up, body_sound, climb_kept, each_fails, finds_none, folder_kept, folder_there, found_is, no_value, node_kept, none_above, root_kept, stamp}
 use Rattle.nf_laws.proofs.Climbs.{depth_is}
-
--- ---- look-ups that find nothing
-
-finds_none : {X : Type 0} (test : X → Bool) (xs : List X) → All (λ x. test x ≡ false) xs → find test xs ≡ None
-finds_none test [] fail = refl
-finds_none test (x ∷ xs) fail = simp (All-head (λ x. test x ≡ false) x xs fail) (finds_none test xs (All-tail (λ x. test x ≡ false) x xs fail))
-
-each_fails : {X : Type 0} (test : X → Bool) (xs : List X) → find test xs ≡ None → All (λ x. test x ≡ false) xs
-each_fails test [] none = All-nil (λ x. test x ≡ false)
-each_fails {X = X} test (x ∷ xs) none = here (test x) refl none (λ none. each_fails test xs none)
-  where
-    here : (a : Bool) → test x ≡ a → find test (x ∷ xs) ≡ None → (find test xs ≡ None → All (λ x. test x ≡ false) xs)
-        → All (λ x. test x ≡ false) (x ∷ xs)
-    here true e none rest = absurd (none-some x (sym (simp e at none)))
-    here false e none rest = All-cons (λ x. test x ≡ false) x xs e (rest (simp e at none))
-
-no_value : {X : Type 0} (f : X → ℕ) (o : Option X) → option_map f o ≡ None → o ≡ None
-no_value f None none = refl
-no_value f (Some x) none = absurd (none-some (f x) (sym none))
 
 -- ---- the rows with one more
 
@@ -66,7 +46,7 @@ new_there rows row less =
     ∙ rw (eq-eqb row.id row.id refl)
 
 -- where the folder has no child of the new row's name, the new row is apart from each
-new_apart : (rows : List NodeRow) (folder : ℕ) (row : NodeRow) → row.place ≡ Inside folder → child_of rows folder row.name ≡ None
+pub new_apart : (rows : List NodeRow) (folder : ℕ) (row : NodeRow) → row.place ≡ Inside folder → child_of rows folder row.name ≡ None
     → All (λ (old : NodeRow). AreApart old row) rows
 new_apart rows folder row inside free =
     All-weaker (λ (old : NodeRow). (is_in folder old && bytes_eq old.name row.name) ≡ false) (λ (old : NodeRow). AreApart old row)

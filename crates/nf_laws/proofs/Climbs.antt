@@ -1,13 +1,12 @@
 -- Rows by their numbers, and the folders that a climb passes.
-use Rattle.std.proofs.Common.{ℕ, suc, zero, ◌==◌, ◌≡◌, ◌<◌, ◌≤◌, Bool, true, false, ◌&&◌, List, [], ◌∷◌, Option, None, Some, filter, map, get_or, refl, sym, ap, ◌∙◌, ⊎_elim, arith}
+use Rattle.std.proofs.Common.{ℕ, suc, zero, ◌+◌, ◌==◌, ◌≡◌, ◌<◌, ◌≤◌, Bool, true, false, List, [], ◌∷◌, Option, None, Some, filter, get_or, refl, sym, ap, ◌∙◌, ⊎_elim, arith}
 use Rattle.std.specs.Prelude.{is_some}
 use Rattle.std.specs.List.{All, AllPairs}
 use Rattle.std.specs.Option.{option_and_then, option_map_or}
-use Rattle.std.proofs.lemmas.Bool.{false≢true, eqb-true, eq-eqb, ne_eqb, and_right, or_cases, or_left, or_right}
+use Rattle.std.proofs.lemmas.Bool.{false≢true, eqb-true, eq-eqb, ne_eqb, or_cases, or_left, or_right}
 use Rattle.std.proofs.lemmas.Option.{none-some, option_and_then_some, same_Some}
 use Rattle.nf_base.specs.declared.rows.NodeRow.{NodeRow}
 use Rattle.nf_defs.specs.Tree.{node_row, folder_of, parent_of, climb, depth, depth_within, is_under, is_under_within}
-use Rattle.nf_words.specs.Changes.{is_among}
 
 -- where the numbers rise, each row is found by its own
 pub node_row_each : (rows : List NodeRow) → AllPairs (λ (a b : NodeRow). a.id < b.id) rows → All (λ (row : NodeRow). node_row rows row.id ≡ Some row) rows
@@ -17,6 +16,17 @@ node_row_each (x ∷ rows) rising (suc k) d within =
     let below : x.id < (get_or rows k d).id = rising 0 (suc k) d (omega arith) within in
     rw (ne_eqb x.id (get_or rows k d).id (λ e. absurd (omega arith)))
     (node_row_each rows (λ i j d before within. rising (suc i) (suc j) d (omega arith) (omega arith)) k d (omega arith))
+
+-- each row's node is there
+pub row_there : (rows : List NodeRow) → All (λ (row : NodeRow). is_some (node_row rows row.id) ≡ true) rows
+row_there [] k d within = absurd (omega arith)
+row_there (x ∷ rows) zero d within = rw (eq-eqb x.id x.id refl)
+row_there (x ∷ rows) (suc k) d within = here (x.id == (get_or rows k d).id) refl (row_there rows k d (omega arith))
+  where
+    here : (a : Bool) → (x.id == (get_or rows k d).id) ≡ a → is_some (node_row rows (get_or rows k d).id) ≡ true
+        → is_some (node_row (x ∷ rows) (get_or rows k d).id) ≡ true
+    here true e rest = simp e
+    here false e rest = simp e rest
 
 -- ---- under, as a climb
 
@@ -71,6 +81,23 @@ climbs_no_further (suc k) (suc i) rows node root top ends whole is =
     here None whole is rest = absurd (none-some root whole)
     here (Some parent) whole is rest = omega (arith, rest parent whole is)
 
+-- so two climbs that end where no folder is above end at one node
+pub ends_same : (i k : ℕ) (rows : List NodeRow) (node a b : ℕ) → parent_of rows a ≡ None → parent_of rows b ≡ None
+    → climb rows i node ≡ Some a → climb rows k node ≡ Some b → a ≡ b
+ends_same i k rows node a b ends_a ends_b to_a to_b =
+    let same : i ≡ k =
+    omega (arith, climbs_no_further i k rows node a b ends_a to_a to_b, climbs_no_further k i rows node b a ends_b to_b to_a) in
+    same_Some a b (sym to_a ∙ ap (λ (n : ℕ). climb rows n node) same ∙ to_b)
+
+-- a climb goes on from where another ends
+pub climb_on : (j k : ℕ) (rows : List NodeRow) (node mid : ℕ) → climb rows j node ≡ Some mid → climb rows (j + k) node ≡ climb rows k mid
+climb_on zero k rows node mid is =
+    let count : 0 + k ≡ k = omega arith in ap (λ (n : ℕ). climb rows n node) count ∙ ap (climb rows k) (same_Some node mid is)
+climb_on (suc j) k rows node mid is =
+    option_and_then_some (climb rows j) (parent_of rows node) mid is (λ parent above is.
+    let count : suc j + k ≡ suc (j + k) = omega arith in
+    ap (λ (n : ℕ). climb rows n node) count ∙ ap (option_and_then (climb rows (j + k))) above ∙ climb_on j k rows parent mid is)
+
 -- a node is as deep as the climb from it to one in no folder is long
 depth_steps : (k m : ℕ) (rows : List NodeRow) (node root : ℕ) → parent_of rows root ≡ None → k ≤ m → climb rows k node ≡ Some root
     → depth_within m rows node ≡ k
@@ -92,21 +119,6 @@ depth_is k rows node root ends few is = depth_steps k 64 rows node root ends few
 abbrev pub those : (ℕ → Bool) → List NodeRow → List NodeRow
 those test rows = filter (λ row. test row.id) rows
 
-pub among_those : (test : ℕ → Bool) (rows : List NodeRow) (node : ℕ)
-    → is_among (map (λ row. row.id) (those test rows)) node ≡ (is_some (node_row rows node) && test node)
-among_those test [] node = refl
-among_those test (x ∷ rows) node = here (test x.id) (x.id == node) refl refl (among_those test rows node)
-  where
-    here : (a b : Bool) → test x.id ≡ a → (x.id == node) ≡ b
-        → is_among (map (λ row. row.id) (those test rows)) node ≡ (is_some (node_row rows node) && test node)
-        → is_among (map (λ row. row.id) (those test (x ∷ rows))) node ≡ (is_some (node_row (x ∷ rows) node) && test node)
-    here true true e f rest = simp (e, f) (cc (ap test (eqb-true x.id node f)))
-    here true false e f rest = simp (e, f) rest
-    here false true e f rest =
-        let fails : test node ≡ false = cc (ap test (eqb-true x.id node f)) in
-        simp (e, f) (rest ∙ and_right (is_some (node_row rows node)) (test node) fails ∙ sym fails)
-    here false false e f rest = simp (e, f) rest
-
 pub row_of_those : (test : ℕ → Bool) (rows : List NodeRow) (node : ℕ) → test node ≡ true → node_row (those test rows) node ≡ node_row rows node
 row_of_those test [] node passes = refl
 row_of_those test (x ∷ rows) node passes = here (test x.id) (x.id == node) refl refl (row_of_those test rows node passes)
@@ -118,19 +130,22 @@ row_of_those test (x ∷ rows) node passes = here (test x.id) (x.id == node) ref
     here false true e f rest = absurd (cc (ap test (eqb-true x.id node f)))
     here false false e f rest = simp (e, f) rest
 
--- a climb stays the same where all that it passes pass the test
+-- where the folder of what passes the test passes it, a climb from there stays the same
 pub climb_those : (test : ℕ → Bool) (rows : List NodeRow)
     → ((node parent : ℕ) → parent_of rows node ≡ Some parent → test node ≡ true → test parent ≡ true)
-    → (k node root : ℕ) → test node ≡ true → climb rows k node ≡ Some root → climb (those test rows) k node ≡ Some root
-climb_those test rows up zero node root passes is = is
-climb_those test rows up (suc k) node root passes is =
-    here (parent_of rows node) refl is (λ parent passes is. climb_those test rows up k parent root passes is)
+    → (k node : ℕ) → test node ≡ true → climb (those test rows) k node ≡ climb rows k node
+climb_those test rows up zero node passes = refl
+climb_those test rows up (suc k) node passes =
+    here (parent_of rows node) refl (λ parent passes. climb_those test rows up k parent passes)
   where
-    here : (o : Option ℕ) → parent_of rows node ≡ o → option_and_then (climb rows k) o ≡ Some root
-        → ((parent : ℕ) → test parent ≡ true → climb rows k parent ≡ Some root → climb (those test rows) k parent ≡ Some root)
-        → climb (those test rows) (suc k) node ≡ Some root
-    here None e is rest = absurd (none-some root is)
-    here (Some parent) e is rest =
-        let same : parent_of (those test rows) node ≡ Some parent =
-        ap (option_and_then (λ row. folder_of row.place)) (row_of_those test rows node passes) ∙ e in
-        rw same (rest parent (up node parent e passes) is)
+    same : parent_of (those test rows) node ≡ parent_of rows node
+    same = ap (option_and_then (λ row. folder_of row.place)) (row_of_those test rows node passes)
+
+    here : (o : Option ℕ) → parent_of rows node ≡ o
+        → ((parent : ℕ) → test parent ≡ true → climb (those test rows) k parent ≡ climb rows k parent)
+        → climb (those test rows) (suc k) node ≡ climb rows (suc k) node
+    here None e rest =
+        ap (option_and_then (climb (those test rows) k)) (same ∙ e) ∙ sym (ap (option_and_then (climb rows k)) e)
+    here (Some parent) e rest =
+        ap (option_and_then (climb (those test rows) k)) (same ∙ e) ∙ rest parent (up node parent e passes)
+        ∙ sym (ap (option_and_then (climb rows k)) e)

@@ -1,5 +1,5 @@
 -- Counters never fall.
-use Rattle.std.proofs.Common.{ℕ, ◌+◌, ◌≤◌, List, [], ◌∷◌, ◌++◌, Option, None, Result, Ok, Err, arith}
+use Rattle.std.proofs.Common.{ℕ, ◌+◌, ◌≤◌, List, [], ◌∷◌, ◌++◌, length, Option, None, Result, Ok, Err, arith}
 use Rattle.nf_base.specs.declared.rows.MetaRow.{MetaRow}
 use Rattle.nf_defs.specs.Tables.{Tables}
 use Rattle.nf_laws.proofs.Rows.{blob_up, stamp, stamped_has}
@@ -35,11 +35,14 @@ stored_up meta now nodes blob up = record {
 
 altered_up : (t : Tables) (now : ℕ) (act : Allowed) → AreHigher t.meta (stamp (altered t now act) now).meta
 altered_up t now (allowed.Get node content) = stamped_up t.meta now
+altered_up t now (allowed.List listing) = stamped_up t.meta now
 altered_up t now (allowed.Put by key length) = stamped_up t.meta now
 altered_up t now (allowed.StoreNew row blob) = stored_up t.meta now (t.meta.next_node + 1) blob (omega arith)
 altered_up t now (allowed.StoreOver node content blob) = stored_up t.meta now t.meta.next_node blob (omega arith)
 altered_up t now (allowed.Mkcol row) = stored_up t.meta now (t.meta.next_node + 1) None (omega arith)
-altered_up t now (allowed.Delete nodes) = stamped_up t.meta now
+altered_up t now (allowed.Delete node) = stamped_up t.meta now
+altered_up t now (allowed.Move transfer name) = stamped_up t.meta now
+altered_up t now (allowed.Copy rows replaced) = stored_up t.meta now (t.meta.next_node + length rows) None (omega arith)
 altered_up t now allowed.Close = stamped_up t.meta now
 
 pub changed_up : (t : Tables) (now : ℕ) (act : Allowed) → AreHigher t.meta (changed t now act).meta

@@ -1,57 +1,119 @@
 -- The tables without what is removed are sound.
-use Rattle.std.proofs.Common.{ℕ, suc, ◌==◌, ◌≡◌, ◌<◌, ◌≤◌, Bool, true, false, not, List, Option, None, Some, length, refl, sym, ap, subst, ◌∙◌, arith}
-use Rattle.std.specs.Prelude.{is_some}
+use Rattle.std.proofs.Common.{ℕ, suc, ◌==◌, ◌≡◌, ◌<◌, ◌≤◌, ◌&&◌, Bool, true, false, not, bytes_eq, find, option_map, List, [], ◌∷◌, Option, None, Some, get_or, length, refl, sym, ap, subst, ◌∙◌, arith}
+use Rattle.std.specs.List.{All, AllPairs}
 use Rattle.std.specs.Option.{option_and_then, option_map_or}
-use Rattle.std.proofs.lemmas.Bool.{both_ways, eqb-true, and_parts, not-true}
-use Rattle.std.proofs.lemmas.List.Elements.{All-weaker, All-filter, filter_passes}
+use Rattle.std.proofs.lemmas.Bool.{and_parts, both_ways, eqb-true, false_from_ne_true, false≢true, not-true}
+use Rattle.std.proofs.lemmas.List.Elements.{All-cons, All-filter, All-nil, All-weaker, filter_passes}
 use Rattle.std.proofs.lemmas.List.Filters.{length-filter_both, sum_by-filter_both}
 use Rattle.std.proofs.lemmas.List.Kept.{AllPairs-filter}
-use Rattle.std.proofs.lemmas.Option.{option_and_then_some, same_Some}
+use Rattle.std.proofs.lemmas.Option.{none-some, option_and_then_some, same_Some}
+use Rattle.std.proofs.lemmas.Slice.Eq.{bytes_eq-Decides}
 use Rattle.nf_base.specs.declared.rows.NodeRow.{NodeRow}
 use Rattle.nf_base.specs.declared.rows.Place.{Place}
 use Rattle.nf_base.specs.declared.rows.Place.TheVariants.{Root, Inside, Trash}
 use Rattle.nf_base.specs.declared.rows.UserRow.{UserRow}
 use Rattle.nf_defs.specs.Tables.{Tables}
-use Rattle.nf_defs.specs.Tree.{node_row, folder_of, parent_of, climb, is_root, is_root_place, is_under, subtree_of}
-use Rattle.nf_words.specs.Changes.{is_among, removed}
-use Rattle.nf_words.specs.Sound.{AreApart, AreSound, HasRoot, IsNodeSound, IsPlaceSound, root_of_user}
-use Rattle.nf_laws.proofs.Climbs.{among_those, climb_those, climb_under, climbs_no_further, node_row_each, row_of_those, under_climb}
-use Rattle.nf_laws.proofs.Rows.{found_is, none_above, pieces_kept, stamp}
+use Rattle.nf_defs.specs.Tree.{child_of, climb, folder_of, is_in, is_root, is_root_place, is_under, node_row, parent_of, piece_count}
+use Rattle.nf_words.proofs.Known.{KnownTransfer, child_parent}
+use Rattle.nf_words.specs.Changes.{cleared, removed}
+use Rattle.nf_words.specs.Sound.{AreApart, AreSound, HasRoot, IsNodeSound, IsPlaceSound}
+use Rattle.nf_words.specs.declared.request.Transfer.{Transfer}
+use Rattle.nf_laws.proofs.Climbs.{climb_those, climb_under, climbs_no_further, node_row_each, row_of_those, those, under_climb}
+use Rattle.nf_laws.proofs.Rows.{finds_none, found_is, pieces_kept, place_in, stamp, stamp_sound}
+use Rattle.nf_laws.proofs.Upwards.{climbs_is_under, inside_no_root, no_ring}
+use Rattle.nf_laws.specs.Transfers.{is_replaced}
+
+-- ---- the tables with the nodes alone whose numbers pass a test
+
+abbrev pub with_those : Tables → (ℕ → Bool) → Tables
+with_those t test = record t { nodes = those test t.nodes }
+
+-- the folder of what passes passes
+abbrev pub IsClosed : List NodeRow → (ℕ → Bool) → Type 0
+IsClosed rows test = (node parent : ℕ) → parent_of rows node ≡ Some parent → test node ≡ true → test parent ≡ true
+
+-- what passes has its place, its climb and its root as before
+place_left : (t : Tables) (test : ℕ → Bool) (row : NodeRow) → IsClosed t.nodes test → node_row t.nodes row.id ≡ Some row → test row.id ≡ true
+    → (place : Place) → row.place ≡ place → IsPlaceSound t row place → IsPlaceSound (with_those t test) row place
+place_left t test row closed there passes Root is h = h
+place_left t test row closed there passes (Inside folder) is h =
+    let above : parent_of t.nodes row.id ≡ Some folder = ap (option_and_then (λ row. folder_of row.place)) there ∙ ap folder_of is in
+    let e = row_of_those test t.nodes folder (closed row.id folder above passes) in
+    (rw e h.0, rw e h.1)
+place_left t test row closed there passes Trash is h = h
+
+node_left : (t : Tables) (test : ℕ → Bool) (row : NodeRow) → IsClosed t.nodes test → node_row t.nodes row.id ≡ Some row → test row.id ≡ true
+    → IsNodeSound t row → IsNodeSound (with_those t test) row
+node_left t test row closed there passes h = record {
+  some = h.some;
+  given = h.given;
+  changed = h.changed;
+  pieces = pieces_kept t (with_those t test) row.content (omega arith) h.pieces;
+  folder = h.folder;
+  place = place_left t test row closed there passes row.place refl h.place;
+  steps = h.steps;
+  shallow = h.shallow;
+  present = climb_those test t.nodes closed h.steps row.id passes ∙ h.present;
+}
+
+root_stays : (t : Tables) (test : ℕ → Bool) (user : UserRow) → test user.root ≡ true → HasRoot t user → HasRoot (with_those t test) user
+root_stays t test user passes root = record {
+  row = root.row;
+  there = row_of_those test t.nodes user.root passes ∙ root.there;
+  place = root.place;
+  folder = root.folder;
+  owner = root.owner;
+  name = root.name;
+}
+
+pub those_sound : (t : Tables) (test : ℕ → Bool) → AreSound t → IsClosed t.nodes test
+    → ((user : UserRow) → HasRoot t user → test user.root ≡ true) → AreSound (with_those t test)
+those_sound t test sound closed roots =
+    let passes : NodeRow → Bool = λ row. test row.id in
+    record {
+      counters = sound.counters;
+      rising = AllPairs-filter (λ a b. a.id < b.id) passes t.nodes sound.rising;
+      nodes = λ k d within. node_left t test _ closed
+          (All-filter passes (λ row. node_row t.nodes row.id ≡ Some row) t.nodes (node_row_each t.nodes sound.rising) k d within)
+          (filter_passes passes t.nodes k d within)
+          (All-filter passes (IsNodeSound t) t.nodes sound.nodes k d within);
+      names = AllPairs-filter AreApart passes t.nodes sound.names;
+      roots = All-weaker (HasRoot t) (HasRoot (with_those t test)) (λ user root. root_stays t test user (roots user root) root) t.users sound.roots;
+      few_nodes = omega (arith, sound.few_nodes, length-filter_both passes (λ row. not (passes row)) (λ row. refl) t.nodes);
+      few_pieces = omega (
+        arith,
+        sound.few_pieces,
+        sum_by-filter_both passes (λ row. not (passes row)) (λ row. refl) (λ row. length row.content) t.nodes,
+      );
+    }
+
+-- ---- the tables without the nodes under a top
 
 -- a node that isn't under the top
-abbrev is_left : List NodeRow → ℕ → ℕ → Bool
-is_left rows top node = not (is_among (subtree_of rows top) node)
+abbrev pub is_left : List NodeRow → ℕ → ℕ → Bool
+is_left rows top node = not (is_under rows node top)
 
-pub gone_is_under : (rows : List NodeRow) (top node : ℕ) → is_among (subtree_of rows top) node ≡ true → is_under rows node top ≡ true
-gone_is_under rows top node is =
-    (and_parts (is_some (node_row rows node)) (is_under rows node top) (sym (among_those (λ n. is_under rows n top) rows node) ∙ is)).1
-
--- the folder of a node that is left is left: a node climbs to its root in 64 steps at most, and so to a top that its folder is under
-folder_left : (t : Tables) (top : ℕ) → AreSound t
-    → (node parent : ℕ) → parent_of t.nodes node ≡ Some parent → is_left t.nodes top node ≡ true → is_left t.nodes top parent ≡ true
-folder_left t top sound node parent above left = here (is_among (subtree_of t.nodes top) parent) refl
+-- the folder of a node that is left is left
+pub folder_left : (t : Tables) (top : ℕ) → AreSound t → IsClosed t.nodes (is_left t.nodes top)
+folder_left t top sound node parent above left = here (is_under t.nodes parent top) refl
   where
-    here : (a : Bool) → is_among (subtree_of t.nodes top) parent ≡ a → not a ≡ true
+    here : (a : Bool) → is_under t.nodes parent top ≡ a → not a ≡ true
     here false e = refl
     here true e =
-        let c = under_climb t.nodes parent top (gone_is_under t.nodes top parent e) in
+        let c = under_climb t.nodes parent top e in
         let further : climb t.nodes (suc c.0) node ≡ Some top = rw above c.2 in
         option_and_then_some (λ row. folder_of row.place) (node_row t.nodes node) parent above (λ row there place.
-        let h = found_is (IsNodeSound t) (λ row. row.id == node) t.nodes row sound.nodes there in
-        let whole = subst (λ (n : ℕ). climb t.nodes h.1.steps n ≡ Some (root_of_user t row.owner)) (eqb-true row.id node h.0) h.1.present in
-        let short = climbs_no_further h.1.steps (suc c.0) t.nodes node (root_of_user t row.owner) top (none_above t row.owner sound) whole further in
-        let under = climb_under (suc c.0) t.nodes node top (omega (arith, h.1.shallow)) further in
-        let among : is_among (subtree_of t.nodes top) node ≡ true = among_those (λ n. is_under t.nodes n top) t.nodes node ∙ rw (there, under) in
-        absurd (both_ways (is_among (subtree_of t.nodes top) node) (not-true (is_among (subtree_of t.nodes top) node) left) among))
+        absurd (both_ways (is_under t.nodes node top) (not-true (is_under t.nodes node top) left)
+        (climbs_is_under (suc c.0) t node top row sound there further)))
 
 -- a root is left, since a top that it is under is that root
 root_left : (t : Tables) (top : ℕ) → is_root t.nodes top ≡ false → (user : UserRow) → HasRoot t user → is_left t.nodes top user.root ≡ true
-root_left t top no_root user root = here (is_among (subtree_of t.nodes top) user.root) refl
+root_left t top no_root user root = here (is_under t.nodes user.root top) refl
   where
-    here : (a : Bool) → is_among (subtree_of t.nodes top) user.root ≡ a → not a ≡ true
+    here : (a : Bool) → is_under t.nodes user.root top ≡ a → not a ≡ true
     here false e = refl
     here true e =
-        let c = under_climb t.nodes user.root top (gone_is_under t.nodes top user.root e) in
+        let c = under_climb t.nodes user.root top e in
         let alone : parent_of t.nodes user.root ≡ None =
         ap (option_and_then (λ row. folder_of row.place)) root.there ∙ ap folder_of root.place in
         let short = climbs_no_further 0 c.0 t.nodes user.root user.root top alone refl c.2 in
@@ -61,68 +123,134 @@ root_left t top no_root user root = here (is_among (subtree_of t.nodes top) user
         ap (λ (o : Option NodeRow). option_map_or (λ row. is_root_place row.place) o false) root.there ∙ ap is_root_place root.place in
         absurd (both_ways (is_root t.nodes top) no_root (subst (λ (n : ℕ). is_root t.nodes n ≡ true) same is))
 
--- ---- the tables without the nodes under the top
+pub left_sound : (t : Tables) (top : ℕ) → AreSound t → is_root t.nodes top ≡ false → AreSound (removed t top)
+left_sound t top sound no_root = those_sound t (is_left t.nodes top) sound (folder_left t top sound) (root_left t top no_root)
 
-abbrev rest : Tables → ℕ → ℕ → Tables
-rest t now top = stamp (removed t (subtree_of t.nodes top)) now
+pub removed_sound : (t : Tables) (now top : ℕ) → AreSound t → t.meta.last ≤ now → is_root t.nodes top ≡ false → AreSound (stamp (removed t top) now)
+removed_sound t now top sound later no_root = stamp_sound (removed t top) now (left_sound t top sound no_root) later
 
--- what is left has its place, its climb and its root as before
-place_left : (t : Tables) (now top : ℕ) (row : NodeRow) → AreSound t → node_row t.nodes row.id ≡ Some row → is_left t.nodes top row.id ≡ true
-    → (place : Place) → row.place ≡ place → IsPlaceSound t row place → IsPlaceSound (rest t now top) row place
-place_left t now top row sound there left Root is h = h
-place_left t now top row sound there left (Inside folder) is h =
-    let above : parent_of t.nodes row.id ≡ Some folder = ap (option_and_then (λ row. folder_of row.place)) there ∙ ap folder_of is in
-    let e = row_of_those (is_left t.nodes top) t.nodes folder (folder_left t top sound row.id folder above left) in
-    (rw e h.0, rw e h.1)
-place_left t now top row sound there left Trash is h = h
+-- ---- the tables without what has to go, if anything has
 
-node_left : (t : Tables) (now top : ℕ) (row : NodeRow) → AreSound t → t.meta.last ≤ now → node_row t.nodes row.id ≡ Some row
-    → is_left t.nodes top row.id ≡ true → IsNodeSound t row → IsNodeSound (rest t now top) row
-node_left t now top row sound before there left h = record {
-  some = h.some;
-  given = h.given;
-  changed = omega (arith, h.changed);
-  pieces = pieces_kept t (rest t now top) row.content (omega arith) h.pieces;
-  folder = h.folder;
-  place = place_left t now top row sound there left row.place refl h.place;
-  steps = h.steps;
-  shallow = h.shallow;
-  present = climb_those (is_left t.nodes top) t.nodes (folder_left t top sound) h.steps row.id (root_of_user t row.owner) left h.present;
-}
+pub cleared_sound : (t : Tables) (replaced : Option ℕ) → AreSound t → option_map_or (is_root t.nodes) replaced false ≡ false
+    → AreSound (record t { nodes = cleared t.nodes replaced })
+cleared_sound t None sound no_root = sound
+cleared_sound t (Some top) sound no_root = left_sound t top sound no_root
 
-root_stays : (t : Tables) (now top : ℕ) → is_root t.nodes top ≡ false → (user : UserRow) → HasRoot t user → HasRoot (rest t now top) user
-root_stays t now top no_root user root = record {
-  row = root.row;
-  there = row_of_those (is_left t.nodes top) t.nodes user.root (root_left t top no_root user root) ∙ root.there;
-  place = root.place;
-  folder = root.folder;
-  owner = root.owner;
-  name = root.name;
-}
+-- a node that hasn't to go has its row as before
+pub row_cleared : (rows : List NodeRow) (replaced : Option ℕ) (node : ℕ) → is_replaced rows replaced node ≡ false
+    → node_row (cleared rows replaced) node ≡ node_row rows node
+row_cleared rows None node stays = refl
+row_cleared rows (Some top) node stays = row_of_those (is_left rows top) rows node (ap not stays)
 
-rest_sound : (t : Tables) (now top : ℕ) → AreSound t → t.meta.last ≤ now → is_root t.nodes top ≡ false → AreSound (rest t now top)
-rest_sound t now top sound before no_root =
-    let test : NodeRow → Bool = λ row. is_left t.nodes top row.id in
-    record {
-      counters = record {
-        users = sound.counters.users;
-        groups = sound.counters.groups;
-        nodes = sound.counters.nodes;
-        shares = sound.counters.shares;
-        blobs = sound.counters.blobs;
-      };
-      rising = AllPairs-filter (λ a b. a.id < b.id) test t.nodes sound.rising;
-      nodes = λ k d within. node_left t now top _ sound before
-          (All-filter test (λ row. node_row t.nodes row.id ≡ Some row) t.nodes (node_row_each t.nodes sound.rising) k d within)
-          (filter_passes test t.nodes k d within)
-          (All-filter test (IsNodeSound t) t.nodes sound.nodes k d within);
-      names = AllPairs-filter AreApart test t.nodes sound.names;
-      roots = All-weaker (HasRoot t) (HasRoot (rest t now top)) (root_stays t now top no_root) t.users sound.roots;
-      few_nodes = omega (arith, sound.few_nodes, length-filter_both test (λ row. not (test row)) (λ row. refl) t.nodes);
-      few_pieces = omega (arith, sound.few_pieces, sum_by-filter_both test (λ row. not (test row)) (λ row. refl) (λ row. length row.content) t.nodes);
-    }
+-- one that has to go has none
+pub row_gone : (rows : List NodeRow) (replaced : Option ℕ) (node : ℕ) → is_replaced rows replaced node ≡ true
+    → node_row (cleared rows replaced) node ≡ None
+row_gone rows None node goes = absurd (false≢true goes)
+row_gone rows (Some top) node goes = here (node_row (cleared rows (Some top)) node) refl
+  where
+    here : (o : Option NodeRow) → node_row (cleared rows (Some top)) node ≡ o → o ≡ None
+    here None e = refl
+    here (Some row) e =
+        let h = found_is (λ (row : NodeRow). is_left rows top row.id ≡ true) (λ row. row.id == node) (cleared rows (Some top)) row
+        (filter_passes (λ row. is_left rows top row.id) rows) e in
+        let left = subst (λ (n : ℕ). is_left rows top n ≡ true) (eqb-true row.id node h.0) h.1 in
+        absurd (both_ways (is_under rows node top) (not-true (is_under rows node top) left) goes)
 
-pub removed_sound : (t : Tables) (now top : ℕ) (nodes : List ℕ) → AreSound t → t.meta.last ≤ now → nodes ≡ subtree_of t.nodes top
-    → is_root t.nodes top ≡ false → AreSound (stamp (removed t nodes) now)
-removed_sound t now top nodes sound before below no_root =
-    subst (λ (ns : List ℕ). AreSound (stamp (removed t ns) now)) (sym below) (rest_sound t now top sound before no_root)
+-- a node that is there hasn't to go, and was there
+pub kept_cleared : (rows : List NodeRow) (replaced : Option ℕ) (node : ℕ) (row : NodeRow) → node_row (cleared rows replaced) node ≡ Some row
+    → (is_replaced rows replaced node ≡ false) × (node_row rows node ≡ Some row)
+kept_cleared rows replaced node row there = here (is_replaced rows replaced node) refl
+  where
+    here : (a : Bool) → is_replaced rows replaced node ≡ a → (is_replaced rows replaced node ≡ false) × (node_row rows node ≡ Some row)
+    here true e = absurd (none-some row (sym (row_gone rows replaced node e) ∙ there))
+    here false e = (e, sym (row_cleared rows replaced node e) ∙ there)
+
+-- it climbs as before
+pub climb_cleared : (t : Tables) (replaced : Option ℕ) (k node : ℕ) → AreSound t → is_replaced t.nodes replaced node ≡ false
+    → climb (cleared t.nodes replaced) k node ≡ climb t.nodes k node
+climb_cleared t None k node sound stays = refl
+climb_cleared t (Some top) k node sound stays =
+    climb_those (is_left t.nodes top) t.nodes (folder_left t top sound) k node (ap not stays)
+
+-- the number of nodes and of their pieces doesn't grow
+pub counts_cleared : (rows : List NodeRow) (replaced : Option ℕ)
+    → (length (cleared rows replaced) ≤ length rows) × (piece_count (cleared rows replaced) ≤ piece_count rows)
+counts_cleared rows None = (omega arith, omega arith)
+counts_cleared rows (Some top) =
+    let passes : NodeRow → Bool = λ row. is_left rows top row.id in (
+      omega (arith, length-filter_both passes (λ row. not (passes row)) (λ row. refl) rows),
+      omega (arith, sum_by-filter_both passes (λ row. not (passes row)) (λ row. refl) (λ row. length row.content) rows),
+    )
+
+-- what all rows have, all that stay have
+pub all_cleared : (P : NodeRow → Type 0) (rows : List NodeRow) (replaced : Option ℕ) → All P rows → All P (cleared rows replaced)
+all_cleared P rows None all = all
+all_cleared P rows (Some top) all = All-filter (λ row. is_left rows top row.id) P rows all
+
+-- ---- what something is put at
+
+-- where of any two rows not both pass, each that passes is the one that is found
+only_one : {X : Type 0} (test : X → Bool) (xs : List X) (found : X) → AllPairs (λ (a b : X). test a ≡ true → test b ≡ true → ⊥) xs
+    → find test xs ≡ Some found → All (λ (x : X). test x ≡ true → x ≡ found) xs
+only_one test [] found apart is = All-nil (λ x. test x ≡ true → x ≡ found)
+only_one {X = X} test (x ∷ xs) found apart is =
+    here (test x) refl is (λ is. only_one test xs found (λ i j d before within. apart (suc i) (suc j) d (omega arith) (omega arith)) is)
+  where
+    P : X → Type 0
+    P y = test y ≡ true → y ≡ found
+
+    here : (a : Bool) → test x ≡ a → find test (x ∷ xs) ≡ Some found → (find test xs ≡ Some found → All P xs) → All P (x ∷ xs)
+    here true e is rest =
+        All-cons P x xs (λ passes. same_Some x found (simp e at is))
+        (λ k d within passes. absurd (apart 0 (suc k) d (omega arith) (omega arith) e passes))
+    here false e is rest = All-cons P x xs (λ passes. absurd (both_ways (test x) e passes)) (rest (simp e at is))
+
+-- where the folder's child of the name has to go, the name is free then
+pub free_cleared : (t : Tables) (replaced : Option ℕ) (folder : ℕ) (name : List ℕ) → AreSound t → child_of t.nodes folder name ≡ replaced
+    → child_of (cleared t.nodes replaced) folder name ≡ None
+free_cleared t None folder name sound is = is
+free_cleared t (Some top) folder name sound is = here (find test t.nodes) refl is
+  where
+    test : NodeRow → Bool
+    test row = is_in folder row && bytes_eq row.name name
+
+    apart : AllPairs (λ (a b : NodeRow). test a ≡ true → test b ≡ true → ⊥) t.nodes
+    apart i j d before within first second =
+        let a : NodeRow = get_or t.nodes i d in
+        let b : NodeRow = get_or t.nodes j d in
+        let in_a = and_parts (is_in folder a) (bytes_eq a.name name) first in
+        let in_b = and_parts (is_in folder b) (bytes_eq b.name name) second in
+        sound.names i j d before within folder (place_in folder a.place in_a.0) (place_in folder b.place in_b.0)
+        ((bytes_eq-Decides a.name name).0 in_a.1 ∙ sym ((bytes_eq-Decides b.name name).0 in_b.1))
+
+    here : (o : Option NodeRow) → find test t.nodes ≡ o → option_map (λ row. row.id) o ≡ Some top
+        → child_of (cleared t.nodes (Some top)) folder name ≡ None
+    here None e is = absurd (none-some top is)
+    here (Some found) e is =
+        let passes : NodeRow → Bool = λ row. is_left t.nodes top row.id in
+        let one = All-filter passes (λ (row : NodeRow). test row ≡ true → row ≡ found) t.nodes (only_one test t.nodes found apart e) in
+        ap (option_map (λ row. row.id)) (finds_none test (cleared t.nodes (Some top)) (λ k d within.
+        let row : NodeRow = get_or (cleared t.nodes (Some top)) k d in
+        false_from_ne_true (test row) (λ is_child.
+        let id : row.id ≡ top = ap (λ (r : NodeRow). r.id) (one k d within is_child) ∙ same_Some found.id top is in
+        both_ways (is_under t.nodes row.id top) (not-true (is_under t.nodes row.id top) (filter_passes passes t.nodes k d within))
+        (climb_under 0 t.nodes row.id top (omega arith) (ap Some id)))))
+
+-- what is there is no root, as it is in a folder
+pub replaced_no_root : (t : Tables) (replaced : Option ℕ) (folder : ℕ) (name : List ℕ) → AreSound t → child_of t.nodes folder name ≡ replaced
+    → option_map_or (is_root t.nodes) replaced false ≡ false
+replaced_no_root t None folder name sound is = refl
+replaced_no_root t (Some top) folder name sound is =
+    inside_no_root t.nodes top folder (child_parent t.nodes folder name top sound.rising is)
+
+-- and its folder hasn't to go
+pub folder_stays : (t : Tables) (replaced : Option ℕ) (folder : ℕ) (name : List ℕ) → AreSound t → child_of t.nodes folder name ≡ replaced
+    → is_replaced t.nodes replaced folder ≡ false
+folder_stays t None folder name sound is = refl
+folder_stays t (Some top) folder name sound is = no_ring t top folder sound (child_parent t.nodes folder name top sound.rising is)
+
+-- so the tables that something is moved or copied in are sound
+pub clearing_sound : (t : Tables) (who : Option ℕ) (transfer : Transfer) (name : List ℕ) → AreSound t → KnownTransfer t who transfer name
+    → AreSound (record t { nodes = cleared t.nodes transfer.replaced })
+clearing_sound t who transfer name sound known =
+    cleared_sound t transfer.replaced sound (replaced_no_root t transfer.replaced transfer.folder name sound known.there)

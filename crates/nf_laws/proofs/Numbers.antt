@@ -1,22 +1,24 @@
 -- A node that wasn't there has a number that wasn't given.
-use Rattle.std.proofs.Common.{ℕ, ◌+◌, ◌≡◌, ◌⊎◌, ◌≤◌, true, not, List, [], ◌∷◌, Option, None, inl, inr, ap, arith, le_refl}
+use Rattle.std.proofs.Common.{ℕ, ◌+◌, ◌≡◌, ◌⊎◌, ◌≤◌, true, List, [], ◌∷◌, Option, None, Some, inl, inr, refl, ap, arith, le_refl}
 use Rattle.std.specs.Prelude.{is_some}
 use Rattle.std.specs.List.{All}
-use Rattle.std.proofs.lemmas.List.Elements.{All-filter, All-push, All-weaker}
+use Rattle.std.proofs.lemmas.List.Elements.{All-append, All-push, All-weaker}
 use Rattle.nf_base.specs.declared.rows.NodeRow.{NodeRow}
 use Rattle.nf_defs.specs.Tables.{Tables}
-use Rattle.nf_defs.specs.Tree.{node_row}
+use Rattle.nf_defs.specs.Tree.{filled, node_row, relinked}
+use Rattle.nf_laws.proofs.Climbs.{row_there}
 use Rattle.nf_laws.proofs.Counters.{after_up}
 use Rattle.nf_laws.proofs.Entries.{after_has}
-use Rattle.nf_laws.proofs.Replaced.{numbers_kept}
+use Rattle.nf_laws.proofs.Gone.{all_cleared}
+use Rattle.nf_laws.proofs.OneRow.{numbers_with}
+use Rattle.nf_laws.proofs.Owned.{copies_new}
 use Rattle.nf_laws.proofs.Rows.{stamped_has}
 use Rattle.nf_laws.proofs.Stays.{sound_after}
-use Rattle.nf_laws.proofs.Words.{row_there}
 use Rattle.nf_laws.specs.Numbers.{NumbersAreNew}
 use Rattle.nf_words.proofs.Known.{Known, KnownNew}
-use Rattle.nf_words.specs.Changes.{altered, changed, is_among, told}
+use Rattle.nf_words.specs.Changes.{altered, changed, cleared, told}
 use Rattle.nf_words.specs.History.{IsLegalFrom, after, replay}
-use Rattle.nf_words.specs.Sound.{IsSound}
+use Rattle.nf_words.specs.Sound.{AreSound, IsSound}
 use Rattle.nf_words.specs.State.{State}
 use Rattle.nf_words.specs.declared.answer.Allowed.{Allowed}
 use Rattle.nf_words.specs.declared.answer.Allowed.TheVariants as allowed
@@ -34,23 +36,36 @@ new_number : (first t : Tables) (now : ℕ) (row : NodeRow) (blob : Option ℕ) 
 new_number first t now row blob later known =
     let id : row.id ≡ t.meta.next_node = ap (λ (r : NodeRow). r.id) known.is_new in inr (omega arith)
 
-numbers_changed : (first t : Tables) (now : ℕ) (who : Option ℕ) (act : Allowed) → first.meta.next_node ≤ t.meta.next_node
+numbers_changed : (first t : Tables) (now : ℕ) (who : Option ℕ) (act : Allowed) → AreSound t → first.meta.next_node ≤ t.meta.next_node
     → AreOldOrNew first t → Known t now who act → AreOldOrNew first (changed t now act)
-numbers_changed first t now who (allowed.Get node content) later all known = all
-numbers_changed first t now who (allowed.Put by key length) later all known = all
-numbers_changed first t now who (allowed.StoreNew row blob) later all known =
+numbers_changed first t now who (allowed.Get node content) sound later all known = all
+numbers_changed first t now who (allowed.List listing) sound later all known = all
+numbers_changed first t now who (allowed.Put by key length) sound later all known = all
+numbers_changed first t now who (allowed.StoreNew row blob) sound later all known =
     All-push (λ (row : NodeRow). IsOldOrNew first row.id) t.nodes row all (new_number first t now row blob later known.new)
-numbers_changed first t now who (allowed.StoreOver node content blob) later all known =
+numbers_changed first t now who (allowed.StoreOver node content blob) sound later all known =
     let act = allowed.StoreOver node content blob in
     stamped_has (AreOldOrNew first) t (altered t now act) now (told t now act) all
-    (numbers_kept (IsOldOrNew first) t.nodes now node content all)
-numbers_changed first t now who (allowed.Mkcol row) later all known =
+    (numbers_with (IsOldOrNew first) t.nodes node (filled content now) (λ row. refl) all)
+numbers_changed first t now who (allowed.Mkcol row) sound later all known =
     All-push (λ (row : NodeRow). IsOldOrNew first row.id) t.nodes row all (new_number first t now row None later known.new)
-numbers_changed first t now who (allowed.Delete nodes) later all known =
-    let act = allowed.Delete nodes in
+numbers_changed first t now who (allowed.Delete node) sound later all known =
+    let act = allowed.Delete node in
     stamped_has (AreOldOrNew first) t (altered t now act) now (told t now act) all
-    (All-filter (λ row. not (is_among nodes row.id)) (λ (row : NodeRow). IsOldOrNew first row.id) t.nodes all)
-numbers_changed first t now who allowed.Close later all known = all
+    (all_cleared (λ (row : NodeRow). IsOldOrNew first row.id) t.nodes (Some node) all)
+numbers_changed first t now who (allowed.Move transfer name) sound later all known =
+    let act = allowed.Move transfer name in
+    stamped_has (AreOldOrNew first) t (altered t now act) now (told t now act) all
+    (numbers_with (IsOldOrNew first) (cleared t.nodes transfer.replaced) transfer.node (relinked transfer.folder name) (λ row. refl)
+    (all_cleared (λ (row : NodeRow). IsOldOrNew first row.id) t.nodes transfer.replaced all))
+numbers_changed first t now who (allowed.Copy rows replaced) sound later all known =
+    let act = allowed.Copy rows replaced in
+    stamped_has (AreOldOrNew first) t (altered t now act) now (told t now act) all
+    (All-append (λ (row : NodeRow). IsOldOrNew first row.id) (cleared t.nodes replaced) rows
+    (all_cleared (λ (row : NodeRow). IsOldOrNew first row.id) t.nodes replaced all)
+    (All-weaker (λ (row : NodeRow). t.meta.next_node ≤ row.id) (λ (row : NodeRow). IsOldOrNew first row.id)
+    (λ row new. inr (omega (arith, later, new))) rows (copies_new t now who rows replaced sound known)))
+numbers_changed first t now who allowed.Close sound later all known = all
 
 numbers_stay : (first : Tables) (n : ℕ) (s : State) (es : List Entry) → IsSound s → IsLegalFrom n s es
     → first.meta.next_node ≤ s.tables.meta.next_node → AreOldOrNew first s.tables → AreOldOrNew first (replay s es).tables
@@ -58,7 +73,7 @@ numbers_stay first n s [] sound legal later all = all
 numbers_stay first n s (e ∷ es) sound legal later all =
     numbers_stay first (n + 1) (after s e) es (sound_after n s e sound legal.0) legal.1
     (omega (arith, later, (after_up s e e.mark).nodes))
-    (after_has (AreOldOrNew first) n s e sound legal.0 all (λ act known. numbers_changed first s.tables e.moment _ act later all known))
+    (after_has (AreOldOrNew first) n s e sound legal.0 all (λ act known. numbers_changed first s.tables e.moment _ act sound.rows later all known))
 
 pub numbers_new : NumbersAreNew
 numbers_new n s es sound legal =

@@ -1,19 +1,24 @@
 -- Who owns a node that is there owned it before.
-use Rattle.std.proofs.Common.{ℕ, ◌==◌, ◌≡◌, ◌<◌, Bool, true, false, not, List, [], ◌∷◌, Option, None, Some, option_map, if◌then◌else◌, refl, sym, ap, subst, ◌∙◌, arith}
+use Rattle.std.proofs.Common.{ℕ, ◌==◌, ◌≡◌, ◌<◌, ◌≤◌, Bool, true, false, List, [], ◌∷◌, Option, None, Some, option_map, if◌then◌else◌, refl, sym, ap, subst, ◌∙◌, arith}
+use Rattle.std.specs.Prelude.{is_some}
+use Rattle.std.specs.List.{All}
 use Rattle.std.specs.Option.{option_or}
 use Rattle.std.proofs.lemmas.Bool.{eqb-true}
-use Rattle.std.proofs.lemmas.List.Elements.{filter_passes}
 use Rattle.std.proofs.lemmas.List.Folds.{find-append}
 use Rattle.std.proofs.lemmas.Option.{none-some, same_Some}
-use Rattle.nf_base.specs.declared.content.Piece.{Piece}
 use Rattle.nf_base.specs.declared.rows.NodeRow.{NodeRow}
 use Rattle.nf_defs.specs.Tables.{Tables}
-use Rattle.nf_defs.specs.Tree.{node_row}
-use Rattle.nf_laws.proofs.Climbs.{row_of_those, those}
-use Rattle.nf_laws.proofs.Replaced.{brought, row_replaced}
-use Rattle.nf_laws.proofs.Rows.{found_is, stamp, stamped_has}
-use Rattle.nf_words.proofs.Known.{Known, KnownNew}
-use Rattle.nf_words.specs.Changes.{altered, changed, created, is_among, told, with_content}
+use Rattle.nf_defs.specs.declared.Found.TheVariants.{At}
+use Rattle.nf_defs.specs.Tree.{filled, node_row, relinked, with_node}
+use Rattle.nf_laws.proofs.Copied.{copies_numbered, old_joined}
+use Rattle.nf_laws.proofs.Gone.{kept_cleared}
+use Rattle.nf_laws.proofs.Mirrored.{mirrored}
+use Rattle.nf_laws.proofs.OneRow.{KeepsId, row_with}
+use Rattle.nf_laws.proofs.Paths.{path_own}
+use Rattle.nf_laws.proofs.Rows.{stamp, stamped_has}
+use Rattle.nf_laws.specs.Transfers.{Mirrors}
+use Rattle.nf_words.proofs.Known.{Known, KnownCopies, KnownNew}
+use Rattle.nf_words.specs.Changes.{altered, changed, cleared, created, joined, told}
 use Rattle.nf_words.specs.Sound.{AreSound}
 use Rattle.nf_words.specs.declared.answer.Allowed.{Allowed}
 use Rattle.nf_words.specs.declared.answer.Allowed.TheVariants as allowed
@@ -38,46 +43,80 @@ new_owners t now new blob known node row given there =
     here None false e f is = absurd (none-some row (simp f at is))
     here (Some old) a e f is = (old, e, ap (λ (r : NodeRow). r.owner) (same_Some row old (sym is)))
 
-over_owners : (t made : Tables) (now node : ℕ) (content : List Piece) → made.nodes ≡ with_content t.nodes now node content → KeepsOwners t made
-over_owners t made now node content nodes other row given there = here (other == node) (node_row t.nodes other) refl refl found
+with_owners : (t made : Tables) (node : ℕ) (change : NodeRow → NodeRow) → KeepsId change → ((row : NodeRow) → (change row).owner ≡ row.owner)
+    → made.nodes ≡ with_node t.nodes node change → KeepsOwners t made
+with_owners t made node change keeps owner nodes other row given there = here (other == node) (node_row t.nodes other) refl refl found
   where
-    found : (if other == node then option_map (brought now content) (node_row t.nodes other) else node_row t.nodes other) ≡ Some row
-    found = sym (row_replaced t.nodes now node content other) ∙ subst (λ (rows : List NodeRow). node_row rows other ≡ Some row) nodes there
+    found : (if other == node then option_map change (node_row t.nodes other) else node_row t.nodes other) ≡ Some row
+    found = sym (row_with t.nodes node change keeps other) ∙ subst (λ (rows : List NodeRow). node_row rows other ≡ Some row) nodes there
 
     here : (a : Bool) (o : Option NodeRow) → (other == node) ≡ a → node_row t.nodes other ≡ o
-        → (if a then option_map (brought now content) o else o) ≡ Some row → WasOf t.nodes other row
+        → (if a then option_map change o else o) ≡ Some row → WasOf t.nodes other row
     here true None e f is = absurd (none-some row is)
-    here true (Some old) e f is = (old, f, ap (λ (r : NodeRow). r.owner) (same_Some row (brought now content old) (sym is)))
+    here true (Some old) e f is = (old, f, ap (λ (r : NodeRow). r.owner) (same_Some row (change old) (sym is)) ∙ owner old)
     here false None e f is = absurd (none-some row is)
     here false (Some old) e f is = (old, f, ap (λ (r : NodeRow). r.owner) (same_Some row old (sym is)))
 
-gone_owners : (t made : Tables) (test : ℕ → Bool) → made.nodes ≡ those test t.nodes → KeepsOwners t made
-gone_owners t made test nodes node row given there =
-    (row, sym (row_of_those test t.nodes node passes) ∙ found, refl)
-  where
-    found : node_row (those test t.nodes) node ≡ Some row
-    found = subst (λ (rows : List NodeRow). node_row rows node ≡ Some row) nodes there
+abbrev clearing : Tables → Option ℕ → Tables
+clearing t replaced = record t { nodes = cleared t.nodes replaced }
 
-    passes : test node ≡ true
-    passes =
-        let h = found_is (λ (row : NodeRow). test row.id ≡ true) (λ row. row.id == node) (those test t.nodes) row
-        (filter_passes (λ row. test row.id) t.nodes) found in
-        subst (λ (n : ℕ). test n ≡ true) (eqb-true row.id node h.0) h.1
+cleared_owners : (t : Tables) (replaced : Option ℕ) → KeepsOwners t (clearing t replaced)
+cleared_owners t replaced node row given there = (row, (kept_cleared t.nodes replaced node row there).1, refl)
+
+-- where what is left keeps its owners, all does
+then_owners : (t made : Tables) (replaced : Option ℕ) → KeepsOwners (clearing t replaced) made → KeepsOwners t made
+then_owners t made replaced keeps node row given there =
+    let h = keeps node row given there in
+    let old = cleared_owners t replaced node h.0 given h.1 in (old.0, old.1, h.2 ∙ old.2)
+
+-- ---- copies
+
+pub copies_mirror : (t : Tables) (now : ℕ) (who : Option ℕ) (rows : List NodeRow) (replaced : Option ℕ) → AreSound t
+    → (known : KnownCopies t now who rows replaced) → Mirrors t now known.transfer known.name rows
+copies_mirror t now who rows replaced sound known =
+    let of = path_own t who (At known.transfer.node) known.transfer.node sound known.known.source refl in
+    subst (λ (rows : List NodeRow). Mirrors t now known.transfer known.name rows) (sym known.copies)
+    (mirrored t now known.transfer known.name sound (ap is_some of.there))
+
+-- a copy's number wasn't given before
+pub copies_new : (t : Tables) (now : ℕ) (who : Option ℕ) (rows : List NodeRow) (replaced : Option ℕ) → AreSound t
+    → KnownCopies t now who rows replaced → All (λ (copy : NodeRow). t.meta.next_node ≤ copy.id) rows
+copies_new t now who rows replaced sound known k d within =
+    (copies_numbered t now known.transfer known.name rows (copies_mirror t now who rows replaced sound known) k d within).0
+
+copied_owners : (t : Tables) (now : ℕ) (who : Option ℕ) (rows : List NodeRow) (replaced : Option ℕ) → AreSound t
+    → KnownCopies t now who rows replaced → KeepsOwners t (joined t rows replaced)
+copied_owners t now who rows replaced sound known node row given there =
+    let same = old_joined t now known.transfer known.name rows (copies_mirror t now who rows replaced sound known)
+    (cleared t.nodes replaced) node given in
+    cleared_owners t replaced node row given (sym same ∙ there)
+
+-- ---- every act
 
 all_owners : (t : Tables) → KeepsOwners t t
 all_owners t node row given there = (row, there, refl)
 
 pub owners_kept : (t : Tables) (now : ℕ) (who : Option ℕ) (act : Allowed) → AreSound t → Known t now who act → KeepsOwners t (changed t now act)
 owners_kept t now who (allowed.Get node content) sound known = all_owners t
+owners_kept t now who (allowed.List listing) sound known = all_owners t
 owners_kept t now who (allowed.Put by key length) sound known = all_owners t
 owners_kept t now who (allowed.StoreNew row blob) sound known = new_owners t now row blob known.new
 owners_kept t now who (allowed.StoreOver node content blob) sound known =
     let act = allowed.StoreOver node content blob in
     stamped_has (KeepsOwners t) t (altered t now act) now (told t now act) (all_owners t)
-    (over_owners t (stamp (altered t now act) now) now node content refl)
+    (with_owners t (stamp (altered t now act) now) node (filled content now) (λ row. refl) (λ row. refl) refl)
 owners_kept t now who (allowed.Mkcol row) sound known = new_owners t now row None known.new
-owners_kept t now who (allowed.Delete nodes) sound known =
-    let act = allowed.Delete nodes in
+owners_kept t now who (allowed.Delete node) sound known =
+    let act = allowed.Delete node in
+    stamped_has (KeepsOwners t) t (altered t now act) now (told t now act) (all_owners t) (cleared_owners t (Some node))
+owners_kept t now who (allowed.Move transfer name) sound known =
+    let act = allowed.Move transfer name in
+    let made = stamp (altered t now act) now in
     stamped_has (KeepsOwners t) t (altered t now act) now (told t now act) (all_owners t)
-    (gone_owners t (stamp (altered t now act) now) (λ node. not (is_among nodes node)) refl)
+    (then_owners t made transfer.replaced
+    (with_owners (clearing t transfer.replaced) made transfer.node (relinked transfer.folder name) (λ row. refl) (λ row. refl) refl))
+owners_kept t now who (allowed.Copy rows replaced) sound known =
+    let act = allowed.Copy rows replaced in
+    stamped_has (KeepsOwners t) t (altered t now act) now (told t now act) (all_owners t)
+    (copied_owners t now who rows replaced sound known)
 owners_kept t now who allowed.Close sound known = all_owners t

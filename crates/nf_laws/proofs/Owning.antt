@@ -1,119 +1,306 @@
 -- What is served or changed is its caller's own.
-use Rattle.std.proofs.Common.{ℕ, suc, zero, ◌==◌, ◌≡◌, ◌≢◌, ◌++◌, Bool, true, false, not, List, [], ◌∷◌, Option, None, Some, Result, Ok, Err, filter, option_map, get_or, refl, sym, ap, subst, ◌∙◌}
-use Rattle.std.specs.List.{All}
+use Rattle.std.proofs.Common.{ℕ, suc, zero, ◌==◌, ◌≡◌, ◌≢◌, ◌++◌, Bool, true, false, not, if◌then◌else◌, List, [], ◌∷◌, length, Option, None, Some, Result, Ok, Err, filter, map, option_map, get_or, refl, sym, ap, subst, ◌∙◌}
+use Rattle.std.specs.Prelude.{IsSome, is_some}
+use Rattle.std.specs.List.{All, filter_map}
 use Rattle.std.specs.Option.{option_and_then, option_map_or}
-use Rattle.std.proofs.lemmas.Bool.{eq-eqb, eqb-true, not-false}
+use Rattle.std.proofs.lemmas.Bool.{eq-eqb, eqb-true, false≢true, not-false}
 use Rattle.std.proofs.lemmas.List.{append-nil}
-use Rattle.std.proofs.lemmas.List.Elements.{All-head, All-tail, filter-append}
+use Rattle.std.proofs.lemmas.List.Elements.{All-cons, All-filter, All-head, All-map, All-nil, All-tail, filter-append}
 use Rattle.std.proofs.lemmas.Option.{option_and_then_some, same_Some}
 use Rattle.nf_base.specs.declared.content.Piece.{Piece}
 use Rattle.nf_base.specs.declared.rows.NodeRow.{NodeRow}
+use Rattle.nf_base.specs.declared.rows.UserRow.{UserRow}
+use Rattle.nf_defs.proofs.ByName.{All-by_name}
+use Rattle.nf_defs.specs.People.{user_row}
 use Rattle.nf_defs.specs.Tables.{Tables}
-use Rattle.nf_defs.specs.Tree.{climb, content_of, folder_of, node_row, owner_of, parent_of, subtree_of}
+use Rattle.nf_defs.specs.Tree.{Leads, by_name, children_of, climb, content_of, filled, folder_of, found_from, is_folder, is_folder_kind, is_in, is_under, node_row, owner_of, parent_of, relinked, with_node}
 use Rattle.nf_defs.specs.declared.Found.{Found}
 use Rattle.nf_defs.specs.declared.Found.TheVariants.{At, Free, Missing}
 use Rattle.nf_laws.proofs.Climbs.{node_row_each, under_climb}
+use Rattle.nf_laws.proofs.Copied.{copies_owned}
 use Rattle.nf_laws.proofs.Entries.{after_has}
-use Rattle.nf_laws.proofs.Gone.{gone_is_under}
+use Rattle.nf_laws.proofs.Gone.{row_cleared}
+use Rattle.nf_laws.proofs.Mirrored.{mirrored}
 use Rattle.nf_laws.proofs.Rows.{child_folder, child_owner, folder_there, found_is, inside_folder, stamped_has}
-use Rattle.nf_laws.proofs.Paths.{IsOf, found_leads, path_own}
-use Rattle.nf_laws.specs.Owners.{ChangesOnlyOwn, ChangesOwn, ServesOwn, nodes_of_others}
-use Rattle.nf_words.proofs.Known.{Known, KnownGone, KnownNew, call_known, call_passes, found_passes}
+use Rattle.nf_laws.proofs.Paths.{IsFor, IsOf, found_leads, path_own}
+use Rattle.nf_laws.specs.Owners.{ChangesOnlyOwn, ChangesOwn, ListsAll, ListsOwn, ServesOwn, nodes_of_others}
+use Rattle.nf_words.proofs.Known.{Known, KnownCopies, KnownNew, KnownPath, KnownTransfer, call_known, call_passes, child_parent, found_passes, target_place}
 use Rattle.nf_words.specs.Actors.{actor_of}
-use Rattle.nf_words.specs.Calls.{asker_of, found, last_name, root_of, source_of, target_of, user_of}
-use Rattle.nf_words.specs.Changes.{altered, changed, deleted, given, is_among, made_folder, served, stored, told, with_content}
+use Rattle.nf_words.specs.Calls.{Call, asker_of, found, last_name, root_of, source_of, target_of, user_of}
+use Rattle.nf_words.specs.Changes.{altered, changed, cleared, copied, deleted, given, made_folder, moved, reply_by, served, stored, told}
+use Rattle.nf_words.specs.Copies.{copies_to}
+use Rattle.nf_words.specs.Listing.{line_of, listing_of}
 use Rattle.nf_defs.specs.declared.Seeker.{Seeker}
 use Rattle.nf_defs.specs.declared.Seeker.TheVariants as seeker
-use Rattle.nf_words.specs.Places.{node_found}
+use Rattle.nf_words.specs.Places.{node_found, transfer_of}
 use Rattle.nf_words.specs.Sound.{AreSound, IsNodeSound}
 use Rattle.nf_words.specs.Step.{answered_by, call_of, call_decision}
 use Rattle.nf_words.specs.declared.answer.Allowed.{Allowed}
 use Rattle.nf_words.specs.declared.answer.Allowed.TheVariants as allowed
 use Rattle.nf_words.specs.declared.answer.Denial.{Denial}
+use Rattle.nf_words.specs.declared.answer.Goal.{Goal}
 use Rattle.nf_words.specs.declared.answer.Goal.TheVariants.{Serve}
-use Rattle.nf_words.specs.declared.answer.Reply.TheVariants.{Granted}
+use Rattle.nf_words.specs.declared.answer.Reply.{Reply}
+use Rattle.nf_words.specs.declared.answer.Reply.TheVariants.{Granted, Listing}
+use Rattle.nf_words.specs.declared.listing.ListingLine.{ListingLine}
+use Rattle.nf_words.specs.declared.request.Transfer.{Transfer}
 use Rattle.nf_words.specs.declared.request.Places.{Places}
 use Rattle.nf_words.specs.declared.request.Spot.{Spot}
 use Rattle.nf_words.specs.declared.request.Wanted.{Wanted}
-use Rattle.nf_words.specs.declared.request.Wanted.TheVariants.{Get, Put, Mkcol, Delete}
+use Rattle.nf_words.specs.declared.request.Wanted.TheVariants.{Get, Put, Mkcol, Delete, Move, Copy}
 
 -- ---- what is served
+
+same_reply : (x y : Reply) → ◌≡◌ {A = Result Reply Denial} (Ok x) (Ok y) → x ≡ y
+same_reply x y e = cc
+
+-- what is put at a place is answered nothing else
+grants_none : (replaced : Option ℕ) (goal : Goal) → reply_by replaced ≢ Granted goal
+grants_none None goal = λ is. cc
+grants_none (Some node) goal = λ is. cc
+
+lists_none : (replaced : Option ℕ) (listing : List ListingLine) → reply_by replaced ≢ Listing listing
+lists_none None listing = λ is. cc
+lists_none (Some node) listing = λ is. cc
 
 -- only a GET is granted a content to send
 got : (decision : Result Allowed Denial) (content : List Piece) → answered_by decision ≡ Ok (Granted (Serve content))
     → (node : ℕ) × (decision ≡ Ok (allowed.Get node content))
 got (Ok (allowed.Get node other)) content is = (node, cc)
+got (Ok (allowed.List listing)) content is = absurd (cc)
 got (Ok (allowed.Put by key length)) content is = absurd (cc)
 got (Ok (allowed.StoreNew row blob)) content is = absurd (cc)
 got (Ok (allowed.StoreOver node other blob)) content is = absurd (cc)
 got (Ok (allowed.Mkcol row)) content is = absurd (cc)
-got (Ok (allowed.Delete nodes)) content is = absurd (cc)
+got (Ok (allowed.Delete node)) content is = absurd (cc)
+got (Ok (allowed.Move transfer name)) content is = absurd (grants_none transfer.replaced (Serve content) (same_reply _ _ is))
+got (Ok (allowed.Copy rows replaced)) content is = absurd (grants_none replaced (Serve content) (same_reply _ _ is))
 got (Ok allowed.Close) content is = absurd (cc)
 got (Err refusal) content is = absurd (cc)
 
--- an act that isn't a GET's gives no content
-no_put : (who : Seeker) (name : List ℕ) (length : ℕ) (place : Option Found) (node : ℕ) (content : List Piece)
-    → stored who name length place ≢ allowed.Get node content
-no_put who name length None node content = λ is. cc
-no_put who name length (Some (At other)) node content = λ is. cc
-no_put who name length (Some (Free folder)) node content = λ is. cc
-no_put who name length (Some (Missing depth)) node content = λ is. cc
+-- only a GET is answered a listing
+got_listing : (decision : Result Allowed Denial) (listing : List ListingLine) → answered_by decision ≡ Ok (Listing listing)
+    → decision ≡ Ok (allowed.List listing)
+got_listing (Ok (allowed.Get node content)) listing is = absurd (cc)
+got_listing (Ok (allowed.List other)) listing is = cc
+got_listing (Ok (allowed.Put by key length)) listing is = absurd (cc)
+got_listing (Ok (allowed.StoreNew row blob)) listing is = absurd (cc)
+got_listing (Ok (allowed.StoreOver node other blob)) listing is = absurd (cc)
+got_listing (Ok (allowed.Mkcol row)) listing is = absurd (cc)
+got_listing (Ok (allowed.Delete node)) listing is = absurd (cc)
+got_listing (Ok (allowed.Move transfer name)) listing is = absurd (lists_none transfer.replaced listing (same_reply _ _ is))
+got_listing (Ok (allowed.Copy rows replaced)) listing is = absurd (lists_none replaced listing (same_reply _ _ is))
+got_listing (Ok allowed.Close) listing is = absurd (cc)
+got_listing (Err refusal) listing is = absurd (cc)
 
-no_folder : (t : Tables) (now : ℕ) (name : List ℕ) (place : Option Found) (node : ℕ) (content : List Piece)
-    → made_folder t now name place ≢ allowed.Get node content
-no_folder t now name None node content = λ is. cc
-no_folder t now name (Some (At other)) node content = λ is. cc
-no_folder t now name (Some (Free folder)) node content = λ is. cc
-no_folder t now name (Some (Missing depth)) node content = λ is. cc
+-- ---- only a GET shows something
 
-no_deletion : (t : Tables) (place : Option ℕ) (node : ℕ) (content : List Piece) → deleted t place ≢ allowed.Get node content
-no_deletion t None node content = λ is. cc
-no_deletion t (Some other) node content = λ is. cc
+abbrev is_shown : Allowed → Bool
+is_shown (allowed.Get node content) = true
+is_shown (allowed.List listing) = true
+is_shown other = false
+
+no_put : (who : Seeker) (name : List ℕ) (length : ℕ) (place : Option Found) → is_shown (stored who name length place) ≡ false
+no_put who name length None = refl
+no_put who name length (Some (At node)) = refl
+no_put who name length (Some (Free folder)) = refl
+no_put who name length (Some (Missing depth)) = refl
+
+no_folder : (t : Tables) (now : ℕ) (name : List ℕ) (place : Option Found) → is_shown (made_folder t now name place) ≡ false
+no_folder t now name None = refl
+no_folder t now name (Some (At node)) = refl
+no_folder t now name (Some (Free folder)) = refl
+no_folder t now name (Some (Missing depth)) = refl
+
+no_deletion : (node : Option ℕ) → is_shown (deleted node) ≡ false
+no_deletion None = refl
+no_deletion (Some node) = refl
+
+no_move : (name : List ℕ) (transfer : Option Transfer) → is_shown (moved name transfer) ≡ false
+no_move name None = refl
+no_move name (Some transfer) = refl
+
+no_copy : (t : Tables) (now : ℕ) (name : List ℕ) (transfer : Option Transfer) → is_shown (copied t now name transfer) ≡ false
+no_copy t now name None = refl
+no_copy t now name (Some transfer) = refl
 
 -- a GET gives that of the node at its place
 get_at : (t : Tables) (place : Found) (node : ℕ) (content : List Piece) → served t (node_found place) ≡ allowed.Get node content
     → (place ≡ At node) × (content ≡ content_of t.nodes node)
-get_at t (At other) node content is =
-    let same : other ≡ node = cc in
-    let sent : content_of t.nodes other ≡ content = cc in (ap At same, sym sent ∙ ap (content_of t.nodes) same)
+get_at t (At other) node content is = here (is_folder t.nodes other) is
+  where
+    here : (folder : Bool) → (if folder then allowed.List (listing_of t other) else allowed.Get other (content_of t.nodes other)) ≡ allowed.Get node content
+        → (At other ≡ At node) × (content ≡ content_of t.nodes node)
+    here true is = absurd (cc)
+    here false is =
+        let same : other ≡ node = cc in
+        let sent : content_of t.nodes other ≡ content = cc in (ap At same, sym sent ∙ ap (content_of t.nodes) same)
 get_at t (Free folder) node content is = absurd (cc)
 get_at t (Missing depth) node content is = absurd (cc)
+
+-- or lists the folder that is there
+list_at : (t : Tables) (place : Found) (listing : List ListingLine) → served t (node_found place) ≡ allowed.List listing
+    → (folder : ℕ) × (place ≡ At folder) × (is_folder t.nodes folder ≡ true) × (listing ≡ listing_of t folder)
+list_at t (At other) listing is = here (is_folder t.nodes other) refl is
+  where
+    here : (folder : Bool) → is_folder t.nodes other ≡ folder
+        → (if folder then allowed.List (listing_of t other) else allowed.Get other (content_of t.nodes other)) ≡ allowed.List listing
+        → (folder : ℕ) × (At other ≡ At folder) × (is_folder t.nodes folder ≡ true) × (listing ≡ listing_of t folder)
+    here true e is = let same : listing_of t other ≡ listing = cc in (other, refl, e, sym same)
+    here false e is = absurd (cc)
+list_at t (Free folder) listing is = absurd (cc)
+list_at t (Missing depth) listing is = absurd (cc)
 
 abbrev places_for : Wanted → (Spot → Found) → Places
 places_for wanted leads = record { source = option_map leads (source_of wanted); target = option_map leads (target_of wanted) }
 
--- the place of a GET leads to the node whose content is sent
-asked_get : (t : Tables) (now user : ℕ) (wanted : Wanted) (leads : Spot → Found) (node : ℕ) (content : List Piece)
-    → given t now user wanted (places_for wanted leads) ≡ allowed.Get node content
-    → (spot : Spot) × (wanted ≡ Get spot) × (leads spot ≡ At node) × (content ≡ content_of t.nodes node)
-asked_get t now user (Get spot) leads node content is =
-    let h = get_at t (leads spot) node content is in (spot, refl, h.0, h.1)
-asked_get t now user (Put spot length) leads node content is =
-    absurd (no_put (seeker.User user) (last_name spot) length (Some (leads spot)) node content is)
-asked_get t now user (Mkcol spot) leads node content is = absurd (no_folder t now (last_name spot) (Some (leads spot)) node content is)
-asked_get t now user (Delete spot) leads node content is = absurd (no_deletion t (node_found (leads spot)) node content is)
+-- what is shown is asked for by a GET, whose place leads there
+asked : (t : Tables) (now user : ℕ) (wanted : Wanted) (leads : Spot → Found) (act : Allowed)
+    → given t now user wanted (places_for wanted leads) ≡ act → is_shown act ≡ true
+    → (spot : Spot) × (wanted ≡ Get spot) × (served t (node_found (leads spot)) ≡ act)
+asked t now user (Get spot) leads act is shown = (spot, refl, is)
+asked t now user (Put spot length) leads act is shown =
+    absurd (false≢true (sym (no_put (seeker.User user) (last_name spot) length (Some (leads spot))) ∙ ap is_shown is ∙ shown))
+asked t now user (Mkcol spot) leads act is shown =
+    absurd (false≢true (sym (no_folder t now (last_name spot) (Some (leads spot))) ∙ ap is_shown is ∙ shown))
+asked t now user (Delete spot) leads act is shown =
+    absurd (false≢true (sym (no_deletion (node_found (leads spot))) ∙ ap is_shown is ∙ shown))
+asked t now user (Move source target overwrite) leads act is shown =
+    let places = places_for (Move source target overwrite) leads in
+    absurd (false≢true (sym (no_move (last_name target) (transfer_of t.nodes places)) ∙ ap is_shown is ∙ shown))
+asked t now user (Copy source target overwrite) leads act is shown =
+    let places = places_for (Copy source target overwrite) leads in
+    absurd (false≢true (sym (no_copy t now (last_name target) (transfer_of t.nodes places)) ∙ ap is_shown is ∙ shown))
+
+-- a node of the caller's to which a path leads from the caller's root
+record IsOfCaller (call : Call) (spot : Spot) (node : ℕ) : Type 0 where
+  user : ℕ
+  caller : user_of call ≡ Some user
+  row : NodeRow
+  id : row.id ≡ node
+  there : node_row call.state.tables.nodes row.id ≡ Some row
+  led : Leads call.state.tables.nodes (root_of call) spot.path row.id
+  own : row.owner ≡ user
+
+of_caller : (call : Call) (spot : Spot) (node : ℕ) → AreSound call.state.tables → KnownPath call.state.tables (user_of call) (At node)
+    → found call spot ≡ At node → IsOfCaller call spot node
+of_caller call spot node sound path leads =
+    let t = call.state.tables in
+    let own = path_own t (user_of call) (At node) node sound path refl in
+    let id : own.row.id ≡ node = eqb-true own.row.id node (found_passes (λ (row : NodeRow). row.id == node) t.nodes own.row own.there) in
+    record {
+      user = path.row.id;
+      caller = path.caller;
+      row = own.row;
+      id = id;
+      there = subst (λ (n : ℕ). node_row t.nodes n ≡ Some own.row) (sym id) own.there;
+      led = found_leads t (root_of call) spot.path own.row.id sound (leads ∙ ap At (sym id));
+      own = own.owner;
+    }
 
 pub serves_own : ServesOwn
 serves_own s seat now words request content sound may is =
     let call = call_of s seat now words request in
-    let t = s.tables in
     let get = got (call_decision call) content is in
     let act = allowed.Get get.0 content in
-    let known = call_known call act may get.1 in
-    let asked = asked_get t now (asker_of call) request.wanted (found call) get.0 content (call_passes call act get.1).1 in
-    let own = path_own t (user_of call) (At get.0) get.0 sound.rows known.path refl in
-    let id : own.row.id ≡ get.0 = eqb-true own.row.id get.0 (found_passes (λ (row : NodeRow). row.id == get.0) t.nodes own.row own.there) in
+    let known = call_known call act sound may get.1 in
+    let spot = asked s.tables now (asker_of call) request.wanted (found call) act (call_passes call act get.1).1 refl in
+    let at = get_at s.tables (found call spot.0) get.0 content spot.2 in
+    let mine = of_caller call spot.0 get.0 sound.rows known.path at.0 in
     record {
-      spot = asked.0;
-      asked = asked.1;
-      user = known.path.row.id;
-      caller = known.path.caller;
-      row = own.row;
-      there = subst (λ (n : ℕ). node_row t.nodes n ≡ Some own.row) (sym id) own.there;
-      led = found_leads t (root_of call) asked.0.path own.row.id sound.rows (asked.2 ∙ ap At (sym id));
-      own = own.owner;
-      sent = sym (ap (λ (o : Option NodeRow). option_map_or (λ row. row.content) o []) own.there) ∙ sym asked.3;
+      spot = spot.0;
+      asked = spot.1;
+      user = mine.user;
+      caller = mine.caller;
+      row = mine.row;
+      there = mine.there;
+      led = mine.led;
+      own = mine.own;
+      sent = sym (ap (λ (o : Option NodeRow). option_map_or (λ row. row.content) o []) mine.there)
+          ∙ ap (content_of s.tables.nodes) mine.id ∙ sym at.1;
     }
+
+pub lists_own : ListsOwn
+lists_own s seat now words request listing sound may is =
+    let call = call_of s seat now words request in
+    let act = allowed.List listing in
+    let decides = got_listing (call_decision call) listing is in
+    let known = call_known call act sound may decides in
+    let spot = asked s.tables now (asker_of call) request.wanted (found call) act (call_passes call act decides).1 refl in
+    let at = list_at s.tables (found call spot.0) listing spot.2 in
+    let caller : KnownPath s.tables (user_of call) (At known.folder) = known.path in
+    let root : root_of call ≡ caller.row.root =
+    ap (λ (who : Option ℕ). option_map_or (λ row. row.root) (option_and_then (user_row s.tables.users) who) 0) caller.caller
+    ∙ ap (λ (row : Option UserRow). option_map_or (λ row. row.root) row 0) caller.there in
+    let path : KnownPath s.tables (user_of call) (At at.0) = record {
+      row = caller.row;
+      caller = caller.caller;
+      there = caller.there;
+      names = spot.0.path;
+      leads = subst (λ (n : ℕ). found_from s.tables.nodes 0 n spot.0.path ≡ At at.0) root at.1;
+    } in
+    let mine = of_caller call spot.0 at.0 sound.rows path at.1 in
+    record {
+      spot = spot.0;
+      asked = spot.1;
+      user = mine.user;
+      caller = mine.caller;
+      row = mine.row;
+      there = mine.there;
+      folder = sym (ap (λ (o : Option NodeRow). option_map_or (λ row. is_folder_kind row.kind) o false) mine.there)
+          ∙ ap (is_folder s.tables.nodes) mine.id ∙ at.2;
+      led = mine.led;
+      own = mine.own;
+      listed = at.3 ∙ ap (listing_of s.tables) (sym mine.id);
+    }
+
+-- ---- each node in a folder has a line
+
+has_owner : (t : Tables) → All (λ (row : NodeRow). IsSome (user_row t.users row.owner)) t.nodes → (node : ℕ)
+    → is_some (node_row t.nodes node) ≡ true → (line : ListingLine) × (option_and_then (line_of t) (node_row t.nodes node) ≡ Some line) × (line.id ≡ node)
+has_owner t owners node there = of_row (node_row t.nodes node) refl there
+  where
+    of_user : (row : NodeRow) (user : Option UserRow) → user_row t.users row.owner ≡ user → IsSome user → row.id ≡ node
+        → (line : ListingLine) × (line_of t row ≡ Some line) × (line.id ≡ node)
+    of_user row None e some id = absurd (cc some)
+    of_user row (Some user) e some id = (_, ap (option_map _) e, id)
+
+    of_row : (o : Option NodeRow) → node_row t.nodes node ≡ o → is_some o ≡ true
+        → (line : ListingLine) × (option_and_then (line_of t) o ≡ Some line) × (line.id ≡ node)
+    of_row None e some = absurd (cc some)
+    of_row (Some row) e some =
+        let h = found_is (λ (row : NodeRow). IsSome (user_row t.users row.owner)) (λ row. row.id == node) t.nodes row owners e in
+        of_user row (user_row t.users row.owner) refl h.1 (eqb-true row.id node h.0)
+
+lines_of : (t : Tables) → All (λ (row : NodeRow). IsSome (user_row t.users row.owner)) t.nodes → (nodes : List ℕ)
+    → All (λ (node : ℕ). is_some (node_row t.nodes node) ≡ true) nodes
+    → map (λ line. line.id) (filter_map (λ node. option_and_then (line_of t) (node_row t.nodes node)) nodes) ≡ nodes
+lines_of t owners [] there = refl
+lines_of t owners (node ∷ nodes) there =
+    let h = has_owner t owners node (All-head (λ (node : ℕ). is_some (node_row t.nodes node) ≡ true) node nodes there) in
+    let rest = lines_of t owners nodes (All-tail (λ (node : ℕ). is_some (node_row t.nodes node) ≡ true) node nodes there) in
+    rw h.1 (cc (h.2, rest))
+
+-- each row is found by its number
+found_each : (rows others : List NodeRow) → ((node : ℕ) → is_some (node_row others node) ≡ true → is_some (node_row rows node) ≡ true)
+    → All (λ (row : NodeRow). is_some (node_row rows row.id) ≡ true) others
+found_each rows [] among = All-nil (λ (row : NodeRow). is_some (node_row rows row.id) ≡ true)
+found_each rows (x ∷ others) among =
+    All-cons (λ (row : NodeRow). is_some (node_row rows row.id) ≡ true) x others (among x.id (simp (eq-eqb x.id x.id refl)))
+    (found_each rows others (λ node there. among node (here (x.id == node) node refl there)))
+  where
+    here : (a : Bool) (node : ℕ) → (x.id == node) ≡ a → is_some (node_row others node) ≡ true → is_some (node_row (x ∷ others) node) ≡ true
+    here true node e there = simp e
+    here false node e there = simp e there
+
+children_there : (rows : List NodeRow) (folder : ℕ) → All (λ (node : ℕ). is_some (node_row rows node) ≡ true) (children_of rows folder)
+children_there rows folder =
+    let found = λ (row : NodeRow). is_some (node_row rows row.id) ≡ true in
+    All-map (λ (node : ℕ). is_some (node_row rows node) ≡ true) (λ (row : NodeRow). row.id) (by_name (filter (is_in folder) rows))
+    (All-by_name found (filter (is_in folder) rows) (All-filter (is_in folder) found rows (found_each rows rows (λ node there. there))))
+
+pub lists_all : ListsAll
+lists_all t folder owners = lines_of t owners (children_of t.nodes folder) (children_there t.nodes folder)
 
 -- ---- what is changed
 
@@ -131,26 +318,29 @@ new_own : (t : Tables) (now : ℕ) (who : Option ℕ) (user : ℕ) (row : NodeRo
 new_own t now who user row blob known is owner =
     filter-append (is_of_other who) t.nodes (row ∷ []) ∙ simp (own_row who user row is owner, append-nil)
 
--- the rows that differ are of who acts, so those of others are the same
-others_over : (who : Option ℕ) (rows : List NodeRow) (now node : ℕ) (content : List Piece)
+-- a row that differs is of who acts and keeps its owner, so the rows of others are the same
+others_over : (who : Option ℕ) (rows : List NodeRow) (node : ℕ) (change : NodeRow → NodeRow)
+    → ((row : NodeRow) → (change row).owner ≡ row.owner)
     → ((row : NodeRow) → node_row rows node ≡ Some row → is_of_other who row ≡ false)
-    → nodes_of_others who (with_content rows now node content) ≡ nodes_of_others who rows
-others_over who [] now node content own = refl
-others_over who (x ∷ rows) now node content own =
-    here (x.id == node) (is_of_other who x) refl refl own (λ own. others_over who rows now node content own)
+    → nodes_of_others who (with_node rows node change) ≡ nodes_of_others who rows
+others_over who [] node change keeps own = refl
+others_over who (x ∷ rows) node change keeps own =
+    here (x.id == node) (is_of_other who x) refl refl own (λ own. others_over who rows node change keeps own)
   where
     here : (a b : Bool) → (x.id == node) ≡ a → is_of_other who x ≡ b
         → ((row : NodeRow) → node_row (x ∷ rows) node ≡ Some row → is_of_other who row ≡ false)
         → (((row : NodeRow) → node_row rows node ≡ Some row → is_of_other who row ≡ false)
-        → nodes_of_others who (with_content rows now node content) ≡ nodes_of_others who rows)
-        → nodes_of_others who (with_content (x ∷ rows) now node content) ≡ nodes_of_others who (x ∷ rows)
+        → nodes_of_others who (with_node rows node change) ≡ nodes_of_others who rows)
+        → nodes_of_others who (with_node (x ∷ rows) node change) ≡ nodes_of_others who (x ∷ rows)
     here true b e f own rest =
         let mine : is_of_other who x ≡ false = own x (simp e) in
-        simp (e, mine)
+        let still : is_of_other who (change x) ≡ false =
+        ap (λ (owner : ℕ). not (option_map_or (λ user. owner == user) who false)) (keeps x) ∙ mine in
+        simp (e, mine, still)
     here false true e f own rest = simp (e, f) (ap (λ (rows : List NodeRow). x ∷ rows) (rest (λ row is. own row (simp e is))))
     here false false e f own rest = simp (e, f) (rest (λ row is. own row (simp e is)))
 
-others_left : (p q : NodeRow → Bool) (rows : List NodeRow) → All (λ (row : NodeRow). q row ≡ false → p row ≡ false) rows
+pub others_left : (p q : NodeRow → Bool) (rows : List NodeRow) → All (λ (row : NodeRow). q row ≡ false → p row ≡ false) rows
     → filter p (filter q rows) ≡ filter p rows
 others_left p q [] own = refl
 others_left p q (x ∷ rows) own =
@@ -180,19 +370,74 @@ climb_own (suc j) t user node top row sound is of there =
     ∙ ap (λ (o : Option NodeRow). option_map_or (λ row. row.owner) o 0) folder.1
     ∙ climb_own j t user parent top folder.0 sound is of folder.1)
 
-gone_own : (t : Tables) (who : Option ℕ) (nodes : List ℕ) → AreSound t → KnownGone t who nodes
-    → All (λ (row : NodeRow). not (is_among nodes row.id) ≡ false → is_of_other who row ≡ false) t.nodes
-gone_own t who nodes sound gone k d within gone_is =
+-- all under a node of who acts are of who acts
+under_own : (t : Tables) (who : Option ℕ) (top : ℕ) → AreSound t → KnownPath t who (At top)
+    → All (λ (row : NodeRow). not (is_under t.nodes row.id top) ≡ false → is_of_other who row ≡ false) t.nodes
+under_own t who top sound path k d within gone =
     let row : NodeRow = get_or t.nodes k d in
-    let among : is_among (subtree_of t.nodes gone.top) row.id ≡ true =
-    subst (λ (ns : List ℕ). is_among ns row.id ≡ true) gone.below (not-false (is_among nodes row.id) gone_is) in
-    let c = under_climb t.nodes row.id gone.top (gone_is_under t.nodes gone.top row.id among) in
-    own_row who gone.path.row.id row gone.path.caller
-    (climb_own c.0 t gone.path.row.id row.id gone.top row sound c.2 (path_own t who (At gone.top) gone.top sound gone.path refl)
+    let c = under_climb t.nodes row.id top (not-false (is_under t.nodes row.id top) gone) in
+    own_row who path.row.id row path.caller
+    (climb_own c.0 t path.row.id row.id top row sound c.2 (path_own t who (At top) top sound path refl)
     (node_row_each t.nodes sound.rising k d within))
+
+-- so what has to go is
+cleared_others : (t : Tables) (who : Option ℕ) (replaced : Option ℕ) (folder : ℕ) → AreSound t
+    → KnownPath t who (option_map_or At replaced (Free folder)) → nodes_of_others who (cleared t.nodes replaced) ≡ nodes_of_others who t.nodes
+cleared_others t who None folder sound path = refl
+cleared_others t who (Some top) folder sound path =
+    others_left (is_of_other who) (λ row. not (is_under t.nodes row.id top)) t.nodes (under_own t who top sound path)
+
+-- the folder of the new place is of who acts
+pub folder_own : (t : Tables) (who : Option ℕ) (transfer : Transfer) (name : List ℕ) → AreSound t → (known : KnownTransfer t who transfer name)
+    → owner_of t.nodes transfer.folder ≡ known.target.row.id
+folder_own t who transfer name sound known = here transfer.replaced refl
+  where
+    here : (replaced : Option ℕ) → transfer.replaced ≡ replaced → owner_of t.nodes transfer.folder ≡ known.target.row.id
+    here None e =
+        let free : target_place transfer ≡ Free transfer.folder = rw e refl in
+        let own = is_own_at (target_place transfer) transfer.folder known.target (subst (λ (place : Found). IsFor place transfer.folder) (sym free) refl) in
+        ap (λ (o : Option NodeRow). option_map_or (λ row. row.owner) o 0) own.there ∙ own.owner
+      where
+        is_own_at : (place : Found) (node : ℕ) (path : KnownPath t who place) → IsFor place node → IsOf t path.row.id node
+        is_own_at place node path is = path_own t who place node sound path is
+    here (Some top) e =
+        let at : target_place transfer ≡ At top = rw e refl in
+        let own = path_own t who (target_place transfer) top sound known.target (subst (λ (place : Found). IsFor place top) (sym at) refl) in
+        let above : parent_of t.nodes top ≡ Some transfer.folder = child_parent t.nodes transfer.folder name top sound.rising (known.there ∙ e) in
+        let place : folder_of own.row.place ≡ Some transfer.folder = sym (ap (option_and_then (λ row. folder_of row.place)) own.there) ∙ above in
+        let h = (found_is (IsNodeSound t) (λ row. row.id == top) t.nodes own.row sound.nodes own.there).1 in
+        child_owner t own.row own.row.place transfer.folder h.place (inside_folder own.row.place transfer.folder place) ∙ own.owner
+
+abbrev IsOwnedBy : ℕ → NodeRow → Type 0
+IsOwnedBy owner row = row.owner ≡ owner
+
+-- rows of who acts are no rows of others
+none_of_others : (who : Option ℕ) (user : ℕ) (rows : List NodeRow) → who ≡ Some user → All (IsOwnedBy user) rows
+    → nodes_of_others who rows ≡ []
+none_of_others who user [] is own = refl
+none_of_others who user (row ∷ rows) is own =
+    let mine = own_row who user row is (All-head (IsOwnedBy user) row rows own) in
+    simp mine (none_of_others who user rows is (All-tail (IsOwnedBy user) row rows own))
+
+copied_others : (t : Tables) (now : ℕ) (who : Option ℕ) (rows : List NodeRow) (replaced : Option ℕ) → AreSound t → KnownCopies t now who rows replaced
+    → nodes_of_others who (cleared t.nodes replaced ++ rows) ≡ nodes_of_others who t.nodes
+copied_others t now who rows replaced sound known =
+    let transfer = known.transfer in
+    let own = path_own t who (At transfer.node) transfer.node sound known.known.source refl in
+    let mirrors = mirrored t now transfer known.name sound (ap is_some own.there) in
+    let owned = subst (λ (owner : ℕ). All (IsOwnedBy owner) (copies_to t now transfer known.name))
+    (folder_own t who transfer known.name sound known.known) (copies_owned t now transfer known.name (copies_to t now transfer known.name) mirrors) in
+    let mine = subst (λ (rows : List NodeRow). All (IsOwnedBy known.known.target.row.id) rows) (sym known.copies) owned in
+    let none = none_of_others who known.known.target.row.id rows known.known.target.caller mine in
+    let rest = cleared_others t who transfer.replaced transfer.folder sound known.known.target in
+    filter-append (is_of_other who) (cleared t.nodes replaced) rows
+    ∙ ap (λ (others : List NodeRow). nodes_of_others who (cleared t.nodes replaced) ++ others) none
+    ∙ append-nil _
+    ∙ ap (λ (replaced : Option ℕ). nodes_of_others who (cleared t.nodes replaced)) known.replaced_is ∙ rest
 
 act_changes : (t : Tables) (now : ℕ) (who : Option ℕ) (act : Allowed) → AreSound t → Known t now who act → ChangesOwn t (changed t now act) who
 act_changes t now who (allowed.Get node content) sound known = unchanged t who
+act_changes t now who (allowed.List listing) sound known = unchanged t who
 act_changes t now who (allowed.Put by key length) sound known = unchanged t who
 act_changes t now who (allowed.StoreNew row blob) sound known =
     let new = known.new in
@@ -207,7 +452,7 @@ act_changes t now who (allowed.StoreOver node content blob) sound known =
     let act = allowed.StoreOver node content blob in
     stamped_has (λ (made : Tables). ChangesOwn t made who) t (altered t now act) now (told t now act) (unchanged t who)
     (record {
-      others = others_over who t.nodes now node content
+      others = others_over who t.nodes node (filled content now) (λ row. refl)
           (λ row there. own_row who known.own.user row known.own.holder (known.own.own.owner row there));
       rest = refl;
     })
@@ -220,13 +465,29 @@ act_changes t now who (allowed.Mkcol row) sound known =
       others = new_own t now who known.path.row.id row None new known.path.caller (owner ∙ same ∙ own.owner);
       rest = refl;
     }
-act_changes t now who (allowed.Delete nodes) sound known =
-    let act = allowed.Delete nodes in
+act_changes t now who (allowed.Delete node) sound known =
+    let act = allowed.Delete node in
     stamped_has (λ (made : Tables). ChangesOwn t made who) t (altered t now act) now (told t now act) (unchanged t who)
     (record {
-      others = others_left (is_of_other who) (λ row. not (is_among nodes row.id)) t.nodes (gone_own t who nodes sound known);
+      others = others_left (is_of_other who) (λ row. not (is_under t.nodes row.id node)) t.nodes (under_own t who node sound known.path);
       rest = refl;
     })
+act_changes t now who (allowed.Move transfer name) sound known =
+    let act = allowed.Move transfer name in
+    let own = path_own t who (At transfer.node) transfer.node sound known.source refl in
+    stamped_has (λ (made : Tables). ChangesOwn t made who) t (altered t now act) now (told t now act) (unchanged t who)
+    (record {
+      others = others_over who (cleared t.nodes transfer.replaced) transfer.node (relinked transfer.folder name) (λ row. refl)
+          (λ row there.
+          let same : row ≡ own.row = same_Some row own.row (sym there ∙ row_cleared t.nodes transfer.replaced transfer.node known.apart ∙ own.there) in
+          own_row who known.source.row.id row known.source.caller (ap (λ (r : NodeRow). r.owner) same ∙ own.owner))
+          ∙ cleared_others t who transfer.replaced transfer.folder sound known.target;
+      rest = refl;
+    })
+act_changes t now who (allowed.Copy rows replaced) sound known =
+    let act = allowed.Copy rows replaced in
+    stamped_has (λ (made : Tables). ChangesOwn t made who) t (altered t now act) now (told t now act) (unchanged t who)
+    (record { others = copied_others t now who rows replaced sound known; rest = refl })
 act_changes t now who allowed.Close sound known = unchanged t who
 
 pub changes_own : ChangesOnlyOwn

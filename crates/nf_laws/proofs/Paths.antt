@@ -58,7 +58,7 @@ child_is t folder name node sound is = here (find test t.nodes) refl is
         }
 
 -- a row in a folder is its child of the row's name, since no other has that name
-child_there : (rows : List NodeRow) (folder : ℕ) (row : NodeRow) → AllPairs AreApart rows
+pub child_there : (rows : List NodeRow) (folder : ℕ) (row : NodeRow) → AllPairs AreApart rows
     → node_row rows row.id ≡ Some row → row.place ≡ Inside folder → child_of rows folder row.name ≡ Some row.id
 child_there [] folder row apart there place = absurd (none-some row there)
 child_there (x ∷ rows) folder row apart there place =

@@ -3,7 +3,7 @@ use Rattle.std.proofs.Common.{ℕ, suc, ◌+◌, ◌==◌, ◌&&◌, ◌≡◌, 
 use Rattle.std.specs.Prelude.{IsOk}
 use Rattle.std.specs.Option.{option_map_or}
 use Rattle.std.proofs.Math.Seq.{take-length}
-use Rattle.std.proofs.lemmas.Bool.{and_parts, eq-eqb, eqb-true, false≢true, not-true}
+use Rattle.std.proofs.lemmas.Bool.{and_parts, eqb-true, false≢true, not-true}
 use Rattle.nf_base.specs.Content.{content_eq}
 use Rattle.nf_base.specs.declared.changes.Change.TheVariants.{Put}
 use Rattle.nf_base.specs.declared.content.Piece.{Piece}
@@ -13,13 +13,14 @@ use Rattle.nf_base.specs.declared.rows.Place.TheVariants.{Inside}
 use Rattle.nf_base.specs.declared.rows.Row.TheVariants as rows
 use Rattle.nf_defs.specs.Access.{unshared}
 use Rattle.nf_defs.specs.Tables.{Tables}
-use Rattle.nf_defs.specs.Tree.{Leads, stays, leads_on, found_from, is_folder, is_folder_kind, node_row}
+use Rattle.nf_defs.specs.Tree.{Leads, stays, leads_on, content_of, filled, found_from, is_folder, is_folder_kind, node_row}
 use Rattle.nf_defs.specs.declared.Found.{Found}
 use Rattle.nf_defs.specs.declared.Found.TheVariants.{At}
 use Rattle.nf_laws.proofs.Added.{kept_added, less_than_new, new_there}
 use Rattle.nf_laws.proofs.Contents.{content_decides}
 use Rattle.nf_laws.proofs.Paths.{leads_found}
-use Rattle.nf_laws.proofs.Replaced.{brought, kept_replaced, row_replaced}
+use Rattle.nf_laws.proofs.OneRow.{row_itself}
+use Rattle.nf_laws.proofs.Replaced.{kept_replaced}
 use Rattle.nf_laws.proofs.Rows.{AreKept, folder_kept}
 use Rattle.nf_laws.proofs.Stays as states
 use Rattle.nf_laws.specs.Reads.{IsStored, LeadsToKey, PathStays, StoredIsRead}
@@ -33,7 +34,8 @@ use Rattle.nf_words.specs.History.{after, after_mark, replay}
 use Rattle.nf_words.specs.Laws.{Pass}
 use Rattle.nf_words.specs.Limits.{limit_rule, limited}
 use Rattle.nf_words.specs.Callers.{not_you_rule, token_rule}
-use Rattle.nf_words.specs.Places.{forbidden_rule, built_rule, exists_rule, lost, place_rule, taken, target_rule, unbuilt, unfit}
+use Rattle.nf_words.specs.Listing.{listing_of}
+use Rattle.nf_words.specs.Places.{exists_rule, forbidden_rule, lost, overwrite_rule, place_rule, taken, target_rule, unfit, unreplaced}
 use Rattle.nf_words.specs.Rules.{rules}
 use Rattle.nf_words.specs.Sound.{AreSound, IsSound}
 use Rattle.nf_words.specs.State.{State, without_ticket}
@@ -113,7 +115,7 @@ over_file t now node root path content blob old there file led =
     id = eqb-true old.id node (found_passes (λ (row : NodeRow). row.id == node) t.nodes old there)
 
     here : (a : Bool) → (content_eq old.content content && old.changed == now) ≡ a
-        → HasFile (stamped t after now (if a then [] else Put (rows.Node (brought now content old)) ∷ [])).nodes root path content
+        → HasFile (stamped t after now (if a then [] else Put (rows.Node (filled content now old)) ∷ [])).nodes root path content
     here true same = record {
       row = old;
       led = subst (λ (n : ℕ). Leads t.nodes root path n) (sym id) led;
@@ -122,11 +124,11 @@ over_file t now node root path content blob old there file led =
       filled = (content_decides old.content content).0 (and_parts (content_eq old.content content) (old.changed == now) same).0;
     }
     here false other = record {
-      row = brought now content old;
+      row = filled content now old;
       led = subst (λ (n : ℕ). Leads after.nodes root path n) (sym id)
           (leads_kept t.nodes after.nodes root path node (kept_replaced t.nodes now node content) led);
-      there = subst (λ (n : ℕ). node_row after.nodes n ≡ Some (brought now content old)) (sym id)
-          (row_replaced t.nodes now node content node ∙ rw (eq-eqb node node refl, there));
+      there = subst (λ (n : ℕ). node_row after.nodes n ≡ Some (filled content now old)) (sym id)
+          (row_itself t.nodes node (filled content now) (λ row. refl) ∙ ap (option_map (filled content now)) there);
       file = file;
       filled = refl;
     }
@@ -201,9 +203,9 @@ entry_file n s e root path content is =
 -- what the rules of paths and limits, and what is given, say of a GET whose path leads to a node that is no folder
 record Grants (t : Tables) (now user : ℕ) (wanted : Wanted) (places : Places) (node : ℕ) (content : List Piece) : Type 0 where
   led : lost places ≡ None
-  built : unbuilt t.nodes wanted places ≡ None
   free : taken t.nodes wanted places ≡ None
-  fit : unfit t.nodes wanted places ≡ None
+  fit : option_map denial.BadTarget (unfit t.nodes wanted places) ≡ None
+  new : unreplaced wanted places ≡ None
   few : option_map denial.Limit (limited t wanted places) ≡ None
   sent : given t now user wanted places ≡ allowed.Get node content
 
@@ -215,11 +217,12 @@ get_grants t now user spot node row there file =
     ap (λ (o : Option NodeRow). option_map_or (λ row. is_folder_kind row.kind) o false) there ∙ file in
     record {
       led = refl;
-      built = ap (λ (a : Bool). if a then Some denial.NotBuilt else None) folder;
       free = refl;
       fit = refl;
+      new = refl;
       few = refl;
-      sent = ap (λ (o : Option NodeRow). allowed.Get node (option_map_or (λ row. row.content) o [])) there;
+      sent = ap (λ (a : Bool). if a then allowed.List (listing_of t node) else allowed.Get node (content_of t.nodes node)) folder
+          ∙ ap (λ (o : Option NodeRow). allowed.Get node (option_map_or (λ row. row.content) o [])) there;
     }
 
 call_grants : (call : Call) (spot : Spot) (node : ℕ) (row : NodeRow) → call.request.wanted ≡ Get spot → found call spot ≡ At node
@@ -239,10 +242,10 @@ granted : (call : Call) (node : ℕ) (content : List Piece)
     → Grants call.state.tables call.now (asker_of call) call.request.wanted (places_of call) node content
     → Pass (token_rule ∷ not_you_rule ∷ forbidden_rule ∷ []) unshared call
     → answered_by (call_decision call) ≡ Ok (Granted (Serve content))
-unfolding place_rule built_rule exists_rule target_rule limit_rule
+unfolding place_rule exists_rule target_rule overwrite_rule limit_rule
 granted call node content grants asked =
     let pass : Pass rules unshared call =
-    (asked.0, (asked.1.0, (asked.1.1.0, (grants.led, (grants.built, (grants.free, (grants.fit, (grants.few, tt)))))))) in
+    (asked.0, (asked.1.0, (asked.1.1.0, (grants.led, (grants.free, (grants.fit, (grants.new, (grants.few, tt)))))))) in
     ap (λ (refusal : Option Denial). answered_by (unless_refused refusal (allowed_of call))) (none_of rules unshared call pass)
     ∙ ap (λ (act : Allowed). answered_by (Ok act)) grants.sent
 

@@ -1,9 +1,9 @@
 -- Rows that may change while each node keeps its owner, place, name and kind.
-use Rattle.std.proofs.Common.{ℕ, suc, zero, ◌==◌, ◌≡◌, ◌≤◌, Bool, true, false, List, [], ◌∷◌, Option, None, Some, find, refl, sym, ap, subst, ◌∙◌, arith}
+use Rattle.std.proofs.Common.{ℕ, suc, zero, ◌==◌, ◌≡◌, ◌≤◌, Bool, true, false, List, [], ◌∷◌, Option, None, Some, find, option_map, refl, sym, ap, subst, ◌∙◌, arith, le_refl}
 use Rattle.std.specs.List.{All}
 use Rattle.std.specs.Option.{IfSome, option_and_then, option_map_or}
 use Rattle.std.proofs.lemmas.Bool.{false≢true, eqb-true}
-use Rattle.std.proofs.lemmas.List.Elements.{All-cons, All-nil, All-weaker}
+use Rattle.std.proofs.lemmas.List.Elements.{All-cons, All-head, All-nil, All-tail, All-weaker}
 use Rattle.std.proofs.lemmas.Option.{none-some, same_Some}
 use Rattle.nf_base.specs.declared.changes.Change.{Change}
 use Rattle.nf_base.specs.declared.content.Piece.{Piece}
@@ -14,7 +14,7 @@ use Rattle.nf_base.specs.declared.rows.Place.TheVariants.{Root, Inside, Trash}
 use Rattle.nf_base.specs.declared.rows.UserRow.{UserRow}
 use Rattle.nf_defs.specs.People.{user_row}
 use Rattle.nf_defs.specs.Tables.{Tables}
-use Rattle.nf_defs.specs.Tree.{climb, folder_of, is_folder, is_folder_kind, node_row, owner_of, parent_of}
+use Rattle.nf_defs.specs.Tree.{climb, folder_of, is_folder, is_folder_kind, is_place_in, node_row, owner_of, parent_of}
 use Rattle.nf_words.proofs.Known.{IsOfBody, found_has, found_passes}
 use Rattle.nf_words.specs.Changes.{blob_after, stamped}
 use Rattle.nf_words.specs.Sound.{AreCounters, AreSound, HasRoot, IsNodeSound, IsPieceSound, IsPlaceSound, root_of_user}
@@ -26,6 +26,27 @@ pub found_is : {X : Type 0} (P : X → Type 0) (test : X → Bool) (xs : List X)
     → All P xs → find test xs ≡ Some found → (test found ≡ true) × P found
 found_is {X = X} P test xs found all is =
     (found_passes test xs found is, subst (λ (o : Option X). IfSome o P) is (found_has P test xs all))
+
+-- ---- look-ups that find nothing
+
+pub finds_none : {X : Type 0} (test : X → Bool) (xs : List X) → All (λ x. test x ≡ false) xs → find test xs ≡ None
+finds_none test [] fail = refl
+finds_none test (x ∷ xs) fail = simp (All-head (λ x. test x ≡ false) x xs fail) (finds_none test xs (All-tail (λ x. test x ≡ false) x xs fail))
+
+pub each_fails : {X : Type 0} (test : X → Bool) (xs : List X) → find test xs ≡ None → All (λ x. test x ≡ false) xs
+each_fails test [] none = All-nil (λ x. test x ≡ false)
+each_fails {X = X} test (x ∷ xs) none = here (test x) refl none (λ none. each_fails test xs none)
+  where
+    here : (a : Bool) → test x ≡ a → find test (x ∷ xs) ≡ None → (find test xs ≡ None → All (λ x. test x ≡ false) xs)
+        → All (λ x. test x ≡ false) (x ∷ xs)
+    here true e none rest = absurd (none-some x (sym (simp e at none)))
+    here false e none rest = All-cons (λ x. test x ≡ false) x xs e (rest (simp e at none))
+
+pub no_value : {X : Type 0} (f : X → ℕ) (o : Option X) → option_map f o ≡ None → o ≡ None
+no_value f None none = refl
+no_value f (Some x) none = absurd (none-some (f x) (sym none))
+
+-- ---- what is there
 
 -- the row of a folder
 pub folder_there : (rows : List NodeRow) (node : ℕ) → is_folder rows node ≡ true
@@ -59,6 +80,11 @@ pub inside_folder : (place : Place) (parent : ℕ) → folder_of place ≡ Some 
 inside_folder Root parent is = absurd (none-some parent is)
 inside_folder (Inside folder) parent is = ap Inside (same_Some folder parent is)
 inside_folder Trash parent is = absurd (none-some parent is)
+
+pub place_in : (folder : ℕ) (place : Place) → is_place_in folder place ≡ true → place ≡ Inside folder
+place_in folder Root is = absurd (false≢true is)
+place_in folder (Inside parent) is = ap Inside (eqb-true parent folder is)
+place_in folder Trash is = absurd (false≢true is)
 
 -- its folder is there
 pub child_folder : (t : Tables) (row : NodeRow) (place : Place) (folder : ℕ) → IsPlaceSound t row place → place ≡ Inside folder
@@ -122,6 +148,10 @@ climb_kept (suc k) rows others node top kept is =
     here None e is rest = absurd (none-some top is)
     here (Some parent) e is rest =
         ap (option_and_then (climb others k)) (parent_kept rows others node parent kept e) ∙ rest parent is
+
+-- all rows keep these of themselves
+pub kept_same : (rows : List NodeRow) → AreKept rows rows
+kept_same rows node old is = record { row = old; there = is; owner = refl; place = refl; name = refl; kind = refl }
 
 -- the tables with other rows and counters
 abbrev pub with_nodes : Tables → MetaRow → List NodeRow → Tables
@@ -195,3 +225,24 @@ stamp t now = record t { meta = record t.meta { last = now } }
 pub stamped_has : (P : Tables → Type 0) (t made : Tables) (now : ℕ) (changes : List Change) → P t → P (stamp made now) → P (stamped t made now changes)
 stamped_has P t made now [] same stamps = same
 stamped_has P t made now (change ∷ changes) same stamps = stamps
+
+-- a later moment changes nothing else
+pub stamp_sound : (t : Tables) (now : ℕ) → AreSound t → t.meta.last ≤ now → AreSound (stamp t now)
+stamp_sound t now sound later =
+    let made = stamp t now in
+    record {
+      counters = record {
+        users = sound.counters.users;
+        groups = sound.counters.groups;
+        nodes = sound.counters.nodes;
+        shares = sound.counters.shares;
+        blobs = sound.counters.blobs;
+      };
+      rising = sound.rising;
+      nodes = All-weaker (IsNodeSound t) (IsNodeSound made)
+          (λ row. node_kept t made.meta t.nodes row (kept_same t.nodes) (le_refl _) (le_refl _) later) t.nodes sound.nodes;
+      names = sound.names;
+      roots = All-weaker (HasRoot t) (HasRoot made) (root_kept t made.meta t.nodes (kept_same t.nodes)) t.users sound.roots;
+      few_nodes = sound.few_nodes;
+      few_pieces = sound.few_pieces;
+    }

@@ -32,8 +32,10 @@ use Rattle.nf_words.specs.declared.history.Ticket.{Ticket}
 use Rattle.nf_words.proofs.Known.{Known, KnownGranted, known_change}
 use Rattle.nf_words.proofs.Steps.{differ_replay}
 use Rattle.nf_laws.proofs.Added.{created_sound}
+use Rattle.nf_laws.proofs.Copied.{copied_sound}
 use Rattle.nf_laws.proofs.Counters.{changed_up}
 use Rattle.nf_laws.proofs.Gone.{removed_sound}
+use Rattle.nf_laws.proofs.Moved.{moved_sound}
 use Rattle.nf_laws.proofs.Owned.{KeepsOwners, owners_kept}
 use Rattle.nf_laws.proofs.Replaced.{replaced_sound}
 use Rattle.nf_laws.proofs.Rows.{found_is, pieces_kept, stamped_has}
@@ -44,16 +46,18 @@ use Rattle.nf_laws.proofs.Paths.{IsFor, is_own, path_own}
 changed_sound : (t : Tables) (now : ℕ) (who : Option ℕ) (act : Allowed) → AreSound t → t.meta.last ≤ now → Known t now who act
     → AreSound (changed t now act)
 changed_sound t now who (allowed.Get node content) sound before known = sound
+changed_sound t now who (allowed.List listing) sound before known = sound
 changed_sound t now who (allowed.Put by key length) sound before known = sound
 changed_sound t now who (allowed.StoreNew row blob) sound before known = created_sound t now row blob sound before known.new
 changed_sound t now who (allowed.StoreOver node content blob) sound before known =
     let act = allowed.StoreOver node content blob in
     stamped_has AreSound t (altered t now act) now (told t now act) sound (replaced_sound t now node content blob sound before known.brought)
 changed_sound t now who (allowed.Mkcol row) sound before known = created_sound t now row None sound before known.new
-changed_sound t now who (allowed.Delete nodes) sound before known =
-    let act = allowed.Delete nodes in
-    stamped_has AreSound t (altered t now act) now (told t now act) sound
-    (removed_sound t now known.top nodes sound before known.below known.no_root)
+changed_sound t now who (allowed.Delete node) sound before known =
+    let act = allowed.Delete node in
+    stamped_has AreSound t (altered t now act) now (told t now act) sound (removed_sound t now node sound before known.no_root)
+changed_sound t now who (allowed.Move transfer name) sound before known = moved_sound t now who transfer name sound before known
+changed_sound t now who (allowed.Copy rows replaced) sound before known = copied_sound t now who rows replaced sound before known
 changed_sound t now who allowed.Close sound before known = sound
 
 changed_seen : (t : Tables) (now : ℕ) (act : Allowed) → t.meta.last ≤ now → (changed t now act).meta.last ≤ now
@@ -99,11 +103,14 @@ granted_sound : (t : Tables) (now : ℕ) (who : Option ℕ) (act : Allowed)
     → AreSound t → Known t now who act → IfSome (goal_of act) (IsGoalSound (changed t now act))
 granted_sound t now who (allowed.Get node content) sound known =
     subst (λ (c : List Piece). All (IsPieceSound t) c) (sym known.of_node) (content_sound t node sound)
+granted_sound t now who (allowed.List listing) sound known = tt
 granted_sound t now who (allowed.Put by key length) sound known = store_sound t who by key length sound known
 granted_sound t now who (allowed.StoreNew row blob) sound known = tt
 granted_sound t now who (allowed.StoreOver node content blob) sound known = tt
 granted_sound t now who (allowed.Mkcol row) sound known = tt
-granted_sound t now who (allowed.Delete nodes) sound known = tt
+granted_sound t now who (allowed.Delete node) sound known = tt
+granted_sound t now who (allowed.Move transfer name) sound known = tt
+granted_sound t now who (allowed.Copy rows replaced) sound known = tt
 granted_sound t now who allowed.Close sound known = tt
 
 abbrev HasSoundGoal : Tables → Ticket → Type 0

@@ -1,16 +1,12 @@
 -- What a step changes, told as a list, and the tables that it makes.
-use Rattle.std.proofs.Common.{ℕ, suc, ◌==◌, ◌&&◌, ◌≡◌, ◌≢◌, ◌<◌, Bool, true, false, not, List, [], ◌∷◌, ◌++◌, Option, None, Some, Result, Ok, Err, filter, map, length, if◌then◌else◌, refl, sym, ap, subst, ◌∙◌, arith, length-append}
+use Rattle.std.proofs.Common.{ℕ, zero, suc, ◌==◌, ◌&&◌, ◌≡◌, ◌≢◌, ◌<◌, ◌≤◌, Bool, true, false, not, List, [], ◌∷◌, ◌++◌, Option, None, Some, Result, Ok, Err, bytes_eq, map, option_map, length, get_or, if◌then◌else◌, refl, sym, ap, subst, ◌∙◌, arith, append_assoc, length-append}
 use Rattle.std.specs.Prelude.{is_some}
-use Rattle.std.specs.List.{All, AllPairs}
+use Rattle.std.specs.List.{All}
 use Rattle.std.specs.Option.{option_map_or}
-use Rattle.std.specs.Ordering.{nat_cmp, ordering_then}
-use Rattle.std.specs.Cmp.{nat_cmp_is}
-use Rattle.std.specs.Cmp.Lexicographic.{slice_cmp}
-use Rattle.std.specs.declared.cmp.Ordering.{Ordering}
-use Rattle.std.specs.declared.cmp.Ordering.TheVariants.{Less, Equal, Greater}
-use Rattle.std.proofs.lemmas.Bool.{and_from, and_parts, both_ways, eq-eqb, eqb-true, false≢true, not-true}
-use Rattle.std.proofs.lemmas.List.Elements.{All-append, All-cons, All-filter, All-head, All-map, All-nil, All-tail, All-weaker, filter_passes}
-use Rattle.std.proofs.lemmas.Option.{none-some, same_Some}
+use Rattle.std.proofs.lemmas.Bool.{and_from, and_parts, both_ways, eq-eqb, eqb-true, false≢true}
+use Rattle.std.proofs.lemmas.List.Elements.{All-append, All-cons, All-map, All-nil, All-weaker}
+use Rattle.std.proofs.Math.Seq.{get_or-append_seam}
+use Rattle.std.proofs.lemmas.Option.{slice_get-get_or}
 use Rattle.nf_base.specs.Content.{content_eq}
 use Rattle.nf_base.specs.declared.changes.Change.{Change}
 use Rattle.nf_base.specs.declared.changes.Change.TheVariants.{Put, Drop}
@@ -18,20 +14,22 @@ use Rattle.nf_base.specs.declared.changes.RowKey.TheVariants as keys
 use Rattle.nf_base.specs.declared.content.Piece.{Piece}
 use Rattle.nf_base.specs.declared.rows.MetaRow.{MetaRow}
 use Rattle.nf_base.specs.declared.rows.NodeRow.{NodeRow}
+use Rattle.nf_base.specs.declared.rows.Place.TheVariants.{Inside}
 use Rattle.nf_base.specs.declared.rows.Row.TheVariants as rows
 use Rattle.nf_defs.specs.Changes.{IsDroppable, made, put_all}
-use Rattle.nf_defs.specs.Keys.{node_key}
-use Rattle.nf_defs.specs.Puts.{by_order, dropped, put}
 use Rattle.nf_defs.specs.Tables.{Tables}
-use Rattle.nf_defs.specs.Tree.{is_folder_kind, is_under, node_row, subtree_of}
-use Rattle.nf_laws.proofs.Added.{less_than_new}
+use Rattle.nf_defs.specs.Tree.{child_of, filled, is_folder_kind, is_under, node_row, relinked, walk_of, walk_within, with_node, without_under}
+use Rattle.nf_defs.specs.declared.Found.TheVariants.{At, Free}
+use Rattle.nf_laws.proofs.Climbs.{climb_under}
 use Rattle.nf_laws.proofs.Contents.{content_decides}
-use Rattle.nf_laws.proofs.Replaced.{brought, row_replaced}
-use Rattle.nf_laws.proofs.Rows.{found_is}
-use Rattle.nf_laws.proofs.Words.{row_there}
+use Rattle.nf_laws.proofs.Gone.{all_cleared, clearing_sound, row_cleared}
+use Rattle.nf_laws.proofs.OneRow.{KeepsId, row_itself}
+use Rattle.nf_laws.proofs.Owned.{copies_mirror}
+use Rattle.nf_laws.proofs.Paths.{child_there, path_own}
+use Rattle.nf_laws.proofs.Puts.{AreNumbered, another, drops_for, drops_under, fewer, put_changed, put_new, puts_new, walk_there}
 use Rattle.nf_laws.specs.Tells.{ChangesTell}
-use Rattle.nf_words.proofs.Known.{Known, KnownContent, KnownNew, known_change}
-use Rattle.nf_words.specs.Changes.{changed, changes_of, created, is_among, meta_after, new_meta, refilled, replaced, same_meta, stamped, told, with_content, with_meta}
+use Rattle.nf_words.proofs.Known.{Known, KnownContent, KnownCopies, KnownGone, KnownNew, KnownPath, KnownTransfer, found_passes, known_change}
+use Rattle.nf_words.specs.Changes.{changed, changes_of, cleared, created, dropped_for, dropped_under, joined, meta_after, new_meta, refilled, replaced, same_meta, stamped, told, transferred, transferred_row, with_meta}
 use Rattle.nf_words.specs.History.{MayAsk}
 use Rattle.nf_words.specs.Sound.{AreSound, IsSound}
 use Rattle.nf_words.specs.State.{State}
@@ -41,115 +39,7 @@ use Rattle.nf_words.specs.declared.answer.Allowed.TheVariants as allowed
 use Rattle.nf_words.specs.declared.answer.Denial.{Denial}
 use Rattle.nf_words.specs.declared.history.Event.{Event}
 use Rattle.nf_words.specs.declared.history.Event.TheVariants.{Begin, End}
-
--- ---- the order of the numbers of nodes
-
-then_equal : (o : Ordering) → ordering_then o Equal ≡ o
-then_equal Less = refl
-then_equal Equal = refl
-then_equal Greater = refl
-
-greater : (a b : ℕ) → b < a → slice_cmp nat_cmp (a ∷ []) (b ∷ []) ≡ Greater
-greater a b less = then_equal (nat_cmp a b) ∙ sym (nat_cmp_is a b Greater less)
-
-equal : (a b : ℕ) → a ≡ b → slice_cmp nat_cmp (a ∷ []) (b ∷ []) ≡ Equal
-equal a b same = then_equal (nat_cmp a b) ∙ sym (nat_cmp_is a b Equal same)
-
--- ---- rows put and dropped
-
--- a row whose key is above all others goes to the end
-put_last : {R : Type 0} (key : R → List ℕ) (row : R) (rows : List R)
-    → All (λ (other : R). slice_cmp nat_cmp (key row) (key other) ≡ Greater) rows → put key row rows ≡ rows ++ row ∷ []
-put_last key row [] all = refl
-put_last {R} key row (x ∷ rows) all =
-    ap (λ (o : Ordering). by_order o (row ∷ x ∷ rows) (row ∷ rows) (x ∷ put key row rows))
-    (All-head (λ (other : R). slice_cmp nat_cmp (key row) (key other) ≡ Greater) x rows all)
-    ∙ ap (λ (ys : List R). x ∷ ys) (put_last key row rows (All-tail (λ (other : R). slice_cmp nat_cmp (key row) (key other) ≡ Greater) x rows all))
-
--- a node's row with another content goes to its place
-put_over : (rows : List NodeRow) (now node : ℕ) (content : List Piece) (row : NodeRow)
-    → AllPairs (λ (a b : NodeRow). a.id < b.id) rows → node_row rows node ≡ Some row
-    → put node_key (brought now content row) rows ≡ with_content rows now node content
-put_over [] now node content row rising is = absurd (none-some row is)
-put_over (x ∷ rows) now node content row rising is =
-    here (x.id == node) refl is
-    (λ is. put_over rows now node content row (λ i j d before within. rising (suc i) (suc j) d (omega arith) (omega arith)) is)
-  where
-    new : NodeRow
-    new = brought now content row
-
-    here : (a : Bool) → (x.id == node) ≡ a → node_row (x ∷ rows) node ≡ Some row
-        → (node_row rows node ≡ Some row → put node_key new rows ≡ with_content rows now node content)
-        → put node_key new (x ∷ rows) ≡ with_content (x ∷ rows) now node content
-    here true e is rest =
-        let same : x ≡ row = same_Some x row (simp e at is) in
-        simp e (ap (λ (o : Ordering). by_order o (new ∷ x ∷ rows) (new ∷ rows) (x ∷ put node_key new rows))
-        (equal row.id x.id (sym (ap (λ (r : NodeRow). r.id) same)))
-        ∙ ap (λ (r : NodeRow). brought now content r ∷ rows) (sym same))
-    here false e is rest =
-        let found : node_row rows node ≡ Some row = simp e at is in
-        let less : x.id < row.id =
-        (found_is (λ (r : NodeRow). x.id < r.id) (λ r. r.id == node) rows row (λ k d within. rising 0 (suc k) d (omega arith) (omega arith)) found).1 in
-        simp e (ap (λ (o : Ordering). by_order o (new ∷ x ∷ rows) (new ∷ rows) (x ∷ put node_key new rows)) (greater row.id x.id less)
-        ∙ ap (λ (rs : List NodeRow). x ∷ rs) (rest found))
-
--- the rows without those of some nodes
-abbrev left : List ℕ → List NodeRow → List NodeRow
-left nodes rows = filter (λ row. not (is_among nodes row.id)) rows
-
-all_left : (rows : List NodeRow) → left [] rows ≡ rows
-all_left [] = refl
-all_left (x ∷ rows) = ap (λ (rs : List NodeRow). x ∷ rs) (all_left rows)
-
-both_dropped : (n : ℕ) (nodes : List ℕ) (rows : List NodeRow) → left nodes (dropped node_key (n ∷ []) rows) ≡ left (n ∷ nodes) rows
-both_dropped n nodes [] = refl
-both_dropped n nodes (x ∷ rows) = here (n == x.id) (is_among nodes x.id) refl refl (both_dropped n nodes rows)
-  where
-    here : (a b : Bool) → (n == x.id) ≡ a → is_among nodes x.id ≡ b
-        → left nodes (dropped node_key (n ∷ []) rows) ≡ left (n ∷ nodes) rows
-        → left nodes (dropped node_key (n ∷ []) (x ∷ rows)) ≡ left (n ∷ nodes) (x ∷ rows)
-    here true b e f rest = simp e rest
-    here false true e f rest = simp (e, f) rest
-    here false false e f rest = simp (e, f) (ap (λ (rs : List NodeRow). x ∷ rs) rest)
-
--- nodes that are dropped one by one
-drops : (t : Tables) (nodes : List ℕ) (rest : List Change)
-    → put_all t (map (λ node. Drop (keys.Node node)) nodes ++ rest) ≡ put_all (record t { nodes = left nodes t.nodes }) rest
-drops t [] rest = ap (λ (rs : List NodeRow). put_all (record t { nodes = rs }) rest) (sym (all_left t.nodes))
-drops t (n ∷ nodes) rest =
-    drops (record t { nodes = dropped node_key (n ∷ []) t.nodes }) nodes rest
-    ∙ ap (λ (rs : List NodeRow). put_all (record t { nodes = rs }) rest) (both_dropped n nodes t.nodes)
-
--- ---- rows that differ
-
-one_longer : (rows : List NodeRow) (row : NodeRow) → rows ++ row ∷ [] ≢ rows
-one_longer rows row = λ same. absurd (omega (arith, ap length same, length-append rows (row ∷ [])))
-
--- where a node is gone that was there
-fewer : (nodes : List ℕ) (rows : List NodeRow) (node : ℕ) → is_some (node_row rows node) ≡ true → is_among nodes node ≡ true
-    → left nodes rows ≢ rows
-fewer nodes rows node there among = λ same. here (node_row rows node) refl there same
-  where
-    here : (o : Option NodeRow) → node_row rows node ≡ o → is_some o ≡ true → left nodes rows ≡ rows → ⊥
-    here None e there same = false≢true there
-    here (Some row) e there same =
-        let h = found_is (λ (row : NodeRow). not (is_among nodes row.id) ≡ true) (λ row. row.id == node) (left nodes rows) row
-        (filter_passes (λ row. not (is_among nodes row.id)) rows) (ap (λ (rs : List NodeRow). node_row rs node) same ∙ e) in
-        let still : is_among nodes row.id ≡ true = subst (λ (n : ℕ). is_among nodes n ≡ true) (sym (eqb-true row.id node h.0)) among in
-        both_ways (is_among nodes row.id) (not-true (is_among nodes row.id) h.1) still
-
--- where a node has another content, or another moment
-refilled_other : (rows : List NodeRow) (now node : ℕ) (content : List Piece) (row : NodeRow) → node_row rows node ≡ Some row
-    → (content_eq row.content content && row.changed == now) ≡ false → with_content rows now node content ≢ rows
-refilled_other rows now node content row there other = λ same.
-    let found : node_row (with_content rows now node content) node ≡ Some (brought now content row) =
-    row_replaced rows now node content node ∙ rw (eq-eqb node node refl, there) in
-    let is : brought now content row ≡ row = same_Some _ _ (sym found ∙ ap (λ (rs : List NodeRow). node_row rs node) same ∙ there) in
-    let filled : content ≡ row.content = ap (λ (r : NodeRow). r.content) is in
-    let moment : now ≡ row.changed = ap (λ (r : NodeRow). r.changed) is in
-    both_ways (content_eq row.content content && row.changed == now) other
-    (and_from (content_eq row.content content) (row.changed == now)
-    ((content_decides row.content content).1 (sym filled)) (eq-eqb row.changed now (sym moment)))
+use Rattle.nf_words.specs.declared.request.Transfer.{Transfer}
 
 -- ---- the meta row
 
@@ -209,33 +99,67 @@ meta_differs t meta = here (same_meta t.meta meta) refl
         (All-nil (Differs t))
 
 -- where the changes of nodes make other nodes
-nodes_told : (t : Tables) (meta : MetaRow) (nodes : List NodeRow) (changes : List Change)
+nodes_told : (t : Tables) (now : ℕ) (meta : MetaRow) (nodes : List NodeRow) (changes : List Change)
     → ((rest : List Change) → put_all t (changes ++ rest) ≡ put_all (record t { nodes = nodes }) rest)
     → All (Differs t) changes → nodes ≢ t.nodes
-    → Tell t (record t { meta = meta; nodes = nodes }) (changes ++ new_meta t.meta meta)
-nodes_told t meta nodes changes puts differ moved = record {
-  put = puts (new_meta t.meta meta) ∙ put_meta (record t { nodes = nodes }) meta;
-  differ = All-append (Differs t) changes (new_meta t.meta meta) differ (meta_differs t meta);
-  none = λ same. absurd (moved (ap (λ (u : Tables). u.nodes) same));
-}
+    → Tell t (stamped t (record t { meta = meta; nodes = nodes }) now changes) (with_meta t.meta (record meta { last = now }) changes)
+nodes_told t now meta nodes [] puts differ moved = absurd (moved (sym (ap (λ (u : Tables). u.nodes) (puts []))))
+nodes_told t now meta nodes (change ∷ changes) puts differ moved =
+    let last = record meta { last = now } in
+    record {
+      put = puts (new_meta t.meta last) ∙ put_meta (record t { nodes = nodes }) last;
+      differ = All-append (Differs t) (change ∷ changes) (new_meta t.meta last) differ (meta_differs t last);
+      none = λ same. absurd (moved (ap (λ (u : Tables). u.nodes) same));
+    }
 
--- ---- each act
+-- ---- a node more, and another content
 
 abbrev TellsAct : Tables → ℕ → Allowed → Type 0
 TellsAct t now act = Tell t (changed t now act) (changes_of t now act)
 
-new_told : (t : Tables) (now : ℕ) (row : NodeRow) (blob : Option ℕ) (meta : MetaRow) → AreSound t → KnownNew t now row blob
-    → Tell t (record t { meta = meta; nodes = t.nodes ++ row ∷ [] }) (Put (rows.Node row) ∷ new_meta t.meta meta)
-new_told t now row blob meta sound known =
-    let last : put node_key row t.nodes ≡ t.nodes ++ row ∷ [] =
-    put_last node_key row t.nodes
-    (All-weaker (λ (old : NodeRow). old.id < row.id) (λ (old : NodeRow). slice_cmp nat_cmp (node_key row) (node_key old) ≡ Greater)
-    (λ old less. greater row.id old.id less) t.nodes (less_than_new t now row blob sound known)) in
-    nodes_told t meta (t.nodes ++ row ∷ []) (Put (rows.Node row) ∷ [])
-    (λ rest. ap (λ (rs : List NodeRow). put_all (record t { nodes = rs }) rest) last)
-    (All-cons (Differs t) (Put (rows.Node row)) []
-    (λ same. one_longer t.nodes row (sym last ∙ ap (λ (u : Tables). u.nodes) same)) (All-nil (Differs t)))
+all_given : (t : Tables) → AreSound t → All (λ (row : NodeRow). row.id < t.meta.next_node) t.nodes
+all_given t sound k d within = (sound.nodes k d within).given
+
+one_longer : (old : List NodeRow) (row : NodeRow) → old ++ row ∷ [] ≢ old
+one_longer old row = λ same. absurd (omega (arith, ap length same, length-append old (row ∷ [])))
+
+-- a row with a number that wasn't given is one more
+new_differs : (t : Tables) (row : NodeRow) → AreSound t → t.meta.next_node ≤ row.id → Differs t (Put (rows.Node row))
+new_differs t row sound new = λ same.
+    let below = All-weaker (λ (old : NodeRow). old.id < t.meta.next_node) (λ (old : NodeRow). old.id < row.id)
+    (λ old given. omega arith) t.nodes (all_given t sound) in
+    one_longer t.nodes row (sym (put_new row t.nodes below) ∙ ap (λ (u : Tables). u.nodes) same)
+
+new_told : (t : Tables) (now : ℕ) (row : NodeRow) (blob : Option ℕ) → AreSound t → KnownNew t now row blob
+    → Tell t (stamped t (created t row blob) now (Put (rows.Node row) ∷ []))
+    (with_meta t.meta (record (created t row blob).meta { last = now }) (Put (rows.Node row) ∷ []))
+new_told t now row blob sound known =
+    let id : row.id ≡ t.meta.next_node = ap (λ (r : NodeRow). r.id) known.is_new in
+    nodes_told t now (created t row blob).meta (t.nodes ++ row ∷ []) (Put (rows.Node row) ∷ [])
+    (λ rest. puts_new t t.nodes (row ∷ []) rest t.meta.next_node (all_given t sound) (only id))
+    (All-cons (Differs t) (Put (rows.Node row)) [] (new_differs t row sound (omega arith)) (All-nil (Differs t)))
     (one_longer t.nodes row)
+  where
+    only : row.id ≡ t.meta.next_node → AreNumbered t.meta.next_node (row ∷ [])
+    only id zero d within = omega arith
+    only id (suc k) d within = absurd (omega arith)
+
+-- a changed row of a node is put in its place
+changed_differs : (t : Tables) (node : ℕ) (change : NodeRow → NodeRow) (row : NodeRow) → KeepsId change
+    → AreSound t → node_row t.nodes node ≡ Some row → change row ≢ row → Differs t (Put (rows.Node (change row)))
+changed_differs t node change row keeps sound is other = λ same.
+    another t.nodes (with_node t.nodes node change) node row (change row) is
+    (row_itself t.nodes node change keeps ∙ ap (option_map change) is) other
+    (sym (put_changed t.nodes node change row (keeps row) sound.rising is) ∙ ap (λ (u : Tables). u.nodes) same)
+
+-- a content that isn't the same, or another moment, makes another row
+filled_other : (now : ℕ) (content : List Piece) (row : NodeRow)
+    → (content_eq row.content content && row.changed == now) ≡ false → filled content now row ≢ row
+filled_other now content row other = λ same.
+    both_ways (content_eq row.content content && row.changed == now) other
+    (and_from (content_eq row.content content) (row.changed == now)
+    ((content_decides row.content content).1 (sym (ap (λ (r : NodeRow). r.content) same)))
+    (eq-eqb row.changed now (sym (ap (λ (r : NodeRow). r.changed) same))))
 
 over_told : (t : Tables) (now node : ℕ) (content : List Piece) (blob : Option ℕ) → AreSound t → KnownContent t node content blob
     → TellsAct t now (allowed.StoreOver node content blob)
@@ -244,64 +168,175 @@ over_told t now node content blob sound known = here (node_row t.nodes node) ref
     after : Tables
     after = replaced t now node content blob
 
-    meta : MetaRow
-    meta = record after.meta { last = now }
-
     here : (o : Option NodeRow) → node_row t.nodes node ≡ o → option_map_or (λ row. not (is_folder_kind row.kind)) o false ≡ true
-        → Tell t (stamped t after now (refilled o now content)) (with_meta t.meta meta (refilled o now content))
+        → Tell t (stamped t after now (refilled o now content)) (with_meta t.meta (record after.meta { last = now }) (refilled o now content))
     here None e file = absurd (false≢true file)
-    here (Some row) e file = filled (content_eq row.content content && row.changed == now) refl
+    here (Some row) e file = put (content_eq row.content content && row.changed == now) refl
       where
         new : Change
-        new = Put (rows.Node (brought now content row))
+        new = Put (rows.Node (filled content now row))
 
-        filled : (a : Bool) → (content_eq row.content content && row.changed == now) ≡ a
-            → Tell t (stamped t after now (if a then [] else new ∷ [])) (with_meta t.meta meta (if a then [] else new ∷ []))
-        filled true same = nothing_told t
-        filled false other =
-            let over = put_over t.nodes now node content row sound.rising e in
-            let moved = refilled_other t.nodes now node content row e other in
-            nodes_told t meta after.nodes (new ∷ [])
-            (λ rest. ap (λ (rs : List NodeRow). put_all (record t { nodes = rs }) rest) over)
-            (All-cons (Differs t) new [] (λ same. moved (sym over ∙ ap (λ (u : Tables). u.nodes) same)) (All-nil (Differs t)))
-            moved
+        put : (a : Bool) → (content_eq row.content content && row.changed == now) ≡ a
+            → Tell t (stamped t after now (if a then [] else new ∷ []))
+            (with_meta t.meta (record after.meta { last = now }) (if a then [] else new ∷ []))
+        put true same = nothing_told t
+        put false other =
+            let differs = filled_other now content row other in
+            nodes_told t now after.meta after.nodes (new ∷ [])
+            (λ rest. ap (λ (all : List NodeRow). put_all (record t { nodes = all }) rest)
+            (put_changed t.nodes node (filled content now) row refl sound.rising e))
+            (All-cons (Differs t) new [] (changed_differs t node (filled content now) row (λ row. refl) sound e differs) (All-nil (Differs t)))
+            (another t.nodes after.nodes node row (filled content now row) e
+            (row_itself t.nodes node (filled content now) (λ row. refl) ∙ ap (option_map (filled content now)) e) differs)
 
--- each node under a top is there
-below_there : (rows : List NodeRow) (top : ℕ) → All (λ (node : ℕ). is_some (node_row rows node) ≡ true) (subtree_of rows top)
-below_there rows top =
-    All-map (λ (node : ℕ). is_some (node_row rows node) ≡ true) (λ (row : NodeRow). row.id) (filter (λ row. is_under rows row.id top) rows)
-    (All-filter (λ row. is_under rows row.id top) (λ (row : NodeRow). is_some (node_row rows row.id) ≡ true) rows (row_there rows))
+-- ---- nodes that go
 
-gone_told : (t : Tables) (now : ℕ) (nodes : List ℕ) → All (λ (node : ℕ). is_some (node_row t.nodes node) ≡ true) nodes
-    → TellsAct t now (allowed.Delete nodes)
-gone_told t now [] there = nothing_told t
-gone_told t now (n ∷ nodes) there =
-    nodes_told t (record t.meta { last = now }) (left (n ∷ nodes) t.nodes) (map (λ node. Drop (keys.Node node)) (n ∷ nodes))
-    (drops t (n ∷ nodes))
-    (All-map (Differs t) (λ node. Drop (keys.Node node)) (n ∷ nodes)
+-- a node to which a path leads is there
+found_there : (t : Tables) (who : Option ℕ) (node : ℕ) → AreSound t → KnownPath t who (At node) → (row : NodeRow) × (node_row t.nodes node ≡ Some row)
+found_there t who node sound path = let of = path_own t who (At node) node sound path refl in (of.row, of.there)
+
+dropped_differs : (t : Tables) (node : ℕ) → is_some (node_row t.nodes node) ≡ true → Differs t (Drop (keys.Node node))
+dropped_differs t node there = λ same.
+    fewer (λ other. not (bytes_eq (node ∷ []) (other ∷ []))) t.nodes node there (rw (eq-eqb node node refl))
+    (ap (λ (u : Tables). u.nodes) same)
+
+under_differ : (t : Tables) (top : ℕ) → AreSound t → is_some (node_row t.nodes top) ≡ true → All (Differs t) (dropped_under t.nodes top)
+under_differ t top sound there =
+    All-map (Differs t) (λ node. Drop (keys.Node node)) (walk_of t.nodes top)
     (All-weaker (λ (node : ℕ). is_some (node_row t.nodes node) ≡ true) (λ (node : ℕ). Differs t (Drop (keys.Node node)))
-    dropped_differs (n ∷ nodes) there))
-    (fewer (n ∷ nodes) t.nodes n (All-head (λ (node : ℕ). is_some (node_row t.nodes node) ≡ true) n nodes there) (first n nodes))
-  where
-    first : (n : ℕ) (nodes : List ℕ) → is_among (n ∷ nodes) n ≡ true
-    first n nodes = rw (eq-eqb n n refl)
+    (dropped_differs t) (walk_of t.nodes top) (walk_there t top sound there))
 
-    dropped_differs : (node : ℕ) → is_some (node_row t.nodes node) ≡ true → Differs t (Drop (keys.Node node))
-    dropped_differs node there = λ same.
-        fewer (node ∷ []) t.nodes node there (first node [])
-        (sym (both_dropped node [] t.nodes) ∙ all_left (dropped node_key (node ∷ []) t.nodes) ∙ ap (λ (u : Tables). u.nodes) same)
+-- the top itself is gone
+under_fewer : (old : List NodeRow) (top : ℕ) → is_some (node_row old top) ≡ true → without_under old top ≢ old
+under_fewer old top there =
+    fewer (λ node. not (is_under old node top)) old top there (ap not (climb_under 0 old top top (omega arith) refl))
+
+gone_told : (t : Tables) (now : ℕ) (who : Option ℕ) (top : ℕ) → AreSound t → KnownGone t who top → TellsAct t now (allowed.Delete top)
+gone_told t now who top sound known =
+    let there = ap is_some (found_there t who top sound known.path).1 in
+    nodes_told t now t.meta (without_under t.nodes top) (dropped_under t.nodes top)
+    (λ rest. drops_under t top rest sound) (under_differ t top sound there) (under_fewer t.nodes top there)
+
+-- what is replaced is there
+target_there : (t : Tables) (who : Option ℕ) (transfer : Transfer) (name : List ℕ) (top : ℕ) → AreSound t → KnownTransfer t who transfer name
+    → transfer.replaced ≡ Some top → is_some (node_row t.nodes top) ≡ true
+target_there t who transfer name top sound known is =
+    ap is_some (found_there t who top sound
+    (subst (λ (o : Option ℕ). KnownPath t who (option_map_or At o (Free transfer.folder))) is known.target)).1
+
+replaced_differ : (t : Tables) (who : Option ℕ) (transfer : Transfer) (name : List ℕ) → AreSound t → KnownTransfer t who transfer name
+    → All (Differs t) (dropped_for t.nodes transfer.replaced)
+replaced_differ t who transfer name sound known = here transfer.replaced refl
+  where
+    here : (o : Option ℕ) → transfer.replaced ≡ o → All (Differs t) (dropped_for t.nodes o)
+    here None e = All-nil (Differs t)
+    here (Some top) e = under_differ t top sound (target_there t who transfer name top sound known e)
+
+-- ---- a node that is moved
+
+-- it wasn't in the folder under that name
+relinked_other : (t : Tables) (who : Option ℕ) (transfer : Transfer) (name : List ℕ) (row : NodeRow) → AreSound t
+    → KnownTransfer t who transfer name → node_row t.nodes transfer.node ≡ Some row → relinked transfer.folder name row ≢ row
+relinked_other t who transfer name row sound known there = λ same.
+    let id : row.id ≡ transfer.node = eqb-true row.id transfer.node (found_passes (λ row. row.id == transfer.node) t.nodes row there) in
+    let place : row.place ≡ Inside transfer.folder = sym (ap (λ (r : NodeRow). r.place) same) in
+    let named : row.name ≡ name = sym (ap (λ (r : NodeRow). r.name) same) in
+    let child : child_of t.nodes transfer.folder row.name ≡ Some row.id =
+    child_there t.nodes transfer.folder row sound.names (ap (node_row t.nodes) id ∙ there) place in
+    let is : transfer.replaced ≡ Some transfer.node =
+    sym known.there ∙ ap (child_of t.nodes transfer.folder) (sym named) ∙ child ∙ ap Some id in
+    both_ways (transfer.node == transfer.node)
+    (sym (ap (λ (o : Option ℕ). option_map_or (λ node. node == transfer.node) o false) is) ∙ known.differs)
+    (eq-eqb transfer.node transfer.node refl)
+
+moved_told : (t : Tables) (now : ℕ) (who : Option ℕ) (transfer : Transfer) (name : List ℕ) → AreSound t → KnownTransfer t who transfer name
+    → TellsAct t now (allowed.Move transfer name)
+moved_told t now who transfer name sound known =
+    let found = found_there t who transfer.node sound known.source in here found.0 found.1
+  where
+    after : Tables
+    after = transferred t transfer name
+
+    left : List NodeRow
+    left = cleared t.nodes transfer.replaced
+
+    change : NodeRow → NodeRow
+    change = relinked transfer.folder name
+
+    drops : List Change
+    drops = dropped_for t.nodes transfer.replaced
+
+    here : (row : NodeRow) → node_row t.nodes transfer.node ≡ Some row → TellsAct t now (allowed.Move transfer name)
+    here row e =
+        let new : Change = Put (rows.Node (change row)) in
+        let other = relinked_other t who transfer name row sound known e in
+        let still : node_row left transfer.node ≡ Some row = row_cleared t.nodes transfer.replaced transfer.node known.apart ∙ e in
+        subst (λ (o : Option NodeRow). Tell t (stamped t after now (drops ++ transferred_row o transfer name))
+        (with_meta t.meta (record t.meta { last = now }) (drops ++ transferred_row o transfer name))) (sym e)
+        (nodes_told t now t.meta after.nodes (drops ++ new ∷ [])
+        (λ rest. ap (put_all t) (append_assoc drops (new ∷ []) rest) ∙ drops_for t transfer.replaced (new ∷ rest) sound
+        ∙ ap (λ (all : List NodeRow). put_all (record t { nodes = all }) rest)
+        (put_changed left transfer.node change row refl (clearing_sound t who transfer name sound known).rising still))
+        (All-append (Differs t) drops (new ∷ []) (replaced_differ t who transfer name sound known)
+        (All-cons (Differs t) new [] (changed_differs t transfer.node change row (λ row. refl) sound e other) (All-nil (Differs t))))
+        (another t.nodes after.nodes transfer.node row (change row) e
+        (row_itself left transfer.node change (λ row. refl) ∙ ap (option_map change) still) other))
+
+-- ---- nodes that are copied
+
+-- they have numbers that weren't given
+copies_more : (t : Tables) (old copies : List NodeRow) → AreSound t → AreNumbered t.meta.next_node copies → 1 ≤ length copies
+    → old ++ copies ≢ t.nodes
+copies_more t old [] sound numbered some = λ same. absurd (omega arith)
+copies_more t old (copy ∷ copies) sound numbered some = λ same.
+    let given = subst (All (λ (row : NodeRow). row.id < t.meta.next_node)) (sym same) (all_given t sound) in
+    let first : copy.id < t.meta.next_node =
+    subst (λ (row : NodeRow). row.id < t.meta.next_node) (get_or-append_seam old copy copies copy)
+    (given (length old) copy (omega (arith, length-append old (copy ∷ copies)))) in
+    absurd (omega (arith, first, numbered 0 copy (omega arith)))
+
+-- one of them at least
+walk_some : (old : List NodeRow) (top : ℕ) → 1 ≤ length (walk_of old top)
+unfolding walk_of walk_within
+walk_some old top = omega arith
+
+copies_told : (t : Tables) (now : ℕ) (who : Option ℕ) (copies : List NodeRow) (replaced : Option ℕ) → AreSound t
+    → KnownCopies t now who copies replaced → TellsAct t now (allowed.Copy copies replaced)
+copies_told t now who copies replaced sound known =
+    nodes_told t now (joined t copies replaced).meta (cleared t.nodes replaced ++ copies) (drops ++ puts)
+    (λ rest. ap (put_all t) (append_assoc drops puts rest) ∙ drops_for t replaced (puts ++ rest) sound
+    ∙ puts_new t (cleared t.nodes replaced) copies rest t.meta.next_node
+    (all_cleared (λ (row : NodeRow). row.id < t.meta.next_node) t.nodes replaced (all_given t sound)) numbered)
+    (All-append (Differs t) drops puts
+    (subst (λ (o : Option ℕ). All (Differs t) (dropped_for t.nodes o)) (sym known.replaced_is)
+    (replaced_differ t who known.transfer known.name sound known.known))
+    (All-map (Differs t) (λ row. Put (rows.Node row)) copies
+    (λ k d within. new_differs t (get_or copies k d) sound (omega (arith, numbered k d within)))))
+    (copies_more t (cleared t.nodes replaced) copies sound numbered
+    (omega (arith, (copies_mirror t now who copies replaced sound known).all, walk_some t.nodes known.transfer.node)))
+  where
+    drops : List Change
+    drops = dropped_for t.nodes replaced
+
+    puts : List Change
+    puts = map (λ row. Put (rows.Node row)) copies
+
+    numbered : AreNumbered t.meta.next_node copies
+    numbered k d within =
+        ((copies_mirror t now who copies replaced sound known).each k (get_or copies k d) (slice_get-get_or copies k d within)).id
+
+-- ---- each act
 
 act_told : (t : Tables) (now : ℕ) (who : Option ℕ) (act : Allowed) → AreSound t → Known t now who act → TellsAct t now act
 act_told t now who (allowed.Get node content) sound known = nothing_told t
+act_told t now who (allowed.List listing) sound known = nothing_told t
 act_told t now who (allowed.Put by key length) sound known = nothing_told t
-act_told t now who (allowed.StoreNew row blob) sound known =
-    new_told t now row blob (record (created t row blob).meta { last = now }) sound known.new
+act_told t now who (allowed.StoreNew row blob) sound known = new_told t now row blob sound known.new
 act_told t now who (allowed.StoreOver node content blob) sound known = over_told t now node content blob sound known.brought
-act_told t now who (allowed.Mkcol row) sound known =
-    new_told t now row None (record (created t row None).meta { last = now }) sound known.new
-act_told t now who (allowed.Delete nodes) sound known =
-    gone_told t now nodes
-    (subst (λ (ns : List ℕ). All (λ (node : ℕ). is_some (node_row t.nodes node) ≡ true) ns) (sym known.below) (below_there t.nodes known.top))
+act_told t now who (allowed.Mkcol row) sound known = new_told t now row None sound known.new
+act_told t now who (allowed.Delete node) sound known = gone_told t now who node sound known
+act_told t now who (allowed.Move transfer name) sound known = moved_told t now who transfer name sound known
+act_told t now who (allowed.Copy copies replaced) sound known = copies_told t now who copies replaced sound known
 act_told t now who allowed.Close sound known = nothing_told t
 
 -- ---- each step
@@ -337,20 +372,38 @@ refilled_droppable None now content = All-nil IsDroppable
 refilled_droppable (Some row) now content = here (content_eq row.content content && row.changed == now)
   where
     new : Change
-    new = Put (rows.Node (brought now content row))
+    new = Put (rows.Node (filled content now row))
 
     here : (a : Bool) → All IsDroppable (if a then [] else new ∷ [])
     here true = All-nil IsDroppable
     here false = All-cons IsDroppable new [] tt (All-nil IsDroppable)
 
+under_droppable : (nodes : List NodeRow) (top : ℕ) → All IsDroppable (dropped_under nodes top)
+under_droppable nodes top = All-map IsDroppable (λ node. Drop (keys.Node node)) (walk_of nodes top) (λ k d within is. cc)
+
+replaced_droppable : (nodes : List NodeRow) (replaced : Option ℕ) → All IsDroppable (dropped_for nodes replaced)
+replaced_droppable nodes None = All-nil IsDroppable
+replaced_droppable nodes (Some top) = under_droppable nodes top
+
+row_droppable : (o : Option NodeRow) (transfer : Transfer) (name : List ℕ) → All IsDroppable (transferred_row o transfer name)
+row_droppable None transfer name = All-nil IsDroppable
+row_droppable (Some row) transfer name =
+    All-cons IsDroppable (Put (rows.Node (relinked transfer.folder name row))) [] tt (All-nil IsDroppable)
+
 told_droppable : (t : Tables) (now : ℕ) (act : Allowed) → All IsDroppable (told t now act)
 told_droppable t now (allowed.Get node content) = All-nil IsDroppable
+told_droppable t now (allowed.List listing) = All-nil IsDroppable
 told_droppable t now (allowed.Put by key length) = All-nil IsDroppable
 told_droppable t now (allowed.StoreNew row blob) = All-cons IsDroppable (Put (rows.Node row)) [] tt (All-nil IsDroppable)
 told_droppable t now (allowed.StoreOver node content blob) = refilled_droppable (node_row t.nodes node) now content
 told_droppable t now (allowed.Mkcol row) = All-cons IsDroppable (Put (rows.Node row)) [] tt (All-nil IsDroppable)
-told_droppable t now (allowed.Delete nodes) =
-    All-map IsDroppable (λ node. Drop (keys.Node node)) nodes (λ k d within. λ is. cc)
+told_droppable t now (allowed.Delete node) = under_droppable t.nodes node
+told_droppable t now (allowed.Move transfer name) =
+    All-append IsDroppable (dropped_for t.nodes transfer.replaced) (transferred_row (node_row t.nodes transfer.node) transfer name)
+    (replaced_droppable t.nodes transfer.replaced) (row_droppable (node_row t.nodes transfer.node) transfer name)
+told_droppable t now (allowed.Copy copies replaced) =
+    All-append IsDroppable (dropped_for t.nodes replaced) (map (λ row. Put (rows.Node row)) copies) (replaced_droppable t.nodes replaced)
+    (All-map IsDroppable (λ row. Put (rows.Node row)) copies (λ k d within. tt))
 told_droppable t now allowed.Close = All-nil IsDroppable
 
 with_meta_droppable : (old meta : MetaRow) (changes : List Change) → All IsDroppable changes → All IsDroppable (with_meta old meta changes)

@@ -1,10 +1,9 @@
 -- The words about the tree, against plain ones.
-use Rattle.std.proofs.Common.{ℕ, suc, zero, ◌==◌, ◌≡◌, ◌≤◌, Bool, true, false, not, List, [], ◌∷◌, Option, None, Some, filter, get_or, refl, sym, ap, subst, arith}
+use Rattle.std.proofs.Common.{ℕ, suc, zero, ◌==◌, ◌≡◌, ◌≤◌, Bool, true, false, List, [], ◌∷◌, Option, None, Some, get_or, refl, subst, arith}
 use Rattle.std.specs.Prelude.{bytes_eq, is_some}
-use Rattle.std.specs.List.{All, list_any}
+use Rattle.std.specs.List.{list_any}
 use Rattle.std.specs.Option.{option_map_or}
-use Rattle.std.proofs.lemmas.Bool.{eq-eqb, eqb-true}
-use Rattle.std.proofs.lemmas.List.Elements.{All-head, All-tail}
+use Rattle.std.proofs.lemmas.Bool.{eqb-true}
 use Rattle.std.proofs.lemmas.List.Folds.{list_any_at}
 use Rattle.std.proofs.lemmas.Option.{option_and_then_some, same_Some}
 use Rattle.nf_base.specs.FreeNames.{is_taken}
@@ -12,22 +11,21 @@ use Rattle.nf_base.specs.declared.rows.NodeRow.{NodeRow}
 use Rattle.nf_base.specs.declared.rows.UserRow.{UserRow}
 use Rattle.nf_defs.specs.People.{user_row}
 use Rattle.nf_defs.specs.Tables.{Tables}
-use Rattle.nf_defs.specs.Tree.{child_of, climb, folder_of, is_in, is_present, is_under, node_row, parent_of, subtree_of, taken_names}
-use Rattle.nf_laws.proofs.Climbs.{among_those, climb_under, climbs_no_further, depth_is, under_climb}
+use Rattle.nf_defs.specs.Tree.{child_of, climb, folder_of, is_in, is_present, is_under, node_row, parent_of, taken_names}
+use Rattle.nf_laws.proofs.Climbs.{climb_under, climbs_no_further, depth_is, under_climb}
 use Rattle.nf_laws.proofs.Rows.{child_folder, folder_there, found_is, inside_folder, none_above}
-use Rattle.nf_laws.specs.Tree.{DepthIsClimbed, NamesAreTaken, NodesArePresent, RemovalTakesAllUnder, Under, UnderIsDerived, itself, inside}
-use Rattle.nf_words.specs.Changes.{is_among}
+use Rattle.nf_laws.specs.Tree.{DepthIsClimbed, NamesAreTaken, NodesArePresent, Under, UnderIsDerived, itself, inside}
 use Rattle.nf_words.specs.Sound.{AreSound, IsNodeSound, root_of_user}
 
 -- ---- under
 
-derived : (j : ℕ) (rows : List NodeRow) (top node : ℕ) → climb rows j node ≡ Some top → Under rows top node
+pub derived : (j : ℕ) (rows : List NodeRow) (top node : ℕ) → climb rows j node ≡ Some top → Under rows top node
 derived zero rows top node is = subst (λ (n : ℕ). Under rows n node) (same_Some node top is) itself
 derived (suc j) rows top node is =
     option_and_then_some (climb rows j) (parent_of rows node) top is
     (λ parent above is. inside node parent above (derived j rows top parent is))
 
-climbed : (rows : List NodeRow) (top node : ℕ) → Under rows top node → (j : ℕ) × (climb rows j node ≡ Some top)
+pub climbed : (rows : List NodeRow) (top node : ℕ) → Under rows top node → (j : ℕ) × (climb rows j node ≡ Some top)
 climbed rows top _ itself = (0, refl)
 climbed rows top _ (inside node parent above under) = let r = climbed rows top parent under in (suc r.0, rw above r.1)
 
@@ -100,32 +98,3 @@ depth_climbed t sound k d within =
     let h : IsNodeSound t row = sound.nodes k d within in
     let e = depth_is h.steps t.nodes row.id (root_of_user t row.owner) (none_above t row.owner sound) h.shallow h.present in
     (rw e h.present, omega (arith, e, h.shallow))
-
--- ---- what is removed
-
--- each row is among them by its number
-pub row_there : (rows : List NodeRow) → All (λ (row : NodeRow). is_some (node_row rows row.id) ≡ true) rows
-row_there [] k d within = absurd (omega arith)
-row_there (x ∷ rows) zero d within = rw (eq-eqb x.id x.id refl)
-row_there (x ∷ rows) (suc k) d within = here (x.id == (get_or rows k d).id) refl (row_there rows k d (omega arith))
-  where
-    here : (a : Bool) → (x.id == (get_or rows k d).id) ≡ a → is_some (node_row rows (get_or rows k d).id) ≡ true
-        → is_some (node_row (x ∷ rows) (get_or rows k d).id) ≡ true
-    here true e rest = simp e
-    here false e rest = simp e rest
-
--- two tests that agree at each row keep the same rows
-filter_alike : (p q : NodeRow → Bool) (rows : List NodeRow) → All (λ (row : NodeRow). p row ≡ q row) rows → filter p rows ≡ filter q rows
-filter_alike p q [] alike = refl
-filter_alike p q (x ∷ rows) alike =
-    here (p x) refl (sym (All-head (λ (row : NodeRow). p row ≡ q row) x rows alike))
-    (filter_alike p q rows (All-tail (λ (row : NodeRow). p row ≡ q row) x rows alike))
-  where
-    here : (a : Bool) → p x ≡ a → q x ≡ p x → filter p rows ≡ filter q rows → filter p (x ∷ rows) ≡ filter q (x ∷ rows)
-    here true e same rest = simp (same, e) (ap (λ (rows : List NodeRow). x ∷ rows) rest)
-    here false e same rest = simp (same, e) rest
-
-pub removal_takes : RemovalTakesAllUnder
-removal_takes t top =
-    filter_alike (λ row. not (is_among (subtree_of t.nodes top) row.id)) (λ row. not (is_under t.nodes row.id top)) t.nodes
-    (λ k d within. ap not (rw (row_there t.nodes k d within) at (among_those (λ n. is_under t.nodes n top) t.nodes (get_or t.nodes k d).id)))

@@ -1,10 +1,9 @@
 -- What the words about the tree of nodes mean.
-use Rattle.std.specs.Prelude.{◌≡◌, ◌↔◌, ℕ, ◌≤◌, All, true, not, List, filter, Some, is_some}
+use Rattle.std.specs.Prelude.{◌≡◌, ◌≢◌, ◌↔◌, ℕ, ◌≤◌, All, AllPairs, Contains, true, false, List, Some, is_some}
 use Rattle.nf_base.specs.FreeNames.{is_taken}
 use Rattle.nf_base.specs.declared.rows.NodeRow.{NodeRow}
 use Rattle.nf_defs.specs.Tables.{Tables}
-use Rattle.nf_defs.specs.Tree.{child_of, climb, depth, is_present, is_under, parent_of, subtree_of, taken_names}
-use Rattle.nf_words.specs.Changes.{removed}
+use Rattle.nf_defs.specs.Tree.{child_of, climb, depth, is_present, is_under, parent_of, taken_names, walk_of}
 use Rattle.nf_words.specs.Sound.{AreSound, root_of_user}
 
 -- a node under a top: the top itself, or a node inside one under it
@@ -34,8 +33,11 @@ DepthIsClimbed =
     → All (λ (row : NodeRow).
     (climb t.nodes (depth t.nodes row.id) row.id ≡ Some (root_of_user t row.owner)) × (depth t.nodes row.id ≤ 64)) t.nodes
 
--- a removal leaves the nodes that aren't under its top, and no other
-abbrev pub RemovalTakesAllUnder : Type 0
-RemovalTakesAllUnder =
-    (t : Tables) (top : ℕ)
-    → (removed t (subtree_of t.nodes top)).nodes ≡ filter (λ row. not (is_under t.nodes row.id top)) t.nodes
+-- no folder is under a node that is in it
+abbrev pub NoRings : Type 0
+NoRings = (t : Tables) (node parent : ℕ) → AreSound t → parent_of t.nodes node ≡ Some parent → is_under t.nodes parent node ≡ false
+
+-- a walk from a top has just the nodes under it, and no node twice
+pub record WalksTakeAllUnder : Type 0 where
+  pub those : (t : Tables) (top node : ℕ) → AreSound t → Contains (walk_of t.nodes top) node ↔ Under t.nodes top node
+  pub once : (t : Tables) (top : ℕ) → AreSound t → AllPairs (λ (a b : ℕ). a ≢ b) (walk_of t.nodes top)

@@ -5,16 +5,19 @@ mod history;
 mod owners;
 mod reads;
 mod tells;
+mod transfers;
 mod tree;
 mod walks;
 mod wholes;
 
 pub use history::{counters_rise, numbers_are_new, stays_sound};
-pub use owners::{changes_only_own, serves_only_own};
+pub use owners::{changes_only_own, lists_only_own, serves_only_own};
 pub use reads::stored_is_read;
 pub use tells::changes_tell;
+pub use transfers::{copies_mirror, moves_keep};
 pub use tree::{
-    depth_is_climbed, names_are_taken, nodes_are_present, removal_takes_all_under, under_is_derived,
+    depth_is_climbed, names_are_taken, no_rings, nodes_are_present, under_is_derived,
+    walks_take_all_under,
 };
 pub use walks::walk_follows;
 pub use wholes::{blobs_are_new, opens_whole, stays_whole};

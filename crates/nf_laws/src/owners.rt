@@ -1,10 +1,16 @@
 //! Whose is what a step serves or changes.
 
-ghost use Rattle.nf_laws.specs.Owners.{ChangesOnlyOwn, ServesOwn};
+ghost use Rattle.nf_laws.specs.Owners.{ChangesOnlyOwn, ListsAll, ListsOwn, ServesOwn};
 
 /// What a GET is granted is the content of the caller's own node, to which the path leads from the caller's root.
 pub fn serves_only_own()
     ensures { ServesOwn }
+{}
+
+/// What a GET of a folder is answered is what is in the caller's own folder, to which the path leads from the caller's root.
+pub fn lists_only_own()
+    ensures own { ListsOwn }
+    ensures all { ListsAll }
 {}
 
 /// A step changes nodes of who acts, and the meta row, and no other row.

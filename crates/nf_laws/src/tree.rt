@@ -1,6 +1,6 @@
 //! Laws of the tree of nodes.
 
-ghost use Rattle.nf_laws.specs.Tree.{UnderIsDerived, NodesArePresent, NamesAreTaken, DepthIsClimbed, RemovalTakesAllUnder};
+ghost use Rattle.nf_laws.specs.Tree.{UnderIsDerived, NodesArePresent, NamesAreTaken, DepthIsClimbed, NoRings, WalksTakeAllUnder};
 
 /// A node is under a top where folders lead up to it, however many.
 pub fn under_is_derived()
@@ -22,7 +22,12 @@ pub fn depth_is_climbed()
     ensures { DepthIsClimbed }
 {}
 
-/// What is removed is the top with all that is under it.
-pub fn removal_takes_all_under()
-    ensures { RemovalTakesAllUnder }
+/// No node is in a folder that is under it.
+pub fn no_rings()
+    ensures { NoRings }
+{}
+
+/// A walk from a top has just the nodes under it, each once: they are what a DELETE drops, and what a COPY copies.
+pub fn walks_take_all_under()
+    ensures { WalksTakeAllUnder }
 {}

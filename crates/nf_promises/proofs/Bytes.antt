@@ -1,31 +1,37 @@
 -- What is put is what is got, of bytes.
-use Rattle.std.proofs.Common.{ℕ, ◌≡◌, ◌||◌, Bool, true, List, ◌++◌, length, Option, None, Some, Result, Ok, inl, inr, refl, sym, ap, append_assoc, subst, ◌∙◌}
-use Rattle.std.specs.Prelude.{IsSome}
+use Rattle.std.proofs.Common.{ℕ, ◌≡◌, ◌⊎◌, ◌<◌, ◌||◌, Bool, true, false, List, [], ◌++◌, length, take, if◌then◌else◌, Option, None, Some, Result, Ok, Err, inl, inr, refl, sym, ap, append_assoc, subst, ◌∙◌, arith, length-append}
+use Rattle.std.proofs.lemmas.List.{length-take}
+use Rattle.std.specs.Prelude.{IsOk, IsSome, MatchBool}
 use Rattle.std.specs.Io.KnownBytes.{Appends}
 use Rattle.httparse.specs.Grammar.{RequestHead, print_request}
 use Rattle.nf_dav.specs.Asked.{request_of}
-use Rattle.nf_dav.specs.Reply.{done_reply, made_reply}
+use Rattle.nf_dav.specs.Reply.{continue_reply, done_reply, made_reply}
 use Rattle.nf_http.proofs.Agreement.{one_answer_and_rest}
 use Rattle.nf_http.proofs.Wholes.{one_body}
 use Rattle.nf_http.specs.Bodies.{TakesBody}
-use Rattle.nf_http.specs.Head.{Head, closes_session, head_of}
+use Rattle.nf_http.specs.Head.{Head, closes_session, expects_continue, head_of}
 use Rattle.nf_http.specs.Next.{IsNext, IsOfBytes}
 use Rattle.nf_http.specs.declared.wire.WireFault.{WireFault}
+use Rattle.nf_words.specs.declared.answer.Goal.TheVariants as goal
+use Rattle.nf_words.specs.declared.answer.Reply.TheVariants as reply
 use Rattle.nf_words.specs.declared.request.Caller.{Caller}
 use Rattle.nf_words.specs.declared.request.Request.{Request}
 use Rattle.nf_words.specs.declared.request.Spot.{Spot}
-use Rattle.nf_server.specs.Steps.{Bodies, Heads, Judges, Scene, is_granted, taken_length}
-use Rattle.nf_server.specs.Turn.{Answers, CutsShort, Turn, how_of, stays_granted}
+use Rattle.nf_server.specs.Steps.{Bodies, Heads, Invites, Judges, Scene, Sends, is_granted, is_invited, taken_length}
+use Rattle.nf_server.specs.Turn.{Answers, CutsShort, StopsShort, Turn, how_of, stays_granted, way_of}
 use Rattle.nf_server.specs.declared.backend.Ending.TheVariants as ending
 use Rattle.nf_server.specs.declared.begun.Begun.{Begun}
+use Rattle.nf_server.specs.declared.begun.Begun.TheVariants as begun
 use Rattle.nf_server.specs.declared.ended.Ended.{Ended}
+use Rattle.nf_server.specs.declared.ended.Ended.TheVariants as ended
+use Rattle.nf_server.proofs.Inviting.{invited_bytes, invites_wrote, stops_sends}
 use Rattle.nf_promises.proofs.Alone.{only_within}
-use Rattle.nf_promises.proofs.Growing.{answers_grow, grows_none, heads_same, judges_grow, turn_grows}
-use Rattle.nf_promises.proofs.Marks.{done_mark, ends_not_done, is_done, made_mark, responds_stored}
+use Rattle.nf_promises.proofs.Growing.{answers_grow, grows_none, grows_on, heads_same, invites_grow, judges_grow, turn_grows}
+use Rattle.nf_promises.proofs.Marks.{done_mark, ends_not_done, invited_mark, is_done, made_mark, one_written, responds_stored}
 use Rattle.nf_promises.proofs.Puts.{BeginsPut, put_begun}
 use Rattle.nf_promises.proofs.Returning.{appends_by, cut_not_written, put_then_get, takes_output}
 use Rattle.nf_promises.proofs.Touches.{closes_only, input_of, judges_only, output_of, passes_only, stored_only}
-use Rattle.nf_promises.specs.Kept.{Gets, IsWritten, OnlyOwn, Prints, PutThenGetOfBytes, Puts, SaysDone, SaysStored, ShowsFile, get_of, put_of}
+use Rattle.nf_promises.specs.Kept.{Gets, IsWritten, OnlyOwn, Prints, PutThenGetOfBytes, Puts, SaysDone, SaysStored, ShowsFile, get_of, invitation, put_of, waits}
 
 -- ---- the head at the front
 
@@ -64,26 +70,81 @@ bodies_of : {C : Type 0} (m x : Scene C) (head : Head) (begun : Begun) (body : L
     → Bodies m x (taken_length head begun) body → Bodies m x n body
 bodies_of m x head begun body n begins bodies = subst (λ (q : Begun). Bodies m x (taken_length head q) body) begins.is bodies
 
+-- what is written behind the invitation
+invited_waits : (head : Head) (begun : Begun) → is_invited head begun ≡ true → expects_continue head ≡ true
+invited_waits head (begun.Asked (Ok (reply.Granted (goal.Store who key n)))) is = is
+invited_waits head other is = absurd (cc)
+
+record Behind (head : Head) (begun : Begun) (answer : List ℕ) : Type 0 where
+  bytes : List ℕ
+  are : invitation head ++ answer ≡ invited_bytes head begun ++ bytes
+  done : is_done bytes ≡ true
+
+told_done : (head : Head) (answer : List ℕ) → is_done answer ≡ true → is_done (invitation head ++ answer) ≡ true
+told_done head answer done = here (expects_continue head)
+  where
+    here : (waits : Bool) → is_done ((if waits then continue_reply else []) ++ answer) ≡ true
+    here true = invited_mark answer
+    here false = done
+
+behind : (head : Head) (begun : Begun) (answer : List ℕ) → is_done answer ≡ true → Behind head begun answer
+behind head begun answer done = here (is_invited head begun) refl
+  where
+    here : (invited : Bool) → is_invited head begun ≡ invited → Behind head begun answer
+    here true is = record {
+      bytes = answer;
+      are = λ i. (if (invited_waits head begun is ∙ sym is) i then continue_reply else []) ++ answer;
+      done = done;
+    }
+    here false is = record {
+      bytes = invitation head ++ answer;
+      are = ap (λ (invited : Bool). (if invited then continue_reply else []) ++ (invitation head ++ answer)) (sym is);
+      done = told_done head answer done;
+    }
+
+appends_rest : (old middle new : Option (List ℕ)) (front rest : List ℕ) → IsSome old → Appends old middle front → Appends old new (front ++ rest)
+    → IsSome middle × Appends middle new rest
+appends_rest None middle new front rest told first all = absurd (cc)
+appends_rest (Some xs) None new front rest told first all = absurd first
+appends_rest (Some xs) (Some ys) None front rest told first all = absurd all
+appends_rest (Some xs) (Some ys) (Some zs) front rest told first all =
+    (refl, all ∙ sym (append_assoc xs front rest) ∙ ap (λ (z : List ℕ). z ++ rest) (sym first))
+
+-- behind the invitation
+rest_written : {C : Type 0} (reads : C → ℕ → C → Type 0) (head : Head) (begun : Begun) (k m n : Scene C) (new : Option (List ℕ)) (answer : List ℕ)
+    (rest : Behind head begun answer) → Judges reads head k m begun → Invites {T = Unit {0}} head begun m n (Ok tt)
+    → IsSome k.output → Appends k.output new (invitation head ++ answer) → IsSome n.output × Appends n.output new rest.bytes
+rest_written {C} reads head begun k m n new answer rest judges invites told wrote =
+    let front : m.output ≡ k.output = output_of k m (judges_only reads head k m begun judges) in
+    appends_rest k.output n.output new (invited_bytes head begun) rest.bytes told
+    (appends_by k.output n.output m.output n.output (invited_bytes head begun) front refl (invites_wrote head begun m n (Unit {0}) tt invites).bytes_are)
+    (subst (λ (bytes : List ℕ). Appends k.output new bytes) rest.are wrote)
+
 answers_put : {C : Type 0} (reads : C → ℕ → C → Type 0) (last : Bool) (caller : Caller) (spot : Spot) (body left : List ℕ) (head : Head) (begun : Begun)
-    (a k m b : Scene C) (end : Option Ended) (w : List ℕ) → Heads a k (Ok (Some head)) → request_of head ≡ Ok (put_of caller spot (length body))
-    → k.input ≡ Some (body ++ left) → Judges reads head k m begun → Answers reads last head begun m b end
-    → IsSome a.output → Appends a.output b.output w → is_done w ≡ true → OnlyOwn k.book m.book
+    (a k m n b : Scene C) (end : Option Ended) (answer : List ℕ) → Heads a k (Ok (Some head)) → request_of head ≡ Ok (put_of caller spot (length body))
+    → k.input ≡ Some (body ++ left) → Judges reads head k m begun → Invites {T = Unit {0}} head begun m n (Ok tt)
+    → Answers reads last head begun n b end
+    → IsSome k.output → Appends k.output b.output (invitation head ++ answer) → is_done answer ≡ true → OnlyOwn k.book m.book
     → PutsAndLeaves reads last caller spot body left a b end
-answers_put {C} reads last caller spot body left head begun a k m b end w heads asked input judges answers told wrote done one =
+answers_put {C} reads last caller spot body left head begun a k m n b end answer heads asked input judges invites answers told wrote done one =
     let v = answers.response in
     let taken = answers.taken in
     let sent = answers.sent in
     let x : Scene C = answers.takes.0 in
-    let front : taken.output ≡ a.output = takes_output reads head m taken begun v answers.takes ∙ output_of k m (judges_only reads head k m begun judges)
-    ∙ ap (λ (y : Scene C). y.output) heads.only in
+    let way = way_of head begun in
+    let rest = behind head begun answer done in
+    let written = rest_written reads head begun k m n b.output answer rest judges invites told wrote in
+    let front : taken.output ≡ n.output = takes_output reads head n taken begun v answers.takes in
     let closed = output_of sent b (closes_only reads (how_of v answers.result) (stays_granted v) sent b answers.closes) in
-    let says : SaysStored v = responds_stored last head v taken sent w answers.result answers.responds
-    (subst (λ (o : Option (List ℕ)). IsSome o) (sym front) told)
-    (appends_by taken.output sent.output a.output b.output w (sym front) closed wrote) done in
+    let says : SaysStored v = responds_stored last way v taken sent rest.bytes answers.result answers.responds
+    (subst (λ (o : Option (List ℕ)). IsSome o) (sym front) written.0)
+    (appends_by taken.output sent.output n.output b.output rest.bytes (sym front) closed written.1) rest.done in
     let begins = put_begun reads head begun v k m x taken answers.takes.1 caller spot (length body) asked judges answers.takes.3 says one in
-    let bodies = bodies_of m x head begun answers.takes.1 (length body) begins answers.takes.2 in
+    let bodies = bodies_of n x head begun answers.takes.1 (length body) begins answers.takes.2 in
+    let there : n.input ≡ Some (body ++ left) = ap (λ (y : Scene C). y.input) (invites_wrote head begun m n (Unit {0}) tt invites).only
+    ∙ input_of k m (judges_only reads head k m begun judges) ∙ input in
     let whole = one_body (body ++ left) x.input (Some left) (length body) answers.takes.1 body
-    (subst (λ (o : Option (List ℕ)). TakesBody o x.input (length body) answers.takes.1) (input_of k m (judges_only reads head k m begun judges) ∙ input) bodies.taken)
+    (subst (λ (o : Option (List ℕ)). TakesBody o x.input (length body) answers.takes.1) there bodies.taken)
     (refl, refl) in (
       record {
         head = head;
@@ -93,45 +154,98 @@ answers_put {C} reads last caller spot body left head begun a k m b end w heads 
         judged = m;
         begun = begun;
         judges = judges;
+        invited = n;
+        invites = invites;
         answers = answers;
         body_is = whole.0;
         stored = says;
       },
       input_of sent b (closes_only reads (how_of v answers.result) (stays_granted v) sent b answers.closes)
-          ∙ ap (λ (y : Scene C). y.input) (stored_only last head v taken sent answers.result says answers.responds)
+          ∙ ap (λ (y : Scene C). y.input) (stored_only last way v taken sent answers.result says answers.responds)
           ∙ input_of x taken (passes_only reads answers.takes.1 x taken begun v answers.takes.3) ∙ whole.1,
     )
 
-cuts_not_done : {C : Type 0} (reads : C → ℕ → C → Type 0) (head : Head) (begun : Begun) (k m b : Scene C) (end : Option Ended) (w : List ℕ)
-    → Judges reads head k m begun → CutsShort reads head begun m b end → IsSome k.output → Appends k.output b.output w → is_done w ≡ true → ⊥
-cuts_not_done {C} reads head begun k m b end w judges cuts told wrote done =
-    let front : cuts.cut.output ≡ k.output = ap (λ (y : Scene C). y.output) cuts.takes.only ∙ output_of k m (judges_only reads head k m begun judges) in
+cuts_not_done : {C : Type 0} (reads : C → ℕ → C → Type 0) (head : Head) (begun : Begun) (n b : Scene C) (end : Option Ended) (w : List ℕ)
+    → CutsShort reads head begun n b end → IsSome n.output → Appends n.output b.output w → is_done w ≡ true → ⊥
+cuts_not_done {C} reads head begun n b end w cuts told wrote done =
+    let front : cuts.cut.output ≡ n.output = ap (λ (y : Scene C). y.output) cuts.takes.only in
     let closed = output_of cuts.sent b (closes_only reads ending.Gone (is_granted begun) cuts.sent b cuts.closes) in
     ends_not_done cuts.fault cuts.cut cuts.sent w cuts.by cuts.responds (subst (λ (o : Option (List ℕ)). IsSome o) (sym front) told)
-    (appends_by cuts.cut.output cuts.sent.output k.output b.output w (sym front) closed wrote) done
+    (appends_by cuts.cut.output cuts.sent.output n.output b.output w (sym front) closed wrote) done
+
+-- one that couldn't be told wrote less than the invitation
+stopped_waits : {C : Type 0} (head : Head) (begun : Begun) (a b : Scene C) (by : Ended) → Invites {T = Unit {0}} head begun a b (Err by)
+    → expects_continue head ≡ true
+stopped_waits {C} head begun a b by invites = here (is_invited head begun) refl invites
+  where
+    here : (invited : Bool) → is_invited head begun ≡ invited
+        → MatchBool invited (Sends {T = Unit {0}} a b continue_reply (Err by)) (IsOk {T = Unit {0}} {E = Ended} (Err by) × (b ≡ a))
+        → expects_continue head ≡ true
+    here true is sends = invited_waits head begun is
+    here false is same = absurd (cc)
+
+less_written : {C : Type 0} (a b : Scene C) (by : Ended) (w : List ℕ) → Sends {T = Unit {0}} a b continue_reply (Err by) → IsSome a.output
+    → Appends a.output b.output w → length w < length continue_reply
+less_written a b ended.WriteFault w part told wrote =
+    let same : take part.count continue_reply ≡ w = one_written a.output b.output (take part.count continue_reply) w told part.bytes_are wrote in
+    omega (arith, ap length same, length-take part.count continue_reply, part.less)
+less_written a b by w never told wrote = absurd never
+
+stops_not_done : {C : Type 0} (reads : C → ℕ → C → Type 0) (head : Head) (begun : Begun) (k m b : Scene C) (end : Option Ended) (answer : List ℕ)
+    → Judges reads head k m begun → StopsShort reads head begun m b end → IsSome k.output → Appends k.output b.output (invitation head ++ answer) → ⊥
+stops_not_done {C} reads head begun k m b end answer judges stops told wrote =
+    let front : m.output ≡ k.output = output_of k m (judges_only reads head k m begun judges) in
+    let closed = output_of stops.sent b (closes_only reads ending.Gone (is_granted begun) stops.sent b stops.closes) in
+    let less = less_written m stops.sent stops.by (invitation head ++ answer)
+    (stops_sends head begun m stops.sent (Unit {0}) stops.by stops.invites)
+    (subst (λ (o : Option (List ℕ)). IsSome o) (sym front) told)
+    (appends_by m.output stops.sent.output k.output b.output (invitation head ++ answer) (sym front) closed wrote) in
+    let whole : invitation head ≡ continue_reply =
+    ap (λ (waits : Bool). if waits then continue_reply else []) (stopped_waits head begun m stops.sent stops.by stops.invites) in
+    omega (arith, less, length-append (invitation head) answer, ap length whole)
 
 turn_puts : {C : Type 0} (reads : C → ℕ → C → Type 0) (last : Bool) (caller : Caller) (spot : Spot) (h : RequestHead) (body left : List ℕ)
-    (a b : Scene C) (end : Option Ended) (w : List ℕ) → Prints h (put_of caller spot (length body))
-    → a.input ≡ Some (print_request h ++ (body ++ left)) → IsSome a.output → Appends a.output b.output w → is_done w ≡ true
+    (a b : Scene C) (end : Option Ended) (answer : List ℕ) → Prints h (put_of caller spot (length body))
+    → a.input ≡ Some (print_request h ++ (body ++ left)) → IsSome a.output → Appends a.output b.output (invitation (head_of h) ++ answer)
+    → is_done answer ≡ true
     → OnlyOwn a.book b.book → Turn reads last a b end → PutsAndLeaves reads last caller spot body left a b end
-turn_puts reads last caller spot h body left a b end w prints input told wrote done only (inl (heads, is)) =
+turn_puts reads last caller spot h body left a b end answer prints input told wrote done only (inl (heads, is)) =
     absurd (none_is_no_head a b h (put_of caller spot (length body)) (body ++ left) prints input heads)
-turn_puts {C} reads last caller spot h body left a b end w prints input told wrote done only (inr (inl (m, why, by, heads, ends, is))) =
+turn_puts {C} reads last caller spot h body left a b end answer prints input told wrote done only (inr (inl (m, why, by, heads, ends, is))) =
     let front : m.output ≡ a.output = ap (λ (y : Scene C). y.output) heads.only in
-    absurd (ends_not_done why m b w by ends (subst (λ (o : Option (List ℕ)). IsSome o) (sym front) told)
-    (appends_by m.output b.output a.output b.output w (sym front) refl wrote) done)
-turn_puts {C} reads last caller spot h body left a b end w prints input told wrote done only
-    (inr (inr (k, head, heads, (m, begun, judges, inl answers)))) =
-    let at = head_is a k h (put_of caller spot (length body)) (body ++ left) head prints input heads in
-    let front = grows_none a.book k.book (heads_same a k (Ok (Some head)) heads) in
-    let one : OnlyOwn k.book m.book = only_within a.book k.book m.book b.book 0 1 2 front (judges_grow reads head k m begun judges)
-    (answers_grow reads last head begun m b end answers) only in
-    answers_put reads last caller spot body left head begun a k m b end w heads (ap request_of at.0 ∙ prints.asks) at.1 judges answers told wrote done one
-turn_puts {C} reads last caller spot h body left a b end w prints input told wrote done only
-    (inr (inr (k, head, heads, (m, begun, judges, inr cuts)))) =
-    let front : k.output ≡ a.output = ap (λ (y : Scene C). y.output) heads.only in
-    absurd (cuts_not_done reads head begun k m b end w judges cuts (subst (λ (o : Option (List ℕ)). IsSome o) (sym front) told)
-    (appends_by k.output b.output a.output b.output w (sym front) refl wrote) done)
+    absurd (ends_not_done why m b (invitation (head_of h) ++ answer) by ends (subst (λ (o : Option (List ℕ)). IsSome o) (sym front) told)
+    (appends_by m.output b.output a.output b.output (invitation (head_of h) ++ answer) (sym front) refl wrote) (told_done (head_of h) answer done))
+turn_puts {C} reads last caller spot h body left a b end answer prints input told wrote done only (inr (inr (k, head, heads, (m, begun, judges, meets)))) =
+    here meets
+  where
+    at : (head ≡ head_of h) × (k.input ≡ Some (body ++ left))
+    at = head_is a k h (put_of caller spot (length body)) (body ++ left) head prints input heads
+
+    front : k.output ≡ a.output
+    front = ap (λ (y : Scene C). y.output) heads.only
+
+    tells : IsSome k.output
+    tells = subst (λ (o : Option (List ℕ)). IsSome o) (sym front) told
+
+    written : Appends k.output b.output (invitation head ++ answer)
+    written = appends_by k.output b.output a.output b.output (invitation head ++ answer) (sym front) refl
+        (subst (λ (z : Head). Appends a.output b.output (invitation z ++ answer)) (sym at.0) wrote)
+
+    here : StopsShort reads head begun m b end
+        ⊎ ((n : Scene C) × Invites {T = Unit {0}} head begun m n (Ok tt)
+        × (Answers reads last head begun n b end ⊎ CutsShort reads head begun n b end))
+        → PutsAndLeaves reads last caller spot body left a b end
+    here (inl stops) = absurd (stops_not_done reads head begun k m b end answer judges stops tells written)
+    here (inr (n, invites, inl answers)) =
+        let first = grows_none a.book k.book (heads_same a k (Ok (Some head)) heads) in
+        let one : OnlyOwn k.book m.book = only_within a.book k.book m.book b.book 0 1 2 first (judges_grow reads head k m begun judges)
+        (grows_on m.book n.book b.book 0 2 2 (omega arith) (invites_grow head begun m n invites) (answers_grow reads last head begun n b end answers)) only in
+        answers_put reads last caller spot body left head begun a k m n b end answer heads (ap request_of at.0 ∙ prints.asks) at.1 judges invites
+        answers tells written done one
+    here (inr (n, invites, inr cuts)) =
+        let rest = behind head begun answer done in
+        let later = rest_written reads head begun k m n b.output answer rest judges invites tells written in
+        absurd (cuts_not_done reads head begun n b end rest.bytes cuts later.0 later.1 rest.done)
 
 -- ---- the turn of the GET
 
@@ -149,13 +263,14 @@ turn_gets reads last caller spot h rest a b end prints input written (inr (inr (
 -- ---- both
 
 -- the bytes that say so
-says_done : {C : Type 0} (a b : Scene C) → SaysDone a b → (w : List ℕ) × Appends a.output b.output w × (is_done w ≡ true)
-says_done a b (close, inl wrote) = (made_reply close, wrote, made_mark close)
-says_done a b (close, inr wrote) = (done_reply close, wrote, done_mark close)
+says_done : {C : Type 0} (head : Head) (a b : Scene C) → SaysDone head a b
+    → (answer : List ℕ) × Appends a.output b.output (invitation head ++ answer) × (is_done answer ≡ true)
+says_done head a b (close, inl wrote) = (made_reply close, wrote, made_mark close)
+says_done head a b (close, inr wrote) = (done_reply close, wrote, done_mark close)
 
 pub put_then_get_of_bytes : {C : Type 0} (reads : C → ℕ → C → Type 0) → PutThenGetOfBytes reads
 put_then_get_of_bytes {C} reads caller spot put get body rest a b c first last end done puts gets input told turn says later written sound only =
-    let wrote = says_done a b says in
+    let wrote = says_done (head_of put) a b says in
     let parts : print_request put ++ body ++ print_request get ++ rest ≡ print_request put ++ (body ++ (print_request get ++ rest)) =
     append_assoc (print_request put ++ body) (print_request get) rest ∙ append_assoc (print_request put) body (print_request get ++ rest) in
     let none = grows_none a.book a.book refl in
@@ -163,5 +278,5 @@ put_then_get_of_bytes {C} reads caller spot put get body rest a b c first last e
     (turn_grows reads last b c done later) only in
     let one = turn_puts reads first caller spot put body (print_request get ++ rest) a b end wrote.0 puts (input ∙ ap (λ (bytes : List ℕ). Some bytes) parts) told wrote.1 wrote.2 alone turn in
     let two = turn_gets reads last caller spot get rest b c done gets one.1 written later in
-    subst (λ (head : Head). ShowsFile (last || closes_session head) body b c) two.1
+    subst (λ (head : Head). ShowsFile (last || closes_session head) (waits head) body b c) two.1
     (put_then_get reads caller spot body a b c first last end done one.0 two.0 sound only written)

@@ -1,7 +1,9 @@
 -- A run isn't full for a session that began it.
 use Rattle.std.proofs.Common.{ℕ, suc, ◌+◌, ◌*◌, ◌≡◌, ◌<◌, ◌≤◌, ◌==◌, Bool, true, false, List, [], ◌∷◌, length, Option, Some, Result, Ok, Err, inl, inr, refl, ap, subst, sym, ◌∙◌, arith}
 use Rattle.nf_base.specs.declared.content.Piece.{Piece}
-use Rattle.nf_http.specs.Head.{Head, closes_session}
+use Rattle.nf_dav.specs.Reply.{continue_reply}
+use Rattle.nf_dav.specs.declared.replies.Manner.{Manner}
+use Rattle.nf_http.specs.Head.{Head}
 use Rattle.nf_http.specs.declared.wire.WireFault.{WireFault}
 use Rattle.nf_http.specs.declared.wire.WireFault.TheVariants as wire
 use Rattle.nf_words.specs.History.{most_entries}
@@ -12,15 +14,16 @@ use Rattle.nf_words.specs.declared.answer.Goal.TheVariants as goal
 use Rattle.nf_words.specs.declared.answer.Reply.TheVariants as reply
 use Rattle.nf_server.specs.Book.{Answer, Book, entries_wanted, state_after}
 use Rattle.nf_server.specs.Session.{Through}
-use Rattle.nf_server.specs.Steps.{EndsBy, IsResponse, Judges, Passes, Scene, Starts, TakesIn}
-use Rattle.nf_server.specs.Turn.{Answers, CutsShort, Responds, Turn, Writes, end_by, end_of, end_of_close, end_of_denial, says_close}
+use Rattle.nf_server.specs.Steps.{EndsBy, Invites, IsResponse, Judges, Passes, Scene, Sends, Starts, TakesIn}
+use Rattle.nf_server.specs.Turn.{Answers, CutsShort, Responds, StopsShort, Turn, Way, Writes, end_by, end_of, end_of_close, end_of_denial, manner_of, way_of}
 use Rattle.nf_server.specs.declared.begun.Begun.{Begun}
 use Rattle.nf_server.specs.declared.begun.Begun.TheVariants as begun
 use Rattle.nf_server.specs.declared.ended.Ended.{Ended}
 use Rattle.nf_server.specs.declared.ended.Ended.TheVariants as ended
 use Rattle.nf_server.specs.declared.response.Response.{Response}
 use Rattle.nf_server.specs.declared.response.Response.TheVariants as response
-use Rattle.nf_promises.proofs.Growing.{answers_grow, turn_grows, Grew, Grows, grew_none, grows_more, grows_none, grows_on, heads_same, judges_grow}
+use Rattle.nf_server.proofs.Inviting.{stops_sends}
+use Rattle.nf_promises.proofs.Growing.{answers_grow, invites_grow, turn_grows, Grew, Grows, grew_none, grows_more, grows_none, grows_on, heads_same, judges_grow}
 use Rattle.nf_promises.proofs.Refusals.{end_not_full, request_not_full}
 use Rattle.nf_promises.proofs.Tickets.{few_tickets}
 use Rattle.nf_promises.specs.Room.{NeverFull}
@@ -42,22 +45,24 @@ response_full closes (response.Lost fault) is = absurd (close_not_full closes is
 response_full closes (response.File content first) is = absurd (close_not_full closes is)
 response_full closes response.Made is = absurd (close_not_full closes is)
 response_full closes response.Done is = absurd (close_not_full closes is)
+response_full closes (response.Listing lines) is = absurd (close_not_full closes is)
 
 -- no writing does
-writes_not_full : {C : Type 0} (close : Bool) (v : Response) (a b : Scene C) → Writes {T = Unit {0}} close v a b (Err ended.RunFull) → ⊥
-writes_not_full close (response.Denied refusal) a b never = never
-writes_not_full close (response.Lost fault) a b never = never
-writes_not_full close (response.File content first) a b never = never
-writes_not_full close response.Made a b never = never
-writes_not_full close response.Done a b never = never
+writes_not_full : {C : Type 0} (manner : Manner) (v : Response) (a b : Scene C) → Writes {T = Unit {0}} manner v a b (Err ended.RunFull) → ⊥
+writes_not_full manner (response.Denied refusal) a b never = never
+writes_not_full manner (response.Lost fault) a b never = never
+writes_not_full manner (response.File content first) a b never = never
+writes_not_full manner response.Made a b never = never
+writes_not_full manner response.Done a b never = never
+writes_not_full manner (response.Listing lines) a b never = never
 
-responds_full : {C : Type 0} (last : Bool) (head : Head) (v : Response) (a b : Scene C) (result : Result (Option Ended) Ended)
-    → Responds last head v a b result → end_by result ≡ Some ended.RunFull → v ≡ response.Denied denial.RunFull
-responds_full last head v a b (Ok end) (ends, writes) is = response_full (closes_session head) v (sym ends ∙ is)
-responds_full last head v a b (Err by) writes is =
+responds_full : {C : Type 0} (last : Bool) (way : Way) (v : Response) (a b : Scene C) (result : Result (Option Ended) Ended)
+    → Responds last way v a b result → end_by result ≡ Some ended.RunFull → v ≡ response.Denied denial.RunFull
+responds_full last way v a b (Ok end) (ends, writes) is = response_full way.closes v (sym ends ∙ is)
+responds_full last way v a b (Err by) writes is =
     let same : by ≡ ended.RunFull = cc in
-    absurd (writes_not_full (says_close last head v) v a b
-    (subst (λ (e : Ended). Writes {T = Unit {0}} (says_close last head v) v a b (Err e)) same writes))
+    absurd (writes_not_full (manner_of last way v) v a b
+    (subst (λ (e : Ended). Writes {T = Unit {0}} (manner_of last way v) v a b (Err e)) same writes))
 
 -- nor do bytes that are no message
 ends_not_full : {C : Type 0} (fault : WireFault) (a b : Scene C) → EndsBy fault a b ended.RunFull → ⊥
@@ -74,6 +79,7 @@ starts_not_full a b (piece ∷ pieces) never = never
 answer_full : (answer : Answer) → IsResponse answer (response.Denied denial.RunFull) → answer ≡ Err denial.RunFull
 answer_full (Ok reply.Made) is = absurd (cc)
 answer_full (Ok reply.Done) is = absurd (cc)
+answer_full (Ok (reply.Listing lines)) is = absurd (cc)
 answer_full (Ok reply.Closed) never = absurd never
 answer_full (Ok (reply.Granted goal)) never = absurd never
 answer_full (Err refusal) is = cc
@@ -93,6 +99,7 @@ passes_full reads body a b (begun.Asked (Ok (reply.Granted (goal.Store who key l
     absurd (end_not_full (state_after a.book enters.others) enters.entry _ enters.event_is (sym enters.answer_is ∙ answer_full answer is))
 passes_full reads body a b (begun.Asked (Ok reply.Made)) (is, same) = answer_full (Ok reply.Made) is
 passes_full reads body a b (begun.Asked (Ok reply.Done)) (is, same) = answer_full (Ok reply.Done) is
+passes_full reads body a b (begun.Asked (Ok (reply.Listing lines))) (is, same) = answer_full (Ok (reply.Listing lines)) is
 passes_full reads body a b (begun.Asked (Ok reply.Closed)) (is, same) = answer_full (Ok reply.Closed) is
 passes_full reads body a b (begun.Asked (Err refusal)) (is, same) = answer_full (Err refusal) is
 
@@ -112,17 +119,19 @@ record FindsFull (a b : Book) : Type 0 where
   behind : Grows middle b 3
   full : most_entries < entries_wanted middle
 
-answers_full : {C : Type 0} (reads : C → ℕ → C → Type 0) (last : Bool) (head : Head) (begun : Begun) (a m b : Scene C)
-    → Judges reads head a m begun → Answers reads last head begun m b (Some ended.RunFull) → FindsFull a.book b.book
-answers_full {C} reads last head begun a m b judges answers =
+answers_full : {C : Type 0} (reads : C → ℕ → C → Type 0) (last : Bool) (head : Head) (begun : Begun) (a m n b : Scene C)
+    → Judges reads head a m begun → Invites {T = Unit {0}} head begun m n (Ok tt) → Answers reads last head begun n b (Some ended.RunFull)
+    → FindsFull a.book b.book
+answers_full {C} reads last head begun a m n b judges invites answers =
     let v : answers.response ≡ response.Denied denial.RunFull =
-    responds_full last head answers.response answers.taken answers.sent answers.result answers.responds (sym answers.ends) in
-    let takes : TakesIn reads head m answers.taken begun (Ok (response.Denied denial.RunFull)) =
-    subst (λ (v : Response). TakesIn reads head m answers.taken begun (Ok v)) v answers.takes in
+    responds_full last (way_of head begun) answers.response answers.taken answers.sent answers.result answers.responds (sym answers.ends) in
+    let takes : TakesIn reads head n answers.taken begun (Ok (response.Denied denial.RunFull)) =
+    subst (λ (v : Response). TakesIn reads head n answers.taken begun (Ok v)) v answers.takes in
     record {
       middle = m.book;
       before = grows_more a.book m.book 1 3 (omega arith) (judges_grow reads head a m begun judges);
-      behind = grows_more m.book b.book 2 3 (omega arith) (answers_grow reads last head begun m b (Some ended.RunFull) answers);
+      behind = grows_on m.book n.book b.book 0 2 3 (omega arith) (invites_grow head begun m n invites)
+          (answers_grow reads last head begun n b (Some ended.RunFull) answers);
       full = judges_full reads head a m begun judges (passes_full reads takes.1 takes.0 answers.taken begun takes.3);
     }
 
@@ -132,21 +141,30 @@ cuts_not_full {C} reads head begun a b cuts =
     let same : cuts.by ≡ ended.RunFull = cc in
     ends_not_full cuts.fault cuts.cut cuts.sent (subst (λ (e : Ended). EndsBy cuts.fault cuts.cut cuts.sent e) same cuts.responds)
 
+stops_not_full : {C : Type 0} (reads : C → ℕ → C → Type 0) (head : Head) (begun : Begun) (a b : Scene C)
+    → StopsShort reads head begun a b (Some ended.RunFull) → ⊥
+stops_not_full {C} reads head begun a b stops =
+    let same : stops.by ≡ ended.RunFull = cc in
+    subst (λ (e : Ended). Sends {T = Unit {0}} a stops.sent continue_reply (Err e)) same
+    (stops_sends head begun a stops.sent (Unit {0}) stops.by stops.invites)
+
 turn_full : {C : Type 0} (reads : C → ℕ → C → Type 0) (last : Bool) (a b : Scene C) → Turn reads last a b (Some ended.RunFull)
     → FindsFull a.book b.book
 turn_full reads last a b (inl (heads, is)) = absurd (cc)
 turn_full {C} reads last a b (inr (inl (m, fault, by, heads, ends, is))) =
     let same : by ≡ ended.RunFull = cc in
     absurd (ends_not_full fault m b (subst (λ (e : Ended). EndsBy fault m b e) same ends))
-turn_full reads last a b (inr (inr (m, head, heads, (n, begun, judges, inl answers)))) =
-    let found = answers_full reads last head begun m n b judges answers in
+turn_full reads last a b (inr (inr (m, head, heads, (n, begun, judges, inl stops)))) = absurd (stops_not_full reads head begun n b stops)
+turn_full reads last a b (inr (inr (m, head, heads, (n, begun, judges, inr (told, invites, inl answers))))) =
+    let found = answers_full reads last head begun m n told b judges invites answers in
     record {
       middle = found.middle;
       before = grows_on a.book m.book found.middle 0 3 3 (omega arith) (grows_none a.book m.book (heads_same a m (Ok (Some head)) heads)) found.before;
       behind = found.behind;
       full = found.full;
     }
-turn_full reads last a b (inr (inr (m, head, heads, (n, begun, judges, inr cuts)))) = absurd (cuts_not_full reads head begun n b cuts)
+turn_full reads last a b (inr (inr (m, head, heads, (n, begun, judges, inr (told, invites, inr cuts))))) =
+    absurd (cuts_not_full reads head begun told b cuts)
 
 -- and how much the turns before it make it grow
 through_grow : {C : Type 0} (reads : C → ℕ → C → Type 0) (a : Scene C) (scenes : List (Scene C)) (b : Scene C)

@@ -9,7 +9,9 @@ use Rattle.sha2.specs.Sha256.{sha256}
 use Rattle.nf_base.specs.declared.content.Piece.{Piece}
 use Rattle.nf_dav.specs.Asked.{request_of}
 use Rattle.nf_dav.specs.Reply.{file_head, refusal_reply}
+use Rattle.nf_dav.specs.declared.replies.Manner.{Manner}
 use Rattle.nf_http.specs.Head.{Head, closes_session}
+use Rattle.nf_words.proofs.Steps.{put_grants_nothing}
 use Rattle.nf_words.specs.Endings.{blob_for, content_in}
 use Rattle.nf_words.specs.History.{HasBody, MayBear, answer_at}
 use Rattle.nf_words.specs.State.{State}
@@ -20,6 +22,7 @@ use Rattle.nf_words.specs.declared.answer.Damage.{Damage}
 use Rattle.nf_words.specs.declared.answer.Denial.{Denial}
 use Rattle.nf_words.specs.declared.answer.Denial.TheVariants as denial
 use Rattle.nf_words.specs.declared.answer.Goal.TheVariants.{Serve}
+use Rattle.nf_words.specs.declared.answer.Reply.{Reply}
 use Rattle.nf_words.specs.declared.answer.Reply.TheVariants as reply
 use Rattle.nf_words.specs.declared.history.Entry.{Entry}
 use Rattle.nf_words.specs.declared.history.Event.{Event}
@@ -37,8 +40,8 @@ use Rattle.nf_server.specs.Book.{Answer, Begins, Book, Enters, FailsPiece, Lasts
 use Rattle.nf_server.specs.Book.{Passes as Unchanged}
 use Rattle.nf_server.proofs.Lasting.{lasts_same, lasts_then}
 use Rattle.nf_server.specs.Files.{AreGiven, SendsFile, file_front}
-use Rattle.nf_server.specs.Steps.{Judges, Scene, Starts, StartsFile, TakesIn, no_words}
-use Rattle.nf_server.specs.Turn.{Writes, end_of, end_of_close, says_close}
+use Rattle.nf_server.specs.Steps.{Judges, Scene, Starts, StartsFile, TakesIn, is_invited, is_unsent, no_words}
+use Rattle.nf_server.specs.Turn.{Way, Writes, end_of, end_of_close, manner_of, says_close, way_of}
 use Rattle.nf_server.specs.declared.backend.PieceFault.{PieceFault}
 use Rattle.nf_server.specs.declared.backend.PieceFault.TheVariants as fault
 use Rattle.nf_server.specs.declared.begun.Begun.{Begun}
@@ -46,9 +49,10 @@ use Rattle.nf_server.specs.declared.begun.Begun.TheVariants as begun
 use Rattle.nf_server.specs.declared.response.Response.{Response}
 use Rattle.nf_server.specs.declared.response.Response.TheVariants as response
 use Rattle.nf_promises.proofs.Alone.{entered, none_of}
+use Rattle.nf_promises.proofs.Plain.{IsPlain, asked_plain}
 use Rattle.nf_promises.proofs.Putting.{content_of_body}
 use Rattle.nf_promises.proofs.Puts.{IsKept, Keeps}
-use Rattle.nf_promises.specs.Kept.{AreOfBody, FailsStore, IsWritten, OnlyOwn, ShowsDamage, get_of}
+use Rattle.nf_promises.specs.Kept.{AreOfBody, FailsStore, IsWritten, OnlyOwn, ShowsDamage, get_of, plainly, waits}
 
 -- ---- what its Begin is answered
 
@@ -56,11 +60,14 @@ use Rattle.nf_promises.specs.Kept.{AreOfBody, FailsStore, IsWritten, OnlyOwn, Sh
 serves_nothing : (t : Tables) (now : ℕ) (d : Result Allowed Denial) (content : List Piece) → answered_by d ≡ Ok (reply.Granted (Serve content))
     → changes_by t now d ≡ []
 serves_nothing t now (Ok (allowed.Get node other)) content is = refl
+serves_nothing t now (Ok (allowed.List listing)) content is = absurd (cc)
 serves_nothing t now (Ok (allowed.Put by key size)) content is = absurd (cc)
 serves_nothing t now (Ok (allowed.StoreNew row blob)) content is = absurd (cc)
 serves_nothing t now (Ok (allowed.StoreOver node other blob)) content is = absurd (cc)
 serves_nothing t now (Ok (allowed.Mkcol row)) content is = absurd (cc)
-serves_nothing t now (Ok (allowed.Delete nodes)) content is = absurd (cc)
+serves_nothing t now (Ok (allowed.Delete node)) content is = absurd (cc)
+serves_nothing t now (Ok (allowed.Move transfer name)) content is = absurd (put_grants_nothing transfer.replaced (Serve content) (cc))
+serves_nothing t now (Ok (allowed.Copy rows replaced)) content is = absurd (put_grants_nothing replaced (Serve content) (cc))
 serves_nothing t now (Ok allowed.Close) content is = absurd (cc)
 serves_nothing t now (Err refusal) content is = refl
 
@@ -199,6 +206,7 @@ StartsOther (response.Lost fault) = Unit {0}
 StartsOther (response.Denied refusal) = ⊥
 StartsOther response.Made = ⊥
 StartsOther response.Done = ⊥
+StartsOther (response.Listing lines) = ⊥
 
 starts_other : (a b : Book) (content : List Piece) (v : Response) → Starts a b content v → StartsOther v
 starts_other a b content (response.File other first) starts = tt
@@ -209,63 +217,68 @@ starts_other a b [] response.Made never = never
 starts_other a b (piece ∷ pieces) response.Made never = never
 starts_other a b [] response.Done never = never
 starts_other a b (piece ∷ pieces) response.Done never = never
+starts_other a b [] (response.Listing lines) never = never
+starts_other a b (piece ∷ pieces) (response.Listing lines) never = never
 
 -- ---- what is written
 
 -- the same, of two scenes with a book before them
-abbrev pub Shown : {C : Type 0} → Bool → List ℕ → Book → Scene C → Scene C → Type 0
-Shown close body k a b =
+abbrev pub Shown : {C : Type 0} → Bool → Bool → List ℕ → Book → Scene C → Scene C → Type 0
+Shown close unsent body k a b =
     ((bytes : List ℕ) × AreOfBody k.told body bytes × Appends a.output b.output (file_head close (length body) ++ bytes))
-    ⊎ Appends a.output b.output (refusal_reply close denial.Memory)
-    ⊎ (Appends a.output b.output (refusal_reply close denial.Store) × FailsStore k a.book)
+    ⊎ Appends a.output b.output (refusal_reply (plainly close) denial.Memory)
+    ⊎ Appends a.output b.output (refusal_reply (plainly (close || unsent)) denial.Memory)
+    ⊎ (Appends a.output b.output (refusal_reply (plainly close) denial.Store) × FailsStore k a.book)
     ⊎ ShowsDamage k.told close a b
 
 says_is : (last closes : Bool) → (last || is_some (end_of_close closes)) ≡ (last || closes)
 says_is last true = refl
 says_is last false = refl
 
-memory_shown : {C : Type 0} (last : Bool) (head : Head) (body : List ℕ) (k : Book) (a b : Scene C)
-    → Writes {T = Unit {0}} (says_close last head (response.Denied denial.Memory)) (response.Denied denial.Memory) a b (Ok tt)
-    → Shown (last || closes_session head) body k a b
-memory_shown last head body k a b wrote =
-    inr (inl (subst (λ (close : Bool). Appends a.output b.output (refusal_reply close denial.Memory)) (says_is last (closes_session head)) wrote.bytes_are))
+-- a refusal that doesn't end the session by itself is written plainly
+plain_manner : (last : Bool) (way : Way) → IsPlain way
+    → ◌≡◌ {A = Manner} (record { close = last || is_some (end_of_close way.closes); ocs = way.ocs; head_only = way.head_only }) (plainly (last || way.closes))
+plain_manner last way plain = λ i. record { close = says_is last way.closes i; ocs = plain.ocs i; head_only = plain.head_only i }
+
+plainly_written : (last : Bool) (way : Way) (refusal : Denial) (old new : Option (List ℕ)) → IsPlain way
+    → Appends old new (refusal_reply (record { close = last || is_some (end_of_close way.closes); ocs = way.ocs; head_only = way.head_only }) refusal)
+    → Appends old new (refusal_reply (plainly (last || way.closes)) refusal)
+plainly_written last way refusal old new plain wrote =
+    subst (λ (manner : Manner). Appends old new (refusal_reply manner refusal)) (plain_manner last way plain) wrote
 
 -- where the store tells, the piece isn't damaged: the body is there
 damage_shown : {C : Type 0} (close : Bool) (a b : Scene C) (k l : Book) (before : State) (body : List ℕ) (id : ℕ) (damage : Damage) (old new : Option Blobs)
     → TellsStill (next_blob_of k) old new → blob_for before.tables.meta.next_blob (length body) ≡ Some id
     → IfSome new (TellsDamage l (piece_of id body) damage) → IfSome new (Keeps l before body)
-    → Appends a.output b.output (refusal_reply close (denial.Damaged damage)) → ShowsDamage old close a b
+    → Appends a.output b.output (refusal_reply (plainly close) (denial.Damaged damage)) → ShowsDamage old close a b
 damage_shown close a b k l before body id damage None new still is damaged keeps wrote = (damage, wrote)
 damage_shown close a b k l before body id damage (Some old) None still is damaged keeps wrote = absurd still
 damage_shown close a b k l before body id damage (Some old) (Some new) still is damaged keeps wrote =
     let there : IsThere new (piece_of id body) = record { bytes = body; there = (keeps id is).1; size = refl; digest = refl } in
     damaged.damaged.broken there
 
-lost_shown : {C : Type 0} (last : Bool) (head : Head) (body : List ℕ) (before : State) (k : Book) (x a b : Scene C) (id : ℕ) (why : PieceFault)
+lost_shown : {C : Type 0} (last : Bool) (way : Way) (plain : IsPlain way) (unsent : Bool) (body : List ℕ) (before : State) (k : Book) (x a b : Scene C) (id : ℕ) (why : PieceFault)
     → Lasts k x.book → Lasts k a.book → IfSome k.told (Keeps k before body) → blob_for before.tables.meta.next_blob (length body) ≡ Some id
     → FailsPiece x.book a.book (piece_of id body) why
-    → Writes {T = Unit {0}} (says_close last head (response.Lost why)) (response.Lost why) a b (Ok tt)
-    → Shown (last || closes_session head) body k a b
-lost_shown last head body before k x a b id fault.Store first since keeps is fails wrote =
+    → Writes {T = Unit {0}} (manner_of last way (response.Lost why)) (response.Lost why) a b (Ok tt)
+    → Shown (last || way.closes) unsent body k a b
+lost_shown last way plain unsent body before k x a b id fault.Store first since keeps is fails wrote =
     let struck : FailsStore k a.book = omega (arith, first.strikes, fails) in
-    inr (inr (inl (
-      subst (λ (close : Bool). Appends a.output b.output (refusal_reply close denial.Store)) (says_is last (closes_session head)) wrote.bytes_are,
-      struck,
-    )))
-lost_shown last head body before k x a b id (fault.Damaged damage) first since keeps is (calm, differs, told) wrote =
-    inr (inr (inr (damage_shown (last || closes_session head) a b k a.book before body id damage k.told a.book.told since.told is told
+    inr (inr (inr (inl (plainly_written last way denial.Store a.output b.output plain wrote.bytes_are, struck))))
+lost_shown last way plain unsent body before k x a b id (fault.Damaged damage) first since keeps is (calm, differs, told) wrote =
+    inr (inr (inr (inr (damage_shown (last || way.closes) a b k a.book before body id damage k.told a.book.told since.told is told
     (kept_later k a.book before body since keeps)
-    (subst (λ (close : Bool). Appends a.output b.output (refusal_reply close (denial.Damaged damage))) (says_is last (closes_session head)) wrote.bytes_are))))
-lost_shown last head body before k x a b id fault.Memory first since keeps is fails wrote =
-    inr (inl (subst (λ (close : Bool). Appends a.output b.output (refusal_reply close denial.Memory)) (says_is last (closes_session head)) wrote.bytes_are))
+    (plainly_written last way (denial.Damaged damage) a.output b.output plain wrote.bytes_are)))))
+lost_shown last way plain unsent body before k x a b id fault.Memory first since keeps is fails wrote =
+    inr (inl (plainly_written last way denial.Memory a.output b.output plain wrote.bytes_are))
 
-file_shown : {C : Type 0} (last : Bool) (head : Head) (caller : Caller) (spot : Spot) (body : List ℕ) (k : Book) (a b : Scene C)
+file_shown : {C : Type 0} (last : Bool) (way : Way) (unsent : Bool) (caller : Caller) (spot : Spot) (body : List ℕ) (k : Book) (a b : Scene C)
     (content : List Piece) (first : Option (Vec ℕ Global)) (kept : IsKept k caller spot body)
     → Lasts k a.book → content ≡ content_of_body kept.before body
-    → SendsFile {T = Unit {0}} (says_close last head (response.File content first)) content first a b (Ok tt)
-    → Shown (last || closes_session head) body k a b
-file_shown last head caller spot body k a b content first kept before is (given, writes, count, calm) =
-    let close = says_close last head (response.File content first) in
+    → SendsFile {T = Unit {0}} (says_close last way (response.File content first)) content first a b (Ok tt)
+    → Shown (last || way.closes) unsent body k a b
+file_shown last way unsent caller spot body k a b content first kept before is (given, writes, count, calm) =
+    let close = says_close last way (response.File content first) in
     let whole : List Piece = content_of_body kept.before body in
     let since : Lasts k b.book = lasts_then k a.book b.book before writes.pieces.waits.lasts in
     let are : AreGiven b.book whole given = subst (λ (c : List Piece). AreGiven b.book c given) is writes.pieces.are_given in
@@ -278,75 +291,120 @@ file_shown last head caller spot body k a b content first kept before is (given,
     inl (
       file.0,
       of_body_before (next_blob_of k) k.told b.book.told body file.0 since.told file.1,
-      subst (λ (close : Bool). Appends a.output b.output (file_head close (length body) ++ file.0)) (says_is last (closes_session head)) wrote,
+      subst (λ (close : Bool). Appends a.output b.output (file_head close (length body) ++ file.0)) (says_is last (way.closes)) wrote,
     )
 
-served_shown : {C : Type 0} (last : Bool) (head : Head) (caller : Caller) (spot : Spot) (body : List ℕ) (k : Book) (x a b : Scene C) (v : Response)
+served_shown : {C : Type 0} (last : Bool) (way : Way) (plain : IsPlain way) (unsent : Bool) (caller : Caller) (spot : Spot) (body : List ℕ) (k : Book) (x a b : Scene C) (v : Response)
     (kept : IsKept k caller spot body) → Lasts k x.book → StartsFile x a (content_of_body kept.before body) v
-    → Writes {T = Unit {0}} (says_close last head v) v a b (Ok tt) → Shown (last || closes_session head) body k a b
-served_shown last head caller spot body k x a b (response.File content first) kept before starts writes =
+    → Writes {T = Unit {0}} (manner_of last way v) v a b (Ok tt) → Shown (last || way.closes) unsent body k a b
+served_shown last way plain unsent caller spot body k x a b (response.File content first) kept before starts writes =
     let started = starts_file x.book a.book (content_of_body kept.before body) content first starts.starts in
-    file_shown last head caller spot body k a b content first kept (lasts_then k x.book a.book before started.1) started.0 writes
-served_shown last head caller spot body k x a b (response.Lost why) kept before starts writes =
+    file_shown last way unsent caller spot body k a b content first kept (lasts_then k x.book a.book before started.1) started.0 writes
+served_shown last way plain unsent caller spot body k x a b (response.Lost why) kept before starts writes =
     let lost = starts_lost x.book a.book kept.before.tables.meta.next_blob body why
     (blob_for kept.before.tables.meta.next_blob (length body)) refl starts.starts in
-    lost_shown last head body kept.before k x a b lost.0 why before (lasts_then k x.book a.book before lost.2) kept.bytes lost.1 lost.3 writes
-served_shown last head caller spot body k x a b (response.Denied refusal) kept before starts writes =
+    lost_shown last way plain unsent body kept.before k x a b lost.0 why before (lasts_then k x.book a.book before lost.2) kept.bytes lost.1 lost.3 writes
+served_shown last way plain unsent caller spot body k x a b (response.Denied refusal) kept before starts writes =
     absurd (starts_other x.book a.book (content_of_body kept.before body) (response.Denied refusal) starts.starts)
-served_shown last head caller spot body k x a b response.Made kept before starts writes =
+served_shown last way plain unsent caller spot body k x a b response.Made kept before starts writes =
     absurd (starts_other x.book a.book (content_of_body kept.before body) response.Made starts.starts)
-served_shown last head caller spot body k x a b response.Done kept before starts writes =
+served_shown last way plain unsent caller spot body k x a b response.Done kept before starts writes =
     absurd (starts_other x.book a.book (content_of_body kept.before body) response.Done starts.starts)
+served_shown last way plain unsent caller spot body k x a b (response.Listing lines) kept before starts writes =
+    absurd (starts_other x.book a.book (content_of_body kept.before body) (response.Listing lines) starts.starts)
 
 -- ---- the turn
 
-denied_shown : {C : Type 0} (last : Bool) (head : Head) (body : List ℕ) (k : Book) (a b : Scene C) (v : Response)
-    → v ≡ response.Denied denial.Memory → Writes {T = Unit {0}} (says_close last head v) v a b (Ok tt)
-    → Shown (last || closes_session head) body k a b
-denied_shown {C} last head body k a b v is writes =
-    memory_shown last head body k a b
-    (subst (λ (w : Response). Writes {T = Unit {0}} (says_close last head w) w a b (Ok tt)) is writes)
+or_false : (a : Bool) → (a || false) ≡ a
+or_false true = refl
+or_false false = refl
+
+or_more : (a b c : Bool) → (a || (b || c)) ≡ ((a || b) || c)
+or_more true b c = refl
+or_more false b c = refl
+
+-- want of memory at the Begin, where the body wasn't sent
+denied_shown : {C : Type 0} (last closes unsent : Bool) (way : Way) (plain : IsPlain way) (body : List ℕ) (k : Book) (a b : Scene C) (v : Response)
+    → way.closes ≡ (closes || unsent) → v ≡ response.Denied denial.Memory → Writes {T = Unit {0}} (manner_of last way v) v a b (Ok tt)
+    → Shown (last || closes) unsent body k a b
+denied_shown {C} last closes unsent way plain body k a b v by is writes =
+    let wrote : Writes {T = Unit {0}} (manner_of last way (response.Denied denial.Memory)) (response.Denied denial.Memory) a b (Ok tt) =
+    subst (λ (w : Response). Writes {T = Unit {0}} (manner_of last way w) w a b (Ok tt)) is writes in
+    inr (inr (inl (subst (λ (close : Bool). Appends a.output b.output (refusal_reply (plainly close) denial.Memory))
+    (ap (λ (z : Bool). last || z) by ∙ or_more last closes unsent)
+    (plainly_written last way denial.Memory a.output b.output plain wrote.bytes_are))))
 
 full_not_written : (closes : Bool) (v : Response) → v ≡ response.Denied denial.RunFull → IsWritten (end_of closes v) → ⊥
 full_not_written closes v is written = subst (λ (w : Response). IsWritten (end_of closes w)) is written
 
+-- a granted message closes the session by itself alone
+granted_closes : (head : Head) (answer : Answer) (answered : Reply) → answer ≡ Ok answered
+    → (way_of head (begun.Asked answer)).closes ≡ closes_session head
+granted_closes head answer answered is =
+    ap (λ (w : Answer). closes_session head || is_unsent head (begun.Asked w)) is ∙ or_false (closes_session head)
+
+refused_closes : (head : Head) (answer : Answer) (refusal : Denial) → answer ≡ Err refusal
+    → (way_of head (begun.Asked answer)).closes ≡ (closes_session head || waits head)
+refused_closes head answer refusal is = ap (λ (w : Answer). closes_session head || is_unsent head (begun.Asked w)) is
+
 -- what was answered, by what it is
 answered_shown : {C : Type 0} (reads : C → ℕ → C → Type 0) (last : Bool) (head : Head) (caller : Caller) (spot : Spot) (body : List ℕ)
-    (k : Book) (m a b : Scene C) (v : Response) (answer : Answer) (kept : IsKept k caller spot body)
+    (k : Book) (m a b : Scene C) (v : Response) (answer : Answer) (kept : IsKept k caller spot body) (plain : IsPlain (way_of head (begun.Asked answer)))
     → (answer ≡ Ok (reply.Granted (Serve (content_of_body kept.before body))))
     ⊎ ((answer ≡ Err denial.RunFull) ⊎ (answer ≡ Err denial.Memory))
-    → Lasts k m.book → TakesIn reads head m a (begun.Asked answer) (Ok v) → IsWritten (end_of (closes_session head) v)
-    → Writes {T = Unit {0}} (says_close last head v) v a b (Ok tt) → Shown (last || closes_session head) body k a b
-answered_shown {C} reads last head caller spot body k m a b v answer kept (inl is) before takes written writes =
+    → Lasts k m.book → TakesIn reads head m a (begun.Asked answer) (Ok v) → IsWritten (end_of (way_of head (begun.Asked answer)).closes v)
+    → Writes {T = Unit {0}} (manner_of last (way_of head (begun.Asked answer)) v) v a b (Ok tt)
+    → Shown (last || closes_session head) (waits head) body k a b
+answered_shown {C} reads last head caller spot body k m a b v answer kept plain (inl is) before takes written writes =
     let served : TakesIn reads head m a (begun.Asked (Ok (reply.Granted (Serve (content_of_body kept.before body))))) (Ok v) =
     subst (λ (w : Answer). TakesIn reads head m a (begun.Asked w) (Ok v)) is takes in
     let x : Scene C = served.0 in
-    served_shown last head caller spot body k x a b v kept
-    (lasts_then k m.book x.book before (lasts_same m.book x.book (ap (λ (y : Scene C). y.book) served.2.only))) served.3 writes
-answered_shown {C} reads last head caller spot body k m a b v answer kept (inr (inl is)) before takes written writes =
+    subst (λ (closes : Bool). Shown (last || closes) (waits head) body k a b) (granted_closes head answer _ is)
+    (served_shown last (way_of head (begun.Asked answer)) plain (waits head) caller spot body k x a b v kept
+    (lasts_then k m.book x.book before (lasts_same m.book x.book (ap (λ (y : Scene C). y.book) served.2.only))) served.3 writes)
+answered_shown {C} reads last head caller spot body k m a b v answer kept plain (inr (inl is)) before takes written writes =
     let full : TakesIn reads head m a (begun.Asked (Err denial.RunFull)) (Ok v) =
     subst (λ (w : Answer). TakesIn reads head m a (begun.Asked w) (Ok v)) is takes in
-    absurd (full_not_written (closes_session head) v full.3.0 written)
-answered_shown {C} reads last head caller spot body k m a b v answer kept (inr (inr is)) before takes written writes =
+    absurd (full_not_written (way_of head (begun.Asked answer)).closes v full.3.0 written)
+answered_shown {C} reads last head caller spot body k m a b v answer kept plain (inr (inr is)) before takes written writes =
     let wanting : TakesIn reads head m a (begun.Asked (Err denial.Memory)) (Ok v) =
     subst (λ (w : Answer). TakesIn reads head m a (begun.Asked w) (Ok v)) is takes in
-    denied_shown last head body k a b v wanting.3.0 writes
+    denied_shown last (closes_session head) (waits head) (way_of head (begun.Asked answer)) plain body k a b v
+    (refused_closes head answer denial.Memory is) wanting.3.0 writes
+
+-- nobody is invited by a GET
+pub get_not_invited : {C : Type 0} (reads : C → ℕ → C → Type 0) (head : Head) (caller : Caller) (spot : Spot) (body : List ℕ) (begun : Begun) (k m : Scene C)
+    → request_of head ≡ Ok (get_of caller spot) → Judges reads head k m begun → IsKept k.book caller spot body → OnlyOwn k.book m.book
+    → is_invited head begun ≡ false
+get_not_invited reads head caller spot body (begun.Unasked refusal) k m asked judges kept alone = refl
+get_not_invited {C} reads head caller spot body (begun.Asked answer) k m asked (r, now, is, read, begins, only) kept alone =
+    let same : r ≡ get_of caller spot = cc in
+    let get : Begins k.book m.book now no_words (get_of caller spot) answer =
+    subst (λ (q : Request). Begins k.book m.book now no_words q answer) same begins in
+    here (get_answered k.book m.book now caller spot body answer kept alone get)
+  where
+    here : (answer ≡ Ok (reply.Granted (Serve (content_of_body kept.before body))))
+        ⊎ ((answer ≡ Err denial.RunFull) ⊎ (answer ≡ Err denial.Memory)) → is_invited head (begun.Asked answer) ≡ false
+    here (inl is) = ap (λ (w : Answer). is_invited head (begun.Asked w)) is
+    here (inr (inl is)) = ap (λ (w : Answer). is_invited head (begun.Asked w)) is
+    here (inr (inr is)) = ap (λ (w : Answer). is_invited head (begun.Asked w)) is
 
 pub begun_shown : {C : Type 0} (reads : C → ℕ → C → Type 0) (last : Bool) (head : Head) (caller : Caller) (spot : Spot) (body : List ℕ)
     (begun : Begun) (k m a b : Scene C) (v : Response) → request_of head ≡ Ok (get_of caller spot) → Judges reads head k m begun
     → IsKept k.book caller spot body → OnlyOwn k.book m.book
-    → TakesIn reads head m a begun (Ok v) → IsWritten (end_of (closes_session head) v)
-    → Writes {T = Unit {0}} (says_close last head v) v a b (Ok tt) → Shown (last || closes_session head) body k.book a b
+    → TakesIn reads head m a begun (Ok v) → IsWritten (end_of (way_of head begun).closes v)
+    → Writes {T = Unit {0}} (manner_of last (way_of head begun) v) v a b (Ok tt) → Shown (last || closes_session head) (waits head) body k.book a b
 begun_shown reads last head caller spot body (begun.Unasked refusal) k m a b v asked (inl other, same) kept only takes written writes =
     absurd (never refusal (sym asked ∙ other))
   where
     never : (refusal : Denial) → ◌≡◌ {A = Result Request Denial} (Ok (get_of caller spot)) (Err refusal) → ⊥
     never refusal is = cc
 begun_shown reads last head caller spot body (begun.Unasked refusal) k m a b v asked (inr memory, same) kept only (x, other, bodies, passes) written writes =
-    denied_shown last head body k.book a b v (passes.0 ∙ ap response.Denied memory) writes
+    denied_shown last (closes_session head) (waits head) (way_of head (begun.Unasked refusal)) (asked_plain head (begun.Unasked refusal) _ asked)
+    body k.book a b v refl (passes.0 ∙ ap response.Denied memory) writes
 begun_shown {C} reads last head caller spot body (begun.Asked answer) k m a b v asked (r, now, is, read, begins, only) kept alone takes written writes =
     let same : r ≡ get_of caller spot = cc in
     let get : Begins k.book m.book now no_words (get_of caller spot) answer =
     subst (λ (q : Request). Begins k.book m.book now no_words q answer) same begins in
-    answered_shown reads last head caller spot body k.book m a b v answer kept (get_answered k.book m.book now caller spot body answer kept alone get)
+    answered_shown reads last head caller spot body k.book m a b v answer kept (asked_plain head (begun.Asked answer) _ asked) (get_answered k.book m.book now caller spot body answer kept alone get)
     (begins_lasts k.book m.book now no_words (get_of caller spot) answer get) takes written writes

@@ -12,12 +12,13 @@ use Rattle.nf_words.specs.declared.history.Outcome.TheVariants.{Sent, Gone}
 use Rattle.nf_words.specs.declared.request.Request.{Request}
 use Rattle.nf_words.specs.declared.request.Words.{Words}
 use Rattle.std.specs.declared.alloc.Global.{Global}
-use Rattle.nf_dav.specs.Reply.{done_reply, made_reply, refusal_reply}
+use Rattle.nf_dav.specs.Reply.{done_reply, listing_reply, made_reply, refusal_reply}
+use Rattle.nf_dav.specs.declared.replies.Manner.{Manner}
 use Rattle.nf_server.specs.Book.{Answer, Begins, Book, Ends, Enters, Waits, denial_of_piece, event_of_body, is_unmade}
 use Rattle.nf_server.specs.Book.{Passes as Unchanged}
 use Rattle.nf_server.specs.Files.{SendsFile}
-use Rattle.nf_server.specs.Steps.{Closes, Heads, Judges, Passes, Scene, Starts, TakesIn, is_granted, no_words}
-use Rattle.nf_server.specs.Turn.{Answers, CutsShort, Meets, Responds, Turn, Writes, how_of, says_close, stays_granted}
+use Rattle.nf_server.specs.Steps.{Closes, Heads, Invites, Judges, Passes, Scene, Starts, TakesIn, is_granted, no_words}
+use Rattle.nf_server.specs.Turn.{Answers, CutsShort, Meets, Responds, StopsShort, Turn, Way, Writes, how_of, manner_of, stays_granted, way_of}
 use Rattle.nf_server.specs.declared.backend.Ending.{Ending}
 use Rattle.nf_server.specs.declared.backend.Ending.TheVariants as ending
 use Rattle.nf_server.specs.declared.begun.Begun.{Begun}
@@ -26,7 +27,8 @@ use Rattle.nf_server.specs.declared.ended.Ended.{Ended}
 use Rattle.nf_server.specs.declared.ended.Ended.TheVariants as ended
 use Rattle.nf_server.specs.declared.response.Response.{Response}
 use Rattle.nf_server.specs.declared.response.Response.TheVariants as response
-use Rattle.nf_promises.proofs.Touches.{book_of, ends_only, says_only}
+use Rattle.nf_server.proofs.Inviting.{invites_wrote}
+use Rattle.nf_promises.proofs.Touches.{book_of, ends_only, says_only, stops_only}
 
 -- so many own entries came at most, and no fewer entries than own ones
 pub record Grows (a b : Book) (most : ℕ) : Type 0 where
@@ -115,6 +117,7 @@ passes_grow reads body a b (begun.Asked (Ok (reply.Granted (goal.Store who key l
     grows_enters a.book b.book now (event_of_body body) answer ends.enters
 passes_grow reads body a b (begun.Asked (Ok reply.Made)) v (is, same) = still a b same
 passes_grow reads body a b (begun.Asked (Ok reply.Done)) v (is, same) = still a b same
+passes_grow reads body a b (begun.Asked (Ok (reply.Listing lines))) v (is, same) = still a b same
 passes_grow reads body a b (begun.Asked (Ok reply.Closed)) v (is, same) = still a b same
 passes_grow reads body a b (begun.Asked (Err refusal)) v (is, same) = still a b same
 
@@ -135,18 +138,19 @@ sends_grow close content first a b (Err ended.Memory) (inr (given, writes, lacks
 sends_grow close content first a b (Err ended.WriteFault) (given, breaks) = grows_waits a.book b.book breaks.pieces.waits
 sends_grow close content first a b (Err other) never = absurd never
 
-writes_grow : {C T : Type 0} (close : Bool) (v : Response) (a b : Scene C) (result : Result T Ended) → Writes close v a b result → Grew a b 0
-writes_grow close (response.Denied refusal) a b result says = grew_none a b (book_of a b (says_only a b (refusal_reply close refusal) result says))
-writes_grow close (response.Lost fault) a b result says =
-    grew_none a b (book_of a b (says_only a b (refusal_reply close (denial_of_piece fault)) result says))
-writes_grow close (response.File content first) a b result sends = sends_grow close content first a b result sends
-writes_grow close response.Made a b result says = grew_none a b (book_of a b (says_only a b (made_reply close) result says))
-writes_grow close response.Done a b result says = grew_none a b (book_of a b (says_only a b (done_reply close) result says))
+writes_grow : {C T : Type 0} (manner : Manner) (v : Response) (a b : Scene C) (result : Result T Ended) → Writes manner v a b result → Grew a b 0
+writes_grow manner (response.Denied refusal) a b result says = grew_none a b (book_of a b (says_only a b (refusal_reply manner refusal) result says))
+writes_grow manner (response.Lost fault) a b result says =
+    grew_none a b (book_of a b (says_only a b (refusal_reply manner (denial_of_piece fault)) result says))
+writes_grow manner (response.File content first) a b result sends = sends_grow manner.close content first a b result sends
+writes_grow manner response.Made a b result says = grew_none a b (book_of a b (says_only a b (made_reply manner.close) result says))
+writes_grow manner response.Done a b result says = grew_none a b (book_of a b (says_only a b (done_reply manner.close) result says))
+writes_grow manner (response.Listing lines) a b result says = grew_none a b (book_of a b (says_only a b (listing_reply manner.close lines) result says))
 
-pub responds_grow : {C : Type 0} (last : Bool) (head : Head) (v : Response) (a b : Scene C) (result : Result (Option Ended) Ended)
-    → Responds last head v a b result → Grew a b 0
-responds_grow last head v a b (Ok end) (is, writes) = writes_grow {T = Unit {0}} (says_close last head v) v a b (Ok tt) writes
-responds_grow last head v a b (Err by) writes = writes_grow {T = Unit {0}} (says_close last head v) v a b (Err by) writes
+pub responds_grow : {C : Type 0} (last : Bool) (way : Way) (v : Response) (a b : Scene C) (result : Result (Option Ended) Ended)
+    → Responds last way v a b result → Grew a b 0
+responds_grow last way v a b (Ok end) (is, writes) = writes_grow {T = Unit {0}} (manner_of last way v) v a b (Ok tt) writes
+responds_grow last way v a b (Err by) writes = writes_grow {T = Unit {0}} (manner_of last way v) v a b (Err by) writes
 
 pub closes_grow : {C : Type 0} (reads : C → ℕ → C → Type 0) (how : Ending) (granted : Bool) (a b : Scene C) → Closes reads how granted a b → Grew a b 1
 closes_grow reads how true a b (now, read, ends, only) = grows_ends a.book b.book now how (Ok reply.Closed) ends
@@ -159,7 +163,7 @@ pub answers_grow : {C : Type 0} (reads : C → ℕ → C → Type 0) (last : Boo
 answers_grow reads last head begun a b end answers =
     grows_on a.book answers.taken.book b.book 1 1 2 (omega arith) (takes_grow reads head a answers.taken begun (Ok answers.response) answers.takes)
     (grows_on answers.taken.book answers.sent.book b.book 0 1 1 (omega arith)
-    (responds_grow last head answers.response answers.taken answers.sent answers.result answers.responds)
+    (responds_grow last (way_of head begun) answers.response answers.taken answers.sent answers.result answers.responds)
     (closes_grow reads (how_of answers.response answers.result) (stays_granted answers.response) answers.sent b answers.closes))
 
 cuts_grow : {C : Type 0} (reads : C → ℕ → C → Type 0) (head : Head) (begun : Begun) (a b : Scene C) (end : Option Ended)
@@ -170,12 +174,28 @@ cuts_grow reads head begun a b end cuts =
     (grew_none cuts.cut cuts.sent (book_of cuts.cut cuts.sent (ends_only cuts.fault cuts.cut cuts.sent cuts.by cuts.responds)))
     (closes_grow reads ending.Gone (is_granted begun) cuts.sent b cuts.closes))
 
+-- telling someone to send a body
+pub invites_grow : {C : Type 0} (head : Head) (begun : Begun) (a b : Scene C) → Invites {T = Unit {0}} head begun a b (Ok tt) → Grew a b 0
+invites_grow {C} head begun a b invites =
+    grew_none a b (ap (λ (x : Scene C). x.book) (invites_wrote head begun a b (Unit {0}) tt invites).only)
+
+stops_grow : {C : Type 0} (reads : C → ℕ → C → Type 0) (head : Head) (begun : Begun) (a b : Scene C) (end : Option Ended)
+    → StopsShort reads head begun a b end → Grew a b 2
+stops_grow reads head begun a b end stops =
+    grows_on a.book stops.sent.book b.book 0 1 2 (omega arith)
+    (grew_none a stops.sent (book_of a stops.sent (stops_only head begun a stops.sent stops.by stops.invites)))
+    (closes_grow reads ending.Gone (is_granted begun) stops.sent b stops.closes)
+
 pub meets_grow : {C : Type 0} (reads : C → ℕ → C → Type 0) (last : Bool) (head : Head) (a b : Scene C) (end : Option Ended)
     → Meets reads last head a b end → Grew a b 3
-meets_grow reads last head a b end (m, begun, judges, inl answers) =
-    grows_on a.book m.book b.book 1 2 3 (omega arith) (judges_grow reads head a m begun judges) (answers_grow reads last head begun m b end answers)
-meets_grow reads last head a b end (m, begun, judges, inr cuts) =
-    grows_on a.book m.book b.book 1 2 3 (omega arith) (judges_grow reads head a m begun judges) (cuts_grow reads head begun m b end cuts)
+meets_grow reads last head a b end (m, begun, judges, inl stops) =
+    grows_on a.book m.book b.book 1 2 3 (omega arith) (judges_grow reads head a m begun judges) (stops_grow reads head begun m b end stops)
+meets_grow reads last head a b end (m, begun, judges, inr (n, invites, inl answers)) =
+    grows_on a.book m.book b.book 1 2 3 (omega arith) (judges_grow reads head a m begun judges)
+    (grows_on m.book n.book b.book 0 2 2 (omega arith) (invites_grow head begun m n invites) (answers_grow reads last head begun n b end answers))
+meets_grow reads last head a b end (m, begun, judges, inr (n, invites, inr cuts)) =
+    grows_on a.book m.book b.book 1 2 3 (omega arith) (judges_grow reads head a m begun judges)
+    (grows_on m.book n.book b.book 0 2 2 (omega arith) (invites_grow head begun m n invites) (cuts_grow reads head begun n b end cuts))
 
 pub turn_grows : {C : Type 0} (reads : C → ℕ → C → Type 0) (last : Bool) (a b : Scene C) (end : Option Ended) → Turn reads last a b end → Grew a b 3
 turn_grows reads last a b end (inl (heads, is)) =

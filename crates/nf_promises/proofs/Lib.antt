@@ -6,6 +6,7 @@ pub mod Full
 pub mod Alone
 pub mod Putting
 pub mod Puts
+pub mod Plain
 pub mod Gets
 pub mod Returning
 pub mod Marks

@@ -24,12 +24,13 @@ use Rattle.nf_defs.specs.declared.Seeker.{Seeker}
 use Rattle.nf_defs.specs.Blobs.{Blobs, blob_at}
 use Rattle.nf_server.specs.Book.{Answer, Book, EndsBody, Enters, Stores, event_of_body, next_blob_of, state_after, state_of}
 use Rattle.nf_server.specs.Steps.{Bodies, Closes, IsResponse, Judges, Passes, Scene, Starts, StoresBody, no_words, taken_length}
-use Rattle.nf_server.specs.Turn.{how_of, stays_granted}
+use Rattle.nf_server.specs.Turn.{how_of, stays_granted, way_of}
 use Rattle.nf_server.specs.declared.begun.Begun.{Begun}
 use Rattle.nf_server.specs.declared.begun.Begun.TheVariants as begun
 use Rattle.nf_server.specs.declared.ended.Ended.{Ended}
 use Rattle.nf_server.specs.declared.response.Response.{Response}
 use Rattle.nf_server.specs.declared.response.Response.TheVariants as response
+use Rattle.nf_server.proofs.Inviting.{invites_wrote}
 use Rattle.nf_promises.proofs.Alone.{entered, no_others, only_within, same_state}
 use Rattle.nf_promises.proofs.Growing.{closes_grow, grows_none, grows_on, heads_same, judges_grow, responds_grow, takes_grow}
 use Rattle.nf_promises.proofs.Putting.{IsOfPut, content_of_body, ok_answer, put_is_got, put_replies, put_size}
@@ -102,6 +103,7 @@ starts_not_stored a b (piece ∷ pieces) response.Made never says = never
 starts_not_stored a b [] response.Done never says = never
 starts_not_stored a b (piece ∷ pieces) response.Done never says = never
 starts_not_stored a b content (response.Denied refusal) never says = says
+starts_not_stored a b content (response.Listing lines) never says = says
 starts_not_stored a b content (response.Lost fault) never says = says
 starts_not_stored a b content (response.File other first) never says = says
 
@@ -154,30 +156,32 @@ put_begun reads head (begun.Asked (Ok reply.Done)) v a m x b body caller spot n 
     absurd (begins_put a.book m.book now caller spot n reply.Done one
     (asked_enters a.book m.book now head caller spot n r (Ok reply.Done) asked is begins.entry))
 put_begun reads head (begun.Asked (Ok reply.Closed)) v a m x b body caller spot n asked judges passes says one = absurd passes.0
+put_begun reads head (begun.Asked (Ok (reply.Listing lines))) v a m x b body caller spot n asked judges passes says one =
+    absurd (subst (λ (w : Response). SaysStored w) passes.0 says)
 put_begun reads head (begun.Asked (Err refusal)) v a m x b body caller spot n asked judges passes says one =
     absurd (not_stored v refusal passes.0 says)
 
-kept_stored : {C : Type 0} (reads : C → ℕ → C → Type 0) (head : Head) (who : Seeker) (key : LockKey) (v : Response) (a m x b : Scene C) (body : List ℕ)
-    (caller : Caller) (spot : Spot) (n : ℕ) → request_of head ≡ Ok (put_of caller spot n)
-    → Judges reads head a m (begun.Asked (Ok (reply.Granted (goal.Store who key n))))
-    → Bodies m x n body → StoresBody reads body x b v → SaysStored v
+kept_stored : {C : Type 0} (reads : C → ℕ → C → Type 0) (head : Head) (who : Seeker) (key : LockKey) (v : Response) (a m n x b : Scene C) (body : List ℕ)
+    (caller : Caller) (spot : Spot) (size : ℕ) → request_of head ≡ Ok (put_of caller spot size)
+    → Judges reads head a m (begun.Asked (Ok (reply.Granted (goal.Store who key size)))) → n.book ≡ m.book
+    → Bodies n x size body → StoresBody reads body x b v → SaysStored v
     → IsSound (state_of a.book) → OnlyOwn a.book m.book → OnlyOwn m.book b.book → IsKept b.book caller spot body
-kept_stored {C} reads head who key v a m x b body caller spot n asked (r, now, is, read, begins, only) bodies
+kept_stored {C} reads head who key v a m n x b body caller spot size asked (r, now, is, read, begins, only) told bodies
     (moment, answer, later, ends, answers, more) says sound one two =
-    let book : x.book ≡ m.book = ap (λ (y : Scene C). y.book) bodies.only in
-    kept_books a.book m.book b.book now moment caller spot n who key n body answer sound one two
-    (asked_enters a.book m.book now head caller spot n r (Ok (reply.Granted (goal.Store who key n))) asked is begins.entry)
+    let book : x.book ≡ m.book = ap (λ (y : Scene C). y.book) bodies.only ∙ told in
+    kept_books a.book m.book b.book now moment caller spot size who key size body answer sound one two
+    (asked_enters a.book m.book now head caller spot size r (Ok (reply.Granted (goal.Store who key size))) asked is begins.entry)
     (subst (λ (k : Book). EndsBody k b.book moment body answer) book ends) (stored_ok answer v answers says) bodies.taken.0
 
-kept_taken : {C : Type 0} (reads : C → ℕ → C → Type 0) (head : Head) (begun : Begun) (v : Response) (a m x b : Scene C) (body : List ℕ)
-    (caller : Caller) (spot : Spot) (n : ℕ) → request_of head ≡ Ok (put_of caller spot n)
-    → Judges reads head a m begun → Bodies m x (taken_length head begun) body → Passes reads body x b begun v → SaysStored v
+kept_taken : {C : Type 0} (reads : C → ℕ → C → Type 0) (head : Head) (begun : Begun) (v : Response) (a m n x b : Scene C) (body : List ℕ)
+    (caller : Caller) (spot : Spot) (size : ℕ) → request_of head ≡ Ok (put_of caller spot size)
+    → Judges reads head a m begun → n.book ≡ m.book → Bodies n x (taken_length head begun) body → Passes reads body x b begun v → SaysStored v
     → IsSound (state_of a.book) → OnlyOwn a.book m.book → OnlyOwn m.book b.book → IsKept b.book caller spot body
-kept_taken {C} reads head begun v a m x b body caller spot n asked judges bodies passes says sound one two =
-    let begins = put_begun reads head begun v a m x b body caller spot n asked judges passes says one in
-    kept_stored reads head begins.who begins.key v a m x b body caller spot n asked
-    (subst (λ (w : Begun). Judges reads head a m w) begins.is judges)
-    (subst (λ (w : Begun). Bodies m x (taken_length head w) body) begins.is bodies)
+kept_taken {C} reads head begun v a m n x b body caller spot size asked judges told bodies passes says sound one two =
+    let begins = put_begun reads head begun v a m x b body caller spot size asked judges passes says one in
+    kept_stored reads head begins.who begins.key v a m n x b body caller spot size asked
+    (subst (λ (w : Begun). Judges reads head a m w) begins.is judges) told
+    (subst (λ (w : Begun). Bodies n x (taken_length head w) body) begins.is bodies)
     (subst (λ (w : Begun). Passes reads body x b w v) begins.is passes) says sound one two
 
 -- ---- the turn
@@ -187,6 +191,7 @@ closes_book : {C : Type 0} (reads : C → ℕ → C → Type 0) (v : Response) (
 closes_book {C} reads response.Made a b result says same = ap (λ (x : Scene C). x.book) same
 closes_book {C} reads response.Done a b result says same = ap (λ (x : Scene C). x.book) same
 closes_book reads (response.Denied refusal) a b result says same = absurd says
+closes_book reads (response.Listing lines) a b result says same = absurd says
 closes_book reads (response.Lost fault) a b result says same = absurd says
 closes_book reads (response.File content first) a b result says same = absurd says
 
@@ -199,9 +204,12 @@ put_is_kept reads last caller spot body a b end put sound only =
     let same : put.behind.book ≡ a.book = heads_same a put.behind (Ok (Some put.head)) put.heads in
     let none = grows_none put.behind.book put.behind.book refl in
     let first = judges_grow reads put.head put.behind put.judged put.begun put.judges in
-    let second = takes_grow reads put.head put.judged answers.taken put.begun (Ok v) answers.takes in
+    let told : put.invited.book ≡ put.judged.book = ap (λ (x : Scene _). x.book)
+    (invites_wrote put.head put.begun put.judged put.invited (Unit {0}) tt put.invites).only in
+    let second = grows_on put.judged.book put.invited.book answers.taken.book 0 1 1 (omega arith) (grows_none put.judged.book put.invited.book told)
+    (takes_grow reads put.head put.invited answers.taken put.begun (Ok v) answers.takes) in
     let third = grows_on answers.taken.book answers.sent.book b.book 0 1 1 (omega arith)
-    (responds_grow last put.head v answers.taken answers.sent answers.result answers.responds)
+    (responds_grow last (way_of put.head put.begun) v answers.taken answers.sent answers.result answers.responds)
     (closes_grow reads (how_of v answers.result) (stays_granted v) answers.sent b answers.closes) in
     let behind : OnlyOwn put.behind.book b.book = subst (λ (k : Book). OnlyOwn k b.book) (sym same) only in
     let rest = grows_on put.judged.book answers.taken.book b.book 1 1 2 (omega arith) second third in
@@ -210,11 +218,11 @@ put_is_kept reads last caller spot body a b end put sound only =
     only_within put.behind.book put.behind.book put.judged.book b.book 0 1 2 none first rest behind in
     let two : OnlyOwn put.judged.book answers.taken.book =
     only_within put.behind.book put.judged.book answers.taken.book b.book 1 1 1 front second third behind in
-    let kept = kept_taken reads put.head put.begun v put.behind put.judged answers.takes.0 answers.taken answers.takes.1
-    caller spot (length body) put.asked put.judges answers.takes.2 answers.takes.3
+    let kept = kept_taken reads put.head put.begun v put.behind put.judged put.invited answers.takes.0 answers.taken answers.takes.1
+    caller spot (length body) put.asked put.judges told answers.takes.2 answers.takes.3
     put.stored (subst (λ (k : Book). IsSound (state_of k)) (sym same) sound) one two in
     let book : b.book ≡ answers.taken.book =
     closes_book reads v answers.sent b answers.result put.stored answers.closes
-    ∙ book_of answers.taken answers.sent (stored_only last put.head v answers.taken answers.sent answers.result put.stored answers.responds) in
+    ∙ book_of answers.taken answers.sent (stored_only last (way_of put.head put.begun) v answers.taken answers.sent answers.result put.stored answers.responds) in
     subst (λ (k : Book). IsKept k caller spot body) (sym book)
     (subst (λ (bytes : List ℕ). IsKept answers.taken.book caller spot bytes) put.body_is kept)

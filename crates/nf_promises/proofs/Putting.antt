@@ -22,7 +22,7 @@ use Rattle.nf_laws.proofs.Reading.{stored_is_read}
 use Rattle.nf_laws.proofs.Stays.{sound_after}
 use Rattle.nf_laws.specs.Reads.{IsReadBy, IsStored, LeadsToKey}
 use Rattle.nf_words.proofs.Known.{call_passes}
-use Rattle.nf_words.proofs.Steps.{granted_step}
+use Rattle.nf_words.proofs.Steps.{granted_step, put_grants_nothing}
 use Rattle.nf_words.specs.Callers.{not_you_rule, token_rule}
 use Rattle.nf_words.specs.Calls.{asker_of, caller_of, found, last_name, named_in, root_of}
 use Rattle.nf_words.specs.Changes.{blob_of, reply_to, stored}
@@ -42,7 +42,7 @@ use Rattle.nf_words.specs.declared.answer.Goal.TheVariants.{Serve, Store}
 use Rattle.nf_words.specs.declared.answer.LockKey.{LockKey}
 use Rattle.nf_words.specs.declared.answer.LockKey.TheVariants.{Node, Slot}
 use Rattle.nf_words.specs.declared.answer.Reply.{Reply}
-use Rattle.nf_words.specs.declared.answer.Reply.TheVariants.{Made, Done, Closed, Granted}
+use Rattle.nf_words.specs.declared.answer.Reply.TheVariants.{Made, Done, Closed, Granted, Listing}
 use Rattle.nf_words.specs.declared.history.Entry.{Entry}
 use Rattle.nf_words.specs.declared.history.Event.{Event}
 use Rattle.nf_words.specs.declared.history.Event.TheVariants.{Begin}
@@ -78,11 +78,14 @@ ok_answer s e event r event_is is =
 put_only : (d : Result Allowed Denial) (who : Seeker) (key : LockKey) (size : ℕ) → answered_by d ≡ Ok (Granted (Store who key size))
     → d ≡ Ok (allowed.Put who key size)
 put_only (Ok (allowed.Get node content)) who key size is = absurd (cc)
+put_only (Ok (allowed.List listing)) who key size is = absurd (cc)
 put_only (Ok (allowed.Put by at length)) who key size is = cc
 put_only (Ok (allowed.StoreNew row blob)) who key size is = absurd (cc)
 put_only (Ok (allowed.StoreOver node content blob)) who key size is = absurd (cc)
 put_only (Ok (allowed.Mkcol row)) who key size is = absurd (cc)
-put_only (Ok (allowed.Delete nodes)) who key size is = absurd (cc)
+put_only (Ok (allowed.Delete node)) who key size is = absurd (cc)
+put_only (Ok (allowed.Move transfer name)) who key size is = absurd (put_grants_nothing transfer.replaced (Store who key size) (cc))
+put_only (Ok (allowed.Copy rows replaced)) who key size is = absurd (put_grants_nothing replaced (Store who key size) (cc))
 put_only (Ok allowed.Close) who key size is = absurd (cc)
 put_only (Err refusal) who key size is = absurd (cc)
 
@@ -92,6 +95,7 @@ IsOfPut (Granted goal) = Unit {0}
 IsOfPut Closed = Unit {0}
 IsOfPut Made = ⊥
 IsOfPut Done = ⊥
+IsOfPut (Listing lines) = ⊥
 
 stored_replies : (who : Seeker) (name : List ℕ) (n : ℕ) (place : Found) → IsOfPut (reply_to (stored who name n (Some place)))
 stored_replies who name n (At node) = tt

@@ -1,14 +1,12 @@
 -- What refuses for want of room: a Begin alone.
-use Rattle.std.proofs.Common.{ℕ, ◌==◌, ◌≡◌, ◌⊎◌, ◌&&◌, Bool, true, false, List, Option, None, Some, Err, is_none, option_map, if◌then◌else◌, inl, inr, sym, ap, ◌∙◌}
+use Rattle.std.proofs.Common.{ℕ, ◌≡◌, ◌⊎◌, ◌&&◌, Bool, true, false, Option, None, Some, Err, is_none, option_map, if◌then◌else◌, inl, inr, sym, ap, ◌∙◌}
 use Rattle.std.specs.Option.{option_or}
-use Rattle.nf_base.specs.declared.name.NameFault.{NameFault}
+use Rattle.std.proofs.lemmas.Bool.{false≢true}
 use Rattle.nf_defs.specs.Tables.{Tables}
 use Rattle.nf_defs.specs.Tree.{child_of, is_file, is_folder}
-use Rattle.nf_dav.specs.Asked as dav
 use Rattle.nf_dav.specs.Asked.{request_of}
-use Rattle.nf_dav.specs.declared.requests.Method.{Method}
-use Rattle.nf_dav.specs.declared.requests.Method.TheVariants as method
-use Rattle.nf_http.specs.Head.{Head, length_of}
+use Rattle.nf_dav.proofs.NotAsked.{unasked_refusal}
+use Rattle.nf_http.specs.Head.{Head}
 use Rattle.nf_words.specs.Endings.{end_refusal, ends_goal, ends_ticket, key_lost, place_of, stored_at, unless_refused}
 use Rattle.nf_words.specs.History.{answer_at}
 use Rattle.nf_words.specs.Limits.{limit_at, pieces_of}
@@ -29,7 +27,6 @@ use Rattle.nf_words.specs.declared.history.Mark.TheVariants as mark
 use Rattle.nf_words.specs.declared.history.Outcome.{Outcome}
 use Rattle.nf_words.specs.declared.history.Outcome.TheVariants.{Sent, Gone, Body}
 use Rattle.nf_words.specs.declared.history.Ticket.{Ticket}
-use Rattle.nf_words.specs.declared.request.Request.{Request}
 
 either_full : (o p : Option Denial) → option_or o p ≡ Some denial.RunFull → (o ≡ Some denial.RunFull) ⊎ (p ≡ Some denial.RunFull)
 either_full None p is = inr is
@@ -37,45 +34,8 @@ either_full (Some refusal) p is = inl is
 
 -- ---- a request
 
-body_not_full : (m : Method) (n : ℕ) → dav.body_refusal m n ≡ Some denial.RunFull → ⊥
-body_not_full method.Mkcol n is = here (n == 0) is
-  where
-    here : (a : Bool) → (if a then None else Some denial.Body) ≡ Some denial.RunFull → ⊥
-    here true is = cc
-    here false is = cc
-body_not_full method.Get n is = cc
-body_not_full method.Put n is = cc
-body_not_full method.Delete n is = cc
-
-name_not_full : (o : Option NameFault) → option_map denial.BadName o ≡ Some denial.RunFull → ⊥
-name_not_full None is = cc
-name_not_full (Some fault) is = cc
-
-refused_full : (o : Option Denial) (r : Request) → dav.unless_refused o r ≡ Err denial.RunFull → o ≡ Some denial.RunFull
-refused_full None r is = absurd (cc)
-refused_full (Some refusal) r is = cc
-
-asked_not_full : (head : Head) (m : Option Method) (segments : Option (List (List ℕ)))
-    → dav.asked head m segments ≡ Err denial.RunFull → ⊥
-asked_not_full head None segments is = cc
-asked_not_full head (Some m) None is = cc
-asked_not_full head (Some m) (Some segments) is =
-    here (either_full (dav.body_refusal m (length_of head)) (option_map denial.BadName (dav.segments_fault segments))
-    (refused_full (dav.asked_refusal head m segments) (dav.request_at head m segments) is))
-  where
-    here : (dav.body_refusal m (length_of head) ≡ Some denial.RunFull)
-        ⊎ (option_map denial.BadName (dav.segments_fault segments) ≡ Some denial.RunFull) → ⊥
-    here (inl first) = body_not_full m (length_of head) first
-    here (inr second) = name_not_full (dav.segments_fault segments) second
-
 pub request_not_full : (head : Head) → request_of head ≡ Err denial.RunFull → ⊥
-unfolding request_of
-request_not_full head is = here (dav.is_built head) is
-  where
-    here : (a : Bool)
-        → (if a then dav.asked head (dav.method_of head.method) (dav.files_segments head.target) else Err denial.NotBuilt) ≡ Err denial.RunFull → ⊥
-    here true is = asked_not_full head (dav.method_of head.method) (dav.files_segments head.target) is
-    here false is = cc
+request_not_full head is = false≢true (unasked_refusal head denial.RunFull is)
 
 -- ---- an End
 

@@ -1,9 +1,11 @@
 -- What is put is what is got.
 use Rattle.std.proofs.Common.{ℕ, ◌≡◌, ◌||◌, ◌≤◌, ◌⊎◌, ◌++◌, length, Bool, true, false, List, Option, None, Some, Result, Ok, Err, inl, inr, refl, sym, ap, subst, ◌∙◌, arith}
+use Rattle.std.specs.Prelude.{IsOk, MatchBool}
 use Rattle.std.specs.Io.KnownBytes.{Appends}
 use Rattle.nf_defs.specs.Blobs.{Blobs}
 use Rattle.nf_dav.specs.Asked.{request_of}
-use Rattle.nf_dav.specs.Reply.{file_head, refusal_reply}
+use Rattle.nf_dav.specs.Reply.{continue_reply, file_head, refusal_reply}
+use Rattle.nf_dav.specs.declared.replies.Manner.{Manner}
 use Rattle.nf_http.specs.Head.{Head, closes_session}
 use Rattle.nf_http.specs.declared.wire.WireFault.{WireFault}
 use Rattle.nf_http.specs.declared.wire.WireFault.TheVariants as wire
@@ -12,8 +14,8 @@ use Rattle.nf_words.specs.declared.answer.Reply.TheVariants as reply
 use Rattle.nf_words.specs.declared.request.Caller.{Caller}
 use Rattle.nf_words.specs.declared.request.Spot.{Spot}
 use Rattle.nf_server.specs.Book.{Book, Ends}
-use Rattle.nf_server.specs.Steps.{Closes, EndsBy, Judges, Scene, TakesIn}
-use Rattle.nf_server.specs.Turn.{Answers, Meets, Responds, Writes, end_by, end_of, how_of, says_close, stays_granted}
+use Rattle.nf_server.specs.Steps.{Closes, EndsBy, Invites, Judges, Scene, Sends, TakesIn, is_invited}
+use Rattle.nf_server.specs.Turn.{Answers, Meets, Responds, Way, Writes, end_by, end_of, how_of, manner_of, stays_granted, way_of}
 use Rattle.nf_server.specs.declared.backend.Ending.{Ending}
 use Rattle.nf_server.specs.declared.backend.Ending.TheVariants as ending
 use Rattle.nf_server.specs.declared.begun.Begun.{Begun}
@@ -21,13 +23,14 @@ use Rattle.nf_server.specs.declared.ended.Ended.{Ended}
 use Rattle.nf_server.specs.declared.ended.Ended.TheVariants as ended
 use Rattle.nf_server.specs.declared.response.Response.{Response}
 use Rattle.nf_server.specs.declared.response.Response.TheVariants as response
+use Rattle.nf_server.proofs.Inviting.{stops_sends}
 use Rattle.nf_server.proofs.Lasting.{lasts_same}
 use Rattle.nf_promises.proofs.Alone.{only_within}
-use Rattle.nf_promises.proofs.Gets.{Shown, begun_shown}
-use Rattle.nf_promises.proofs.Growing.{answers_grow, grows_none, grows_on, heads_same, judges_grow, meets_grow}
+use Rattle.nf_promises.proofs.Gets.{Shown, begun_shown, get_not_invited}
+use Rattle.nf_promises.proofs.Growing.{answers_grow, grows_none, grows_on, heads_same, invites_grow, judges_grow, meets_grow}
 use Rattle.nf_promises.proofs.Puts.{IsKept, put_is_kept}
 use Rattle.nf_promises.proofs.Touches.{closes_only, judges_only, output_of, passes_only}
-use Rattle.nf_promises.specs.Kept.{AreOfBody, FailsStore, IsWritten, OnlyOwn, PutThenGet, ShowsDamage, ShowsFile, get_of}
+use Rattle.nf_promises.specs.Kept.{AreOfBody, FailsStore, IsWritten, OnlyOwn, PutThenGet, ShowsDamage, ShowsFile, get_of, plainly, waits}
 
 pub takes_output : {C : Type 0} (reads : C → ℕ → C → Type 0) (head : Head) (a b : Scene C) (begun : Begun) (v : Response)
     → TakesIn reads head a b begun (Ok v) → b.output ≡ a.output
@@ -48,26 +51,27 @@ closes_strikes {C} reads how false a b same = (lasts_same a.book b.book (ap (λ 
 
 -- ---- what was written whole
 
-writes_not_closed : {C : Type 0} (close : Bool) (v : Response) (a b : Scene C) → Writes {T = Unit {0}} close v a b (Err ended.Closed) → ⊥
-writes_not_closed close (response.Denied refusal) a b never = never
-writes_not_closed close (response.Lost fault) a b never = never
-writes_not_closed close (response.File content first) a b never = never
-writes_not_closed close response.Made a b never = never
-writes_not_closed close response.Done a b never = never
+writes_not_closed : {C : Type 0} (manner : Manner) (v : Response) (a b : Scene C) → Writes {T = Unit {0}} manner v a b (Err ended.Closed) → ⊥
+writes_not_closed manner (response.Denied refusal) a b never = never
+writes_not_closed manner (response.Lost fault) a b never = never
+writes_not_closed manner (response.File content first) a b never = never
+writes_not_closed manner response.Made a b never = never
+writes_not_closed manner response.Done a b never = never
+writes_not_closed manner (response.Listing lines) a b never = never
 
 -- how it was written
-abbrev WroteWhole : {C : Type 0} → Bool → Head → Response → Scene C → Scene C → Type 0
-WroteWhole last head v a b = IsWritten (end_of (closes_session head) v) × Writes {T = Unit {0}} (says_close last head v) v a b (Ok tt)
+abbrev WroteWhole : {C : Type 0} → Bool → Way → Response → Scene C → Scene C → Type 0
+WroteWhole last way v a b = IsWritten (end_of way.closes v) × Writes {T = Unit {0}} (manner_of last way v) v a b (Ok tt)
 
-wrote_by : {C : Type 0} (last : Bool) (head : Head) (v : Response) (a b : Scene C) (by : Ended)
-    → Writes {T = Unit {0}} (says_close last head v) v a b (Err by) → IsWritten (Some by) → WroteWhole last head v a b
-wrote_by last head v a b ended.Closed writes written = absurd (writes_not_closed (says_close last head v) v a b writes)
-wrote_by last head v a b other writes written = absurd written
+wrote_by : {C : Type 0} (last : Bool) (way : Way) (v : Response) (a b : Scene C) (by : Ended)
+    → Writes {T = Unit {0}} (manner_of last way v) v a b (Err by) → IsWritten (Some by) → WroteWhole last way v a b
+wrote_by last way v a b ended.Closed writes written = absurd (writes_not_closed (manner_of last way v) v a b writes)
+wrote_by last way v a b other writes written = absurd written
 
-wrote_whole : {C : Type 0} (last : Bool) (head : Head) (v : Response) (a b : Scene C) (result : Result (Option Ended) Ended)
-    → Responds last head v a b result → IsWritten (end_by result) → WroteWhole last head v a b
-wrote_whole last head v a b (Ok end) (is, writes) written = (subst (λ (e : Option Ended). IsWritten e) is written, writes)
-wrote_whole last head v a b (Err by) writes written = wrote_by last head v a b by writes written
+wrote_whole : {C : Type 0} (last : Bool) (way : Way) (v : Response) (a b : Scene C) (result : Result (Option Ended) Ended)
+    → Responds last way v a b result → IsWritten (end_by result) → WroteWhole last way v a b
+wrote_whole last way v a b (Ok end) (is, writes) written = (subst (λ (e : Option Ended). IsWritten e) is written, writes)
+wrote_whole last way v a b (Err by) writes written = wrote_by last way v a b by writes written
 
 ends_not_closed : {C : Type 0} (fault : WireFault) (a b : Scene C) → EndsBy fault a b ended.Closed → ⊥
 ends_not_closed wire.ReadFault a b (is, same) = cc
@@ -77,6 +81,17 @@ ends_not_closed other a b never = never
 pub cut_not_written : {C : Type 0} (fault : WireFault) (a b : Scene C) (by : Ended) → EndsBy fault a b by → IsWritten (Some by) → ⊥
 cut_not_written fault a b ended.Closed ends written = ends_not_closed fault a b ends
 cut_not_written fault a b other ends written = written
+
+pub stop_not_written : {C : Type 0} (a b : Scene C) (by : Ended) → Sends {T = Unit {0}} a b continue_reply (Err by) → IsWritten (Some by) → ⊥
+stop_not_written a b ended.Closed sends written = sends
+stop_not_written a b other sends written = written
+
+-- where nobody is invited nothing is written
+quiet : {C : Type 0} (head : Head) (begun : Begun) (a b : Scene C) → is_invited head begun ≡ false → Invites {T = Unit {0}} head begun a b (Ok tt)
+    → b ≡ a
+quiet {C} head begun a b none invites =
+    (subst (λ (invited : Bool). MatchBool invited (Sends {T = Unit {0}} a b continue_reply (Ok tt)) (IsOk {T = Unit {0}} {E = Ended} (Ok tt) × (b ≡ a))) none
+    invites).1
 
 -- ---- both turns
 
@@ -89,58 +104,68 @@ damage_by : {C : Type 0} (told : Option Blobs) (close : Bool) (k a b c : Scene C
 damage_by None close k a b c front end (damage, is) = (damage, appends_by k.output c.output a.output b.output _ front end is)
 damage_by (Some shelf) close k a b c front end never = never
 
-shown_later : {C : Type 0} (close : Bool) (body : List ℕ) (k a b c : Scene C) → a.output ≡ k.output → b.output ≡ c.output
-    → a.book.strikes ≤ c.book.strikes → Shown close body k.book a b → ShowsFile close body k c
-shown_later close body k a b c front end later (inl (bytes, are, is)) =
+shown_later : {C : Type 0} (close unsent : Bool) (body : List ℕ) (k a b c : Scene C) → a.output ≡ k.output → b.output ≡ c.output
+    → a.book.strikes ≤ c.book.strikes → Shown close unsent body k.book a b → ShowsFile close unsent body k c
+shown_later close unsent body k a b c front end later (inl (bytes, are, is)) =
     inl (bytes, are, appends_by k.output c.output a.output b.output _ front end is)
-shown_later close body k a b c front end later (inr (inl is)) = inr (inl (appends_by k.output c.output a.output b.output _ front end is))
-shown_later close body k a b c front end later (inr (inr (inl (is, fails)))) =
+shown_later close unsent body k a b c front end later (inr (inl is)) = inr (inl (appends_by k.output c.output a.output b.output _ front end is))
+shown_later close unsent body k a b c front end later (inr (inr (inl is))) =
+    inr (inr (inl (appends_by k.output c.output a.output b.output _ front end is)))
+shown_later close unsent body k a b c front end later (inr (inr (inr (inl (is, fails))))) =
     let still : FailsStore k.book c.book = omega (arith, later, fails) in
-    inr (inr (inl (appends_by k.output c.output a.output b.output _ front end is, still)))
-shown_later close body k a b c front end later (inr (inr (inr damage))) = inr (inr (inr (damage_by k.book.told close k a b c front end damage)))
+    inr (inr (inr (inl (appends_by k.output c.output a.output b.output _ front end is, still))))
+shown_later close unsent body k a b c front end later (inr (inr (inr (inr damage)))) =
+    inr (inr (inr (inr (damage_by k.book.told close k a b c front end damage))))
 
 -- nor does taking a head write anything
-pub front_shown : {C : Type 0} (close : Bool) (body : List ℕ) (k a c : Scene C) → a.output ≡ k.output → a.book ≡ k.book
-    → ShowsFile close body a c → ShowsFile close body k c
-front_shown close body k a c front book (inl (bytes, are, is)) =
+pub front_shown : {C : Type 0} (close unsent : Bool) (body : List ℕ) (k a c : Scene C) → a.output ≡ k.output → a.book ≡ k.book
+    → ShowsFile close unsent body a c → ShowsFile close unsent body k c
+front_shown close unsent body k a c front book (inl (bytes, are, is)) =
     inl (
       bytes,
       subst (λ (x : Book). AreOfBody x.told body bytes) book are,
       appends_by k.output c.output a.output c.output _ front refl is,
     )
-front_shown close body k a c front book (inr (inl is)) = inr (inl (appends_by k.output c.output a.output c.output _ front refl is))
-front_shown close body k a c front book (inr (inr (inl (is, fails)))) =
-    inr (inr (inl (appends_by k.output c.output a.output c.output _ front refl is, subst (λ (x : Book). FailsStore x c.book) book fails)))
-front_shown close body k a c front book (inr (inr (inr damage))) =
-    inr (inr (inr (subst (λ (x : Book). ShowsDamage x.told close k c) book (damage_by a.book.told close k a c c front refl damage))))
+front_shown close unsent body k a c front book (inr (inl is)) = inr (inl (appends_by k.output c.output a.output c.output _ front refl is))
+front_shown close unsent body k a c front book (inr (inr (inl is))) =
+    inr (inr (inl (appends_by k.output c.output a.output c.output _ front refl is)))
+front_shown close unsent body k a c front book (inr (inr (inr (inl (is, fails))))) =
+    inr (inr (inr (inl (appends_by k.output c.output a.output c.output _ front refl is, subst (λ (x : Book). FailsStore x c.book) book fails))))
+front_shown close unsent body k a c front book (inr (inr (inr (inr damage)))) =
+    inr (inr (inr (inr (subst (λ (x : Book). ShowsDamage x.told close k c) book (damage_by a.book.told close k a c c front refl damage)))))
 
 -- over a store that tells, it is the body
-pub told_shown : {C : Type 0} (close : Bool) (body : List ℕ) (shelf : Blobs) (a b : Scene C) → a.book.told ≡ Some shelf → ShowsFile close body a b
+pub told_shown : {C : Type 0} (close unsent : Bool) (body : List ℕ) (shelf : Blobs) (a b : Scene C) → a.book.told ≡ Some shelf
+    → ShowsFile close unsent body a b
     → Appends a.output b.output (file_head close (length body) ++ body)
-    ⊎ Appends a.output b.output (refusal_reply close denial.Memory)
-    ⊎ (Appends a.output b.output (refusal_reply close denial.Store) × FailsStore a.book b.book)
-told_shown close body shelf a b told (inl (bytes, are, is)) =
+    ⊎ Appends a.output b.output (refusal_reply (plainly close) denial.Memory)
+    ⊎ Appends a.output b.output (refusal_reply (plainly (close || unsent)) denial.Memory)
+    ⊎ (Appends a.output b.output (refusal_reply (plainly close) denial.Store) × FailsStore a.book b.book)
+told_shown close unsent body shelf a b told (inl (bytes, are, is)) =
     let same : bytes ≡ body = subst (λ (o : Option Blobs). AreOfBody o body bytes) told are in
     inl (subst (λ (z : List ℕ). Appends a.output b.output (file_head close (length body) ++ z)) same is)
-told_shown close body shelf a b told (inr (inl is)) = inr (inl is)
-told_shown close body shelf a b told (inr (inr (inl fails))) = inr (inr fails)
-told_shown close body shelf a b told (inr (inr (inr damage))) = absurd (subst (λ (o : Option Blobs). ShowsDamage o close a b) told damage)
+told_shown close unsent body shelf a b told (inr (inl is)) = inr (inl is)
+told_shown close unsent body shelf a b told (inr (inr (inl is))) = inr (inr (inl is))
+told_shown close unsent body shelf a b told (inr (inr (inr (inl fails)))) = inr (inr (inr fails))
+told_shown close unsent body shelf a b told (inr (inr (inr (inr damage)))) =
+    absurd (subst (λ (o : Option Blobs). ShowsDamage o close a b) told damage)
 
-writes_strikes : {C : Type 0} (close : Bool) (v : Response) (a b : Scene C) → Writes {T = Unit {0}} close v a b (Ok tt)
+writes_strikes : {C : Type 0} (manner : Manner) (v : Response) (a b : Scene C) → Writes {T = Unit {0}} manner v a b (Ok tt)
     → a.book.strikes ≤ b.book.strikes
-writes_strikes {C} close (response.Denied refusal) a b wrote = (lasts_same a.book b.book (ap (λ (x : Scene C). x.book) wrote.only)).strikes
-writes_strikes {C} close (response.Lost fault) a b wrote = (lasts_same a.book b.book (ap (λ (x : Scene C). x.book) wrote.only)).strikes
-writes_strikes close (response.File content first) a b (given, writes, count, calm) = writes.pieces.waits.lasts.strikes
-writes_strikes {C} close response.Made a b wrote = (lasts_same a.book b.book (ap (λ (x : Scene C). x.book) wrote.only)).strikes
-writes_strikes {C} close response.Done a b wrote = (lasts_same a.book b.book (ap (λ (x : Scene C). x.book) wrote.only)).strikes
+writes_strikes {C} manner (response.Denied refusal) a b wrote = (lasts_same a.book b.book (ap (λ (x : Scene C). x.book) wrote.only)).strikes
+writes_strikes {C} manner (response.Lost fault) a b wrote = (lasts_same a.book b.book (ap (λ (x : Scene C). x.book) wrote.only)).strikes
+writes_strikes manner (response.File content first) a b (given, writes, count, calm) = writes.pieces.waits.lasts.strikes
+writes_strikes {C} manner response.Made a b wrote = (lasts_same a.book b.book (ap (λ (x : Scene C). x.book) wrote.only)).strikes
+writes_strikes {C} manner response.Done a b wrote = (lasts_same a.book b.book (ap (λ (x : Scene C). x.book) wrote.only)).strikes
+writes_strikes {C} manner (response.Listing lines) a b wrote = (lasts_same a.book b.book (ap (λ (x : Scene C). x.book) wrote.only)).strikes
 
 answers_shown : {C : Type 0} (reads : C → ℕ → C → Type 0) (last : Bool) (head : Head) (caller : Caller) (spot : Spot) (body : List ℕ)
     (begun : Begun) (k m b : Scene C) (end : Option Ended) → request_of head ≡ Ok (get_of caller spot) → Judges reads head k m begun
     → IsKept k.book caller spot body → OnlyOwn k.book m.book
-    → Answers reads last head begun m b end → IsWritten end → ShowsFile (last || closes_session head) body k b
+    → Answers reads last head begun m b end → IsWritten end → ShowsFile (last || closes_session head) (waits head) body k b
 answers_shown {C} reads last head caller spot body begun k m b end asked judges kept only answers written =
     let v = answers.response in
-    let wrote = wrote_whole last head v answers.taken answers.sent answers.result answers.responds
+    let wrote = wrote_whole last (way_of head begun) v answers.taken answers.sent answers.result answers.responds
     (subst (λ (e : Option Ended). IsWritten e) answers.ends written) in
     let shown = begun_shown reads last head caller spot body begun k m answers.taken answers.sent v asked judges kept only answers.takes wrote.0 wrote.1 in
     let front : answers.taken.output ≡ k.output = takes_output reads head m answers.taken begun v answers.takes ∙ output_of k m (judges_only reads head k m begun judges) in
@@ -148,20 +173,25 @@ answers_shown {C} reads last head caller spot body begun k m b end asked judges 
     let later : answers.taken.book.strikes ≤ b.book.strikes =
     omega (
       arith,
-      writes_strikes (says_close last head v) v answers.taken answers.sent wrote.1,
+      writes_strikes (manner_of last (way_of head begun) v) v answers.taken answers.sent wrote.1,
       closes_strikes reads (how_of v answers.result) (stays_granted v) answers.sent b answers.closes,
     ) in
-    shown_later (last || closes_session head) body k answers.taken answers.sent b front (sym closed) later shown
+    shown_later (last || closes_session head) (waits head) body k answers.taken answers.sent b front (sym closed) later shown
 
 pub meets_shown : {C : Type 0} (reads : C → ℕ → C → Type 0) (last : Bool) (head : Head) (caller : Caller) (spot : Spot) (body : List ℕ)
     (k b : Scene C) (end : Option Ended) → Meets reads last head k b end → request_of head ≡ Ok (get_of caller spot)
-    → IsKept k.book caller spot body → OnlyOwn k.book b.book → IsWritten end → ShowsFile (last || closes_session head) body k b
-meets_shown reads last head caller spot body k b end (m, begun, judges, inl answers) asked kept only written =
+    → IsKept k.book caller spot body → OnlyOwn k.book b.book → IsWritten end → ShowsFile (last || closes_session head) (waits head) body k b
+meets_shown reads last head caller spot body k b end (m, begun, judges, inl stops) asked kept only written =
+    absurd (stop_not_written m stops.sent stops.by (stops_sends head begun m stops.sent (Unit {0}) stops.by stops.invites)
+    (subst (λ (e : Option Ended). IsWritten e) stops.ends written))
+meets_shown {C} reads last head caller spot body k b end (m, begun, judges, inr (n, invites, inl answers)) asked kept only written =
     let one : OnlyOwn k.book m.book =
     only_within k.book k.book m.book b.book 0 1 2 (grows_none k.book k.book refl) (judges_grow reads head k m begun judges)
-    (answers_grow reads last head begun m b end answers) only in
-    answers_shown reads last head caller spot body begun k m b end asked judges kept one answers written
-meets_shown reads last head caller spot body k b end (m, begun, judges, inr cuts) asked kept only written =
+    (grows_on m.book n.book b.book 0 2 2 (omega arith) (invites_grow head begun m n invites) (answers_grow reads last head begun n b end answers)) only in
+    let same : n ≡ m = quiet head begun m n (get_not_invited reads head caller spot body begun k m asked judges kept one) invites in
+    answers_shown reads last head caller spot body begun k m b end asked judges kept one
+    (subst (λ (x : Scene C). Answers reads last head begun x b end) same answers) written
+meets_shown reads last head caller spot body k b end (m, begun, judges, inr (n, invites, inr cuts)) asked kept only written =
     absurd (cut_not_written cuts.fault cuts.cut cuts.sent cuts.by cuts.responds (subst (λ (e : Option Ended). IsWritten e) cuts.ends written))
 
 pub put_then_get : {C : Type 0} (reads : C → ℕ → C → Type 0) → PutThenGet reads
@@ -170,12 +200,12 @@ put_then_get {C} reads caller spot body a b c first last end done put get sound 
     let none = grows_none a.book a.book refl in
     let heads = grows_none a.book put.behind.book (heads_same a put.behind (Ok (Some put.head)) put.heads) in
     let one = grows_on a.book put.behind.book b.book 0 3 3 (omega arith) heads
-    (meets_grow reads first put.head put.behind b end (put.judged, put.begun, put.judges, inl put.answers)) in
+    (meets_grow reads first put.head put.behind b end (put.judged, put.begun, put.judges, inr (put.invited, put.invites, inl put.answers))) in
     let two = grows_on b.book get.behind.book c.book 0 3 3 (omega arith) (grows_none b.book get.behind.book same)
     (meets_grow reads last get.head get.behind c done get.meets) in
     let kept = put_is_kept reads first caller spot body a b end put sound (only_within a.book a.book b.book c.book 0 3 3 none one two only) in
     let rest : OnlyOwn b.book c.book = only_within a.book b.book c.book c.book 3 3 0 one two (grows_none c.book c.book refl) only in
     let shown = meets_shown reads last get.head caller spot body get.behind c done get.meets get.asked
     (subst (λ (k : Book). IsKept k caller spot body) (sym same) kept) (subst (λ (k : Book). OnlyOwn k c.book) (sym same) rest) written in
-    front_shown (last || closes_session get.head) body b get.behind c
+    front_shown (last || closes_session get.head) (waits get.head) body b get.behind c
     (ap (λ (x : Scene C). x.output) get.heads.only) same shown

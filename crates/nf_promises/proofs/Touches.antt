@@ -1,14 +1,14 @@
 -- What each step of a turn touches.
 use Rattle.std.proofs.Common.{ℕ, ◌≡◌, Bool, true, false, List, Option, Result, Ok, Err, refl, sym, ap, subst, ◌∙◌}
-use Rattle.nf_dav.specs.Reply.{done_reply, made_reply}
+use Rattle.nf_dav.specs.Reply.{continue_reply, done_reply, made_reply}
 use Rattle.nf_http.specs.Head.{Head}
 use Rattle.nf_http.specs.declared.wire.WireFault.{WireFault}
 use Rattle.nf_http.specs.declared.wire.WireFault.TheVariants as wire
 use Rattle.nf_words.specs.declared.answer.Denial.{Denial}
 use Rattle.nf_words.specs.declared.answer.Goal.TheVariants as goal
 use Rattle.nf_words.specs.declared.answer.Reply.TheVariants as reply
-use Rattle.nf_server.specs.Steps.{Closes, EndsBy, EndsSo, Judges, OnlyAsks, OnlyWrites, Passes, Says, Scene, denial_of}
-use Rattle.nf_server.specs.Turn.{Responds, says_close}
+use Rattle.nf_server.specs.Steps.{Closes, EndsBy, EndsSo, Invites, Judges, OnlyAsks, OnlyWrites, Passes, Says, Scene, denial_of}
+use Rattle.nf_server.specs.Turn.{Responds, Way, says_close}
 use Rattle.nf_server.specs.declared.backend.Ending.{Ending}
 use Rattle.nf_server.specs.declared.begun.Begun.{Begun}
 use Rattle.nf_server.specs.declared.begun.Begun.TheVariants as begun
@@ -16,6 +16,8 @@ use Rattle.nf_server.specs.declared.ended.Ended.{Ended}
 use Rattle.nf_server.specs.declared.ended.Ended.TheVariants as ended
 use Rattle.nf_server.specs.declared.response.Response.{Response}
 use Rattle.nf_server.specs.declared.response.Response.TheVariants as response
+use Rattle.nf_server.proofs.Inviting.{stops_sends}
+use Rattle.nf_server.proofs.Turns.{sends_says}
 use Rattle.nf_promises.specs.Kept.{SaysStored}
 
 asks_none : {C : Type 0} (a b : Scene C) → b ≡ a → OnlyAsks a b
@@ -44,6 +46,7 @@ passes_only reads body a b (begun.Asked (Ok (reply.Granted (goal.Serve content))
 passes_only reads body a b (begun.Asked (Ok (reply.Granted (goal.Store who key length)))) v (now, answer, read, ends, is, only) = only
 passes_only reads body a b (begun.Asked (Ok reply.Made)) v (is, same) = asks_none a b same
 passes_only reads body a b (begun.Asked (Ok reply.Done)) v (is, same) = asks_none a b same
+passes_only reads body a b (begun.Asked (Ok (reply.Listing lines))) v (is, same) = asks_none a b same
 passes_only reads body a b (begun.Asked (Ok reply.Closed)) v (is, same) = asks_none a b same
 passes_only reads body a b (begun.Asked (Err refusal)) v (is, same) = asks_none a b same
 
@@ -60,19 +63,27 @@ says_only a b bytes (Err ended.Memory) same = writes_none a b same
 says_only a b bytes (Err ended.WriteFault) part = part.only
 says_only a b bytes (Err other) never = absurd never
 
-pub stored_only : {C : Type 0} (last : Bool) (head : Head) (v : Response) (a b : Scene C) (result : Result (Option Ended) Ended) → SaysStored v
-    → Responds last head v a b result → OnlyWrites a b
-stored_only last head response.Made a b (Ok end) says (is, wrote) =
-    says_only {T = Unit {0}} a b (made_reply (says_close last head response.Made)) (Ok tt) wrote
-stored_only last head response.Made a b (Err by) says wrote =
-    says_only {T = Unit {0}} a b (made_reply (says_close last head response.Made)) (Err by) wrote
-stored_only last head response.Done a b (Ok end) says (is, wrote) =
-    says_only {T = Unit {0}} a b (done_reply (says_close last head response.Done)) (Ok tt) wrote
-stored_only last head response.Done a b (Err by) says wrote =
-    says_only {T = Unit {0}} a b (done_reply (says_close last head response.Done)) (Err by) wrote
-stored_only last head (response.Denied refusal) a b result says responds = absurd says
-stored_only last head (response.Lost why) a b result says responds = absurd says
-stored_only last head (response.File content first) a b result says responds = absurd says
+-- whoever is invited couldn't be told
+pub stops_only : {C : Type 0} (head : Head) (begun : Begun) (a b : Scene C) (by : Ended) → Invites {T = Unit {0}} head begun a b (Err by)
+    → OnlyWrites a b
+stops_only head begun a b by invites =
+    says_only {T = Unit {0}} a b continue_reply (Err by)
+    (sends_says {T = Unit {0}} a b continue_reply (Err by) (stops_sends head begun a b (Unit {0}) by invites))
+
+pub stored_only : {C : Type 0} (last : Bool) (way : Way) (v : Response) (a b : Scene C) (result : Result (Option Ended) Ended) → SaysStored v
+    → Responds last way v a b result → OnlyWrites a b
+stored_only last way response.Made a b (Ok end) says (is, wrote) =
+    says_only {T = Unit {0}} a b (made_reply (says_close last way response.Made)) (Ok tt) wrote
+stored_only last way response.Made a b (Err by) says wrote =
+    says_only {T = Unit {0}} a b (made_reply (says_close last way response.Made)) (Err by) wrote
+stored_only last way response.Done a b (Ok end) says (is, wrote) =
+    says_only {T = Unit {0}} a b (done_reply (says_close last way response.Done)) (Ok tt) wrote
+stored_only last way response.Done a b (Err by) says wrote =
+    says_only {T = Unit {0}} a b (done_reply (says_close last way response.Done)) (Err by) wrote
+stored_only last way (response.Denied refusal) a b result says responds = absurd says
+stored_only last way (response.Listing lines) a b result says responds = absurd says
+stored_only last way (response.Lost why) a b result says responds = absurd says
+stored_only last way (response.File content first) a b result says responds = absurd says
 
 ends_so_only : {C : Type 0} (refusal : Denial) (a b : Scene C) (end : Ended) → EndsSo refusal a b end → OnlyWrites a b
 ends_so_only refusal a b ended.BadMessage wrote = writes_all a b wrote.only

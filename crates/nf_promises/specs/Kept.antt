@@ -1,14 +1,15 @@
 -- What is put is what is got.
-use Rattle.std.specs.Prelude.{◌≡◌, ◌⊎◌, ℕ, ◌+◌, ◌-◌, ◌^◌, ◌≤◌, min, Bool, ◌||◌, List, ◌++◌, length, Option, None, Some, IsSome, Ok}
+use Rattle.std.specs.Prelude.{◌≡◌, ◌⊎◌, ℕ, ◌+◌, ◌-◌, ◌^◌, ◌≤◌, min, Bool, false, ◌||◌, ◌&&◌, nat_lt, if◌then◌else◌, List, [], ◌++◌, length, Option, None, Some, IsSome, Ok}
 use Rattle.std.specs.Io.KnownBytes.{Appends}
 use Rattle.sha2.specs.Sha256.{sha256}
 use Rattle.nf_defs.specs.Blobs.{Blobs}
 use Rattle.nf_dav.specs.Asked.{request_of}
-use Rattle.nf_dav.specs.Reply.{done_reply, file_head, made_reply, refusal_reply}
+use Rattle.nf_dav.specs.Reply.{continue_reply, done_reply, file_head, made_reply, refusal_reply}
+use Rattle.nf_dav.specs.declared.replies.Manner.{Manner}
 use Rattle.httparse.specs.Grammar.{IsRequestHead, RequestHead, print_request}
-use Rattle.nf_http.specs.Head.{Head, closes_session, head_fault, head_of}
+use Rattle.nf_http.specs.Head.{Head, closes_session, expects_continue, head_fault, head_of, length_of}
 use Rattle.nf_server.specs.Book.{Book, state_of}
-use Rattle.nf_server.specs.Steps.{Heads, Judges, Scene}
+use Rattle.nf_server.specs.Steps.{Heads, Invites, Judges, Scene}
 use Rattle.nf_server.specs.Turn.{Answers, Meets, Turn}
 use Rattle.nf_server.specs.declared.begun.Begun.{Begun}
 use Rattle.nf_server.specs.declared.ended.Ended.{Ended}
@@ -35,6 +36,7 @@ get_of caller spot = record { caller = caller; wanted = Get spot }
 abbrev pub SaysStored : Response → Type 0
 SaysStored response.Made = Unit {0}
 SaysStored response.Done = Unit {0}
+SaysStored (response.Listing lines) = ⊥
 SaysStored (response.Denied refusal) = ⊥
 SaysStored (response.Lost fault) = ⊥
 SaysStored (response.File content first) = ⊥
@@ -49,7 +51,9 @@ pub record Puts {C : Type 0} (reads : C → ℕ → C → Type 0) (last : Bool) 
   pub judged : Scene C
   pub begun : Begun
   pub judges : Judges reads head behind judged begun
-  pub answers : Answers reads last head begun judged b end
+  pub invited : Scene C
+  pub invites : Invites {T = Unit {0}} head begun judged invited (Ok tt)
+  pub answers : Answers reads last head begun invited b end
   pub body_is : answers.takes.1 ≡ body
   pub stored : SaysStored answers.response
 
@@ -68,6 +72,10 @@ IsWritten None = Unit {0}
 IsWritten (Some ended.Closed) = Unit {0}
 IsWritten (Some other) = ⊥
 
+-- its sender waits before it sends a body
+abbrev pub waits : Head → Bool
+waits head = expects_continue head && nat_lt 0 (length_of head)
+
 -- ---- the promise
 
 -- no entry of another seat came between
@@ -84,18 +92,23 @@ abbrev pub AreOfBody : Option Blobs → List ℕ → List ℕ → Type 0
 AreOfBody None body bytes = (length bytes ≡ length body) × (sha256 bytes ≡ sha256 body)
 AreOfBody (Some shelf) body bytes = bytes ≡ body
 
+-- how the GET of a file is refused: it is no OCS request, and its answer has a body
+abbrev pub plainly : Bool → Manner
+plainly close = record { close = close; ocs = false; head_only = false }
+
 -- that they are damaged, only where the store tells nothing: what it tells under a number it tells for good
 abbrev pub ShowsDamage : {C : Type 0} → Option Blobs → Bool → Scene C → Scene C → Type 0
-ShowsDamage None close a b = (damage : Damage) × Appends a.output b.output (refusal_reply close (denial.Damaged damage))
+ShowsDamage None close a b = (damage : Damage) × Appends a.output b.output (refusal_reply (plainly close) (denial.Damaged damage))
 ShowsDamage (Some shelf) close a b = ⊥
 
--- a file of a body's bytes was written; or that there is no memory; or that the store failed; or that they are damaged
-abbrev pub ShowsFile : {C : Type 0} → Bool → List ℕ → Scene C → Scene C → Type 0
-ShowsFile close body a b =
+-- a file of a body's bytes was written; or that there is no memory, at the Begin or later; or that the store failed; or that they are damaged
+abbrev pub ShowsFile : {C : Type 0} → Bool → Bool → List ℕ → Scene C → Scene C → Type 0
+ShowsFile close unsent body a b =
     ((bytes : List ℕ) × AreOfBody a.book.told body bytes
     × Appends a.output b.output (file_head close (length body) ++ bytes))
-    ⊎ Appends a.output b.output (refusal_reply close denial.Memory)
-    ⊎ (Appends a.output b.output (refusal_reply close denial.Store) × FailsStore a.book b.book)
+    ⊎ Appends a.output b.output (refusal_reply (plainly close) denial.Memory)
+    ⊎ Appends a.output b.output (refusal_reply (plainly (close || unsent)) denial.Memory)
+    ⊎ (Appends a.output b.output (refusal_reply (plainly close) denial.Store) × FailsStore a.book b.book)
     ⊎ ShowsDamage a.book.told close a b
 
 -- the body of a PUT that was made or done is what the next turn's GET of its path by the same caller is answered, where
@@ -106,7 +119,7 @@ PutThenGet {C} reads =
     (a b c : Scene C) (first last : Bool) (end done : Option Ended)
     → Puts reads first caller spot body a b end → (get : Gets reads last caller spot b c done)
     → IsSound (state_of a.book) → OnlyOwn a.book c.book → IsWritten done
-    → ShowsFile (last || closes_session get.head) body b c
+    → ShowsFile (last || closes_session get.head) (waits get.head) body b c
 
 -- ---- the same of bytes
 
@@ -117,9 +130,16 @@ pub record Prints (h : RequestHead) (request : Request) : Type 0 where
   pub sound : head_fault (head_of h) ≡ None
   pub asks : request_of (head_of h) ≡ Ok request
 
+-- what whoever waits for it is told first
+abbrev pub invitation : Head → List ℕ
+invitation head = if expects_continue head then continue_reply else []
+
 -- what was written is the answer that something was made or done
-abbrev pub SaysDone : {C : Type 0} → Scene C → Scene C → Type 0
-SaysDone a b = (close : Bool) × (Appends a.output b.output (made_reply close) ⊎ Appends a.output b.output (done_reply close))
+abbrev pub SaysDone : {C : Type 0} → Head → Scene C → Scene C → Type 0
+SaysDone head a b =
+    (close : Bool)
+    × (Appends a.output b.output (invitation head ++ made_reply close)
+    ⊎ Appends a.output b.output (invitation head ++ done_reply close))
 
 -- two turns over an input that begins with a PUT, its body and a GET of its path by the same caller, and ends that tell
 -- their bytes
@@ -129,6 +149,6 @@ PutThenGetOfBytes {C} reads =
     (a b c : Scene C) (first last : Bool) (end done : Option Ended)
     → Prints put (put_of caller spot (length body)) → Prints get (get_of caller spot)
     → a.input ≡ Some (print_request put ++ body ++ print_request get ++ rest) → IsSome a.output
-    → Turn reads first a b end → SaysDone a b → Turn reads last b c done → IsWritten done
+    → Turn reads first a b end → SaysDone (head_of put) a b → Turn reads last b c done → IsWritten done
     → IsSound (state_of a.book) → OnlyOwn a.book c.book
-    → ShowsFile (last || closes_session (head_of get)) body b c
+    → ShowsFile (last || closes_session (head_of get)) (waits (head_of get)) body b c

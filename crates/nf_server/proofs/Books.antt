@@ -44,6 +44,7 @@ plain_none (Ok (reply.Granted goal)) plain = absurd (plain goal refl)
 plain_none (Ok reply.Made) plain = refl
 plain_none (Ok reply.Done) plain = refl
 plain_none (Ok reply.Closed) plain = refl
+plain_none (Ok (reply.Listing lines)) plain = refl
 plain_none (Err refusal) plain = refl
 
 begin_holds : (s : State) (seat now : ℕ) (words : Words) (request : Request) → IsNone (ticket_of s seat) → (answer : Answer)
@@ -62,6 +63,7 @@ begin_holds s seat now words request none answer is = here answer is
     here (Ok reply.Made) is = keeps (λ goal granted. cc)
     here (Ok reply.Done) is = keeps (λ goal granted. cc)
     here (Ok reply.Closed) is = keeps (λ goal granted. cc)
+    here (Ok (reply.Listing lines)) is = keeps (λ goal granted. cc)
     here (Err refusal) is = keeps (λ goal granted. cc)
 
 step_holds : (s : State) (seat now : ℕ) (event : Event) → MayAsk s seat event

@@ -4,7 +4,7 @@ use Rattle.std.specs.Prelude.{Bool, true, false, Option, None, Some, MatchBool, 
 use Rattle.std.specs.declared.alloc.Global.{Global}
 use Rattle.nf_base.specs.declared.content.Piece.{Piece}
 use Rattle.nf_http.specs.Filling.{HasReadCause}
-use Rattle.nf_http.specs.Head.{Head, closes_session}
+use Rattle.nf_http.specs.Head.{Head}
 use Rattle.nf_http.specs.declared.wire.WireFault.{WireFault}
 use Rattle.nf_http.specs.declared.wire.WireFault.TheVariants as wire
 use Rattle.nf_words.specs.declared.answer.Denial.{Denial}
@@ -14,13 +14,15 @@ use Rattle.nf_words.specs.declared.answer.Reply.TheVariants as reply
 use Rattle.nf_words.specs.declared.history.Event.{Event}
 use Rattle.nf_words.specs.declared.request.Request.{Request}
 use Rattle.nf_words.specs.declared.request.Words.{Words}
+use Rattle.nf_dav.specs.Reply.{continue_reply}
+use Rattle.nf_dav.specs.declared.replies.Manner.{Manner}
 use Rattle.nf_server.specs.Book.{Answer, Begins, Book, Ends, Enters, Lasts, is_unmade}
 use Rattle.nf_server.specs.Book.{Passes as Unchanged}
 use Rattle.nf_server.specs.Files.{SendsFile, WritesPieces}
 use Rattle.nf_server.specs.Laws.{CountsFault, Follows, SessionsFollow}
 use Rattle.nf_server.specs.Session.{Through}
-use Rattle.nf_server.specs.Steps.{Scene, OnlyAsks, OnlyReads, Bodies, Closes, EndsBy, EndsSo, Judges, Passes, Says, Starts, StartsFile, StoresBody, Wrote, WrotePart, denial_of, taken_length}
-use Rattle.nf_server.specs.Turn.{Answers, CutsShort, Responds, Turn, Writes, end_by, end_of, end_of_close, end_of_denial, says_close}
+use Rattle.nf_server.specs.Steps.{Scene, OnlyAsks, OnlyReads, Bodies, Closes, EndsBy, EndsSo, Invites, Judges, Passes, Says, Starts, StartsFile, StoresBody, Wrote, WrotePart, denial_of, taken_length}
+use Rattle.nf_server.specs.Turn.{Answers, CutsShort, Responds, StopsShort, Turn, Way, Writes, end_by, end_of, end_of_close, end_of_denial, manner_of, way_of}
 use Rattle.nf_server.specs.declared.backend.Ending.{Ending}
 use Rattle.nf_server.specs.declared.backend.Ending.TheVariants as ending
 use Rattle.nf_server.specs.declared.begun.Begun.{Begun}
@@ -29,7 +31,9 @@ use Rattle.nf_server.specs.declared.ended.Ended.{Ended}
 use Rattle.nf_server.specs.declared.ended.Ended.TheVariants as ended
 use Rattle.nf_server.specs.declared.response.Response.{Response}
 use Rattle.nf_server.specs.declared.response.Response.TheVariants as response
+use Rattle.nf_server.proofs.Inviting.{invites_wrote, stops_sends}
 use Rattle.nf_server.proofs.Lasting.{lasts_same, lasts_then, lasts_refl}
+use Rattle.nf_server.proofs.Turns.{sends_says}
 
 -- nothing failed
 record Calm {C : Type 0} (a b : Scene C) : Type 0 where
@@ -98,6 +102,8 @@ close_is_none false = refl
 denial_is_none : (closes : Bool) (d : Denial) → is_fault (end_of_denial closes d) ≡ false
 denial_is_none closes denial.BadMessage = close_is_none closes
 denial_is_none closes (denial.BadName f) = close_is_none closes
+denial_is_none closes (denial.BadParameter f) = close_is_none closes
+denial_is_none closes (denial.Method route) = close_is_none closes
 denial_is_none closes denial.Token = close_is_none closes
 denial_is_none closes denial.NotYou = close_is_none closes
 denial_is_none closes denial.ForbiddenName = close_is_none closes
@@ -105,6 +111,7 @@ denial_is_none closes (denial.BadTarget t) = close_is_none closes
 denial_is_none closes denial.NotFound = close_is_none closes
 denial_is_none closes denial.Exists = close_is_none closes
 denial_is_none closes denial.NoParent = close_is_none closes
+denial_is_none closes denial.Overwrite = close_is_none closes
 denial_is_none closes denial.TooLarge = close_is_none closes
 denial_is_none closes denial.Body = close_is_none closes
 denial_is_none closes denial.Head = close_is_none closes
@@ -120,6 +127,7 @@ pub end_is_none : (closes : Bool) (v : Response) → is_fault (end_of closes v) 
 end_is_none closes (response.Denied d) = denial_is_none closes d
 end_is_none closes response.Made = close_is_none closes
 end_is_none closes response.Done = close_is_none closes
+end_is_none closes (response.Listing lines) = close_is_none closes
 end_is_none closes (response.Lost fault) = close_is_none closes
 end_is_none closes (response.File content first) = close_is_none closes
 
@@ -176,12 +184,14 @@ starts_lasts a b [] (response.Lost fault) starts = absurd starts
 starts_lasts a b [] (response.Denied d) starts = absurd starts
 starts_lasts a b [] response.Made starts = absurd starts
 starts_lasts a b [] response.Done starts = absurd starts
+starts_lasts a b [] (response.Listing lines) starts = absurd starts
 starts_lasts a b (piece ∷ pieces) (response.File content None) starts = absurd starts
 starts_lasts a b (piece ∷ pieces) (response.File content (Some first)) starts = starts.1.lasts
 starts_lasts a b (piece ∷ pieces) (response.Lost fault) starts = starts.0.lasts
 starts_lasts a b (piece ∷ pieces) (response.Denied d) starts = absurd starts
 starts_lasts a b (piece ∷ pieces) response.Made starts = absurd starts
 starts_lasts a b (piece ∷ pieces) response.Done starts = absurd starts
+starts_lasts a b (piece ∷ pieces) (response.Listing lines) starts = absurd starts
 
 starts_calm : {C : Type 0} (a b : Scene C) (content : List Piece) (v : Response) → StartsFile a b content v → Calm a b
 starts_calm a b content v starts = record {
@@ -200,6 +210,7 @@ passes_calm reads body a b (begun.Asked (Ok (reply.Granted (goal.Store who key l
 passes_calm reads body a b (begun.Asked (Ok reply.Made)) v passes = calm_same a b passes.1
 passes_calm reads body a b (begun.Asked (Ok reply.Done)) v passes = calm_same a b passes.1
 passes_calm reads body a b (begun.Asked (Ok reply.Closed)) v passes = calm_same a b passes.1
+passes_calm reads body a b (begun.Asked (Ok (reply.Listing lines))) v passes = calm_same a b passes.1
 passes_calm reads body a b (begun.Asked (Err d)) v passes = calm_same a b passes.1
 
 ends_lasts : (a b : Book) (now : ℕ) (how : Ending) (answer : Answer) → Ends a b now how answer → Lasts a b
@@ -248,27 +259,29 @@ file_follows T close content first a b ended.NotBuilt sends = absurd sends
 file_follows T close content first a b ended.RunFull sends = absurd sends
 file_follows T close content first a b ended.ReadFault sends = absurd sends
 
-writes_follows : {C : Type 0} (T : Type 0) (close : Bool) (v : Response) (a b : Scene C) (by : Ended) → Writes {T = T} close v a b (Err by) → Follows a b (Some by)
-writes_follows T close (response.Denied d) a b by writes = says_follows T a b _ by writes
-writes_follows T close (response.Lost fault) a b by writes = says_follows T a b _ by writes
-writes_follows T close (response.File content first) a b by writes = file_follows T close content first a b by writes
-writes_follows T close response.Made a b by writes = says_follows T a b _ by writes
-writes_follows T close response.Done a b by writes = says_follows T a b _ by writes
+writes_follows : {C : Type 0} (T : Type 0) (manner : Manner) (v : Response) (a b : Scene C) (by : Ended) → Writes {T = T} manner v a b (Err by) → Follows a b (Some by)
+writes_follows T manner (response.Denied d) a b by writes = says_follows T a b _ by writes
+writes_follows T manner (response.Lost fault) a b by writes = says_follows T a b _ by writes
+writes_follows T manner (response.File content first) a b by writes = file_follows T manner.close content first a b by writes
+writes_follows T manner response.Made a b by writes = says_follows T a b _ by writes
+writes_follows T manner response.Done a b by writes = says_follows T a b _ by writes
+writes_follows T manner (response.Listing lines) a b by writes = says_follows T a b _ by writes
 
-writes_calm : {C : Type 0} (T : Type 0) (close : Bool) (v : Response) (a b : Scene C) (sent : T) → Writes {T = T} close v a b (Ok sent) → Calm a b
-writes_calm T close (response.Denied d) a b sent writes = wrote_calm a b _ writes
-writes_calm T close (response.Lost fault) a b sent writes = wrote_calm a b _ writes
-writes_calm T close (response.File content first) a b sent (given, writes, all, unstruck) = pieces_calm close content first a b given writes
-writes_calm T close response.Made a b sent writes = wrote_calm a b _ writes
-writes_calm T close response.Done a b sent writes = wrote_calm a b _ writes
+writes_calm : {C : Type 0} (T : Type 0) (manner : Manner) (v : Response) (a b : Scene C) (sent : T) → Writes {T = T} manner v a b (Ok sent) → Calm a b
+writes_calm T manner (response.Denied d) a b sent writes = wrote_calm a b _ writes
+writes_calm T manner (response.Lost fault) a b sent writes = wrote_calm a b _ writes
+writes_calm T manner (response.File content first) a b sent (given, writes, all, unstruck) = pieces_calm manner.close content first a b given writes
+writes_calm T manner response.Made a b sent writes = wrote_calm a b _ writes
+writes_calm T manner response.Done a b sent writes = wrote_calm a b _ writes
+writes_calm T manner (response.Listing lines) a b sent writes = wrote_calm a b _ writes
 
-responds_follows : {C : Type 0} (last : Bool) (head : Head) (v : Response) (a b : Scene C) (result : Result (Option Ended) Ended)
-    → Responds last head v a b result → Follows a b (end_by result)
-responds_follows {C = C} last head v a b (Ok end) responds =
+responds_follows : {C : Type 0} (last : Bool) (way : Way) (v : Response) (a b : Scene C) (result : Result (Option Ended) Ended)
+    → Responds last way v a b result → Follows a b (end_by result)
+responds_follows {C = C} last way v a b (Ok end) responds =
     subst (λ (z : Option Ended). Follows a b z) (sym responds.0)
-    (calm_ends a b (end_of (closes_session head) v) (end_is_none (closes_session head) v)
-    (writes_calm (Unit {0}) (says_close last head v) v a b tt responds.1))
-responds_follows {C = C} last head v a b (Err by) responds = writes_follows (Unit {0}) (says_close last head v) v a b by responds
+    (calm_ends a b (end_of way.closes v) (end_is_none way.closes v)
+    (writes_calm (Unit {0}) (manner_of last way v) v a b tt responds.1))
+responds_follows {C = C} last way v a b (Err by) responds = writes_follows (Unit {0}) (manner_of last way v) v a b by responds
 
 -- ---- no message
 
@@ -312,7 +325,7 @@ answers_follows reads last head u a b end answers =
     subst (λ (z : Option Ended). Follows a b z) (sym answers.ends)
     (calm_follows a answers.taken b (end_by answers.result) taken
     (follows_calm answers.taken answers.sent b (end_by answers.result)
-    (responds_follows last head v answers.taken answers.sent answers.result answers.responds)
+    (responds_follows last (way_of head u) v answers.taken answers.sent answers.result answers.responds)
     (closes_calm reads _ _ answers.sent b answers.closes)))
 
 short_follows : {C : Type 0} (reads : C → ℕ → C → Type 0) (head : Head) (u : Begun) (a b : Scene C) (end : Option Ended)
@@ -323,17 +336,35 @@ short_follows {C = C} reads head u a b end cut =
     (refused_follows ℕ a cut.cut cut.sent cut.fault cut.by cut.takes.only cut.takes.cause cut.responds)
     (closes_calm reads ending.Gone _ cut.sent b cut.closes))
 
+-- nobody waited to be told, or was told
+invites_calm : {C : Type 0} (head : Head) (u : Begun) (a b : Scene C) → Invites {T = Unit {0}} head u a b (Ok tt) → Calm a b
+invites_calm head u a b invites = wrote_calm a b _ (invites_wrote head u a b (Unit {0}) tt invites)
+
+stops_follows : {C : Type 0} (reads : C → ℕ → C → Type 0) (head : Head) (u : Begun) (a b : Scene C) (end : Option Ended)
+    → StopsShort reads head u a b end → Follows a b end
+stops_follows {C = C} reads head u a b end stops =
+    subst (λ (z : Option Ended). Follows a b z) (sym stops.ends)
+    (follows_calm a stops.sent b (Some stops.by)
+    (says_follows (Unit {0}) a stops.sent continue_reply stops.by
+    (sends_says {T = Unit {0}} a stops.sent continue_reply (Err stops.by) (stops_sends head u a stops.sent (Unit {0}) stops.by stops.invites)))
+    (closes_calm reads ending.Gone _ stops.sent b stops.closes))
+
 turn_follows : {C : Type 0} (reads : C → ℕ → C → Type 0) (last : Bool) (a b : Scene C) (end : Option Ended) → Turn reads last a b end → Follows a b end
 turn_follows reads last a b end (inl (heads, is)) =
     subst (λ (z : Option Ended). Follows a b z) (sym is) (calm_ends a b (Some ended.Closed) refl (reads_calm a b heads.only heads.cause))
 turn_follows {C = C} reads last a b end (inr (inl (m, fault, by, heads, ends, is))) =
     subst (λ (z : Option Ended). Follows a b z) (sym is) (refused_follows (Option Head) a m b fault by heads.only heads.cause ends)
-turn_follows reads last a b end (inr (inr (m, head, heads, (opened, u, judged, inl answers)))) =
+turn_follows reads last a b end (inr (inr (m, head, heads, (opened, u, judged, inl stops)))) =
     calm_follows a m b end (reads_calm a m heads.only heads.cause)
-    (calm_follows m opened b end (judges_calm reads head m opened u judged) (answers_follows reads last head u opened b end answers))
-turn_follows reads last a b end (inr (inr (m, head, heads, (opened, u, judged, inr cut)))) =
+    (calm_follows m opened b end (judges_calm reads head m opened u judged) (stops_follows reads head u opened b end stops))
+turn_follows reads last a b end (inr (inr (m, head, heads, (opened, u, judged, inr (told, invites, inl answers))))) =
     calm_follows a m b end (reads_calm a m heads.only heads.cause)
-    (calm_follows m opened b end (judges_calm reads head m opened u judged) (short_follows reads head u opened b end cut))
+    (calm_follows m opened b end (judges_calm reads head m opened u judged)
+    (calm_follows opened told b end (invites_calm head u opened told invites) (answers_follows reads last head u told b end answers)))
+turn_follows reads last a b end (inr (inr (m, head, heads, (opened, u, judged, inr (told, invites, inr cut))))) =
+    calm_follows a m b end (reads_calm a m heads.only heads.cause)
+    (calm_follows m opened b end (judges_calm reads head m opened u judged)
+    (calm_follows opened told b end (invites_calm head u opened told invites) (short_follows reads head u told b end cut)))
 
 -- ---- a session
 

@@ -59,6 +59,7 @@ stored_responding a b now body (Ok reply.Made) v ends is =
 stored_responding a b now body (Ok reply.Done) v ends is =
     subst (λ (z : Response). IsResponding b z) (sym is) (enters_holds a b now _ (Ok reply.Done) ends.enters)
 stored_responding a b now body (Ok reply.Closed) v ends is = absurd is
+stored_responding a b now body (Ok (reply.Listing lines)) v ends is = absurd ends.answered
 stored_responding a b now body (Ok (reply.Granted goal)) v ends is = absurd is
 stored_responding a b now body (Err refusal) v ends is =
     subst (λ (z : Response). IsResponding b z) (sym is) (enters_holds a b now _ (Err refusal) ends.enters)
@@ -70,6 +71,7 @@ responding_holds b (response.Lost fault) responding = sym responding
 responding_holds b (response.Denied refusal) responding = sym (ap is_some responding)
 responding_holds b response.Made responding = sym (ap is_some responding)
 responding_holds b response.Done responding = sym (ap is_some responding)
+responding_holds b (response.Listing lines) responding = sym (ap is_some responding)
 
 pub begun_holds : (b : Book) (v : Begun) → IsBegun b v → is_granted v ≡ is_some (held b)
 begun_holds b (begun.Unasked refusal) is = sym (ap is_some is.held_is)
@@ -77,4 +79,5 @@ begun_holds b (begun.Asked (Ok (reply.Granted goal))) is = sym (ap is_some is.he
 begun_holds b (begun.Asked (Ok reply.Made)) is = sym (ap is_some is.held_is)
 begun_holds b (begun.Asked (Ok reply.Done)) is = sym (ap is_some is.held_is)
 begun_holds b (begun.Asked (Ok reply.Closed)) is = sym (ap is_some is.held_is)
+begun_holds b (begun.Asked (Ok (reply.Listing lines))) is = sym (ap is_some is.held_is)
 begun_holds b (begun.Asked (Err refusal)) is = sym (ap is_some is.held_is)

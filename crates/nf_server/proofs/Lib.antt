@@ -2,6 +2,7 @@ pub mod Lasting
 pub mod Helds
 pub mod Same
 pub mod Takes
+pub mod Inviting
 pub mod Turns
 pub mod Sendings
 pub mod Causes

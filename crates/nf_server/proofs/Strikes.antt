@@ -7,8 +7,6 @@ use Rattle.nf_base.specs.declared.content.Piece.{Piece}
 use Rattle.nf_http.specs.Head.{Head}
 use Rattle.nf_http.specs.declared.wire.WireFault.{WireFault}
 use Rattle.nf_http.specs.declared.wire.WireFault.TheVariants as wire
-use Rattle.nf_words.specs.History.{answer_at}
-use Rattle.nf_words.specs.State.{State}
 use Rattle.nf_words.specs.declared.answer.Denial.{Denial}
 use Rattle.nf_words.specs.declared.answer.Denial.TheVariants as denial
 use Rattle.nf_words.specs.declared.answer.Goal.TheVariants as goal
@@ -20,13 +18,15 @@ use Rattle.nf_words.specs.declared.history.Mark.TheVariants as mark
 use Rattle.nf_words.specs.declared.request.Request.{Request}
 use Rattle.nf_words.specs.declared.request.Words.{Words}
 use Rattle.nf_words.proofs.Marks.{marked_store}
+use Rattle.nf_dav.specs.Reply.{continue_reply}
+use Rattle.nf_dav.specs.declared.replies.Manner.{Manner}
 use Rattle.nf_server.specs.Book.{Answer, Begins, Book, Ends, Enters, FailsPiece, Strikes, Struck, Waits, is_unmade, state_after}
 use Rattle.nf_server.specs.Book.{Passes as Unchanged}
-use Rattle.nf_server.specs.Files.{SendsFile, WritesPieces}
-use Rattle.nf_server.specs.Laws.{Counted, CountsStrikes, StrikesCount, failed_behind, failed_by, failed_entries, failed_first, failed_in, failed_pieces, failed_through, is_failed}
+use Rattle.nf_server.specs.Files.{SendsFile}
+use Rattle.nf_server.specs.Laws.{Counted, StrikesCount, failed_behind, failed_by, failed_entries, failed_first, failed_in, failed_pieces, failed_through, is_failed}
 use Rattle.nf_server.specs.Session.{Through}
-use Rattle.nf_server.specs.Steps.{Scene, Closes, EndsBy, EndsSo, IsResponse, Judges, OnlyReads, Passes, Says, Starts, StoresBody, denial_of, taken_length}
-use Rattle.nf_server.specs.Turn.{Answers, CutsShort, Responds, Turn, Writes, says_close}
+use Rattle.nf_server.specs.Steps.{Scene, Closes, EndsBy, EndsSo, Invites, IsResponse, Judges, OnlyReads, Passes, Says, Sends, Starts, StoresBody, denial_of}
+use Rattle.nf_server.specs.Turn.{Answers, CutsShort, Responds, StopsShort, Turn, Way, Writes, manner_of, way_of}
 use Rattle.nf_server.specs.declared.backend.Ending.{Ending}
 use Rattle.nf_server.specs.declared.backend.Ending.TheVariants as ending
 use Rattle.nf_server.specs.declared.backend.PieceFault.{PieceFault}
@@ -37,6 +37,7 @@ use Rattle.nf_server.specs.declared.ended.Ended.{Ended}
 use Rattle.nf_server.specs.declared.ended.Ended.TheVariants as ended
 use Rattle.nf_server.specs.declared.response.Response.{Response}
 use Rattle.nf_server.specs.declared.response.Response.TheVariants as response
+use Rattle.nf_server.proofs.Inviting.{invites_wrote, stops_sends}
 
 -- ---- so many strikes
 
@@ -198,12 +199,14 @@ starts_pays a b [] (response.Lost why) starts = absurd starts
 starts_pays a b [] (response.Denied d) starts = absurd starts
 starts_pays a b [] response.Made starts = absurd starts
 starts_pays a b [] response.Done starts = absurd starts
+starts_pays a b [] (response.Listing lines) starts = absurd starts
 starts_pays a b (piece ∷ pieces) (response.File content None) starts = absurd starts
 starts_pays a b (piece ∷ pieces) (response.File content (Some first)) starts = pays_none a b 0 starts.1.own (inl (refl, starts.3))
 starts_pays a b (piece ∷ pieces) (response.Lost why) starts = lost_pays a b why (fails_pays a b piece why starts.0 starts.1)
 starts_pays a b (piece ∷ pieces) (response.Denied d) starts = absurd starts
 starts_pays a b (piece ∷ pieces) response.Made starts = absurd starts
 starts_pays a b (piece ∷ pieces) response.Done starts = absurd starts
+starts_pays a b (piece ∷ pieces) (response.Listing lines) starts = absurd starts
 
 -- ---- the steps
 
@@ -216,6 +219,7 @@ plain_response : (answer : Answer) (v : Response) → IsResponse answer v → fa
 plain_response (Ok reply.Made) v is = ap failed_first is
 plain_response (Ok reply.Done) v is = ap failed_first is
 plain_response (Ok reply.Closed) v is = absurd is
+plain_response (Ok (reply.Listing lines)) v is = ap failed_first is
 plain_response (Ok (reply.Granted goal)) v is = absurd is
 plain_response (Err refusal) v is = ap failed_first is
 
@@ -236,6 +240,7 @@ passes_pays reads body a b (begun.Asked (Ok (reply.Granted (goal.Store who key l
 passes_pays reads body a b (begun.Asked (Ok reply.Made)) v passes = plain_pays a b (Ok reply.Made) v passes.0 passes.1
 passes_pays reads body a b (begun.Asked (Ok reply.Done)) v passes = plain_pays a b (Ok reply.Done) v passes.0 passes.1
 passes_pays reads body a b (begun.Asked (Ok reply.Closed)) v passes = absurd passes.0
+passes_pays reads body a b (begun.Asked (Ok (reply.Listing lines))) v passes = plain_pays a b (Ok (reply.Listing lines)) v passes.0 passes.1
 passes_pays reads body a b (begun.Asked (Err d)) v passes = plain_pays a b (Err d) v passes.0 passes.1
 
 closes_pays : {C : Type 0} (reads : C → ℕ → C → Type 0) (how : Ending) (granted : Bool) (a b : Scene C) → Closes reads how granted a b
@@ -270,26 +275,28 @@ file_pays T close content first a b ended.NotBuilt sends = absurd sends
 file_pays T close content first a b ended.RunFull sends = absurd sends
 file_pays T close content first a b ended.ReadFault sends = absurd sends
 
-fault_pays : {C : Type 0} (T : Type 0) (close : Bool) (v : Response) (a b : Scene C) (by : Ended) → Writes {T = T} close v a b (Err by)
+fault_pays : {C : Type 0} (T : Type 0) (manner : Manner) (v : Response) (a b : Scene C) (by : Ended) → Writes {T = T} manner v a b (Err by)
     → Pays a.book b.book (failed_by by)
-fault_pays T close (response.Denied d) a b by writes = says_pays T a b _ by writes
-fault_pays T close (response.Lost fault) a b by writes = says_pays T a b _ by writes
-fault_pays T close (response.File content first) a b by writes = file_pays T close content first a b by writes
-fault_pays T close response.Made a b by writes = says_pays T a b _ by writes
-fault_pays T close response.Done a b by writes = says_pays T a b _ by writes
+fault_pays T manner (response.Denied d) a b by writes = says_pays T a b _ by writes
+fault_pays T manner (response.Lost fault) a b by writes = says_pays T a b _ by writes
+fault_pays T manner (response.File content first) a b by writes = file_pays T manner.close content first a b by writes
+fault_pays T manner response.Made a b by writes = says_pays T a b _ by writes
+fault_pays T manner response.Done a b by writes = says_pays T a b _ by writes
+fault_pays T manner (response.Listing lines) a b by writes = says_pays T a b _ by writes
 
-writes_pays : {C : Type 0} (T : Type 0) (close : Bool) (v : Response) (a b : Scene C) (sent : T) → Writes {T = T} close v a b (Ok sent) → Pays a.book b.book 0
-writes_pays T close (response.Denied d) a b sent writes = pays_same a.book b.book (ap (λ (s : Scene _). s.book) writes.only)
-writes_pays T close (response.Lost fault) a b sent writes = pays_same a.book b.book (ap (λ (s : Scene _). s.book) writes.only)
-writes_pays T close (response.File content first) a b sent (given, writes, all, unstruck) =
+writes_pays : {C : Type 0} (T : Type 0) (manner : Manner) (v : Response) (a b : Scene C) (sent : T) → Writes {T = T} manner v a b (Ok sent) → Pays a.book b.book 0
+writes_pays T manner (response.Denied d) a b sent writes = pays_same a.book b.book (ap (λ (s : Scene _). s.book) writes.only)
+writes_pays T manner (response.Lost fault) a b sent writes = pays_same a.book b.book (ap (λ (s : Scene _). s.book) writes.only)
+writes_pays T manner (response.File content first) a b sent (given, writes, all, unstruck) =
     pays_none a.book b.book 0 writes.pieces.waits.own (inl (refl, unstruck))
-writes_pays T close response.Made a b sent writes = pays_same a.book b.book (ap (λ (s : Scene _). s.book) writes.only)
-writes_pays T close response.Done a b sent writes = pays_same a.book b.book (ap (λ (s : Scene _). s.book) writes.only)
+writes_pays T manner response.Made a b sent writes = pays_same a.book b.book (ap (λ (s : Scene _). s.book) writes.only)
+writes_pays T manner response.Done a b sent writes = pays_same a.book b.book (ap (λ (s : Scene _). s.book) writes.only)
+writes_pays T manner (response.Listing lines) a b sent writes = pays_same a.book b.book (ap (λ (s : Scene _). s.book) writes.only)
 
-responds_pays : {C : Type 0} (last : Bool) (head : Head) (v : Response) (a b : Scene C) (result : Result (Option Ended) Ended)
-    → Responds last head v a b result → Pays a.book b.book (failed_behind result)
-responds_pays last head v a b (Ok end) responds = writes_pays (Unit {0}) (says_close last head v) v a b tt responds.1
-responds_pays last head v a b (Err by) responds = fault_pays (Unit {0}) (says_close last head v) v a b by responds
+responds_pays : {C : Type 0} (last : Bool) (way : Way) (v : Response) (a b : Scene C) (result : Result (Option Ended) Ended)
+    → Responds last way v a b result → Pays a.book b.book (failed_behind result)
+responds_pays last way v a b (Ok end) responds = writes_pays (Unit {0}) (manner_of last way v) v a b tt responds.1
+responds_pays last way v a b (Err by) responds = fault_pays (Unit {0}) (manner_of last way v) v a b by responds
 
 -- ---- no message
 
@@ -325,7 +332,7 @@ answers_pays reads last head u a b end answers =
     (pays_same a.book m.book (ap (λ (s : Scene _). s.book) answers.takes.2.only))
     (passes_pays reads answers.takes.1 m answers.taken u answers.response answers.takes.3) in
     let sent = pays_last answers.taken.book answers.sent.book b.book (failed_behind answers.result)
-    (responds_pays last head answers.response answers.taken answers.sent answers.result answers.responds)
+    (responds_pays last (way_of head u) answers.response answers.taken answers.sent answers.result answers.responds)
     (closes_pays reads _ _ answers.sent b answers.closes) in
     pays_then a.book answers.taken.book b.book (failed_first answers.response) (failed_behind answers.result) taken sent
 
@@ -336,17 +343,38 @@ short_pays reads head u a b end cut =
     (pays_first cut.cut.book cut.sent.book b.book 0 (by_pays cut.cut cut.sent cut.fault cut.by cut.responds)
     (closes_pays reads ending.Gone _ cut.sent b cut.closes))
 
+-- telling someone to send a body pays for nothing
+stops_pays : {C : Type 0} (reads : C → ℕ → C → Type 0) (head : Head) (u : Begun) (a b : Scene C) (end : Option Ended)
+    → StopsShort reads head u a b end → Pays a.book b.book 0
+stops_pays {C = C} reads head u a b end stops =
+    pays_first a.book stops.sent.book b.book 0
+    (sends_pay (Unit {0}) a stops.sent continue_reply stops.by (stops_sends head u a stops.sent (Unit {0}) stops.by stops.invites))
+    (closes_pays reads ending.Gone _ stops.sent b stops.closes)
+  where
+    sends_pay : (T : Type 0) (a b : Scene C) (bytes : List ℕ) (by : Ended) → Sends {T = T} a b bytes (Err by) → Pays a.book b.book 0
+    sends_pay T a b bytes ended.WriteFault sends = pays_same a.book b.book (ap (λ (s : Scene _). s.book) sends.only)
+    sends_pay T a b bytes by sends = absurd sends
+
+invites_pays : {C : Type 0} (head : Head) (u : Begun) (a b : Scene C) → Invites {T = Unit {0}} head u a b (Ok tt) → Pays a.book b.book 0
+invites_pays head u a b invites =
+    pays_same a.book b.book (ap (λ (s : Scene _). s.book) (invites_wrote head u a b (Unit {0}) tt invites).only)
+
 turn_pays : {C : Type 0} (reads : C → ℕ → C → Type 0) (last : Bool) (a b : Scene C) (end : Option Ended) (turn : Turn reads last a b end)
     → Pays a.book b.book (failed_pieces reads last a b end turn)
 turn_pays reads last a b end (inl (heads, is)) = reads_pays a b heads.only
 turn_pays reads last a b end (inr (inl (m, fault, by, heads, ends, is))) =
     pays_first a.book m.book b.book 0 (reads_pays a m heads.only) (by_pays m b fault by ends)
-turn_pays reads last a b end (inr (inr (m, head, heads, (asked, u, judged, inl answers)))) =
-    pays_first a.book m.book b.book _ (reads_pays a m heads.only)
-    (pays_first m.book asked.book b.book _ (judges_pays reads head m asked u judged) (answers_pays reads last head u asked b end answers))
-turn_pays reads last a b end (inr (inr (m, head, heads, (asked, u, judged, inr cut)))) =
+turn_pays reads last a b end (inr (inr (m, head, heads, (asked, u, judged, inl stops)))) =
     pays_first a.book m.book b.book 0 (reads_pays a m heads.only)
-    (pays_first m.book asked.book b.book 0 (judges_pays reads head m asked u judged) (short_pays reads head u asked b end cut))
+    (pays_first m.book asked.book b.book 0 (judges_pays reads head m asked u judged) (stops_pays reads head u asked b end stops))
+turn_pays reads last a b end (inr (inr (m, head, heads, (asked, u, judged, inr (told, invites, inl answers))))) =
+    pays_first a.book m.book b.book _ (reads_pays a m heads.only)
+    (pays_first m.book asked.book b.book _ (judges_pays reads head m asked u judged)
+    (pays_first asked.book told.book b.book _ (invites_pays head u asked told invites) (answers_pays reads last head u told b end answers)))
+turn_pays reads last a b end (inr (inr (m, head, heads, (asked, u, judged, inr (told, invites, inr cut))))) =
+    pays_first a.book m.book b.book 0 (reads_pays a m heads.only)
+    (pays_first m.book asked.book b.book 0 (judges_pays reads head m asked u judged)
+    (pays_first asked.book told.book b.book 0 (invites_pays head u asked told invites) (short_pays reads head u told b end cut)))
 
 -- ---- a session
 

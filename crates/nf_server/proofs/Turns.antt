@@ -1,12 +1,12 @@
 -- A turn and a session, from what their parts ensure.
 use Rattle.std.proofs.Common.{◌≡◌, ℕ, ◌<◌, ◌+◌, List, [], ◌∷◌, ◌++◌, refl, sym, ◌∙◌, ap, subst, inl, inr, arith, length, length-append, Result, Ok, Err}
 use Rattle.std.proofs.lemmas.Bool.Decides.{nat_tests}
-use Rattle.std.specs.Prelude.{Bool, true, false, ◌==◌, Option, None, Some, IfOk, OnErr}
-use Rattle.nf_http.specs.Head.{Head}
+use Rattle.std.specs.Prelude.{Bool, true, false, ◌||◌, ◌==◌, Option, None, Some, IfOk, OnErr}
+use Rattle.nf_http.specs.Head.{Head, closes_session}
 use Rattle.nf_http.specs.declared.wire.WireFault.{WireFault}
 use Rattle.nf_server.specs.Session.{Session, Through}
-use Rattle.nf_server.specs.Steps.{Scene, Heads, Judges, TakesIn, Closes, EndsBy, Says, Sends, is_granted}
-use Rattle.nf_server.specs.Turn.{Meets, Responds, Turn, end_by, how_of, stays_granted}
+use Rattle.nf_server.specs.Steps.{Scene, Heads, Invites, Judges, TakesIn, Closes, EndsBy, Says, Sends, is_granted, is_unsent}
+use Rattle.nf_server.specs.Turn.{Meets, Responds, Turn, end_by, how_of, stays_granted, way_by}
 use Rattle.nf_server.specs.declared.backend.Ending.{Ending}
 use Rattle.nf_server.specs.declared.backend.Ending.TheVariants as ending
 use Rattle.nf_server.specs.declared.begun.Begun.{Begun}
@@ -16,7 +16,7 @@ use Rattle.nf_server.specs.declared.ended.Ended.TheVariants as ended
 
 -- ---- an answer that may find no memory
 
-sends_says : {C T : Type 0} (a b : Scene C) (bytes : List ℕ) (result : Result T Ended) → Sends a b bytes result → Says a b bytes result
+pub sends_says : {C T : Type 0} (a b : Scene C) (bytes : List ℕ) (result : Result T Ended) → Sends a b bytes result → Says a b bytes result
 sends_says a b bytes (Ok sent) sends = sends
 sends_says a b bytes (Err ended.WriteFault) sends = sends
 sends_says a b bytes (Err ended.Closed) sends = absurd sends
@@ -37,45 +37,72 @@ says_so {C} {T} a b items want (Err e) result is sends none =
 
 -- ---- a message
 
-module _ {C : Type 0} (reads : C → ℕ → C → Type 0) (last : Bool) (head : Head) (a m t s b : Scene C) (begun : Begun) where
-  pub meets_answered : (v : Response) (written : Result (Option Ended) Ended) (granted : Bool) (how : Ending) (end : Option Ended)
-      → Judges reads head a m begun → TakesIn reads head m t begun (Ok v) → Responds last head v t s written
+-- its sender couldn't be told
+pub meets_stopped : {C : Type 0} (reads : C → ℕ → C → Type 0) (last : Bool) (head : Head) (a m n b : Scene C) (begun : Begun)
+    (by : Ended) (granted : Bool) → Judges reads head a m begun → Invites {T = Unit {0}} head begun m n (Err by)
+    → granted ≡ is_granted begun → Closes reads ending.Gone granted n b → Meets reads last head a b (Some by)
+meets_stopped reads last head a m n b begun by granted judged invites granted_is closed = (
+  m,
+  begun,
+  judged,
+  inl (record {
+    sent = n;
+    by = by;
+    invites = invites;
+    closes = subst (λ (z : Bool). Closes reads ending.Gone z n b) granted_is closed;
+    ends = refl;
+  }),
+)
+
+module _ {C : Type 0} (reads : C → ℕ → C → Type 0) (last : Bool) (head : Head) (a m n t s b : Scene C) (begun : Begun)
+    (judged : Judges reads head a m begun) (invites : Invites {T = Unit {0}} head begun m n (Ok tt)) where
+  pub meets_answered : (closes : Bool) (v : Response) (written : Result (Option Ended) Ended) (granted : Bool) (how : Ending)
+      (end : Option Ended) → TakesIn reads head n t begun (Ok v) → closes ≡ (closes_session head || is_unsent head begun)
+      → Responds last (way_by closes head) v t s written
       → how ≡ how_of v written → granted ≡ stays_granted v → Closes reads how granted s b
       → end ≡ end_by written → Meets reads last head a b end
-  meets_answered v written granted how end judged takes responds how_is granted_is closed end_is = (
+  meets_answered closes v written granted how end takes closes_is responds how_is granted_is closed end_is = (
     m,
     begun,
     judged,
-    inl (record {
-      taken = t;
-      sent = s;
-      response = v;
-      result = written;
-      takes = takes;
-      responds = responds;
-      closes = subst (λ (z : Bool). Closes reads (how_of v written) z s b) granted_is
-          (subst (λ (z : Ending). Closes reads z granted s b) how_is closed);
-      ends = end_is;
-    }),
+    inr (
+      n,
+      invites,
+      inl (record {
+        taken = t;
+        sent = s;
+        response = v;
+        result = written;
+        takes = takes;
+        responds = subst (λ (z : Bool). Responds last (way_by z head) v t s written) closes_is responds;
+        closes = subst (λ (z : Bool). Closes reads (how_of v written) z s b) granted_is
+            (subst (λ (z : Ending). Closes reads z granted s b) how_is closed);
+        ends = end_is;
+      }),
+    ),
   )
 
   pub meets_cut : (fault : WireFault) (by : Ended) (granted : Bool)
-      → Judges reads head a m begun → TakesIn reads head m t begun (Err fault) → EndsBy fault t s by
+      → TakesIn reads head n t begun (Err fault) → EndsBy fault t s by
       → granted ≡ is_granted begun → Closes reads ending.Gone granted s b → Meets reads last head a b (Some by)
-  meets_cut fault by granted judged takes responds granted_is closed = (
+  meets_cut fault by granted takes responds granted_is closed = (
     m,
     begun,
     judged,
-    inr (record {
-      cut = t;
-      sent = s;
-      fault = fault;
-      by = by;
-      takes = takes;
-      responds = responds;
-      closes = subst (λ (z : Bool). Closes reads ending.Gone z s b) granted_is closed;
-      ends = refl;
-    }),
+    inr (
+      n,
+      invites,
+      inr (record {
+        cut = t;
+        sent = s;
+        fault = fault;
+        by = by;
+        takes = takes;
+        responds = responds;
+        closes = subst (λ (z : Bool). Closes reads ending.Gone z s b) granted_is closed;
+        ends = refl;
+      }),
+    ),
   )
 
 pub turn_met : {C : Type 0} (reads : C → ℕ → C → Type 0) (last : Bool) (a m b : Scene C) (head : Head) (found : Option Head) (end : Option Ended)

@@ -72,6 +72,7 @@ granted (Ok (reply.Granted goal)) = Some goal
 granted (Ok reply.Made) = None
 granted (Ok reply.Done) = None
 granted (Ok reply.Closed) = None
+granted (Ok (reply.Listing lines)) = None
 granted (Err refusal) = None
 
 abbrev pub held_after : Option Goal → List (Entry × Answer) → Option Goal
@@ -154,6 +155,7 @@ IsOfBegin (Ok (reply.Granted (Store who key length))) = length ≤ MAX_BODY
 IsOfBegin (Ok (reply.Granted (Serve content))) = Unit {0}
 IsOfBegin (Ok reply.Made) = Unit {0}
 IsOfBegin (Ok reply.Done) = Unit {0}
+IsOfBegin (Ok (reply.Listing lines)) = Unit {0}
 IsOfBegin (Ok reply.Closed) = ⊥
 IsOfBegin (Err refusal) = Unit {0}
 
@@ -241,6 +243,7 @@ IsOfBody (Ok reply.Made) = Unit {0}
 IsOfBody (Ok reply.Done) = Unit {0}
 IsOfBody (Ok reply.Closed) = ⊥
 IsOfBody (Ok (reply.Granted goal)) = ⊥
+IsOfBody (Ok (reply.Listing lines)) = ⊥
 IsOfBody (Err refusal) = Unit {0}
 
 -- where the entry's step stores a blob, the body is told under its number, which is given then

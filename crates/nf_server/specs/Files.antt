@@ -41,6 +41,7 @@ IsResponding b (response.Lost fault) = IsSome (held b)
 IsResponding b (response.Denied refusal) = held b ≡ None
 IsResponding b response.Made = held b ≡ None
 IsResponding b response.Done = held b ≡ None
+IsResponding b (response.Listing lines) = held b ≡ None
 
 -- what is written of a file once some of its pieces were given
 abbrev pub file_front : Bool → List Piece → List (List ℕ) → List ℕ

@@ -11,7 +11,7 @@ use Rattle.nf_words.specs.declared.answer.Goal.{Goal}
 use Rattle.nf_words.specs.declared.history.Entry.{Entry}
 use Rattle.nf_outside.specs.Causes.{Rose}
 use Rattle.nf_server.specs.Book.{Answer, Book, IsBook, Lasts, held, own_from, state_of}
-use Rattle.nf_server.specs.Steps.{Scene, Heads, Cuts, Judges, Closes, cutting, is_granted, taken_length}
+use Rattle.nf_server.specs.Steps.{Scene, Heads, Cuts, Invites, Judges, Closes, cutting, is_granted, taken_length}
 use Rattle.nf_server.specs.Session.{Session, Through}
 use Rattle.nf_server.specs.Turn.{Turn}
 use Rattle.nf_server.specs.declared.backend.Ending.TheVariants as ending
@@ -28,10 +28,12 @@ pub record LosesBody {C : Type 0} (reads : C → ℕ → C → Type 0) (a b : Sc
   pub head : Head
   pub asked : Scene C
   pub begun : Begun
+  pub invited : Scene C
   pub cut : Scene C
   pub heads : Heads a headed (Ok (Some head))
   pub judged : Judges reads head headed asked begun
-  pub cuts : Cuts (cutting begun) asked cut (taken_length head begun) fault
+  pub invites : Invites {T = Unit {0}} head begun asked invited (Ok tt)
+  pub cuts : Cuts (cutting begun) invited cut (taken_length head begun) fault
   pub closed : Closes reads ending.Gone (is_granted begun) cut b
 
 -- at a fault of reading no head was taken and nothing was done, or less than a body was, and that is gone: nothing is stored
@@ -85,9 +87,10 @@ abbrev pub failed_pieces : {C : Type 0} (reads : C → ℕ → C → Type 0) (la
     → Turn reads last a b end → ℕ
 failed_pieces reads last a b end (inl ended) = 0
 failed_pieces reads last a b end (inr (inl refused)) = 0
-failed_pieces reads last a b end (inr (inr (m, head, heads, (asked, begun, judged, inl answers)))) =
+failed_pieces reads last a b end (inr (inr (m, head, heads, (asked, begun, judged, inl stopped)))) = 0
+failed_pieces reads last a b end (inr (inr (m, head, heads, (asked, begun, judged, inr (invited, invites, inl answers))))) =
     failed_first answers.response + failed_behind answers.result
-failed_pieces reads last a b end (inr (inr (m, head, heads, (asked, begun, judged, inr cut)))) = 0
+failed_pieces reads last a b end (inr (inr (m, head, heads, (asked, begun, judged, inr (invited, invites, inr cut))))) = 0
 
 -- in some turns
 abbrev pub failed_through : {C : Type 0} (reads : C → ℕ → C → Type 0) (a : Scene C) (scenes : List (Scene C))

@@ -1,5 +1,5 @@
 -- Scenes, and the steps of a turn, each from one scene to the next.
-use Rattle.std.specs.Prelude.{◌≡◌, ◌⊎◌, ℕ, ◌<◌, Bool, true, false, List, [], ◌∷◌, length, take, if◌then◌else◌, Option, None, Some, Result, Ok, Err}
+use Rattle.std.specs.Prelude.{◌≡◌, ◌⊎◌, ℕ, ◌<◌, Bool, true, false, ◌&&◌, MatchBool, nat_lt, List, [], ◌∷◌, length, take, if◌then◌else◌, Option, None, Some, Result, Ok, Err, IsOk}
 use Rattle.std.specs.Io.KnownBytes.{Appends}
 use Rattle.nf_outside.specs.Causes.{Rose}
 use Rattle.nf_base.specs.declared.content.Piece.{Piece}
@@ -17,7 +17,7 @@ use Rattle.nf_words.specs.declared.answer.Reply.TheVariants as reply
 use Rattle.nf_words.specs.declared.request.Request.{Request}
 use Rattle.nf_words.specs.declared.request.Words.{Words}
 use Rattle.nf_dav.specs.Asked.{request_of}
-use Rattle.nf_dav.specs.Reply.{refusal_reply}
+use Rattle.nf_dav.specs.Reply.{continue_reply, last_manner, refusal_reply}
 use Rattle.nf_server.specs.Book.{Answer, Book, Begins, Ends, EndsBody, FailsPiece, IsOfBegin, IsPiece, Waits, granted, held}
 use Rattle.nf_server.specs.declared.backend.Ending.{Ending}
 use Rattle.nf_server.specs.declared.backend.Ending.TheVariants as ending
@@ -117,6 +117,7 @@ is_granted (begun.Asked (Ok (reply.Granted goal))) = true
 is_granted (begun.Asked (Ok reply.Made)) = false
 is_granted (begun.Asked (Ok reply.Done)) = false
 is_granted (begun.Asked (Ok reply.Closed)) = false
+is_granted (begun.Asked (Ok (reply.Listing lines))) = false
 is_granted (begun.Asked (Err refusal)) = false
 
 -- what the seat holds after that
@@ -132,16 +133,34 @@ pub record IsBegun (b : Book) (begun : Begun) : Type 0 where
   pub held_is : held b ≡ granted_by begun
   pub answered : IsOfAsking begun
 
+-- ---- the invitation
+
+-- whoever waits for it is told to send the body that was granted (RFC 9110, section 10.1.1)
+abbrev pub is_invited : Head → Begun → Bool
+is_invited head (begun.Asked (Ok (reply.Granted (goal.Store who key length)))) = expects_continue head
+is_invited head other = false
+
+abbrev pub Invites : {C T : Type 0} → Head → Begun → Scene C → Scene C → Result T Ended → Type 0
+Invites head begun a b result = MatchBool (is_invited head begun) (Sends a b continue_reply result) (IsOk result × (b ≡ a))
+
 -- ---- the body
 
--- a sender that waits for an answer hasn't sent the body yet
-abbrev pub skipped_length : Head → ℕ
-skipped_length head = if expects_continue head then 0 else length_of head
+abbrev pub is_refused : Begun → Bool
+is_refused (begun.Unasked refusal) = true
+is_refused (begun.Asked (Ok answered)) = false
+is_refused (begun.Asked (Err refusal)) = true
 
--- the bytes of the body that are taken: a granted body whole, and any other is skipped
+-- the sender of a refused message waits for its answer, and hasn't sent the body
+abbrev pub is_unsent : Head → Begun → Bool
+is_unsent head begun = is_refused begun && expects_continue head && nat_lt 0 (length_of head)
+
+abbrev pub skipped_length : Head → Begun → ℕ
+skipped_length head begun = if is_unsent head begun then 0 else length_of head
+
+-- the bytes of the body that are taken: a granted body whole, and any other is skipped, where it was sent
 abbrev pub taken_length : Head → Begun → ℕ
 taken_length head (begun.Asked (Ok (reply.Granted (goal.Store who key length)))) = length
-taken_length head other = skipped_length head
+taken_length head other = skipped_length head other
 
 -- what may cut it: want of memory only a body that is kept
 abbrev pub cutting : Begun → Option (List ℕ) → Option (List ℕ) → ℕ → WireFault → Type 0
@@ -154,6 +173,7 @@ IsResponse (Ok reply.Made) v = v ≡ response.Made
 IsResponse (Ok reply.Done) v = v ≡ response.Done
 IsResponse (Ok reply.Closed) v = ⊥
 IsResponse (Ok (reply.Granted goal)) v = ⊥
+IsResponse (Ok (reply.Listing lines)) v = v ≡ response.Listing lines
 IsResponse (Err refusal) v = v ≡ response.Denied refusal
 
 -- the first piece of a content is taken before anything is written
@@ -214,8 +234,8 @@ denial_of wire.Memory = denial.Memory
 
 -- how a denial of bytes ends the session, and what is written of it
 abbrev pub EndsSo : {C : Type 0} → Denial → Scene C → Scene C → Ended → Type 0
-EndsSo refusal a b ended.BadMessage = Wrote a b (refusal_reply true refusal)
-EndsSo refusal a b ended.WriteFault = WrotePart a b (refusal_reply true refusal)
+EndsSo refusal a b ended.BadMessage = Wrote a b (refusal_reply last_manner refusal)
+EndsSo refusal a b ended.WriteFault = WrotePart a b (refusal_reply last_manner refusal)
 EndsSo refusal a b ended.Memory = b ≡ a
 EndsSo refusal a b end = ⊥
 

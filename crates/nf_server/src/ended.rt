@@ -2,9 +2,11 @@
 
 ghost use Rattle.std.specs.Prelude.{◌≡◌, ◌||◌, is_some};
 ghost use Rattle.nf_http.specs.Head.{closes_session};
+ghost use Rattle.nf_server.specs.Steps.{is_unsent};
 ghost use Rattle.nf_server.specs.Turn.{end_by as spec_end_by, end_of as spec_end};
 
 use crate::backend::PieceFault;
+use crate::begun::Begun;
 use crate::response::Response;
 use nf_http::Message;
 use nf_words::Denial;
@@ -30,11 +32,17 @@ pub enum Ended {
     Memory,
 }
 
-/// How the response to a message ends the session, if it does.
-pub fn end_of(message: &Message, response: &Response) -> Option<Ended>
-    ensures { result ≡ spec_end (closes_session message.now) response.now }
+/// A message closes the session by itself, or by its body that wasn't sent.
+pub fn closes(message: &Message, begun: &Begun) -> bool
+    ensures { result ≡ (closes_session message.now || is_unsent message.now begun.now) }
 {
-    let closes = message.closes_session();
+    message.closes_session() || begun.is_unsent(message)
+}
+
+/// How the response to a message ends the session, if it does. The message may close it.
+pub fn end_of(closes: bool, response: &Response) -> Option<Ended>
+    ensures { result ≡ spec_end closes response.now }
+{
     match response {
         Response::Denied(Denial::RunFull) => Some(Ended::RunFull),
         Response::Denied(Denial::NotBuilt) => Some(Ended::NotBuilt),

@@ -8,7 +8,7 @@ ghost use Rattle.nf_server.specs.Turn.{how_of, stays_granted as stays};
 use crate::backend::{Ending, PieceFault};
 use crate::ended::Ended;
 use nf_base::Content;
-use nf_words::{Answer, Denial, Reply};
+use nf_words::{Answer, Denial, Listing, Reply};
 
 /// What a message is answered.
 #[derive(Drop)]
@@ -19,6 +19,8 @@ pub enum Response {
     Made,
     /// It was done.
     Done,
+    /// What is in the folder is told.
+    Listing(Listing),
     /// The first piece of the file isn't given.
     Lost(PieceFault),
     /// The file is sent, whose first piece was taken, if it has one.

@@ -1,27 +1,29 @@
 //! A session: messages, answered one after the other.
 
-ghost use Rattle.std.specs.Prelude.{◌≡◌, ◌<◌, ◌≤◌, ℕ, List, [], length, None, Some, Ok, Err, IfOk, IfErr, OnOk, OnErr, is_some};
+ghost use Rattle.std.specs.Prelude.{◌≡◌, ◌<◌, ◌≤◌, ℕ, List, [], length, codes, bytes_eq, None, Some, Ok, Err, IfOk, IfErr, OnOk, OnErr, is_some};
 ghost use Rattle.nf_http.specs.Bodies.{CutsBody, CutsRead};
 ghost use Rattle.nf_words.specs.declared.answer.Goal.TheVariants.{Serve};
 ghost use Rattle.nf_base.specs.Content.{size_of};
+ghost use Rattle.nf_routes.specs.Targets.{is_ocs as begins_with_ocs};
 ghost use Rattle.nf_dav.specs.Reply.{file_head as head_of_file};
 ghost use Rattle.nf_server.specs.Book.{MayEnd, held};
 ghost use Rattle.nf_server.specs.Connections.{between, scene, IsSame};
 ghost use Rattle.nf_server.specs.Files.{IsResponding, IsStarted, SendsFile, SendsPiece, TakesPiece};
-ghost use Rattle.nf_server.specs.Steps.{IsClosing, Heads, Bodies, Cuts, Skips, Judges, IsBegun, TakesIn, StoresBody, StartsFile, Says, Sends, Closes, EndsBy, EndsSo, skipped_length};
-ghost use Rattle.nf_server.specs.Turn.{Meets, Responds, Turn, Writes};
+ghost use Rattle.nf_server.specs.Steps.{IsClosing, Heads, Bodies, Cuts, Skips, Judges, IsBegun, Invites, TakesIn, StoresBody, StartsFile, Says, Sends, Closes, EndsBy, EndsSo, skipped_length};
+ghost use Rattle.nf_server.specs.Turn.{Meets, Responds, Turn, Writes, way_by};
 ghost use Rattle.nf_server.specs.Session.{Session};
 ghost use Rattle.nf_server.specs.declared.backend.Ending.TheVariants as ending;
 ghost use Rattle.nf_server.specs.declared.ended.Ended.TheVariants as ended;
 
 use crate::backend::{Backend, Ending, PieceFault};
 use crate::begun::Begun;
-use crate::ended::{Ended, end_by, end_of, says_close};
+use crate::ended::{Ended, closes, end_by, end_of, says_close};
 use crate::response::Response;
 use nf_base::{Content, Moment};
-use nf_dav::{Unasked, done, file_head, made, refusal, request};
+use nf_dav::{Manner, Unasked, continue_answer, done, file_head, listing, made, refusal, request};
 use nf_http::{Buffer, Message, WireFault, next_message, read_body, send, skip_body};
 use nf_outside::{Clock, Sink, Source};
+use nf_routes::{Routes, is_ocs};
 use nf_words::{Denial, Goal, Reply, Words};
 use std::alloc::{AllocError, Global};
 
@@ -31,10 +33,18 @@ const NO_WORDS: Words = Words {
     second: 0,
 };
 
+// How bytes are refused that are no message, or end inside one.
+const LAST: Manner = Manner {
+    close: true,
+    ocs: false,
+    head_only: false,
+};
+
 /// The two ends of a connection, the bytes that were read and not yet taken, and what its messages are answered from.
 #[derive(Drop)]
-pub struct Connection<'r, 'i, 'o, 'c, 'b, S: Source, O: Sink, C: Clock, B: Backend> {
+pub struct Connection<'t, 'r, 'i, 'o, 'c, 'b, S: Source, O: Sink, C: Clock, B: Backend> {
     pub alloc: Global,
+    pub routes: &'t Routes,
     pub buffer: &'r mut Buffer,
     pub input: &'i mut S,
     pub output: &'o mut O,
@@ -42,7 +52,7 @@ pub struct Connection<'r, 'i, 'o, 'c, 'b, S: Source, O: Sink, C: Clock, B: Backe
     pub backend: &'b mut B,
 }
 
-impl<'r, 'i, 'o, 'c, 'b, S, O, C, B> Connection<'r, 'i, 'o, 'c, 'b, S, O, C, B>
+impl<'t, 'r, 'i, 'o, 'c, 'b, S, O, C, B> Connection<'t, 'r, 'i, 'o, 'c, 'b, S, O, C, B>
 where
     S: Source,
     O: Sink,
@@ -67,19 +77,14 @@ where
         read_body(self.alloc, self.input, self.buffer, length)
     }
 
-    // Skips the body of a message, but where its sender waits for an answer.
-    fn skip(&mut self, message: &Message) -> Result<(), WireFault>
+    // Skips a body of that many bytes.
+    fn skip(&mut self, length: usize) -> Result<(), WireFault>
         ensures same { IsSame self.old self.new }
         ensures ok { OnOk result (Skips (scene S.Ends O.Ends B.Backend self.old)
-            (scene S.Ends O.Ends B.Backend self.new) (skipped_length message.now)) }
+            (scene S.Ends O.Ends B.Backend self.new) length) }
         ensures err { IfErr result (Cuts CutsRead (scene S.Ends O.Ends B.Backend self.old)
-            (scene S.Ends O.Ends B.Backend self.new) (skipped_length message.now)) }
+            (scene S.Ends O.Ends B.Backend self.new) length) }
     {
-        let length = if message.expects_continue() {
-            0
-        } else {
-            message.length()
-        };
         skip_body(self.input, self.buffer, length)
     }
 
@@ -116,7 +121,7 @@ where
             (scene S.Ends O.Ends B.Backend self.new) result }
         ensures begun { IsBegun (B.book self.new.backend.now) result }
     {
-        match request(self.alloc, message) {
+        match request(self.routes, self.alloc, message) {
             Ok(request) => {
                 let now = Moment::new(self.clock.now());
                 Begun::Asked(self.backend.begin(now, NO_WORDS, request))
@@ -126,9 +131,29 @@ where
         }
     }
 
-    // Takes the body of a message, and what was begun becomes a response by that.
-    fn take_body(&mut self, message: &Message, begun: Begun) -> Result<Response, WireFault>
-        requires { IsBegun (B.book self.old.backend.now) begun }
+    // Tells whoever waits for it to send the body that was granted.
+    fn invite(&mut self, message: &Message, begun: &Begun) -> Result<(), Ended>
+        ensures same { IsSame self.old self.new }
+        ensures invites { Invites message.now begun.now (scene S.Ends O.Ends B.Backend self.old)
+            (scene S.Ends O.Ends B.Backend self.new) result }
+        ensures book { B.book self.new.backend.now ≡ B.book self.old.backend.now }
+    {
+        if begun.is_invited(message) {
+            self.write(continue_answer())
+        } else {
+            Ok(())
+        }
+    }
+
+    // Takes the body of a message, or skips so much of it, and what was begun becomes a response by that.
+    fn take_body(
+        &mut self,
+        message: &Message,
+        begun: Begun,
+        skipped: usize,
+    ) -> Result<Response, WireFault>
+        requires begun { IsBegun (B.book self.old.backend.now) begun }
+        requires skipped { skipped ≡ skipped_length message.now begun }
         ensures same { IsSame self.old self.new }
         ensures takes { TakesIn C.reads message.now (scene S.Ends O.Ends B.Backend self.old)
             (scene S.Ends O.Ends B.Backend self.new) begun result }
@@ -141,24 +166,28 @@ where
                 Ok(self.store(body))
             }
             Begun::Asked(Ok(Reply::Granted(Goal::Serve(content)))) => {
-                self.skip(message)?;
+                self.skip(skipped)?;
                 Ok(self.start(content))
             }
             Begun::Asked(Ok(Reply::Made)) => {
-                self.skip(message)?;
+                self.skip(skipped)?;
                 Ok(Response::Made)
             }
             Begun::Asked(Ok(Reply::Done)) => {
-                self.skip(message)?;
+                self.skip(skipped)?;
                 Ok(Response::Done)
+            }
+            Begun::Asked(Ok(Reply::Listing(lines))) => {
+                self.skip(skipped)?;
+                Ok(Response::Listing(lines))
             }
             Begun::Asked(Ok(Reply::Closed)) => unreachable!(),
             Begun::Asked(Err(denial)) => {
-                self.skip(message)?;
+                self.skip(skipped)?;
                 Ok(Response::Denied(denial))
             }
             Begun::Unasked(denial) => {
-                self.skip(message)?;
+                self.skip(skipped)?;
                 Ok(Response::Denied(denial))
             }
         }
@@ -199,37 +228,39 @@ where
         }
     }
 
-    // Writes the response to a message; how it ends the session, if it does.
+    // Writes the response to a message, which may close the session; how it ends that, if it does.
     fn respond(
         &mut self,
         message: &Message,
+        closes: bool,
         response: &Response,
         last: bool,
     ) -> Result<Option<Ended>, Ended>
         requires { IsResponding (B.book self.old.backend.now) response.now }
         ensures same { IsSame self.old self.new }
-        ensures responds { Responds last message.now response.now (scene S.Ends O.Ends B.Backend self.old)
+        ensures responds { Responds last (way_by closes message.now) response.now (scene S.Ends O.Ends B.Backend self.old)
             (scene S.Ends O.Ends B.Backend self.new) result }
         ensures held { held (B.book self.new.backend.now) ≡ held (B.book self.old.backend.now) }
     {
-        let end = end_of(message, response);
-        self.write_response(response, says_close(last, &end))?;
+        let end = end_of(closes, response);
+        self.write_response(response, manner(message, says_close(last, &end)))?;
         Ok(end)
     }
 
-    fn write_response(&mut self, response: &Response, close: bool) -> Result<(), Ended>
+    fn write_response(&mut self, response: &Response, manner: Manner) -> Result<(), Ended>
         requires { IsResponding (B.book self.old.backend.now) response.now }
         ensures same { IsSame self.old self.new }
-        ensures writes { Writes close response.now (scene S.Ends O.Ends B.Backend self.old)
+        ensures writes { Writes manner response.now (scene S.Ends O.Ends B.Backend self.old)
             (scene S.Ends O.Ends B.Backend self.new) result }
         ensures held { held (B.book self.new.backend.now) ≡ held (B.book self.old.backend.now) }
     {
         match response {
-            Response::Denied(denial) => self.say(refusal(self.alloc, denial, close)),
-            Response::Made => self.say(made(self.alloc, close)),
-            Response::Done => self.say(done(self.alloc, close)),
-            Response::Lost(fault) => self.say(refusal(self.alloc, &fault.denial(), close)),
-            Response::File { content, first } => self.send_file(content, first, close),
+            Response::Denied(denial) => self.say(refusal(self.alloc, denial, manner)),
+            Response::Made => self.say(made(self.alloc, manner.close)),
+            Response::Done => self.say(done(self.alloc, manner.close)),
+            Response::Listing(lines) => self.say(listing(self.alloc, lines, manner.close)),
+            Response::Lost(fault) => self.say(refusal(self.alloc, &fault.denial(), manner)),
+            Response::File { content, first } => self.send_file(content, first, manner.close),
         }
     }
 
@@ -328,7 +359,7 @@ where
         ensures denies { EndsSo denial.now (scene S.Ends O.Ends B.Backend self.old)
             (scene S.Ends O.Ends B.Backend self.new) result }
     {
-        match refusal(self.alloc, denial, true) {
+        match refusal(self.alloc, denial, LAST) {
             Ok(bytes) => match self.write(&bytes) {
                 Ok(()) => Ended::BadMessage,
                 Err(ended) => ended,
@@ -347,9 +378,15 @@ where
     {
         let begun = self.begin(message);
         let granted = begun.is_granted();
-        match self.take_body(message, begun) {
+        if let Err(ended) = self.invite(message, &begun) {
+            self.close(granted, Ending::Gone);
+            return Some(ended);
+        }
+        let closes = closes(message, &begun);
+        let skipped = begun.skipped_length(message);
+        match self.take_body(message, begun, skipped) {
             Ok(response) => {
-                let written = self.respond(message, &response, last);
+                let written = self.respond(message, closes, &response, last);
                 self.close(response.stays_granted(), response.ending(&written));
                 end_by(written)
             }
@@ -394,11 +431,22 @@ where
     }
 }
 
+fn manner(message: &Message, close: bool) -> Manner
+    ensures { result ≡ record { close = close; ocs = begins_with_ocs message.now.target; head_only = bytes_eq message.now.method (codes "HEAD") } }
+{
+    Manner {
+        close,
+        ocs: is_ocs(message.target()),
+        head_only: message.method() == b"HEAD".as_slice(),
+    }
+}
+
 /// Serves the messages of one connection. None says that 10,000 were answered, and that none ended the session.
 ///
 /// Up to 8,192 bytes may have been read behind the last message that was taken; they are lost with the session.
 pub fn serve_session<S: Source, O: Sink, C: Clock, B: Backend>(
     alloc: Global,
+    routes: &Routes,
     input: &mut S,
     output: &mut O,
     clock: &mut C,
@@ -411,7 +459,7 @@ pub fn serve_session<S: Source, O: Sink, C: Clock, B: Backend>(
     ensures idle { held (B.book backend.new) ≡ None }
 {
     let mut buffer = Buffer::new();
-    let ended = serve(alloc, &mut buffer, input, output, clock, backend);
+    let ended = serve(alloc, routes, &mut buffer, input, output, clock, backend);
     // What was read and not taken fits the buffer.
     let _ = buffer.bytes();
     ended
@@ -419,6 +467,7 @@ pub fn serve_session<S: Source, O: Sink, C: Clock, B: Backend>(
 
 fn serve<S: Source, O: Sink, C: Clock, B: Backend>(
     alloc: Global,
+    routes: &Routes,
     buffer: &mut Buffer,
     input: &mut S,
     output: &mut O,
@@ -433,6 +482,7 @@ fn serve<S: Source, O: Sink, C: Clock, B: Backend>(
 {
     let mut connection = Connection {
         alloc,
+        routes,
         buffer,
         input,
         output,

@@ -21,11 +21,14 @@ decided_goal s seat now (Err refusal) goal is = absurd (cc)
 decided_done : (s : State) (seat now : ℕ) (decision : Result Allowed Denial) → answered_by decision ≡ Ok Done
     → (decided s seat now decision).tickets ≡ s.tickets
 decided_done s seat now (Ok (allowed.Get node content)) is = absurd (cc)
+decided_done s seat now (Ok (allowed.List listing)) is = absurd (cc)
 decided_done s seat now (Ok (allowed.Put who key length)) is = absurd (cc)
 decided_done s seat now (Ok (allowed.StoreNew row blob)) is = absurd (cc)
 decided_done s seat now (Ok (allowed.StoreOver node content blob)) is = refl
 decided_done s seat now (Ok (allowed.Mkcol row)) is = absurd (cc)
-decided_done s seat now (Ok (allowed.Delete nodes)) is = refl
+decided_done s seat now (Ok (allowed.Delete node)) is = refl
+decided_done s seat now (Ok (allowed.Move transfer name)) is = refl
+decided_done s seat now (Ok (allowed.Copy rows replaced)) is = refl
 decided_done s seat now (Ok allowed.Close) is = absurd (cc)
 decided_done s seat now (Err refusal) is = absurd (cc)
 

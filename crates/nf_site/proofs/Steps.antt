@@ -1,6 +1,6 @@
 -- An entry that may come keeps what a site holds, and the tables bear what is decided.
 use Rattle.std.proofs.Common.{ℕ, ◌+◌, ◌≤◌, ◌≡◌, Bool, true, false, not, ◌==◌, List, [], ◌∷◌, ◌++◌, Option, IsSome, find, filter, length, vec_capacity, Result, Ok, Err, refl, sym, ap, subst, ◌∙◌, arith, length-append}
-use Rattle.std.specs.Prelude.{None, Some}
+use Rattle.std.specs.Prelude.{None, Some, is_some}
 use Rattle.nf_base.specs.declared.rows.Row.{Row}
 use Rattle.nf_defs.specs.Tables.{Tables, tables_of}
 use Rattle.nf_rules.specs.Ruled.{AreRuled}
@@ -9,6 +9,7 @@ use Rattle.nf_rules.proofs.Stays.{stays_ruled}
 use Rattle.nf_rules.proofs.Unbroken.{unbroken_are_ruled}
 use Rattle.nf_base.specs.KeptRows.{IsKept}
 use Rattle.std.specs.Prelude.{All}
+use Rattle.std.proofs.lemmas.Bool.{false≢true}
 use Rattle.std.proofs.lemmas.List.Elements.{All-nil}
 use Rattle.nf_words.specs.Changes.{with_goal, goal_of}
 use Rattle.nf_words.specs.History.{MayAsk, MayBear, MayCome, MayEnd, LeavesRoom, after, replay}
@@ -31,13 +32,14 @@ use Rattle.nf_words.specs.Actors.{actor_of}
 use Rattle.nf_words.specs.Sound.{IsSound}
 use Rattle.nf_laws.proofs.Stays.{sound_after}
 use Rattle.nf_words.proofs.Histories.{legal_more, replay_more}
-use Rattle.nf_words.proofs.Known.{Known, known_change}
-use Rattle.nf_words.proofs.Steps.{end_tickets}
-use Rattle.nf_decide.specs.Current.{BearsAct}
-use Rattle.nf_site.specs.Held.{Held, HasEntryRoom, HasRoomFor}
+use Rattle.nf_words.proofs.Known.{known_change}
+use Rattle.nf_words.proofs.Steps.{GrantsNothing, end_nothing, end_tickets}
+use Rattle.nf_decide.proofs.Bears.{known_bears, known_few, sound_given}
+use Rattle.nf_decide.specs.Current.{AreGiven, BearsAct, FitsAct, FitsTicket}
+use Rattle.nf_site.specs.Held.{FitsDecision, Held, HasEntryRoom, added_in}
 use Rattle.nf_site.specs.Kept.{Kept, IsHistory, answered, entered, entry, opened_over}
 use Rattle.nf_site.specs.PlanView.{decision_in, planned_in}
-use Rattle.nf_site.specs.Plans.{IsReady, Planned}
+use Rattle.nf_site.specs.Plans.{IsReady, Planned, plan_at}
 use Rattle.nf_site.specs.View.{IsHeld, held_of, kept_of}
 use Rattle.nf_site.specs.declared.plan.Plan.TheInside.{Inside as PlanInside}
 use Rattle.nf_site.specs.declared.site.Site.TheInside.{Inside}
@@ -149,21 +151,11 @@ held_step old new site e is held before asked marked room kept capacity =
 
 -- ---- a decision
 
--- what is known of an act that no rule refuses is what the tables need
-known_bears : (t : Tables) (now : ℕ) (who : Option ℕ) (act : Allowed) → Known t now who act → BearsAct t act
-known_bears t now who (allowed.Get node content) known = tt
-known_bears t now who (allowed.Put by key length) known = tt
-known_bears t now who (allowed.StoreNew row blob) known = record { next_node = known.new.next_node; next_blob = known.new.next_blob }
-known_bears t now who (allowed.StoreOver node content blob) known = record { file = known.brought.file; next_blob = known.brought.next_blob }
-known_bears t now who (allowed.Mkcol row) known = record { next_node = known.new.next_node; next_blob = known.new.next_blob }
-known_bears t now who (allowed.Delete nodes) known = tt
-known_bears t now who allowed.Close known = tt
-
 -- the tables bear an act that is decided
 pub bears_step : (s : State) (seat now : ℕ) (event : Event) (act : Allowed) → IsSound s → MayAsk s seat event
     → decision_of s seat now event ≡ Ok act → BearsAct s.tables act
 bears_step s seat now event act sound asked decides =
-    known_bears s.tables now (actor_of s seat event) act (known_change s seat now event act sound asked decides)
+    known_bears s.tables now (actor_of s seat event) act sound.rows (known_change s seat now event act sound asked decides)
 
 -- ---- a site's fields
 
@@ -196,9 +188,46 @@ bears_plan old site plan act is held ready decides =
     bears_held old site plan.seat plan.moment plan.event act is held ready.asked
     (sym (ap (λ (p : Planned). p.decision) ready.planned) ∙ decides)
 
-entry_room : (site : Held) (event : Event) → HasRoomFor site event → HasEntryRoom site event
-entry_room site (Begin words request) room = room
-entry_room site (End outcome) room = tt
+-- ---- what an act adds
+
+-- what is decided doesn't pass the limit of nodes
+decided_few : (s : State) (seat now : ℕ) (event : Event) (decision : Result Allowed Denial) → IsSound s → MayAsk s seat event
+    → decision_of s seat now event ≡ decision → length s.tables.nodes + added_in decision ≤ 262144
+decided_few s seat now event (Ok act) sound asked is =
+    known_few s.tables now (actor_of s seat event) act sound.rows (known_change s seat now event act sound asked is)
+decided_few s seat now event (Err refusal) sound asked is = omega (arith, sound.rows.few_nodes)
+
+-- what a plan adds
+pub plan_few : (site : Inside) (held : Held) (seat moment : ℕ) (event : Event) (plan : Planned) → held_of site ≡ held → IsHeld site
+    → MayAsk held.kept.state seat event → plan ≡ plan_at held.kept.state seat moment event
+    → length held.kept.state.tables.nodes + added_in plan.decision ≤ 262144
+plan_few site held seat moment event plan is inside asked planned =
+    decided_few held.kept.state seat moment event plan.decision (subst (λ (x : Held). IsSound x.kept.state) is inside.sound) asked
+    (sym (ap (λ (p : Planned). p.decision) planned))
+
+-- an act of an End grants nothing, and that of a Begin has its ticket's room
+fits_ticket : (site : Held) (seat moment : ℕ) (event : Event) (act : Allowed) → HasEntryRoom site event
+    → decision_of site.kept.state seat moment event ≡ Ok act → IsSome (goal_of act) → FitsTicket site.kept.state site.room
+fits_ticket site seat moment (Begin words request) act room is some = room.tickets
+fits_ticket site seat moment (End outcome) act room is some =
+    let none : goal_of act ≡ None = subst GrantsNothing is (end_nothing site.kept.state seat moment outcome) in
+    absurd (false≢true (sym (ap is_some none) ∙ some))
+
+-- what a plan does that is ready fits
+pub fits_plan : (old : Inside) (site : Held) (plan : PlanInside) (act : Allowed) → held_of old ≡ site
+    → IsReady site (planned_in plan) → decision_in plan.decided ≡ Ok act → FitsAct old.current.state old.current.room act
+fits_plan old site plan act is ready decides = here (held_of old) refl (subst (λ (x : Held). IsReady x (planned_in plan)) (sym is) ready)
+  where
+    here : (x : Held) → held_of old ≡ x → IsReady x (planned_in plan) → FitsAct x.kept.state x.room act
+    here x same ready = (
+      subst (FitsDecision x) decides ready.nodes,
+      fits_ticket x plan.seat plan.moment plan.event act ready.room
+          (sym (ap (λ (p : Planned). p.decision) ready.planned) ∙ decides),
+    )
+
+-- the numbers of its nodes were given
+pub given_held : (site : Inside) → IsHeld site → AreGiven site.current.state.tables
+given_held site held = sound_given site.current.state.tables held.sound.rows
 
 -- the fields after a plan was adopted
 pub adopted : (old new : Inside) (site : Held) (plan : PlanInside) → held_of old ≡ site → IsHeld old → IsReady site (planned_in plan)
@@ -213,7 +242,7 @@ adopted old new site plan is held ready opening state history capacity =
     let stepped : new.current.state ≡ after old.current.state e =
     state ∙ ap (λ (p : Planned). stepped_by old.current.state plan.seat plan.moment plan.event p.decision) here.planned in
     let kept : kept_of new ≡ entered (kept_of old) e = λ i. record { opening = opening i; state = stepped i; history = history i } in
-    held_step old new (held_of old) e refl held here.not_before here.asked tt (entry_room (held_of old) plan.event here.room) kept capacity
+    held_step old new (held_of old) e refl held here.not_before here.asked tt here.room kept capacity
 
 -- rows that break no rule, as a list of rows holds them
 pub kept_ruled : (rows held : List Row) → rows ≡ held → All IsKept held → AreUnbroken rows → AreRuled (tables_of rows)

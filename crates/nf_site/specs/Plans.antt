@@ -9,7 +9,7 @@ use Rattle.nf_words.specs.declared.answer.Denial.{Denial}
 use Rattle.nf_words.specs.declared.history.Event.{Event}
 use Rattle.nf_words.specs.declared.history.Event.TheVariants.{Begin, End}
 use Rattle.nf_words.specs.declared.history.Outcome.TheVariants.{Sent, Gone, Body}
-use Rattle.nf_site.specs.Held.{Held, HasRoomFor}
+use Rattle.nf_site.specs.Held.{Held, FitsDecision, HasEntryRoom}
 use Rattle.nf_site.specs.Kept.{moment_of}
 
 -- a seat's event at a moment, what it may do, and the rows that it changes
@@ -39,7 +39,8 @@ pub record IsReady (site : Held) (plan : Planned) : Type 0 where
   pub planned : plan ≡ plan_at site.kept.state plan.seat plan.moment plan.event
   pub not_before : site.kept.state.seen ≤ plan.moment
   pub asked : MayAsk site.kept.state plan.seat plan.event
-  pub room : HasRoomFor site plan.event
+  pub room : HasEntryRoom site plan.event
+  pub nodes : FitsDecision site plan.decision
 
 -- an End that brings no body is always planned
 abbrev pub IsPlannedAtEnd : {P E : Type 0} → Event → Result P E → Type 0

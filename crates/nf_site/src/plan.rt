@@ -1,13 +1,14 @@
 //! Plans: steps before they are made.
 
 ghost use Rattle.std.specs.Prelude.{◌≡◌, [], IfOk, Ok};
-ghost use Rattle.nf_words.specs.Changes.{reply_to};
+ghost use Rattle.nf_site.specs.Held.{added_in};
+ghost use Rattle.nf_words.specs.Changes.{reply_by, reply_to};
 ghost use Rattle.nf_words.specs.Step.{blob_by};
 ghost use Rattle.nf_words.specs.declared.answer.Allowed.TheVariants.{Close};
 
-use nf_base::{BlobId, Changes, Moment};
-use nf_decide::blob_of;
-use nf_words::{Allowed, Denial, Event, Goal, LockKey, Reply};
+use nf_base::{BlobId, Changes, Moment, NodeId};
+use nf_decide::{added_by, blob_of};
+use nf_words::{Allowed, Denial, Event, Goal, Listing, ListingLine, LockKey, Reply};
 use std::alloc::{AllocError, Global};
 use std::marker::Model;
 
@@ -88,6 +89,16 @@ impl Plan {
         }
     }
 
+    /// How many nodes the step adds.
+    pub(crate) fn added(&self) -> usize
+        ensures { result ≡ added_in self.now.decision }
+    {
+        match &self.decided {
+            Ok(deed) => added_by(&deed.act),
+            Err(_) => 0,
+        }
+    }
+
     /// The event alone, where the step isn't made.
     pub fn into_event(self) -> Event
         ensures { result ≡ self.event }
@@ -112,6 +123,7 @@ fn reply_to(alloc: Global, act: &Allowed) -> Result<Reply, AllocError>
 {
     match act {
         Allowed::Get { node: _, content } => Ok(Reply::Granted(Goal::Serve(content.clone()?))),
+        Allowed::List(listing) => Ok(Reply::Listing(copy_listing(alloc, listing)?)),
         Allowed::Put {
             seeker,
             key,
@@ -123,8 +135,40 @@ fn reply_to(alloc: Global, act: &Allowed) -> Result<Reply, AllocError>
         })),
         Allowed::StoreNew { .. } | Allowed::Mkcol(_) => Ok(Reply::Made),
         Allowed::StoreOver { .. } | Allowed::Delete(_) => Ok(Reply::Done),
+        Allowed::Move { transfer, name: _ } => Ok(reply_by(transfer.replaced)),
+        Allowed::Copy { rows: _, replaced } => Ok(reply_by(*replaced)),
         Allowed::Close => Ok(Reply::Closed),
     }
+}
+
+/// What is put at a place is made, where nothing was there.
+fn reply_by(replaced: Option<NodeId>) -> Reply
+    ensures { result ≡ reply_by replaced }
+{
+    match replaced {
+        Some(_) => Reply::Done,
+        None => Reply::Made,
+    }
+}
+
+fn copy_listing(alloc: Global, listing: &Listing) -> Result<Listing, AllocError>
+    ensures { IfOk result (λ copy. copy ≡ listing.now) }
+{
+    let mut lines = Vec::new(alloc);
+    for line in listing.lines() {
+        lines.push(copy_line(line)?)?;
+    }
+    Ok(Listing::new(lines))
+}
+
+fn copy_line(line: &ListingLine) -> Result<ListingLine, AllocError>
+    ensures { IfOk result (λ copy. copy ≡ line.now) }
+{
+    Ok(ListingLine {
+        name: line.name.copy()?,
+        owner: line.owner.copy()?,
+        ..*line
+    })
 }
 
 fn copy_key(key: &LockKey) -> Result<LockKey, AllocError>

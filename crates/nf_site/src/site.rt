@@ -4,7 +4,7 @@ ghost use Rattle.std.specs.Prelude.{◌≡◌, ◌≢◌, ◌<◌, ◌↔◌, Er
 ghost use Rattle.nf_defs.specs.Tables.{rows_of};
 ghost use Rattle.nf_rules.specs.Ruled.{AreRuled};
 ghost use Rattle.nf_site.specs.Built.{IsBuilt};
-ghost use Rattle.nf_site.specs.Held.{HasEntryRoom, HasNodeRoom, HasRoom, entries_wanted};
+ghost use Rattle.nf_site.specs.Held.{HasEntryRoom, HasRoom, entries_wanted};
 ghost use Rattle.nf_site.specs.Kept.{IsHistory, entry, entered, moment_of, stepped};
 ghost use Rattle.nf_site.specs.Plans.{IsPlannedAtEnd, IsReady, plan_at, plan_of};
 ghost use Rattle.nf_words.specs.Endings.{end_decision};
@@ -91,11 +91,11 @@ impl Site {
             return Err(RoomFault::Full);
         }
         self.history.reserve(ends + 2)?;
-        self.current.reserve()?;
+        self.current.reserve_ticket()?;
         Ok(())
     }
 
-    /// The step that a seat's event would be, at a clock's reading. It makes room for what an End stores.
+    /// The step that a seat's event would be, at a clock's reading. It makes room for the nodes that the step adds.
     pub fn plan(
         &mut self,
         alloc: Global,
@@ -113,12 +113,14 @@ impl Site {
         let moment = self.moment(now);
         match &event {
             Event::End(Outcome::Sent | Outcome::Gone) => {
+                self.current.keeps_room();
                 return Ok(Plan::closing(alloc, seat, moment, event));
             }
-            Event::End(Outcome::Body { .. }) => self.current.reserve_node()?,
-            Event::Begin { .. } => {}
+            Event::End(Outcome::Body { .. }) | Event::Begin { .. } => {}
         }
-        self.plan_step(alloc, seat, moment, event)
+        let plan = self.plan_step(alloc, seat, moment, event)?;
+        self.current.reserve_nodes(plan.added())?;
+        Ok(plan)
     }
 
     fn plan_step(

@@ -1,33 +1,37 @@
 -- What is known of a change that no rule refuses.
-use Rattle.std.proofs.Common.{◌≡◌, ℕ, ◌+◌, ◌-◌, ◌≤◌, ◌==◌, ◌||◌, ◌&&◌, bytes_eq, find, is_none, is_some, slice_get, unwrap_or, sym, Bool, true, false, List, [], ◌∷◌, length, suc, ◌∙◌, Result, Ok, Option, option_map, if◌then◌else◌, refl, ap, subst, arith}
+use Rattle.std.proofs.Common.{◌≡◌, ℕ, zero, ◌+◌, ◌-◌, ◌<◌, ◌≤◌, ◌==◌, ◌||◌, ◌&&◌, bytes_eq, find, is_none, is_some, slice_get, unwrap_or, sym, Bool, true, false, List, [], ◌∷◌, ◌++◌, get_or, length, suc, ◌∙◌, Result, Ok, Option, option_map, if◌then◌else◌, refl, ap, subst, arith}
 use Rattle.std.specs.Prelude.{None, Some}
-use Rattle.std.specs.List.{All, list_all}
+use Rattle.std.specs.List.{All, AllPairs, list_all}
 use Rattle.std.specs.Option.{IfSome, option_and_then, option_map_or, option_or}
-use Rattle.std.proofs.lemmas.Bool.{and_parts, eqb-true, ltb-false}
+use Rattle.std.proofs.lemmas.Bool.{and_parts, eq-eqb, eqb-true, false≢true, ltb-false, ne_eqb}
 use Rattle.std.proofs.lemmas.List.Elements.{All-head, All-tail}
-use Rattle.std.proofs.lemmas.Option.{same_Some}
+use Rattle.std.proofs.lemmas.Option.{none-some, same_Some}
 use Rattle.std.proofs.lemmas.Bool.Decides.{nat_tests}
 use Rattle.nf_base.specs.declared.content.Piece.{Piece}
 use Rattle.nf_base.specs.declared.rows.MetaRow.{MetaRow}
 use Rattle.nf_base.specs.declared.rows.NodeKind.{NodeKind}
 use Rattle.nf_base.specs.declared.rows.NodeKind.TheVariants.{Folder, File}
 use Rattle.nf_base.specs.declared.rows.NodeRow.{NodeRow}
+use Rattle.nf_base.specs.declared.rows.Place.{Place}
+use Rattle.nf_base.specs.declared.rows.Place.TheVariants.{Root, Inside, Trash}
 use Rattle.nf_defs.specs.Tables.{Tables}
-use Rattle.nf_defs.specs.Tree.{child_of, depth, found_from, onward, is_file, is_folder, is_folder_kind, is_root, content_of, piece_count, subtree_of}
+use Rattle.nf_defs.specs.Tree.{child_of, content_of, depth, folder_of, found_from, is_file, is_folder, is_folder_kind, is_in, is_place_in, is_root, is_under, node_row, onward, parent_of, piece_count, walk_of}
 use Rattle.nf_defs.specs.declared.Found.{Found}
 use Rattle.nf_defs.specs.declared.Found.TheVariants.{At, Free, Missing}
 use Rattle.nf_words.specs.Actors.{actor_of, holder, storer_of}
 use Rattle.nf_words.specs.Callers.{is_caller, not_you_rule}
 use Rattle.nf_words.specs.Calls.{Call, asker_of, caller_row, found, last_name, named_in, root_of, source_of, target_of, user_of, users_of}
-use Rattle.nf_words.specs.Changes.{allowed_of, blob_after, deleted, given, made_folder, new_node, served, stored}
+use Rattle.nf_words.specs.Changes.{allowed_of, blob_after, copied, deleted, given, made_folder, moved, new_node, served, shown, stored}
+use Rattle.nf_words.specs.Copies.{copies_to}
 use Rattle.nf_words.specs.Endings.{blob_for, content_in, end_refusal, ends_goal, ends_ticket, key_lost, place_of, stored_at, unless_refused}
 use Rattle.nf_words.specs.History.{IsShort, MayAsk, MayBring, MayEnd, MayWant, NamesUser}
 use Rattle.nf_words.specs.Laws.{Pass}
-use Rattle.nf_words.specs.Limits.{last_number, limit_at, limit_passed, limit_rule, limited, pieces_of}
-use Rattle.nf_words.specs.Places.{is_there, node_at, target_rule, unfit}
+use Rattle.nf_words.specs.Limits.{copy_limit, deepest_in, last_number, limit_at, limit_passed, limit_rule, limited, move_limit, pieces_in, pieces_of}
+use Rattle.nf_words.specs.Listing.{listing_of}
+use Rattle.nf_words.specs.Places.{folder_at, is_there, misplaced, node_at, node_found, target_rule, transfer_of, transfer_to, unfit, unfit_between}
 use Rattle.nf_words.specs.Rules.{Rule, first_that_holds, refusal_of, rules}
 use Rattle.nf_words.specs.State.{State, ticket_of}
-use Rattle.nf_words.specs.Sound.{IsGoalSound, IsOwn, IsSound, MayStoreAt, node_of_key}
+use Rattle.nf_words.specs.Sound.{AreSound, HasRoot, IsGoalSound, IsOwn, IsSound, MayStoreAt, node_of_key}
 use Rattle.nf_words.specs.Step.{call_decision, call_of, decision_of}
 use Rattle.nf_words.specs.declared.answer.Allowed.{Allowed}
 use Rattle.nf_words.specs.declared.answer.Allowed.TheVariants as allowed
@@ -39,6 +43,9 @@ use Rattle.nf_words.specs.declared.answer.Limit.{Limit}
 use Rattle.nf_words.specs.declared.answer.Limit.TheVariants as limit
 use Rattle.nf_words.specs.declared.answer.LockKey.{LockKey}
 use Rattle.nf_words.specs.declared.answer.LockKey.TheVariants.{Node, Slot}
+use Rattle.nf_words.specs.declared.answer.TargetFault.{TargetFault}
+use Rattle.nf_words.specs.declared.answer.TargetFault.TheVariants as target
+use Rattle.nf_words.specs.declared.listing.ListingLine.{ListingLine}
 use Rattle.nf_words.specs.declared.history.Event.{Event}
 use Rattle.nf_words.specs.declared.history.Event.TheVariants.{Begin, End}
 use Rattle.nf_words.specs.declared.history.Outcome.{Outcome}
@@ -48,8 +55,9 @@ use Rattle.nf_words.specs.declared.request.Caller.{Caller}
 use Rattle.nf_words.specs.declared.request.Caller.TheVariants.{Absent, Token}
 use Rattle.nf_words.specs.declared.request.Places.{Places}
 use Rattle.nf_words.specs.declared.request.Spot.{Spot}
+use Rattle.nf_words.specs.declared.request.Transfer.{Transfer}
 use Rattle.nf_words.specs.declared.request.Wanted.{Wanted}
-use Rattle.nf_words.specs.declared.request.Wanted.TheVariants.{Get, Put, Mkcol, Delete}
+use Rattle.nf_words.specs.declared.request.Wanted.TheVariants.{Get, Put, Mkcol, Delete, Move, Copy}
 use Rattle.nf_base.specs.declared.content.TheConstants.{MAX_BODY}
 use Rattle.nf_base.specs.declared.rows.UserRow.{UserRow}
 use Rattle.nf_defs.specs.Access.{Access, unshared}
@@ -101,6 +109,7 @@ pub record KnownContent (t : Tables) (node : ℕ) (brought : List Piece) (blob :
   pub content : IsOfBody t.meta blob brought
 
 pub record KnownServed (t : Tables) (who : Option ℕ) (node : ℕ) (content : List Piece) : Type 0 where
+  pub no_folder : is_folder t.nodes node ≡ false
   pub of_node : content ≡ content_of t.nodes node
   pub path : KnownPath t who (At node)
 
@@ -121,19 +130,53 @@ pub record KnownFolder (t : Tables) (now : ℕ) (who : Option ℕ) (row : NodeRo
   pub new : KnownNew t now row None
   pub path : KnownPath t who (Free new.folder)
 
-pub record KnownGone (t : Tables) (who : Option ℕ) (nodes : List ℕ) : Type 0 where
-  pub top : ℕ
-  pub below : nodes ≡ subtree_of t.nodes top
-  pub no_root : is_root t.nodes top ≡ false
-  pub path : KnownPath t who (At top)
+pub record KnownListed (t : Tables) (who : Option ℕ) (listing : List ListingLine) : Type 0 where
+  pub folder : ℕ
+  pub there : is_folder t.nodes folder ≡ true
+  pub of_folder : listing ≡ listing_of t folder
+  pub path : KnownPath t who (At folder)
+
+pub record KnownGone (t : Tables) (who : Option ℕ) (node : ℕ) : Type 0 where
+  pub no_root : is_root t.nodes node ≡ false
+  pub path : KnownPath t who (At node)
+
+-- the place that something is put at
+abbrev pub target_place : Transfer → Found
+target_place transfer = option_map_or At transfer.replaced (Free transfer.folder)
+
+-- what is moved or copied and where to: no root, not over a root, neither inside the other, and not too deep
+pub record KnownTransfer (t : Tables) (who : Option ℕ) (transfer : Transfer) (name : List ℕ) : Type 0 where
+  pub source : KnownPath t who (At transfer.node)
+  pub target : KnownPath t who (target_place transfer)
+  pub no_root : is_root t.nodes transfer.node ≡ false
+  pub in_folder : is_folder t.nodes transfer.folder ≡ true
+  pub there : child_of t.nodes transfer.folder name ≡ transfer.replaced
+  pub differs : option_map_or (λ node. node == transfer.node) transfer.replaced false ≡ false
+  pub outside : is_under t.nodes transfer.folder transfer.node ≡ false
+  pub apart : option_map_or (λ node. is_under t.nodes transfer.node node) transfer.replaced false ≡ false
+  pub deep : deepest_in t.nodes transfer.node transfer.folder ≤ 64
+
+pub record KnownCopies (t : Tables) (now : ℕ) (who : Option ℕ) (rows : List NodeRow) (replaced : Option ℕ) : Type 0 where
+  pub transfer : Transfer
+  pub name : List ℕ
+  pub known : KnownTransfer t who transfer name
+  pub replaced_is : replaced ≡ transfer.replaced
+  pub copies : rows ≡ copies_to t now transfer name
+  pub nodes : length t.nodes + length (walk_of t.nodes transfer.node) ≤ 262144
+  pub next_node : t.meta.next_node + length (walk_of t.nodes transfer.node) ≤ last_number
+  pub pieces : piece_count t.nodes + pieces_in t.nodes (walk_of t.nodes transfer.node) ≤ 1048576
+  pub next_blob : t.meta.next_blob ≤ last_number
 
 abbrev pub Known : Tables → ℕ → Option ℕ → Allowed → Type 0
 Known t now who (allowed.Get node content) = KnownServed t who node content
+Known t now who (allowed.List listing) = KnownListed t who listing
 Known t now who (allowed.Put by key length) = KnownGranted t who by key length
 Known t now who (allowed.StoreNew row blob) = KnownStored t now who row blob
 Known t now who (allowed.StoreOver node content blob) = KnownOver t who node content blob
 Known t now who (allowed.Mkcol row) = KnownFolder t now who row
-Known t now who (allowed.Delete nodes) = KnownGone t who nodes
+Known t now who (allowed.Delete node) = KnownGone t who node
+Known t now who (allowed.Move transfer name) = KnownTransfer t who transfer name
+Known t now who (allowed.Copy rows replaced) = KnownCopies t now who rows replaced
 Known t now who allowed.Close = Unit {0}
 
 -- ---- look-ups
@@ -156,6 +199,37 @@ found_has {X = X} P test (x ∷ xs) all = here (test x) refl (found_has P test x
     here true e rest = simp e (All-head P x xs all)
     here false e rest = simp e rest
 
+-- where the numbers rise, each row is found by its own
+pub node_row_each : (rows : List NodeRow) → AllPairs (λ (a b : NodeRow). a.id < b.id) rows → All (λ (row : NodeRow). node_row rows row.id ≡ Some row) rows
+node_row_each [] rising k d within = absurd (omega arith)
+node_row_each (x ∷ rows) rising zero d within = rw (eq-eqb x.id x.id refl)
+node_row_each (x ∷ rows) rising (suc k) d within =
+    let below : x.id < (get_or rows k d).id = rising 0 (suc k) d (omega arith) within in
+    rw (ne_eqb x.id (get_or rows k d).id (λ e. absurd (omega arith)))
+    (node_row_each rows (λ i j d before within. rising (suc i) (suc j) d (omega arith) (omega arith)) k d (omega arith))
+
+inside_of : (folder : ℕ) (place : Place) → is_place_in folder place ≡ true → folder_of place ≡ Some folder
+inside_of folder Root is = absurd (false≢true is)
+inside_of folder (Inside parent) is = ap Some (eqb-true parent folder is)
+inside_of folder Trash is = absurd (false≢true is)
+
+-- a folder's child is in it
+pub child_parent : (rows : List NodeRow) (folder : ℕ) (name : List ℕ) (node : ℕ) → AllPairs (λ (a b : NodeRow). a.id < b.id) rows
+    → child_of rows folder name ≡ Some node → parent_of rows node ≡ Some folder
+child_parent rows folder name node rising is = here (find test rows) refl is
+  where
+    test : NodeRow → Bool
+    test row = is_in folder row && bytes_eq row.name name
+
+    here : (o : Option NodeRow) → find test rows ≡ o → option_map (λ row. row.id) o ≡ Some node → parent_of rows node ≡ Some folder
+    here None e is = absurd (none-some node is)
+    here (Some row) e is =
+        let passes = and_parts (is_in folder row) (bytes_eq row.name name) (found_passes test rows row e) in
+        let there = subst (λ (o : Option NodeRow). IfSome o (λ (row : NodeRow). node_row rows row.id ≡ Some row)) e
+        (found_has (λ (row : NodeRow). node_row rows row.id ≡ Some row) test rows (node_row_each rows rising)) in
+        subst (λ (n : ℕ). parent_of rows n ≡ Some folder) (same_Some row.id node is)
+        (ap (λ (o : Option NodeRow). option_and_then (λ row. folder_of row.place) o) there ∙ inside_of folder row.place passes.0)
+
 -- ---- what it says that none refuses
 
 both_none : (a b : Option Denial) → option_or a b ≡ None → (a ≡ None) × (b ≡ None)
@@ -175,6 +249,10 @@ not_refused (Some refusal) act got is = absurd (cc)
 pub call_passes : (call : Call) (act : Allowed) → call_decision call ≡ Ok act → Pass rules unshared call × (allowed_of call ≡ act)
 call_passes call act is =
     let h = not_refused (refusal_of unshared call) (allowed_of call) act is in (each_passes rules unshared call h.0, h.1)
+
+pub no_fault : (fault : Option TargetFault) → option_map denial.BadTarget fault ≡ None → fault ≡ None
+no_fault None none = refl
+no_fault (Some fault) none = absurd (cc)
 
 no_limit : (passed : Option Limit) → option_map denial.Limit passed ≡ None → passed ≡ None
 no_limit None none = refl
@@ -256,22 +334,74 @@ free_known rows before at (name ∷ names) folder is =
       ap (λ (last : List ℕ). child_of rows folder last) (last_more name n names) ∙ (rest child is).1,
     )
 
+-- a node is its folder's child of that name
+record LastStep (rows : List NodeRow) (name : List ℕ) (node : ℕ) : Type 0 where
+  folder : ℕ
+  folds : is_folder rows folder ≡ true
+  child : child_of rows folder name ≡ Some node
+
+-- no name leads anywhere else, and the last one leads from a folder to its child
+abbrev EndsAt : List NodeRow → ℕ → List (List ℕ) → ℕ → Type 0
+EndsAt rows at [] node = at ≡ node
+EndsAt rows at (name ∷ names) node = LastStep rows (last_of (name ∷ names)) node
+
+last_step : (rows : List NodeRow) (before at : ℕ) (names : List (List ℕ)) (node : ℕ)
+    → found_from rows before at names ≡ At node → EndsAt rows at names node
+last_step rows before at [] node is = cc
+last_step rows before at (name ∷ names) node is =
+    here (is_folder rows at) (child_of rows at name) names refl refl is (λ child is. last_step rows (before + 1) child names node is)
+  where
+    here : (folds : Bool) (child : Option ℕ) (names : List (List ℕ)) → is_folder rows at ≡ folds → child_of rows at name ≡ child
+        → (if folds then onward before at names child (λ child. found_from rows (before + 1) child names) else Missing before) ≡ At node
+        → ((child : ℕ) → found_from rows (before + 1) child names ≡ At node → EndsAt rows child names node)
+        → LastStep rows (last_of (name ∷ names)) node
+    here false child names folds there is rest = absurd (cc)
+    here true None [] folds there is rest = absurd (cc)
+    here true None (n ∷ names) folds there is rest = absurd (cc)
+    here true (Some child) [] folds there is rest = record { folder = at; folds = folds; child = there ∙ ap Some (rest child is) }
+    here true (Some child) (n ∷ names) folds there is rest =
+        subst (λ (last : List ℕ). LastStep rows last node) (sym (last_more name n names)) (rest child is)
+
+-- names that lead to a node in a folder, from one that is in none, lead to the folder's child of the last name
+at_known : (rows : List NodeRow) (at : ℕ) (names : List (List ℕ)) (node folder : ℕ) → AllPairs (λ (a b : NodeRow). a.id < b.id) rows
+    → parent_of rows at ≡ None → found_from rows 0 at names ≡ At node → parent_of rows node ≡ Some folder
+    → (is_folder rows folder ≡ true) × (child_of rows folder (last_of names) ≡ Some node)
+at_known rows at [] node folder rising top is above =
+    absurd (none-some folder (sym top ∙ ap (parent_of rows) (last_step rows 0 at [] node is) ∙ above))
+at_known rows at (name ∷ names) node folder rising top is above =
+    let step = last_step rows 0 at (name ∷ names) node is in
+    let same : step.folder ≡ folder =
+    same_Some step.folder folder (sym (child_parent rows step.folder (last_of (name ∷ names)) node rising step.child) ∙ above) in (
+      subst (λ (n : ℕ). is_folder rows n ≡ true) same step.folds,
+      subst (λ (n : ℕ). child_of rows n (last_of (name ∷ names)) ≡ Some node) same step.child,
+    )
+
 -- ---- a Begin
 
 if_none : (b : Bool) (refusal : Denial) → (if b then None else Some refusal) ≡ None → b ≡ true
 if_none true refusal none = refl
 if_none false refusal none = absurd (cc)
 
+caller_there : (call : Call) (name : List ℕ) → is_caller call name ≡ true → (row : UserRow) × (caller_row call ≡ Some row)
+caller_there call name is = here (caller_row call) refl is
+  where
+    here : (o : Option UserRow) → caller_row call ≡ o → option_map_or (λ row. bytes_eq row.name name) o false ≡ true
+        → (row : UserRow) × (caller_row call ≡ Some row)
+    here None e is = absurd (false≢true is)
+    here (Some row) e is = (row, e)
+
 -- a place that names its user is in the files of the caller, whose row is there
 one_user : (call : Call) (name : Option (List ℕ)) → is_some name ≡ true → list_all (is_caller call) (named_in name) ≡ true
     → (row : UserRow) × (caller_row call ≡ Some row)
 one_user call None named all = absurd (cc)
-one_user call (Some name) named all = here (caller_row call) refl all
-  where
-    here : (o : Option UserRow) → caller_row call ≡ o → (option_map_or (λ row. bytes_eq row.name name) o false && true) ≡ true
-        → (row : UserRow) × (caller_row call ≡ Some row)
-    here None is all = absurd (cc)
-    here (Some row) is all = (row, is)
+one_user call (Some name) named all = caller_there call name (and_parts (is_caller call name) true all).0
+
+-- so is the first of several
+first_user : (call : Call) (name : Option (List ℕ)) (others : List (List ℕ)) → is_some name ≡ true
+    → list_all (is_caller call) (named_in name ++ others) ≡ true → (row : UserRow) × (caller_row call ≡ Some row)
+first_user call None others named all = absurd (cc)
+first_user call (Some name) others named all =
+    caller_there call name (and_parts (is_caller call name) (list_all (is_caller call) others) all).0
 
 no_link : (caller : Caller) (spot : Spot) → NamesUser caller spot → is_some spot.user ≡ true
 no_link Absent spot names = names
@@ -288,6 +418,10 @@ has_row call may passes = here call.request.wanted (if_none _ _ passes) may.sour
     here (Put spot length) all source target = one_user call spot.user (no_link call.request.caller spot target) all
     here (Mkcol spot) all source target = one_user call spot.user (no_link call.request.caller spot target) all
     here (Delete spot) all source target = one_user call spot.user (no_link call.request.caller spot source) all
+    here (Move from to overwrite) all source target =
+        first_user call from.user (named_in to.user) (no_link call.request.caller from source) all
+    here (Copy from to overwrite) all source target =
+        first_user call from.user (named_in to.user) (no_link call.request.caller from source) all
 
 -- the caller's row is that of the user who asks
 row_of_caller : (rows : List UserRow) (who : Option ℕ) (row : UserRow) → option_and_then (user_row rows) who ≡ Some row
@@ -311,13 +445,25 @@ path_known call spot place row is leads =
       leads = subst (λ (n : ℕ). found_from call.state.tables.nodes 0 n spot.path ≡ place) root leads;
     }
 
-passed : (b : Bool) (refusal : Denial) → (if b then Some refusal else None) ≡ None → b ≡ false
-passed true refusal none = absurd (cc)
-passed false refusal none = refl
+passed : (b : Bool) (fault : TargetFault) → (if b then Some fault else None) ≡ None → b ≡ false
+passed true fault none = absurd (cc)
+passed false fault none = refl
+
+shown_known : (call : Call) (spot : Spot) (node : ℕ) (row : UserRow) → caller_row call ≡ Some row → found call spot ≡ At node
+    → Known call.state.tables call.now (user_of call) (shown call.state.tables node)
+shown_known call spot node row is leads = here (is_folder t.nodes node) refl
+  where
+    t : Tables
+    t = call.state.tables
+
+    here : (folds : Bool) → is_folder t.nodes node ≡ folds
+        → Known t call.now (user_of call) (if folds then allowed.List (listing_of t node) else allowed.Get node (content_of t.nodes node))
+    here true folds = record { folder = node; there = folds; of_folder = refl; path = path_known call spot (At node) row is leads }
+    here false folds = record { no_folder = folds; of_node = refl; path = path_known call spot (At node) row is leads }
 
 served_known : (call : Call) (spot : Spot) (place : Found) (row : UserRow) → caller_row call ≡ Some row → found call spot ≡ place
     → Known call.state.tables call.now (user_of call) (served call.state.tables (node_at (Some place)))
-served_known call spot (At node) row is leads = record { of_node = refl; path = path_known call spot (At node) row is leads }
+served_known call spot (At node) row is leads = shown_known call spot node row is leads
 served_known call spot (Free folder) row is leads = tt
 served_known call spot (Missing depth) row is leads = tt
 
@@ -354,34 +500,194 @@ folder_known call spot (Missing depth) row is leads some = tt
 
 deleted_known : (call : Call) (spot : Spot) (place : Found) (row : UserRow) → caller_row call ≡ Some row → found call spot ≡ place
     → is_there (is_root call.state.tables.nodes) (Some place) ≡ false
-    → Known call.state.tables call.now (user_of call) (deleted call.state.tables (node_at (Some place)))
-deleted_known call spot (At node) row is leads fits =
-    record { top = node; below = refl; no_root = fits; path = path_known call spot (At node) row is leads }
+    → Known call.state.tables call.now (user_of call) (deleted (node_at (Some place)))
+deleted_known call spot (At node) row is leads fits = record { no_root = fits; path = path_known call spot (At node) row is leads }
 deleted_known call spot (Free folder) row is leads fits = tt
 deleted_known call spot (Missing depth) row is leads fits = tt
+
+-- ---- what is moved or copied
+
+-- the caller's root is in no folder
+root_known : (call : Call) (row : UserRow) → AreSound call.state.tables → caller_row call ≡ Some row
+    → parent_of call.state.tables.nodes (root_of call) ≡ None
+root_known call row sound is =
+    let t = call.state.tables in
+    let there = (row_of_caller t.users (user_of call) row is).1 in
+    let root = subst (λ (o : Option UserRow). IfSome o (HasRoot t)) there
+    (found_has (HasRoot t) (λ (user : UserRow). user.id == row.id) t.users sound.roots) in
+    ap (λ (o : Option UserRow). parent_of t.nodes (option_map_or (λ row. row.root) o 0)) is
+    ∙ ap (λ (o : Option NodeRow). option_and_then (λ row. folder_of row.place) o) root.there ∙ ap folder_of root.place
+
+-- what a transfer to a place is
+transfer_parts : (rows : List NodeRow) (node : ℕ) (place : Found) (transfer : Transfer) → transfer_to rows node place ≡ Some transfer
+    → (node ≡ transfer.node) × (node_found place ≡ transfer.replaced) × (folder_at rows place ≡ Some transfer.folder)
+transfer_parts rows node place transfer is = here (folder_at rows place) is
+  where
+    here : (o : Option ℕ) → option_map (λ folder. record { node = node; folder = folder; replaced = node_found place }) o ≡ Some transfer
+        → (node ≡ transfer.node) × (node_found place ≡ transfer.replaced) × (o ≡ Some transfer.folder)
+    here None is = absurd (none-some transfer is)
+    here (Some folder) is =
+        let e = same_Some (record { node = node; folder = folder; replaced = node_found place }) transfer is in (
+          ap (λ (transfer : Transfer). transfer.node) e,
+          ap (λ (transfer : Transfer). transfer.replaced) e,
+          ap (λ (transfer : Transfer). Some transfer.folder) e,
+        )
+
+-- what is known of the place that something is put at
+record KnownTarget (t : Tables) (who : Option ℕ) (transfer : Transfer) (name : List ℕ) : Type 0 where
+  path : KnownPath t who (target_place transfer)
+  in_folder : is_folder t.nodes transfer.folder ≡ true
+  there : child_of t.nodes transfer.folder name ≡ transfer.replaced
+
+target_known : (call : Call) (spot : Spot) (place : Found) (row : UserRow) (transfer : Transfer)
+    → AreSound call.state.tables → caller_row call ≡ Some row → found call spot ≡ place
+    → node_found place ≡ transfer.replaced → folder_at call.state.tables.nodes place ≡ Some transfer.folder
+    → KnownTarget call.state.tables (user_of call) transfer (last_name spot)
+target_known call spot (At node) row transfer sound is leads replaced above =
+    let t = call.state.tables in
+    let step = at_known t.nodes (root_of call) spot.path node transfer.folder sound.rising (root_known call row sound is) leads above in
+    record {
+      path = subst (λ (o : Option ℕ). KnownPath t (user_of call) (option_map_or At o (Free transfer.folder))) replaced
+          (path_known call spot (At node) row is leads);
+      in_folder = step.0;
+      there = step.1 ∙ replaced;
+    }
+target_known call spot (Free folder) row transfer sound is leads replaced above =
+    let t = call.state.tables in
+    let same = same_Some folder transfer.folder above in
+    let free = free_known t.nodes 0 (root_of call) spot.path folder leads in
+    record {
+      path = subst (λ (o : Option ℕ). KnownPath t (user_of call) (option_map_or At o (Free transfer.folder))) replaced
+          (subst (λ (n : ℕ). KnownPath t (user_of call) (Free n)) same (path_known call spot (Free folder) row is leads));
+      in_folder = subst (λ (n : ℕ). is_folder t.nodes n ≡ true) same free.0;
+      there = subst (λ (n : ℕ). child_of t.nodes n (last_name spot) ≡ None) same free.1 ∙ replaced;
+    }
+target_known call spot (Missing depth) row transfer sound is leads replaced above = absurd (none-some transfer.folder above)
+
+none_misplaced : (a b c : Bool)
+    → (if a then Some target.Same else if b || c then Some target.Inside else None) ≡ None → (a ≡ false) × (b ≡ false) × (c ≡ false)
+none_misplaced false false false none = (refl, refl, refl)
+none_misplaced a b c none = absurd (cc)
+
+-- what fits is of no root, and well placed
+fit_parts : (rows : List NodeRow) (root : Bool) (transfer : Transfer) (o : Option Transfer) → o ≡ Some transfer
+    → (if root then Some target.Root else option_map_or (misplaced rows) o (Some target.Root)) ≡ None
+    → (root ≡ false) × (misplaced rows transfer ≡ None)
+fit_parts rows true transfer o is fits = absurd (cc)
+fit_parts rows false transfer o is fits =
+    (refl, subst (λ (o : Option Transfer). option_map_or (misplaced rows) o (Some target.Root) ≡ None) is fits)
+
+transfer_known : (call : Call) (source target : Spot) (row : UserRow) (transfer : Transfer)
+    → AreSound call.state.tables → caller_row call ≡ Some row
+    → transfer_of call.state.tables.nodes (record { source = Some (found call source); target = Some (found call target) }) ≡ Some transfer
+    → unfit_between call.state.tables.nodes (record { source = Some (found call source); target = Some (found call target) }) ≡ None
+    → deepest_in call.state.tables.nodes transfer.node transfer.folder ≤ 64
+    → KnownTransfer call.state.tables (user_of call) transfer (last_name target)
+transfer_known call source target row transfer sound is led fits deep = here (found call source) refl led fits
+  where
+    t : Tables
+    t = call.state.tables
+
+    here : (from : Found) → found call source ≡ from
+        → transfer_of t.nodes (record { source = Some from; target = Some (found call target) }) ≡ Some transfer
+        → unfit_between t.nodes (record { source = Some from; target = Some (found call target) }) ≡ None
+        → KnownTransfer t (user_of call) transfer (last_name target)
+    here (Free folder) leads led fits = absurd (none-some transfer led)
+    here (Missing depth) leads led fits = absurd (none-some transfer led)
+    here (At node) leads led fits =
+        let parts = transfer_parts t.nodes node (found call target) transfer led in
+        let at = target_known call target (found call target) row transfer sound is refl parts.1 parts.2 in
+        let fit = fit_parts t.nodes (is_root t.nodes node) transfer (transfer_to t.nodes node (found call target)) led fits in
+        let placed = none_misplaced _ _ _ fit.1 in
+        record {
+          source = subst (λ (n : ℕ). KnownPath t (user_of call) (At n)) parts.0 (path_known call source (At node) row is leads);
+          target = at.path;
+          no_root = subst (λ (n : ℕ). is_root t.nodes n ≡ false) parts.0 fit.0;
+          in_folder = at.in_folder;
+          there = at.there;
+          differs = placed.0;
+          outside = placed.1;
+          apart = placed.2;
+          deep = deep;
+        }
 
 -- where the paths of something wanted lead
 abbrev pub places_at : Call → Wanted → Places
 places_at call wanted = record { source = option_map (found call) (source_of wanted); target = option_map (found call) (target_of wanted) }
 
-wanted_known : (call : Call) (wanted : Wanted) (row : UserRow) → call.request.wanted ≡ wanted → caller_row call ≡ Some row → IsShort wanted
-    → unfit call.state.tables.nodes wanted (places_at call wanted) ≡ None
-    → option_map denial.Limit (limited call.state.tables wanted (places_at call wanted)) ≡ None
-    → Known call.state.tables call.now (user_of call) (given call.state.tables call.now (asker_of call) wanted (places_at call wanted))
-wanted_known call (Get spot) row asked is short fits some = served_known call spot (found call spot) row is refl
-wanted_known call (Put spot length) row asked is short fits some = granted_known call spot length (found call spot) row is short refl
-wanted_known call (Mkcol spot) row asked is short fits some = folder_known call spot (found call spot) row is refl (no_limit _ some)
-wanted_known call (Delete spot) row asked is short fits some = deleted_known call spot (found call spot) row is refl (passed _ _ fits)
+moved_known : (call : Call) (source target : Spot) (row : UserRow) → AreSound call.state.tables → caller_row call ≡ Some row
+    → unfit_between call.state.tables.nodes (record { source = Some (found call source); target = Some (found call target) }) ≡ None
+    → option_and_then (move_limit call.state.tables)
+    (transfer_of call.state.tables.nodes (record { source = Some (found call source); target = Some (found call target) })) ≡ None
+    → Known call.state.tables call.now (user_of call) (moved (last_name target)
+    (transfer_of call.state.tables.nodes (record { source = Some (found call source); target = Some (found call target) })))
+moved_known call source target row sound is fits some = here (transfer_of t.nodes places) refl some
+  where
+    t : Tables
+    t = call.state.tables
 
-pub call_known : (call : Call) (act : Allowed) → MayWant call.request → call_decision call ≡ Ok act
+    places : Places
+    places = record { source = Some (found call source); target = Some (found call target) }
+
+    here : (o : Option Transfer) → transfer_of t.nodes places ≡ o → option_and_then (move_limit t) o ≡ None
+        → Known t call.now (user_of call) (moved (last_name target) o)
+    here None e some = tt
+    here (Some transfer) e some =
+        transfer_known call source target row transfer sound is e fits (within t 0 (deepest_in t.nodes transfer.node transfer.folder) 0 0 some).deep
+
+copied_known : (call : Call) (source target : Spot) (row : UserRow) → AreSound call.state.tables → caller_row call ≡ Some row
+    → unfit_between call.state.tables.nodes (record { source = Some (found call source); target = Some (found call target) }) ≡ None
+    → option_and_then (copy_limit call.state.tables)
+    (transfer_of call.state.tables.nodes (record { source = Some (found call source); target = Some (found call target) })) ≡ None
+    → Known call.state.tables call.now (user_of call) (copied call.state.tables call.now (last_name target)
+    (transfer_of call.state.tables.nodes (record { source = Some (found call source); target = Some (found call target) })))
+copied_known call source target row sound is fits some = here (transfer_of t.nodes places) refl some
+  where
+    t : Tables
+    t = call.state.tables
+
+    places : Places
+    places = record { source = Some (found call source); target = Some (found call target) }
+
+    here : (o : Option Transfer) → transfer_of t.nodes places ≡ o → option_and_then (copy_limit t) o ≡ None
+        → Known t call.now (user_of call) (copied t call.now (last_name target) o)
+    here None e some = tt
+    here (Some transfer) e some =
+        let nodes = walk_of t.nodes transfer.node in
+        let fits_in = within t (length nodes) (deepest_in t.nodes transfer.node transfer.folder) (pieces_in t.nodes nodes) 0 some in
+        record {
+          transfer = transfer;
+          name = last_name target;
+          known = transfer_known call source target row transfer sound is e fits fits_in.deep;
+          replaced_is = refl;
+          copies = refl;
+          nodes = fits_in.nodes;
+          next_node = fits_in.next_node;
+          pieces = fits_in.pieces;
+          next_blob = omega (arith, fits_in.next_blob);
+        }
+
+wanted_known : (call : Call) (wanted : Wanted) (row : UserRow) → AreSound call.state.tables → caller_row call ≡ Some row → IsShort wanted
+    → unfit call.state.tables.nodes wanted (places_at call wanted) ≡ None
+    → limited call.state.tables wanted (places_at call wanted) ≡ None
+    → Known call.state.tables call.now (user_of call) (given call.state.tables call.now (asker_of call) wanted (places_at call wanted))
+wanted_known call (Get spot) row sound is short fits some = served_known call spot (found call spot) row is refl
+wanted_known call (Put spot length) row sound is short fits some = granted_known call spot length (found call spot) row is short refl
+wanted_known call (Mkcol spot) row sound is short fits some = folder_known call spot (found call spot) row is refl some
+wanted_known call (Delete spot) row sound is short fits some = deleted_known call spot (found call spot) row is refl (passed _ _ fits)
+wanted_known call (Move source target overwrite) row sound is short fits some = moved_known call source target row sound is fits some
+wanted_known call (Copy source target overwrite) row sound is short fits some = copied_known call source target row sound is fits some
+
+pub call_known : (call : Call) (act : Allowed) → IsSound call.state → MayWant call.request → call_decision call ≡ Ok act
     → Known call.state.tables call.now (user_of call) act
 unfolding target_rule limit_rule
-call_known call act may is =
+call_known call act sound may is =
     let h = call_passes call act is in
     let pass = h.0 in
     let row = has_row call may pass.1.0 in
     subst (λ (a : Allowed). Known call.state.tables call.now (user_of call) a) h.1
-    (wanted_known call call.request.wanted row.0 refl row.1 may.short pass.1.1.1.1.1.1.0 pass.1.1.1.1.1.1.1.0)
+    (wanted_known call call.request.wanted row.0 sound.rows row.1 may.short
+    (no_fault _ pass.1.1.1.1.1.0) (no_limit _ pass.1.1.1.1.1.1.1.0))
 
 -- ---- an End
 
@@ -467,6 +773,6 @@ ticket_sound s seat sound = found_has (λ (ticket : Ticket). IsGoalSound s.table
 
 pub known_change : (s : State) (seat now : ℕ) (event : Event) (act : Allowed) → IsSound s
     → MayAsk s seat event → decision_of s seat now event ≡ Ok act → Known s.tables now (actor_of s seat event) act
-known_change s seat now (Begin words request) act sound asked is = call_known (call_of s seat now words request) act asked.1 is
+known_change s seat now (Begin words request) act sound asked is = call_known (call_of s seat now words request) act sound asked.1 is
 known_change s seat now (End outcome) act sound asked is =
     ticket_known s.tables now (ticket_of s seat) outcome act (ticket_sound s seat sound) asked is

@@ -14,7 +14,7 @@ use Rattle.nf_words.specs.Changes.{allowed_of}
 use Rattle.nf_words.specs.Endings.{end_refusal, ends_goal, ends_ticket, key_lost, place_of, stored_at, unless_refused}
 use Rattle.nf_words.specs.History.{answer_at}
 use Rattle.nf_words.specs.Limits.{limit_at, limit_rule, limited, pieces_of}
-use Rattle.nf_words.specs.Places.{built_rule, exists_rule, forbidden_rule, has_forbidden, place_rule, source_lost, taken, target_lost, target_rule, unbuilt, unfit}
+use Rattle.nf_words.specs.Places.{exists_rule, forbidden_rule, has_forbidden, is_kept, overwrite_rule, place_rule, source_lost, taken, target_lost, target_rule, unfit, unreplaced}
 use Rattle.nf_words.specs.Rules.{Rule, first_that_holds, refusal_of, rules}
 use Rattle.nf_words.specs.State.{State, ticket_of}
 use Rattle.nf_words.specs.Step.{answer_to, answered_by, call_of, decision_of}
@@ -26,6 +26,7 @@ use Rattle.nf_words.specs.declared.answer.Goal.TheVariants.{Serve, Store}
 use Rattle.nf_words.specs.declared.answer.Limit.{Limit}
 use Rattle.nf_words.specs.declared.answer.LockKey.{LockKey}
 use Rattle.nf_words.specs.declared.answer.LockKey.TheVariants.{Node, Slot}
+use Rattle.nf_words.specs.declared.answer.TargetFault.{TargetFault}
 use Rattle.nf_words.specs.declared.history.Entry.{Entry}
 use Rattle.nf_words.specs.declared.history.Event.{Event}
 use Rattle.nf_words.specs.declared.history.Event.TheVariants.{Begin, End}
@@ -36,7 +37,7 @@ use Rattle.nf_words.specs.declared.history.Outcome.TheVariants.{Sent, Gone, Body
 use Rattle.nf_words.specs.declared.history.Ticket.{Ticket}
 use Rattle.nf_words.specs.declared.request.Places.{Places}
 use Rattle.nf_words.specs.declared.request.Wanted.{Wanted}
-use Rattle.nf_words.specs.declared.request.Wanted.TheVariants.{Get, Put, Mkcol, Delete}
+use Rattle.nf_words.specs.declared.request.Wanted.TheVariants.{Get, Put, Mkcol, Delete, Move, Copy}
 
 -- a denial that no rule gives: the step failed, or there was no room for it
 abbrev pub is_failure : Denial → Bool
@@ -61,6 +62,10 @@ either : (a b : Option Denial) → IsRefusal a → IsRefusal b → IsRefusal (op
 either None b fine more = more
 either (Some refusal) b fine more = fine
 
+faults : (o : Option TargetFault) → IsRefusal (option_map denial.BadTarget o)
+faults None = tt
+faults (Some fault) = refl
+
 limits : (o : Option Limit) → IsRefusal (option_map denial.Limit o)
 limits None = tt
 limits (Some limit) = refl
@@ -77,23 +82,21 @@ target_fine (Some (At node)) = tt
 target_fine (Some (Free folder)) = tt
 target_fine (Some (Missing depth)) = refl
 
-built_fine : (rows : List NodeRow) (wanted : Wanted) (places : Places) → IsRefusal (unbuilt rows wanted places)
-built_fine rows (Get spot) places = if_test _ denial.NotBuilt refl
-built_fine rows (Put spot length) places = tt
-built_fine rows (Mkcol spot) places = tt
-built_fine rows (Delete spot) places = tt
-
 taken_fine : (rows : List NodeRow) (wanted : Wanted) (places : Places) → IsRefusal (taken rows wanted places)
 taken_fine rows (Get spot) places = tt
 taken_fine rows (Put spot length) places = if_test _ denial.Exists refl
 taken_fine rows (Mkcol spot) places = if_test _ denial.Exists refl
 taken_fine rows (Delete spot) places = tt
+taken_fine rows (Move source target overwrite) places = tt
+taken_fine rows (Copy source target overwrite) places = tt
 
-unfit_fine : (rows : List NodeRow) (wanted : Wanted) (places : Places) → IsRefusal (unfit rows wanted places)
-unfit_fine rows (Get spot) places = tt
-unfit_fine rows (Put spot length) places = tt
-unfit_fine rows (Mkcol spot) places = tt
-unfit_fine rows (Delete spot) places = if_test _ _ refl
+kept_fine : (wanted : Wanted) (places : Places) → IsRefusal (unreplaced wanted places)
+kept_fine (Get spot) places = tt
+kept_fine (Put spot length) places = tt
+kept_fine (Mkcol spot) places = tt
+kept_fine (Delete spot) places = tt
+kept_fine (Move source target overwrite) places = if_test (is_kept overwrite places) denial.Overwrite refl
+kept_fine (Copy source target overwrite) places = if_test (is_kept overwrite places) denial.Overwrite refl
 
 -- each of some rules refuses so
 abbrev AreRefusals : List Rule → Type 0
@@ -124,17 +127,17 @@ place_fine access call =
     either (option_and_then source_lost places.source) (option_and_then target_lost places.target)
     (source_fine places.source) (target_fine places.target)
 
-unbuilt_fine : (access : Access) (call : Call) → IsRefusal (built_rule access call)
-unfolding built_rule
-unbuilt_fine access call = built_fine call.state.tables.nodes call.request.wanted (places_of call)
-
 exists_fine : (access : Access) (call : Call) → IsRefusal (exists_rule access call)
 unfolding exists_rule
 exists_fine access call = taken_fine call.state.tables.nodes call.request.wanted (places_of call)
 
 fit_fine : (access : Access) (call : Call) → IsRefusal (target_rule access call)
 unfolding target_rule
-fit_fine access call = unfit_fine call.state.tables.nodes call.request.wanted (places_of call)
+fit_fine access call = faults (unfit call.state.tables.nodes call.request.wanted (places_of call))
+
+overwrite_fine : (access : Access) (call : Call) → IsRefusal (overwrite_rule access call)
+unfolding overwrite_rule
+overwrite_fine access call = kept_fine call.request.wanted (places_of call)
 
 limit_fine : (access : Access) (call : Call) → IsRefusal (limit_rule access call)
 unfolding limit_rule
@@ -143,7 +146,7 @@ limit_fine access call = limits (limited call.state.tables call.request.wanted (
 refusals : (access : Access) (call : Call) → IsRefusal (refusal_of access call)
 refusals access call =
     first_fine rules access call
-    (token_fine, (not_you_fine, (forbidden_fine, (place_fine, (unbuilt_fine, (exists_fine, (fit_fine, (limit_fine, tt))))))))
+    (token_fine, (not_you_fine, (forbidden_fine, (place_fine, (exists_fine, (fit_fine, (overwrite_fine, (limit_fine, tt))))))))
 
 lost_fine : (t : Tables) (key : LockKey) → IsRefusal (key_lost t key)
 lost_fine t (Node node) = unless_test _ denial.NotFound refl

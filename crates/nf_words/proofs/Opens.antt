@@ -1,17 +1,20 @@
 -- What an event isn't answered.
-use Rattle.std.proofs.Common.{◌≡◌, ◌≢◌, ℕ, List, Result, Ok, Err, refl, sym, ap, subst}
+use Rattle.std.proofs.Common.{◌≡◌, ◌≢◌, ℕ, Bool, true, false, List, Result, Ok, Err, refl, sym, ap, subst}
 use Rattle.std.specs.Prelude.{Option, None, Some, is_some, if◌then◌else◌}
-use Rattle.std.specs.Option.{option_or}
+use Rattle.std.specs.Option.{option_map_or, option_or}
+use Rattle.nf_base.specs.declared.rows.NodeRow.{NodeRow}
 use Rattle.nf_defs.specs.Tables.{Tables}
+use Rattle.nf_defs.specs.Tree.{content_of, is_folder, is_root}
 use Rattle.nf_defs.specs.declared.Found.{Found}
 use Rattle.nf_defs.specs.declared.Found.TheVariants.{At, Free, Missing}
 use Rattle.nf_defs.specs.Access.{unshared}
 use Rattle.nf_defs.specs.declared.Seeker.{Seeker}
 use Rattle.nf_defs.specs.declared.Seeker.TheVariants as seeker
 use Rattle.nf_words.specs.Calls.{Call, asker_of, found, last_name}
-use Rattle.nf_words.specs.Changes.{allowed_of, deleted, given, goal_of, made_folder, reply_to, served, stored, with_goal}
+use Rattle.nf_words.specs.Changes.{allowed_of, copied, deleted, given, goal_of, made_folder, moved, reply_by, reply_to, served, shown, stored, with_goal}
 use Rattle.nf_words.specs.Endings.{end_refusal, ends_ticket, stored_at, unless_refused}
-use Rattle.nf_words.specs.Places.{place_rule, exists_rule, lost, node_found, source_lost, taken, target_lost}
+use Rattle.nf_words.specs.Listing.{listing_of}
+use Rattle.nf_words.specs.Places.{exists_rule, is_there, lost, misplaced, node_found, place_rule, source_lost, taken, target_lost, target_rule, transfer_of, unfit}
 use Rattle.nf_words.specs.Rules.{refusal_of, rules}
 use Rattle.nf_words.specs.State.{State, ticket_for, ticket_of}
 use Rattle.nf_words.specs.Step.{answer_to, answered_by, call_of, decided, decision_of, step}
@@ -25,15 +28,17 @@ use Rattle.nf_words.specs.declared.answer.LockKey.{LockKey}
 use Rattle.nf_words.specs.declared.answer.LockKey.TheVariants.{Node, Slot}
 use Rattle.nf_words.specs.declared.answer.Reply.{Reply}
 use Rattle.nf_words.specs.declared.answer.Reply.TheVariants.{Closed, Granted}
+use Rattle.nf_words.specs.declared.answer.TargetFault.TheVariants as target
 use Rattle.nf_words.specs.declared.history.Event.TheVariants.{Begin, End}
 use Rattle.nf_words.specs.declared.history.Outcome.{Outcome}
 use Rattle.nf_words.specs.declared.history.Outcome.TheVariants.{Body}
 use Rattle.nf_words.specs.declared.history.Ticket.{Ticket}
 use Rattle.nf_words.specs.declared.request.Request.{Request}
+use Rattle.nf_words.specs.declared.request.Transfer.{Transfer}
 use Rattle.nf_words.specs.declared.request.Words.{Words}
 use Rattle.nf_words.specs.declared.request.Wanted.{Wanted}
-use Rattle.nf_words.specs.declared.request.Wanted.TheVariants.{Get, Put, Mkcol, Delete}
-use Rattle.nf_words.proofs.Known.{each_passes, places_at}
+use Rattle.nf_words.specs.declared.request.Wanted.TheVariants.{Get, Put, Mkcol, Delete, Move, Copy}
+use Rattle.nf_words.proofs.Known.{each_passes, no_fault, places_at}
 use Rattle.nf_words.proofs.Steps.{end_nothing, never_granted}
 
 -- ---- never as the End of what stores nothing
@@ -41,13 +46,20 @@ use Rattle.nf_words.proofs.Steps.{end_nothing, never_granted}
 ok_reply : (x y : Reply) → ◌≡◌ {A = Result Reply Denial} (Ok x) (Ok y) → x ≡ y
 ok_reply x y e = cc
 
+put_opens : (replaced : Option ℕ) → reply_by replaced ≢ Closed
+put_opens None = λ is. cc
+put_opens (Some node) = λ is. cc
+
 closes : (act : Allowed) → reply_to act ≡ Closed → act ≡ allowed.Close
 closes (allowed.Get node content) is = cc
+closes (allowed.List listing) is = cc
 closes (allowed.Put by key length) is = cc
 closes (allowed.StoreNew row blob) is = cc
 closes (allowed.StoreOver node content blob) is = cc
 closes (allowed.Mkcol row) is = cc
-closes (allowed.Delete nodes) is = cc
+closes (allowed.Delete node) is = cc
+closes (allowed.Move transfer name) is = absurd (put_opens transfer.replaced is)
+closes (allowed.Copy rows replaced) is = absurd (put_opens replaced is)
 closes allowed.Close is = refl
 
 -- an act that isn't refused isn't answered so, if it doesn't close
@@ -56,15 +68,22 @@ open_answer : (refusal : Option Denial) (act : Allowed) → (refusal ≡ None �
 open_answer None act opens = λ is. opens refl (closes act (ok_reply (reply_to act) Closed is))
 open_answer (Some refusal) act opens = λ is. cc
 
+open_shown : (t : Tables) (node : ℕ) → shown t node ≢ allowed.Close
+open_shown t node = here (is_folder t.nodes node)
+  where
+    here : (folds : Bool) → (if folds then allowed.List (listing_of t node) else allowed.Get node (content_of t.nodes node)) ≢ allowed.Close
+    here true = λ is. cc
+    here false = λ is. cc
+
 open_served : (t : Tables) (place : Found) → source_lost place ≡ None → served t (node_found place) ≢ allowed.Close
-open_served t (At node) there = λ is. cc
+open_served t (At node) there = open_shown t node
 open_served t (Free folder) there = absurd (cc)
 open_served t (Missing depth) there = absurd (cc)
 
-open_deleted : (t : Tables) (place : Found) → source_lost place ≡ None → deleted t (node_found place) ≢ allowed.Close
-open_deleted t (At node) there = λ is. cc
-open_deleted t (Free folder) there = absurd (cc)
-open_deleted t (Missing depth) there = absurd (cc)
+open_deleted : (place : Found) → source_lost place ≡ None → deleted (node_found place) ≢ allowed.Close
+open_deleted (At node) there = λ is. cc
+open_deleted (Free folder) there = absurd (cc)
+open_deleted (Missing depth) there = absurd (cc)
 
 open_put : (by : Seeker) (name : List ℕ) (length : ℕ) (place : Found) → target_lost place ≡ None → stored by name length (Some place) ≢ allowed.Close
 open_put by name length (At node) there = λ is. cc
@@ -77,6 +96,21 @@ open_made t now name (At node) there free = absurd (cc)
 open_made t now name (Free folder) there free = λ is. cc
 open_made t now name (Missing depth) there free = absurd (cc)
 
+-- what has no transfer is unfit
+open_moved : (rows : List NodeRow) (root : Bool) (name : List ℕ) (transfer : Option Transfer)
+    → (if root then Some target.Root else option_map_or (misplaced rows) transfer (Some target.Root)) ≡ None
+    → moved name transfer ≢ allowed.Close
+open_moved rows true name transfer fits = absurd (cc)
+open_moved rows false name None fits = absurd (cc)
+open_moved rows false name (Some transfer) fits = λ is. cc
+
+open_copied : (t : Tables) (now : ℕ) (root : Bool) (name : List ℕ) (transfer : Option Transfer)
+    → (if root then Some target.Root else option_map_or (misplaced t.nodes) transfer (Some target.Root)) ≡ None
+    → copied t now name transfer ≢ allowed.Close
+open_copied t now true name transfer fits = absurd (cc)
+open_copied t now false name None fits = absurd (cc)
+open_copied t now false name (Some transfer) fits = λ is. cc
+
 -- where only the target is looked for
 only_target : (o : Option Denial) → option_or None o ≡ None → o ≡ None
 only_target o none = none
@@ -86,20 +120,29 @@ only_source None none = refl
 only_source (Some refusal) none = absurd (cc)
 
 open_given : (call : Call) (asked : Wanted) → lost (places_at call asked) ≡ None → taken call.state.tables.nodes asked (places_at call asked) ≡ None
+    → unfit call.state.tables.nodes asked (places_at call asked) ≡ None
     → given call.state.tables call.now (asker_of call) asked (places_at call asked) ≢ allowed.Close
-open_given call (Get spot) led free = open_served call.state.tables (found call spot) (only_source _ led)
-open_given call (Put spot length) led free = open_put (seeker.User (asker_of call)) (last_name spot) length (found call spot) (only_target _ led)
-open_given call (Mkcol spot) led free = open_made call.state.tables call.now (last_name spot) (found call spot) (only_target _ led) free
-open_given call (Delete spot) led free = open_deleted call.state.tables (found call spot) (only_source _ led)
+open_given call (Get spot) led free fits = open_served call.state.tables (found call spot) (only_source _ led)
+open_given call (Put spot length) led free fits = open_put (seeker.User (asker_of call)) (last_name spot) length (found call spot) (only_target _ led)
+open_given call (Mkcol spot) led free fits = open_made call.state.tables call.now (last_name spot) (found call spot) (only_target _ led) free
+open_given call (Delete spot) led free fits = open_deleted (found call spot) (only_source _ led)
+open_given call (Move source target overwrite) led free fits =
+    let t = call.state.tables in
+    let places = places_at call (Move source target overwrite) in
+    open_moved t.nodes (is_there (is_root t.nodes) places.source) (last_name target) (transfer_of t.nodes places) fits
+open_given call (Copy source target overwrite) led free fits =
+    let t = call.state.tables in
+    let places = places_at call (Copy source target overwrite) in
+    open_copied t call.now (is_there (is_root t.nodes) places.source) (last_name target) (transfer_of t.nodes places) fits
 
 -- a Begin isn't
 pub begins_open : (s : State) (seat now : ℕ) (words : Words) (request : Request) → answer_to s seat now (Begin words request) ≢ Ok Closed
-unfolding place_rule exists_rule
+unfolding place_rule exists_rule target_rule
 begins_open s seat now words request =
     let call = call_of s seat now words request in
     open_answer (refusal_of unshared call) (allowed_of call) (λ none.
     let pass = each_passes rules unshared call none in
-    open_given call request.wanted pass.1.1.1.0 pass.1.1.1.1.1.0)
+    open_given call request.wanted pass.1.1.1.0 pass.1.1.1.1.0 (no_fault _ pass.1.1.1.1.1.0))
 
 open_stored : (t : Tables) (now : ℕ) (key : LockKey) (digest : List ℕ) (length : ℕ) → stored_at t now key digest length ≢ allowed.Close
 open_stored t now (Node node) digest length = λ is. cc
@@ -125,11 +168,14 @@ IsPlain answer = (goal : Goal) → answer ≢ Ok (Granted goal)
 
 no_goal : (act : Allowed) → IsPlain (Ok (reply_to act)) → goal_of act ≡ None
 no_goal (allowed.Get node content) plain = absurd (plain (Serve content) refl)
+no_goal (allowed.List listing) plain = refl
 no_goal (allowed.Put by key length) plain = absurd (plain (Store by key length) refl)
 no_goal (allowed.StoreNew row blob) plain = refl
 no_goal (allowed.StoreOver node content blob) plain = refl
 no_goal (allowed.Mkcol row) plain = refl
-no_goal (allowed.Delete nodes) plain = refl
+no_goal (allowed.Delete node) plain = refl
+no_goal (allowed.Move transfer name) plain = refl
+no_goal (allowed.Copy rows replaced) plain = refl
 no_goal allowed.Close plain = refl
 
 plain_decided : (s : State) (seat now : ℕ) (decision : Result Allowed Denial) → IsPlain (answered_by decision)

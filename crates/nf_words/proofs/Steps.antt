@@ -9,7 +9,7 @@ use Rattle.std.proofs.lemmas.Grind.{common_steps}
 use Rattle.nf_defs.specs.Tables.{Tables}
 use Rattle.nf_words.specs.State.{State, ticket_for, ticket_of, without_ticket}
 use Rattle.nf_words.specs.Step.{step, without, decision_of, decided, answered_by, answer_to}
-use Rattle.nf_words.specs.Changes.{goal_of, with_goal, reply_to}
+use Rattle.nf_words.specs.Changes.{goal_of, reply_by, reply_to, with_goal}
 use Rattle.nf_words.specs.Endings.{unless_refused, stored_at, end_refusal, ends_goal, ends_ticket, end_decision}
 use Rattle.nf_words.specs.History.{failed, after, after_mark, replay, MayAsk, IsLegalFrom}
 use Rattle.nf_words.specs.declared.answer.Allowed.{Allowed}
@@ -97,7 +97,7 @@ other_after s e other differ = other_mark s e e.mark other differ
 -- ---- what an End grants
 
 -- the decision grants nothing
-abbrev GrantsNothing : Result Allowed Denial → Type 0
+abbrev pub GrantsNothing : Result Allowed Denial → Type 0
 GrantsNothing (Ok act) = goal_of act ≡ None
 GrantsNothing (Err refusal) = Unit {0}
 
@@ -151,13 +151,21 @@ gone_keeps s seat now = ticket_keeps s seat now Gone (ticket_of s seat) (λ goal
 
 -- ---- a granted step
 
+-- what is put at a place grants nothing
+pub put_grants_nothing : (replaced : Option ℕ) (goal : Goal) → reply_by replaced ≢ Granted goal
+put_grants_nothing None goal = λ is. cc
+put_grants_nothing (Some node) goal = λ is. cc
+
 goal_of_reply : (act : Allowed) (goal : Goal) → reply_to act ≡ Granted goal → goal_of act ≡ Some goal
 goal_of_reply (allowed.Get node content) goal is = cc
+goal_of_reply (allowed.List listing) goal is = cc
 goal_of_reply (allowed.Put by key length) goal is = cc
 goal_of_reply (allowed.StoreNew row blob) goal is = cc
 goal_of_reply (allowed.StoreOver node content blob) goal is = cc
 goal_of_reply (allowed.Mkcol row) goal is = cc
-goal_of_reply (allowed.Delete nodes) goal is = cc
+goal_of_reply (allowed.Delete node) goal is = cc
+goal_of_reply (allowed.Move transfer name) goal is = absurd (put_grants_nothing transfer.replaced goal is)
+goal_of_reply (allowed.Copy rows replaced) goal is = absurd (put_grants_nothing replaced goal is)
 goal_of_reply allowed.Close goal is = cc
 
 ok_reply : (x y : Reply) → ◌≡◌ {A = Result Reply Denial} (Ok x) (Ok y) → x ≡ y

@@ -1,5 +1,5 @@
 -- A request as the rules see it: who asks, what it names, and where its paths lead.
-use Rattle.std.specs.Prelude.{ℕ, ◌-◌, List, [], ◌∷◌, length, Option, None, Some, option_map, option_and_then, slice_get, unwrap_or}
+use Rattle.std.specs.Prelude.{ℕ, ◌-◌, List, [], ◌∷◌, ◌++◌, length, Option, None, Some, option_map, option_and_then, slice_get, unwrap_or}
 use Rattle.std.specs.Option.{option_map_or}
 use Rattle.nf_base.specs.declared.rows.UserRow.{UserRow}
 use Rattle.nf_defs.specs.People.{holder_of, user_row}
@@ -12,7 +12,7 @@ use Rattle.nf_words.specs.declared.request.Places.{Places}
 use Rattle.nf_words.specs.declared.request.Request.{Request}
 use Rattle.nf_words.specs.declared.request.Spot.{Spot}
 use Rattle.nf_words.specs.declared.request.Wanted.{Wanted}
-use Rattle.nf_words.specs.declared.request.Wanted.TheVariants.{Get, Put, Mkcol, Delete}
+use Rattle.nf_words.specs.declared.request.Wanted.TheVariants.{Get, Put, Mkcol, Delete, Move, Copy}
 use Rattle.nf_words.specs.declared.request.Words.{Words}
 
 -- a Begin in its state
@@ -31,6 +31,8 @@ source_of (Get spot) = Some spot
 source_of (Put spot length) = None
 source_of (Mkcol spot) = None
 source_of (Delete spot) = Some spot
+source_of (Move source target overwrite) = Some source
+source_of (Copy source target overwrite) = Some source
 
 -- the place of what it makes, or stores over
 abbrev pub target_of : Wanted → Option Spot
@@ -38,6 +40,8 @@ target_of (Get spot) = None
 target_of (Put spot length) = Some spot
 target_of (Mkcol spot) = Some spot
 target_of (Delete spot) = None
+target_of (Move source target overwrite) = Some target
+target_of (Copy source target overwrite) = Some target
 
 -- the user that a place names, if it does
 abbrev pub named_in : Option (List ℕ) → List (List ℕ)
@@ -50,6 +54,8 @@ users_of (Get spot) = named_in spot.user
 users_of (Put spot length) = named_in spot.user
 users_of (Mkcol spot) = named_in spot.user
 users_of (Delete spot) = named_in spot.user
+users_of (Move source target overwrite) = named_in source.user ++ named_in target.user
+users_of (Copy source target overwrite) = named_in source.user ++ named_in target.user
 
 -- its paths
 abbrev pub paths_of : Wanted → List (List (List ℕ))
@@ -57,6 +63,8 @@ paths_of (Get spot) = spot.path ∷ []
 paths_of (Put spot length) = spot.path ∷ []
 paths_of (Mkcol spot) = spot.path ∷ []
 paths_of (Delete spot) = spot.path ∷ []
+paths_of (Move source target overwrite) = source.path ∷ target.path ∷ []
+paths_of (Copy source target overwrite) = source.path ∷ target.path ∷ []
 
 -- the last name of a place's path
 abbrev pub last_name : Spot → List ℕ

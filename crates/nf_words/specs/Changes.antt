@@ -1,6 +1,6 @@
 -- What each act changes and is answered, where no rule refuses it.
-use Rattle.std.specs.Prelude.{ℕ, ◌+◌, ◌==◌, ◌&&◌, Bool, not, List, [], ◌∷◌, ◌++◌, filter, map, Option, None, Some, if◌then◌else◌}
-use Rattle.std.specs.List.{list_any}
+use Rattle.std.specs.Prelude.{ℕ, ◌+◌, ◌==◌, ◌&&◌, Bool, List, [], ◌∷◌, ◌++◌, length, map, Option, None, Some, if◌then◌else◌}
+use Rattle.std.specs.Option.{option_map_or}
 use Rattle.nf_base.specs.Content.{content_eq}
 use Rattle.nf_base.specs.declared.changes.Change.{Change}
 use Rattle.nf_base.specs.declared.changes.Change.TheVariants.{Put, Drop}
@@ -13,15 +13,18 @@ use Rattle.nf_base.specs.declared.rows.NodeRow.{NodeRow}
 use Rattle.nf_base.specs.declared.rows.Place.TheVariants.{Inside}
 use Rattle.nf_base.specs.declared.rows.Row.TheVariants as rows
 use Rattle.nf_defs.specs.Tables.{Tables}
-use Rattle.nf_defs.specs.Tree.{content_of, node_row, owner_of, subtree_of}
+use Rattle.nf_defs.specs.Tree.{content_of, filled, is_folder, node_row, owner_of, relinked, walk_of, with_node, without_under}
 use Rattle.nf_defs.specs.declared.Found.{Found}
 use Rattle.nf_defs.specs.declared.Found.TheVariants.{At, Free, Missing}
 use Rattle.nf_defs.specs.declared.Seeker.{Seeker}
 use Rattle.nf_defs.specs.declared.Seeker.TheVariants as seeker
 use Rattle.nf_words.specs.State.{State, ticket_for}
 use Rattle.nf_words.specs.Calls.{Call, asker_of, last_name, places_of}
-use Rattle.nf_words.specs.Places.{node_at}
+use Rattle.nf_words.specs.Copies.{copies_to}
+use Rattle.nf_words.specs.Listing.{listing_of}
+use Rattle.nf_words.specs.Places.{node_at, transfer_of}
 use Rattle.nf_words.specs.declared.request.Places.{Places}
+use Rattle.nf_words.specs.declared.request.Transfer.{Transfer}
 use Rattle.nf_words.specs.declared.request.Wanted.{Wanted}
 use Rattle.nf_words.specs.declared.request.Wanted.TheVariants as wanted
 use Rattle.nf_words.specs.declared.answer.Allowed.{Allowed}
@@ -30,7 +33,7 @@ use Rattle.nf_words.specs.declared.answer.Goal.{Goal}
 use Rattle.nf_words.specs.declared.answer.Goal.TheVariants.{Serve, Store}
 use Rattle.nf_words.specs.declared.answer.LockKey.TheVariants.{Node, Slot}
 use Rattle.nf_words.specs.declared.answer.Reply.{Reply}
-use Rattle.nf_words.specs.declared.answer.Reply.TheVariants.{Made, Done, Closed, Granted}
+use Rattle.nf_words.specs.declared.answer.Reply.TheVariants.{Made, Done, Closed, Granted, Listing}
 use Rattle.nf_words.specs.declared.history.Ticket.{Ticket}
 
 -- ---- what an act may do at the places that its paths lead to; elsewhere, where a rule refuses it, nothing
@@ -47,10 +50,13 @@ new_node t now folder name kind content = record {
   changed = now;
 }
 
--- GET sends the content of the node that is there
+-- GET lists the folder that is there, or sends the content of the file
+abbrev pub shown : Tables → ℕ → Allowed
+shown t node =
+    if is_folder t.nodes node then allowed.List (listing_of t node) else allowed.Get node (content_of t.nodes node)
+
 abbrev pub served : Tables → Option ℕ → Allowed
-served t None = allowed.Close
-served t (Some node) = allowed.Get node (content_of t.nodes node)
+served t node = option_map_or (shown t) node allowed.Close
 
 -- PUT stores over the file that is there, or under the name that is free
 abbrev pub stored : Seeker → List ℕ → ℕ → Option Found → Allowed
@@ -67,15 +73,24 @@ made_folder t now name (Some (Free folder)) = allowed.Mkcol (new_node t now fold
 made_folder t now name (Some (Missing depth)) = allowed.Close
 
 -- DELETE removes the node that is there with all under it
-abbrev pub deleted : Tables → Option ℕ → Allowed
-deleted t None = allowed.Close
-deleted t (Some node) = allowed.Delete (subtree_of t.nodes node)
+abbrev pub deleted : Option ℕ → Allowed
+deleted node = option_map_or allowed.Delete node allowed.Close
+
+-- MOVE puts the node that is there, and COPY copies of it and of all under it, into the target's folder under the target's name
+abbrev pub moved : List ℕ → Option Transfer → Allowed
+moved name transfer = option_map_or (λ transfer. allowed.Move transfer name) transfer allowed.Close
+
+abbrev pub copied : Tables → ℕ → List ℕ → Option Transfer → Allowed
+copied t now name transfer =
+    option_map_or (λ transfer. allowed.Copy (copies_to t now transfer name) transfer.replaced) transfer allowed.Close
 
 abbrev pub given : Tables → ℕ → ℕ → Wanted → Places → Allowed
 given t now user (wanted.Get spot) places = served t (node_at places.source)
 given t now user (wanted.Put spot length) places = stored (seeker.User user) (last_name spot) length places.target
 given t now user (wanted.Mkcol spot) places = made_folder t now (last_name spot) places.target
-given t now user (wanted.Delete spot) places = deleted t (node_at places.source)
+given t now user (wanted.Delete spot) places = deleted (node_at places.source)
+given t now user (wanted.Move source target overwrite) places = moved (last_name target) (transfer_of t.nodes places)
+given t now user (wanted.Copy source target overwrite) places = copied t now (last_name target) (transfer_of t.nodes places)
 
 abbrev pub allowed_of : Call → Allowed
 allowed_of call = given call.state.tables call.now (asker_of call) call.request.wanted (places_of call)
@@ -94,34 +109,44 @@ created t row blob = record t {
   nodes = t.nodes ++ row ∷ [];
 }
 
--- the nodes with another content of that one
-abbrev pub with_content : List NodeRow → ℕ → ℕ → List Piece → List NodeRow
-with_content [] now node content = []
-with_content (row ∷ rows) now node content =
-    if row.id == node then record row { content = content; changed = now } ∷ rows
-    else row ∷ with_content rows now node content
-
 -- the tables with another content of that node, whose body is in that blob; the old content is dropped
 abbrev pub replaced : Tables → ℕ → ℕ → List Piece → Option ℕ → Tables
 replaced t now node content blob = record t {
   meta = record t.meta { next_blob = blob_after t.meta.next_blob blob };
-  nodes = with_content t.nodes now node content;
+  nodes = with_node t.nodes node (filled content now);
 }
 
-abbrev pub is_among : List ℕ → ℕ → Bool
-is_among nodes node = list_any (λ other. other == node) nodes
+-- the tables without the nodes under one, which are gone for good
+abbrev pub removed : Tables → ℕ → Tables
+removed t node = record t { nodes = without_under t.nodes node }
 
--- the tables without those nodes, which are gone for good
-abbrev pub removed : Tables → List ℕ → Tables
-removed t nodes = record t { nodes = filter (λ row. not (is_among nodes row.id)) t.nodes }
+-- the nodes without those under one that has to go, if there is one
+abbrev pub cleared : List NodeRow → Option ℕ → List NodeRow
+cleared rows replaced = option_map_or (without_under rows) replaced rows
+
+-- the tables with that node in another place
+abbrev pub transferred : Tables → Transfer → List ℕ → Tables
+transferred t transfer name = record t {
+  nodes = with_node (cleared t.nodes transfer.replaced) transfer.node (relinked transfer.folder name);
+}
+
+-- the tables with some nodes more
+abbrev pub joined : Tables → List NodeRow → Option ℕ → Tables
+joined t rows replaced = record t {
+  meta = record t.meta { next_node = t.meta.next_node + length rows };
+  nodes = cleared t.nodes replaced ++ rows;
+}
 
 abbrev pub altered : Tables → ℕ → Allowed → Tables
 altered t now (allowed.Get node content) = t
+altered t now (allowed.List listing) = t
 altered t now (allowed.Put who key length) = t
 altered t now (allowed.StoreNew row blob) = created t row blob
 altered t now (allowed.StoreOver node content blob) = replaced t now node content blob
 altered t now (allowed.Mkcol row) = created t row None
-altered t now (allowed.Delete nodes) = removed t nodes
+altered t now (allowed.Delete node) = removed t node
+altered t now (allowed.Move transfer name) = transferred t transfer name
+altered t now (allowed.Copy rows replaced) = joined t rows replaced
 altered t now allowed.Close = t
 
 -- ---- the same, told as a list of the rows that differ
@@ -133,14 +158,30 @@ refilled (Some row) now content =
     if content_eq row.content content && row.changed == now then []
     else Put (rows.Node (record row { content = content; changed = now })) ∷ []
 
+-- a node's row in another place
+abbrev pub transferred_row : Option NodeRow → Transfer → List ℕ → List Change
+transferred_row row transfer name =
+    option_map_or (λ row. Put (rows.Node (relinked transfer.folder name row)) ∷ []) row []
+
+-- the nodes under one are dropped
+abbrev pub dropped_under : List NodeRow → ℕ → List Change
+dropped_under nodes top = map (λ node. Drop (keys.Node node)) (walk_of nodes top)
+
+abbrev pub dropped_for : List NodeRow → Option ℕ → List Change
+dropped_for nodes replaced = option_map_or (dropped_under nodes) replaced []
+
 -- the rows that an act changes, but for the meta row
 abbrev pub told : Tables → ℕ → Allowed → List Change
 told t now (allowed.Get node content) = []
+told t now (allowed.List listing) = []
 told t now (allowed.Put who key length) = []
 told t now (allowed.StoreNew row blob) = Put (rows.Node row) ∷ []
 told t now (allowed.StoreOver node content blob) = refilled (node_row t.nodes node) now content
 told t now (allowed.Mkcol row) = Put (rows.Node row) ∷ []
-told t now (allowed.Delete nodes) = map (λ node. Drop (keys.Node node)) nodes
+told t now (allowed.Delete node) = dropped_under t.nodes node
+told t now (allowed.Move transfer name) =
+    dropped_for t.nodes transfer.replaced ++ transferred_row (node_row t.nodes transfer.node) transfer name
+told t now (allowed.Copy copies replaced) = dropped_for t.nodes replaced ++ map (λ row. Put (rows.Node row)) copies
 told t now allowed.Close = []
 
 -- the meta row after an act: its counters, and the moment
@@ -180,11 +221,14 @@ changed t now act = stamped t (altered t now act) now (told t now act)
 -- what an act grants
 abbrev pub goal_of : Allowed → Option Goal
 goal_of (allowed.Get node content) = Some (Serve content)
+goal_of (allowed.List listing) = None
 goal_of (allowed.Put who key length) = Some (Store who key length)
 goal_of (allowed.StoreNew row blob) = None
 goal_of (allowed.StoreOver node content blob) = None
 goal_of (allowed.Mkcol row) = None
-goal_of (allowed.Delete nodes) = None
+goal_of (allowed.Delete node) = None
+goal_of (allowed.Move transfer name) = None
+goal_of (allowed.Copy rows replaced) = None
 goal_of allowed.Close = None
 
 abbrev pub with_goal : List Ticket → ℕ → Option Goal → List Ticket
@@ -196,11 +240,14 @@ with_goal tickets seat (Some goal) = tickets ++ ticket_for seat goal ∷ []
 -- the blob that an act stores
 abbrev pub blob_of : Allowed → Option ℕ
 blob_of (allowed.Get node content) = None
+blob_of (allowed.List listing) = None
 blob_of (allowed.Put who key length) = None
 blob_of (allowed.StoreNew row blob) = blob
 blob_of (allowed.StoreOver node content blob) = blob
 blob_of (allowed.Mkcol row) = None
-blob_of (allowed.Delete nodes) = None
+blob_of (allowed.Delete node) = None
+blob_of (allowed.Move transfer name) = None
+blob_of (allowed.Copy rows replaced) = None
 blob_of allowed.Close = None
 
 -- ---- the state, and the reply
@@ -209,12 +256,19 @@ blob_of allowed.Close = None
 abbrev pub applied : State → ℕ → ℕ → Allowed → State
 applied s seat now act = record s { tables = changed s.tables now act; tickets = with_goal s.tickets seat (goal_of act) }
 
+-- what is put at a place is made, where nothing was there
+abbrev pub reply_by : Option ℕ → Reply
+reply_by replaced = option_map_or (λ node. Done) replaced Made
+
 -- what is answered
 abbrev pub reply_to : Allowed → Reply
 reply_to (allowed.Get node content) = Granted (Serve content)
+reply_to (allowed.List listing) = Listing listing
 reply_to (allowed.Put who key length) = Granted (Store who key length)
 reply_to (allowed.StoreNew row blob) = Made
 reply_to (allowed.StoreOver node content blob) = Done
 reply_to (allowed.Mkcol row) = Made
-reply_to (allowed.Delete nodes) = Done
+reply_to (allowed.Delete node) = Done
+reply_to (allowed.Move transfer name) = reply_by transfer.replaced
+reply_to (allowed.Copy rows replaced) = reply_by replaced
 reply_to allowed.Close = Closed

@@ -22,7 +22,7 @@ use Rattle.nf_words.specs.declared.request.Caller.TheVariants.{Absent, Token}
 use Rattle.nf_words.specs.declared.request.Request.{Request}
 use Rattle.nf_words.specs.declared.request.Spot.{Spot}
 use Rattle.nf_words.specs.declared.request.Wanted.{Wanted}
-use Rattle.nf_words.specs.declared.request.Wanted.TheVariants.{Get, Put, Mkcol, Delete}
+use Rattle.nf_words.specs.declared.request.Wanted.TheVariants.{Get, Put, Mkcol, Delete, Move, Copy}
 
 -- a step whose store failed or that found no memory: the rows stay, and the ticket of an End goes
 abbrev pub failed : State → ℕ → ℕ → Event → State
@@ -60,6 +60,8 @@ IsShort (Get spot) = Unit {0}
 IsShort (Put spot length) = length ≤ MAX_BODY
 IsShort (Mkcol spot) = Unit {0}
 IsShort (Delete spot) = Unit {0}
+IsShort (Move source target overwrite) = Unit {0}
+IsShort (Copy source target overwrite) = Unit {0}
 
 -- who asks by a link; nobody does yet
 abbrev pub is_link : Caller → Bool

@@ -3,6 +3,8 @@ pub mod Calls
 pub mod Callers
 pub mod Places
 pub mod Limits
+pub mod Listing
+pub mod Copies
 pub mod Rules
 pub mod Changes
 pub mod Endings

@@ -1,14 +1,17 @@
 -- The limits of the site, and the rule that none is passed.
-use Rattle.std.specs.Prelude.{ℕ, ◌+◌, ◌==◌, ◌||◌, nat_lt, length, Option, None, Some, option_map, option_and_then, if◌then◌else◌}
+use Rattle.std.specs.Prelude.{ℕ, ◌+◌, ◌-◌, ◌==◌, ◌||◌, nat_lt, max, List, [], ◌∷◌, length, sum_by, Option, None, Some, option_map, option_and_then, if◌then◌else◌}
 use Rattle.nf_defs.specs.Access.{Access}
 use Rattle.nf_defs.specs.Tables.{Tables}
-use Rattle.nf_defs.specs.Tree.{depth, piece_count}
+use Rattle.nf_base.specs.declared.rows.NodeRow.{NodeRow}
+use Rattle.nf_defs.specs.Tree.{content_of, depth, piece_count, walk_of}
 use Rattle.nf_defs.specs.declared.Found.{Found}
 use Rattle.nf_defs.specs.declared.Found.TheVariants.{At, Free, Missing}
 use Rattle.nf_words.specs.Calls.{Call, places_of}
+use Rattle.nf_words.specs.Places.{transfer_of}
 use Rattle.nf_words.specs.declared.request.Places.{Places}
+use Rattle.nf_words.specs.declared.request.Transfer.{Transfer}
 use Rattle.nf_words.specs.declared.request.Wanted.{Wanted}
-use Rattle.nf_words.specs.declared.request.Wanted.TheVariants.{Get, Put, Mkcol, Delete}
+use Rattle.nf_words.specs.declared.request.Wanted.TheVariants.{Get, Put, Mkcol, Delete, Move, Copy}
 use Rattle.nf_words.specs.declared.answer.Denial.{Denial}
 use Rattle.nf_words.specs.declared.answer.Denial.TheVariants as denial
 use Rattle.nf_words.specs.declared.answer.Limit.{Limit}
@@ -42,11 +45,35 @@ limit_at t pieces (At node) = limit_passed t 0 0 pieces pieces
 limit_at t pieces (Free folder) = limit_passed t 1 (depth t.nodes folder + 1) pieces pieces
 limit_at t pieces (Missing found) = None
 
+-- how deep the deepest of some nodes is
+abbrev pub deepest : List NodeRow → List ℕ → ℕ
+deepest rows [] = 0
+deepest rows (node ∷ nodes) = max (depth rows node) (deepest rows nodes)
+
+-- how deep the deepest under a node would be with that in a folder
+abbrev pub deepest_in : List NodeRow → ℕ → ℕ → ℕ
+deepest_in rows node folder = depth rows folder + 1 + (deepest rows (walk_of rows node) - depth rows node)
+
+-- how many pieces some nodes name, with repeats
+abbrev pub pieces_in : List NodeRow → List ℕ → ℕ
+pieces_in rows nodes = sum_by (λ node. length (content_of rows node)) nodes
+
+-- the limit that a move passes, and a copy; what they replace still counts
+abbrev pub move_limit : Tables → Transfer → Option Limit
+move_limit t transfer = limit_passed t 0 (deepest_in t.nodes transfer.node transfer.folder) 0 0
+
+abbrev pub copy_limit : Tables → Transfer → Option Limit
+copy_limit t transfer =
+    let nodes = walk_of t.nodes transfer.node in
+    limit_passed t (length nodes) (deepest_in t.nodes transfer.node transfer.folder) (pieces_in t.nodes nodes) 0
+
 abbrev pub limited : Tables → Wanted → Places → Option Limit
 limited t (Get spot) places = None
 limited t (Put spot length) places = option_and_then (limit_at t (pieces_of length)) places.target
 limited t (Mkcol spot) places = option_and_then (limit_at t 0) places.target
 limited t (Delete spot) places = None
+limited t (Move source target overwrite) places = option_and_then (move_limit t) (transfer_of t.nodes places)
+limited t (Copy source target overwrite) places = option_and_then (copy_limit t) (transfer_of t.nodes places)
 
 -- `limit`: the step would pass a limit
 unfoldable pub limit_rule : Access → Call → Option Denial

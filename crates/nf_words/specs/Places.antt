@@ -1,19 +1,21 @@
 -- The rules of the paths and of what they lead to.
-use Rattle.std.specs.Prelude.{ℕ, Bool, false, Option, None, Some, is_some, option_and_then, List, if◌then◌else◌}
+use Rattle.std.specs.Prelude.{ℕ, ◌==◌, ◌||◌, ◌&&◌, Bool, false, not, Option, None, Some, is_some, option_map, option_and_then, List, if◌then◌else◌}
 use Rattle.std.specs.List.{list_any}
 use Rattle.std.specs.Option.{option_map_or, option_or}
 use Rattle.nf_base.specs.Naming.{is_forbidden}
 use Rattle.nf_base.specs.declared.rows.NodeRow.{NodeRow}
 use Rattle.nf_defs.specs.Access.{Access}
-use Rattle.nf_defs.specs.Tree.{is_folder, is_root}
+use Rattle.nf_defs.specs.Tree.{is_folder, is_root, is_under, parent_of}
 use Rattle.nf_defs.specs.declared.Found.{Found}
 use Rattle.nf_defs.specs.declared.Found.TheVariants.{At, Free, Missing}
 use Rattle.nf_words.specs.Calls.{Call, paths_of, places_of}
 use Rattle.nf_words.specs.declared.request.Places.{Places}
+use Rattle.nf_words.specs.declared.request.Transfer.{Transfer}
 use Rattle.nf_words.specs.declared.request.Wanted.{Wanted}
-use Rattle.nf_words.specs.declared.request.Wanted.TheVariants.{Get, Put, Mkcol, Delete}
+use Rattle.nf_words.specs.declared.request.Wanted.TheVariants.{Get, Put, Mkcol, Delete, Move, Copy}
 use Rattle.nf_words.specs.declared.answer.Denial.{Denial}
 use Rattle.nf_words.specs.declared.answer.Denial.TheVariants as denial
+use Rattle.nf_words.specs.declared.answer.TargetFault.{TargetFault}
 use Rattle.nf_words.specs.declared.answer.TargetFault.TheVariants as target
 
 -- a name of the path is `.htaccess`
@@ -60,35 +62,81 @@ node_at place = option_and_then node_found place
 abbrev pub is_there : (ℕ → Bool) → Option Found → Bool
 is_there test place = option_map_or test (node_at place) false
 
--- a listing isn't built yet
-abbrev pub unbuilt : List NodeRow → Wanted → Places → Option Denial
-unbuilt rows (Get spot) places = if is_there (is_folder rows) places.source then Some denial.NotBuilt else None
-unbuilt rows (Put spot length) places = None
-unbuilt rows (Mkcol spot) places = None
-unbuilt rows (Delete spot) places = None
-
--- `not-built`: a GET of a folder
-unfoldable pub built_rule : Access → Call → Option Denial
-built_rule access call = unbuilt call.state.tables.nodes call.request.wanted (places_of call)
-
 -- something is where a folder is to be made, or a folder where a file is to be stored
 abbrev pub taken : List NodeRow → Wanted → Places → Option Denial
 taken rows (Get spot) places = None
 taken rows (Put spot length) places = if is_there (is_folder rows) places.target then Some denial.Exists else None
 taken rows (Mkcol spot) places = if is_some (node_at places.target) then Some denial.Exists else None
 taken rows (Delete spot) places = None
+taken rows (Move source target overwrite) places = None
+taken rows (Copy source target overwrite) places = None
 
 -- `exists`
 unfoldable pub exists_rule : Access → Call → Option Denial
 exists_rule access call = taken call.state.tables.nodes call.request.wanted (places_of call)
 
+-- ---- what is moved or copied, and where to
+
+-- the folder of what is put at a place
+abbrev pub folder_at : List NodeRow → Found → Option ℕ
+folder_at rows (At node) = parent_of rows node
+folder_at rows (Free folder) = Some folder
+folder_at rows (Missing depth) = None
+
+-- from a node to a place that is in a folder
+abbrev pub transfer_to : List NodeRow → ℕ → Found → Option Transfer
+transfer_to rows node place =
+    option_map (λ folder. record { node = node; folder = folder; replaced = node_found place }) (folder_at rows place)
+
+abbrev pub transfer_of : List NodeRow → Places → Option Transfer
+transfer_of rows places =
+    option_and_then (λ node. option_and_then (transfer_to rows node) places.target) (node_at places.source)
+
+-- what is there and has to go is the node itself
+abbrev pub is_same : Transfer → Bool
+is_same transfer = option_map_or (λ node. node == transfer.node) transfer.replaced false
+
+-- the folder is under the node, or the node under what has to go
+abbrev pub is_inside : List NodeRow → Transfer → Bool
+is_inside rows transfer =
+    is_under rows transfer.folder transfer.node
+    || option_map_or (λ node. is_under rows transfer.node node) transfer.replaced false
+
+abbrev pub misplaced : List NodeRow → Transfer → Option TargetFault
+misplaced rows transfer = if is_same transfer then Some target.Same else if is_inside rows transfer then Some target.Inside else None
+
+-- what may not be done between two places: the first of root, same and inside. What is there but in no folder is a root
+abbrev pub unfit_between : List NodeRow → Places → Option TargetFault
+unfit_between rows places =
+    if is_there (is_root rows) places.source then Some target.Root
+    else option_map_or (misplaced rows) (transfer_of rows places) (Some target.Root)
+
 -- what the act may not be done to
-abbrev pub unfit : List NodeRow → Wanted → Places → Option Denial
+abbrev pub unfit : List NodeRow → Wanted → Places → Option TargetFault
 unfit rows (Get spot) places = None
 unfit rows (Put spot length) places = None
 unfit rows (Mkcol spot) places = None
-unfit rows (Delete spot) places = if is_there (is_root rows) places.source then Some (denial.BadTarget target.Root) else None
+unfit rows (Delete spot) places = if is_there (is_root rows) places.source then Some target.Root else None
+unfit rows (Move source target overwrite) places = unfit_between rows places
+unfit rows (Copy source target overwrite) places = unfit_between rows places
 
--- `bad-target`: a root is to be removed
+-- `bad-target`
 unfoldable pub target_rule : Access → Call → Option Denial
-target_rule access call = unfit call.state.tables.nodes call.request.wanted (places_of call)
+target_rule access call =
+    option_map denial.BadTarget (unfit call.state.tables.nodes call.request.wanted (places_of call))
+
+-- something is at the target and isn't to be replaced
+abbrev pub is_kept : Bool → Places → Bool
+is_kept overwrite places = not overwrite && is_some (node_at places.target)
+
+abbrev pub unreplaced : Wanted → Places → Option Denial
+unreplaced (Get spot) places = None
+unreplaced (Put spot length) places = None
+unreplaced (Mkcol spot) places = None
+unreplaced (Delete spot) places = None
+unreplaced (Move source target overwrite) places = if is_kept overwrite places then Some denial.Overwrite else None
+unreplaced (Copy source target overwrite) places = if is_kept overwrite places then Some denial.Overwrite else None
+
+-- `overwrite`
+unfoldable pub overwrite_rule : Access → Call → Option Denial
+overwrite_rule access call = unreplaced call.request.wanted (places_of call)

@@ -4,7 +4,7 @@ use Rattle.std.specs.Option.{option_or}
 use Rattle.nf_defs.specs.Access.{Access}
 use Rattle.nf_words.specs.Calls.{Call}
 use Rattle.nf_words.specs.Callers.{token_rule, not_you_rule}
-use Rattle.nf_words.specs.Places.{forbidden_rule, place_rule, built_rule, exists_rule, target_rule}
+use Rattle.nf_words.specs.Places.{forbidden_rule, place_rule, exists_rule, target_rule, overwrite_rule}
 use Rattle.nf_words.specs.Limits.{limit_rule}
 use Rattle.nf_words.specs.declared.answer.Denial.{Denial}
 
@@ -19,9 +19,9 @@ rules =
     ∷ not_you_rule
     ∷ forbidden_rule
     ∷ place_rule
-    ∷ built_rule
     ∷ exists_rule
     ∷ target_rule
+    ∷ overwrite_rule
     ∷ limit_rule
     ∷ []
 

@@ -3,6 +3,7 @@
 ghost use Rattle.std.specs.Prelude.{◌≡◌};
 ghost use Rattle.nf_words.specs.Limits.{count_of};
 
+use crate::{Listing, Route, Transfer};
 use nf_base::{BlobId, Content, Digest, Name, NameFault, NodeId, NodeRow};
 use nf_defs::Seeker;
 use std::marker::Model;
@@ -12,8 +13,10 @@ use std::marker::Model;
 pub enum Denial {
     /// 400: the bytes are no message, or end inside one.
     BadMessage,
-    /// 400: a name in the target is none.
+    /// 400: a name in the target or the destination is none.
     BadName(NameFault),
+    /// 400: a field that the request goes by can't be read, or isn't there.
+    BadParameter(Parameter),
     /// 401: the caller shows no token that is known.
     Token,
     /// 403: the user in the path isn't the caller.
@@ -22,12 +25,16 @@ pub enum Denial {
     ForbiddenName,
     /// 403: that can't be done to what the path leads to.
     BadTarget(TargetFault),
-    /// 404: there is no such file or folder.
+    /// 404: there is no such file or folder, or no such route.
     NotFound,
+    /// 405: the route doesn't have the method.
+    Method(Route),
     /// 405: what is to be made is there, or a file is to be stored where a folder is.
     Exists,
     /// 409: the folder of what is to be made isn't there.
     NoParent,
+    /// 412: something is at the target that isn't to be replaced.
+    Overwrite,
     /// 413: the body is over 16,777,216 bytes.
     TooLarge,
     /// 415: the request takes no body.
@@ -50,11 +57,23 @@ pub enum Denial {
     Limit(Limit),
 }
 
+/// A field that a request goes by.
+#[derive(Clone, Copy, PartialEq, Eq)]
+pub enum Parameter {
+    Destination,
+    Overwrite,
+    Depth,
+}
+
 /// Why a target can't be acted upon.
 #[derive(Clone, Copy, PartialEq, Eq)]
 pub enum TargetFault {
     /// It is a root.
     Root,
+    /// What is moved or copied is there already.
+    Same,
+    /// It is inside what is moved or copied, or that is inside it.
+    Inside,
 }
 
 /// A blob that isn't what a row says of it.
@@ -131,35 +150,44 @@ pub enum Reply {
     Closed,
     /// The Begin of a request in two steps.
     Granted(Goal),
+    /// What is in a folder.
+    Listing(Listing),
 }
 
 pub type Answer = Result<Reply, Denial>;
 
-/// Nodes by their numbers.
+/// Rows of nodes.
 #[derive(Drop)]
-pub struct NodeIds {
-    ids: Vec<NodeId>,
+pub struct NodeRows {
+    rows: Vec<NodeRow>,
 }
 
-impl Model for NodeIds {
-    ghost use Rattle.std.specs.Prelude.{List, ℕ};
+impl Model for NodeRows {
+    ghost use Rattle.std.specs.Prelude.{List};
+    ghost use Rattle.nf_base.specs.declared.rows.NodeRow.{NodeRow};
 
-    ghost Value = { List ℕ };
+    ghost Value = { List NodeRow };
 
-    ghost view = { λ nodes. nodes.ids.items };
+    ghost view = { λ nodes. nodes.rows.items };
 }
 
-impl NodeIds {
-    pub fn new(ids: Vec<NodeId>) -> Self
-        ensures { result ≡ ids.items }
+impl NodeRows {
+    pub fn new(rows: Vec<NodeRow>) -> Self
+        ensures { result ≡ rows.items }
     {
-        NodeIds { ids }
+        NodeRows { rows }
     }
 
-    pub fn ids(&self) -> &[NodeId]
+    pub fn rows(&self) -> &[NodeRow]
         ensures { result.now ≡ self.now }
     {
-        &self.ids
+        &self.rows
+    }
+
+    pub fn into_rows(self) -> Vec<NodeRow>
+        ensures { result.items ≡ self }
+    {
+        self.rows
     }
 }
 
@@ -171,6 +199,8 @@ pub enum Allowed {
         node: NodeId,
         content: Content,
     },
+    /// GET of a folder.
+    List(Listing),
     /// PUT, at its Begin: the seat is given a ticket to store a body of that many bytes.
     Put {
         seeker: Seeker,
@@ -190,8 +220,18 @@ pub enum Allowed {
     },
     /// MKCOL: a folder is made, with the next number.
     Mkcol(NodeRow),
-    /// DELETE: these nodes are removed for good.
-    Delete(NodeIds),
+    /// DELETE: the node is removed for good, with all under it.
+    Delete(NodeId),
+    /// MOVE: the node is in the folder, under that name.
+    Move {
+        transfer: Transfer,
+        name: Name,
+    },
+    /// COPY: these nodes are made, each after the folder that it is in, with the next numbers.
+    Copy {
+        rows: NodeRows,
+        replaced: Option<NodeId>,
+    },
     /// The End of a request that stores nothing.
     Close,
 }

@@ -5,14 +5,19 @@
 mod answer;
 mod history;
 mod laws;
+mod listing;
 mod request;
+mod route;
 
 pub use answer::{
-    Allowed, Answer, Damage, Denial, Goal, Limit, LockKey, Measure, NodeIds, Reply, TargetFault,
+    Allowed, Answer, Damage, Denial, Goal, Limit, LockKey, Measure, NodeRows, Parameter, Reply,
+    TargetFault,
 };
 pub use history::{Entry, Event, Mark, Outcome, Ticket};
 pub use laws::{
     ends_free, grants_ticket, marks_answer, others_keep, refusals_keep, rules_in_order,
     seats_differ,
 };
-pub use request::{Caller, Places, Request, Spot, Wanted, Words};
+pub use listing::{Listing, ListingLine};
+pub use request::{Caller, Places, Request, Spot, Transfer, Wanted, Words};
+pub use route::Route;

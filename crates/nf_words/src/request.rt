@@ -1,6 +1,6 @@
 //! Requests.
 
-use nf_base::{Digest, Name, Path};
+use nf_base::{Digest, Name, NodeId, Path};
 use nf_defs::Found;
 
 /// Who asks.
@@ -25,11 +25,26 @@ pub enum Wanted {
     /// What is there.
     Get(Spot),
     /// That a body of that many bytes is stored there.
-    Put { spot: Spot, length: u64 },
+    Put {
+        spot: Spot,
+        length: u64,
+    },
     /// A new folder there.
     Mkcol(Spot),
     /// That what is there, and all under it, is removed.
     Delete(Spot),
+    /// That what is at the source, with all under it, is at the target. `overwrite` lets it take the place of what is there.
+    Move {
+        source: Spot,
+        target: Spot,
+        overwrite: bool,
+    },
+    /// That a copy of it is.
+    Copy {
+        source: Spot,
+        target: Spot,
+        overwrite: bool,
+    },
 }
 
 #[derive(Drop)]
@@ -50,4 +65,14 @@ pub struct Words {
 pub struct Places {
     pub source: Option<Found>,
     pub target: Option<Found>,
+}
+
+/// What is moved or copied, and where to.
+#[derive(Clone, Copy)]
+pub struct Transfer {
+    pub node: NodeId,
+    /// The folder that it is put into.
+    pub folder: NodeId,
+    /// The node that is there and has to go.
+    pub replaced: Option<NodeId>,
 }

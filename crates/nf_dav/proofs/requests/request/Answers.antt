@@ -1,7 +1,11 @@
-use Rattle.nf_dav.proofs.Wants.{may_want}
+use Rattle.std.proofs.Common.{◌∙◌, Some, ap, sym}
+use Rattle.nf_routes.specs.Mounts.{route_of}
+use Rattle.nf_dav.proofs.Asked.{files_only, may_want}
 use Rattle.nf_dav.proofs.requests.request.Goals as goal
 
 pub returns-clause-may_want : goal.returns-clause-may_want
 returns-clause-may_want c =
-    may_want c.caller-caller.result c.in-Some.method c.length-2.result c.in_ok-spot.spot c.wanted.result c.length-2.ensures.limit
-    c.in_ok-spot.ensures.user c.wanted.ensures
+    may_want c.args.message.now c.in-Some-method.method c.files_request.result c.files_request.ensures.short
+    (ap route_of (sym c.target.ensures) ∙ sym c.in_ok-route.ensures ∙ c.in-Some.is
+    ∙ ap Some (files_only c.in-Some.route (sym c.is_files.ensures ∙ c.if-not-is_files.false)))
+    c.files_request.ensures.gives

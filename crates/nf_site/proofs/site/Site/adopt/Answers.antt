@@ -6,7 +6,7 @@ use Rattle.nf_site.specs.PlanView.{decision_in}
 use Rattle.nf_site.specs.Plans.{IsReady, Planned}
 use Rattle.nf_site.specs.declared.plan.Deed.{Deed}
 use Rattle.nf_site.specs.declared.site.Site.TheInside.{Inside}
-use Rattle.nf_site.proofs.Steps.{adopted, bears_plan}
+use Rattle.nf_site.proofs.Steps.{adopted, bears_plan, fits_plan, given_held}
 use Rattle.nf_site.proofs.site.Site.adopt.Goals as goal
 use Rattle.nf_site.proofs.site.Site.adopt.Goals.{in-Ok, in-Err}
 
@@ -15,6 +15,15 @@ change-requires-clause-bears c =
     bears_plan c.self.inside c.args.self.now c.plan.inside c.in-Ok.deed.act c.self.view_is c.self.invariant
     (subst (λ (p : Planned). IsReady c.args.self.now p) (sym c.plan.view_is) c.requires)
     (ap decision_in c.in-Ok.is)
+
+pub change-requires-clause-fits : goal.change-requires-clause-fits
+change-requires-clause-fits c =
+    fits_plan c.self.inside c.args.self.now c.plan.inside c.in-Ok.deed.act c.self.view_is
+    (subst (λ (p : Planned). IsReady c.args.self.now p) (sym c.plan.view_is) c.requires)
+    (ap decision_in c.in-Ok.is)
+
+pub change-requires-clause-given : goal.change-requires-clause-given
+change-requires-clause-given c = given_held c.self.inside c.self.invariant
 
 pub invariant_of-self : goal.invariant_of-self
 invariant_of-self c =

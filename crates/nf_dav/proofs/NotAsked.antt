@@ -1,0 +1,105 @@
+-- The refusals of a request that isn't asked.
+use Rattle.std.proofs.Common.{◌≡◌, ◌==◌, List, ℕ, Bool, true, false, not, if◌then◌else◌, Option, None, Some, Result, Ok, Err, codes, option_map, refl, subst}
+use Rattle.std.specs.Prelude.{IfSome, is_some}
+use Rattle.std.specs.Option.{option_map_or, option_or}
+use Rattle.nf_base.specs.declared.name.NameFault.{NameFault}
+use Rattle.nf_http.specs.Head.{Head, length_of}
+use Rattle.nf_routes.specs.Methods.{method_of, takes}
+use Rattle.nf_routes.specs.Mounts.{route_of}
+use Rattle.nf_routes.specs.declared.methods.Method.{Method}
+use Rattle.nf_routes.specs.declared.methods.Method.TheVariants as method
+use Rattle.nf_words.specs.declared.answer.Denial.{Denial}
+use Rattle.nf_words.specs.declared.answer.Denial.TheVariants as denial
+use Rattle.nf_words.specs.declared.answer.Parameter.{Parameter}
+use Rattle.nf_words.specs.declared.answer.Parameter.TheVariants as parameter
+use Rattle.nf_words.specs.declared.request.Request.{Request}
+use Rattle.nf_words.specs.declared.route.Route.{Route}
+use Rattle.nf_dav.specs.Asked as dav
+use Rattle.nf_dav.specs.Asked.{request_of}
+
+-- what refuses a request before the site is asked
+abbrev pub is_of_request : Denial → Bool
+is_of_request denial.NotFound = true
+is_of_request (denial.Method r) = true
+is_of_request denial.NotBuilt = true
+is_of_request denial.Body = true
+is_of_request (denial.BadParameter p) = true
+is_of_request (denial.BadName fault) = true
+is_of_request other = false
+
+abbrev AreOfRequest : Option Denial → Type 0
+AreOfRequest refusal = IfSome refusal (λ d. is_of_request d ≡ true)
+
+abbrev IsOfRequest : Result Request Denial → Type 0
+IsOfRequest (Ok request) = Unit {0}
+IsOfRequest (Err refusal) = is_of_request refusal ≡ true
+
+-- ---- refusals that may be there
+
+or_else : (first more : Option Denial) → AreOfRequest first → AreOfRequest more → AreOfRequest (option_or first more)
+or_else None more one other = other
+or_else (Some refusal) more one other = one
+
+unless : (test : Bool) (refusal : Denial) → is_of_request refusal ≡ true → AreOfRequest (if test then None else Some refusal)
+unless true refusal is = tt
+unless false refusal is = is
+
+unread_field : (p : Parameter) (test : List ℕ → Bool) (value : Option (List ℕ)) → AreOfRequest (dav.unread p test value)
+unread_field p test None = tt
+unread_field p test (Some value) = unless (test value) (denial.BadParameter p) refl
+
+transfer : (head : Head) → AreOfRequest (dav.transfer_refusal head)
+transfer head =
+    or_else _ _ (unless (is_some (dav.destination_of head)) (denial.BadParameter parameter.Destination) refl)
+    (or_else _ _ (unread_field parameter.Overwrite dav.is_overwrite (dav.field (codes "Overwrite") head))
+    (unread_field parameter.Depth dav.is_infinite (dav.field (codes "Depth") head)))
+
+parameters : (m : Method) (head : Head) → AreOfRequest (dav.parameter_refusal m head)
+parameters method.Get head = tt
+parameters method.Put head = tt
+parameters method.Mkcol head = tt
+parameters method.Delete head = unread_field parameter.Depth dav.is_infinite (dav.field (codes "Depth") head)
+parameters method.Move head = transfer head
+parameters method.Copy head = transfer head
+parameters method.Post head = tt
+
+body : (m : Method) (n : ℕ) → AreOfRequest (dav.body_refusal m n)
+body method.Get n = tt
+body method.Put n = tt
+body method.Mkcol n = unless (n == 0) denial.Body refl
+body method.Delete n = tt
+body method.Move n = tt
+body method.Copy n = tt
+body method.Post n = tt
+
+names : (fault : Option NameFault) → AreOfRequest (option_map denial.BadName fault)
+names None = tt
+names (Some fault) = refl
+
+-- ---- requests
+
+checked : (test : Bool) (one other : Result Request Denial) → IsOfRequest one → IsOfRequest other → IsOfRequest (if test then one else other)
+checked true one other here there = here
+checked false one other here there = there
+
+unless_any : (refusal : Option Denial) (request : Request) → AreOfRequest refusal → IsOfRequest (dav.unless_refused refusal request)
+unless_any None request is = tt
+unless_any (Some refusal) request is = is
+
+on_files : (m : Method) (head : Head) → IsOfRequest (dav.files_request m head)
+on_files m head =
+    unless_any (dav.files_refusal m head) _ (or_else _ _ (body m (length_of head)) (or_else _ _ (parameters m head) (names _)))
+
+by : (r : Route) (m : Option Method) (head : Head)
+    → IsOfRequest (option_map_or (λ m. dav.routed r m head) m (Err (denial.Method r)))
+by r None head = refl
+by r (Some m) head = checked (not (takes r m)) _ _ refl (checked (dav.is_files r) _ _ (on_files m head) refl)
+
+-- no other refusal comes before the site is asked
+pub unasked_refusal : (head : Head) (refusal : Denial) → request_of head ≡ Err refusal → is_of_request refusal ≡ true
+unfolding request_of
+unasked_refusal head refusal is = subst IsOfRequest is (on (route_of head.target))
+  where
+    on : (r : Option Route) → IsOfRequest (option_map_or (λ r. dav.on_route r (method_of head.method) head) r (Err denial.NotFound))
+    on None = refl
+    on (Some r) = checked (dav.is_stray r (method_of head.method)) _ _ refl (by r (method_of head.method) head)

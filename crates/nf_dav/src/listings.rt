@@ -1,0 +1,76 @@
+//! The JSON of listings (RFC 8259).
+
+ghost use Rattle.std.specs.Prelude.{◌≡◌, IfOk, map};
+ghost use Rattle.std.specs.String.{string_bytes};
+ghost use Rattle.serde_json.specs.View.{view};
+ghost use Rattle.nf_dav.specs.Reply.{kind_word as word_of_kind, line_object, listing_body, listing_object};
+
+use nf_base::{Name, NodeKind};
+use nf_words::{Listing, ListingLine};
+use serde_json::{Value, json};
+use std::alloc::{AllocError, Global};
+
+/// The text of what is in a folder.
+#[tactic(auto, using(crate::proofs::Floats::listing_has_no_float))]
+pub fn listing_text(alloc: Global, listing: &Listing) -> Result<String, AllocError>
+    ensures { IfOk result (λ text. string_bytes text ≡ listing_body listing.now) }
+{
+    listing_value(alloc, listing)?.to_string(alloc)
+}
+
+fn listing_value(alloc: Global, listing: &Listing) -> Result<Value, AllocError>
+    ensures { IfOk result (λ value. view value ≡ listing_object listing.now) }
+{
+    let entries = line_values(alloc, listing.lines())?;
+    json!(in alloc; {"entries": entries})
+}
+
+fn line_values(alloc: Global, lines: &[ListingLine]) -> Result<Vec<Value>, AllocError>
+    ensures { IfOk result (λ values. map view values.items ≡ map line_object lines.now) }
+{
+    let mut values = Vec::with_capacity(alloc, lines.len())?;
+    for line in lines {
+        values.push(line_value(alloc, line)?)?;
+    }
+    Ok(values)
+}
+
+fn line_value(alloc: Global, line: &ListingLine) -> Result<Value, AllocError>
+    ensures { IfOk result (λ value. view value ≡ line_object line.now) }
+{
+    let changed = line.changed.seconds();
+    let id = line.id.number();
+    let kind = kind_word(line.kind);
+    let name = text_of(&line.name);
+    let owner = text_of(&line.owner);
+    let permissions = line.permissions.bits();
+    let size = line.size;
+    json!(in alloc; {
+        "changed": changed,
+        "id": id,
+        "kind": kind,
+        "name": name,
+        "owner": owner,
+        "permissions": permissions,
+        "size": size,
+    })
+}
+
+fn kind_word(kind: NodeKind) -> &'static str
+    ensures { result.now ≡ word_of_kind kind }
+{
+    match kind {
+        NodeKind::Folder => "folder",
+        NodeKind::File => "file",
+    }
+}
+
+// A name is UTF-8.
+fn text_of(name: &Name) -> &str
+    ensures { result.now ≡ name.now }
+{
+    match std::str::from_utf8(name.as_bytes()) {
+        Ok(text) => text,
+        Err(_) => unreachable!(),
+    }
+}

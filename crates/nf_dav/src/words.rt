@@ -1,0 +1,130 @@
+//! The words of denials, and the numbers of their status.
+
+ghost use Rattle.std.specs.Prelude.{◌≡◌};
+ghost use Rattle.nf_dav.specs.Reply.{status_of, code_of, reason_of, fault_word, cause_word, limit_word, field_word};
+
+use nf_base::NameFault;
+use nf_words::{Denial, Limit, Parameter, TargetFault};
+
+/// The status of a denial and its phrase.
+pub fn status(denial: &Denial) -> &'static str
+    ensures { result.now ≡ status_of denial.now }
+{
+    match denial {
+        Denial::BadMessage | Denial::BadName(_) | Denial::BadParameter(_) => "400 Bad Request",
+        Denial::Token => "401 Unauthorized",
+        Denial::NotYou | Denial::ForbiddenName | Denial::BadTarget(_) => "403 Forbidden",
+        Denial::NotFound => "404 Not Found",
+        Denial::Method(_) | Denial::Exists => "405 Method Not Allowed",
+        Denial::NoParent => "409 Conflict",
+        Denial::Overwrite => "412 Precondition Failed",
+        Denial::TooLarge => "413 Payload Too Large",
+        Denial::Body => "415 Unsupported Media Type",
+        Denial::Head => "431 Request Header Fields Too Large",
+        Denial::Store | Denial::Damaged(_) | Denial::RunFull => "500 Internal Server Error",
+        Denial::Coding | Denial::NotBuilt => "501 Not Implemented",
+        Denial::Memory => "503 Service Unavailable",
+        Denial::Limit(_) => "507 Insufficient Storage",
+    }
+}
+
+/// The number of its status.
+pub fn code(denial: &Denial) -> u16
+    ensures { result ≡ code_of denial.now }
+{
+    match denial {
+        Denial::BadMessage | Denial::BadName(_) | Denial::BadParameter(_) => 400,
+        Denial::Token => 401,
+        Denial::NotYou | Denial::ForbiddenName | Denial::BadTarget(_) => 403,
+        Denial::NotFound => 404,
+        Denial::Method(_) | Denial::Exists => 405,
+        Denial::NoParent => 409,
+        Denial::Overwrite => 412,
+        Denial::TooLarge => 413,
+        Denial::Body => 415,
+        Denial::Head => 431,
+        Denial::Store | Denial::Damaged(_) | Denial::RunFull => 500,
+        Denial::Coding | Denial::NotBuilt => 501,
+        Denial::Memory => 503,
+        Denial::Limit(_) => 507,
+    }
+}
+
+/// Its reason.
+pub fn reason(denial: &Denial) -> &'static str
+    ensures { result.now ≡ reason_of denial.now }
+{
+    match denial {
+        Denial::BadMessage => "bad-message",
+        Denial::BadName(_) => "bad-name",
+        Denial::BadParameter(_) => "bad-parameter",
+        Denial::Token => "token",
+        Denial::NotYou => "not-you",
+        Denial::ForbiddenName => "forbidden-name",
+        Denial::BadTarget(_) => "bad-target",
+        Denial::NotFound => "not-found",
+        Denial::Method(_) => "method",
+        Denial::Exists => "exists",
+        Denial::NoParent => "no-parent",
+        Denial::Overwrite => "overwrite",
+        Denial::TooLarge => "too-large",
+        Denial::Body => "body",
+        Denial::Head => "head",
+        Denial::Store => "store",
+        Denial::Damaged(_) => "damaged",
+        Denial::RunFull => "run-full",
+        Denial::Coding => "coding",
+        Denial::NotBuilt => "not-built",
+        Denial::Memory => "memory",
+        Denial::Limit(_) => "limit",
+    }
+}
+
+/// The word of a bad name's fault.
+pub fn fault_word(fault: NameFault) -> &'static str
+    ensures { result.now ≡ fault_word fault }
+{
+    match fault {
+        NameFault::Empty => "empty",
+        NameFault::Long => "long",
+        NameFault::NotUtf8 => "not-utf8",
+        NameFault::Slash => "slash",
+        NameFault::Zero => "zero",
+        NameFault::Dots => "dots",
+        NameFault::Deep => "deep",
+        NameFault::Memory => "memory",
+    }
+}
+
+/// The word of a field that can't be read.
+pub fn field_word(field: Parameter) -> &'static str
+    ensures { result.now ≡ field_word field }
+{
+    match field {
+        Parameter::Destination => "destination",
+        Parameter::Overwrite => "overwrite",
+        Parameter::Depth => "depth",
+    }
+}
+
+/// The word of what makes a target unfit.
+pub fn cause_word(cause: TargetFault) -> &'static str
+    ensures { result.now ≡ cause_word cause }
+{
+    match cause {
+        TargetFault::Root => "root",
+        TargetFault::Same => "same",
+        TargetFault::Inside => "inside",
+    }
+}
+
+/// The word of a limit.
+pub fn limit_word(limit: Limit) -> &'static str
+    ensures { result.now ≡ limit_word limit }
+{
+    match limit {
+        Limit::Nodes => "nodes",
+        Limit::Depth => "depth",
+        Limit::Pieces => "pieces",
+    }
+}

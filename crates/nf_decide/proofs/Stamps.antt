@@ -1,0 +1,44 @@
+-- Acts that change some row.
+use Rattle.std.proofs.Common.{ℕ, ◌≡◌, ◌≢◌, List, [], ◌∷◌, ◌++◌, map, Option, None, Some, IsSome, refl}
+use Rattle.nf_base.specs.declared.changes.Change.{Change}
+use Rattle.nf_base.specs.declared.changes.Change.TheVariants as change
+use Rattle.nf_base.specs.declared.rows.NodeRow.{NodeRow}
+use Rattle.nf_base.specs.declared.rows.Row.TheVariants as kinds
+use Rattle.nf_defs.specs.Tables.{Tables}
+use Rattle.nf_defs.specs.Tree.{children_of, node_row, walk_of, walk_within}
+use Rattle.std.specs.List.{flat_map}
+use Rattle.nf_tree.proofs.Walks.{walk_down}
+use Rattle.nf_words.specs.Changes.{cleared, dropped_for, dropped_under, stamped, transferred_row}
+use Rattle.nf_words.specs.declared.request.Transfer.{Transfer}
+
+pub stamped_some : (before after : Tables) (now : ℕ) (changes : List Change) → changes ≢ []
+    → stamped before after now changes ≡ record after { meta = record after.meta { last = now } }
+stamped_some before after now [] some = absurd (some refl)
+stamped_some before after now (change ∷ changes) some = refl
+
+-- a walk has its top, so a removal drops a node
+walk_top : (rows : List NodeRow) (top : ℕ) → walk_of rows top ≡ top ∷ flat_map (walk_within 63 rows) (children_of rows top)
+unfolding walk_of
+walk_top rows top = walk_down 63 64 rows top refl
+
+pub dropped_some : (rows : List NodeRow) (top : ℕ) (more : List Change) → dropped_under rows top ++ more ≢ []
+dropped_some rows top more none = let h = rw (walk_top rows top) at none in absurd (cc)
+
+-- what is put where nothing has to go, or where something has
+pub put_some : (nodes rows : List NodeRow) (replaced : Option ℕ) → (rows ≡ [] → replaced ≡ None → ⊥)
+    → dropped_for nodes replaced ++ map (λ row. change.Put (kinds.Node row)) rows ≢ []
+put_some nodes [] None some none = some refl refl
+put_some nodes (row ∷ rows) None some none = absurd (cc)
+put_some nodes rows (Some top) some none = dropped_some nodes top (map (λ row. change.Put (kinds.Node row)) rows) none
+
+-- so does a move of what is there
+pub transferred_some : (nodes : List NodeRow) (transfer : Transfer) (name : List ℕ) (replaced : Option ℕ)
+    → IsSome (node_row (cleared nodes replaced) transfer.node)
+    → dropped_for nodes replaced ++ transferred_row (node_row nodes transfer.node) transfer name ≢ []
+transferred_some nodes transfer name None there none = here (node_row nodes transfer.node) there none
+  where
+    here : (row : Option NodeRow) → IsSome row → transferred_row row transfer name ≡ [] → ⊥
+    here None there none = absurd (cc there)
+    here (Some row) there none = absurd (cc)
+transferred_some nodes transfer name (Some top) there none =
+    dropped_some nodes top (transferred_row (node_row nodes transfer.node) transfer name) none

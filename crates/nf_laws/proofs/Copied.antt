@@ -1,0 +1,397 @@
+-- The tables with copies more are sound.
+use Rattle.std.proofs.Common.{ℕ, zero, suc, ◌+◌, ◌==◌, ◌≡◌, ◌≢◌, ◌<◌, ◌≤◌, true, false, List, [], ◌∷◌, ◌++◌, Option, None, Some, get_or, length, map, refl, sym, ap, subst, ◌∙◌, arith, length-append}
+use Rattle.std.specs.Prelude.{is_some}
+use Rattle.std.specs.List.{All, AllPairs, slice_get, sum_by}
+use Rattle.std.specs.Option.{option_and_then, option_map_or, option_or}
+use Rattle.std.proofs.lemmas.Bool.{eqb-true, ne_eqb}
+use Rattle.std.proofs.lemmas.List.{get_or-append-add}
+use Rattle.std.proofs.lemmas.List.Elements.{All-append, All-weaker}
+use Rattle.std.proofs.lemmas.List.Folds.{find-append}
+use Rattle.std.proofs.lemmas.List.Kept.{AllPairs-cons}
+use Rattle.std.proofs.lemmas.List.Recursion.{max_bounds}
+use Rattle.std.proofs.lemmas.List.Sums.{sum_by-append, sum_by-cons}
+use Rattle.std.proofs.lemmas.Option.{get_or_from_slice_get, same_Some, slice_get-get_or, slice_get_within}
+use Rattle.nf_base.specs.declared.changes.Change.{Change}
+use Rattle.nf_base.specs.declared.changes.Change.TheVariants.{Put}
+use Rattle.nf_base.specs.declared.content.Piece.{Piece}
+use Rattle.nf_base.specs.declared.rows.NodeRow.{NodeRow}
+use Rattle.nf_base.specs.declared.rows.Place.{Place}
+use Rattle.nf_base.specs.declared.rows.Place.TheVariants.{Inside}
+use Rattle.nf_base.specs.declared.rows.Row.TheVariants as kinds
+use Rattle.nf_defs.specs.Tables.{Tables}
+use Rattle.nf_defs.specs.Tree.{child_of, climb, content_of, depth, folder_of, is_folder, is_folder_kind, node_row, owner_of, parent_of, piece_count, walk_of, walk_within}
+use Rattle.nf_defs.specs.declared.Found.TheVariants.{At}
+use Rattle.nf_words.proofs.Known.{KnownCopies, KnownTransfer}
+use Rattle.nf_words.specs.Changes.{changed, cleared, dropped_for, joined, stamped}
+use Rattle.nf_words.specs.Limits.{deepest, pieces_in}
+use Rattle.nf_words.specs.Sound.{AreApart, AreSound, HasRoot, IsNodeSound, IsPieceSound, IsPlaceSound, root_of_user}
+use Rattle.nf_words.specs.declared.answer.Allowed.TheVariants as allowed
+use Rattle.nf_words.specs.declared.request.Transfer.{Transfer}
+use Rattle.nf_laws.specs.Transfers.{IsCopyOf, Mirrors, is_replaced}
+use Rattle.nf_laws.proofs.Added.{new_apart}
+use Rattle.nf_laws.proofs.Climbs.{depth_is, node_row_each}
+use Rattle.nf_laws.proofs.Gone.{clearing_sound, climb_cleared, counts_cleared, folder_stays, free_cleared, row_cleared}
+use Rattle.nf_laws.proofs.Mirrored.{mirrored}
+use Rattle.nf_laws.proofs.Paths.{child_there, path_own}
+use Rattle.nf_laws.proofs.Rows.{AreKept, child_folder, climb_kept, finds_none, folder_kept, folder_there, found_is, node_kept, none_above, pieces_kept, root_kept, stamp}
+use Rattle.nf_laws.proofs.Upwards.{depth_up, rooted}
+use Rattle.nf_laws.proofs.Walked.{walks_take}
+
+-- ---- lists
+
+-- what each two of both lists have, and each of the one with each of the other
+AllPairs-append : {X : Type 0} (R : X → X → Type 0) (xs ys : List X) → AllPairs R xs → AllPairs R ys → All (λ x. All (R x) ys) xs
+    → AllPairs R (xs ++ ys)
+AllPairs-append R [] ys first second across = second
+AllPairs-append R (x ∷ xs) ys first second across =
+    AllPairs-cons R x (xs ++ ys)
+    (All-append (R x) xs ys (λ k d within. first 0 (suc k) d (omega arith) (omega arith)) (across 0 x (omega arith)))
+    (AllPairs-append R xs ys (λ i j d before within. first (suc i) (suc j) d (omega arith) (omega arith)) second
+    (λ k d within. across (suc k) d (omega arith)))
+
+-- where two lists have the same numbers in turn, they have one sum
+same_sum : {X Y : Type 0} (f : X → ℕ) (g : Y → ℕ) (xs : List X) (ys : List Y) → length xs ≡ length ys
+    → ((k : ℕ) (d : X) (e : Y) → k < length xs → f (get_or xs k d) ≡ g (get_or ys k e)) → sum_by f xs ≡ sum_by g ys
+same_sum f g [] [] long each = refl
+same_sum f g [] (y ∷ ys) long each = absurd (omega arith)
+same_sum f g (x ∷ xs) [] long each = absurd (omega arith)
+same_sum f g (x ∷ xs) (y ∷ ys) long each =
+    omega (
+      arith,
+      each 0 x y (omega arith),
+      sum_by-cons f x xs,
+      sum_by-cons g y ys,
+      same_sum f g xs ys (omega arith) (λ k d e within. each (suc k) d e (omega arith)),
+    )
+
+-- a choice whose second is none
+or_none : {X : Type 0} (o : Option X) → option_or o None ≡ o
+or_none None = refl
+or_none (Some x) = refl
+
+-- ---- nodes that are there
+
+row_sound : (t : Tables) (node : ℕ) (row : NodeRow) → AreSound t → node_row t.nodes node ≡ Some row → (row.id ≡ node) × IsNodeSound t row
+row_sound t node row sound there =
+    let h = found_is (IsNodeSound t) (λ row. row.id == node) t.nodes row sound.nodes there in (eqb-true row.id node h.0, h.1)
+
+-- so many folders up from a node as it is deep is its owner's root
+climbs_depth : (t : Tables) (node : ℕ) (row : NodeRow) → AreSound t → node_row t.nodes node ≡ Some row
+    → climb t.nodes (depth t.nodes node) node ≡ Some (root_of_user t row.owner)
+climbs_depth t node row sound there =
+    let h = rooted t node row sound there in
+    let root = root_of_user t row.owner in
+    let deep = depth_is h.steps t.nodes node root (none_above t row.owner sound) h.shallow h.climbs in
+    subst (λ (n : ℕ). climb t.nodes n node ≡ Some root) (sym deep) h.climbs
+
+-- no node of some is deeper than their deepest
+deepest_of : (rows : List NodeRow) (nodes : List ℕ) (k : ℕ) → k < length nodes → depth rows (get_or nodes k 0) ≤ deepest rows nodes
+deepest_of rows nodes k within = max_bounds (deepest rows) (depth rows) refl (λ node nodes. refl) nodes k 0 within
+
+-- a walk begins with its top
+walk_first : (rows : List NodeRow) (top : ℕ) → (get_or (walk_of rows top) 0 0 ≡ top) × (0 < length (walk_of rows top))
+unfolding walk_of walk_within
+walk_first rows top = (refl, omega arith)
+
+-- with more rows those before are kept
+pub kept_joined : (rows more : List NodeRow) → AreKept rows (rows ++ more)
+kept_joined rows more node old is = record {
+  row = old;
+  there = find-append (λ row. row.id == node) rows more ∙ ap (λ (o : Option NodeRow). option_or o (node_row more node)) is;
+  owner = refl;
+  place = refl;
+  name = refl;
+  kind = refl;
+}
+
+-- ---- copies
+
+module _ (t : Tables) (now : ℕ) (transfer : Transfer) (name : List ℕ) (rows : List NodeRow) (mirrors : Mirrors t now transfer name rows) where
+  copy_at : (k : ℕ) (d : NodeRow) → k < length rows → IsCopyOf t now transfer name k (get_or rows k d)
+  copy_at k d within = mirrors.each k (get_or rows k d) (slice_get-get_or rows k d within)
+
+  pub copies_owned : All (λ (copy : NodeRow). copy.owner ≡ owner_of t.nodes transfer.folder) rows
+  copies_owned k d within = (copy_at k d within).owner
+
+  pub copies_numbered : All (λ (copy : NodeRow). (t.meta.next_node ≤ copy.id) × (copy.id < t.meta.next_node + length rows)) rows
+  copies_numbered k d within = let copy = copy_at k d within in (omega (arith, copy.id), omega (arith, copy.id))
+
+  -- so a node whose number was given before is found as it was
+  pub old_joined : (others : List NodeRow) (node : ℕ) → node < t.meta.next_node → node_row (others ++ rows) node ≡ node_row others node
+  old_joined others node old =
+      let none : node_row rows node ≡ None =
+      finds_none (λ row. row.id == node) rows (λ k d within.
+      ne_eqb (get_or rows k d).id node (λ same. absurd (omega (arith, copies_numbered k d within)))) in
+      find-append (λ row. row.id == node) others rows ∙ ap (option_or (node_row others node)) none ∙ or_none (node_row others node)
+
+  copies_rise : AllPairs (λ (a b : NodeRow). a.id < b.id) rows
+  copies_rise i j d before within = omega (arith, (copy_at i d (omega arith)).id, (copy_at j d within).id)
+
+  -- they have as many pieces as what they are copies of
+  same_pieces : piece_count rows ≡ pieces_in t.nodes (walk_of t.nodes transfer.node)
+  same_pieces =
+      same_sum (λ row. length row.content) (λ node. length (content_of t.nodes node)) rows (walk_of t.nodes transfer.node) mirrors.all
+      (λ k d e within.
+      let copy = copy_at k d within in
+      ap (length {A = Piece}) (copy.content
+      ∙ sym (ap (λ (o : Option NodeRow). option_map_or (λ row. row.content) o []) copy.there)
+      ∙ ap (content_of t.nodes) (sym (get_or_from_slice_get (walk_of t.nodes transfer.node) k copy.node e copy.at_index))))
+
+  -- how deep the node of the k-th copy is
+  abbrev depth_at : ℕ → ℕ
+  depth_at k = depth t.nodes (get_or (walk_of t.nodes transfer.node) k 0)
+
+  -- a copy after the first is in one before it, which is a folder, and its node is one deeper than that one's
+  record IsInCopy (k : ℕ) (copy d : NodeRow) : Type 0 where
+    at : ℕ
+    before : at < k
+    place : copy.place ≡ Inside (t.meta.next_node + at)
+    folder : is_folder_kind (get_or rows at d).kind ≡ true
+    deeper : depth_at k ≡ suc (depth_at at)
+
+  module _ (sound : AreSound t) where
+    copy_in : (k : ℕ) (d : NodeRow) → suc k < length rows → IsInCopy (suc k) (get_or rows (suc k) d) d
+    copy_in k d within =
+        let copy = copy_at (suc k) d within in
+        let p = copy.placed.1 in
+        let above = copy_at p.1 d (omega (arith, p.4)) in
+        let walk = walk_of t.nodes transfer.node in
+        let same : above.node ≡ p.0 = same_Some above.node p.0 (sym above.at_index ∙ p.3) in
+        let row = folder_there t.nodes p.0 (child_folder t copy.of copy.of.place p.0 (row_sound t copy.node copy.of sound copy.there).1.place p.2) in
+        let is : above.of ≡ row.0 = same_Some above.of row.0 (sym above.there ∙ ap (node_row t.nodes) same ∙ row.1) in
+        let node : get_or walk (suc k) 0 ≡ copy.node = get_or_from_slice_get walk (suc k) copy.node 0 copy.at_index in
+        let folder : get_or walk p.1 0 ≡ p.0 = get_or_from_slice_get walk p.1 p.0 0 p.3 in
+        let up : parent_of t.nodes copy.node ≡ Some p.0 = ap (option_and_then (λ row. folder_of row.place)) copy.there ∙ ap folder_of p.2 in
+        record {
+          at = p.1;
+          before = p.4;
+          place = p.5;
+          folder = ap is_folder_kind (above.kind ∙ ap (λ (r : NodeRow). r.kind) is) ∙ row.2;
+          deeper = ap (depth t.nodes) node ∙ depth_up t copy.node p.0 sound up ∙ ap (λ (n : ℕ). suc (depth t.nodes n)) (sym folder);
+        }
+
+    -- where the copies are there, each climbs through those that it is in to the folder, and on as that does
+    copy_climbs : (others : List NodeRow) (root : ℕ) (d : NodeRow)
+        → ((k : ℕ) → k < length rows → node_row others (t.meta.next_node + k) ≡ Some (get_or rows k d))
+        → climb others (depth t.nodes transfer.folder) transfer.folder ≡ Some root
+        → (m k : ℕ) → k < m → k < length rows
+        → (steps : ℕ) × (steps + depth_at 0 ≡ depth_at k + 1 + depth t.nodes transfer.folder)
+        × (climb others steps (t.meta.next_node + k) ≡ Some root)
+    copy_climbs others root d there on zero k before within = absurd (omega arith)
+    copy_climbs others root d there on (suc m) zero before within =
+        let up : parent_of others (t.meta.next_node + 0) ≡ Some transfer.folder =
+        ap (option_and_then (λ row. folder_of row.place)) (there 0 within) ∙ ap folder_of (copy_at 0 d within).placed.0 in
+        (suc (depth t.nodes transfer.folder), omega arith, ap (option_and_then (climb others (depth t.nodes transfer.folder))) up ∙ on)
+    copy_climbs others root d there on (suc m) (suc k) before within =
+        let c = copy_in k d within in
+        let rest = copy_climbs others root d there on m c.at (omega (arith, c.before)) (omega (arith, c.before)) in
+        let up : parent_of others (t.meta.next_node + suc k) ≡ Some (t.meta.next_node + c.at) =
+        ap (option_and_then (λ row. folder_of row.place)) (there (suc k) within) ∙ ap folder_of c.place in
+        (suc rest.0, omega (arith, rest.1, c.deeper), ap (option_and_then (climb others rest.0)) up ∙ rest.2)
+
+-- ---- the tables with the copies
+
+module _ (t : Tables) (now : ℕ) (who : Option ℕ) (transfer : Transfer) (name : List ℕ) (rows : List NodeRow)
+    (mirrors : Mirrors t now transfer name rows) (sound : AreSound t) (later : t.meta.last ≤ now) (known : KnownTransfer t who transfer name) where
+  abbrev left : Tables
+  left = record t { nodes = cleared t.nodes transfer.replaced }
+
+  abbrev made : Tables
+  made = stamp (joined t rows transfer.replaced) now
+
+  -- the transfer's folder hasn't to go
+  stays : is_replaced t.nodes transfer.replaced transfer.folder ≡ false
+  stays = folder_stays t transfer.replaced transfer.folder name sound known.there
+
+  left_sound : AreSound left
+  left_sound = clearing_sound t who transfer name sound known
+
+  copy : (k : ℕ) (d : NodeRow) → k < length rows → IsCopyOf t now transfer name k (get_or rows k d)
+  copy = copy_at t now transfer name rows mirrors
+
+  -- the copies come after all that is left
+  rising : AllPairs (λ (a b : NodeRow). a.id < b.id) made.nodes
+  rising =
+      AllPairs-append (λ (a b : NodeRow). a.id < b.id) left.nodes rows left_sound.rising (copies_rise t now transfer name rows mirrors)
+      (λ i d within k e also. omega (arith, (left_sound.nodes i d within).given, (copy k e also).id))
+
+  copy_there : (d : NodeRow) (k : ℕ) → k < length rows → node_row made.nodes (t.meta.next_node + k) ≡ Some (get_or rows k d)
+  copy_there d k within =
+      let same = get_or-append-add left.nodes rows k d in
+      let there = node_row_each made.nodes rising (length left.nodes + k) d (omega (arith, length-append left.nodes rows)) in
+      ap (node_row made.nodes) (sym (copy k d within).id)
+      ∙ subst (λ (row : NodeRow). node_row made.nodes row.id ≡ Some row) same there
+
+  -- each is found by its number
+  pub copies_there : (k : ℕ) (row : NodeRow) → slice_get rows k ≡ Some row → node_row (cleared t.nodes transfer.replaced ++ rows) row.id ≡ Some row
+  copies_there k row is =
+      let within = slice_get_within rows k row is in
+      let same = get_or_from_slice_get rows k row row is in
+      subst (λ (copy : NodeRow). node_row (cleared t.nodes transfer.replaced ++ rows) copy.id ≡ Some copy) same
+      (ap (node_row made.nodes) (copy k row within).id ∙ copy_there row k within)
+
+  -- the folder is there as before
+  folder_row : (row : NodeRow) × (node_row t.nodes transfer.folder ≡ Some row) × (is_folder_kind row.kind ≡ true)
+  folder_row = folder_there t.nodes transfer.folder known.in_folder
+
+  folder_made : (is_folder made.nodes transfer.folder ≡ true) × (owner_of made.nodes transfer.folder ≡ owner_of t.nodes transfer.folder)
+  folder_made =
+      let same = row_cleared t.nodes transfer.replaced transfer.folder stays in
+      let h = folder_kept left.nodes made.nodes transfer.folder (kept_joined left.nodes rows)
+      (ap (λ (o : Option NodeRow). option_map_or (λ row. is_folder_kind row.kind) o false) same ∙ known.in_folder) in
+      (h.0, h.1 ∙ ap (λ (o : Option NodeRow). option_map_or (λ row. row.owner) o 0) same)
+
+  folder_given : transfer.folder < t.meta.next_node
+  folder_given = let h = row_sound t transfer.folder folder_row.0 sound folder_row.1 in omega (arith, h.0, h.1.given)
+
+  -- and climbs to the owner's root
+  folder_climbs : climb made.nodes (depth t.nodes transfer.folder) transfer.folder ≡ Some (root_of_user t (owner_of t.nodes transfer.folder))
+  folder_climbs =
+      climb_kept (depth t.nodes transfer.folder) left.nodes made.nodes transfer.folder _ (kept_joined left.nodes rows)
+      (climb_cleared t transfer.replaced (depth t.nodes transfer.folder) transfer.folder sound stays
+      ∙ climbs_depth t transfer.folder folder_row.0 sound folder_row.1
+      ∙ ap (λ (o : Option NodeRow). Some (root_of_user t (option_map_or (λ row. row.owner) o 0))) (sym folder_row.1))
+
+  -- ---- each copy is sound
+
+  copy_placed : (k : ℕ) (d : NodeRow) → k < length rows → IsPlaceSound made (get_or rows k d) (get_or rows k d).place
+  copy_placed zero d within =
+      let c = copy 0 d within in
+      subst (λ (p : Place). IsPlaceSound made (get_or rows 0 d) p) (sym c.placed.0) (folder_made.0, folder_made.1 ∙ sym c.owner)
+  copy_placed (suc k) d within =
+      let c = copy_in t now transfer name rows mirrors sound k d within in
+      let above : c.at < length rows = omega (arith, c.before) in
+      let there = copy_there d c.at above in
+      subst (λ (p : Place). IsPlaceSound made (get_or rows (suc k) d) p) (sym c.place) (
+        ap (λ (o : Option NodeRow). option_map_or (λ row. is_folder_kind row.kind) o false) there ∙ c.folder,
+        ap (λ (o : Option NodeRow). option_map_or (λ row. row.owner) o 0) there ∙ (copy c.at d above).owner ∙ sym (copy (suc k) d within).owner,
+      )
+
+  copies_sound : All (IsNodeSound made) rows
+  copies_sound k d within =
+      let c = copy k d within in
+      let of = row_sound t c.node c.of sound c.there in
+      let root = root_of_user t (owner_of t.nodes transfer.folder) in
+      let climbs = copy_climbs t now transfer name rows mirrors sound made.nodes root d (copy_there d) folder_climbs (suc k) k (omega arith) within in
+      let walk = walk_of t.nodes transfer.node in
+      let first = walk_first t.nodes transfer.node in
+      record {
+        some = omega (arith, c.id, sound.counters.nodes);
+        given = omega (arith, c.id);
+        changed = omega (arith, c.changed);
+        pieces = subst (λ (content : List Piece). All (IsPieceSound made) content) (sym c.content)
+            (pieces_kept t made c.of.content (omega arith) of.1.pieces);
+        folder = λ is. c.content ∙ of.1.folder (ap is_folder_kind (sym c.kind) ∙ is);
+        place = copy_placed k d within;
+        steps = climbs.0;
+        shallow = omega (
+          arith,
+          climbs.1,
+          known.deep,
+          mirrors.all,
+          deepest_of t.nodes walk k (omega (arith, mirrors.all)),
+          ap (depth t.nodes) first.0,
+        );
+        present =
+            ap (climb made.nodes climbs.0) c.id ∙ climbs.2
+            ∙ ap (λ (user : ℕ). Some (root_of_user t user)) (sym c.owner);
+      }
+
+  -- ---- names
+
+  -- what was there is in no copy, and the first copy's name is free
+  old_apart : All (λ (old : NodeRow). All (AreApart old) rows) left.nodes
+  old_apart i d within zero e also folder place other =
+      let c = copy 0 e also in
+      new_apart left.nodes transfer.folder (get_or rows 0 e) c.placed.0
+      (ap (child_of left.nodes transfer.folder) c.placed.1 ∙ free_cleared t transfer.replaced transfer.folder name sound known.there) i d within folder place other
+  old_apart i d within (suc k) e also folder place other =
+      let old : NodeRow = get_or left.nodes i d in
+      let c = copy_in t now transfer name rows mirrors sound k e also in
+      let above = folder_there left.nodes folder (child_folder left old old.place folder (left_sound.nodes i d within).place place) in
+      let h = row_sound left folder above.0 left_sound above.1 in
+      let same : folder ≡ t.meta.next_node + c.at = cc (c.place) in
+      absurd (omega (arith, h.0, h.1.given))
+
+  copies_apart : AllPairs (λ (a b : ℕ). a ≢ b) (walk_of t.nodes transfer.node) → AllPairs AreApart rows
+  copies_apart once zero zero d before within folder place other named = absurd (omega arith)
+  copies_apart once zero (suc j) d before within folder place other named =
+      let c = copy_in t now transfer name rows mirrors sound j d within in
+      let first : folder ≡ transfer.folder = cc ((copy 0 d (omega arith)).placed.0) in
+      let second : folder ≡ t.meta.next_node + c.at = cc (c.place) in
+      absurd (omega (arith, folder_given))
+  copies_apart once (suc i) zero d before within folder place other named = absurd (omega arith)
+  copies_apart once (suc i) (suc j) d before within folder place other named =
+      let a = copy (suc i) d (omega arith) in
+      let b = copy (suc j) d within in
+      let p = a.placed.1 in
+      let q = b.placed.1 in
+      let walk = walk_of t.nodes transfer.node in
+      let first : folder ≡ t.meta.next_node + p.1 = cc (p.5) in
+      let second : folder ≡ t.meta.next_node + q.1 = cc (q.5) in
+      let at : p.1 ≡ q.1 = omega (arith, first, second) in
+      let in_one : p.0 ≡ q.0 = same_Some p.0 q.0 (sym p.3 ∙ ap (slice_get walk) at ∙ q.3) in
+      let id_a = (row_sound t a.node a.of sound a.there).0 in
+      let id_b = (row_sound t b.node b.of sound b.there).0 in
+      let child_a = child_there t.nodes p.0 a.of sound.names (ap (node_row t.nodes) id_a ∙ a.there) p.2 in
+      let child_b = child_there t.nodes q.0 b.of sound.names (ap (node_row t.nodes) id_b ∙ b.there) q.2 in
+      let same : a.of.id ≡ b.of.id =
+      same_Some a.of.id b.of.id
+      (sym child_a ∙ ap (λ (n : ℕ). child_of t.nodes n a.of.name) in_one
+      ∙ ap (child_of t.nodes q.0) (sym a.placed.0 ∙ named ∙ b.placed.0) ∙ child_b) in
+      once (suc i) (suc j) 0 before (omega (arith, mirrors.all))
+      (get_or_from_slice_get walk (suc i) a.node 0 a.at_index ∙ sym id_a ∙ same ∙ id_b
+      ∙ sym (get_or_from_slice_get walk (suc j) b.node 0 b.at_index))
+
+  -- ---- all rows
+
+  joined_sound : AllPairs (λ (a b : ℕ). a ≢ b) (walk_of t.nodes transfer.node)
+      → length t.nodes + length (walk_of t.nodes transfer.node) ≤ 262144
+      → piece_count t.nodes + pieces_in t.nodes (walk_of t.nodes transfer.node) ≤ 1048576 → AreSound made
+  joined_sound once few_nodes few_pieces =
+      let kept = kept_joined left.nodes rows in
+      let counts = counts_cleared t.nodes transfer.replaced in
+      record {
+        counters = record {
+          users = sound.counters.users;
+          groups = sound.counters.groups;
+          nodes = omega (arith, sound.counters.nodes);
+          shares = sound.counters.shares;
+          blobs = sound.counters.blobs;
+        };
+        rising = rising;
+        nodes = All-append (IsNodeSound made) left.nodes rows
+            (All-weaker (IsNodeSound left) (IsNodeSound made)
+            (λ row. node_kept left made.meta made.nodes row kept (omega arith) (omega arith) later) left.nodes left_sound.nodes)
+            copies_sound;
+        names = AllPairs-append AreApart left.nodes rows left_sound.names (copies_apart once) old_apart;
+        roots = All-weaker (HasRoot left) (HasRoot made) (root_kept left made.meta made.nodes kept) t.users left_sound.roots;
+        few_nodes = omega (arith, few_nodes, counts.0, mirrors.all, length-append left.nodes rows);
+        few_pieces = omega (
+          arith,
+          few_pieces,
+          counts.1,
+          same_pieces t now transfer name rows mirrors,
+          sum_by-append (λ row. length row.content) left.nodes rows,
+        );
+      }
+
+-- the moment is stamped, since a copy is told
+stamped_some : (before after : Tables) (now : ℕ) (first : List Change) (rows : List NodeRow) → 0 < length rows
+    → stamped before after now (first ++ map (λ row. Put (kinds.Node row)) rows) ≡ stamp after now
+stamped_some before after now [] [] some = absurd (omega arith)
+stamped_some before after now [] (row ∷ rows) some = refl
+stamped_some before after now (change ∷ changes) rows some = refl
+
+pub copied_sound : (t : Tables) (now : ℕ) (who : Option ℕ) (rows : List NodeRow) (replaced : Option ℕ)
+    → AreSound t → t.meta.last ≤ now → KnownCopies t now who rows replaced → AreSound (changed t now (allowed.Copy rows replaced))
+copied_sound t now who rows replaced sound later copies =
+    let transfer = copies.transfer in
+    let of = path_own t who (At transfer.node) transfer.node sound copies.known.source refl in
+    let mirrors = subst (λ (rows : List NodeRow). Mirrors t now transfer copies.name rows) (sym copies.copies)
+    (mirrored t now transfer copies.name sound (ap is_some of.there)) in
+    let some : 0 < length rows = omega (arith, mirrors.all, (walk_first t.nodes transfer.node).1) in
+    subst (λ (o : Option ℕ). AreSound (changed t now (allowed.Copy rows o))) (sym copies.replaced_is)
+    (subst AreSound (sym (stamped_some t (joined t rows transfer.replaced) now (dropped_for t.nodes transfer.replaced) rows some))
+    (joined_sound t now who transfer copies.name rows mirrors sound later copies.known (walks_take.once t transfer.node sound)
+    copies.nodes copies.pieces))

@@ -1,0 +1,184 @@
+-- Rows of nodes that are put and dropped, one after the other.
+use Rattle.std.proofs.Common.{ℕ, zero, suc, ◌+◌, ◌==◌, ◌≡◌, ◌≢◌, ◌<◌, Bool, true, false, not, List, [], ◌∷◌, ◌++◌, Option, None, Some, filter, map, length, get_or, refl, sym, ap, subst, ◌∙◌, arith, append_assoc}
+use Rattle.std.specs.Prelude.{is_some}
+use Rattle.std.specs.List.{All, AllPairs, list_any}
+use Rattle.std.specs.Ordering.{nat_cmp, ordering_then}
+use Rattle.std.specs.Cmp.{nat_cmp_is}
+use Rattle.std.specs.declared.cmp.Ordering.{Ordering}
+use Rattle.std.specs.declared.cmp.Ordering.TheVariants.{Less, Equal, Greater}
+use Rattle.std.proofs.lemmas.Bool.{both_ways, eq-eqb, eqb-true, false≢true}
+use Rattle.std.proofs.lemmas.List.{append-nil}
+use Rattle.std.proofs.lemmas.List.Elements.{All-push, All-weaker, filter_agree, filter_passes}
+use Rattle.std.proofs.lemmas.List.Folds.{list_any_at}
+use Rattle.std.proofs.lemmas.Option.{none-some, option_and_then_some, same_Some}
+use Rattle.nf_base.specs.declared.changes.Change.{Change}
+use Rattle.nf_base.specs.declared.changes.Change.TheVariants.{Put, Drop}
+use Rattle.nf_base.specs.declared.changes.RowKey.TheVariants as keys
+use Rattle.nf_base.specs.declared.rows.NodeRow.{NodeRow}
+use Rattle.nf_base.specs.declared.rows.Row.TheVariants.{Node}
+use Rattle.nf_defs.proofs.Puts.{put_last}
+use Rattle.nf_defs.specs.Changes.{put_all}
+use Rattle.nf_defs.specs.Keys.{node_key}
+use Rattle.nf_defs.specs.Puts.{by_order, dropped, key_cmp, put}
+use Rattle.nf_defs.specs.Tables.{Tables}
+use Rattle.nf_defs.specs.Tree.{climb, folder_of, is_under, node_row, parent_of, walk_of, with_node, without_under}
+use Rattle.nf_laws.proofs.Climbs.{those, under_climb}
+use Rattle.nf_laws.proofs.Rows.{found_is}
+use Rattle.nf_laws.proofs.Walked.{walk_among}
+use Rattle.nf_words.specs.Changes.{cleared, dropped_for, dropped_under}
+use Rattle.nf_words.specs.Sound.{AreSound}
+
+-- ---- the order of the numbers of nodes
+
+then_equal : (o : Ordering) → ordering_then o Equal ≡ o
+then_equal Less = refl
+then_equal Equal = refl
+then_equal Greater = refl
+
+less : (a b : ℕ) → a < b → key_cmp (a ∷ []) (b ∷ []) ≡ Less
+less a b is = then_equal (nat_cmp a b) ∙ sym (nat_cmp_is a b Less is)
+
+equal : (a b : ℕ) → a ≡ b → key_cmp (a ∷ []) (b ∷ []) ≡ Equal
+equal a b same = then_equal (nat_cmp a b) ∙ sym (nat_cmp_is a b Equal same)
+
+greater : (a b : ℕ) → b < a → key_cmp (a ∷ []) (b ∷ []) ≡ Greater
+greater a b is = then_equal (nat_cmp a b) ∙ sym (nat_cmp_is a b Greater is)
+
+-- ---- rows that are put
+
+-- a row whose number is above all others goes to the end
+pub put_new : (row : NodeRow) (old : List NodeRow) → All (λ (other : NodeRow). other.id < row.id) old → put node_key row old ≡ old ++ row ∷ []
+put_new row old below =
+    put_last node_key row old
+    (All-weaker (λ (other : NodeRow). other.id < row.id) (λ (other : NodeRow). key_cmp (node_key other) (node_key row) ≡ Less)
+    (λ other is. less other.id row.id is) old below)
+
+-- the rows have the numbers from the first on
+abbrev pub AreNumbered : ℕ → List NodeRow → Type 0
+AreNumbered first new = (k : ℕ) (d : NodeRow) → k < length new → (get_or new k d).id ≡ first + k
+
+-- so they all go to the end, where the first number is above all others
+pub puts_new : (t : Tables) (old new : List NodeRow) (rest : List Change) (first : ℕ) → All (λ (other : NodeRow). other.id < first) old
+    → AreNumbered first new
+    → put_all (record t { nodes = old }) (map (λ row. Put (Node row)) new ++ rest) ≡ put_all (record t { nodes = old ++ new }) rest
+puts_new t old [] rest first below numbered = ap (λ (all : List NodeRow). put_all (record t { nodes = all }) rest) (sym (append-nil old))
+puts_new t old (row ∷ new) rest first below numbered =
+    let id : row.id ≡ first = omega (arith, numbered 0 row (omega arith)) in
+    let last = put_new row old (subst (λ (n : ℕ). All (λ (other : NodeRow). other.id < n) old) (sym id) below) in
+    let more : All (λ (other : NodeRow). other.id < suc first) (old ++ row ∷ []) =
+    All-push (λ (other : NodeRow). other.id < suc first) old row
+    (All-weaker (λ (other : NodeRow). other.id < first) (λ (other : NodeRow). other.id < suc first) (λ other is. omega arith) old below)
+    (omega arith) in
+    ap (λ (all : List NodeRow). put_all (record t { nodes = all }) (map (λ row. Put (Node row)) new ++ rest)) last
+    ∙ puts_new t (old ++ row ∷ []) new rest (suc first) more (λ k d within. omega (arith, numbered (suc k) d (omega arith)))
+    ∙ ap (λ (all : List NodeRow). put_all (record t { nodes = all }) rest) (append_assoc old (row ∷ []) new)
+
+-- a node's changed row goes to its place
+pub put_changed : (old : List NodeRow) (node : ℕ) (change : NodeRow → NodeRow) (row : NodeRow) → (change row).id ≡ row.id
+    → AllPairs (λ (a b : NodeRow). a.id < b.id) old → node_row old node ≡ Some row
+    → put node_key (change row) old ≡ with_node old node change
+put_changed [] node change row keeps rising is = absurd (none-some row is)
+put_changed (x ∷ old) node change row keeps rising is =
+    here (x.id == node) refl is
+    (λ is. put_changed old node change row keeps (λ i j d before within. rising (suc i) (suc j) d (omega arith) (omega arith)) is)
+  where
+    new : NodeRow
+    new = change row
+
+    here : (a : Bool) → (x.id == node) ≡ a → node_row (x ∷ old) node ≡ Some row
+        → (node_row old node ≡ Some row → put node_key new old ≡ with_node old node change)
+        → put node_key new (x ∷ old) ≡ with_node (x ∷ old) node change
+    here true e is rest =
+        let same : x ≡ row = same_Some x row (simp e at is) in
+        simp e (ap (λ (o : Ordering). by_order o (new ∷ x ∷ old) (new ∷ old) (x ∷ put node_key new old))
+        (equal new.id x.id (keeps ∙ sym (ap (λ (r : NodeRow). r.id) same)))
+        ∙ ap (λ (r : NodeRow). change r ∷ old) (sym same))
+    here false e is rest =
+        let found : node_row old node ≡ Some row = simp e at is in
+        let below : x.id < row.id =
+        (found_is (λ (r : NodeRow). x.id < r.id) (λ r. r.id == node) old row (λ k d within. rising 0 (suc k) d (omega arith) (omega arith)) found).1 in
+        simp e (ap (λ (o : Ordering). by_order o (new ∷ x ∷ old) (new ∷ old) (x ∷ put node_key new old))
+        (greater new.id x.id (omega (arith, keeps, below)))
+        ∙ ap (λ (all : List NodeRow). x ∷ all) (rest found))
+
+-- ---- rows that are dropped
+
+-- the rows without those of some nodes
+abbrev left : List ℕ → List NodeRow → List NodeRow
+left nodes old = filter (λ row. not (list_any (λ node. node == row.id) nodes)) old
+
+all_left : (old : List NodeRow) → left [] old ≡ old
+all_left [] = refl
+all_left (x ∷ old) = ap (λ (all : List NodeRow). x ∷ all) (all_left old)
+
+both_dropped : (n : ℕ) (nodes : List ℕ) (old : List NodeRow) → left nodes (dropped node_key (n ∷ []) old) ≡ left (n ∷ nodes) old
+both_dropped n nodes [] = refl
+both_dropped n nodes (x ∷ old) = here (n == x.id) (list_any (λ node. node == x.id) nodes) refl refl (both_dropped n nodes old)
+  where
+    here : (a b : Bool) → (n == x.id) ≡ a → list_any (λ node. node == x.id) nodes ≡ b
+        → left nodes (dropped node_key (n ∷ []) old) ≡ left (n ∷ nodes) old
+        → left nodes (dropped node_key (n ∷ []) (x ∷ old)) ≡ left (n ∷ nodes) (x ∷ old)
+    here true b e f rest = simp e rest
+    here false true e f rest = simp (e, f) rest
+    here false false e f rest = simp (e, f) (ap (λ (all : List NodeRow). x ∷ all) rest)
+
+-- nodes that are dropped one by one
+drops : (t : Tables) (nodes : List ℕ) (rest : List Change)
+    → put_all t (map (λ node. Drop (keys.Node node)) nodes ++ rest) ≡ put_all (record t { nodes = left nodes t.nodes }) rest
+drops t [] rest = ap (λ (all : List NodeRow). put_all (record t { nodes = all }) rest) (sym (all_left t.nodes))
+drops t (n ∷ nodes) rest =
+    drops (record t { nodes = dropped node_key (n ∷ []) t.nodes }) nodes rest
+    ∙ ap (λ (all : List NodeRow). put_all (record t { nodes = all }) rest) (both_dropped n nodes t.nodes)
+
+-- where the nodes under one are dropped, the others are left
+pub drops_under : (t : Tables) (top : ℕ) (rest : List Change) → AreSound t
+    → put_all t (dropped_under t.nodes top ++ rest) ≡ put_all (record t { nodes = without_under t.nodes top }) rest
+drops_under t top rest sound =
+    drops t (walk_of t.nodes top) rest
+    ∙ ap (λ (all : List NodeRow). put_all (record t { nodes = all }) rest)
+    (filter_agree (λ row. not (list_any (λ node. node == row.id) (walk_of t.nodes top))) (λ row. not (is_under t.nodes row.id top))
+    (λ row. ap not (walk_among t top row.id sound)) t.nodes)
+
+pub drops_for : (t : Tables) (replaced : Option ℕ) (rest : List Change) → AreSound t
+    → put_all t (dropped_for t.nodes replaced ++ rest) ≡ put_all (record t { nodes = cleared t.nodes replaced }) rest
+drops_for t None rest sound = refl
+drops_for t (Some top) rest sound = drops_under t top rest sound
+
+-- ---- rows that differ
+
+-- where a node is gone that was there
+pub fewer : (test : ℕ → Bool) (old : List NodeRow) (node : ℕ) → is_some (node_row old node) ≡ true → test node ≡ false → those test old ≢ old
+fewer test old node there fails = λ same. here (node_row old node) refl there same
+  where
+    here : (o : Option NodeRow) → node_row old node ≡ o → is_some o ≡ true → those test old ≡ old → ⊥
+    here None e there same = false≢true there
+    here (Some row) e there same =
+        let h = found_is (λ (row : NodeRow). test row.id ≡ true) (λ row. row.id == node) (those test old) row
+        (filter_passes (λ row. test row.id) old) (ap (λ (all : List NodeRow). node_row all node) same ∙ e) in
+        both_ways (test node) fails (subst (λ (n : ℕ). test n ≡ true) (eqb-true row.id node h.0) h.1)
+
+-- where a node's row is another
+pub another : (old made : List NodeRow) (node : ℕ) (row new : NodeRow) → node_row old node ≡ Some row → node_row made node ≡ Some new
+    → new ≢ row → made ≢ old
+another old made node row new was is other = λ same.
+    other (same_Some new row (sym is ∙ ap (λ (all : List NodeRow). node_row all node) same ∙ was))
+
+-- ---- the nodes under one that is there are there
+
+under_there : (old : List NodeRow) (node top : ℕ) → is_some (node_row old top) ≡ true → is_under old node top ≡ true
+    → is_some (node_row old node) ≡ true
+under_there old node top there is = let c = under_climb old node top is in here c.0 c.2
+  where
+    here : (j : ℕ) → climb old j node ≡ Some top → is_some (node_row old node) ≡ true
+    here zero is = subst (λ (n : ℕ). is_some (node_row old n) ≡ true) (sym (same_Some node top is)) there
+    here (suc j) is =
+        option_and_then_some (climb old j) (parent_of old node) top is (λ parent above rest.
+        option_and_then_some (λ row. folder_of row.place) (node_row old node) parent above (λ row found place. ap is_some found))
+
+pub walk_there : (t : Tables) (top : ℕ) → AreSound t → is_some (node_row t.nodes top) ≡ true
+    → All (λ (node : ℕ). is_some (node_row t.nodes node) ≡ true) (walk_of t.nodes top)
+walk_there t top sound there k d within =
+    let node = get_or (walk_of t.nodes top) k d in
+    under_there t.nodes node top there
+    (sym (walk_among t top node sound)
+    ∙ list_any_at (λ other. other == node) (walk_of t.nodes top) k d within (eq-eqb node node refl))

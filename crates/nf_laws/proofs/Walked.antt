@@ -1,0 +1,182 @@
+-- What a walk takes: all that is under its top, and nothing twice.
+use Rattle.std.proofs.Common.{ℕ, zero, suc, ◌+◌, ◌-◌, ◌==◌, ◌<◌, ◌≤◌, ◌≡◌, ◌≢◌, Bool, true, false, List, [], ◌∷◌, ◌++◌, Option, Some, get_or, map, filter, inl, inr, refl, sym, ap, subst, ◌∙◌, arith}
+use Rattle.std.specs.List.{All, AllPairs, Contains, flat_map, list_any}
+use Rattle.std.specs.Option.{option_and_then}
+use Rattle.std.proofs.lemmas.Bool.{cases_order, eq-eqb, eqb-true, false≢true}
+use Rattle.std.proofs.lemmas.List.Elements.{All-append, All-contains, All-contains_itself, All-head, All-map, All-tail}
+use Rattle.std.proofs.lemmas.List.Folds.{Any-from_list_any, list_any_at}
+use Rattle.std.proofs.lemmas.List.Kept.{AllPairs-cons, AllPairs-filter}
+use Rattle.std.proofs.lemmas.Option.{option_and_then_some, same_Some}
+use Rattle.nf_base.specs.declared.rows.NodeRow.{NodeRow}
+use Rattle.nf_defs.proofs.ByName.{AllPairs-by_name}
+use Rattle.nf_defs.proofs.Walks.{Contains-from_flat, children_are, climbs_walk, walk_climbs, walk_within_climbs}
+use Rattle.nf_defs.specs.Tables.{Tables}
+use Rattle.nf_defs.specs.Tree.{by_name, children_of, climb, folder_of, is_in, is_under, node_row, parent_of, walk_of, walk_within}
+use Rattle.nf_laws.proofs.Climbs.{climb_on, climb_under, under_climb}
+use Rattle.nf_laws.proofs.Upwards.{climb_few, depth_climb}
+use Rattle.nf_laws.proofs.Words.{climbed, derived}
+use Rattle.nf_laws.specs.Tree.{NoRings, WalksTakeAllUnder}
+use Rattle.nf_words.specs.Sound.{AreSound}
+
+-- ---- climbs of sound tables
+
+-- none is longer than 64
+pub climb_short : (t : Tables) (j node top : ℕ) → AreSound t → climb t.nodes j node ≡ Some top → j ≤ 64
+climb_short t zero node top sound is = omega arith
+climb_short t (suc j) node top sound is =
+    option_and_then_some (climb t.nodes j) (parent_of t.nodes node) top is (λ parent above rest.
+    option_and_then_some (λ row. folder_of row.place) (node_row t.nodes node) parent above
+    (λ row there placed. climb_few (suc j) t node top row sound there is))
+
+-- none comes back
+pub no_ring : (t : Tables) (j node : ℕ) → AreSound t → climb t.nodes (suc j) node ≡ Some node → ⊥
+no_ring t j node sound is = absurd (omega (arith, depth_climb (suc j) t node node sound is))
+
+-- so no folder is under a node that is in it
+pub no_rings : NoRings
+no_rings t node parent sound above = here (is_under t.nodes parent node) refl
+  where
+    here : (a : Bool) → is_under t.nodes parent node ≡ a → a ≡ false
+    here false e = refl
+    here true e =
+        let c = under_climb t.nodes parent node e in
+        absurd (no_ring t c.0 node sound (subst (λ (o : Option ℕ). option_and_then (climb t.nodes c.0) o ≡ Some node) (sym above) c.2))
+
+-- ---- those under the top
+
+pub walk_under : (t : Tables) (top node : ℕ) → AreSound t → Contains (walk_of t.nodes top) node → is_under t.nodes node top ≡ true
+walk_under t top node sound h =
+    let c = walk_climbs t.nodes top node sound.rising h in climb_under c.0 t.nodes node top c.1 c.2
+
+pub under_walk : (t : Tables) (top node : ℕ) → is_under t.nodes node top ≡ true → Contains (walk_of t.nodes top) node
+under_walk t top node is = let c = under_climb t.nodes node top is in climbs_walk c.0 t.nodes top node c.1 c.2
+
+-- the test of a walk is that of its top
+pub walk_among : (t : Tables) (top node : ℕ) → AreSound t
+    → list_any (λ other. other == node) (walk_of t.nodes top) ≡ is_under t.nodes node top
+walk_among t top node sound = here (is_under t.nodes node top) (list_any (λ other. other == node) (walk_of t.nodes top)) refl refl
+  where
+    here : (a b : Bool) → is_under t.nodes node top ≡ a → list_any (λ other. other == node) (walk_of t.nodes top) ≡ b → b ≡ a
+    here true true e f = refl
+    here true false e f =
+        let h = under_walk t top node e in
+        let any = list_any_at (λ other. other == node) (walk_of t.nodes top) h.0 node h.1 (eq-eqb _ node h.2) in
+        absurd (false≢true (sym f ∙ any))
+    here false true e f =
+        let h = Any-from_list_any (λ other. other == node) (walk_of t.nodes top) f in
+        let has : Contains (walk_of t.nodes top) node =
+        subst (λ (n : ℕ). Contains (walk_of t.nodes top) n) (eqb-true h.1 node h.4) (h.0, h.2, h.3) in
+        let is = walk_under t top node sound has in
+        absurd (false≢true (sym e ∙ is))
+    here false false e f = refl
+
+-- ---- none twice
+
+-- no member is in both
+abbrev AreDisjoint : List ℕ → List ℕ → Type 0
+AreDisjoint xs ys = (n : ℕ) → Contains xs n → Contains ys n → ⊥
+
+abbrev pub AreDistinct : List ℕ → Type 0
+AreDistinct xs = AllPairs (λ (a b : ℕ). a ≢ b) xs
+
+distinct_append : (xs ys : List ℕ) → AreDistinct xs → AreDistinct ys → AreDisjoint xs ys → AreDistinct (xs ++ ys)
+distinct_append [] ys first second apart = second
+distinct_append (x ∷ xs) ys first second apart =
+    AllPairs-cons (λ (a b : ℕ). a ≢ b) x (xs ++ ys)
+    (All-append (λ (b : ℕ). x ≢ b) xs ys (λ k d within. first 0 (suc k) d (omega arith) (omega arith))
+    (λ k d within same. apart x (0, omega arith, refl) (subst (λ (n : ℕ). Contains ys n) (sym same) (All-contains_itself ys k d within))))
+    (distinct_append xs ys (λ i j d before within. first (suc i) (suc j) d (omega arith) (omega arith)) second
+    (λ n has other. apart n (suc has.0, omega (arith, has.1), has.2) other))
+
+distinct_flat : (f : ℕ → List ℕ) (xs : List ℕ) → All (λ (x : ℕ). AreDistinct (f x)) xs → AllPairs (λ (x y : ℕ). AreDisjoint (f x) (f y)) xs
+    → AreDistinct (flat_map f xs)
+distinct_flat f [] each apart = λ i j d before within. absurd (omega arith)
+distinct_flat f (x ∷ xs) each apart =
+    distinct_append (f x) (flat_map f xs) (All-head (λ (x : ℕ). AreDistinct (f x)) x xs each)
+    (distinct_flat f xs (All-tail (λ (x : ℕ). AreDistinct (f x)) x xs each)
+    (λ i j d before within. apart (suc i) (suc j) d (omega arith) (omega arith)))
+    (λ n has later.
+    let r = Contains-from_flat f xs n later in
+    All-contains (λ (y : ℕ). AreDisjoint (f x) (f y)) xs r.0 (λ k d within. apart 0 (suc k) d (omega arith) (omega arith)) r.1 n has r.2)
+
+distinct_map : (f : NodeRow → ℕ) (rows : List NodeRow) → AllPairs (λ (a b : NodeRow). f a ≢ f b) rows → AreDistinct (map f rows)
+distinct_map f [] apart = λ i j d before within. absurd (omega arith)
+distinct_map f (x ∷ rows) apart =
+    AllPairs-cons (λ (a b : ℕ). a ≢ b) (f x) (map f rows)
+    (All-map (λ (b : ℕ). f x ≢ b) f rows (λ k d within. apart 0 (suc k) d (omega arith) (omega arith)))
+    (distinct_map f rows (λ i j d before within. apart (suc i) (suc j) d (omega arith) (omega arith)))
+
+children_distinct : (t : Tables) (folder : ℕ) → AreSound t → AreDistinct (children_of t.nodes folder)
+children_distinct t folder sound =
+    let inside = filter (is_in folder) t.nodes in
+    let rising = AllPairs-filter (λ (a b : NodeRow). a.id < b.id) (is_in folder) t.nodes sound.rising in
+    distinct_map (λ (row : NodeRow). row.id) (by_name inside)
+    (AllPairs-by_name (λ (a b : NodeRow). a.id ≢ b.id) (λ a b differ same. differ (sym same)) inside
+    (λ i j d before within same. let less = rising i j d before within in omega arith))
+
+above : (t : Tables) (folder : ℕ) → AreSound t → All (λ (child : ℕ). parent_of t.nodes child ≡ Some folder) (children_of t.nodes folder)
+above t folder sound k d within =
+    let is = children_are t.nodes folder sound.rising k d within in
+    ap (option_and_then (λ (row : NodeRow). folder_of row.place)) is.there ∙ ap folder_of is.place
+
+-- a step more from a child is at the folder
+climb_folder : (t : Tables) (m folder child node : ℕ) → parent_of t.nodes child ≡ Some folder → climb t.nodes m node ≡ Some child
+    → climb t.nodes (suc m) node ≡ Some folder
+climb_folder t m folder child node up is =
+    let more : climb t.nodes 1 child ≡ Some folder = rw up refl in
+    let same : suc m ≡ m + 1 = omega arith in
+    ap (λ (n : ℕ). climb t.nodes n node) same ∙ climb_on m 1 t.nodes node child is ∙ more
+
+-- no child of a folder is under another
+not_under : (t : Tables) (i j folder child other node : ℕ) → AreSound t
+    → parent_of t.nodes child ≡ Some folder → parent_of t.nodes other ≡ Some folder
+    → i < j → climb t.nodes i node ≡ Some child → climb t.nodes j node ≡ Some other → ⊥
+not_under t i j folder child other node sound up also less first second =
+    let longer : j ≡ i + suc (j - i - 1) = omega arith in
+    let rest : climb t.nodes (suc (j - i - 1)) child ≡ Some other =
+    sym (climb_on i (suc (j - i - 1)) t.nodes node child first) ∙ ap (λ (n : ℕ). climb t.nodes n node) (sym longer) ∙ second in
+    no_ring t (j - i - 1) folder sound (climb_folder t (j - i - 1) folder other folder also (rw up at rest))
+
+-- nothing is under two of them
+apart : (t : Tables) (folder child other i j node : ℕ) → AreSound t → parent_of t.nodes child ≡ Some folder → parent_of t.nodes other ≡ Some folder
+    → child ≢ other → climb t.nodes i node ≡ Some child → climb t.nodes j node ≡ Some other → ⊥
+apart t folder child other i j node sound up also differ first second =
+    elim (cases_order i j) [
+      | inl same ↦ differ (same_Some child other (sym first ∙ ap (λ (n : ℕ). climb t.nodes n node) same ∙ second))
+      | inr (inl less) ↦ not_under t i j folder child other node sound up also less first second
+      | inr (inr more) ↦ not_under t j i folder other child node sound also up more second first
+    ]
+
+distinct_walk : (k : ℕ) (t : Tables) (node : ℕ) → AreSound t → AreDistinct (walk_within k t.nodes node)
+unfolding walk_within
+distinct_walk zero t node sound = λ i j d before within. absurd (omega arith)
+distinct_walk (suc k) t node sound =
+    let walk = walk_within k t.nodes in
+    let children = children_of t.nodes node in
+    AllPairs-cons (λ (a b : ℕ). a ≢ b) node (flat_map walk children)
+    (λ i d within same.
+    let r = Contains-from_flat walk children node
+    (subst (λ (n : ℕ). Contains (flat_map walk children) n) (sym same) (All-contains_itself (flat_map walk children) i d within)) in
+    let c = walk_within_climbs k t.nodes r.0 node sound.rising r.2 in
+    let up = All-contains (λ (child : ℕ). parent_of t.nodes child ≡ Some node) children r.0 (above t node sound) r.1 in
+    no_ring t c.0 node sound (climb_folder t c.0 node r.0 node up c.2))
+    (distinct_flat walk children (λ i d within. distinct_walk k t (get_or children i d) sound)
+    (λ i j d before within n has also.
+    let first = walk_within_climbs k t.nodes (get_or children i d) n sound.rising has in
+    let second = walk_within_climbs k t.nodes (get_or children j d) n sound.rising also in
+    apart t node (get_or children i d) (get_or children j d) first.0 second.0 n sound
+    (above t node sound i d (omega arith)) (above t node sound j d within)
+    (children_distinct t node sound i j d before within) first.2 second.2))
+
+walk_distinct : (t : Tables) (top : ℕ) → AreSound t → AreDistinct (walk_of t.nodes top)
+unfolding walk_of
+walk_distinct t top sound = distinct_walk 64 t top sound
+
+pub walks_take : WalksTakeAllUnder
+walks_take = record {
+  those = λ t top node sound. (
+    λ h. let c = walk_climbs t.nodes top node sound.rising h in derived c.0 t.nodes top node c.2,
+    λ under. let c = climbed t.nodes top node under in climbs_walk c.0 t.nodes top node (climb_short t c.0 node top sound c.1) c.1,
+  );
+  once = walk_distinct;
+}

@@ -1,0 +1,5 @@
+use Rattle.nf_laws.proofs.Moving.{moves_keep}
+use Rattle.nf_laws.proofs.transfers.moves_keep.Goals as goal
+
+pub returns : goal.returns
+returns c = moves_keep

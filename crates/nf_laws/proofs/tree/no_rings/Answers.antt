@@ -1,0 +1,5 @@
+use Rattle.nf_laws.proofs.Walked.{no_rings}
+use Rattle.nf_laws.proofs.tree.no_rings.Goals as goal
+
+pub returns : goal.returns
+returns c = no_rings

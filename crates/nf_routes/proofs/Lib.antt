@@ -1,0 +1,2 @@
+mod MountLemmas
+mod PlainLemmas

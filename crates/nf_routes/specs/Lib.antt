@@ -1,0 +1,4 @@
+pub mod Methods
+pub mod Mounts
+pub mod Rows
+pub mod Targets

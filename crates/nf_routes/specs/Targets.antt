@@ -1,0 +1,45 @@
+-- The path of a target and its segments (RFC 3986, sections 2.1, 3.3 and 3.4; RFC 9112, section 3.2).
+use Rattle.std.specs.Prelude.{ℕ, ◌-◌, Bool, ◌==◌, if◌then◌else◌, List, [], length, map, take, drop, codes, bytes_eq, position, Option, None, Some, is_some, option_map, option_and_then}
+use Rattle.std.specs.List.{before_first, slice_split}
+use Rattle.std.specs.Option.{option_map_or, option_or}
+use Rattle.percent_encoding.specs.Percent.{percent_decode}
+
+abbrev pub is_slash : ℕ → Bool
+is_slash b = b == 47
+
+abbrev pub is_question : ℕ → Bool
+is_question b = b == 63
+
+-- what is behind a front
+abbrev pub behind : List ℕ → List ℕ → Option (List ℕ)
+behind front bytes = if bytes_eq (take (length front) bytes) front then Some (drop (length front) bytes) else None
+
+-- from the first slash on, which ends a host
+abbrev pub from_slash : List ℕ → Option (List ℕ)
+from_slash bytes = option_map (λ at. drop at bytes) (position is_slash bytes)
+
+-- without the scheme and the host that may stand before a path (RFC 9112, section 3.2.2)
+abbrev pub path_in : List ℕ → Option (List ℕ)
+path_in target =
+    option_map_or from_slash (option_or (behind (codes "http://") target) (behind (codes "https://") target)) (Some target)
+
+-- without one slash at its end
+abbrev pub without_slash : List ℕ → List ℕ
+without_slash path = if bytes_eq (drop (length path - 1) path) (codes "/") then take (length path - 1) path else path
+
+-- the path of a target: before its query, behind its scheme and host, without one slash at its end; none where a host has no path
+abbrev pub target_path : List ℕ → Option (List ℕ)
+target_path target = option_map without_slash (path_in (before_first is_question target))
+
+-- a path is cut at its slashes first, and each segment is decoded then: an escaped slash cuts nothing
+abbrev pub decoded_segments : List ℕ → List (List ℕ)
+decoded_segments path = map percent_decode (slice_split is_slash path)
+
+-- the decoded segments of the path of a user's file, the user's first; none of any other target
+abbrev pub segments_of : List ℕ → List (List ℕ)
+segments_of target =
+    option_map_or decoded_segments (option_and_then (behind (codes "/remote.php/dav/files/")) (target_path target)) []
+
+-- whether the path of a target is in the part of the site that speaks of shares and people
+abbrev pub is_ocs : List ℕ → Bool
+is_ocs target = is_some (option_and_then (behind (codes "/ocs/v2.php/")) (target_path target))

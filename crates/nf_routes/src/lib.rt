@@ -1,0 +1,12 @@
+//! Which route a target names, the methods that a route has, and the decoded segments of a path.
+#![tactic(auto)]
+
+mod methods;
+mod mounts;
+mod targets;
+#[cfg(test)]
+mod tests;
+
+pub use methods::{Method, allow, method_of, takes};
+pub use mounts::Routes;
+pub use targets::{is_ocs, segments};

@@ -1,0 +1,121 @@
+//! The path of a target and its segments.
+
+ghost use Rattle.std.specs.Prelude.{◌≡◌, ◌<◌, IfOk, IfSome, codes, length, map, option_and_then, option_copied, position};
+ghost use Rattle.std.specs.List.{before_first, slice_split};
+ghost use Rattle.percent_encoding.specs.Percent.{percent_decode};
+ghost use Rattle.nf_routes.specs.Targets.{behind, from_slash, is_ocs as begins_with_ocs, is_question, is_slash, path_in, segments_of, target_path, without_slash};
+
+use std::alloc::{AllocError, Global};
+
+const FILES: &[u8] = b"/remote.php/dav/files/";
+
+const OCS: &[u8] = b"/ocs/v2.php/";
+
+/// The segments of the path of a user's file, the user's first; none of any other target.
+/// They are decoded, so that a segment may hold any byte, a slash too.
+pub fn segments(alloc: Global, target: &[u8]) -> Result<Vec<Vec<u8>>, AllocError>
+    ensures { IfOk result (λ segments. map (λ segment. segment.items) segments.items ≡ segments_of target.now) }
+{
+    let mut segments = Vec::new(alloc);
+    let Some(rest) = behind_files(target) else {
+        return Ok(segments);
+    };
+    let pieces = pieces(alloc, rest)?;
+    for piece in &pieces {
+        segments.push(decoded(alloc, piece)?)?;
+    }
+    Ok(segments)
+}
+
+/// Whether the path of a target is in the part of the site that speaks of shares and people.
+pub fn is_ocs(target: &[u8]) -> bool
+    ensures { result ≡ begins_with_ocs target.now }
+{
+    match target_path(target) {
+        Some(path) => path.strip_prefix(OCS).is_some(),
+        None => false,
+    }
+}
+
+// What is behind the words of the files' mount.
+fn behind_files(target: &[u8]) -> Option<&[u8]>
+    ensures { option_copied result ≡ option_and_then (behind (codes "/remote.php/dav/files/")) (target_path target.now) }
+{
+    target_path(target)?.strip_prefix(FILES)
+}
+
+/// A segment without its escapes; a `%` without two hexadecimal digits stays.
+pub(crate) fn decoded(alloc: Global, segment: &[u8]) -> Result<Vec<u8>, AllocError>
+    ensures { IfOk result (λ bytes. bytes.items ≡ percent_decode segment.now) }
+{
+    let mut bytes = Vec::new(alloc);
+    percent_encoding::percent_decode(segment).append_to(&mut bytes)?;
+    Ok(bytes)
+}
+
+/// The pieces between the slashes, as they were sent.
+pub(crate) fn pieces<'a>(alloc: Global, bytes: &'a [u8]) -> Result<Vec<&'a [u8]>, AllocError>
+    ensures { IfOk result (λ pieces. map (λ piece. piece.now) pieces.items ≡ slice_split is_slash bytes.entry.now) }
+{
+    bytes.split(|byte| *byte == b'/').collect(alloc)
+}
+
+/// The path of a target, without its query, a scheme and a host, and one slash at its end.
+pub(crate) fn target_path(target: &[u8]) -> Option<&[u8]>
+    ensures { option_copied result ≡ target_path target.now }
+{
+    Some(without_slash(path_in(before_query(target))?))
+}
+
+fn before_query(target: &[u8]) -> &[u8]
+    ensures { result.now ≡ before_first is_question target.now }
+{
+    match first_question(target) {
+        Some(at) => &target[..at],
+        None => target,
+    }
+}
+
+fn first_question(bytes: &[u8]) -> Option<usize>
+    ensures value { result ≡ position is_question bytes.now }
+    ensures within { IfSome result (λ at. at < length bytes.now) }
+{
+    bytes.iter().position(|byte| *byte == b'?')
+}
+
+// What is behind the scheme and the host that may stand before a path.
+fn path_in(target: &[u8]) -> Option<&[u8]>
+    ensures { option_copied result ≡ path_in target.now }
+{
+    let after_scheme = match target.strip_prefix(b"http://".as_slice()) {
+        Some(rest) => Some(rest),
+        None => target.strip_prefix(b"https://".as_slice()),
+    };
+    match after_scheme {
+        Some(rest) => from_slash(rest),
+        None => Some(target),
+    }
+}
+
+fn from_slash(bytes: &[u8]) -> Option<&[u8]>
+    ensures { option_copied result ≡ from_slash bytes.now }
+{
+    let at = first_slash(bytes)?;
+    Some(&bytes[at..])
+}
+
+fn first_slash(bytes: &[u8]) -> Option<usize>
+    ensures value { result ≡ position is_slash bytes.now }
+    ensures within { IfSome result (λ at. at < length bytes.now) }
+{
+    bytes.iter().position(|byte| *byte == b'/')
+}
+
+fn without_slash(path: &[u8]) -> &[u8]
+    ensures { result.now ≡ without_slash path.now }
+{
+    match path.strip_suffix(b"/".as_slice()) {
+        Some(front) => front,
+        None => path,
+    }
+}

@@ -1,0 +1,10 @@
+use Rattle.std.proofs.Common.{◌+◌, ◌≤◌, ap, arith, length}
+use Rattle.nf_site.proofs.Steps.{plan_few}
+use Rattle.nf_site.specs.Held.{Held}
+use Rattle.nf_site.proofs.site.Site.plan.Goals as goal
+
+pub reserve_nodes-requires : goal.reserve_nodes-requires
+reserve_nodes-requires c =
+    let few = plan_few c.self.inside c.args.self.now c.args.seat c.moment-moment.result c.args.event c.in_ok-plan.plan
+    c.self.view_is c.self.invariant c.requires.asked c.in_ok-plan.ensures in
+    record { few = omega (arith, few, ap (λ (x : Held). length x.kept.state.tables.nodes) c.self.view_is, c.added.ensures) }

@@ -1,0 +1,237 @@
+-- Where rows go when some are dropped, and the index of those that are left.
+use Rattle.std.proofs.Common.{ℕ, zero, suc, ◌+◌, ◌<◌, ◌≤◌, ◌≡◌, Bool, true, false, List, [], ◌∷◌, ◌++◌, refl, sym, ap, ◌∙◌, subst, inl, inr, arith, length, get_or, take, drop, map, filter, nat_eq, nat_lt}
+use Rattle.std.specs.List.{All, AllPairs, Contains, list_any}
+use Rattle.std.proofs.lemmas.Bool.{cases_lt}
+use Rattle.std.proofs.lemmas.Bool.Decides.{Decides-eqb, nat_tests}
+use Rattle.std.proofs.lemmas.List.{get_or_default, get_or-drop, get_or-map, get_or_push, get_or_append_left, length-map, length_push, take_more}
+use Rattle.std.proofs.lemmas.List.Elements.{All-contains, All-filter, filter-append, filter_passes}
+use Rattle.std.proofs.lemmas.List.Filters.{FiltersInPlace}
+use Rattle.std.proofs.lemmas.List.Folds.{list_any_at}
+use Rattle.std.proofs.lemmas.List.Kept.{AllPairs-filter}
+use Rattle.std.proofs.lemmas.Map.Made.{IsDistinct-from_AllPairs}
+use Rattle.std.proofs.lemmas.Map.Steps.{length-le_from_distinct_below, le-length_from_below}
+use Rattle.std.proofs.lemmas.Map.Views.{Contains-from_any}
+use Rattle.nf_base.specs.declared.rows.NodeRow.{NodeRow}
+use Rattle.nf_defs.specs.Tree.{piece_count}
+use Rattle.nf_tree.specs.Held.{IsTree}
+use Rattle.nf_tree.specs.Order.{key_lt, key_at, key_of, AreFates, AreInOrder, IsIndex}
+use Rattle.nf_tree.proofs.Positions.{no_row}
+use Rattle.nf_tree.proofs.Orders.{key_of_row, in_index, no_place_twice}
+use Rattle.nf_tree.proofs.Members.{Contains-map, Contains-filter}
+
+-- ---- how many stay
+
+pub fewer : (p : NodeRow → Bool) (rows : List NodeRow) → length (filter p rows) ≤ length rows
+fewer p [] = omega arith
+fewer p (row ∷ rows) = here (p row) refl (fewer p rows)
+  where
+    here : (b : Bool) → p row ≡ b → length (filter p rows) ≤ length rows → length (filter p (row ∷ rows)) ≤ length (row ∷ rows)
+    here true e few = rw e (omega arith)
+    here false e few = rw e (omega arith)
+
+pub one_more : (p : NodeRow → Bool) (rows : List NodeRow) (n : ℕ) (row : NodeRow) → n < length rows → row ≡ get_or rows n row → p row ≡ true
+    → length (filter p (take (n + 1) rows)) ≡ length (filter p (take n rows)) + 1
+one_more p rows n row within is stays =
+    ap (λ list. length (filter p list)) (take_more rows n row within ∙ ap (λ r. take n rows ++ r ∷ []) (sym is))
+    ∙ ap length (filter-append p (take n rows) (row ∷ [])) ∙ (rw stays (length_push (filter p (take n rows)) row))
+
+pub no_more : (p : NodeRow → Bool) (rows : List NodeRow) (n : ℕ) (row : NodeRow) → n < length rows → row ≡ get_or rows n row → p row ≡ false
+    → length (filter p (take (n + 1) rows)) ≡ length (filter p (take n rows))
+no_more p rows n row within is goes =
+    ap (λ list. length (filter p list)) (take_more rows n row within ∙ ap (λ r. take n rows ++ r ∷ []) (sym is))
+    ∙ ap length (filter-append p (take n rows) (row ∷ [])) ∙ (rw goes (ap length (append_none (filter p (take n rows)))))
+  where
+    append_none : (list : List NodeRow) → list ++ [] ≡ list
+    append_none [] = refl
+    append_none (x ∷ list) = ap (λ rest. x ∷ rest) (append_none list)
+
+-- ---- a row that stays goes behind those before it
+
+stays_behind : (p : NodeRow → Bool) (rows : List NodeRow) (at : ℕ) (d : NodeRow) → at < length rows → p (get_or rows at d) ≡ true
+    → (length (filter p (take at rows)) < length (filter p rows)) × (get_or (filter p rows) (length (filter p (take at rows))) d ≡ get_or rows at d)
+stays_behind p [] at d within is = absurd (omega arith)
+stays_behind p (row ∷ rows) zero d within is = rw is (omega arith, refl)
+stays_behind p (row ∷ rows) (suc at) d within is = here (p row) refl (stays_behind p rows at d (omega arith) is)
+  where
+    here : (b : Bool) → p row ≡ b → (length (filter p (take at rows)) < length (filter p rows)) × (get_or (filter p rows) (length (filter p (take at rows))) d ≡ get_or rows at d)
+        → (length (filter p (take (suc at) (row ∷ rows))) < length (filter p (row ∷ rows))) × (get_or (filter p (row ∷ rows)) (length (filter p (take (suc at) (row ∷ rows)))) d ≡ get_or rows at d)
+    here true e rest = rw e (let low = rest.0 in omega arith, rest.1)
+    here false e rest = rw e rest
+
+-- each place that is left is one that a row goes to
+Came : (NodeRow → Bool) → List NodeRow → ℕ → Type 0
+Came p rows to = (at : ℕ) × (at < length rows) × (p (get_or rows at no_row) ≡ true) × (length (filter p (take at rows)) ≡ to)
+
+came : (p : NodeRow → Bool) (rows : List NodeRow) (to : ℕ) → to < length (filter p rows) → Came p rows to
+unfolding Came
+came p [] to low = absurd (omega arith)
+came p (row ∷ rows) to low = here (p row) refl to low (λ k less. came p rows k less)
+  where
+    later : {k j : ℕ} → Came p rows k → length (filter p (row ∷ [])) + k ≡ j → Came p (row ∷ rows) j
+    later (at, within, passes, is) more = (suc at, omega arith, passes, counted (p row) refl ∙ ap (λ n. length (filter p (row ∷ [])) + n) is ∙ more)
+      where
+        counted : (b : Bool) → p row ≡ b → length (filter p (take (suc at) (row ∷ rows))) ≡ length (filter p (row ∷ [])) + length (filter p (take at rows))
+        counted true e = rw e (omega arith)
+        counted false e = rw e (omega arith)
+
+    here : (b : Bool) → p row ≡ b → (to : ℕ) → to < length (filter p (row ∷ rows)) → ((k : ℕ) → k < length (filter p rows) → Came p rows k) → Came p (row ∷ rows) to
+    here true e zero low rest = (0, omega arith, e, refl)
+    here true e (suc to) low rest = later (rest to (let h = rw e at low in omega arith)) (rw e (omega arith))
+    here false e to low rest = later (rest to (rw e at low)) (rw e (omega arith))
+
+-- ---- one fate more
+
+pub none_yet : (p : NodeRow → Bool) (rows : List NodeRow) → AreFates p rows 0 []
+none_yet p rows = record { long = refl; stay = λ at d less. absurd (omega arith); go = λ at d less. absurd (omega arith) }
+
+pub fates_more : (p : NodeRow → Bool) (rows : List NodeRow) (n to : ℕ) (fates : List ℕ) (row : NodeRow) → AreFates p rows n fates → n < length rows → row ≡ get_or rows n row
+    → (p row ≡ true → to ≡ length (filter p (take n rows))) → (p row ≡ false → to ≡ length rows) → AreFates p rows (n + 1) (fates ++ to ∷ [])
+fates_more p rows n to fates row so_far within is stay go = record {
+  long = length_push fates to ∙ (let e = so_far.long in omega arith);
+  stay = λ at d less passes. elim (cases_lt at n) [
+    | inl below ↦ get_or_append_left fates (to ∷ []) 0 at (let e = so_far.long in omega arith) ∙ so_far.stay at d below passes
+    | inr past ↦ (let e : n ≡ at = omega arith in last at e ∙ stay (this at d e passes) ∙ ap (λ k. length (filter p (take k rows))) e)
+  ];
+  go = λ at d less passes. elim (cases_lt at n) [
+    | inl below ↦ get_or_append_left fates (to ∷ []) 0 at (let e = so_far.long in omega arith) ∙ so_far.go at d below passes
+    | inr past ↦ (let e : n ≡ at = omega arith in last at e ∙ go (this at d e passes))
+  ];
+}
+  where
+    last : (at : ℕ) → n ≡ at → get_or (fates ++ to ∷ []) at 0 ≡ to
+    last at e = get_or_push fates to 0 at (so_far.long ∙ e)
+
+    this : {b : Bool} (at : ℕ) (d : NodeRow) → n ≡ at → p (get_or rows at d) ≡ b → p row ≡ b
+    this {b} at d e passes = ap p (is ∙ get_or_default rows n row d within ∙ ap (λ k. get_or rows k d) e) ∙ passes
+
+-- ---- what is left of an index
+
+module _ (p : NodeRow → Bool) (rows : List NodeRow) (order fates : List ℕ) (index : IsIndex rows order) (are : AreFates p rows (length rows) fates) where
+  abbrev fate : ℕ → ℕ
+  fate at = get_or fates at 0
+
+  stays_if : (at : ℕ) → at < length rows → fate at < length rows → p (get_or rows at no_row) ≡ true
+  stays_if at within low = here (p (get_or rows at no_row)) refl
+    where
+      here : (b : Bool) → p (get_or rows at no_row) ≡ b → p (get_or rows at no_row) ≡ true
+      here true e = e
+      here false e = let h = are.go at no_row within e in absurd (omega arith)
+
+  lands : (at : ℕ) → at < length rows → fate at < length rows → (fate at < length (filter p rows)) × (key_at (filter p rows) (fate at) ≡ key_at rows at)
+  lands at within low =
+      let passes = stays_if at within low in
+      let h = stays_behind p rows at no_row within passes in
+      let e = are.stay at no_row within passes in
+      let less = subst (λ k. k < length (filter p rows)) (sym e) h.0 in
+      (less, key_of_row (filter p rows) (fate at) no_row less ∙ ap key_of (ap (λ k. get_or (filter p rows) k no_row) e ∙ h.1) ∙ sym (key_of_row rows at no_row within))
+
+  abbrev is_low : ℕ → Bool
+  is_low to = nat_lt to (length fates)
+
+  low : (to : ℕ) → is_low to ≡ true → to < length rows
+  low to is = let e = are.long in grind (arith, nat_tests)
+
+  left : List ℕ
+  left = filter is_low (map fate order)
+
+  left_low : All (λ to. to < length rows) left
+  unfolding left
+  left_low k d high = low (get_or left k d) (filter_passes is_low (map fate order) k d high)
+
+  -- the row at a place of the order, and its fate
+  read : (k d : ℕ) → k < length (map fate order) → (at : ℕ) × (at ≡ get_or order k d) × (at < length rows) × (get_or (map fate order) k d ≡ fate at)
+  read k d high =
+      let long = length-map order fate in
+      (get_or order k d, refl, index.within k d (omega arith), get_or-map fate order k d d (omega arith))
+
+  left_within : All (λ to. to < length (filter p rows)) left
+  unfolding left
+  left_within k d high = All-filter is_low (λ to. to < length rows → to < length (filter p rows)) (map fate order) fits k d high (left_low k d high)
+    where
+      fits : All (λ to. to < length rows → to < length (filter p rows)) (map fate order)
+      fits k d high small = let r = read k d high in
+          subst (λ to. to < length (filter p rows)) (sym r.3) (lands r.0 r.2 (subst (λ to. to < length rows) r.3 small)).0
+
+  left_in_order : AreInOrder (filter p rows) left
+  unfolding left
+  left_in_order i j d less high =
+      AllPairs-filter (λ a b. a < length rows → b < length rows → key_lt (key_at (filter p rows) a) (key_at (filter p rows) b) ≡ true) is_low (map fate order) pairs
+      i j d less high (left_low i d (omega arith)) (left_low j d high)
+    where
+      pairs : AllPairs (λ a b. a < length rows → b < length rows → key_lt (key_at (filter p rows) a) (key_at (filter p rows) b) ≡ true) (map fate order)
+      pairs i j d less high small_i small_j =
+          let r = read i d (omega arith) in
+          let s = read j d high in
+          let e = ap (key_at (filter p rows)) r.3 ∙ (lands r.0 r.2 (subst (λ to. to < length rows) r.3 small_i)).1 ∙ ap (key_at rows) r.1 in
+          let f = ap (key_at (filter p rows)) s.3 ∙ (lands s.0 s.2 (subst (λ to. to < length rows) s.3 small_j)).1 ∙ ap (key_at rows) s.1 in
+          rw (e, f) (index.in_order i j d less (let long = length-map order fate in omega arith))
+
+  left_all : (to : ℕ) → to < length (filter p rows) → Contains left to
+  unfolding left Came
+  left_all to small = from (came p rows to small)
+    where
+      from : Came p rows to → Contains left to
+      from (at, within, passes, is) =
+          let e : fate at ≡ to = are.stay at no_row within passes ∙ is in
+          let few = fewer p rows in
+          let long = are.long in
+          Contains-filter is_low (map fate order) to (subst (λ k. Contains (map fate order) k) e (Contains-map fate order at (in_index rows order at index within)))
+          (let small : to < length fates = omega arith in grind (arith, nat_tests))
+
+  left_long : length left ≡ length (filter p rows)
+  left_long =
+      let most = length-le_from_distinct_below left (length (filter p rows)) (IsDistinct-from_AllPairs Decides-eqb left (no_place_twice (filter p rows) left left_in_order))
+      (λ q found. All-contains (λ to. to < length (filter p rows)) left q left_within (Contains-from_any (λ x y. (Decides-eqb x y).0) q left found)) in
+      let least = le-length_from_below left (length (filter p rows)) (λ q small. has q (left_all q small)) in
+      omega arith
+    where
+      has : (q : ℕ) → Contains left q → list_any (nat_eq q) left ≡ true
+      has q (k, high, is) = list_any_at (nat_eq q) left k q high ((Decides-eqb q (get_or left k q)).1 (sym is))
+
+  pub renumbered : IsIndex (filter p rows) (filter (λ to. nat_lt to (length fates)) (map (λ at. get_or fates at 0) order))
+  unfolding left
+  renumbered = record { within = left_within; long = left_long; in_order = left_in_order }
+
+-- what is left to filter is as it was
+still : (p : NodeRow → Bool) (xs ys : List NodeRow) (k at : ℕ) (d : NodeRow) → FiltersInPlace p xs ys k at → get_or ys at d ≡ get_or xs at d
+still p xs ys k at d filtered =
+    let e : at + 0 ≡ at = omega arith in
+    ap (λ n. get_or ys n d) (sym e) ∙ sym (get_or-drop at ys 0 d) ∙ ap (λ list. get_or list 0 d) filtered.rest ∙ get_or-drop at xs 0 d ∙ ap (λ n. get_or xs n d) e
+
+-- the fate that is read tells whether the row stays
+module _ (p : NodeRow → Bool) (rows ys : List NodeRow) (fates : List ℕ) (kept at fate : ℕ) (are : AreFates p rows (length rows) fates) (filtered : FiltersInPlace p rows ys kept at)
+    (within : at < length rows) (is : fate ≡ get_or fates at fate) where
+  fate_is : fate ≡ get_or fates at 0
+  fate_is = is ∙ get_or_default fates at fate 0 (let e = are.long in omega arith)
+
+  pub stays_by : fate < length rows → p (get_or ys at no_row) ≡ true
+  stays_by low = here (p (get_or rows at no_row)) refl
+    where
+      here : (b : Bool) → p (get_or rows at no_row) ≡ b → p (get_or ys at no_row) ≡ true
+      here true e = ap p (still p rows ys kept at no_row filtered) ∙ e
+      here false e = absurd (let g = are.go at no_row within e in let f = fate_is in omega arith)
+
+  pub goes_by : length rows ≤ fate → p (get_or ys at no_row) ≡ false
+  goes_by high = here (p (get_or rows at no_row)) refl
+    where
+      here : (b : Bool) → p (get_or rows at no_row) ≡ b → p (get_or ys at no_row) ≡ false
+      here true e = absurd (let g = are.stay at no_row within e in let f = fate_is in let h = (stays_behind p rows at no_row within e).0 in let few = fewer p rows in omega arith)
+      here false e = ap p (still p rows ys kept at no_row filtered) ∙ e
+
+-- all of a list is mapped
+pub mapped : (f : ℕ → ℕ) (xs : List ℕ) (n : ℕ) → length xs ≡ n → map f (take n xs) ++ drop n xs ≡ map f xs
+mapped f [] n long = rw (sym long) refl
+mapped f (x ∷ xs) zero long = absurd (omega arith)
+mapped f (x ∷ xs) (suc n) long = ap (λ rest. f x ∷ rest) (mapped f xs n (omega arith))
+
+-- the tree that is left
+pub purged : (p : NodeRow → Bool) (rows : List NodeRow) (order fates : List ℕ) (pieces count room : ℕ) → IsTree rows order pieces room → AreFates p rows (length rows) fates
+    → count ≡ piece_count (filter p rows) → IsTree (filter p rows) (filter (λ to. nat_lt to (length fates)) (map (λ at. get_or fates at 0) order)) count room
+purged p rows order fates pieces count room tree are counted = record {
+  rising = AllPairs-filter (λ (a b : NodeRow). a.id < b.id) p rows tree.rising;
+  index = renumbered p rows order fates tree.index are;
+  small = All-filter p (λ (row : NodeRow). length row.content ≤ 10000) rows tree.small;
+  counted = counted;
+  fits = let e = fewer p rows in let f = tree.fits in omega arith;
+  few = tree.few;
+}

@@ -1,0 +1,11 @@
+pub mod Members
+pub mod Positions
+pub mod Climbs
+pub mod Keys
+pub mod Orders
+pub mod Childs
+pub mod ByName
+pub mod Children
+pub mod Trees
+pub mod Walks
+pub mod Fates

@@ -1,0 +1,46 @@
+use Rattle.std.proofs.Common.{length, ap, sym, refl, ◌∙◌, arith}
+use Rattle.nf_base.specs.declared.rows.NodeRow.{NodeRow}
+use Rattle.nf_defs.specs.Tree.{content_of, is_file}
+use Rattle.nf_tree.specs.Held.{Held}
+use Rattle.nf_tree.proofs.Positions.{row_there}
+use Rattle.nf_tree.proofs.Trees.{changed_tree, changed_held, node_within, counted_there, same_index, pieces_few, file_row, content_row}
+use Rattle.nf_tree.proofs.tree.Tree.replace.Goals as goal
+
+pub refill-old-requires : goal.refill-old-requires
+refill-old-requires c =
+    let view = ap (λ (h : Held). h.rows) c.self.view_is in
+    let there = row_there _ c.args.file c.place_of-at.result c.index_mut.result.now (sym (rw (← view) at c.place_of-at.ensures)) c.index_mut.ensures.value in
+    file_row _ c.args.file _ there (ap (λ rows. is_file rows c.args.file) view ∙ c.requires)
+
+pub overflow_add-self : goal.overflow_add-self
+overflow_add-self c =
+    let few = pieces_few _ _ _ _ c.self.invariant.0 in
+    let more = rw (← c.pieces-more.ensures.pieces) at c.pieces-more.ensures.kept.few in
+    omega arith
+
+pub invariant_of-self : goal.invariant_of-self
+invariant_of-self c =
+    let rows = c.self.inside.rows.items in
+    let at = c.place_of-at.result in
+    let old = c.index_mut.result.now in
+    let is = c.index_mut.ensures.value in
+    let there = rw (← ap (λ (h : Held). h.rows) c.self.view_is) at c.place_of-at.ensures in
+    let within = node_within rows at c.args.file old there in
+    let counted = counted_there rows at old within is in
+    let new = c.refill-old.ensures.row in
+    let index = same_index rows at c.refill-old.new.row old c.self.inside.order.items within is (rw new refl) c.self.invariant.0.index in
+    rw (c.pieces.ensures.pieces, c.refill-old.ensures.content, c.pieces-more.ensures.pieces) (
+      changed_tree rows at c.refill-old.new.row old c.self.inside.order.items c.self.inside.order.items c.self.inside.pieces _ c.self.inside.room
+          c.self.invariant.0 within is (rw new refl) (rw new c.pieces-more.ensures.kept.few)
+          (let long = ap (λ (row : NodeRow). length row.content) new in omega (arith, counted, long, c.self.invariant.0.counted)) index,
+      c.self.invariant.1,
+    )
+
+pub returns-clause-rows : goal.returns-clause-rows
+returns-clause-rows c = changed_held _ _ _ _ _ _ _ _ c.self.view_is c.place_of-at.ensures c.index_mut.ensures.value c.refill-old.ensures.row
+
+pub returns-clause-content : goal.returns-clause-content
+returns-clause-content c =
+    let view = ap (λ (h : Held). h.rows) c.self.view_is in
+    let there = row_there _ c.args.file c.place_of-at.result c.index_mut.result.now (sym (rw (← view) at c.place_of-at.ensures)) c.index_mut.ensures.value in
+    c.refill-old.ensures.content ∙ content_row _ c.args.file _ there ∙ ap (λ rows. content_of rows c.args.file) view

@@ -1,0 +1,68 @@
+-- The order of the nodes by folder, then name, then number, and a list of places that is in it.
+use Rattle.std.specs.Prelude.{ℕ, ◌+◌, ◌<◌, ◌≤◌, ◌≡◌, ◌≢◌, Bool, true, false, not, List, [], length, take, filter, Option, None, All, AllPairs, slice_get, slice_index, slice_index_or}
+use Rattle.std.specs.List.{AllWithin}
+use Rattle.std.specs.Option.{option_map_or, option_cmp}
+use Rattle.std.specs.Ordering.{nat_cmp, ordering_then, is_lt}
+use Rattle.std.specs.Cmp.Lexicographic.{slice_cmp}
+use Rattle.std.specs.declared.cmp.Ordering.{Ordering}
+use Rattle.nf_base.specs.declared.rows.NodeRow.{NodeRow}
+use Rattle.nf_defs.specs.Tree.{folder_of, is_under}
+
+-- the numbers of the nodes rise
+abbrev pub AreRisingNodes : List NodeRow → Type 0
+AreRisingNodes rows = AllPairs (λ (older newer : NodeRow). older.id < newer.id) rows
+
+-- a folder, a name and a number
+pub record Key : Type 0 where
+  pub folder : Option ℕ
+  pub name : List ℕ
+  pub id : ℕ
+
+abbrev pub key_cmp : Key → Key → Ordering
+key_cmp a b = ordering_then (option_cmp nat_cmp a.folder b.folder) (ordering_then (slice_cmp nat_cmp a.name b.name) (nat_cmp a.id b.id))
+
+unfoldable pub key_lt : Key → Key → Bool
+key_lt a b = is_lt (key_cmp a b)
+
+abbrev pub key_of : NodeRow → Key
+key_of row = record { folder = folder_of row.place; name = row.name; id = row.id }
+
+abbrev pub no_key : Key
+no_key = record { folder = None; name = []; id = 0 }
+
+-- the key of the row at a place
+unfoldable pub key_at : List NodeRow → ℕ → Key
+key_at rows at = option_map_or key_of (slice_get rows at) no_key
+
+-- the places are in the order of their rows' keys
+abbrev pub AreInOrder : List NodeRow → List ℕ → Type 0
+AreInOrder rows order = AllPairs (λ (a b : ℕ). key_lt (key_at rows a) (key_at rows b) ≡ true) order
+
+-- each row's place, once, in the order of the keys
+pub record IsIndex (rows : List NodeRow) (order : List ℕ) : Type 0 where
+  pub within : All (λ at. at < length rows) order
+  pub long : length order ≡ length rows
+  pub in_order : AreInOrder rows order
+
+-- the same but for one place
+pub record LacksOnly (rows : List NodeRow) (order : List ℕ) (at : ℕ) : Type 0 where
+  pub within : All (λ other. other < length rows) order
+  pub long : length order + 1 ≡ length rows
+  pub in_order : AreInOrder rows order
+  pub absent : All (λ other. other ≢ at) order
+
+-- the places before the cut have keys before the key, those behind it have not
+pub record IsCut (rows : List NodeRow) (order : List ℕ) (key : Key) (cut : ℕ) : Type 0 where
+  pub bound : cut ≤ length order
+  pub before : AllWithin (λ at. key_lt (key_at rows at) key ≡ true) order 0 cut
+  pub behind : AllWithin (λ at. key_lt (key_at rows at) key ≡ false) order cut (length order)
+
+-- the row stays where the nodes under a top go
+abbrev pub stays : List NodeRow → ℕ → NodeRow → Bool
+stays rows top row = not (is_under rows row.id top)
+
+-- where each of the first n rows goes when only those that stay are left: behind those before it, or past the end
+pub record AreFates (kept : NodeRow → Bool) (rows : List NodeRow) (n : ℕ) (fates : List ℕ) : Type 0 where
+  pub long : length fates ≡ n
+  pub stay : (at : ℕ) (d : NodeRow) → at < n → kept (slice_index_or rows at d) ≡ true → slice_index fates at ≡ length (filter kept (take at rows))
+  pub go : (at : ℕ) (d : NodeRow) → at < n → kept (slice_index_or rows at d) ≡ false → slice_index fates at ≡ length rows

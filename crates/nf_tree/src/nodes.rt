@@ -1,0 +1,207 @@
+//! Look-ups and walks in rows by rising number.
+
+ghost use Rattle.std.specs.Prelude.{◌≡◌, false, ◌==◌, ◌≤◌, ◌<◌, length, vec_len, vec_capacity, option_copied, IfOk};
+ghost use Rattle.std.specs.List.{position};
+ghost use Rattle.nf_defs.specs.Tree.{node_row, is_folder, is_root, folder_of, parent_of, is_under, is_rooted, depth, piece_count, is_folder_kind, filled, relinked, trashed, without_under};
+ghost use Rattle.nf_tree.specs.Held.{AreSmall};
+ghost use Rattle.nf_tree.specs.Order.{AreRisingNodes, AreFates, stays};
+
+use crate::order::folder_of;
+use nf_base::{Content, Moment, Name, NodeId, NodeKind, NodeRow, Place};
+use std::alloc::AllocError;
+
+/// The place of a node's row.
+pub(crate) fn index_of(rows: &[NodeRow], node: NodeId) -> Option<usize>
+    requires { AreRisingNodes rows.now }
+    ensures { result ≡ position (λ row. row.id == node) rows.now }
+{
+    match rows.binary_search_by_key(&node, |row| row.id) {
+        Ok(at) => Some(at),
+        Err(_) => None,
+    }
+}
+
+pub(crate) fn node_row(rows: &[NodeRow], node: NodeId) -> Option<&NodeRow>
+    requires { AreRisingNodes rows.now }
+    ensures { option_copied result ≡ node_row rows.now node }
+{
+    match index_of(rows, node) {
+        Some(at) => Some(&rows[at]),
+        None => None,
+    }
+}
+
+pub(crate) fn is_folder(rows: &[NodeRow], node: NodeId) -> bool
+    requires { AreRisingNodes rows.now }
+    ensures { result ≡ is_folder rows.now node }
+{
+    match node_row(rows, node) {
+        Some(row) => row.kind == NodeKind::Folder,
+        None => false,
+    }
+}
+
+fn is_root(rows: &[NodeRow], node: NodeId) -> bool
+    requires { AreRisingNodes rows.now }
+    ensures { result ≡ is_root rows.now node }
+{
+    match node_row(rows, node) {
+        Some(row) => row.place == Place::Root,
+        None => false,
+    }
+}
+
+/// The folder that a node is in.
+fn parent_of(rows: &[NodeRow], node: NodeId) -> Option<NodeId>
+    requires { AreRisingNodes rows.now }
+    ensures { result ≡ parent_of rows.now node }
+{
+    folder_of(node_row(rows, node)?.place)
+}
+
+/// Puts a row into that folder, under that name.
+pub(crate) fn relink(row: &mut NodeRow, folder: NodeId, name: Name)
+    ensures { row.new ≡ relinked folder name row.old }
+{
+    row.place = Place::Inside(folder);
+    row.name = name;
+}
+
+/// Makes a row the top of an item in the trash.
+pub(crate) fn trash(row: &mut NodeRow)
+    ensures { row.new ≡ trashed row.old }
+{
+    row.place = Place::Trash;
+}
+
+/// Gives a file's row another content. The old one is answered.
+pub(crate) fn refill(row: &mut NodeRow, content: Content, changed: Moment) -> Content
+    requires { is_folder_kind row.old.kind ≡ false }
+    ensures row { row.new ≡ filled content changed row.old }
+    ensures content { result ≡ row.old.content }
+{
+    row.changed = changed;
+    std::mem::replace(&mut row.content, content)
+}
+
+/// An equal row.
+pub(crate) fn copy_row(row: &NodeRow) -> Result<NodeRow, AllocError>
+    ensures { IfOk result (λ copy. copy ≡ row.now) }
+{
+    row.clone()
+}
+
+/// Drops the rows of the nodes under a top, and tells where each row goes.
+pub(crate) fn drop_under(rows: &mut Vec<NodeRow>, fates: &mut Vec<usize>, top: NodeId)
+    requires rising { AreRisingNodes rows.old.items }
+    requires room { vec_len rows.old ≤ vec_capacity fates.old }
+    ensures rows { rows.new.items ≡ without_under rows.old.items top }
+    ensures rows_room { vec_capacity rows.new ≡ vec_capacity rows.old }
+    ensures fates { AreFates (stays rows.old.items top) rows.old.items (vec_len rows.old) fates.new.items }
+    ensures fates_room { vec_capacity fates.new ≡ vec_capacity fates.old }
+{
+    settle(rows, fates, top);
+    let end = rows.len();
+    let mut kept = 0;
+    for at in 0..end {
+        if fates[at] < end {
+            rows.swap(kept, at);
+            kept += 1;
+        }
+    }
+    rows.truncate(kept);
+}
+
+/// Finds out where each row goes.
+fn settle(rows: &[NodeRow], fates: &mut Vec<usize>, top: NodeId)
+    requires rising { AreRisingNodes rows.now }
+    requires room { length rows.now ≤ vec_capacity fates.old }
+    ensures fates { AreFates (stays rows.now top) rows.now (length rows.now) fates.new.items }
+    ensures room { vec_capacity fates.new ≡ vec_capacity fates.old }
+{
+    fates.clear();
+    let mut kept = 0;
+    for row in rows {
+        if is_under(rows, row.id, top) {
+            fates.push_reserved(rows.len());
+        } else {
+            fates.push_reserved(kept);
+            kept += 1;
+        }
+    }
+}
+
+/// How many pieces a row has.
+pub(crate) fn pieces_of(row: &NodeRow) -> usize
+    ensures count { result ≡ length row.now.content }
+    ensures few { result ≤ 10000 }
+{
+    row.content.pieces().len()
+}
+
+/// How many pieces the rows have, with repeats.
+pub(crate) fn piece_count(rows: &[NodeRow]) -> usize
+    requires { length rows.now ≤ 262144 }
+    ensures count { result ≡ piece_count rows.now }
+    ensures small { AreSmall rows.now }
+{
+    let mut count = 0;
+    for row in rows {
+        count += pieces_of(row);
+    }
+    count
+}
+
+/// Whether the node is the top, or in a folder under it.
+pub(crate) fn is_under(rows: &[NodeRow], node: NodeId, top: NodeId) -> bool
+    requires { AreRisingNodes rows.now }
+    ensures { result ≡ is_under rows.now node top }
+{
+    let mut at = node;
+    for step in 0..64u32 {
+        let _ = step;
+        if at == top {
+            return true;
+        }
+        match parent_of(rows, at) {
+            Some(parent) => at = parent,
+            None => return false,
+        }
+    }
+    at == top
+}
+
+/// Whether the node leads to a root.
+pub(crate) fn is_rooted(rows: &[NodeRow], node: NodeId) -> bool
+    requires { AreRisingNodes rows.now }
+    ensures { result ≡ is_rooted rows.now node }
+{
+    let mut at = node;
+    for step in 0..64u32 {
+        let _ = step;
+        if is_root(rows, at) {
+            return true;
+        }
+        match parent_of(rows, at) {
+            Some(parent) => at = parent,
+            None => return false,
+        }
+    }
+    is_root(rows, at)
+}
+
+/// How many folders are above a node, 64 at most.
+pub(crate) fn depth(rows: &[NodeRow], node: NodeId) -> u32
+    requires { AreRisingNodes rows.now }
+    ensures depth { result ≡ depth rows.now node }
+    ensures few { result ≤ 64 }
+{
+    let mut at = node;
+    for step in 0..64u32 {
+        match parent_of(rows, at) {
+            Some(parent) => at = parent,
+            None => return step,
+        }
+    }
+    64
+}

@@ -1,0 +1,216 @@
+//! The places of the rows in the order of their keys: by folder, then name, then number.
+
+ghost use Rattle.std.specs.Prelude.{◌≡◌, ◌<◌, ◌≤◌, ◌+◌, ◌&&◌, bytes_eq, length, All, IfOk, map, filter, nat_lt, option_copied, slice_get, slice_index, vec_len, vec_capacity};
+ghost use Rattle.std.specs.List.{range_with_len};
+ghost use Rattle.nf_defs.specs.Tree.{child_of, children_of, is_in, folder_of};
+ghost use Rattle.nf_tree.specs.Order.{AreRisingNodes, AreInOrder, IsCut, IsIndex, LacksOnly, key_cmp, key_of, key_at};
+
+use nf_base::{NodeId, NodeRow, Place};
+use std::alloc::{AllocError, Global};
+use std::cmp::Ordering;
+
+pub(crate) fn folder_of(place: Place) -> Option<NodeId>
+    ensures { result ≡ folder_of place }
+{
+    match place {
+        Place::Inside(parent) => Some(parent),
+        Place::Root | Place::Trash => None,
+    }
+}
+
+pub(crate) fn is_in(folder: NodeId, row: &NodeRow) -> bool
+    ensures { result ≡ is_in folder row.now }
+{
+    match row.place {
+        Place::Inside(parent) => parent == folder,
+        Place::Root | Place::Trash => false,
+    }
+}
+
+/// How the key of a row stands to another key.
+fn compare(row: &NodeRow, folder: &Option<NodeId>, name: &[u8], id: NodeId) -> Ordering
+    ensures { result ≡ key_cmp (key_of row.now) (record { folder = folder.now; name = name.now; id = id }) }
+{
+    match folder_of(row.place).cmp(folder) {
+        Ordering::Equal => match row.name.as_bytes().cmp(name) {
+            Ordering::Equal => row.id.cmp(&id),
+            other => other,
+        },
+        other => other,
+    }
+}
+
+/// How many places have keys before that one.
+fn cut(rows: &[NodeRow], order: &[usize], folder: &Option<NodeId>, name: &[u8], id: NodeId) -> usize
+    requires within { All (λ at. at < length rows.now) order.now }
+    requires in_order { AreInOrder rows.now order.now }
+    ensures { IsCut rows.now order.now (record { folder = folder.now; name = name.now; id = id }) result }
+{
+    let mut low = 0;
+    let mut high = order.len();
+    while low < high {
+        let middle = low + (high - low) / 2;
+        let at = order[middle];
+        if compare(&rows[at], folder, name, id).is_lt() {
+            low = middle + 1;
+        } else {
+            high = middle;
+        }
+    }
+    low
+}
+
+/// How many places have keys before that of a row.
+fn cut_at(rows: &[NodeRow], order: &[usize], row: &NodeRow) -> usize
+    requires within { All (λ at. at < length rows.now) order.now }
+    requires in_order { AreInOrder rows.now order.now }
+    ensures { IsCut rows.now order.now (key_of row.now) result }
+{
+    cut(
+        rows,
+        order,
+        &folder_of(row.place),
+        row.name.as_bytes(),
+        row.id,
+    )
+}
+
+/// Puts in the place that the order lacks.
+pub(crate) fn put(rows: &[NodeRow], order: &mut Vec<usize>, at: usize)
+    requires rising { AreRisingNodes rows.now }
+    requires there { at < length rows.now }
+    requires lacks { LacksOnly rows.now order.old.items at }
+    requires room { vec_len order.old < vec_capacity order.old }
+    ensures index { IsIndex rows.now order.new.items }
+    ensures room { vec_capacity order.new ≡ vec_capacity order.old }
+{
+    let to = cut_at(rows, order, &rows[at]);
+    order.insert(to, at).unwrap();
+}
+
+/// Takes a place out.
+pub(crate) fn take(rows: &[NodeRow], order: &mut Vec<usize>, at: usize)
+    requires rising { AreRisingNodes rows.now }
+    requires there { at < length rows.now }
+    requires index { IsIndex rows.now order.old.items }
+    ensures lacks { LacksOnly rows.now order.new.items at }
+    ensures length { vec_len order.new + 1 ≡ vec_len order.old }
+    ensures room { vec_capacity order.new ≡ vec_capacity order.old }
+{
+    let from = cut_at(rows, order, &rows[at]);
+    order.remove(from);
+}
+
+/// Which of two rows comes first.
+fn compare_rows(first: &NodeRow, row: &NodeRow) -> Ordering
+    ensures { result ≡ key_cmp (key_of first.now) (key_of row.now) }
+{
+    compare(first, &folder_of(row.place), row.name.as_bytes(), row.id)
+}
+
+fn get_row(rows: &[NodeRow], at: usize) -> Option<&NodeRow>
+    ensures { option_copied result ≡ slice_get rows.now at }
+{
+    rows.get(at)
+}
+
+/// Which of the rows at two places comes first. What is past the end comes before all rows.
+fn compare_places(rows: &[NodeRow], a: usize, b: usize) -> Ordering
+    ensures { result ≡ key_cmp (key_at rows.now a) (key_at rows.now b) }
+{
+    match (get_row(rows, a), get_row(rows, b)) {
+        (Some(first), Some(row)) => compare_rows(first, row),
+        (Some(first), None) => compare(first, &None, b"", NodeId::new(0)),
+        (None, Some(row)) => compare(row, &None, b"", NodeId::new(0)).reverse(),
+        (None, None) => Ordering::Equal,
+    }
+}
+
+/// The places of the rows in order.
+pub(crate) fn of(alloc: Global, rows: &[NodeRow]) -> Result<Vec<usize>, AllocError>
+    requires { AreRisingNodes rows.now }
+    ensures index { IfOk result (λ order. IsIndex rows.now order.items) }
+    ensures room { IfOk result (λ order. length rows.now ≤ vec_capacity order) }
+{
+    let mut order = Vec::new(alloc);
+    order.reserve(rows.len())?;
+    for at in 0..rows.len() {
+        order.push_reserved(at);
+    }
+    sort(rows, &mut order);
+    Ok(order)
+}
+
+/// Sorts all the places.
+fn sort(rows: &[NodeRow], order: &mut Vec<usize>)
+    requires rising { AreRisingNodes rows.now }
+    requires all { order.old.items ≡ range_with_len 0 (length rows.now) }
+    ensures index { IsIndex rows.now order.new.items }
+    ensures room { vec_capacity order.new ≡ vec_capacity order.old }
+{
+    order.sort_unstable_by(|a, b| compare_places(rows, *a, *b));
+}
+
+/// Drops the places of the rows that go, and puts the others to where their rows go.
+pub(crate) fn renumber(order: &mut Vec<usize>, fates: &[usize])
+    requires { All (λ at. at < length fates.now) order.old.items }
+    ensures order { order.new.items ≡ filter (λ to. nat_lt to (length fates.now)) (map (slice_index fates.now) order.old.items) }
+    ensures room { vec_capacity order.new ≡ vec_capacity order.old }
+{
+    for at in 0..order.len() {
+        order[at] = fates[order[at]];
+    }
+    let end = fates.len();
+    order.retain(|to| *to < end);
+}
+
+fn is_child(folder: NodeId, name: &[u8], row: &NodeRow) -> bool
+    ensures { result ≡ (is_in folder row.now && bytes_eq row.now.name name.now) }
+{
+    is_in(folder, row) && row.name.as_bytes() == name
+}
+
+/// The folder's child of that name.
+pub(crate) fn child_of(
+    rows: &[NodeRow],
+    order: &[usize],
+    folder: NodeId,
+    name: &[u8],
+) -> Option<NodeId>
+    requires rising { AreRisingNodes rows.now }
+    requires index { IsIndex rows.now order.now }
+    ensures { result ≡ child_of rows.now folder name.now }
+{
+    let at = cut(rows, order, &Some(folder), name, NodeId::new(0));
+    if at < order.len() {
+        let row = &rows[order[at]];
+        if is_child(folder, name, row) {
+            return Some(row.id);
+        }
+    }
+    None
+}
+
+/// The children of a folder, by name.
+pub(crate) fn children_of(
+    alloc: Global,
+    rows: &[NodeRow],
+    order: &[usize],
+    folder: NodeId,
+) -> Result<Vec<NodeId>, AllocError>
+    requires rising { AreRisingNodes rows.now }
+    requires index { IsIndex rows.now order.now }
+    ensures { IfOk result (λ children. children.items ≡ children_of rows.now folder) }
+{
+    let mut children = Vec::new(alloc);
+    let mut at = cut(rows, order, &Some(folder), b"", NodeId::new(0));
+    while at < order.len() {
+        let row = &rows[order[at]];
+        if !is_in(folder, row) {
+            return Ok(children);
+        }
+        children.push(row.id)?;
+        at += 1;
+    }
+    Ok(children)
+}

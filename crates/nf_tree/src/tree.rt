@@ -1,0 +1,463 @@
+//! The tree as callers see it.
+
+ghost use Rattle.std.specs.Prelude.{◌≡◌, ◌==◌, ◌<◌, ◌≤◌, ◌+◌, ◌↔◌, All, IfOk, OnOk, IsSome, true, Some, map, [], ◌∷◌, ◌++◌, Err, length, option_copied, vec_len, vec_capacity};
+ghost use Rattle.std.specs.List.{position};
+ghost use Rattle.nf_base.specs.declared.rows.Row.TheVariants.{Node};
+ghost use Rattle.nf_defs.specs.Tree.{node_row, child_of, is_folder, is_file, content_of, piece_count, is_under, depth, found_from, children_of, walk_of, walk_within, is_rooted, with_node, filled, relinked, trashed, without_under};
+ghost use Rattle.nf_tree.specs.Order.{AreRisingNodes};
+
+use crate::{nodes, order};
+use nf_base::{Content, Moment, Name, NodeId, NodeRow, Row, RowList};
+use nf_defs::Found;
+use std::alloc::{AllocError, Global};
+use std::marker::Model;
+
+/// Why room can't be made.
+#[derive(Clone, Copy, Debug, PartialEq, Eq)]
+pub enum TreeFault {
+    /// There would be more than 262,144 nodes.
+    Limit,
+    /// There is no memory for it.
+    Memory,
+}
+
+impl From<AllocError> for TreeFault {
+    ghost use Rattle.nf_tree.specs.declared.tree.TreeFault.TheVariants.{Memory};
+
+    ghost from_gives = { λ _ fault. fault ≡ Memory };
+
+    fn from(_: AllocError) -> Self {
+        TreeFault::Memory
+    }
+}
+
+/// How many nodes there may be.
+const MOST: usize = 262_144;
+
+/// For how many more there is to be room, so that many small calls cost little: as many again, where they may be.
+fn growth(many: usize, count: usize) -> usize
+    requires { many + count ≤ 262144 }
+    ensures enough { count ≤ result }
+    ensures few { many + result ≤ 262144 }
+{
+    if many <= count {
+        count
+    } else if many <= MOST - many {
+        many
+    } else {
+        MOST - many
+    }
+}
+
+/// All nodes of the site. What is found is found in logarithmic time.
+#[derive(Drop)]
+pub struct Tree {
+    /// By rising number.
+    rows: Vec<NodeRow>,
+    /// The places of the rows, by folder, name and number.
+    order: Vec<usize>,
+    /// Room in which a purge notes where each row goes.
+    fates: Vec<usize>,
+    /// How many pieces the rows have.
+    pieces: usize,
+    /// How many rows fit without more memory.
+    room: usize,
+}
+
+impl Model for Tree {
+    ghost use Rattle.std.specs.Prelude.{vec_capacity};
+    ghost use Rattle.nf_tree.specs.Held.{HaveRoom, Held, IsTree};
+
+    ghost Value = { Held };
+
+    ghost view = { λ tree. record { rows = tree.rows.items; room = tree.room } };
+
+    ghost invariant = { λ tree. IsTree tree.rows.items tree.order.items tree.pieces tree.room × HaveRoom tree.room (vec_capacity tree.rows) (vec_capacity tree.order) (vec_capacity tree.fates) };
+}
+
+impl Tree {
+    ghost use Rattle.nf_tree.specs.declared.tree.TreeFault.TheVariants.{Limit};
+
+    pub fn new(alloc: Global) -> Self
+        ensures { result ≡ record { rows = []; room = 0 } }
+    {
+        Tree {
+            rows: Vec::new(alloc),
+            order: Vec::new(alloc),
+            fates: Vec::new(alloc),
+            pieces: 0,
+            room: 0,
+        }
+    }
+
+    /// The tree of these rows.
+    pub fn load(alloc: Global, rows: Vec<NodeRow>) -> Result<Self, AllocError>
+        requires rising { AreRisingNodes rows.items }
+        requires few { length rows.items ≤ 262144 }
+        ensures rows { IfOk result (λ tree. tree.rows ≡ rows.items) }
+        ensures room { IfOk result (λ tree. length tree.rows ≤ tree.room) }
+    {
+        let room = rows.len();
+        let pieces = nodes::piece_count(&rows);
+        let order = order::of(alloc, &rows)?;
+        let mut fates = Vec::new(alloc);
+        fates.reserve(room)?;
+        Ok(Tree {
+            rows,
+            order,
+            fates,
+            pieces,
+            room,
+        })
+    }
+
+    /// Makes room for so many more nodes.
+    pub fn reserve(&mut self, count: usize) -> Result<(), TreeFault>
+        ensures limit { (result ≡ Err Limit) ↔ (262144 < length self.old.rows + count) }
+        ensures rows { self.new.rows ≡ self.old.rows }
+        ensures room { OnOk result (length self.new.rows + count ≤ self.new.room) }
+        ensures grown { self.old.room ≤ self.new.room }
+    {
+        let many = self.rows.len();
+        if MOST - many < count {
+            return Err(TreeFault::Limit);
+        }
+        if self.room < many + count {
+            let more = growth(many, count);
+            self.rows.reserve(more)?;
+            self.order.reserve(more)?;
+            self.fates.clear();
+            self.fates.reserve(many + more)?;
+            self.room = many + more;
+        }
+        Ok(())
+    }
+
+    /// Tells callers what every tree keeps; it does nothing.
+    pub fn keeps(&self)
+        ensures { length self.now.rows ≤ self.now.room }
+    {
+        let _ = &self.room;
+    }
+
+    /// How many nodes there are.
+    pub fn count(&self) -> usize
+        ensures count { result ≡ length self.now.rows }
+        ensures few { result ≤ 262144 }
+    {
+        let _ = &self.room;
+        self.rows.len()
+    }
+
+    /// How many pieces the contents have, with repeats.
+    pub fn pieces(&self) -> usize
+        ensures count { result ≡ piece_count self.now.rows }
+        ensures few { result ≤ 2621440000 }
+    {
+        self.pieces
+    }
+
+    /// The nodes' rows, by rising number.
+    pub fn nodes(&self) -> &[NodeRow]
+        ensures rows { result.now ≡ self.now.rows }
+        ensures rising { AreRisingNodes self.now.rows }
+        ensures few { length result.now ≤ 262144 }
+    {
+        &self.rows
+    }
+
+    /// A copy of the rows, by rising number.
+    pub fn rows(&self, alloc: Global) -> Result<RowList, AllocError>
+        ensures { IfOk result (λ rows. rows ≡ map Node self.now.rows) }
+    {
+        let mut rows = RowList::new(alloc);
+        for row in &self.rows {
+            rows.push(Row::Node(nodes::copy_row(row)?))?;
+        }
+        Ok(rows)
+    }
+
+    pub fn node(&self, id: NodeId) -> Option<&NodeRow>
+        ensures { option_copied result ≡ node_row self.now.rows id }
+    {
+        nodes::node_row(&self.rows, id)
+    }
+
+    fn is_folder(&self, node: NodeId) -> bool
+        ensures { result ≡ is_folder self.now.rows node }
+    {
+        nodes::is_folder(&self.rows, node)
+    }
+
+    /// The folder's child of that name.
+    pub fn child(&self, folder: NodeId, name: &Name) -> Option<NodeId>
+        ensures { result ≡ child_of self.now.rows folder name.now }
+    {
+        order::child_of(&self.rows, &self.order, folder, name.as_bytes())
+    }
+
+    /// Whether the node is the top, or under it.
+    pub fn under(&self, node: NodeId, top: NodeId) -> bool
+        ensures { result ≡ is_under self.now.rows node top }
+    {
+        nodes::is_under(&self.rows, node, top)
+    }
+
+    /// Whether the node is a root, or under one.
+    pub fn present(&self, node: NodeId) -> bool
+        ensures { result ≡ is_rooted self.now.rows node }
+    {
+        nodes::is_rooted(&self.rows, node)
+    }
+
+    /// How many folders are above a node, 64 at most.
+    pub fn depth(&self, node: NodeId) -> u32
+        ensures depth { result ≡ depth self.now.rows node }
+        ensures few { result ≤ 64 }
+    {
+        nodes::depth(&self.rows, node)
+    }
+
+    /// Where the names lead from a node.
+    pub fn find(&self, from: NodeId, names: &[Name]) -> Found
+        ensures { result ≡ found_from self.now.rows 0 from names.now }
+    {
+        let mut at = from;
+        for (depth, name) in names.iter().enumerate() {
+            if !self.is_folder(at) {
+                return Found::Missing { depth };
+            }
+            at = match self.child(at, name) {
+                Some(child) => child,
+                None if depth + 1 == names.len() => return Found::Free { folder: at },
+                None => return Found::Missing { depth },
+            };
+        }
+        Found::At(at)
+    }
+
+    /// The children of a folder, by name.
+    pub fn children(&self, alloc: Global, folder: NodeId) -> Result<Vec<NodeId>, AllocError>
+        ensures { IfOk result (λ children. children.items ≡ children_of self.now.rows folder) }
+    {
+        order::children_of(alloc, &self.rows, &self.order, folder)
+    }
+
+    /// The nodes under a top, itself first: each folder before what is in it, children by name.
+    pub fn subtree(&self, alloc: Global, top: NodeId) -> Result<Vec<NodeId>, AllocError>
+        ensures { IfOk result (λ nodes. nodes.items ≡ walk_of self.now.rows top) }
+    {
+        let mut nodes = Vec::new(alloc);
+        self.walk(alloc, 64, top, &mut nodes)?;
+        Ok(nodes)
+    }
+
+    /// Puts a node at the end, and what is so many folders under it at most.
+    fn walk(
+        &self,
+        alloc: Global,
+        down: u32,
+        node: NodeId,
+        nodes: &mut Vec<NodeId>,
+    ) -> Result<(), AllocError>
+        ensures { OnOk result (nodes.new.items ≡ nodes.old.items ++ walk_within down self.now.rows node) }
+    {
+        nodes.push(node)?;
+        if down > 0 {
+            let children = self.children(alloc, node)?;
+            for child in &children {
+                self.walk(alloc, down - 1, *child, nodes)?;
+            }
+        }
+        Ok(())
+    }
+
+    /// Puts a new node in. It takes no memory, and nor does any other change.
+    pub fn add(&mut self, row: NodeRow)
+        requires room { length self.old.rows < self.old.room }
+        requires newest { All (λ (older : NodeRow). older.id < row.id) self.old.rows }
+        ensures { self.new ≡ record self.old { rows = self.old.rows ++ row ∷ [] } }
+    {
+        let last = self.rows.len();
+        self.pieces += nodes::pieces_of(&row);
+        self.rows.push_reserved(row);
+        order::put(&self.rows, &mut self.order, last);
+    }
+
+    /// Gives a node another content, which became current at the moment. The old one is answered.
+    pub fn replace(&mut self, file: NodeId, content: Content, changed: Moment) -> Content
+        requires { is_file self.old.rows file ≡ true }
+        ensures rows { self.new ≡ record self.old { rows = with_node self.old.rows file (filled content changed) } }
+        ensures content { result ≡ content_of self.old.rows file }
+    {
+        let at = self.place_of(file);
+        let more = content.pieces().len();
+        let old = nodes::refill(&mut self.rows[at], content, changed);
+        self.pieces = self.pieces - old.pieces().len() + more;
+        old
+    }
+
+    /// Moves a node into that folder, under that name.
+    pub fn relink(&mut self, node: NodeId, folder: NodeId, name: Name)
+        requires { IsSome (node_row self.old.rows node) }
+        ensures { self.new ≡ record self.old { rows = with_node self.old.rows node (relinked folder name) } }
+    {
+        let at = self.place_of(node);
+        order::take(&self.rows, &mut self.order, at);
+        nodes::relink(&mut self.rows[at], folder, name);
+        order::put(&self.rows, &mut self.order, at);
+    }
+
+    /// Makes a node the top of an item in the trash.
+    pub fn detach(&mut self, node: NodeId)
+        requires { IsSome (node_row self.old.rows node) }
+        ensures { self.new ≡ record self.old { rows = with_node self.old.rows node trashed } }
+    {
+        let top = self.place_of(node);
+        order::take(&self.rows, &mut self.order, top);
+        nodes::trash(&mut self.rows[top]);
+        order::put(&self.rows, &mut self.order, top);
+    }
+
+    /// Moves a node out of the trash into that folder, under that name.
+    pub fn attach(&mut self, node: NodeId, folder: NodeId, name: Name)
+        requires { IsSome (node_row self.old.rows node) }
+        ensures { self.new ≡ record self.old { rows = with_node self.old.rows node (relinked folder name) } }
+    {
+        self.relink(node, folder, name)
+    }
+
+    /// Takes out a node and all under it, for good.
+    pub fn purge(&mut self, node: NodeId)
+        ensures { self.new ≡ record self.old { rows = without_under self.old.rows node } }
+    {
+        nodes::drop_under(&mut self.rows, &mut self.fates, node);
+        order::renumber(&mut self.order, &self.fates);
+        self.pieces = nodes::piece_count(&self.rows);
+    }
+
+    fn place_of(&self, node: NodeId) -> usize
+        requires { IsSome (node_row self.now.rows node) }
+        ensures { Some result ≡ position (λ row. row.id == node) self.now.rows }
+    {
+        nodes::index_of(&self.rows, node).unwrap()
+    }
+}
+
+#[cfg(test)]
+mod tests {
+    use super::*;
+    use nf_base::{NodeKind, Place, UserId};
+    use std::test::Fail;
+
+    fn inside(folder: u64) -> Place {
+        Place::Inside(NodeId::new(folder))
+    }
+
+    /// Puts a new folder in, if its number is the highest.
+    fn put(alloc: Global, tree: &mut Tree, id: u64, place: Place, name: &[u8]) -> Result<(), Fail> {
+        tree.reserve(1)?;
+        let row = NodeRow {
+            id: NodeId::new(id),
+            owner: UserId::new(1),
+            place,
+            name: Name::read(alloc, name)?,
+            kind: NodeKind::Folder,
+            content: Content::empty(alloc),
+            changed: Moment::new(1),
+        };
+        if tree.nodes().iter().all(|older| older.id < row.id) {
+            tree.add(row);
+        }
+        Ok(())
+    }
+
+    /// A root with two children, one of which has a child, and a folder in the trash with a child.
+    fn forest(alloc: Global) -> Result<Tree, Fail> {
+        let mut tree = Tree::new(alloc);
+        put(alloc, &mut tree, 1, Place::Root, b"ann")?;
+        put(alloc, &mut tree, 2, inside(1), b"ab")?;
+        put(alloc, &mut tree, 3, inside(1), b"aa")?;
+        put(alloc, &mut tree, 4, inside(2), b"aa")?;
+        put(alloc, &mut tree, 8, Place::Trash, b"aa")?;
+        put(alloc, &mut tree, 9, inside(8), b"aa")?;
+        Ok(tree)
+    }
+
+    #[test]
+    fn walks_by_name(rt: HostRuntime) -> Result<(), Fail> {
+        let alloc = rt.alloc();
+        let tree = forest(alloc)?;
+        let nodes = tree.subtree(alloc, NodeId::new(1))?;
+        assert!(rt;
+            nodes.as_slice()
+                == [
+                    NodeId::new(1),
+                    NodeId::new(3),
+                    NodeId::new(2),
+                    NodeId::new(4)
+                ]
+                .as_slice()
+        );
+        let nodes = tree.subtree(alloc, NodeId::new(8))?;
+        assert!(rt; nodes.as_slice() == [NodeId::new(8), NodeId::new(9)].as_slice());
+        assert!(rt; tree.under(NodeId::new(9), NodeId::new(8)) && !tree.present(NodeId::new(9)));
+        Ok(())
+    }
+
+    #[test]
+    fn what_is_nowhere_is_a_walk_of_its_own(rt: HostRuntime) -> Result<(), Fail> {
+        let alloc = rt.alloc();
+        let tree = forest(alloc)?;
+        let nowhere = NodeId::new(5);
+        assert!(rt; tree.node(nowhere).is_none() && !tree.present(nowhere));
+        assert!(rt; tree.under(nowhere, nowhere) && tree.depth(nowhere) == 0);
+        assert_eq!(rt; tree.subtree(alloc, nowhere)?.len(), 1);
+        Ok(())
+    }
+
+    #[test]
+    fn looks_64_folders_far(rt: HostRuntime) -> Result<(), Fail> {
+        let alloc = rt.alloc();
+        let mut tree = Tree::new(alloc);
+        put(alloc, &mut tree, 1, Place::Root, b"ann")?;
+        for id in 1..66u64 {
+            put(alloc, &mut tree, id + 1, inside(id), b"a")?;
+        }
+        assert!(rt; tree.present(NodeId::new(65)) && !tree.present(NodeId::new(66)));
+        assert!(rt;
+            tree.under(NodeId::new(65), NodeId::new(1))
+                && !tree.under(NodeId::new(66), NodeId::new(1))
+        );
+        assert!(rt; tree.depth(NodeId::new(65)) == 64 && tree.depth(NodeId::new(66)) == 64);
+        assert_eq!(rt; tree.subtree(alloc, NodeId::new(1))?.len(), 65);
+        Ok(())
+    }
+
+    /// Whether a look-up by the index is what a scan finds.
+    fn finds_as_a_scan(tree: &Tree, folder: NodeId, name: &Name) -> bool {
+        let scanned = tree.nodes().iter().find(|row| row.place == Place::Inside(folder)
+            && row.name == *name);
+        tree.child(folder, name) == scanned.map(|row| row.id)
+    }
+
+    #[test]
+    fn finds_after_many_moves(rt: HostRuntime) -> Result<(), Fail> {
+        let alloc = rt.alloc();
+        let mut tree = forest(alloc)?;
+        let mut dice = 1u32;
+        for _ in 0..200 {
+            dice = dice.wrapping_mul(1_664_525).wrapping_add(1_013_904_223);
+            let node = NodeId::new(u64::from(dice >> 16) % 9);
+            let folder = NodeId::new(u64::from(dice >> 20) % 9);
+            let name = Name::read(alloc, if dice >> 31 == 0 { b"aa" } else { b"ab" })?;
+            if tree.node(node).is_some() {
+                tree.relink(node, folder, name.copy()?);
+            }
+            assert!(rt;
+                finds_as_a_scan(&tree, folder, &name) && finds_as_a_scan(&tree, node, &name)
+            );
+        }
+        Ok(())
+    }
+}
