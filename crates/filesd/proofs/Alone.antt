@@ -6,8 +6,8 @@ use Rattle.std.proofs.lemmas.List.Elements.{All-head, All-tail}
 use Rattle.std.proofs.lemmas.Option.{none-some}
 use Rattle.nf_desk.specs.Desk.{AreOwn, book_of, seat}
 use Rattle.nf_promises.specs.Room.{IsAlone}
-use Rattle.nf_server.specs.Book.{held, own_from}
-use Rattle.nf_server.proofs.Books.{held_is_ticket}
+use Rattle.nf_session.specs.Book.{held, own_from}
+use Rattle.nf_session.proofs.Books.{held_is_ticket}
 use Rattle.nf_site.specs.Kept.{IsHistory, Kept}
 use Rattle.nf_told.specs.Told.{Told}
 use Rattle.nf_words.specs.History.{after, replay}

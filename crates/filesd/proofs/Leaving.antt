@@ -6,8 +6,8 @@ use Rattle.nf_defs.proofs.Tables.{tables_again}
 use Rattle.nf_desk.specs.Desk.{AreOwn, TellsSite, book_of}
 use Rattle.nf_rules.proofs.Ruled.{ruled_are_unbroken}
 use Rattle.nf_rules.specs.Ruled.{AreRuled}
-use Rattle.nf_server.specs.Book.{Answer, Book, held}
-use Rattle.nf_server.specs.Laws.{Counted, CountsStrikes, failed_entries}
+use Rattle.nf_session.specs.Book.{Answer, Book, held}
+use Rattle.nf_session.specs.Laws.{Counted, CountsStrikes, failed_entries}
 use Rattle.nf_site.specs.Kept.{IsHistory, Kept}
 use Rattle.nf_told.specs.Told.{AreFit, Told}
 use Rattle.nf_words.specs.Sound.{IsSound}

@@ -5,12 +5,12 @@ use Rattle.std.proofs.lemmas.Option.{none-some, same_Some}
 use Rattle.nf_outside.specs.Causes.{Rose}
 use Rattle.nf_promises.specs.Room.{IsAlone, IsFresh}
 use Rattle.nf_promises.proofs.Full.{never_full}
-use Rattle.nf_server.specs.Laws.{CountsFault}
-use Rattle.nf_server.specs.Session.{Session}
-use Rattle.nf_server.specs.Steps.{Scene}
-use Rattle.nf_server.specs.declared.ended.Ended.{Ended}
-use Rattle.nf_server.specs.declared.ended.Ended.TheVariants as ended
-use Rattle.nf_server.proofs.Causes.{session_follows}
+use Rattle.nf_session.specs.Laws.{CountsFault}
+use Rattle.nf_session.specs.Session.{Session}
+use Rattle.nf_session.specs.Steps.{Scene}
+use Rattle.nf_session.specs.declared.ended.Ended.{Ended}
+use Rattle.nf_session.specs.declared.ended.Ended.TheVariants as ended
+use Rattle.nf_session.proofs.Causes.{session_follows}
 use Rattle.filesd.specs.Session.{status_of}
 use Rattle.filesd.specs.declared.status.Status.{Status}
 use Rattle.filesd.specs.declared.status.Status.TheVariants as exit

@@ -11,10 +11,10 @@ use Rattle.nf_keeper.specs.Keeping.{Stored}
 use Rattle.nf_outside.specs.Causes.{Rose}
 use Rattle.nf_rows.specs.Spelling.{Raw}
 use Rattle.nf_rules.specs.Rules.{AreUnbroken}
-use Rattle.nf_server.proofs.Causes.{session_follows}
-use Rattle.nf_server.specs.Book.{Book}
-use Rattle.nf_server.specs.Session.{Session}
-use Rattle.nf_server.specs.declared.ended.Ended.{Ended}
+use Rattle.nf_session.proofs.Causes.{session_follows}
+use Rattle.nf_session.specs.Book.{Book}
+use Rattle.nf_session.specs.Session.{Session}
+use Rattle.nf_session.specs.declared.ended.Ended.{Ended}
 use Rattle.nf_site.specs.Demo.{demo_rows}
 use Rattle.nf_site.specs.Held.{Held}
 use Rattle.nf_site.specs.Kept.{Kept, opened_over}

@@ -6,7 +6,7 @@ use Rattle.nf_dav.specs.Reply.{file_head, refusal_reply}
 use Rattle.nf_defs.specs.Blobs.{blob_at}
 use Rattle.nf_http.specs.Head.{closes_session, head_of}
 use Rattle.nf_promises.specs.Kept.{Prints, get_of, plainly, waits}
-use Rattle.nf_server.specs.Book.{Book, state_of}
+use Rattle.nf_session.specs.Book.{Book, state_of}
 use Rattle.nf_site.specs.Demo.{demo_rows, hello}
 use Rattle.nf_told.specs.Told.{Told}
 use Rattle.nf_words.specs.Endings.{blob_for, content_in}

@@ -4,7 +4,7 @@ use Rattle.std.specs.Option.{IfSome}
 use Rattle.nf_defs.specs.Tables.{Tables, rows_of, tables_of}
 use Rattle.nf_desk.specs.Desk.{AreOwn, TellsSite, book_of}
 use Rattle.nf_rules.specs.Rules.{AreUnbroken}
-use Rattle.nf_server.specs.Laws.{failed_entries}
+use Rattle.nf_session.specs.Laws.{failed_entries}
 use Rattle.nf_site.specs.Kept.{IsHistory, Kept}
 use Rattle.nf_told.specs.Told.{AreFit, Told}
 use Rattle.nf_words.specs.Sound.{IsSound}

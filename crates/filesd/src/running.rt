@@ -9,7 +9,7 @@ ghost use Rattle.nf_command.specs.Reading.{IsNearlyInit};
 ghost use Rattle.nf_desk.specs.Desk.{book_of};
 ghost use Rattle.nf_outside.specs.Causes.{Rose};
 ghost use Rattle.nf_rules.specs.Rules.{most_quota};
-ghost use Rattle.nf_server.specs.Book.{held};
+ghost use Rattle.nf_session.specs.Book.{held};
 ghost use Rattle.filesd.specs.Init.{Inits, IsSomeDigest};
 ghost use Rattle.filesd.specs.OneFile.{ServesOneFile};
 ghost use Rattle.filesd.specs.Outside.{outlet, outside};
@@ -25,7 +25,7 @@ use nf_http::send;
 use nf_keeper::Keeper;
 use nf_outside::{Clock, Sink, Source};
 use nf_routes::Routes;
-use nf_server::serve_session;
+use nf_session::serve_session;
 use nf_site::Site;
 use std::alloc::Global;
 

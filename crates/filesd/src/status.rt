@@ -5,7 +5,7 @@ ghost use Rattle.filesd.specs.Session.{status_of as status_by};
 ghost use Rattle.filesd.specs.Statuses.{code_of, word_of};
 
 use nf_rows::RowFault;
-use nf_server::Ended;
+use nf_session::Ended;
 
 /// Why the rows that a keeper has are none to run over.
 #[derive(Clone, Copy, PartialEq, Eq)]

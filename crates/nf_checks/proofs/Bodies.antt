@@ -14,12 +14,12 @@ use Rattle.nf_words.specs.declared.answer.Denial.{Denial}
 use Rattle.nf_words.specs.declared.answer.Goal.TheVariants as goal
 use Rattle.nf_words.specs.declared.answer.Reply.TheVariants as reply
 use Rattle.nf_words.specs.declared.listing.ListingLine.{ListingLine}
-use Rattle.nf_server.specs.Book.{Answer, Book, EndsBody, Waits, event_of_body}
-use Rattle.nf_server.specs.Steps.{Bodies, Cuts, IsResponse, Passes, Scene, Starts, StartsFile, StoresBody, TakesIn, cutting, taken_length}
-use Rattle.nf_server.specs.declared.begun.Begun.{Begun}
-use Rattle.nf_server.specs.declared.begun.Begun.TheVariants as begun
-use Rattle.nf_server.specs.declared.response.Response.{Response}
-use Rattle.nf_server.specs.declared.response.Response.TheVariants as response
+use Rattle.nf_session.specs.Book.{Answer, Book, EndsBody, Waits, event_of_body}
+use Rattle.nf_session.specs.Steps.{Bodies, Cuts, IsResponse, Passes, Scene, Starts, StartsFile, StoresBody, TakesIn, cutting, taken_length}
+use Rattle.nf_session.specs.declared.begun.Begun.{Begun}
+use Rattle.nf_session.specs.declared.begun.Begun.TheVariants as begun
+use Rattle.nf_session.specs.declared.response.Response.{Response}
+use Rattle.nf_session.specs.declared.response.Response.TheVariants as response
 use Rattle.nf_checks.specs.Alike.{AreSame, IsAlone, IsCalmAnswer, IsCalmResponse, IsSteady, KnowSame, TellSame}
 use Rattle.nf_checks.proofs.Basics.{Left, left_of, told_moved, told_taken}
 use Rattle.nf_checks.proofs.Goes.{Goes, goes_on, goes_quietly, goes_self}

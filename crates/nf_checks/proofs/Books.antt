@@ -10,8 +10,8 @@ use Rattle.nf_words.specs.declared.history.Mark.{Mark}
 use Rattle.nf_words.specs.declared.history.Mark.TheVariants as mark
 use Rattle.nf_words.specs.declared.request.Request.{Request}
 use Rattle.nf_words.specs.declared.request.Words.{Words}
-use Rattle.nf_server.specs.Book.{Answer, Begins, Book, Enters, Lasts, Waits, entries_wanted, state_after, state_of}
-use Rattle.nf_server.proofs.Lasting.{lasts_same, lasts_then}
+use Rattle.nf_session.specs.Book.{Answer, Begins, Book, Enters, Lasts, Waits, entries_wanted, state_after, state_of}
+use Rattle.nf_session.proofs.Lasting.{lasts_same, lasts_then}
 use Rattle.nf_checks.specs.Alike.{IsAlone, IsCalmAnswer, KnowSame}
 
 -- ---- one book

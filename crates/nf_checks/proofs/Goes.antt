@@ -5,9 +5,9 @@ use Rattle.std.specs.Option.{IfSome}
 use Rattle.std.specs.declared.option.Option.{Option}
 use Rattle.std.specs.declared.option.Option.TheVariants.{Some}
 use Rattle.nf_defs.specs.Blobs.{blob_at}
-use Rattle.nf_server.specs.Book.{TellsPiece}
-use Rattle.nf_server.specs.Steps.{Scene}
-use Rattle.nf_server.proofs.Lasting.{piece_lasts}
+use Rattle.nf_session.specs.Book.{TellsPiece}
+use Rattle.nf_session.specs.Steps.{Scene}
+use Rattle.nf_session.proofs.Lasting.{piece_lasts}
 use Rattle.nf_checks.specs.Alike.{Clash, IsAlone, StoresAgree}
 use Rattle.nf_checks.proofs.Basics.{appends_on, appends_self, told_more}
 use Rattle.nf_checks.proofs.Books.{Grows, grows_on, grows_self}

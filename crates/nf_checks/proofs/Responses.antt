@@ -15,14 +15,14 @@ use Rattle.nf_http.specs.Next.{IsOfBytes}
 use Rattle.nf_words.specs.declared.answer.Denial.{Denial}
 use Rattle.nf_dav.specs.Reply.{done_reply, file_head, last_manner, listing_reply, made_reply, refusal_reply}
 use Rattle.nf_dav.specs.declared.replies.Manner.{Manner}
-use Rattle.nf_server.specs.Book.{Book, IsPiece, denial_of_piece}
-use Rattle.nf_server.specs.Files.{AreGiven, SendsFile, WritesPieces, file_front}
-use Rattle.nf_server.specs.Steps.{EndsBy, EndsSo, Says, Scene, Sends, Wrote, denial_of}
-use Rattle.nf_server.specs.Turn.{Responds, Way, Writes, end_by, end_of, how_of, manner_of, stays_granted}
-use Rattle.nf_server.specs.declared.ended.Ended.{Ended}
-use Rattle.nf_server.specs.declared.ended.Ended.TheVariants as ended
-use Rattle.nf_server.specs.declared.response.Response.{Response}
-use Rattle.nf_server.specs.declared.response.Response.TheVariants as response
+use Rattle.nf_session.specs.Book.{Book, IsPiece, denial_of_piece}
+use Rattle.nf_session.specs.Files.{AreGiven, SendsFile, WritesPieces, file_front}
+use Rattle.nf_session.specs.Steps.{EndsBy, EndsSo, Says, Scene, Sends, Wrote, denial_of}
+use Rattle.nf_session.specs.Turn.{Responds, Way, Writes, end_by, end_of, how_of, manner_of, stays_granted}
+use Rattle.nf_session.specs.declared.ended.Ended.{Ended}
+use Rattle.nf_session.specs.declared.ended.Ended.TheVariants as ended
+use Rattle.nf_session.specs.declared.response.Response.{Response}
+use Rattle.nf_session.specs.declared.response.Response.TheVariants as response
 use Rattle.nf_checks.specs.Alike.{AreSame, Clash, IsAlone, IsCalmEnd, IsCalmEnded}
 use Rattle.nf_checks.proofs.Basics.{told_appended, told_more, told_moved}
 use Rattle.nf_checks.proofs.Bodies.{Similar}

@@ -14,12 +14,12 @@ use Rattle.nf_words.specs.declared.answer.Reply.TheVariants as reply
 use Rattle.nf_words.specs.declared.history.Event.TheVariants.{End}
 use Rattle.nf_words.specs.declared.history.Outcome.TheVariants.{Sent, Gone}
 use Rattle.nf_dav.specs.Asked.{request_of}
-use Rattle.nf_server.specs.Book.{Begins, Book, Ends}
-use Rattle.nf_server.specs.Steps.{Closes, Heads, IsUnasked, Judges, OnlyAsks, OnlyReads, Scene, Wrote, no_words}
-use Rattle.nf_server.specs.declared.backend.Ending.{Ending}
-use Rattle.nf_server.specs.declared.backend.Ending.TheVariants as ending
-use Rattle.nf_server.specs.declared.begun.Begun.{Begun}
-use Rattle.nf_server.specs.declared.begun.Begun.TheVariants as begun
+use Rattle.nf_session.specs.Book.{Begins, Book, Ends}
+use Rattle.nf_session.specs.Steps.{Closes, Heads, IsUnasked, Judges, OnlyAsks, OnlyReads, Scene, Wrote, no_words}
+use Rattle.nf_session.specs.declared.backend.Ending.{Ending}
+use Rattle.nf_session.specs.declared.backend.Ending.TheVariants as ending
+use Rattle.nf_session.specs.declared.begun.Begun.{Begun}
+use Rattle.nf_session.specs.declared.begun.Begun.TheVariants as begun
 use Rattle.nf_checks.specs.Alike.{AreSame, IsAlone, IsCalmBegun, IsCalmDenial, IsSteady, KnowSame, TellSame}
 use Rattle.nf_checks.proofs.Basics.{Left, left_of, told_appended, told_moved}
 use Rattle.nf_checks.proofs.Goes.{Goes, goes_quietly, goes_self}

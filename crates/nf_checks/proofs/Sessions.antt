@@ -3,10 +3,10 @@ use Rattle.std.proofs.Common.{◌≡◌, ◌⊎◌, ℕ, ◌+◌, ◌<◌, ◌�
 use Rattle.std.specs.declared.option.Option.{Option}
 use Rattle.std.specs.declared.option.Option.TheVariants.{None}
 use Rattle.std.proofs.lemmas.Bool.{ne_eqb}
-use Rattle.nf_server.specs.Session.{Session, Through}
-use Rattle.nf_server.specs.Steps.{Scene}
-use Rattle.nf_server.specs.Turn.{Turn}
-use Rattle.nf_server.specs.declared.ended.Ended.{Ended}
+use Rattle.nf_session.specs.Session.{Session, Through}
+use Rattle.nf_session.specs.Steps.{Scene}
+use Rattle.nf_session.specs.Turn.{Turn}
+use Rattle.nf_session.specs.declared.ended.Ended.{Ended}
 use Rattle.nf_checks.specs.Alike.{AreCalmTurns, AreSame, Clash, IsAlone, IsCalmEnd, IsCalmTurn, IsSteady, IsUndisturbed, SessionsEndAlike, StoresAgree, ToldSessionsEndAlike}
 use Rattle.nf_checks.proofs.Goes.{Goes, alone_first, alone_then, clash_back, clash_on, goes_on, goes_self, no_clash}
 use Rattle.nf_checks.proofs.Scenes.{same_back}

@@ -8,14 +8,14 @@ use Rattle.nf_http.specs.declared.wire.WireFault.{WireFault}
 use Rattle.nf_words.specs.declared.answer.Denial.TheVariants as denial
 use Rattle.nf_dav.specs.Reply.{continue_reply, last_manner, refusal_reply}
 use Rattle.nf_dav.specs.declared.replies.Manner.{Manner}
-use Rattle.nf_server.specs.Steps.{Closes, Heads, Judges, Scene, TakesIn, Wrote, denial_of, is_granted, taken_length}
-use Rattle.nf_server.specs.Turn.{Answers, CutsShort, Turn, Way, Writes, end_of, how_of, manner_of, stays_granted, way_of}
-use Rattle.nf_server.specs.declared.backend.Ending.TheVariants as ending
-use Rattle.nf_server.specs.declared.begun.Begun.{Begun}
-use Rattle.nf_server.specs.declared.ended.Ended.{Ended}
-use Rattle.nf_server.specs.declared.ended.Ended.TheVariants as ended
-use Rattle.nf_server.specs.declared.response.Response.{Response}
-use Rattle.nf_server.proofs.Inviting.{invited_bytes, invites_wrote, stops_sends}
+use Rattle.nf_session.specs.Steps.{Closes, Heads, Judges, Scene, TakesIn, Wrote, denial_of, is_granted, taken_length}
+use Rattle.nf_session.specs.Turn.{Answers, CutsShort, Turn, Way, Writes, end_of, how_of, manner_of, stays_granted, way_of}
+use Rattle.nf_session.specs.declared.backend.Ending.TheVariants as ending
+use Rattle.nf_session.specs.declared.begun.Begun.{Begun}
+use Rattle.nf_session.specs.declared.ended.Ended.{Ended}
+use Rattle.nf_session.specs.declared.ended.Ended.TheVariants as ended
+use Rattle.nf_session.specs.declared.response.Response.{Response}
+use Rattle.nf_session.proofs.Inviting.{invited_bytes, invites_wrote, stops_sends}
 use Rattle.nf_checks.specs.Alike.{AreSame, Clash, IsAlone, IsCalmBegun, IsCalmEnd, IsCalmResponse, IsCalmTurn, IsSteady}
 use Rattle.nf_checks.proofs.Bodies.{IsCut, Similar, cut_of, cuts_same, takes_go, takes_same, never_cut}
 use Rattle.nf_checks.proofs.Goes.{Goes, alone_first, alone_then, clash_on, goes_on}

@@ -6,16 +6,16 @@ use Rattle.nf_base.specs.declared.content.Piece.{Piece}
 use Rattle.nf_defs.specs.Blobs.{Blobs, blob_at}
 use Rattle.nf_words.specs.declared.answer.Denial.{Denial}
 use Rattle.nf_words.specs.declared.answer.Denial.TheVariants as denial
-use Rattle.nf_server.specs.Book.{Answer, Book, IsPiece}
-use Rattle.nf_server.specs.Session.{Session, Through}
-use Rattle.nf_server.specs.Steps.{Scene}
-use Rattle.nf_server.specs.Turn.{Turn}
-use Rattle.nf_server.specs.declared.begun.Begun.{Begun}
-use Rattle.nf_server.specs.declared.begun.Begun.TheVariants as begun
-use Rattle.nf_server.specs.declared.ended.Ended.{Ended}
-use Rattle.nf_server.specs.declared.ended.Ended.TheVariants as ended
-use Rattle.nf_server.specs.declared.response.Response.{Response}
-use Rattle.nf_server.specs.declared.response.Response.TheVariants as response
+use Rattle.nf_session.specs.Book.{Answer, Book, IsPiece}
+use Rattle.nf_session.specs.Session.{Session, Through}
+use Rattle.nf_session.specs.Steps.{Scene}
+use Rattle.nf_session.specs.Turn.{Turn}
+use Rattle.nf_session.specs.declared.begun.Begun.{Begun}
+use Rattle.nf_session.specs.declared.begun.Begun.TheVariants as begun
+use Rattle.nf_session.specs.declared.ended.Ended.{Ended}
+use Rattle.nf_session.specs.declared.ended.Ended.TheVariants as ended
+use Rattle.nf_session.specs.declared.response.Response.{Response}
+use Rattle.nf_session.specs.declared.response.Response.TheVariants as response
 
 -- ---- what is the same in two scenes
 

@@ -42,10 +42,10 @@ use Rattle.nf_words.proofs.Marks.{is_failure, never_failed}
 use Rattle.nf_words.proofs.Opens.{begins_open, bodies_open, ends_grant_nothing}
 use Rattle.nf_laws.proofs.Blobs.{blobs_are_new}
 use Rattle.nf_laws.specs.Wholes.{blob_under}
-use Rattle.nf_server.specs.Book.{Answer, Begins, Ends, EndsBody, IsOfBegin, IsOfBody, MayEnd, Passes, Stores, entries_wanted, event_of_body, held, is_unmade, is_unmade_by, outcome_of, state_after}
-use Rattle.nf_server.proofs.Books.{held_is_ticket}
-use Rattle.nf_server.specs.declared.backend.Ending.{Ending}
-use Rattle.nf_server.specs.declared.backend.Ending.TheVariants as ending
+use Rattle.nf_session.specs.Book.{Answer, Begins, Ends, EndsBody, IsOfBegin, IsOfBody, MayEnd, Passes, Stores, entries_wanted, event_of_body, held, is_unmade, is_unmade_by, outcome_of, state_after}
+use Rattle.nf_session.proofs.Books.{held_is_ticket}
+use Rattle.nf_session.specs.declared.backend.Ending.{Ending}
+use Rattle.nf_session.specs.declared.backend.Ending.TheVariants as ending
 use Rattle.nf_site.specs.Held.{entries_wanted as site_wanted}
 use Rattle.nf_site.specs.Kept.{Kept, IsHistory, entered, moment_of}
 use Rattle.nf_told.specs.Told.{Told}

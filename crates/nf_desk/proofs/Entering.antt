@@ -4,8 +4,8 @@ use Rattle.std.specs.Prelude.{Option, None, Some}
 use Rattle.std.proofs.lemmas.Bool.{eq-eqb}
 use Rattle.nf_defs.specs.Blobs.{Blobs}
 use Rattle.nf_laws.proofs.Counters.{after_up}
-use Rattle.nf_server.proofs.Books.{own_grows}
-use Rattle.nf_server.specs.Book.{Answer, Book, Enters, Lasts, Strikes, TellsStill, Waits, next_blob_of, own_from, state_after}
+use Rattle.nf_session.proofs.Books.{own_grows}
+use Rattle.nf_session.specs.Book.{Answer, Book, Enters, Lasts, Strikes, TellsStill, Waits, next_blob_of, own_from, state_after}
 use Rattle.nf_site.specs.Kept.{Kept, IsHistory, entered}
 use Rattle.nf_told.specs.Told.{Told}
 use Rattle.nf_words.proofs.Histories.{replay_more}

@@ -12,9 +12,9 @@ use Rattle.nf_base.specs.declared.rows.Row.{Row}
 use Rattle.nf_defs.specs.Blobs.{Blobs, blob_at}
 use Rattle.nf_keeper.specs.Keeping.{IsTold}
 use Rattle.nf_laws.specs.Wholes.{IsDamaged, IsGoalHeld, IsHeld, IsThere}
-use Rattle.nf_server.specs.Book.{Book, GivesOrFails, GivesPiece, TellsDamage, TellsPiece, held, measured, next_blob_of}
-use Rattle.nf_server.specs.declared.backend.PieceFault.{PieceFault}
-use Rattle.nf_server.specs.declared.backend.PieceFault.TheVariants as fault
+use Rattle.nf_session.specs.Book.{Book, GivesOrFails, GivesPiece, TellsDamage, TellsPiece, held, measured, next_blob_of}
+use Rattle.nf_session.specs.declared.backend.PieceFault.{PieceFault}
+use Rattle.nf_session.specs.declared.backend.PieceFault.TheVariants as fault
 use Rattle.nf_site.specs.Kept.{Kept, IsHistory}
 use Rattle.nf_told.specs.Told.{Told}
 use Rattle.nf_words.proofs.Known.{found_has}

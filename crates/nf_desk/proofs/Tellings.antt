@@ -11,7 +11,7 @@ use Rattle.nf_keeper.specs.Keeping.{Stored, applied, with_stored}
 use Rattle.nf_laws.proofs.Blobs.{blobs_are_new, stays_whole}
 use Rattle.nf_laws.proofs.Telling.{changes_tell}
 use Rattle.nf_laws.specs.Wholes.{Brings, blob_in}
-use Rattle.nf_server.specs.Book.{Answer, TellsStill}
+use Rattle.nf_session.specs.Book.{Answer, TellsStill}
 use Rattle.nf_site.specs.Kept.{Kept, answered, entered, entry, moment_of}
 use Rattle.nf_told.proofs.Follows.{told_follows}
 use Rattle.nf_told.specs.Told.{AreFit, FitsChange, Told, told_all, told_of}

@@ -2,7 +2,7 @@
 use Rattle.std.specs.Prelude.{◌≡◌, ℕ, All, List, Option, option_map}
 use Rattle.std.specs.Option.{IfSome}
 use Rattle.nf_laws.specs.Wholes.{IsWhole}
-use Rattle.nf_server.specs.Book.{Book, own_from}
+use Rattle.nf_session.specs.Book.{Book, own_from}
 use Rattle.nf_site.specs.Held.{Held}
 use Rattle.nf_site.specs.Kept.{Kept}
 use Rattle.nf_told.specs.Told.{AreFit, Told, told_of}

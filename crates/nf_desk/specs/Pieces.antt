@@ -4,9 +4,9 @@ use Rattle.std.specs.declared.alloc.Global.{Global}
 use Rattle.sha2.specs.Sha256.{sha256}
 use Rattle.nf_base.specs.declared.content.Piece.{Piece}
 use Rattle.nf_keeper.specs.Keeping.{IsTold}
-use Rattle.nf_server.specs.Book.{Differs, Struck, measured}
-use Rattle.nf_server.specs.declared.backend.PieceFault.{PieceFault}
-use Rattle.nf_server.specs.declared.backend.PieceFault.TheVariants as fault
+use Rattle.nf_session.specs.Book.{Differs, Struck, measured}
+use Rattle.nf_session.specs.declared.backend.PieceFault.{PieceFault}
+use Rattle.nf_session.specs.declared.backend.PieceFault.TheVariants as fault
 use Rattle.nf_told.specs.Told.{Told}
 use Rattle.nf_words.specs.declared.answer.Damage.{Damage}
 use Rattle.nf_words.specs.declared.answer.Measure.{Measure}

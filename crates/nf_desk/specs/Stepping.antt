@@ -2,7 +2,7 @@
 use Rattle.std.specs.Prelude.{◌≡◌, ◌⊎◌, ℕ, ◌<◌, ◌≤◌, All, List, [], ◌∷◌, length, Option, option_map, Err}
 use Rattle.nf_base.specs.declared.changes.Change.{Change}
 use Rattle.nf_keeper.specs.Keeping.{Stored, applied}
-use Rattle.nf_server.specs.Book.{Answer, Strikes}
+use Rattle.nf_session.specs.Book.{Answer, Strikes}
 use Rattle.nf_site.specs.Held.{entries_wanted}
 use Rattle.nf_site.specs.Kept.{Kept, entered, entry, moment_of}
 use Rattle.nf_told.specs.Told.{FitsChange, Told}

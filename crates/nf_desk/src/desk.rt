@@ -16,7 +16,7 @@ use crate::piece::{fetch, piece_at};
 use crate::stepping::{begin, finish, store};
 use nf_base::{Content, Moment};
 use nf_keeper::Keeper;
-use nf_server::{Backend, Ending, PieceFault};
+use nf_session::{Backend, Ending, PieceFault};
 use nf_site::Site;
 use nf_words::{Answer, Outcome, Request, Words};
 use std::alloc::Global;

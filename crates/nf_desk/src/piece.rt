@@ -6,7 +6,7 @@ ghost use Rattle.nf_keeper.specs.Views.{bytes_in};
 
 use nf_base::{Content, Digest, Piece};
 use nf_keeper::{KeepFault, Keeper};
-use nf_server::PieceFault;
+use nf_session::PieceFault;
 use nf_words::{Damage, Measure};
 
 /// A piece of a content.

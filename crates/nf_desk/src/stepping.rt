@@ -5,7 +5,7 @@ ghost use Rattle.nf_desk.specs.Desk.{seat};
 ghost use Rattle.nf_desk.specs.Stepping.{Asks, IsEmpty, Makes, Steps, standing, stored_by, told_by};
 ghost use Rattle.nf_keeper.specs.Keeping.{Counts};
 ghost use Rattle.nf_keeper.specs.Views.{stored_in};
-ghost use Rattle.nf_server.specs.Book.{event_of_body};
+ghost use Rattle.nf_session.specs.Book.{event_of_body};
 ghost use Rattle.nf_site.specs.Held.{HasEntryRoom};
 ghost use Rattle.nf_told.specs.Told.{FitsChange};
 ghost use Rattle.nf_words.specs.History.{MayAsk};

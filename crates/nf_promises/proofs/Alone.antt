@@ -6,7 +6,7 @@ use Rattle.nf_words.specs.History.{MayCome, after, answer_at, replay}
 use Rattle.nf_words.specs.State.{State, opened}
 use Rattle.nf_words.specs.declared.history.Entry.{Entry}
 use Rattle.nf_words.specs.declared.history.Event.{Event}
-use Rattle.nf_server.specs.Book.{Answer, Book, Enters, state_after, state_of}
+use Rattle.nf_session.specs.Book.{Answer, Book, Enters, state_after, state_of}
 use Rattle.nf_base.specs.declared.rows.Row.{Row}
 use Rattle.nf_promises.proofs.Growing.{Grows}
 use Rattle.nf_promises.specs.Kept.{OnlyOwn}

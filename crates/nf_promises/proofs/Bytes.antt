@@ -17,14 +17,14 @@ use Rattle.nf_words.specs.declared.answer.Reply.TheVariants as reply
 use Rattle.nf_words.specs.declared.request.Caller.{Caller}
 use Rattle.nf_words.specs.declared.request.Request.{Request}
 use Rattle.nf_words.specs.declared.request.Spot.{Spot}
-use Rattle.nf_server.specs.Steps.{Bodies, Heads, Invites, Judges, Scene, Sends, is_granted, is_invited, taken_length}
-use Rattle.nf_server.specs.Turn.{Answers, CutsShort, StopsShort, Turn, how_of, stays_granted, way_of}
-use Rattle.nf_server.specs.declared.backend.Ending.TheVariants as ending
-use Rattle.nf_server.specs.declared.begun.Begun.{Begun}
-use Rattle.nf_server.specs.declared.begun.Begun.TheVariants as begun
-use Rattle.nf_server.specs.declared.ended.Ended.{Ended}
-use Rattle.nf_server.specs.declared.ended.Ended.TheVariants as ended
-use Rattle.nf_server.proofs.Inviting.{invited_bytes, invites_wrote, stops_sends}
+use Rattle.nf_session.specs.Steps.{Bodies, Heads, Invites, Judges, Scene, Sends, is_granted, is_invited, taken_length}
+use Rattle.nf_session.specs.Turn.{Answers, CutsShort, StopsShort, Turn, how_of, stays_granted, way_of}
+use Rattle.nf_session.specs.declared.backend.Ending.TheVariants as ending
+use Rattle.nf_session.specs.declared.begun.Begun.{Begun}
+use Rattle.nf_session.specs.declared.begun.Begun.TheVariants as begun
+use Rattle.nf_session.specs.declared.ended.Ended.{Ended}
+use Rattle.nf_session.specs.declared.ended.Ended.TheVariants as ended
+use Rattle.nf_session.proofs.Inviting.{invited_bytes, invites_wrote, stops_sends}
 use Rattle.nf_promises.proofs.Alone.{only_within}
 use Rattle.nf_promises.proofs.Growing.{answers_grow, grows_none, grows_on, heads_same, invites_grow, judges_grow, turn_grows}
 use Rattle.nf_promises.proofs.Marks.{done_mark, ends_not_done, invited_mark, is_done, made_mark, one_written, responds_stored}

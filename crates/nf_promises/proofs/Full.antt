@@ -12,17 +12,17 @@ use Rattle.nf_words.specs.declared.answer.Denial.{Denial}
 use Rattle.nf_words.specs.declared.answer.Denial.TheVariants as denial
 use Rattle.nf_words.specs.declared.answer.Goal.TheVariants as goal
 use Rattle.nf_words.specs.declared.answer.Reply.TheVariants as reply
-use Rattle.nf_server.specs.Book.{Answer, Book, entries_wanted, state_after}
-use Rattle.nf_server.specs.Session.{Through}
-use Rattle.nf_server.specs.Steps.{EndsBy, Invites, IsResponse, Judges, Passes, Scene, Sends, Starts, TakesIn}
-use Rattle.nf_server.specs.Turn.{Answers, CutsShort, Responds, StopsShort, Turn, Way, Writes, end_by, end_of, end_of_close, end_of_denial, manner_of, way_of}
-use Rattle.nf_server.specs.declared.begun.Begun.{Begun}
-use Rattle.nf_server.specs.declared.begun.Begun.TheVariants as begun
-use Rattle.nf_server.specs.declared.ended.Ended.{Ended}
-use Rattle.nf_server.specs.declared.ended.Ended.TheVariants as ended
-use Rattle.nf_server.specs.declared.response.Response.{Response}
-use Rattle.nf_server.specs.declared.response.Response.TheVariants as response
-use Rattle.nf_server.proofs.Inviting.{stops_sends}
+use Rattle.nf_session.specs.Book.{Answer, Book, entries_wanted, state_after}
+use Rattle.nf_session.specs.Session.{Through}
+use Rattle.nf_session.specs.Steps.{EndsBy, Invites, IsResponse, Judges, Passes, Scene, Sends, Starts, TakesIn}
+use Rattle.nf_session.specs.Turn.{Answers, CutsShort, Responds, StopsShort, Turn, Way, Writes, end_by, end_of, end_of_close, end_of_denial, manner_of, way_of}
+use Rattle.nf_session.specs.declared.begun.Begun.{Begun}
+use Rattle.nf_session.specs.declared.begun.Begun.TheVariants as begun
+use Rattle.nf_session.specs.declared.ended.Ended.{Ended}
+use Rattle.nf_session.specs.declared.ended.Ended.TheVariants as ended
+use Rattle.nf_session.specs.declared.response.Response.{Response}
+use Rattle.nf_session.specs.declared.response.Response.TheVariants as response
+use Rattle.nf_session.proofs.Inviting.{stops_sends}
 use Rattle.nf_promises.proofs.Growing.{answers_grow, invites_grow, turn_grows, Grew, Grows, grew_none, grows_more, grows_none, grows_on, heads_same, judges_grow}
 use Rattle.nf_promises.proofs.Refusals.{end_not_full, request_not_full}
 use Rattle.nf_promises.proofs.Tickets.{few_tickets}

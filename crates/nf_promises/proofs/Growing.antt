@@ -14,20 +14,20 @@ use Rattle.nf_words.specs.declared.request.Words.{Words}
 use Rattle.std.specs.declared.alloc.Global.{Global}
 use Rattle.nf_dav.specs.Reply.{done_reply, listing_reply, made_reply, refusal_reply}
 use Rattle.nf_dav.specs.declared.replies.Manner.{Manner}
-use Rattle.nf_server.specs.Book.{Answer, Begins, Book, Ends, Enters, Waits, denial_of_piece, event_of_body, is_unmade}
-use Rattle.nf_server.specs.Book.{Passes as Unchanged}
-use Rattle.nf_server.specs.Files.{SendsFile}
-use Rattle.nf_server.specs.Steps.{Closes, Heads, Invites, Judges, Passes, Scene, Starts, TakesIn, is_granted, no_words}
-use Rattle.nf_server.specs.Turn.{Answers, CutsShort, Meets, Responds, StopsShort, Turn, Way, Writes, how_of, manner_of, stays_granted, way_of}
-use Rattle.nf_server.specs.declared.backend.Ending.{Ending}
-use Rattle.nf_server.specs.declared.backend.Ending.TheVariants as ending
-use Rattle.nf_server.specs.declared.begun.Begun.{Begun}
-use Rattle.nf_server.specs.declared.begun.Begun.TheVariants as begun
-use Rattle.nf_server.specs.declared.ended.Ended.{Ended}
-use Rattle.nf_server.specs.declared.ended.Ended.TheVariants as ended
-use Rattle.nf_server.specs.declared.response.Response.{Response}
-use Rattle.nf_server.specs.declared.response.Response.TheVariants as response
-use Rattle.nf_server.proofs.Inviting.{invites_wrote}
+use Rattle.nf_session.specs.Book.{Answer, Begins, Book, Ends, Enters, Waits, denial_of_piece, event_of_body, is_unmade}
+use Rattle.nf_session.specs.Book.{Passes as Unchanged}
+use Rattle.nf_session.specs.Files.{SendsFile}
+use Rattle.nf_session.specs.Steps.{Closes, Heads, Invites, Judges, Passes, Scene, Starts, TakesIn, is_granted, no_words}
+use Rattle.nf_session.specs.Turn.{Answers, CutsShort, Meets, Responds, StopsShort, Turn, Way, Writes, how_of, manner_of, stays_granted, way_of}
+use Rattle.nf_session.specs.declared.backend.Ending.{Ending}
+use Rattle.nf_session.specs.declared.backend.Ending.TheVariants as ending
+use Rattle.nf_session.specs.declared.begun.Begun.{Begun}
+use Rattle.nf_session.specs.declared.begun.Begun.TheVariants as begun
+use Rattle.nf_session.specs.declared.ended.Ended.{Ended}
+use Rattle.nf_session.specs.declared.ended.Ended.TheVariants as ended
+use Rattle.nf_session.specs.declared.response.Response.{Response}
+use Rattle.nf_session.specs.declared.response.Response.TheVariants as response
+use Rattle.nf_session.proofs.Inviting.{invites_wrote}
 use Rattle.nf_promises.proofs.Touches.{book_of, ends_only, says_only, stops_only}
 
 -- so many own entries came at most, and no fewer entries than own ones

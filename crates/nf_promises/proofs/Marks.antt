@@ -16,14 +16,14 @@ use Rattle.nf_http.specs.declared.wire.WireFault.TheVariants as wire
 use Rattle.nf_words.specs.declared.answer.Denial.{Denial}
 use Rattle.nf_words.specs.declared.answer.Denial.TheVariants as denial
 use Rattle.nf_words.specs.declared.listing.ListingLine.{ListingLine}
-use Rattle.nf_server.specs.Book.{denial_of_piece}
-use Rattle.nf_server.specs.Files.{SendsFile, file_front}
-use Rattle.nf_server.specs.Steps.{EndsBy, EndsSo, Says, Scene, denial_of}
-use Rattle.nf_server.specs.Turn.{Responds, Way, Writes, manner_of}
-use Rattle.nf_server.specs.declared.ended.Ended.{Ended}
-use Rattle.nf_server.specs.declared.ended.Ended.TheVariants as ended
-use Rattle.nf_server.specs.declared.response.Response.{Response}
-use Rattle.nf_server.specs.declared.response.Response.TheVariants as response
+use Rattle.nf_session.specs.Book.{denial_of_piece}
+use Rattle.nf_session.specs.Files.{SendsFile, file_front}
+use Rattle.nf_session.specs.Steps.{EndsBy, EndsSo, Says, Scene, denial_of}
+use Rattle.nf_session.specs.Turn.{Responds, Way, Writes, manner_of}
+use Rattle.nf_session.specs.declared.ended.Ended.{Ended}
+use Rattle.nf_session.specs.declared.ended.Ended.TheVariants as ended
+use Rattle.nf_session.specs.declared.response.Response.{Response}
+use Rattle.nf_session.specs.declared.response.Response.TheVariants as response
 use Rattle.nf_promises.specs.Kept.{SaysStored}
 
 -- ---- the first and the last digit of the status

@@ -3,8 +3,8 @@ use Rattle.std.proofs.Common.{◌≡◌, false, Ok}
 use Rattle.nf_dav.specs.Asked.{request_of}
 use Rattle.nf_dav.proofs.Asked.{asked_no_head, asked_no_ocs}
 use Rattle.nf_http.specs.Head.{Head}
-use Rattle.nf_server.specs.Turn.{Way, way_of}
-use Rattle.nf_server.specs.declared.begun.Begun.{Begun}
+use Rattle.nf_session.specs.Turn.{Way, way_of}
+use Rattle.nf_session.specs.declared.begun.Begun.{Begun}
 use Rattle.nf_words.specs.declared.request.Request.{Request}
 
 pub record IsPlain (way : Way) : Type 0 where

@@ -22,15 +22,15 @@ use Rattle.nf_words.specs.declared.request.Spot.{Spot}
 use Rattle.nf_words.specs.declared.request.Words.{Words}
 use Rattle.nf_defs.specs.declared.Seeker.{Seeker}
 use Rattle.nf_defs.specs.Blobs.{Blobs, blob_at}
-use Rattle.nf_server.specs.Book.{Answer, Book, EndsBody, Enters, Stores, event_of_body, next_blob_of, state_after, state_of}
-use Rattle.nf_server.specs.Steps.{Bodies, Closes, IsResponse, Judges, Passes, Scene, Starts, StoresBody, no_words, taken_length}
-use Rattle.nf_server.specs.Turn.{how_of, stays_granted, way_of}
-use Rattle.nf_server.specs.declared.begun.Begun.{Begun}
-use Rattle.nf_server.specs.declared.begun.Begun.TheVariants as begun
-use Rattle.nf_server.specs.declared.ended.Ended.{Ended}
-use Rattle.nf_server.specs.declared.response.Response.{Response}
-use Rattle.nf_server.specs.declared.response.Response.TheVariants as response
-use Rattle.nf_server.proofs.Inviting.{invites_wrote}
+use Rattle.nf_session.specs.Book.{Answer, Book, EndsBody, Enters, Stores, event_of_body, next_blob_of, state_after, state_of}
+use Rattle.nf_session.specs.Steps.{Bodies, Closes, IsResponse, Judges, Passes, Scene, Starts, StoresBody, no_words, taken_length}
+use Rattle.nf_session.specs.Turn.{how_of, stays_granted, way_of}
+use Rattle.nf_session.specs.declared.begun.Begun.{Begun}
+use Rattle.nf_session.specs.declared.begun.Begun.TheVariants as begun
+use Rattle.nf_session.specs.declared.ended.Ended.{Ended}
+use Rattle.nf_session.specs.declared.response.Response.{Response}
+use Rattle.nf_session.specs.declared.response.Response.TheVariants as response
+use Rattle.nf_session.proofs.Inviting.{invites_wrote}
 use Rattle.nf_promises.proofs.Alone.{entered, no_others, only_within, same_state}
 use Rattle.nf_promises.proofs.Growing.{closes_grow, grows_none, grows_on, heads_same, judges_grow, responds_grow, takes_grow}
 use Rattle.nf_promises.proofs.Putting.{IsOfPut, content_of_body, ok_answer, put_is_got, put_replies, put_size}

@@ -53,7 +53,7 @@ use Rattle.nf_words.specs.declared.request.Caller.{Caller}
 use Rattle.nf_words.specs.declared.request.Caller.TheVariants.{Absent, Token}
 use Rattle.nf_words.specs.declared.request.Spot.{Spot}
 use Rattle.nf_words.specs.declared.request.Words.{Words}
-use Rattle.nf_server.specs.Book.{event_of_body}
+use Rattle.nf_session.specs.Book.{event_of_body}
 use Rattle.nf_promises.specs.Kept.{get_of, put_of}
 
 -- ---- marks

@@ -13,18 +13,18 @@ use Rattle.nf_words.specs.declared.answer.Denial.TheVariants as denial
 use Rattle.nf_words.specs.declared.answer.Reply.TheVariants as reply
 use Rattle.nf_words.specs.declared.request.Caller.{Caller}
 use Rattle.nf_words.specs.declared.request.Spot.{Spot}
-use Rattle.nf_server.specs.Book.{Book, Ends}
-use Rattle.nf_server.specs.Steps.{Closes, EndsBy, Invites, Judges, Scene, Sends, TakesIn, is_invited}
-use Rattle.nf_server.specs.Turn.{Answers, Meets, Responds, Way, Writes, end_by, end_of, how_of, manner_of, stays_granted, way_of}
-use Rattle.nf_server.specs.declared.backend.Ending.{Ending}
-use Rattle.nf_server.specs.declared.backend.Ending.TheVariants as ending
-use Rattle.nf_server.specs.declared.begun.Begun.{Begun}
-use Rattle.nf_server.specs.declared.ended.Ended.{Ended}
-use Rattle.nf_server.specs.declared.ended.Ended.TheVariants as ended
-use Rattle.nf_server.specs.declared.response.Response.{Response}
-use Rattle.nf_server.specs.declared.response.Response.TheVariants as response
-use Rattle.nf_server.proofs.Inviting.{stops_sends}
-use Rattle.nf_server.proofs.Lasting.{lasts_same}
+use Rattle.nf_session.specs.Book.{Book, Ends}
+use Rattle.nf_session.specs.Steps.{Closes, EndsBy, Invites, Judges, Scene, Sends, TakesIn, is_invited}
+use Rattle.nf_session.specs.Turn.{Answers, Meets, Responds, Way, Writes, end_by, end_of, how_of, manner_of, stays_granted, way_of}
+use Rattle.nf_session.specs.declared.backend.Ending.{Ending}
+use Rattle.nf_session.specs.declared.backend.Ending.TheVariants as ending
+use Rattle.nf_session.specs.declared.begun.Begun.{Begun}
+use Rattle.nf_session.specs.declared.ended.Ended.{Ended}
+use Rattle.nf_session.specs.declared.ended.Ended.TheVariants as ended
+use Rattle.nf_session.specs.declared.response.Response.{Response}
+use Rattle.nf_session.specs.declared.response.Response.TheVariants as response
+use Rattle.nf_session.proofs.Inviting.{stops_sends}
+use Rattle.nf_session.proofs.Lasting.{lasts_same}
 use Rattle.nf_promises.proofs.Alone.{only_within}
 use Rattle.nf_promises.proofs.Gets.{Shown, begun_shown, get_not_invited}
 use Rattle.nf_promises.proofs.Growing.{answers_grow, grows_none, grows_on, heads_same, invites_grow, judges_grow, meets_grow}

@@ -1,10 +1,10 @@
 -- A session never wants room.
 use Rattle.std.specs.Prelude.{◌≡◌, ◌≢◌, ℕ, [], length, Option, Some}
-use Rattle.nf_server.specs.Book.{Book}
-use Rattle.nf_server.specs.Session.{Session}
-use Rattle.nf_server.specs.Steps.{Scene}
-use Rattle.nf_server.specs.declared.ended.Ended.{Ended}
-use Rattle.nf_server.specs.declared.ended.Ended.TheVariants as ended
+use Rattle.nf_session.specs.Book.{Book}
+use Rattle.nf_session.specs.Session.{Session}
+use Rattle.nf_session.specs.Steps.{Scene}
+use Rattle.nf_session.specs.declared.ended.Ended.{Ended}
+use Rattle.nf_session.specs.declared.ended.Ended.TheVariants as ended
 
 -- nothing has happened yet
 pub record IsFresh (b : Book) : Type 0 where

@@ -1,7 +1,7 @@
 -- What the holder of a seat knows, in the words of the book, and what is then known of a value.
-use Rattle.std.specs.Prelude.{◌≡◌, ◌⊎◌, ℕ, ◌<◌, nat_lt, if◌then◌else◌, List, [], ◌∷◌, ◌++◌, Option, Some, None, is_some, IsTrue}
+use Rattle.std.specs.Prelude.{◌≡◌, ◌⊎◌, ℕ, ◌+◌, ◌<◌, ◌≤◌, nat_lt, if◌then◌else◌, List, [], ◌∷◌, ◌++◌, Option, Some, None, is_some, IsTrue}
 use Rattle.std.specs.Option.{option_or}
-use Rattle.nf_turn.specs.Book.{Shelf, Meanings, entries_of, HasNothing}
+use Rattle.nf_turn.specs.Book.{Shelf, Meanings, Grows, GrowsWithout, entries_of, HasNothing}
 use Rattle.nf_turn.specs.declared.view.Memory.{Memory}
 use Rattle.nf_turn.specs.Numbers.{numbers_of, is_left}
 
@@ -52,16 +52,17 @@ module _ {E O W : Type 0} (book : Meanings E O W) where
   abbrev pub IsGone : Memory W → ℕ → Type 0
   IsGone k m = OneLacks k.passed m
 
-  -- each of these seats has the entries and strikes that were kept with it
+  -- the value grew from what was kept with each of these seats, and nothing was done under its number since
   abbrev pub AllAreKept : W → List (ℕ × W) → Type 0
   AllAreKept value [] = Unit {0}
-  AllAreKept value (seat ∷ seats) = (entries_of book seat.0 (book.entries value) ≡ entries_of book seat.0 (book.entries seat.1)) × (book.strikes value seat.0 ≡ book.strikes seat.1 seat.0) × AllAreKept value seats
+  AllAreKept value (seat ∷ seats) = GrowsWithout book seat.0 seat.1 value × AllAreKept value seats
 
 -- what the holder of a seat knows of a value that it takes, or that the lock ends with
 pub record Agrees {E O W : Type 0} (book : Meanings E O W) (k : Memory W) (value : W) : Type 0 where
-  -- its entries begin with those that the seat has seen
-  pub since : List E
-  pub known : book.entries value ≡ known book k ++ since
+  pub within : (0 < k.number) × (k.number ≤ k.seats)
+  -- it grew from the longest that the seat knows of, by no entry of the seat
+  pub known : Grows book k.known value
+  pub others : entries_of book k.number known.added ≡ []
   -- under the seat's number stand its own entries and strikes, and no others
   pub own : entries_of book k.number (book.entries value) ≡ own book k
   pub strikes : book.strikes value k.number ≡ strikes book k
@@ -75,3 +76,5 @@ pub record Agrees {E O W : Type 0} (book : Meanings E O W) (k : Memory W) (value
   pub tells : is_some (book.shelf value) ≡ is_some (book.shelf k.first)
   pub shelf : (m : ℕ) (bytes : List ℕ) → seen_shelf book k m ≡ Some bytes → HasOrLacks (book.shelf value) m bytes
   pub gone : (m : ℕ) → IsGone book k m → Lacks (book.shelf value) m
+  -- where the seat has all other numbers left, it passed on the value itself
+  pub sole : k.left + 1 ≡ k.seats → (k.known ≡ value) × (k.last ≡ value)

@@ -1,9 +1,10 @@
 -- What a value under the lock is to a proof, and how it may change.
 use Rattle.std.specs.Prelude.{◌≡◌, ◌≢◌, ◌⊎◌, ℕ, ◌<◌, ◌≤◌, ◌==◌, List, [], ◌++◌, Option, Some, None, All, filter}
 
--- the bytes under each number below the next one to be given
+-- the bytes under each number below the next one to be given, and how often some were dropped
 pub record Shelf : Type 0 where
   pub next : ℕ
+  pub drops : ℕ
   pub bytes : ℕ → Option (List ℕ)
 
 -- E is the type of its entries, O that of its opening, and W its own
@@ -17,12 +18,17 @@ pub record Meanings (E O W : Type 0) : Type 0 where
   -- none where the value doesn't tell it
   pub shelf : W → Option Shelf
 
--- what stood on a shelf, below its next number, stays with the same bytes or is gone
+-- the bytes under the number m stay, or some were dropped and these with them
+abbrev pub StayOrGo : Shelf → Shelf → ℕ → Type 0
+StayOrGo shelf later m = (later.bytes m ≡ shelf.bytes m) ⊎ ((later.bytes m ≡ None) × (shelf.drops < later.drops))
+
+-- what stood on a shelf, below its next number, stays or goes
 abbrev pub KeepsShelf : Option Shelf → Option Shelf → Type 0
 KeepsShelf None None = Unit {0}
 KeepsShelf None (Some later) = ⊥
 KeepsShelf (Some shelf) None = ⊥
-KeepsShelf (Some shelf) (Some later) = (shelf.next ≤ later.next) × ((m : ℕ) → m < shelf.next → (later.bytes m ≡ shelf.bytes m) ⊎ (later.bytes m ≡ None))
+KeepsShelf (Some shelf) (Some later) =
+    (shelf.next ≤ later.next) × (shelf.drops ≤ later.drops) × ((m : ℕ) → m < shelf.next → StayOrGo shelf later m)
 
 -- the entries of the seat with the number n
 abbrev pub entries_of : {E O W : Type 0} → Meanings E O W → ℕ → List E → List E
@@ -59,6 +65,6 @@ pub record Grows {E O W : Type 0} (book : Meanings E O W) (old new : W) : Type 0
 
 -- in between others than the seat with the number n did something
 pub record GrowsWithout {E O W : Type 0} (book : Meanings E O W) (n : ℕ) (old new : W) : Type 0 where
-  pub entries : entries_of book n (book.entries new) ≡ entries_of book n (book.entries old)
+  pub grows : Grows book old new
+  pub none : entries_of book n grows.added ≡ []
   pub strikes : book.strikes new n ≡ book.strikes old n
-  pub keeps : Keeps book old new

@@ -1,6 +1,6 @@
 -- The rule of the table.
 -- Word 0 is how many turn numbers were drawn, word 1 how many turns were passed on, each modulo 2 ^ 64. Slot 0 has the value.
-use Rattle.std.specs.Prelude.{◌≡◌, ◌≢◌, ◌⊎◌, ℕ, zero, suc, ◌+◌, ◌%◌, ◌^◌, ◌<◌, ◌≤◌, List, [], ◌∷◌, Option, Some}
+use Rattle.std.specs.Prelude.{◌≡◌, ◌≢◌, ◌⊎◌, ℕ, zero, suc, ◌+◌, ◌%◌, ◌^◌, ◌<◌, ◌≤◌, List, [], ◌∷◌, length, Option, Some}
 use mathlib.Core.Option.{some, none}
 use mathlib.Core.Option as maybe
 use lib.ListN.{get_elem?}
@@ -61,6 +61,10 @@ pub record IsKnown {E O W : Type 0} (book : Meanings E O W) (seats : ℕ) (origi
   pub told : GrewFrom book line.value k.told
   pub left : 0 < k.left → (id ≡ line.giver) × (line.fresh ≡ k.next) × (k.next + k.left ≡ seats + 1)
   pub joined : AreJoined book line id k.number k.joined
+  -- what it passed on last isn't longer than what it knows of
+  pub lasting : length (book.entries k.last) ≤ length (book.entries k.known)
+  -- where no other seat was ever split off, it is the value
+  pub sole : line.fresh ≡ 2 → (k.known ≡ line.value) × (k.last ≡ line.value)
 
 module _ {E O W : Type 0} (book : Meanings E O W) (seats : ℕ) (origin : W) (line : Line W) (id : ℕ) where
   abbrev pub Knows : View W → Type 0

@@ -4,7 +4,7 @@ use Rattle.std.specs.Option.{IfSome}
 use Rattle.nf_desk.specs.Desk.{book_of}
 use Rattle.nf_promises.specs.Room.{IsFresh}
 use Rattle.nf_rules.specs.Rules.{AreUnbroken}
-use Rattle.nf_server.proofs.Strikes.{session_counts}
+use Rattle.nf_session.proofs.Strikes.{session_counts}
 use Rattle.nf_site.proofs.DemoRows.{demo_unbroken}
 use Rattle.nf_site.specs.Held.{Held}
 use Rattle.nf_site.specs.Kept.{Kept}

@@ -1,6 +1,6 @@
 use Rattle.std.proofs.Common.{refl, []}
-use Rattle.nf_server.specs.Book.{event_of_body}
-use Rattle.nf_server.specs.declared.backend.Ending.TheVariants as ending
+use Rattle.nf_session.specs.Book.{event_of_body}
+use Rattle.nf_session.specs.declared.backend.Ending.TheVariants as ending
 use Rattle.nf_words.specs.declared.history.Event.TheVariants.{End}
 use Rattle.nf_words.specs.declared.history.Outcome.TheVariants.{Sent, Gone}
 use Rattle.nf_desk.specs.Stepping.{standing}

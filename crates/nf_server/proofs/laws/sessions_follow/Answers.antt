@@ -1,5 +1,0 @@
-use Rattle.nf_server.proofs.Causes.{session_follows}
-use Rattle.nf_server.proofs.laws.sessions_follow.Goals as goal
-
-pub returns : goal.returns
-returns g c = session_follows g.C.Clock.reads

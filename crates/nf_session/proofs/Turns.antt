@@ -1,0 +1,159 @@
+-- A turn and a session, from what their parts ensure.
+use Rattle.std.proofs.Common.{◌≡◌, ℕ, ◌<◌, ◌+◌, List, [], ◌∷◌, ◌++◌, refl, sym, ◌∙◌, ap, subst, inl, inr, arith, length, length-append, Result, Ok, Err}
+use Rattle.std.proofs.lemmas.Bool.Decides.{nat_tests}
+use Rattle.std.specs.Prelude.{Bool, true, false, ◌||◌, ◌==◌, Option, None, Some, IfOk, OnErr}
+use Rattle.nf_http.specs.Head.{Head, closes_session}
+use Rattle.nf_http.specs.declared.wire.WireFault.{WireFault}
+use Rattle.nf_session.specs.Session.{Session, Through}
+use Rattle.nf_session.specs.Steps.{Scene, Heads, Invites, Judges, TakesIn, Closes, EndsBy, Says, Sends, is_granted, is_unsent}
+use Rattle.nf_session.specs.Turn.{Meets, Responds, Turn, end_by, how_of, stays_granted, way_by}
+use Rattle.nf_session.specs.declared.backend.Ending.{Ending}
+use Rattle.nf_session.specs.declared.backend.Ending.TheVariants as ending
+use Rattle.nf_session.specs.declared.begun.Begun.{Begun}
+use Rattle.nf_session.specs.declared.response.Response.{Response}
+use Rattle.nf_session.specs.declared.ended.Ended.{Ended}
+use Rattle.nf_session.specs.declared.ended.Ended.TheVariants as ended
+
+-- ---- an answer that may find no memory
+
+pub sends_says : {C T : Type 0} (a b : Scene C) (bytes : List ℕ) (result : Result T Ended) → Sends a b bytes result → Says a b bytes result
+sends_says a b bytes (Ok sent) sends = sends
+sends_says a b bytes (Err ended.WriteFault) sends = sends
+sends_says a b bytes (Err ended.Closed) sends = absurd sends
+sends_says a b bytes (Err ended.BadMessage) sends = absurd sends
+sends_says a b bytes (Err ended.NotBuilt) sends = absurd sends
+sends_says a b bytes (Err ended.RunFull) sends = absurd sends
+sends_says a b bytes (Err (ended.Cut fault)) sends = absurd sends
+sends_says a b bytes (Err ended.ReadFault) sends = absurd sends
+sends_says a b bytes (Err ended.Memory) sends = absurd sends
+
+pub says_so : {C T V E : Type 0} (a b : Scene C) (items : V → List ℕ) (want : List ℕ) (made : Result V E) (result : Result T Ended)
+    → IfOk made (λ v. items v ≡ want) → IfOk made (λ v. Sends a b (items v) result)
+    → OnErr made ((result ≡ Err ended.Memory) × (b ≡ a)) → Says a b want result
+says_so a b items want (Ok v) result is sends none =
+    sends_says a b want result (subst (λ (z : List ℕ). Sends a b z result) is sends)
+says_so {C} {T} a b items want (Err e) result is sends none =
+    subst (λ (z : Result T Ended). Says a b want z) (sym none.0) none.1
+
+-- ---- a message
+
+-- its sender couldn't be told
+pub meets_stopped : {C : Type 0} (reads : C → ℕ → C → Type 0) (last : Bool) (head : Head) (a m n b : Scene C) (begun : Begun)
+    (by : Ended) (granted : Bool) → Judges reads head a m begun → Invites {T = Unit {0}} head begun m n (Err by)
+    → granted ≡ is_granted begun → Closes reads ending.Gone granted n b → Meets reads last head a b (Some by)
+meets_stopped reads last head a m n b begun by granted judged invites granted_is closed = (
+  m,
+  begun,
+  judged,
+  inl (record {
+    sent = n;
+    by = by;
+    invites = invites;
+    closes = subst (λ (z : Bool). Closes reads ending.Gone z n b) granted_is closed;
+    ends = refl;
+  }),
+)
+
+module _ {C : Type 0} (reads : C → ℕ → C → Type 0) (last : Bool) (head : Head) (a m n t s b : Scene C) (begun : Begun)
+    (judged : Judges reads head a m begun) (invites : Invites {T = Unit {0}} head begun m n (Ok tt)) where
+  pub meets_answered : (closes : Bool) (v : Response) (written : Result (Option Ended) Ended) (granted : Bool) (how : Ending)
+      (end : Option Ended) → TakesIn reads head n t begun (Ok v) → closes ≡ (closes_session head || is_unsent head begun)
+      → Responds last (way_by closes head) v t s written
+      → how ≡ how_of v written → granted ≡ stays_granted v → Closes reads how granted s b
+      → end ≡ end_by written → Meets reads last head a b end
+  meets_answered closes v written granted how end takes closes_is responds how_is granted_is closed end_is = (
+    m,
+    begun,
+    judged,
+    inr (
+      n,
+      invites,
+      inl (record {
+        taken = t;
+        sent = s;
+        response = v;
+        result = written;
+        takes = takes;
+        responds = subst (λ (z : Bool). Responds last (way_by z head) v t s written) closes_is responds;
+        closes = subst (λ (z : Bool). Closes reads (how_of v written) z s b) granted_is
+            (subst (λ (z : Ending). Closes reads z granted s b) how_is closed);
+        ends = end_is;
+      }),
+    ),
+  )
+
+  pub meets_cut : (fault : WireFault) (by : Ended) (granted : Bool)
+      → TakesIn reads head n t begun (Err fault) → EndsBy fault t s by
+      → granted ≡ is_granted begun → Closes reads ending.Gone granted s b → Meets reads last head a b (Some by)
+  meets_cut fault by granted takes responds granted_is closed = (
+    m,
+    begun,
+    judged,
+    inr (
+      n,
+      invites,
+      inr (record {
+        cut = t;
+        sent = s;
+        fault = fault;
+        by = by;
+        takes = takes;
+        responds = responds;
+        closes = subst (λ (z : Bool). Closes reads ending.Gone z s b) granted_is closed;
+        ends = refl;
+      }),
+    ),
+  )
+
+pub turn_met : {C : Type 0} (reads : C → ℕ → C → Type 0) (last : Bool) (a m b : Scene C) (head : Head) (found : Option Head) (end : Option Ended)
+    → found ≡ Some head → Heads a m (Ok found) → Meets reads last head m b end → Turn reads last a b end
+turn_met {C} reads last a m b head found end is heads meets =
+    inr (inr (m, head, subst (λ (z : Option Head). Heads a m (Ok z)) is heads, meets))
+
+pub turn_failed : {C : Type 0} (reads : C → ℕ → C → Type 0) (last : Bool) (a m b : Scene C) (fault : WireFault) (by : Ended)
+    → Heads a m (Err fault) → EndsBy fault m b by → Turn reads last a b (Some by)
+turn_failed reads last a m b fault by heads ends = inr (inl (m, fault, by, heads, ends, refl))
+
+-- ---- a session
+
+through_more : {C : Type 0} (reads : C → ℕ → C → Type 0) (a : Scene C) (scenes : List (Scene C)) (m b : Scene C)
+    → Through reads a scenes m → Turn reads false m b None → Through reads a (scenes ++ b ∷ []) b
+through_more reads a [] m b through turn = (subst (λ (z : Scene _). Turn reads false z b None) (sym through) turn, refl)
+through_more reads a (s ∷ scenes) m b through turn = (through.0, through_more reads s scenes m b through.1 turn)
+
+-- so many messages were answered
+abbrev pub SoFar : {C : Type 0} → (C → ℕ → C → Type 0) → Scene C → Scene C → ℕ → Type 0
+SoFar {C} reads a b n = (scenes : List (Scene C)) × (length scenes ≡ n) × Through reads a scenes b
+
+pub so_far_more : {C : Type 0} (reads : C → ℕ → C → Type 0) (a m b : Scene C) (n : ℕ)
+    → SoFar reads a m n → Turn reads false m b None → SoFar reads a b (n + 1)
+so_far_more reads a m b n so_far turn = (
+  so_far.0 ++ b ∷ [],
+  length-append so_far.0 (b ∷ []) ∙ ap (λ z. z + 1) so_far.1,
+  through_more reads a so_far.0 m b so_far.2 turn,
+)
+
+early : (n : ℕ) → n < 9999 → (n == 9999) ≡ false
+early n less = grind (arith, nat_tests)
+
+pub session_ends : {C : Type 0} (reads : C → ℕ → C → Type 0) (a m b : Scene C) (n : ℕ) (end : Ended)
+    → SoFar reads a m n → n < 9999 → Turn reads false m b (Some end) → Session reads a b (Some end)
+session_ends reads a m b n end so_far less turn = record {
+  scenes = so_far.0;
+  before = m;
+  through = so_far.2;
+  few = omega (arith, so_far.1);
+  turn = subst (λ (z : Bool). Turn reads z m b (Some end)) (sym (ap (λ z. z == 9999) so_far.1 ∙ early n less)) turn;
+  full = λ none. cc;
+}
+
+pub session_full : {C : Type 0} (reads : C → ℕ → C → Type 0) (a m b : Scene C) (n : ℕ) (end : Option Ended)
+    → n ≡ 9999 → SoFar reads a m n → Turn reads true m b end → Session reads a b end
+session_full reads a m b n end is so_far turn = record {
+  scenes = so_far.0;
+  before = m;
+  through = so_far.2;
+  few = omega (arith, so_far.1, is);
+  turn = subst (λ (z : Bool). Turn reads z m b end) (sym (ap (λ z. z == 9999) (so_far.1 ∙ is))) turn;
+  full = λ none. so_far.1 ∙ is;
+}

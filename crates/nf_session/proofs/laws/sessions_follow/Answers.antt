@@ -1,0 +1,5 @@
+use Rattle.nf_session.proofs.Causes.{session_follows}
+use Rattle.nf_session.proofs.laws.sessions_follow.Goals as goal
+
+pub returns : goal.returns
+returns g c = session_follows g.C.Clock.reads

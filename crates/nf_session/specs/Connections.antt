@@ -1,0 +1,31 @@
+-- Connections, and what they touch.
+use Rattle.std.specs.Prelude.{◌≡◌, ℕ, List}
+use Rattle.nf_http.specs.Told.{stream}
+use Rattle.nf_outside.specs.declared.traits.Ends.{Ghosts as EndsOf}
+use Rattle.nf_session.specs.declared.backend.Backend.{Ghosts as BackendOf}
+use Rattle.nf_session.specs.declared.session.Connection.{Connection}
+use Rattle.nf_session.specs.Steps.{Scene}
+
+-- what is touched between two ends, a clock and a backend, where these bytes were read and not yet taken
+abbrev pub between : {S O C B : Type 0} → EndsOf S → EndsOf O → BackendOf B
+    → List ℕ → S → O → C → B → Scene C
+between s o b kept input output clock backend = record {
+  input = stream kept (s.left input);
+  output = o.written output;
+  book = b.book backend;
+  clock = clock;
+  read_faults = s.read_faults input;
+  write_faults = o.write_faults output;
+}
+
+-- the scene of a connection
+abbrev pub scene : {S O C B : Type 0} → EndsOf S → EndsOf O → BackendOf B → Connection S O C B → Scene C
+scene s o b c = between s o b c.buffer.now c.input.now c.output.now c.clock.now c.backend.now
+
+-- the same buffer, ends, clock and backend are lent
+pub record IsSame {S O C B : Type 0} (a b : Connection S O C B) : Type 0 where
+  pub buffer : b.buffer.ghost_name ≡ a.buffer.ghost_name
+  pub input : b.input.ghost_name ≡ a.input.ghost_name
+  pub output : b.output.ghost_name ≡ a.output.ghost_name
+  pub clock : b.clock.ghost_name ≡ a.clock.ghost_name
+  pub backend : b.backend.ghost_name ≡ a.backend.ghost_name

@@ -1,0 +1,68 @@
+//! What a message's head led to, before its body was taken.
+
+ghost use Rattle.std.specs.Prelude.{◌≡◌, ◌&&◌};
+ghost use Rattle.nf_http.specs.Head.{Head, expects_continue};
+ghost use Rattle.nf_session.specs.Steps.{is_granted as granted, is_invited as invited, is_refused as refused, is_unsent as unsent, skipped_length as skipped};
+
+use nf_http::Message;
+use nf_words::{Answer, Denial, Goal, Reply};
+
+/// What a head led to.
+#[derive(Drop)]
+pub enum Begun {
+    /// It is refused before the site is asked.
+    Unasked(Denial),
+    /// The site was asked, and answered so.
+    Asked(Answer),
+}
+
+impl Begun {
+    /// Something is granted, and stays so until it is ended.
+    pub fn is_granted(&self) -> bool
+        ensures { result ≡ granted self.now }
+    {
+        matches!(self, Begun::Asked(Ok(Reply::Granted(_))))
+    }
+
+    /// It is refused.
+    pub fn is_refused(&self) -> bool
+        ensures { result ≡ refused self.now }
+    {
+        matches!(self, Begun::Unasked(_) | Begun::Asked(Err(_)))
+    }
+
+    // A body is to be stored.
+    fn stores(&self) -> bool
+        ensures { (head : Head) → invited head self.now ≡ (result && expects_continue head) }
+    {
+        let Begun::Asked(Ok(Reply::Granted(goal))) = self else {
+            return false;
+        };
+        matches!(goal, Goal::Store { .. })
+    }
+
+    /// The sender of the body that was granted waits to be told to send it.
+    pub fn is_invited(&self, message: &Message) -> bool
+        ensures { result ≡ invited message.now self.now }
+    {
+        self.stores() && message.expects_continue()
+    }
+
+    /// The sender of what is refused waited for that, and hasn't sent its body.
+    pub fn is_unsent(&self, message: &Message) -> bool
+        ensures { result ≡ unsent message.now self.now }
+    {
+        self.is_refused() && message.expects_continue() && message.length() > 0
+    }
+
+    /// How much of a body that isn't granted is skipped.
+    pub fn skipped_length(&self, message: &Message) -> usize
+        ensures { result ≡ skipped message.now self.now }
+    {
+        if self.is_unsent(message) {
+            0
+        } else {
+            message.length()
+        }
+    }
+}

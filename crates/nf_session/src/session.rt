@@ -1,0 +1,493 @@
+//! A session: messages, answered one after the other.
+
+ghost use Rattle.std.specs.Prelude.{◌≡◌, ◌<◌, ◌≤◌, ℕ, List, [], length, codes, bytes_eq, None, Some, Ok, Err, IfOk, IfErr, OnOk, OnErr, is_some};
+ghost use Rattle.nf_http.specs.Bodies.{CutsBody, CutsRead};
+ghost use Rattle.nf_words.specs.declared.answer.Goal.TheVariants.{Serve};
+ghost use Rattle.nf_base.specs.Content.{size_of};
+ghost use Rattle.nf_routes.specs.Targets.{is_ocs as begins_with_ocs};
+ghost use Rattle.nf_dav.specs.Reply.{file_head as head_of_file};
+ghost use Rattle.nf_session.specs.Book.{MayEnd, held};
+ghost use Rattle.nf_session.specs.Connections.{between, scene, IsSame};
+ghost use Rattle.nf_session.specs.Files.{IsResponding, IsStarted, SendsFile, SendsPiece, TakesPiece};
+ghost use Rattle.nf_session.specs.Steps.{IsClosing, Heads, Bodies, Cuts, Skips, Judges, IsBegun, Invites, TakesIn, StoresBody, StartsFile, Says, Sends, Closes, EndsBy, EndsSo, skipped_length};
+ghost use Rattle.nf_session.specs.Turn.{Meets, Responds, Turn, Writes, way_by};
+ghost use Rattle.nf_session.specs.Session.{Session};
+ghost use Rattle.nf_session.specs.declared.backend.Ending.TheVariants as ending;
+ghost use Rattle.nf_session.specs.declared.ended.Ended.TheVariants as ended;
+
+use crate::backend::{Backend, Ending, PieceFault};
+use crate::begun::Begun;
+use crate::ended::{Ended, closes, end_by, end_of, says_close};
+use crate::response::Response;
+use nf_base::{Content, Moment};
+use nf_dav::{Manner, Unasked, continue_answer, done, file_head, listing, made, refusal, request};
+use nf_http::{Buffer, Message, WireFault, next_message, read_body, send, skip_body};
+use nf_outside::{Clock, Sink, Source};
+use nf_routes::{Routes, is_ocs};
+use nf_words::{Denial, Goal, Reply, Words};
+use std::alloc::{AllocError, Global};
+
+/// The words of chance of a Begin: none are drawn yet.
+const NO_WORDS: Words = Words {
+    first: 0,
+    second: 0,
+};
+
+// How bytes are refused that are no message, or end inside one.
+const LAST: Manner = Manner {
+    close: true,
+    ocs: false,
+    head_only: false,
+};
+
+/// The two ends of a connection, the bytes that were read and not yet taken, and what its messages are answered from.
+#[derive(Drop)]
+pub struct Connection<'t, 'r, 'i, 'o, 'c, 'b, S: Source, O: Sink, C: Clock, B: Backend> {
+    pub alloc: Global,
+    pub routes: &'t Routes,
+    pub buffer: &'r mut Buffer,
+    pub input: &'i mut S,
+    pub output: &'o mut O,
+    pub clock: &'c mut C,
+    pub backend: &'b mut B,
+}
+
+impl<'t, 'r, 'i, 'o, 'c, 'b, S, O, C, B> Connection<'t, 'r, 'i, 'o, 'c, 'b, S, O, C, B>
+where
+    S: Source,
+    O: Sink,
+    C: Clock,
+    B: Backend,
+{
+    fn next(&mut self) -> Result<Option<Message>, WireFault>
+        ensures same { IsSame self.old self.new }
+        ensures heads { Heads (scene S.Ends O.Ends B.Backend self.old) (scene S.Ends O.Ends B.Backend self.new) result }
+    {
+        next_message(self.alloc, self.input, self.buffer)
+    }
+
+    // Reads a body of that many bytes.
+    fn read(&mut self, length: usize) -> Result<Vec<u8>, WireFault>
+        ensures same { IsSame self.old self.new }
+        ensures ok { IfOk result (λ body. Bodies (scene S.Ends O.Ends B.Backend self.old)
+            (scene S.Ends O.Ends B.Backend self.new) length body.items) }
+        ensures err { IfErr result (Cuts CutsBody (scene S.Ends O.Ends B.Backend self.old)
+            (scene S.Ends O.Ends B.Backend self.new) length) }
+    {
+        read_body(self.alloc, self.input, self.buffer, length)
+    }
+
+    // Skips a body of that many bytes.
+    fn skip(&mut self, length: usize) -> Result<(), WireFault>
+        ensures same { IsSame self.old self.new }
+        ensures ok { OnOk result (Skips (scene S.Ends O.Ends B.Backend self.old)
+            (scene S.Ends O.Ends B.Backend self.new) length) }
+        ensures err { IfErr result (Cuts CutsRead (scene S.Ends O.Ends B.Backend self.old)
+            (scene S.Ends O.Ends B.Backend self.new) length) }
+    {
+        skip_body(self.input, self.buffer, length)
+    }
+
+    fn write(&mut self, bytes: &[u8]) -> Result<(), Ended>
+        ensures same { IsSame self.old self.new }
+        ensures sends { Sends (scene S.Ends O.Ends B.Backend self.old)
+            (scene S.Ends O.Ends B.Backend self.new) bytes.now result }
+    {
+        match send(self.output, bytes) {
+            Ok(()) => Ok(()),
+            Err(_) => Err(Ended::WriteFault),
+        }
+    }
+
+    // Writes an answer, where there was memory for it.
+    fn say(&mut self, bytes: Result<Vec<u8>, AllocError>) -> Result<(), Ended>
+        ensures same { IsSame self.old self.new }
+        ensures ok { IfOk bytes (λ bytes. Sends (scene S.Ends O.Ends B.Backend self.old)
+            (scene S.Ends O.Ends B.Backend self.new) bytes.items result) }
+        ensures err { OnErr bytes ((result ≡ Err ended.Memory)
+            × (scene S.Ends O.Ends B.Backend self.new ≡ scene S.Ends O.Ends B.Backend self.old)) }
+    {
+        match bytes {
+            Ok(bytes) => self.write(&bytes),
+            Err(_) => Err(Ended::Memory),
+        }
+    }
+
+    // The Begin of a message's request. Where there is no memory for that, it is refused so.
+    fn begin(&mut self, message: &Message) -> Begun
+        requires { held (B.book self.old.backend.now) ≡ None }
+        ensures same { IsSame self.old self.new }
+        ensures judges { Judges C.reads message.now (scene S.Ends O.Ends B.Backend self.old)
+            (scene S.Ends O.Ends B.Backend self.new) result }
+        ensures begun { IsBegun (B.book self.new.backend.now) result }
+    {
+        match request(self.routes, self.alloc, message) {
+            Ok(request) => {
+                let now = Moment::new(self.clock.now());
+                Begun::Asked(self.backend.begin(now, NO_WORDS, request))
+            }
+            Err(Unasked::Refused(denial)) => Begun::Unasked(denial),
+            Err(Unasked::Memory) => Begun::Unasked(Denial::Memory),
+        }
+    }
+
+    // Tells whoever waits for it to send the body that was granted.
+    fn invite(&mut self, message: &Message, begun: &Begun) -> Result<(), Ended>
+        ensures same { IsSame self.old self.new }
+        ensures invites { Invites message.now begun.now (scene S.Ends O.Ends B.Backend self.old)
+            (scene S.Ends O.Ends B.Backend self.new) result }
+        ensures book { B.book self.new.backend.now ≡ B.book self.old.backend.now }
+    {
+        if begun.is_invited(message) {
+            self.write(continue_answer())
+        } else {
+            Ok(())
+        }
+    }
+
+    // Takes the body of a message, or skips so much of it, and what was begun becomes a response by that.
+    fn take_body(
+        &mut self,
+        message: &Message,
+        begun: Begun,
+        skipped: usize,
+    ) -> Result<Response, WireFault>
+        requires begun { IsBegun (B.book self.old.backend.now) begun }
+        requires skipped { skipped ≡ skipped_length message.now begun }
+        ensures same { IsSame self.old self.new }
+        ensures takes { TakesIn C.reads message.now (scene S.Ends O.Ends B.Backend self.old)
+            (scene S.Ends O.Ends B.Backend self.new) begun result }
+        ensures responding { IfOk result (IsResponding (B.book self.new.backend.now)) }
+        ensures cut { OnErr result (B.book self.new.backend.now ≡ B.book self.old.backend.now) }
+    {
+        match begun {
+            Begun::Asked(Ok(Reply::Granted(Goal::Store { length, .. }))) => {
+                let body = self.read(length as usize)?;
+                Ok(self.store(body))
+            }
+            Begun::Asked(Ok(Reply::Granted(Goal::Serve(content)))) => {
+                self.skip(skipped)?;
+                Ok(self.start(content))
+            }
+            Begun::Asked(Ok(Reply::Made)) => {
+                self.skip(skipped)?;
+                Ok(Response::Made)
+            }
+            Begun::Asked(Ok(Reply::Done)) => {
+                self.skip(skipped)?;
+                Ok(Response::Done)
+            }
+            Begun::Asked(Ok(Reply::Listing(lines))) => {
+                self.skip(skipped)?;
+                Ok(Response::Listing(lines))
+            }
+            Begun::Asked(Ok(Reply::Closed)) => unreachable!(),
+            Begun::Asked(Err(denial)) => {
+                self.skip(skipped)?;
+                Ok(Response::Denied(denial))
+            }
+            Begun::Unasked(denial) => {
+                self.skip(skipped)?;
+                Ok(Response::Denied(denial))
+            }
+        }
+    }
+
+    // The End of what is to be stored, with its body.
+    fn store(&mut self, body: Vec<u8>) -> Response
+        requires { MayEnd (held (B.book self.old.backend.now)) (ending.Body body) }
+        ensures same { IsSame self.old self.new }
+        ensures stores { StoresBody C.reads body.items (scene S.Ends O.Ends B.Backend self.old)
+            (scene S.Ends O.Ends B.Backend self.new) result }
+        ensures responding { IsResponding (B.book self.new.backend.now) result }
+    {
+        let now = Moment::new(self.clock.now());
+        Response::of(self.backend.end(now, Ending::Body(body)))
+    }
+
+    // Takes the first piece of a file that is to be sent.
+    fn start(&mut self, content: Content) -> Response
+        requires { held (B.book self.old.backend.now) ≡ Some (Serve content) }
+        ensures same { IsSame self.old self.new }
+        ensures starts { StartsFile (scene S.Ends O.Ends B.Backend self.old)
+            (scene S.Ends O.Ends B.Backend self.new) content result }
+        ensures responding { IsResponding (B.book self.new.backend.now) result }
+    {
+        if content.pieces().is_empty() {
+            return Response::File {
+                content,
+                first: None,
+            };
+        }
+        match self.backend.blob(&content, 0) {
+            Ok(piece) => Response::File {
+                content,
+                first: Some(piece),
+            },
+            Err(fault) => Response::Lost(fault),
+        }
+    }
+
+    // Writes the response to a message, which may close the session; how it ends that, if it does.
+    fn respond(
+        &mut self,
+        message: &Message,
+        closes: bool,
+        response: &Response,
+        last: bool,
+    ) -> Result<Option<Ended>, Ended>
+        requires { IsResponding (B.book self.old.backend.now) response.now }
+        ensures same { IsSame self.old self.new }
+        ensures responds { Responds last (way_by closes message.now) response.now (scene S.Ends O.Ends B.Backend self.old)
+            (scene S.Ends O.Ends B.Backend self.new) result }
+        ensures held { held (B.book self.new.backend.now) ≡ held (B.book self.old.backend.now) }
+    {
+        let end = end_of(closes, response);
+        self.write_response(response, manner(message, says_close(last, &end)))?;
+        Ok(end)
+    }
+
+    fn write_response(&mut self, response: &Response, manner: Manner) -> Result<(), Ended>
+        requires { IsResponding (B.book self.old.backend.now) response.now }
+        ensures same { IsSame self.old self.new }
+        ensures writes { Writes manner response.now (scene S.Ends O.Ends B.Backend self.old)
+            (scene S.Ends O.Ends B.Backend self.new) result }
+        ensures held { held (B.book self.new.backend.now) ≡ held (B.book self.old.backend.now) }
+    {
+        match response {
+            Response::Denied(denial) => self.say(refusal(self.alloc, denial, manner)),
+            Response::Made => self.say(made(self.alloc, manner.close)),
+            Response::Done => self.say(done(self.alloc, manner.close)),
+            Response::Listing(lines) => self.say(listing(self.alloc, lines, manner.close)),
+            Response::Lost(fault) => self.say(refusal(self.alloc, &fault.denial(), manner)),
+            Response::File { content, first } => self.send_file(content, first, manner.close),
+        }
+    }
+
+    // Sends the head of a file, its first piece, and the others as they are taken.
+    fn send_file(
+        &mut self,
+        content: &Content,
+        first: &Option<Vec<u8>>,
+        close: bool,
+    ) -> Result<(), Ended>
+        requires { IsStarted (B.book self.old.backend.now) content.now first.now }
+        ensures same { IsSame self.old self.new }
+        ensures sends { SendsFile close content.now first.now (scene S.Ends O.Ends B.Backend self.old)
+            (scene S.Ends O.Ends B.Backend self.new) result }
+        ensures held { held (B.book self.new.backend.now) ≡ held (B.book self.old.backend.now) }
+    {
+        self.send_head(content, close)?;
+        let Some(piece) = first else {
+            return Ok(());
+        };
+        self.write(piece)?;
+        for index in 1..content.pieces().len() {
+            self.send_piece(content, index)?;
+        }
+        Ok(())
+    }
+
+    fn send_head(&mut self, content: &Content, close: bool) -> Result<(), Ended>
+        ensures same { IsSame self.old self.new }
+        ensures says { Says (scene S.Ends O.Ends B.Backend self.old) (scene S.Ends O.Ends B.Backend self.new)
+            (head_of_file close (size_of content.now)) result }
+    {
+        self.say(file_head(self.alloc, content.size(), close))
+    }
+
+    fn take_piece(&mut self, content: &Content, index: usize) -> Result<Vec<u8>, PieceFault>
+        requires granted { held (B.book self.old.backend.now) ≡ Some (Serve content.now) }
+        requires index { index < length content.now }
+        ensures same { IsSame self.old self.new }
+        ensures takes { TakesPiece content.now index (scene S.Ends O.Ends B.Backend self.old)
+            (scene S.Ends O.Ends B.Backend self.new) result }
+        ensures held { held (B.book self.new.backend.now) ≡ held (B.book self.old.backend.now) }
+    {
+        self.backend.blob(content, index)
+    }
+
+    fn send_piece(&mut self, content: &Content, index: usize) -> Result<(), Ended>
+        requires granted { held (B.book self.old.backend.now) ≡ Some (Serve content.now) }
+        requires index { index < length content.now }
+        ensures same { IsSame self.old self.new }
+        ensures sends { SendsPiece content.now index (scene S.Ends O.Ends B.Backend self.old)
+            (scene S.Ends O.Ends B.Backend self.new) result }
+        ensures held { held (B.book self.new.backend.now) ≡ held (B.book self.old.backend.now) }
+    {
+        match self.take_piece(content, index) {
+            Ok(piece) => self.write(&piece),
+            Err(PieceFault::Memory) => Err(Ended::Memory),
+            Err(fault) => Err(Ended::Cut(fault)),
+        }
+    }
+
+    // Ends what is still granted.
+    fn close(&mut self, granted: bool, ending: Ending)
+        requires granted { granted ≡ is_some (held (B.book self.old.backend.now)) }
+        requires closing { IsClosing ending }
+        ensures same { IsSame self.old self.new }
+        ensures closes { Closes C.reads ending granted (scene S.Ends O.Ends B.Backend self.old)
+            (scene S.Ends O.Ends B.Backend self.new) }
+        ensures idle { held (B.book self.new.backend.now) ≡ None }
+    {
+        if granted {
+            let now = Moment::new(self.clock.now());
+            let _ = self.backend.end(now, ending);
+        }
+    }
+
+    // Answers bytes at whose front no message stands, or that end inside one; how the session ends by it.
+    fn refuse(&mut self, fault: WireFault) -> Ended
+        ensures same { IsSame self.old self.new }
+        ensures refuses { EndsBy fault (scene S.Ends O.Ends B.Backend self.old)
+            (scene S.Ends O.Ends B.Backend self.new) result }
+    {
+        match fault {
+            WireFault::ReadFault => Ended::ReadFault,
+            WireFault::Memory => Ended::Memory,
+            WireFault::Bad => self.deny(&Denial::BadMessage),
+            WireFault::HeadLong => self.deny(&Denial::Head),
+            WireFault::Coding => self.deny(&Denial::Coding),
+            WireFault::TooLarge { .. } => self.deny(&Denial::TooLarge),
+            WireFault::Truncated => self.deny(&Denial::BadMessage),
+        }
+    }
+
+    fn deny(&mut self, denial: &Denial) -> Ended
+        ensures same { IsSame self.old self.new }
+        ensures denies { EndsSo denial.now (scene S.Ends O.Ends B.Backend self.old)
+            (scene S.Ends O.Ends B.Backend self.new) result }
+    {
+        match refusal(self.alloc, denial, LAST) {
+            Ok(bytes) => match self.write(&bytes) {
+                Ok(()) => Ended::BadMessage,
+                Err(ended) => ended,
+            },
+            Err(_) => Ended::Memory,
+        }
+    }
+
+    // Answers one message, whose head was taken; how the session ends, if it does. No other is answered after the `last`.
+    fn answer(&mut self, message: &Message, last: bool) -> Option<Ended>
+        requires { held (B.book self.old.backend.now) ≡ None }
+        ensures same { IsSame self.old self.new }
+        ensures meets { Meets C.reads last message.now (scene S.Ends O.Ends B.Backend self.old)
+            (scene S.Ends O.Ends B.Backend self.new) result }
+        ensures idle { held (B.book self.new.backend.now) ≡ None }
+    {
+        let begun = self.begin(message);
+        let granted = begun.is_granted();
+        if let Err(ended) = self.invite(message, &begun) {
+            self.close(granted, Ending::Gone);
+            return Some(ended);
+        }
+        let closes = closes(message, &begun);
+        let skipped = begun.skipped_length(message);
+        match self.take_body(message, begun, skipped) {
+            Ok(response) => {
+                let written = self.respond(message, closes, &response, last);
+                self.close(response.stays_granted(), response.ending(&written));
+                end_by(written)
+            }
+            Err(fault) => {
+                let ended = self.refuse(fault);
+                self.close(granted, Ending::Gone);
+                Some(ended)
+            }
+        }
+    }
+
+    // One turn: the next message and its answer; how the session ends, if it does.
+    fn exchange(&mut self, last: bool) -> Option<Ended>
+        requires { held (B.book self.old.backend.now) ≡ None }
+        ensures same { IsSame self.old self.new }
+        ensures turn { Turn C.reads last (scene S.Ends O.Ends B.Backend self.old)
+            (scene S.Ends O.Ends B.Backend self.new) result }
+        ensures idle { held (B.book self.new.backend.now) ≡ None }
+    {
+        match self.next() {
+            Ok(None) => Some(Ended::Closed),
+            Ok(Some(message)) => self.answer(&message, last),
+            Err(fault) => Some(self.refuse(fault)),
+        }
+    }
+
+    // Messages until one ends the session, the input ends, or 10,000 were answered: then None.
+    fn session(&mut self) -> Option<Ended>
+        requires { held (B.book self.old.backend.now) ≡ None }
+        ensures same { IsSame self.old self.new }
+        ensures session { Session C.reads (scene S.Ends O.Ends B.Backend self.old)
+            (scene S.Ends O.Ends B.Backend self.new) result }
+        ensures idle { held (B.book self.new.backend.now) ≡ None }
+    {
+        for turn in 0..9_999u32 {
+            let _ = turn;
+            if let Some(ended) = self.exchange(false) {
+                return Some(ended);
+            }
+        }
+        self.exchange(true)
+    }
+}
+
+fn manner(message: &Message, close: bool) -> Manner
+    ensures { result ≡ record { close = close; ocs = begins_with_ocs message.now.target; head_only = bytes_eq message.now.method (codes "HEAD") } }
+{
+    Manner {
+        close,
+        ocs: is_ocs(message.target()),
+        head_only: message.method() == b"HEAD".as_slice(),
+    }
+}
+
+/// Serves the messages of one connection. None says that 10,000 were answered, and that none ended the session.
+///
+/// Up to 8,192 bytes may have been read behind the last message that was taken; they are lost with the session.
+pub fn serve_session<S: Source, O: Sink, C: Clock, B: Backend>(
+    alloc: Global,
+    routes: &Routes,
+    input: &mut S,
+    output: &mut O,
+    clock: &mut C,
+    backend: &mut B,
+) -> Option<Ended>
+    requires { held (B.book backend.old) ≡ None }
+    ensures session { (kept : List ℕ) × (length kept ≤ 8192) × Session C.reads
+        (between S.Ends O.Ends B.Backend [] input.old output.old clock.old backend.old)
+        (between S.Ends O.Ends B.Backend kept input.new output.new clock.new backend.new) result }
+    ensures idle { held (B.book backend.new) ≡ None }
+{
+    let mut buffer = Buffer::new();
+    let ended = serve(alloc, routes, &mut buffer, input, output, clock, backend);
+    // What was read and not taken fits the buffer.
+    let _ = buffer.bytes();
+    ended
+}
+
+fn serve<S: Source, O: Sink, C: Clock, B: Backend>(
+    alloc: Global,
+    routes: &Routes,
+    buffer: &mut Buffer,
+    input: &mut S,
+    output: &mut O,
+    clock: &mut C,
+    backend: &mut B,
+) -> Option<Ended>
+    requires { held (B.book backend.old) ≡ None }
+    ensures session { Session C.reads
+        (between S.Ends O.Ends B.Backend buffer.old input.old output.old clock.old backend.old)
+        (between S.Ends O.Ends B.Backend buffer.new input.new output.new clock.new backend.new) result }
+    ensures idle { held (B.book backend.new) ≡ None }
+{
+    let mut connection = Connection {
+        alloc,
+        routes,
+        buffer,
+        input,
+        output,
+        clock,
+        backend,
+    };
+    connection.session()
+}
