@@ -1,39 +1,44 @@
 -- What the rule says of a seat, in the words of `Agrees`.
 use Rattle.std.proofs.Common.{◌≡◌, ⊎_elim, inl, inr, ℕ, ◌<◌, List, [], ◌∷◌, ◌++◌, refl, sym, ap, ◌∙◌, arith}
+use mathlib.Core.Logic.{dite}
+use native.Mathlib.Decide.{ℕ_discrete}
 use Rattle.nf_turn.specs.Book.{Meanings, entries_of, HasNothing, IsFresh, GrowsWithout}
 use Rattle.nf_turn.specs.declared.view.Memory.{Memory}
 use Rattle.nf_turn.specs.Numbers.{numbers_of}
 use Rattle.nf_turn.specs.Agreeing.{AllAreKept, Agrees}
 use Rattle.nf_turn.specs.Turns.{Line, AreJoined, IsKnown, InOrder}
+use Rattle.nf_turn.proofs.Growing.{shorter_end, entries_stay}
 use Rattle.nf_turn.proofs.Left.{left_test}
 use Rattle.nf_turn.proofs.Shelves.{tells_alike, grew_append, last_bytes_stay, gone_stays}
 
 module _ {E O W : Type 0} (book : Meanings E O W) where
   -- where nothing was done since the start, nothing stands
   nothing : (n : ℕ) (origin value : W) → IsFresh book origin → GrowsWithout book n origin value → HasNothing book n value
-  nothing n origin value fresh h = (h.entries ∙ ap (entries_of book n) fresh.no_entries, h.strikes ∙ fresh.no_strikes n)
+  nothing n origin value fresh h = (entries_stay book n origin value h ∙ ap (entries_of book n) fresh.no_entries, h.strikes ∙ fresh.no_strikes n)
 
   joined_are_kept : (line : Line W) (id n : ℕ) (joined : List (ℕ × W)) → AreJoined book line id n joined → AllAreKept book line.value joined
   joined_are_kept line id n [] h = tt
-  joined_are_kept line id n (seat ∷ seats) h = let kept = h.5 in (kept.entries, kept.strikes, joined_are_kept line id n seats h.7)
+  joined_are_kept line id n (seat ∷ seats) h = (h.5, joined_are_kept line id n seats h.7)
 
   pub agrees : (seats : ℕ) (origin : W) (line : Line W) (id : ℕ) (k : Memory W) → IsFresh book origin → InOrder book seats origin line → IsKnown book seats origin line id k → Agrees book k line.value
   agrees seats origin line id k fresh order h =
-      let since_start = order.unused 0 (inl refl) in record {
-        since = h.known.added;
-        known = h.known.entries;
-        own = h.own.entries;
+      let since_start = (order.unused 0 (inl refl)).grows in let low = h.low in let given = h.given in let few = order.few.2 in let all = h.all in record {
+        within = (low, omega arith);
+        known = h.known;
+        others = shorter_end book k.number (book.entries k.last) (book.entries k.known) h.own.grows.added h.known.added (sym h.own.grows.entries ∙ h.known.entries) h.lasting h.own.none;
+        own = entries_stay book k.number k.last line.value h.own;
         strikes = h.own.strikes;
         joined = joined_are_kept line id k.number k.joined h.joined;
         left = λ n left.
-            let is = left_test (numbers_of k) n left in let low = is.0 in let up = is.1 in
+            let is = left_test (numbers_of k) n left in let from = is.0 in let up = is.1 in
             let next = (h.left (omega arith)).1 in
             nothing n origin line.value fresh (order.unused n (inr (omega arith)));
-        outside = λ n out.
-            let few = order.few.2 in let all = h.all in
-            nothing n origin line.value fresh (order.unused n (⊎_elim (λ (z : n ≡ 0). inl z) (λ (z : k.seats < n). inr (omega arith)) out));
+        outside = λ n out. nothing n origin line.value fresh (order.unused n (⊎_elim (λ (z : n ≡ 0). inl z) (λ (z : k.seats < n). inr (omega arith)) out));
         opening = since_start.keeps.opening ∙ ap book.opening (sym h.first);
         tells = tells_alike (book.shelf origin) (book.shelf line.value) since_start.keeps.shelf ∙ ap (λ z. Rattle.std.specs.Prelude.is_some (book.shelf z)) (sym h.first);
         shelf = λ m bytes e. last_bytes_stay book line.value (k.passed ++ k.told) (grew_append book line.value k.passed k.told h.passed h.told) m bytes e;
         gone = λ m e. gone_stays book line.value k.passed h.passed m e;
+        sole = λ all_left. h.sole (dite (ℕ_discrete k.left 0)
+            (λ none_left. omega arith)
+            (λ some_left. let left = h.left (omega arith) in let next = left.1 in let sum = left.2 in omega arith));
       }

@@ -1,11 +1,13 @@
 -- How a value grows over several turns.
-use Rattle.std.proofs.Common.{◌≡◌, ◌≢◌, ⊎_elim, inl, inr, ℕ, ◌==◌, cond, false, arith, List, [], ◌∷◌, ◌++◌, All, Option, Some, None, refl, sym, ap, ◌∙◌, append-nil, append_assoc, ne_eqb}
+use Rattle.std.proofs.Common.{◌≡◌, ◌≢◌, ⊎_elim, inl, inr, ℕ, ◌-◌, ◌<◌, ◌≤◌, ◌==◌, cond, false, arith, List, [], ◌∷◌, ◌++◌, All, Option, Some, None, refl, sym, ap, ◌∙◌, append-nil, append_assoc, length, take, drop, ne_eqb}
+use Rattle.std.proofs.lemmas.List.{take-append-drop}
 use Rattle.std.proofs.lemmas.List.Elements.{filter-append, All-head, All-tail}
+use Rattle.std.proofs.Math.Seq.{drop-append-add, drop-append_seam}
 use Rattle.nf_turn.specs.Book.{Shelf, Meanings, KeepsShelf, Keeps, entries_of, AddsAlone, Grows, GrowsWithout}
 
 pub KeepsShelf-refl : (shelf : Option Shelf) → KeepsShelf shelf shelf
 KeepsShelf-refl None = tt
-KeepsShelf-refl (Some shelf) = (omega arith, λ m below. inl refl)
+KeepsShelf-refl (Some shelf) = (omega arith, omega arith, λ m below. inl refl)
 
 pub KeepsShelf-trans : (a b c : Option Shelf) → KeepsShelf a b → KeepsShelf b c → KeepsShelf a c
 KeepsShelf-trans None None None h g = tt
@@ -13,13 +15,22 @@ KeepsShelf-trans None None (Some c) h g = g
 KeepsShelf-trans None (Some b) c h g = absurd h
 KeepsShelf-trans (Some a) None c h g = absurd h
 KeepsShelf-trans (Some a) (Some b) None h g = g
-KeepsShelf-trans (Some a) (Some b) (Some c) h g = let low = h.0 in let up = g.0 in (
+KeepsShelf-trans (Some a) (Some b) (Some c) h g = let low = h.0 in let up = g.0 in let few = h.1 in let more = g.1 in (
+  omega arith,
   omega arith,
   λ m below. ⊎_elim
-      (λ (e : c.bytes m ≡ b.bytes m). ⊎_elim (λ (f : b.bytes m ≡ a.bytes m). inl (e ∙ f)) (λ (f : b.bytes m ≡ None). inr (e ∙ f)) (h.1 m below))
-      (λ (e : c.bytes m ≡ None). inr e)
-      (g.1 m (omega arith)),
+      (λ (e : c.bytes m ≡ b.bytes m). ⊎_elim
+      (λ (f : b.bytes m ≡ a.bytes m). inl (e ∙ f))
+      (λ (f : (b.bytes m ≡ None) × (a.drops < b.drops)). let rose = f.1 in inr (e ∙ f.0, omega arith))
+      (h.2 m below))
+      (λ (e : (c.bytes m ≡ None) × (b.drops < c.drops)). let rose = e.1 in inr (e.0, omega arith))
+      (g.2 m (omega arith)),
 )
+
+-- where a list has no element, its end has none
+nothing_right : {A : Type 0} (xs ys : List A) → xs ++ ys ≡ [] → ys ≡ []
+nothing_right [] ys e = e
+nothing_right (x ∷ xs) ys e = absurd (cc)
 
 module _ {E O W : Type 0} (book : Meanings E O W) where
   -- under m stands nothing of what another number did
@@ -29,6 +40,14 @@ module _ {E O W : Type 0} (book : Meanings E O W) where
       let P : E → Type 0 = λ e. book.seat_of e ≡ n in
       let not : (book.seat_of e == m) ≡ false = ne_eqb (book.seat_of e) m (λ same. apart (sym same ∙ All-head P e entries h)) in
       ap (λ t. cond t (e ∷ entries_of book m entries) (entries_of book m entries)) not ∙ others_entries m n apart entries (All-tail P e entries h)
+
+  -- of two ends of a list the shorter one has no entry of a seat where the longer one has none
+  pub shorter_end : (n : ℕ) (xs ys long short : List E) → xs ++ long ≡ ys ++ short → length xs ≤ length ys → entries_of book n long ≡ [] → entries_of book n short ≡ []
+  shorter_end n xs ys long short same up none =
+      let i = length ys - length xs in
+      let is : drop i long ≡ short = sym (drop-append-add xs long i) ∙ ap (λ j. drop j (xs ++ long)) (omega (arith, up)) ∙ ap (drop (length ys)) same ∙ drop-append_seam ys short in
+      let both : entries_of book n (take i long) ++ entries_of book n (drop i long) ≡ [] = sym (filter-append (λ e. book.seat_of e == n) (take i long) (drop i long)) ∙ ap (entries_of book n) (take-append-drop i long) ∙ none in
+      ap (entries_of book n) (sym is) ∙ nothing_right (entries_of book n (take i long)) (entries_of book n (drop i long)) both
 
   keeps-refl : (x : W) → Keeps book x x
   keeps-refl x = record { opening = refl; shelf = KeepsShelf-refl (book.shelf x) }
@@ -47,12 +66,19 @@ module _ {E O W : Type 0} (book : Meanings E O W) where
   }
 
   pub GrowsWithout-refl : (n : ℕ) (x : W) → GrowsWithout book n x x
-  GrowsWithout-refl n x = record { entries = refl; strikes = refl; keeps = keeps-refl x }
+  unfolding Grows-refl
+  GrowsWithout-refl n x = record { grows = Grows-refl x; none = refl; strikes = refl }
 
   pub GrowsWithout-AddsAlone : (m n : ℕ) (x y z : W) → m ≢ n → GrowsWithout book m x y → AddsAlone book n y z → GrowsWithout book m x z
+  unfolding Grows-AddsAlone
   GrowsWithout-AddsAlone m n x y z apart h g = record {
-    entries = ap (entries_of book m) g.entries ∙ filter-append (λ e. book.seat_of e == m) (book.entries y) g.added
-        ∙ ap (λ l. entries_of book m (book.entries y) ++ l) (others_entries m n apart g.added g.alone) ∙ append-nil (entries_of book m (book.entries y)) ∙ h.entries;
+    grows = Grows-AddsAlone n x y z h.grows g;
+    none = filter-append (λ e. book.seat_of e == m) h.grows.added g.added ∙ (λ i. h.none i ++ others_entries m n apart g.added g.alone i);
     strikes = g.others m apart ∙ h.strikes;
-    keeps = keeps-trans x y z h.keeps g.keeps;
   }
+
+  -- under the seat's number stands what stood there
+  pub entries_stay : (n : ℕ) (x y : W) → GrowsWithout book n x y → entries_of book n (book.entries y) ≡ entries_of book n (book.entries x)
+  entries_stay n x y h =
+      let old = entries_of book n (book.entries x) in
+      ap (entries_of book n) h.grows.entries ∙ filter-append (λ e. book.seat_of e == n) (book.entries x) h.grows.added ∙ ap (λ l. old ++ l) h.none ∙ append-nil old

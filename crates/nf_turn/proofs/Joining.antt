@@ -1,9 +1,10 @@
 -- Joining a seat into another.
-use Rattle.std.proofs.Common.{◌≡◌, ◌≢◌, ◌⊎◌, ⊎_elim, ℕ, suc, ◌+◌, ◌^◌, ◌<◌, Bool, true, false, inl, inr, length, cond, ltb, eqb, eq-eqb, ne_eqb, List, [], ◌∷◌, ◌++◌, append-nil, length-append, set, refl, sym, ap, ◌∙◌, subst, arith}
+use Rattle.std.proofs.Common.{◌≡◌, ◌≢◌, ◌⊎◌, ⊎_elim, ℕ, suc, ◌+◌, ◌^◌, ◌<◌, ◌≤◌, Bool, true, false, inl, inr, length, cond, ltb, eqb, eq-eqb, ne_eqb, List, [], ◌∷◌, ◌++◌, append-nil, length-append, set, refl, sym, ap, ◌∙◌, subst, arith}
 use mathlib.Core.Logic.{dite}
 use mathlib.Core.Option.{some}
 use native.Mathlib.Decide.{ℕ_discrete}
 use lib.ListN.{get_elem?}
+use Rattle.std.proofs.lemmas.Bool.{cases_lt, lt-ltb, le-ltb}
 use Rattle.atomic_table.specs.Table.{Joins}
 use Rattle.atomic_table.proofs.Lists.{at_set}
 use Rattle.nf_turn.specs.Book.{Meanings, Grows}
@@ -30,6 +31,13 @@ module _ {E O W : Type 0} (book : Meanings E O W) where
   longer_picks : (a b : W) → (longer book a b ≡ a) ⊎ (longer book a b ≡ b)
   longer_picks a b = one_of (ltb (length (book.entries a)) (length (book.entries b))) a b
 
+  -- the one that is picked isn't shorter than the first
+  longer_is_longer : (a b : W) → length (book.entries a) ≤ length (book.entries (longer book a b))
+  longer_is_longer a b = let n = length (book.entries a) in let m = length (book.entries b) in ⊎_elim
+      (λ (less : n < m). let picked = ap (λ t. length (book.entries (cond t b a))) (lt-ltb n m less) in omega arith)
+      (λ (more : m ≤ n). let picked = ap (λ t. length (book.entries (cond t b a))) (le-ltb n m more) in omega arith)
+      (cases_lt n m)
+
   -- a number of another seat of the table is none of these
   elsewhere : (line : Line W) (m there id n : ℕ) → line.place m ≡ there → there ≢ id → (joined : List (ℕ × W)) → AreJoined book line id n joined → IsOther m joined
   elsewhere line m there id n at apart [] h = tt
@@ -51,6 +59,7 @@ module _ {E O W : Type 0} (book : Meanings E O W) where
     gives = λ h. (h ∙ sym (redirect_miss (λ z. z) other id line.giver (λ e. apart' (h ∙ e))), refl);
     free = λ m _ _ _ h. h;
     holds = λ m _ _ _ h. (h, refl);
+    sole = λ m _ _ _ _. refl;
     grew = λ w h. h;
     without = λ m w _ _ h. h;
   }
@@ -109,6 +118,10 @@ module _ {E O W : Type 0} (book : Meanings E O W) where
       told = h.told;
       left = left_with_both line id other k q apart h t;
       joined = joined_of_both line id other k q apart idle h t;
+      lasting = (let mine = h.lasting in let up = longer_is_longer k.known q.known in omega arith);
+      sole = λ alone.
+          let low = h.low in let below = h.given in let low' = t.low in let below' = t.given in let same : q.number ≡ k.number = omega arith in
+          absurd (apart (sym t.its ∙ ap line.place same ∙ h.its));
     }
 
     joins : (id other : ℕ) (k q : Memory W) → Joins (IsInTurn book seats origin) id (Idle k) other (Idle q) (after_join (longer book) (Idle k) (Idle q)) Spent

@@ -22,13 +22,14 @@ module _ {E O W : Type 0} (book : Meanings E O W) (seats : ℕ) (origin : W) whe
   abbrev passing : Line W → ℕ → W → Line W
   passing line n value = record line { passed_on = line.passed_on + 1; waits = put line.waits n 0; holder = 0; value = value }
 
-  leaves_others : (line : Line W) (id n : ℕ) (value : W) → line.place n ≡ id → line.holder ≡ n → AddsAlone book n line.value value → (j : ℕ) → j ≢ id → LeavesAlone book line (passing line n value) j
-  leaves_others line id n value its holds added j other = record {
+  leaves_others : (line : Line W) (id n : ℕ) (value : W) → 0 < n → n < line.fresh → line.place n ≡ id → line.holder ≡ n → AddsAlone book n line.value value → (j : ℕ) → j ≢ id → LeavesAlone book line (passing line n value) j
+  leaves_others line id n value low given its holds added j other = record {
     numbers = λ m _ at. (at, put_else line.waits n 0 m (other_number line id j n m its other at), refl);
     fresh = omega arith;
     gives = λ h. (h, refl);
-    free = λ m low _ at z e. omega arith;
-    holds = λ m low _ at e. absurd (other_number line id j n m its other at (sym e ∙ holds));
+    free = λ m low' _ at z e. omega arith;
+    holds = λ m _ _ at e. absurd (other_number line id j n m its other at (sym e ∙ holds));
+    sole = λ m low' below at alone. absurd (other_number line id j n m its other at (omega arith));
     grew = λ w h. Grows-AddsAlone book n w line.value value h added;
     without = λ m w _ at h. GrowsWithout-AddsAlone book m n w line.value value (other_number line id j n m its other at) h added;
   }
@@ -80,6 +81,8 @@ module _ {E O W : Type 0} (book : Meanings E O W) (seats : ℕ) (origin : W) whe
         told = grew_stays book line.value value more k.told h.told;
         left = h.left;
         joined = joined_stay book line (passing line n value) id n (leaves_joined line n value added) k.joined h.joined;
+        lasting = omega arith;
+        sole = λ _. (refl, refl);
       }
 
   passes : (slots id : ℕ) (taken value : W) (k : Memory W) → AddsAlone book k.number taken value
@@ -101,7 +104,7 @@ module _ {E O W : Type 0} (book : Meanings E O W) (seats : ℕ) (origin : W) whe
         steps book seats origin s rule new id 1 ((x + 1) % 2 ^ 64) (set s.homes 0 (some (Some value))) (Idle (having_passed value k)) words home
             (in_order line n value rule.order h.low h.given mine.1 added')
             (has_passed line id value k h added', put_here line.waits n 0)
-            (leaves_others line id n value h.its mine.1 added'),
+            (leaves_others line id n value h.low h.given h.its mine.1 added'),
         λ k' taken' value' is. λ i. (Idle (having_passed (value_out value (is i)) (memory_in origin (is i))), []),
       )
 

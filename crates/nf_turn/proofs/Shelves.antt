@@ -17,7 +17,7 @@ tells_alike (Some old) (Some new) h = refl
 pub lacks_still : (old new : Option Shelf) (m : ℕ) → KeepsShelf old new → Lacks old m → Lacks new m
 lacks_still None new m h l = absurd l
 lacks_still (Some old) None m h l = absurd h
-lacks_still (Some old) (Some new) m h l = let up = h.0 in let below = l.0 in (omega arith, ⊎_elim (λ (e : new.bytes m ≡ old.bytes m). e ∙ l.1) (λ (e : new.bytes m ≡ None). e) (h.1 m l.0))
+lacks_still (Some old) (Some new) m h l = let up = h.0 in let below = l.0 in (omega arith, ⊎_elim (λ (e : new.bytes m ≡ old.bytes m). e ∙ l.1) (λ (e : (new.bytes m ≡ None) × (old.drops < new.drops)). e.0) (h.2 m l.0))
 
 under : (shelf : Shelf) (m : ℕ) → m < shelf.next → bytes_under (Some shelf) m ≡ shelf.bytes m
 under shelf m below = ap (λ t. cond t (shelf.bytes m) None) (lt-ltb m shelf.next below)
@@ -32,7 +32,7 @@ still_under (Some old) (Some new) m bytes h e = ⊎_elim
     (λ (below : m < old.next).
     let up = h.0 in
     let was : old.bytes m ≡ Some bytes = sym (under old m below) ∙ e in
-    ⊎_elim (λ (same : new.bytes m ≡ old.bytes m). inl (under new m (omega arith) ∙ same ∙ was)) (λ (none : new.bytes m ≡ None). inr (omega arith, none)) (h.1 m below))
+    ⊎_elim (λ (same : new.bytes m ≡ old.bytes m). inl (under new m (omega arith) ∙ same ∙ was)) (λ (gone : (new.bytes m ≡ None) × (old.drops < new.drops)). inr (omega arith, gone.0)) (h.2 m below))
     (λ (above : old.next ≤ m). let none = beyond old m above in absurd (cc))
     (cases_lt m old.next)
 

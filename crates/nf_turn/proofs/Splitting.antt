@@ -5,7 +5,7 @@ use mathlib.Core.Option.{some, some-ne-none, some-injective}
 use native.Mathlib.Decide.{ℕ_discrete}
 use lib.ListN.{get_elem?}
 use Rattle.atomic_table.specs.Table.{Splits}
-use Rattle.nf_turn.specs.Book.{Meanings, GrowsWithout}
+use Rattle.nf_turn.specs.Book.{Meanings, IsFresh, GrowsWithout}
 use Rattle.nf_turn.specs.declared.view.Memory.{Memory}
 use Rattle.nf_turn.specs.declared.view.View.{View}
 use Rattle.nf_turn.specs.declared.view.View.TheVariants.{Idle}
@@ -34,6 +34,7 @@ module _ {E O W : Type 0} (book : Meanings E O W) (seats : ℕ) (origin : W) whe
     gives = λ h. absurd (other (h ∙ giver));
     free = λ m _ _ _ h. h;
     holds = λ m _ _ _ h. (h, refl);
+    sole = λ m _ _ _ _. refl;
     grew = λ w h. h;
     without = λ m w _ _ h. h;
   }
@@ -56,8 +57,8 @@ module _ {E O W : Type 0} (book : Meanings E O W) (seats : ℕ) (origin : W) whe
       (h.0, h.1, omega arith, h.3, put_else line.place line.fresh added seat.0 (λ e. omega arith) ∙ h.4, h.5, h.6, joined_stay line id added n seats h.7)
 
   kept : (line : Line W) (id added : ℕ) (k : Memory W) → 0 < k.left → IsKnown book seats origin line id k → IsKnown book seats origin (splitting line added) id (having_split k)
-  kept line id added k some_left h = let given = h.given in let has = h.left some_left in let fresh = has.1 in let sum = has.2 in record {
-    low = h.low;
+  kept line id added k some_left h = let low = h.low in let given = h.given in let has = h.left some_left in let fresh = has.1 in let sum = has.2 in record {
+    low = low;
     given = omega arith;
     its = put_else line.place line.fresh added k.number (λ e. omega arith) ∙ h.its;
     all = h.all;
@@ -68,10 +69,12 @@ module _ {E O W : Type 0} (book : Meanings E O W) (seats : ℕ) (origin : W) whe
     told = h.told;
     left = λ _. (has.0, omega arith, omega arith);
     joined = joined_stay line id added k.number k.joined h.joined;
+    lasting = h.lasting;
+    sole = λ alone. absurd (omega arith);
   }
 
-  given : (line : Line W) (id added : ℕ) (k : Memory W) → 0 < k.left → InOrder book seats origin line → IsKnown book seats origin line id k → IsKnown book seats origin (splitting line added) added (split_from k)
-  given line id added k some_left order h = let fresh : line.fresh ≡ k.next = (h.left some_left).1 in record {
+  given : (line : Line W) (id added : ℕ) (k : Memory W) → 0 < k.left → IsFresh book origin → InOrder book seats origin line → IsKnown book seats origin line id k → IsKnown book seats origin (splitting line added) added (split_from k)
+  given line id added k some_left new order h = let fresh : line.fresh ≡ k.next = (h.left some_left).1 in let low = h.low in let below = h.given in record {
     low = (let few = order.few.1 in omega arith);
     given = omega arith;
     its = ap (put line.place line.fresh added) (sym fresh) ∙ put_here line.place line.fresh added;
@@ -83,6 +86,8 @@ module _ {E O W : Type 0} (book : Meanings E O W) (seats : ℕ) (origin : W) whe
     told = grew_append book line.value k.passed k.told h.passed h.told;
     left = λ none_left. absurd (omega arith);
     joined = tt;
+    lasting = (let none : length (book.entries k.first) ≡ 0 = ap (λ w. length (book.entries w)) h.first ∙ ap length new.no_entries in omega arith);
+    sole = λ alone. absurd (omega arith);
   }
 
   splits : (id : ℕ) (k : Memory W) → 0 < k.left → Splits (IsInTurn book seats origin) id (Idle k) (after_split (Idle k)) (split_off (Idle k))
@@ -106,7 +111,7 @@ module _ {E O W : Type 0} (book : Meanings E O W) (seats : ℕ) (origin : W) whe
         order = in_order line added rule.order (omega arith);
         views = λ j view there. ⊎_elim
             (λ (t : get_elem? (set s.views id old_view) j ≡ some view). views_stay (Knows book seats origin new) s.views id old_view (kept line id added k some_left h, mine.1) others j view t)
-            (λ (t : (j ≡ length (set s.views id old_view)) × (new_view ≡ view)). subst (λ (z : ℕ × View W). Knows book seats origin new z.0 z.1) (λ i. (sym (t.0 ∙ length-set s.views id old_view) i, t.1 i)) (given line id added k some_left rule.order h, idle))
+            (λ (t : (j ≡ length (set s.views id old_view)) × (new_view ≡ view)). subst (λ (z : ℕ × View W). Knows book seats origin new z.0 z.1) (λ i. (sym (t.0 ∙ length-set s.views id old_view) i, t.1 i)) (given line id added k some_left rule.fresh rule.order h, idle))
             (at_end (set s.views id old_view) new_view view j there);
       }
 

@@ -34,6 +34,8 @@ module _ {E O W : Type 0} (book : Meanings E O W) (seats : ℕ) (origin : W) whe
       told = (Grows-refl book origin, tt);
       left = λ _. (refl, refl, omega arith);
       joined = tt;
+      lasting = omega arith;
+      sole = λ _. (refl, refl);
     },
     refl,
   )

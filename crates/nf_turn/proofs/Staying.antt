@@ -28,6 +28,7 @@ module _ {E O W : Type 0} (book : Meanings E O W) where
     pub gives : id ≡ old.giver → (id ≡ new.giver) × (new.fresh ≡ old.fresh)
     pub free : (n : ℕ) → 0 < n → n < old.fresh → old.place n ≡ id → old.holder ≢ n → new.holder ≢ n
     pub holds : (n : ℕ) → 0 < n → n < old.fresh → old.place n ≡ id → old.holder ≡ n → (new.holder ≡ n) × (new.value ≡ old.value)
+    pub sole : (n : ℕ) → 0 < n → n < old.fresh → old.place n ≡ id → new.fresh ≡ 2 → new.value ≡ old.value
     pub grew : (w : W) → Grows book w old.value → Grows book w new.value
     pub without : (n : ℕ) (w : W) → n < old.fresh → old.place n ≡ id → GrowsWithout book n w old.value → GrowsWithout book n w new.value
 
@@ -55,8 +56,8 @@ module _ {E O W : Type 0} (book : Meanings E O W) where
 
   module _ (seats : ℕ) (origin : W) where
     known_stays : (old new : Line W) (id : ℕ) → LeavesAlone old new id → (k : Memory W) → IsKnown book seats origin old id k → IsKnown book seats origin new id k
-    known_stays old new id leaves k h = let up = leaves.fresh in let given = h.given in record {
-      low = h.low;
+    known_stays old new id leaves k h = let up = leaves.fresh in let low = h.low in let given = h.given in record {
+      low = low;
       given = omega arith;
       its = (leaves.numbers k.number h.given h.its).0;
       all = h.all;
@@ -67,6 +68,8 @@ module _ {E O W : Type 0} (book : Meanings E O W) where
       told = grew_stays old.value new.value leaves.grew k.told h.told;
       left = λ some_left. let was = h.left some_left in let is = leaves.gives was.0 in (is.0, is.1 ∙ was.1, was.2);
       joined = others_joined_stay old new id k.number leaves k.joined h.joined;
+      lasting = h.lasting;
+      sole = λ alone. let was = h.sole (omega arith) in let same = sym (leaves.sole k.number low given h.its alone) in (was.0 ∙ same, was.1 ∙ same);
     }
 
     pub others_stay : (old new : Line W) (id : ℕ) → LeavesAlone old new id → (view : View W) → Knows book seats origin old id view → Knows book seats origin new id view

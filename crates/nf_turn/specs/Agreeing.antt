@@ -76,5 +76,5 @@ pub record Agrees {E O W : Type 0} (book : Meanings E O W) (k : Memory W) (value
   pub tells : is_some (book.shelf value) ≡ is_some (book.shelf k.first)
   pub shelf : (m : ℕ) (bytes : List ℕ) → seen_shelf book k m ≡ Some bytes → HasOrLacks (book.shelf value) m bytes
   pub gone : (m : ℕ) → IsGone book k m → Lacks (book.shelf value) m
-  -- where the seat has all other numbers left, it passed on the value itself
+  -- where the seat has all other numbers left, what it knows of and what it passed on last are the value itself
   pub sole : k.left + 1 ≡ k.seats → (k.known ≡ value) × (k.last ≡ value)

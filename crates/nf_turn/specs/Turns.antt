@@ -63,7 +63,7 @@ pub record IsKnown {E O W : Type 0} (book : Meanings E O W) (seats : ℕ) (origi
   pub joined : AreJoined book line id k.number k.joined
   -- what it passed on last isn't longer than what it knows of
   pub lasting : length (book.entries k.last) ≤ length (book.entries k.known)
-  -- where no other seat was ever split off, it is the value
+  -- where no other seat was ever split off, what it knows of and what it passed on last are the value
   pub sole : line.fresh ≡ 2 → (k.known ≡ line.value) × (k.last ≡ line.value)
 
 module _ {E O W : Type 0} (book : Meanings E O W) (seats : ℕ) (origin : W) (line : Line W) (id : ℕ) where

@@ -9,6 +9,6 @@ pub trait Book {
     type Opening;
 
     // Its entries, each with the number of its seat; a number of strikes for each seat number; its opening; and, where it tells them, the
-    // bytes that it stores, and the next number that it stores some under.
+    // bytes that it stores, the next number that it stores some under, and how often it dropped some.
     ghost book: { Meanings Self.Entry Self.Opening Self };
 }
