@@ -1,45 +1,163 @@
--- The site and its keeper, which one seat is served from.
-use Rattle.std.specs.Prelude.{◌≡◌, ℕ, All, List, Option, option_map}
+-- The site, its keeper and the strikes, at which the seats take their turns.
+use Rattle.std.specs.Prelude.{◌≡◌, ℕ, zero, suc, min, ◌+◌, ◌-◌, ◌*◌, ◌^◌, ◌<◌, ◌≤◌, ◌==◌, List, [], filter, get_or, length, sum, Option, option_map}
 use Rattle.std.specs.Option.{IfSome}
+use Rattle.std.specs.declared.snapshot.Snapshot.{Snapshot}
+use Rattle.nf_defs.specs.Blobs.{Blobs, blob_at}
+use Rattle.nf_keeper.specs.declared.keeper.Keeper.{Ghosts as KeeperOf}
 use Rattle.nf_laws.specs.Wholes.{IsWhole}
-use Rattle.nf_session.specs.Book.{Book, own_from}
+use Rattle.nf_base.specs.declared.rows.Row.{Row}
+use Rattle.nf_session.specs.Book.{Book, TellsStill, own_from}
 use Rattle.nf_site.specs.Held.{Held}
 use Rattle.nf_site.specs.Kept.{Kept}
 use Rattle.nf_told.specs.Told.{AreFit, Told, told_of}
+use Rattle.nf_turn.specs.Book.{Meanings, Shelf}
+use Rattle.nf_words.specs.History.{replay}
 use Rattle.nf_words.specs.State.{opened}
 use Rattle.nf_words.specs.declared.history.Entry.{Entry}
+use Rattle.nf_words.specs.declared.history.Mark.{Mark}
+use Rattle.nf_words.specs.declared.history.Mark.TheVariants as mark
 
 -- what a desk holds
 pub record Served (K : Type 0) : Type 0 where
   pub site : Held
   pub keeper : K
+  -- of each seat number from 1 on, how often the keeper failed it at what makes no entry
+  pub strikes : List ℕ
+  -- the keeper when the desk was opened
+  pub start : Snapshot K
 
--- the number of the one seat
-abbrev pub seat : ℕ
-seat = 1
+-- ---- what clauses see of it
 
--- what its seat knows: the whole history, whose entries are all its own, how often the keeper failed, and the blobs that it tells
+-- what a keeper tells, and how often it failed
+pub record Tale : Type 0 where
+  pub told : Option Told
+  pub faults : ℕ
+
+pub record Shown : Type 0 where
+  pub site : Kept
+  pub told : Option Told
+  pub faults : ℕ
+  pub strikes : List ℕ
+  pub start : Tale
+
+abbrev pub tale : {K : Type 0} → KeeperOf K → K → Tale
+tale k keeper = record { told = k.told keeper; faults = k.faults keeper }
+
+abbrev pub shown : {K : Type 0} → KeeperOf K → Served K → Shown
+shown k desk = record {
+  site = desk.site.kept;
+  told = k.told desk.keeper;
+  faults = k.faults desk.keeper;
+  strikes = desk.strikes;
+  start = tale k desk.start.value;
+}
+
+-- ---- failures of the keeper
+
+-- how many seats a run may have, with those that were joined into others
+abbrev pub most_seats : ℕ
+most_seats = 64
+
+-- how often the keeper failed the seat with the number n at what makes no entry
+abbrev pub strikes_of : List ℕ → ℕ → ℕ
+strikes_of strikes zero = 0
+strikes_of strikes (suc n) = get_or strikes n 0
+
+abbrev pub failed_mark : Mark → ℕ
+failed_mark mark.Answered = 0
+failed_mark mark.Store = 1
+failed_mark mark.Memory = 0
+
+-- how many of the entries are marked as failed by the store
+abbrev pub failed_marks : List Entry → ℕ
+failed_marks [] = 0
+failed_marks (e ∷ es) = failed_mark e.mark + failed_marks es
+
+-- the entries of the seat with the number n
+abbrev pub entries_by : ℕ → List Entry → List Entry
+entries_by n entries = filter (λ (e : Entry). e.seat == n) entries
+
+-- a count that began so and rose n times; it stays at 2^64 - 1
+abbrev pub risen : ℕ → ℕ → ℕ
+risen before zero = before
+risen before (suc n) = min (before + suc n) (2 ^ 64 - 1)
+
+-- how often the keeper failed since the desk was opened
+abbrev pub failures : Shown → ℕ
+failures a = failed_marks a.site.history + sum a.strikes
+
+-- and how often the seat with the number n
+abbrev pub failures_of : ℕ → Shown → ℕ
+failures_of n a = failed_marks (entries_by n a.site.history) + strikes_of a.strikes n
+
+-- ---- what a seat knows of it
+
+abbrev pub blobs_in : Option Told → Option Blobs
+blobs_in told = option_map (λ told. told.blobs) told
+
+-- what the seat with the number n knows once it saw the desk so
+abbrev pub book_at : ℕ → Shown → Book
+book_at n a = record {
+  opening = a.site.opening;
+  seat = n;
+  known = a.site.history;
+  own = own_from n (opened a.site.opening) a.site.history;
+  strikes = risen a.start.faults (failures_of n a);
+  told = blobs_in a.told;
+}
+
+-- what the one seat of a run knows: the whole history, whose entries are all its own, and how often the keeper failed
 abbrev pub book_of : Kept → Option Told → ℕ → Book
 book_of k told faults = record {
   opening = k.opening;
-  seat = seat;
+  seat = 1;
   known = k.history;
-  own = own_from seat (opened k.opening) k.history;
+  own = own_from 1 (opened k.opening) k.history;
   strikes = faults;
-  told = option_map (λ told. told.blobs) told;
+  told = blobs_in told;
 }
 
--- these are all of the seat's
-abbrev pub AreOwn : List Entry → Type 0
-AreOwn entries = All (λ (e : Entry). e.seat ≡ seat) entries
+-- ---- what a desk keeps
 
 -- what is told are the site's rows, as they are spelled, and blobs that are whole for it
 pub record TellsSite (k : Kept) (told : Told) : Type 0 where
   pub rows : told.rows ≡ told_of k.state.tables
   pub whole : IsWhole k.opening k.state told.blobs
 
--- what a desk keeps: no other seat made an entry, each row has a spelling, and what the keeper tells is true of the site
-pub record IsDesk (k : Kept) (keeper : Option Told) : Type 0 where
-  pub alone : AreOwn k.history
-  pub fit : AreFit k.state.tables
-  pub told : IfSome keeper (TellsSite k)
+-- the number of the first blob that isn't of the opening
+abbrev pub first_blob_of : List Row → ℕ
+first_blob_of rows = (opened rows).tables.meta.next_blob
+
+-- the keeper's count rose by each failure since the opening, and by nothing else
+pub record IsCounted (a : Shown) : Type 0 where
+  pub is : a.faults ≡ risen a.start.faults (failures a)
+  pub fits : 0 < failures a → a.start.faults < 2 ^ 64
+
+-- each row has a spelling, what the keeper tells is true of the site, the blobs of the opening are told as they were then, and each
+-- failure is counted
+pub record IsDesk (a : Shown) : Type 0 where
+  pub fit : AreFit a.site.state.tables
+  pub told : IfSome a.told (TellsSite a.site)
+  pub since : TellsStill (first_blob_of a.site.opening) (blobs_in a.start.told) (blobs_in a.told)
+  pub seats : length a.strikes ≡ most_seats
+  pub counted : IsCounted a
+
+-- ---- what it is to the lock
+
+-- the blobs that are told; none is ever dropped
+abbrev pub shelf_of : Kept → Told → Shelf
+shelf_of k told = record {
+  next = (replay (opened k.opening) k.history).tables.meta.next_blob;
+  drops = 0;
+  bytes = blob_at told.blobs;
+}
+
+-- its entries; the strikes of each seat; the rows that it was opened with, and the keeper then; and the blobs
+abbrev pub meanings : {K : Type 0} → KeeperOf K → Meanings Entry (List Row × Snapshot K) (Served K)
+meanings k = record {
+  seat_of = λ e. e.seat;
+  entries = λ desk. desk.site.kept.history;
+  strikes = λ desk n. strikes_of desk.strikes n;
+  opening = λ desk. (desk.site.kept.opening, desk.start);
+  shelf = λ desk. option_map (shelf_of desk.site.kept) (k.told desk.keeper);
+}

@@ -1,15 +1,20 @@
 -- What a keeper gives of a piece.
-use Rattle.std.specs.Prelude.{◌≡◌, ℕ, ◌≤◌, List, length, Option, Some, Result, Ok, Err, Vec}
+use Rattle.std.specs.Prelude.{◌≡◌, ℕ, ◌<◌, List, length, Option, Some, Result, Ok, Err, slice_get, Vec}
+use Rattle.std.specs.Option.{IfSome}
 use Rattle.std.specs.declared.alloc.Global.{Global}
 use Rattle.sha2.specs.Sha256.{sha256}
 use Rattle.nf_base.specs.declared.content.Piece.{Piece}
-use Rattle.nf_keeper.specs.Keeping.{IsTold}
-use Rattle.nf_session.specs.Book.{Differs, Struck, measured}
+use Rattle.nf_defs.specs.Blobs.{Blobs, blob_at}
+use Rattle.nf_keeper.specs.Views.{bytes_in}
+use Rattle.nf_keeper.specs.declared.keeper.KeepFault.{KeepFault}
+use Rattle.nf_keeper.specs.declared.keeper.KeepFault.TheVariants.{Failed, Memory}
+use Rattle.nf_laws.specs.Wholes.{IsDamaged, IsHeld}
+use Rattle.nf_session.specs.Book.{Book, Differs, Struck, Waits, measured, next_blob_of}
 use Rattle.nf_session.specs.declared.backend.PieceFault.{PieceFault}
 use Rattle.nf_session.specs.declared.backend.PieceFault.TheVariants as fault
-use Rattle.nf_told.specs.Told.{Told}
 use Rattle.nf_words.specs.declared.answer.Damage.{Damage}
 use Rattle.nf_words.specs.declared.answer.Measure.{Measure}
+use Rattle.nf_desk.specs.Desk.{Shown, blobs_in, book_at, strikes_of}
 
 abbrev pub measure_of : List ℕ → Measure
 measure_of bytes = record { length = length bytes; digest = sha256 bytes }
@@ -29,16 +34,39 @@ abbrev pub IsMeasured : Piece → Option (List ℕ) → Result (Vec ℕ Global) 
 IsMeasured piece found (Ok bytes) = IsOfPiece piece found bytes.items
 IsMeasured piece found (Err damage) = IsDamage piece found damage
 
--- what is told of a piece, or why it isn't
-abbrev pub Gets : Option Told → Piece → Result (Vec ℕ Global) PieceFault → Type 0
-Gets told piece (Ok bytes) = (found : Option (List ℕ)) × IsTold told piece.blob found × IsOfPiece piece found bytes.items
-Gets told piece (Err fault.Store) = Unit {0}
-Gets told piece (Err (fault.Damaged damage)) = (found : Option (List ℕ)) × IsTold told piece.blob found × IsDamage piece found damage
-Gets told piece (Err fault.Memory) = Unit {0}
+-- what was found is what the piece says, or isn't; or nothing was read
+abbrev pub IsTested : Piece → Result (Option (Vec ℕ Global)) KeepFault → Result (Vec ℕ Global) PieceFault → Type 0
+IsTested piece (Ok found) (Ok bytes) = IsOfPiece piece (bytes_in found) bytes.items
+IsTested piece (Ok found) (Err (fault.Damaged damage)) = IsDamage piece (bytes_in found) damage
+IsTested piece (Ok found) (Err other) = ⊥
+IsTested piece (Err Failed) result = result ≡ Err fault.Store
+IsTested piece (Err Memory) result = result ≡ Err fault.Memory
 
--- the count of faults rises by one where the keeper failed, and at no other time
-abbrev pub CountsPiece : ℕ → ℕ → Result (Vec ℕ Global) PieceFault → Type 0
-CountsPiece before now (Ok bytes) = now ≡ before
-CountsPiece before now (Err fault.Store) = Struck before now × (before ≤ now)
-CountsPiece before now (Err (fault.Damaged damage)) = now ≡ before
-CountsPiece before now (Err fault.Memory) = now ≡ before
+-- ---- reading
+
+-- the keeper tells that of the piece, which is there or was damaged when the desk was opened
+pub record TellsFound (b : Book) (start : Option Blobs) (piece : Piece) (found : Option (List ℕ)) (shelf : Blobs) : Type 0 where
+  pub given : piece.blob < next_blob_of b
+  pub there : found ≡ blob_at shelf piece.blob
+  pub held : IsHeld b.opening shelf piece
+  pub since : IsDamaged b.opening shelf piece → IfSome start (λ begun. IsDamaged b.opening begun piece)
+
+abbrev pub IsRead : Book → Book → Option Blobs → Piece → Result (Option (Vec ℕ Global)) KeepFault → Type 0
+IsRead a b start piece (Ok found) = (b.strikes ≡ a.strikes) × IfSome b.told (TellsFound b start piece (bytes_in found))
+IsRead a b start piece (Err Failed) = Struck a.strikes b.strikes
+IsRead a b start piece (Err Memory) = b.strikes ≡ a.strikes
+
+-- a failure is a strike of the seat
+abbrev pub StrikesSeat : ℕ → List ℕ → List ℕ → Result (Option (Vec ℕ Global)) KeepFault → Type 0
+StrikesSeat n before now (Ok found) = now ≡ before
+StrikesSeat n before now (Err Failed) = Struck (strikes_of before n) (strikes_of now n)
+StrikesSeat n before now (Err Memory) = now ≡ before
+
+-- a piece of what the seat with the number n was granted was read, or not
+pub record Reads (n : ℕ) (a b : Shown) (content : List Piece) (index : ℕ)
+    (result : Result (Option (Vec ℕ Global)) KeepFault) : Type 0 where
+  pub waits : Waits (book_at n a) (book_at n b)
+  pub piece : Piece
+  pub at_index : slice_get content index ≡ Some piece
+  pub read : IsRead (book_at n a) (book_at n b) (blobs_in a.start.told) piece result
+  pub strikes : StrikesSeat n a.strikes b.strikes result

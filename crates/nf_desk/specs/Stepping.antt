@@ -1,14 +1,15 @@
--- What one step of the desk's seat does to its site, and to what its keeper tells.
-use Rattle.std.specs.Prelude.{◌≡◌, ◌⊎◌, ℕ, ◌<◌, ◌≤◌, All, List, [], ◌∷◌, length, Option, option_map, Err}
+-- What one step of a seat does to the site, and to what its keeper tells.
+use Rattle.std.specs.Prelude.{◌≡◌, ◌⊎◌, ℕ, ◌<◌, ◌≤◌, All, List, [], ◌∷◌, length, Option, None, Some, option_map, Err}
 use Rattle.nf_base.specs.declared.changes.Change.{Change}
 use Rattle.nf_keeper.specs.Keeping.{Stored, applied}
 use Rattle.nf_session.specs.Book.{Answer, Strikes}
 use Rattle.nf_site.specs.Held.{entries_wanted}
 use Rattle.nf_site.specs.Kept.{Kept, entered, entry, moment_of}
 use Rattle.nf_told.specs.Told.{FitsChange, Told}
-use Rattle.nf_words.specs.History.{MayCome, answer_at, most_entries}
+use Rattle.nf_words.specs.History.{MayBring, MayCome, answer_at, most_entries}
 use Rattle.nf_words.specs.Step.{blob_to, changes_to}
 use Rattle.nf_words.specs.declared.answer.Denial.TheVariants as denial
+use Rattle.nf_words.specs.declared.answer.Goal.{Goal}
 use Rattle.nf_words.specs.declared.history.Entry.{Entry}
 use Rattle.nf_words.specs.declared.history.Event.{Event}
 use Rattle.nf_words.specs.declared.history.Event.TheVariants.{Begin}
@@ -18,7 +19,6 @@ use Rattle.nf_words.specs.declared.history.Outcome.{Outcome}
 use Rattle.nf_words.specs.declared.history.Outcome.TheVariants.{Sent, Gone, Body}
 use Rattle.nf_words.specs.declared.request.Request.{Request}
 use Rattle.nf_words.specs.declared.request.Words.{Words}
-use Rattle.nf_desk.specs.Desk.{seat}
 
 -- a site, what its keeper tells, and how often that failed
 pub record Standing : Type 0 where
@@ -31,21 +31,26 @@ standing site told faults = record { site = site; told = told; faults = faults }
 
 -- ---- the entry
 
--- the entry of the seat's event at a reading of the clock
-abbrev pub entry_at : Kept → ℕ → Event → Mark → Entry
-entry_at k now event mark = entry seat (moment_of k.state now) event mark
+-- the entry of a seat's event at a reading of the clock
+abbrev pub entry_at : ℕ → Kept → ℕ → Event → Mark → Entry
+entry_at seat k now event mark = entry seat (moment_of k.state now) event mark
 
 -- the entry was added, and that was its answer
-pub record Makes (k l : Kept) (now : ℕ) (event : Event) (mark : Mark) (answer : Answer) : Type 0 where
-  pub site : l ≡ entered k (entry_at k now event mark)
-  pub answered : answer ≡ answer_at k.state (entry_at k now event mark) mark
-  pub may_come : MayCome (length k.history) k.state (entry_at k now event mark)
+pub record Makes (seat : ℕ) (k l : Kept) (now : ℕ) (event : Event) (mark : Mark) (answer : Answer) : Type 0 where
+  pub site : l ≡ entered k (entry_at seat k now event mark)
+  pub answered : answer ≡ answer_at k.state (entry_at seat k now event mark) mark
+  pub may_come : MayCome (length k.history) k.state (entry_at seat k now event mark)
 
 -- an outcome that brings nothing
 abbrev pub IsEmpty : Outcome → Type 0
 IsEmpty Sent = Unit {0}
 IsEmpty Gone = Unit {0}
 IsEmpty (Body digest size) = ⊥
+
+-- something is granted that may end so
+abbrev pub HeldMayEnd : Option Goal → Outcome → Type 0
+HeldMayEnd None outcome = ⊥
+HeldMayEnd (Some goal) outcome = MayBring goal outcome
 
 -- ---- what is told
 
@@ -67,12 +72,12 @@ Tells mark.Memory changes stored before now = now ≡ before
 -- ---- a step
 
 -- the entry was added, and the keeper made its changes and stored its bytes. Where that failed, the entry says so
-pub record Steps (a b : Standing) (now : ℕ) (event : Event) (body : List ℕ) (answer : Answer) : Type 0 where
+pub record Steps (seat : ℕ) (a b : Standing) (now : ℕ) (event : Event) (body : List ℕ) (answer : Answer) : Type 0 where
   pub mark : Mark
-  pub makes : Makes a.site b.site now event mark answer
+  pub makes : Makes seat a.site b.site now event mark answer
   pub tells : Tells mark (changes_to a.site.state seat (moment_of a.site.state now) event)
       (stored_by (blob_to a.site.state seat (moment_of a.site.state now) event) body) a.told b.told
-  pub strikes : Strikes mark a.faults b.faults
+  pub faults : Strikes mark a.faults b.faults
   pub rises : a.faults ≤ b.faults
 
 -- nothing was done, since the run has no room for two entries more, or there is no memory
@@ -82,5 +87,5 @@ pub record FindsNone (a b : Standing) (answer : Answer) : Type 0 where
       ⊎ ((answer ≡ Err denial.Memory) × (entries_wanted a.site ≤ most_entries))
 
 -- the step of the Begin was made, or nothing was done
-abbrev pub Asks : Standing → Standing → ℕ → Words → Request → Answer → Type 0
-Asks a b now words request answer = Steps a b now (Begin words request) [] answer ⊎ FindsNone a b answer
+abbrev pub Asks : ℕ → Standing → Standing → ℕ → Words → Request → Answer → Type 0
+Asks seat a b now words request answer = Steps seat a b now (Begin words request) [] answer ⊎ FindsNone a b answer

@@ -1,7 +1,6 @@
 //! What a desk is opened with, and why it isn't.
 
-ghost use Rattle.std.specs.Prelude.{◌≡◌, Some};
-ghost use Rattle.nf_desk.specs.Opened.{first_of};
+ghost use Rattle.std.specs.Prelude.{◌≡◌};
 
 use nf_base::{BlobId, RowList};
 use nf_keeper::KeepFault;
@@ -30,17 +29,8 @@ pub enum Opening {
     Fresh(First),
     /// The keeper's rows, or the first ones where it has none.
     Either(First),
-}
-
-impl Opening {
-    /// What a keeper that has no rows begins with.
-    pub(crate) fn into_first(self) -> First
-        ensures { result ≡ first_of self }
-    {
-        match self {
-            Opening::Fresh(first) | Opening::Either(first) => first,
-        }
-    }
+    /// The keeper's rows. It has some.
+    Kept,
 }
 
 /// Why a desk isn't opened.
@@ -56,6 +46,8 @@ pub enum OpenFault {
     Memory,
     /// The keeper has rows, and was to have none.
     Found,
+    /// The keeper has no rows, and was to have some.
+    Missing,
 }
 
 impl From<KeepFault> for OpenFault {

@@ -1,4 +1,4 @@
-//! A site and its keeper behind the one seat of a session.
+//! A site and its keeper, opened, stepped in the name of seats, and asked for pieces.
 #![tactic(auto)]
 
 mod desk;
@@ -9,3 +9,4 @@ mod stepping;
 
 pub use desk::Desk;
 pub use first::{First, FirstBlob, OpenFault, Opening, Unopened};
+pub use piece::{piece_at, test_piece};

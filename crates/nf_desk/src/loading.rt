@@ -3,7 +3,7 @@
 ghost use Rattle.std.specs.Prelude.{◌≡◌, All, map, option_map, IfOk, IfErr, OnOk, OnErr};
 ghost use Rattle.nf_base.specs.declared.changes.Change.TheVariants.{Put};
 ghost use Rattle.nf_desk.specs.Faults.{unread_by};
-ghost use Rattle.nf_desk.specs.Opened.{CountsOpening, IsBegunFault, IsFault, IsSpelled, IsUnreadAt, Opens, ReadsRows, first_blob, first_of, stored_first};
+ghost use Rattle.nf_desk.specs.Opened.{CountsOpening, IsBegunFault, IsFault, IsSpelled, IsUnreadAt, MayBegin, Opens, ReadsRows, first_blob, stored_first};
 ghost use Rattle.nf_keeper.specs.Keeping.{applied};
 ghost use Rattle.nf_keeper.specs.Views.{stored_in};
 ghost use Rattle.nf_rows.specs.Spelling.{Fits};
@@ -24,7 +24,7 @@ pub(crate) fn site_over<K: Keeper>(
     keeper: &mut K,
     opening: Opening,
 ) -> Result<Site, OpenFault>
-    requires { AreUnbroken (first_of opening).rows }
+    requires { MayBegin opening }
     ensures ok { IfOk result (λ site. Opens opening (K.told keeper.old) (K.told keeper.new) site.kept) }
     ensures rules { IfOk result (λ site. AreUnbroken site.kept.opening) }
     ensures fit { IfOk result (λ site. All Fits site.kept.opening) }
@@ -34,11 +34,14 @@ pub(crate) fn site_over<K: Keeper>(
 {
     let raws = keeper.load()?;
     if raws.rows().is_empty() {
-        return begin(alloc, keeper, opening.into_first());
+        return match opening {
+            Opening::Fresh(first) | Opening::Either(first) => begin(alloc, keeper, first),
+            Opening::Kept => Err(OpenFault::Missing),
+        };
     }
     match opening {
         Opening::Fresh(_) => Err(OpenFault::Found),
-        Opening::Either(_) => {
+        Opening::Either(_) | Opening::Kept => {
             let rows = read_rows(alloc, raws.rows())?;
             Ok(Site::build(alloc, rows)?)
         }

@@ -1,29 +1,30 @@
 //! The bytes of pieces.
 
 ghost use Rattle.std.specs.Prelude.{◌≡◌, ◌<◌, length, slice_get, Some};
-ghost use Rattle.nf_desk.specs.Pieces.{CountsPiece, Gets, IsMeasured, measure_of};
+ghost use Rattle.nf_desk.specs.Pieces.{IsMeasured, IsTested, measure_of};
 ghost use Rattle.nf_keeper.specs.Views.{bytes_in};
 
 use nf_base::{Content, Digest, Piece};
-use nf_keeper::{KeepFault, Keeper};
+use nf_keeper::KeepFault;
 use nf_session::PieceFault;
 use nf_words::{Damage, Measure};
 
 /// A piece of a content.
-pub(crate) fn piece_at(content: &Content, index: usize) -> &Piece
+pub fn piece_at(content: &Content, index: usize) -> &Piece
     requires { index < length content.now }
     ensures { slice_get content.now index ≡ Some result.now }
 {
     content.pieces().get(index).unwrap()
 }
 
-/// The bytes of a piece, tested by their length and digest.
-pub(crate) fn fetch<K: Keeper>(keeper: &mut K, piece: &Piece) -> Result<Vec<u8>, PieceFault>
-    ensures bytes { Gets (K.told keeper.old) piece.now result }
-    ensures same { K.told keeper.new ≡ K.told keeper.old }
-    ensures count { CountsPiece (K.faults keeper.old) (K.faults keeper.new) result }
+/// What was read of a piece, tested by its length and digest.
+pub fn test_piece(
+    piece: &Piece,
+    read: Result<Option<Vec<u8>>, KeepFault>,
+) -> Result<Vec<u8>, PieceFault>
+    ensures { IsTested piece.now read result }
 {
-    match keeper.blob(piece.blob) {
+    match read {
         Ok(bytes) => match tested(piece, bytes) {
             Ok(bytes) => Ok(bytes),
             Err(damage) => Err(PieceFault::Damaged(damage)),

@@ -1,7 +1,7 @@
-//! The steps of the seat: each is planned, told to the keeper where it changes something, and then adopted.
+//! The steps of a seat: each is planned, told to the keeper where it changes something, and then adopted.
 
 ghost use Rattle.std.specs.Prelude.{◌≡◌, ◌≢◌, [], All, IfOk, OnOk, OnErr};
-ghost use Rattle.nf_desk.specs.Desk.{seat};
+ghost use Rattle.sha2.specs.Sha256.{sha256};
 ghost use Rattle.nf_desk.specs.Stepping.{Asks, IsEmpty, Makes, Steps, standing, stored_by, told_by};
 ghost use Rattle.nf_keeper.specs.Keeping.{Counts};
 ghost use Rattle.nf_keeper.specs.Views.{stored_in};
@@ -19,20 +19,18 @@ use nf_site::{Plan, RoomFault, Site};
 use nf_words::{Answer, Denial, Event, Mark, Outcome, Request, Words};
 use std::alloc::{AllocError, Global};
 
-/// The number of the one seat.
-const SEAT: u64 = 1;
-
 /// The Begin of a request. Where the run has no room for it or there is no memory, nothing is done.
 pub(crate) fn begin<K: Keeper>(
     alloc: Global,
     site: &mut Site,
     keeper: &mut K,
+    seat: u64,
     now: Moment,
     words: Words,
     request: Request,
 ) -> Answer
     requires { MayAsk site.old.kept.state seat (Begin words request) }
-    ensures { Asks (standing site.old.kept (K.told keeper.old) (K.faults keeper.old))
+    ensures { Asks seat (standing site.old.kept (K.told keeper.old) (K.faults keeper.old))
         (standing site.new.kept (K.told keeper.new) (K.faults keeper.new)) now words request result }
 {
     match site.room() {
@@ -40,6 +38,7 @@ pub(crate) fn begin<K: Keeper>(
             alloc,
             site,
             keeper,
+            seat,
             now,
             Event::Begin { words, request },
             &[],
@@ -53,12 +52,18 @@ pub(crate) fn begin<K: Keeper>(
 }
 
 /// The End of what brings nothing. It takes no memory, and the keeper has nothing to do.
-pub(crate) fn finish(alloc: Global, site: &mut Site, now: Moment, outcome: Outcome) -> Answer
+pub(crate) fn finish(
+    alloc: Global,
+    site: &mut Site,
+    seat: u64,
+    now: Moment,
+    outcome: Outcome,
+) -> Answer
     requires asked { MayAsk site.old.kept.state seat (End outcome) }
     requires empty { IsEmpty outcome }
-    ensures { Makes site.old.kept site.new.kept now (End outcome) mark.Answered result }
+    ensures { Makes seat site.old.kept site.new.kept now (End outcome) mark.Answered result }
 {
-    let plan = site.plan(alloc, SEAT, now, Event::End(outcome)).unwrap();
+    let plan = site.plan(alloc, seat, now, Event::End(outcome)).unwrap();
     site.adopt(plan)
 }
 
@@ -67,17 +72,28 @@ pub(crate) fn store<K: Keeper>(
     alloc: Global,
     site: &mut Site,
     keeper: &mut K,
+    seat: u64,
     now: Moment,
+    digest: Digest,
     body: &[u8],
 ) -> Answer
-    requires { MayAsk site.old.kept.state seat (event_of_body body.now) }
-    ensures { Steps (standing site.old.kept (K.told keeper.old) (K.faults keeper.old))
+    requires digest { digest ≡ sha256 body.now }
+    requires asked { MayAsk site.old.kept.state seat (event_of_body body.now) }
+    ensures { Steps seat (standing site.old.kept (K.told keeper.old) (K.faults keeper.old))
         (standing site.new.kept (K.told keeper.new) (K.faults keeper.new)) now (event_of_body body.now) body.now result }
 {
-    match step(alloc, site, keeper, now, event_of(body), body) {
+    match step(
+        alloc,
+        site,
+        keeper,
+        seat,
+        now,
+        event_of(digest, body),
+        body,
+    ) {
         Ok(answer) => answer,
         Err(AllocError) => {
-            site.fail(SEAT, now, event_of(body), Mark::Memory);
+            site.fail(seat, now, event_of(digest, body), Mark::Memory);
             Err(Denial::Memory)
         }
     }
@@ -89,22 +105,23 @@ fn step<K: Keeper>(
     alloc: Global,
     site: &mut Site,
     keeper: &mut K,
+    seat: u64,
     now: Moment,
     event: Event,
     body: &[u8],
 ) -> Result<Answer, AllocError>
     requires asked { MayAsk site.old.kept.state seat event }
     requires room { HasEntryRoom site.old event }
-    ensures ok { IfOk result (λ answer. Steps (standing site.old.kept (K.told keeper.old) (K.faults keeper.old))
+    ensures ok { IfOk result (λ answer. Steps seat (standing site.old.kept (K.told keeper.old) (K.faults keeper.old))
         (standing site.new.kept (K.told keeper.new) (K.faults keeper.new)) now event body.now answer) }
     ensures err { OnErr result (standing site.new.kept (K.told keeper.new) (K.faults keeper.new)
         ≡ standing site.old.kept (K.told keeper.old) (K.faults keeper.old)) }
 {
-    let plan = site.plan(alloc, SEAT, now, event)?;
+    let plan = site.plan(alloc, seat, now, event)?;
     match tell(keeper, &plan, body) {
         Ok(()) => Ok(site.adopt(plan)),
         Err(KeepFault::Failed) => {
-            site.fail(SEAT, now, plan.into_event(), Mark::Store);
+            site.fail(seat, now, plan.into_event(), Mark::Store);
             Ok(Err(Denial::Store))
         }
         Err(KeepFault::Memory) => Err(AllocError),
@@ -133,12 +150,13 @@ fn new_blob(id: Option<BlobId>, body: &[u8]) -> Option<NewBlob<'_>>
     id.map(|id| NewBlob { id, bytes: body })
 }
 
-/// The End that brings a body.
-fn event_of(body: &[u8]) -> Event
+/// The End that brings a body of that digest.
+fn event_of(digest: Digest, body: &[u8]) -> Event
+    requires { digest ≡ sha256 body.now }
     ensures { result ≡ event_of_body body.now }
 {
     Event::End(Outcome::Body {
-        digest: Digest::of(body),
+        digest,
         length: body.len() as u64,
     })
 }

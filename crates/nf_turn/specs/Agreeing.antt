@@ -1,7 +1,7 @@
 -- What the holder of a seat knows, in the words of the book, and what is then known of a value.
 use Rattle.std.specs.Prelude.{◌≡◌, ◌⊎◌, ℕ, ◌+◌, ◌<◌, ◌≤◌, nat_lt, if◌then◌else◌, List, [], ◌∷◌, ◌++◌, Option, Some, None, is_some, IsTrue}
 use Rattle.std.specs.Option.{option_or}
-use Rattle.nf_turn.specs.Book.{Shelf, Meanings, Grows, GrowsWithout, entries_of, HasNothing}
+use Rattle.nf_turn.specs.Book.{Shelf, Meanings, Grows, GrowsWithout, IsFresh, Precedes, AllPrecede, entries_of, HasNothing}
 use Rattle.nf_turn.specs.declared.view.Memory.{Memory}
 use Rattle.nf_turn.specs.Numbers.{numbers_of, is_left}
 
@@ -78,3 +78,13 @@ pub record Agrees {E O W : Type 0} (book : Meanings E O W) (k : Memory W) (value
   pub gone : (m : ℕ) → IsGone book k m → Lacks (book.shelf value) m
   -- where the seat has all other numbers left, what it knows of and what it passed on last are the value itself
   pub sole : k.left + 1 ≡ k.seats → (k.known ≡ value) × (k.last ≡ value)
+
+-- what the holder of a seat knows without a value
+pub record IsTold {E O W : Type 0} (book : Meanings E O W) (k : Memory W) : Type 0 where
+  pub fresh : IsFresh book k.first
+  pub opening : book.opening k.known ≡ opening book k
+  -- what the seat knows of begins with what it passed on last, and with what was known before others were joined into it
+  pub last : Precedes book k.last k.known
+  pub heard : AllPrecede book k.heard k.known
+  -- and has no further entry of the seat
+  pub own : entries_of book k.number (book.entries k.known) ≡ own book k

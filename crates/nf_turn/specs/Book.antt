@@ -1,5 +1,5 @@
 -- What a value under the lock is to a proof, and how it may change.
-use Rattle.std.specs.Prelude.{◌≡◌, ◌≢◌, ◌⊎◌, ℕ, ◌<◌, ◌≤◌, ◌==◌, List, [], ◌++◌, Option, Some, None, All, filter}
+use Rattle.std.specs.Prelude.{◌≡◌, ◌≢◌, ◌⊎◌, ℕ, ◌<◌, ◌≤◌, ◌==◌, List, [], ◌∷◌, ◌++◌, Option, Some, None, All, filter}
 
 -- the bytes under each number below the next one to be given, and how often some were dropped
 pub record Shelf : Type 0 where
@@ -68,3 +68,11 @@ pub record GrowsWithout {E O W : Type 0} (book : Meanings E O W) (n : ℕ) (old 
   pub grows : Grows book old new
   pub none : entries_of book n grows.added ≡ []
   pub strikes : book.strikes new n ≡ book.strikes old n
+
+-- the entries of the one begin with those of the other
+abbrev pub Precedes : {E O W : Type 0} → Meanings E O W → W → W → Type 0
+Precedes {E} book old new = (more : List E) × (book.entries new ≡ book.entries old ++ more)
+
+abbrev pub AllPrecede : {E O W : Type 0} → Meanings E O W → List W → W → Type 0
+AllPrecede book [] new = Unit {0}
+AllPrecede book (old ∷ olds) new = Precedes book old new × AllPrecede book olds new

@@ -17,6 +17,7 @@ module _ {W : Type 0} where
     passed = [];
     told = told;
     joined = [];
+    heard = [];
   }
 
   -- that of the first seat: number 1, with all others left
@@ -41,6 +42,7 @@ module _ {W : Type 0} where
     left = k.left + other.left;
     known = longer k.known other.known;
     joined = (other.number, other.last) ∷ (other.joined ++ k.joined);
+    heard = k.known ∷ (other.known ∷ (other.heard ++ k.heard));
   }
 
 -- of two values the one with more entries

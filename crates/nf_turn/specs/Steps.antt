@@ -6,7 +6,7 @@ use Rattle.nf_turn.specs.declared.view.View.{View}
 use Rattle.nf_turn.specs.declared.view.View.TheVariants.{Spent, Idle, Waiting, Holding}
 use Rattle.nf_turn.specs.Book.{Meanings}
 use Rattle.nf_turn.specs.Memory.{having_passed, having_split, split_from, having_joined}
-use Rattle.nf_turn.specs.Agreeing.{Agrees}
+use Rattle.nf_turn.specs.Agreeing.{Agrees, IsTold}
 use Rattle.nf_turn.specs.Numbers.{numbers_of, AreSound}
 
 abbrev pub Place : Type 0 → Type 0
@@ -18,9 +18,6 @@ module _ {W : Type 0} where
 
   abbrev pub PassesOn : Step (Option W) → Place W → ℕ → Place W → Type 0
   PassesOn step old found new = (k : Memory W) (taken value : W) → old ≡ (Holding taken k, (0, Some value) ∷ []) → new ≡ (Idle (having_passed value k), [])
-
-  abbrev pub Counts : Step (Option W) → Place W → ℕ → Place W → Type 0
-  Counts step old found new = (new ≡ old) × ((k : Memory W) → old ≡ (Idle k, []) → AreSound (numbers_of k))
 
   abbrev pub after_split : View W → View W
   after_split (Idle k) = Idle (having_split k)
@@ -39,3 +36,7 @@ module _ {E O W : Type 0} (book : Meanings E O W) where
   abbrev pub Looks : Step (Option W) → Place W → ℕ → Place W → Type 0
   Looks step old found new = (turn : ℕ) (k : Memory W) → old ≡ (Waiting turn k, [])
       → (found ≡ turn → (value : W) × (new ≡ (Holding value k, (0, Some value) ∷ [])) × Agrees book k value) × (found ≢ turn → new ≡ old)
+
+  -- what the rule says of an idle seat
+  abbrev pub Counts : Step (Option W) → Place W → ℕ → Place W → Type 0
+  Counts step old found new = (new ≡ old) × ((k : Memory W) → old ≡ (Idle k, []) → AreSound (numbers_of k) × IsTold book k)

@@ -1,6 +1,6 @@
 -- The rule of the table.
 -- Word 0 is how many turn numbers were drawn, word 1 how many turns were passed on, each modulo 2 ^ 64. Slot 0 has the value.
-use Rattle.std.specs.Prelude.{◌≡◌, ◌≢◌, ◌⊎◌, ℕ, zero, suc, ◌+◌, ◌%◌, ◌^◌, ◌<◌, ◌≤◌, List, [], ◌∷◌, length, Option, Some}
+use Rattle.std.specs.Prelude.{◌≡◌, ◌≢◌, ◌⊎◌, ℕ, zero, suc, ◌+◌, ◌%◌, ◌^◌, ◌<◌, ◌≤◌, List, [], ◌∷◌, Option, Some}
 use mathlib.Core.Option.{some, none}
 use mathlib.Core.Option as maybe
 use lib.ListN.{get_elem?}
@@ -9,7 +9,7 @@ use Rattle.nf_turn.specs.declared.view.Memory.{Memory}
 use Rattle.nf_turn.specs.declared.view.View.{View}
 use Rattle.nf_turn.specs.declared.view.View.TheVariants.{Spent, Idle, Waiting, Holding}
 use Rattle.nf_turn.specs.Numbers.{IsOther}
-use Rattle.nf_turn.specs.Book.{Meanings, IsFresh, Grows, GrowsWithout}
+use Rattle.nf_turn.specs.Book.{Meanings, IsFresh, Grows, GrowsWithout, Precedes, AllPrecede}
 
 -- f 1 + .. + f k
 abbrev pub total : (ℕ → ℕ) → ℕ → ℕ
@@ -61,8 +61,9 @@ pub record IsKnown {E O W : Type 0} (book : Meanings E O W) (seats : ℕ) (origi
   pub told : GrewFrom book line.value k.told
   pub left : 0 < k.left → (id ≡ line.giver) × (line.fresh ≡ k.next) × (k.next + k.left ≡ seats + 1)
   pub joined : AreJoined book line id k.number k.joined
-  -- what it passed on last isn't longer than what it knows of
-  pub lasting : length (book.entries k.last) ≤ length (book.entries k.known)
+  -- what it passed on last came before what it knows of, and so did what it knew of before others were joined into it
+  pub last : Precedes book k.last k.known
+  pub heard : AllPrecede book k.heard k.known
   -- where no other seat was ever split off, what it knows of and what it passed on last are the value
   pub sole : line.fresh ≡ 2 → (k.known ≡ line.value) × (k.last ≡ line.value)
 

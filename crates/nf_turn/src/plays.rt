@@ -28,11 +28,11 @@ impl<W> Play<Option<W>, View<W>> for PassOn {
     ghost then = { PassesOn };
 }
 
-/// Changes nothing, and tells what the rule says of the seat's numbers.
+/// Changes nothing, and tells what the rule says of an idle seat.
 pub(crate) struct Count;
 
-impl<W> Play<Option<W>, View<W>> for Count {
-    ghost then = { Counts };
+impl<W: Book> Play<Option<W>, View<W>> for Count {
+    ghost then = { Counts W.book };
 }
 
 pub(crate) struct SplitOff;

@@ -24,6 +24,8 @@ pub struct Memory<W> {
     pub told: LinkedList<W>,
     /// The seats that were joined into it, each with the value that it passed on last.
     pub joined: LinkedList<(u64, W)>,
+    /// The values that it knew of, and those that these seats knew of, when they were joined into it.
+    pub heard: LinkedList<W>,
 }
 
 /// How a seat stands.
