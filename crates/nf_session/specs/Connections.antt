@@ -22,10 +22,11 @@ between s o b kept input output clock backend = record {
 abbrev pub scene : {S O C B : Type 0} → EndsOf S → EndsOf O → BackendOf B → Connection S O C B → Scene C
 scene s o b c = between s o b c.buffer.now c.input.now c.output.now c.clock.now c.backend.now
 
--- the same buffer, ends, clock and backend are lent
-pub record IsSame {S O C B : Type 0} (a b : Connection S O C B) : Type 0 where
+-- the same buffer, ends, clock and backend are lent, and to that what it was lent
+pub record IsSame {S O C B : Type 0} (k : BackendOf B) (a b : Connection S O C B) : Type 0 where
   pub buffer : b.buffer.ghost_name ≡ a.buffer.ghost_name
   pub input : b.input.ghost_name ≡ a.input.ghost_name
   pub output : b.output.ghost_name ≡ a.output.ghost_name
   pub clock : b.clock.ghost_name ≡ a.clock.ghost_name
   pub backend : b.backend.ghost_name ≡ a.backend.ghost_name
+  pub lent : k.lent b.backend.now ≡ k.lent a.backend.now

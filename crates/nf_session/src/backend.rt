@@ -45,6 +45,11 @@ impl PieceFault {
 
 /// The site and the store, as one seat meets them. Other seats may make entries before those of each call.
 pub trait Backend {
+    /// What it was lent, which no call changes.
+    type Lent;
+
+    ghost lent: { Self → Lent };
+
     /// What the seat knows.
     ghost book: { Self → Book };
 
@@ -52,16 +57,19 @@ pub trait Backend {
     fn begin(&mut self, now: Moment, words: Words, request: Request) -> Answer
         requires idle { held (book self.old) ≡ None }
         requires wants { MayWant request }
-        ensures { Begins (book self.old) (book self.new) now words request result };
+        ensures begins { Begins (book self.old) (book self.new) now words request result }
+        ensures lent { lent self.new ≡ lent self.old };
 
     /// The bytes of a piece of what was granted.
     fn blob(&mut self, content: &Content, index: usize) -> Result<Vec<u8>, PieceFault>
         requires granted { held (book self.old) ≡ Some (Serve content.now) }
         requires index { index < length content.now }
-        ensures { GivesPiece (book self.old) (book self.new) content.now index result };
+        ensures gives { GivesPiece (book self.old) (book self.new) content.now index result }
+        ensures lent { lent self.new ≡ lent self.old };
 
     /// Ends what was granted, at a reading of the clock.
     fn end(&mut self, now: Moment, ending: Ending) -> Answer
         requires { MayEnd (held (book self.old)) ending }
-        ensures { Ends (book self.old) (book self.new) now ending result };
+        ensures ends { Ends (book self.old) (book self.new) now ending result }
+        ensures lent { lent self.new ≡ lent self.old };
 }

@@ -60,7 +60,7 @@ where
     B: Backend,
 {
     fn next(&mut self) -> Result<Option<Message>, WireFault>
-        ensures same { IsSame self.old self.new }
+        ensures same { IsSame B.Backend self.old self.new }
         ensures heads { Heads (scene S.Ends O.Ends B.Backend self.old) (scene S.Ends O.Ends B.Backend self.new) result }
     {
         next_message(self.alloc, self.input, self.buffer)
@@ -68,7 +68,7 @@ where
 
     // Reads a body of that many bytes.
     fn read(&mut self, length: usize) -> Result<Vec<u8>, WireFault>
-        ensures same { IsSame self.old self.new }
+        ensures same { IsSame B.Backend self.old self.new }
         ensures ok { IfOk result (λ body. Bodies (scene S.Ends O.Ends B.Backend self.old)
             (scene S.Ends O.Ends B.Backend self.new) length body.items) }
         ensures err { IfErr result (Cuts CutsBody (scene S.Ends O.Ends B.Backend self.old)
@@ -79,7 +79,7 @@ where
 
     // Skips a body of that many bytes.
     fn skip(&mut self, length: usize) -> Result<(), WireFault>
-        ensures same { IsSame self.old self.new }
+        ensures same { IsSame B.Backend self.old self.new }
         ensures ok { OnOk result (Skips (scene S.Ends O.Ends B.Backend self.old)
             (scene S.Ends O.Ends B.Backend self.new) length) }
         ensures err { IfErr result (Cuts CutsRead (scene S.Ends O.Ends B.Backend self.old)
@@ -89,7 +89,7 @@ where
     }
 
     fn write(&mut self, bytes: &[u8]) -> Result<(), Ended>
-        ensures same { IsSame self.old self.new }
+        ensures same { IsSame B.Backend self.old self.new }
         ensures sends { Sends (scene S.Ends O.Ends B.Backend self.old)
             (scene S.Ends O.Ends B.Backend self.new) bytes.now result }
     {
@@ -101,7 +101,7 @@ where
 
     // Writes an answer, where there was memory for it.
     fn say(&mut self, bytes: Result<Vec<u8>, AllocError>) -> Result<(), Ended>
-        ensures same { IsSame self.old self.new }
+        ensures same { IsSame B.Backend self.old self.new }
         ensures ok { IfOk bytes (λ bytes. Sends (scene S.Ends O.Ends B.Backend self.old)
             (scene S.Ends O.Ends B.Backend self.new) bytes.items result) }
         ensures err { OnErr bytes ((result ≡ Err ended.Memory)
@@ -116,7 +116,7 @@ where
     // The Begin of a message's request. Where there is no memory for that, it is refused so.
     fn begin(&mut self, message: &Message) -> Begun
         requires { held (B.book self.old.backend.now) ≡ None }
-        ensures same { IsSame self.old self.new }
+        ensures same { IsSame B.Backend self.old self.new }
         ensures judges { Judges C.reads message.now (scene S.Ends O.Ends B.Backend self.old)
             (scene S.Ends O.Ends B.Backend self.new) result }
         ensures begun { IsBegun (B.book self.new.backend.now) result }
@@ -133,7 +133,7 @@ where
 
     // Tells whoever waits for it to send the body that was granted.
     fn invite(&mut self, message: &Message, begun: &Begun) -> Result<(), Ended>
-        ensures same { IsSame self.old self.new }
+        ensures same { IsSame B.Backend self.old self.new }
         ensures invites { Invites message.now begun.now (scene S.Ends O.Ends B.Backend self.old)
             (scene S.Ends O.Ends B.Backend self.new) result }
         ensures book { B.book self.new.backend.now ≡ B.book self.old.backend.now }
@@ -154,7 +154,7 @@ where
     ) -> Result<Response, WireFault>
         requires begun { IsBegun (B.book self.old.backend.now) begun }
         requires skipped { skipped ≡ skipped_length message.now begun }
-        ensures same { IsSame self.old self.new }
+        ensures same { IsSame B.Backend self.old self.new }
         ensures takes { TakesIn C.reads message.now (scene S.Ends O.Ends B.Backend self.old)
             (scene S.Ends O.Ends B.Backend self.new) begun result }
         ensures responding { IfOk result (IsResponding (B.book self.new.backend.now)) }
@@ -196,7 +196,7 @@ where
     // The End of what is to be stored, with its body.
     fn store(&mut self, body: Vec<u8>) -> Response
         requires { MayEnd (held (B.book self.old.backend.now)) (ending.Body body) }
-        ensures same { IsSame self.old self.new }
+        ensures same { IsSame B.Backend self.old self.new }
         ensures stores { StoresBody C.reads body.items (scene S.Ends O.Ends B.Backend self.old)
             (scene S.Ends O.Ends B.Backend self.new) result }
         ensures responding { IsResponding (B.book self.new.backend.now) result }
@@ -208,7 +208,7 @@ where
     // Takes the first piece of a file that is to be sent.
     fn start(&mut self, content: Content) -> Response
         requires { held (B.book self.old.backend.now) ≡ Some (Serve content) }
-        ensures same { IsSame self.old self.new }
+        ensures same { IsSame B.Backend self.old self.new }
         ensures starts { StartsFile (scene S.Ends O.Ends B.Backend self.old)
             (scene S.Ends O.Ends B.Backend self.new) content result }
         ensures responding { IsResponding (B.book self.new.backend.now) result }
@@ -237,7 +237,7 @@ where
         last: bool,
     ) -> Result<Option<Ended>, Ended>
         requires { IsResponding (B.book self.old.backend.now) response.now }
-        ensures same { IsSame self.old self.new }
+        ensures same { IsSame B.Backend self.old self.new }
         ensures responds { Responds last (way_by closes message.now) response.now (scene S.Ends O.Ends B.Backend self.old)
             (scene S.Ends O.Ends B.Backend self.new) result }
         ensures held { held (B.book self.new.backend.now) ≡ held (B.book self.old.backend.now) }
@@ -249,7 +249,7 @@ where
 
     fn write_response(&mut self, response: &Response, manner: Manner) -> Result<(), Ended>
         requires { IsResponding (B.book self.old.backend.now) response.now }
-        ensures same { IsSame self.old self.new }
+        ensures same { IsSame B.Backend self.old self.new }
         ensures writes { Writes manner response.now (scene S.Ends O.Ends B.Backend self.old)
             (scene S.Ends O.Ends B.Backend self.new) result }
         ensures held { held (B.book self.new.backend.now) ≡ held (B.book self.old.backend.now) }
@@ -272,7 +272,7 @@ where
         close: bool,
     ) -> Result<(), Ended>
         requires { IsStarted (B.book self.old.backend.now) content.now first.now }
-        ensures same { IsSame self.old self.new }
+        ensures same { IsSame B.Backend self.old self.new }
         ensures sends { SendsFile close content.now first.now (scene S.Ends O.Ends B.Backend self.old)
             (scene S.Ends O.Ends B.Backend self.new) result }
         ensures held { held (B.book self.new.backend.now) ≡ held (B.book self.old.backend.now) }
@@ -289,7 +289,7 @@ where
     }
 
     fn send_head(&mut self, content: &Content, close: bool) -> Result<(), Ended>
-        ensures same { IsSame self.old self.new }
+        ensures same { IsSame B.Backend self.old self.new }
         ensures says { Says (scene S.Ends O.Ends B.Backend self.old) (scene S.Ends O.Ends B.Backend self.new)
             (head_of_file close (size_of content.now)) result }
     {
@@ -299,7 +299,7 @@ where
     fn take_piece(&mut self, content: &Content, index: usize) -> Result<Vec<u8>, PieceFault>
         requires granted { held (B.book self.old.backend.now) ≡ Some (Serve content.now) }
         requires index { index < length content.now }
-        ensures same { IsSame self.old self.new }
+        ensures same { IsSame B.Backend self.old self.new }
         ensures takes { TakesPiece content.now index (scene S.Ends O.Ends B.Backend self.old)
             (scene S.Ends O.Ends B.Backend self.new) result }
         ensures held { held (B.book self.new.backend.now) ≡ held (B.book self.old.backend.now) }
@@ -310,7 +310,7 @@ where
     fn send_piece(&mut self, content: &Content, index: usize) -> Result<(), Ended>
         requires granted { held (B.book self.old.backend.now) ≡ Some (Serve content.now) }
         requires index { index < length content.now }
-        ensures same { IsSame self.old self.new }
+        ensures same { IsSame B.Backend self.old self.new }
         ensures sends { SendsPiece content.now index (scene S.Ends O.Ends B.Backend self.old)
             (scene S.Ends O.Ends B.Backend self.new) result }
         ensures held { held (B.book self.new.backend.now) ≡ held (B.book self.old.backend.now) }
@@ -326,7 +326,7 @@ where
     fn close(&mut self, granted: bool, ending: Ending)
         requires granted { granted ≡ is_some (held (B.book self.old.backend.now)) }
         requires closing { IsClosing ending }
-        ensures same { IsSame self.old self.new }
+        ensures same { IsSame B.Backend self.old self.new }
         ensures closes { Closes C.reads ending granted (scene S.Ends O.Ends B.Backend self.old)
             (scene S.Ends O.Ends B.Backend self.new) }
         ensures idle { held (B.book self.new.backend.now) ≡ None }
@@ -339,7 +339,7 @@ where
 
     // Answers bytes at whose front no message stands, or that end inside one; how the session ends by it.
     fn refuse(&mut self, fault: WireFault) -> Ended
-        ensures same { IsSame self.old self.new }
+        ensures same { IsSame B.Backend self.old self.new }
         ensures refuses { EndsBy fault (scene S.Ends O.Ends B.Backend self.old)
             (scene S.Ends O.Ends B.Backend self.new) result }
     {
@@ -355,7 +355,7 @@ where
     }
 
     fn deny(&mut self, denial: &Denial) -> Ended
-        ensures same { IsSame self.old self.new }
+        ensures same { IsSame B.Backend self.old self.new }
         ensures denies { EndsSo denial.now (scene S.Ends O.Ends B.Backend self.old)
             (scene S.Ends O.Ends B.Backend self.new) result }
     {
@@ -371,7 +371,7 @@ where
     // Answers one message, whose head was taken; how the session ends, if it does. No other is answered after the `last`.
     fn answer(&mut self, message: &Message, last: bool) -> Option<Ended>
         requires { held (B.book self.old.backend.now) ≡ None }
-        ensures same { IsSame self.old self.new }
+        ensures same { IsSame B.Backend self.old self.new }
         ensures meets { Meets C.reads last message.now (scene S.Ends O.Ends B.Backend self.old)
             (scene S.Ends O.Ends B.Backend self.new) result }
         ensures idle { held (B.book self.new.backend.now) ≡ None }
@@ -401,7 +401,7 @@ where
     // One turn: the next message and its answer; how the session ends, if it does.
     fn exchange(&mut self, last: bool) -> Option<Ended>
         requires { held (B.book self.old.backend.now) ≡ None }
-        ensures same { IsSame self.old self.new }
+        ensures same { IsSame B.Backend self.old self.new }
         ensures turn { Turn C.reads last (scene S.Ends O.Ends B.Backend self.old)
             (scene S.Ends O.Ends B.Backend self.new) result }
         ensures idle { held (B.book self.new.backend.now) ≡ None }
@@ -416,7 +416,7 @@ where
     // Messages until one ends the session, the input ends, or 10,000 were answered: then None.
     fn session(&mut self) -> Option<Ended>
         requires { held (B.book self.old.backend.now) ≡ None }
-        ensures same { IsSame self.old self.new }
+        ensures same { IsSame B.Backend self.old self.new }
         ensures session { Session C.reads (scene S.Ends O.Ends B.Backend self.old)
             (scene S.Ends O.Ends B.Backend self.new) result }
         ensures idle { held (B.book self.new.backend.now) ≡ None }
@@ -457,6 +457,7 @@ pub fn serve_session<S: Source, O: Sink, C: Clock, B: Backend>(
         (between S.Ends O.Ends B.Backend [] input.old output.old clock.old backend.old)
         (between S.Ends O.Ends B.Backend kept input.new output.new clock.new backend.new) result }
     ensures idle { held (B.book backend.new) ≡ None }
+    ensures lent { B.lent backend.new ≡ B.lent backend.old }
 {
     let mut buffer = Buffer::new();
     let ended = serve(alloc, routes, &mut buffer, input, output, clock, backend);
@@ -479,6 +480,7 @@ fn serve<S: Source, O: Sink, C: Clock, B: Backend>(
         (between S.Ends O.Ends B.Backend buffer.old input.old output.old clock.old backend.old)
         (between S.Ends O.Ends B.Backend buffer.new input.new output.new clock.new backend.new) result }
     ensures idle { held (B.book backend.new) ≡ None }
+    ensures lent { B.lent backend.new ≡ B.lent backend.old }
 {
     let mut connection = Connection {
         alloc,

@@ -8,4 +8,4 @@ use Rattle.nf_session.proofs.session.Connection.session.Given as goal
 abbrev pub invariant-loop-turn : goal.invariant-loop-turn
 invariant-loop-turn g l =
     SoFar g.C.Clock.reads (scene g.S.Ends g.O.Ends g.B.Backend l.fn.self) (scene g.S.Ends g.O.Ends g.B.Backend l.self) l.turn
-    × IsSame l.fn.self l.self × (held (g.B.Backend.book l.self.backend.now) ≡ None)
+    × IsSame g.B.Backend l.fn.self l.self × (held (g.B.Backend.book l.self.backend.now) ≡ None)
