@@ -1,13 +1,14 @@
--- What the rule says of a seat, in the words of `Agrees`.
-use Rattle.std.proofs.Common.{◌≡◌, ⊎_elim, inl, inr, ℕ, ◌<◌, List, [], ◌∷◌, ◌++◌, refl, sym, ap, ◌∙◌, arith}
+-- What the rule says of a seat, in the words of `Agrees` and `IsTold`.
+use Rattle.std.proofs.Common.{◌≡◌, ⊎_elim, inl, inr, ℕ, ◌<◌, List, [], ◌∷◌, ◌++◌, append_assoc, refl, sym, ap, ◌∙◌, subst, arith}
+use Rattle.std.proofs.lemmas.List.{append_cancel_left}
 use mathlib.Core.Logic.{dite}
 use native.Mathlib.Decide.{ℕ_discrete}
 use Rattle.nf_turn.specs.Book.{Meanings, entries_of, HasNothing, IsFresh, GrowsWithout}
 use Rattle.nf_turn.specs.declared.view.Memory.{Memory}
 use Rattle.nf_turn.specs.Numbers.{numbers_of}
-use Rattle.nf_turn.specs.Agreeing.{AllAreKept, Agrees}
+use Rattle.nf_turn.specs.Agreeing.{opening, AllAreKept, Agrees, IsTold}
 use Rattle.nf_turn.specs.Turns.{Line, AreJoined, IsKnown, InOrder}
-use Rattle.nf_turn.proofs.Growing.{shorter_end, entries_stay}
+use Rattle.nf_turn.proofs.Growing.{none_in_parts, entries_of-more, entries_stay}
 use Rattle.nf_turn.proofs.Left.{left_test}
 use Rattle.nf_turn.proofs.Shelves.{tells_alike, grew_append, last_bytes_stay, gone_stays}
 
@@ -20,12 +21,31 @@ module _ {E O W : Type 0} (book : Meanings E O W) where
   joined_are_kept line id n [] h = tt
   joined_are_kept line id n (seat ∷ seats) h = (h.5, joined_are_kept line id n seats h.7)
 
+  -- the seat has no entry between what it passed on last and what it knows of, nor from there to the value
+  no_more_own : (seats : ℕ) (origin : W) (line : Line W) (id : ℕ) (k : Memory W) (h : IsKnown book seats origin line id k) → (entries_of book k.number h.last.0 ≡ []) × (entries_of book k.number h.known.added ≡ [])
+  no_more_own seats origin line id k h =
+      let last = book.entries k.last in let between = h.last.0 in let since = h.known.added in
+      let parts : h.own.grows.added ≡ between ++ since = append_cancel_left last h.own.grows.added (between ++ since) (sym h.own.grows.entries ∙ h.known.entries ∙ ap (λ l. l ++ since) h.last.1 ∙ append_assoc last between since) in
+      none_in_parts book k.number between since (ap (entries_of book k.number) (sym parts) ∙ h.own.none)
+
+  opens_alike : (seats : ℕ) (origin : W) (line : Line W) (id : ℕ) (k : Memory W) → InOrder book seats origin line → IsKnown book seats origin line id k → book.opening line.value ≡ opening book k
+  opens_alike seats origin line id k order h = (order.unused 0 (inl refl)).grows.keeps.opening ∙ ap book.opening (sym h.first)
+
+  pub is_told : (seats : ℕ) (origin : W) (line : Line W) (id : ℕ) (k : Memory W) → IsFresh book origin → InOrder book seats origin line → IsKnown book seats origin line id k → IsTold book k
+  is_told seats origin line id k fresh order h = record {
+    fresh = subst (λ (w : W). IsFresh book w) (sym h.first) fresh;
+    opening = sym h.known.keeps.opening ∙ opens_alike seats origin line id k order h;
+    last = h.last;
+    heard = h.heard;
+    own = ap (entries_of book k.number) h.last.1 ∙ entries_of-more book k.number (book.entries k.last) h.last.0 (no_more_own seats origin line id k h).0;
+  }
+
   pub agrees : (seats : ℕ) (origin : W) (line : Line W) (id : ℕ) (k : Memory W) → IsFresh book origin → InOrder book seats origin line → IsKnown book seats origin line id k → Agrees book k line.value
   agrees seats origin line id k fresh order h =
       let since_start = (order.unused 0 (inl refl)).grows in let low = h.low in let given = h.given in let few = order.few.2 in let all = h.all in record {
         within = (low, omega arith);
         known = h.known;
-        others = shorter_end book k.number (book.entries k.last) (book.entries k.known) h.own.grows.added h.known.added (sym h.own.grows.entries ∙ h.known.entries) h.lasting h.own.none;
+        others = (no_more_own seats origin line id k h).1;
         own = entries_stay book k.number k.last line.value h.own;
         strikes = h.own.strikes;
         joined = joined_are_kept line id k.number k.joined h.joined;
@@ -34,7 +54,7 @@ module _ {E O W : Type 0} (book : Meanings E O W) where
             let next = (h.left (omega arith)).1 in
             nothing n origin line.value fresh (order.unused n (inr (omega arith)));
         outside = λ n out. nothing n origin line.value fresh (order.unused n (⊎_elim (λ (z : n ≡ 0). inl z) (λ (z : k.seats < n). inr (omega arith)) out));
-        opening = since_start.keeps.opening ∙ ap book.opening (sym h.first);
+        opening = opens_alike seats origin line id k order h;
         tells = tells_alike (book.shelf origin) (book.shelf line.value) since_start.keeps.shelf ∙ ap (λ z. Rattle.std.specs.Prelude.is_some (book.shelf z)) (sym h.first);
         shelf = λ m bytes e. last_bytes_stay book line.value (k.passed ++ k.told) (grew_append book line.value k.passed k.told h.passed h.told) m bytes e;
         gone = λ m e. gone_stays book line.value k.passed h.passed m e;

@@ -71,7 +71,7 @@ module _ {E O W : Type 0} (book : Meanings E O W) (seats : ℕ) (origin : W) whe
         keeps,
         tt,
         steps book seats origin s rule new id 0 ((x + 1) % 2 ^ 64) s.homes (Waiting x k) words rule.home (in_order line n rule.order h.low h.given mine.1) (
-          record { low = h.low; given = h.given; its = h.its; all = h.all; first = h.first; known = h.known; own = h.own; passed = h.passed; told = h.told; left = h.left; joined = joined_stay book line new id n (leaves_joined line n) k.joined h.joined; lasting = h.lasting; sole = h.sole },
+          record { low = h.low; given = h.given; its = h.its; all = h.all; first = h.first; known = h.known; own = h.own; passed = h.passed; told = h.told; left = h.left; joined = joined_stay book line new id n (leaves_joined line n) k.joined h.joined; last = h.last; heard = h.heard; sole = h.sole },
           put_here line.waits n 1,
           found ∙ ap (λ (z : ℕ). z % 2 ^ 64) (sym (put_here line.turn n line.drawn)),
           λ holds. let low = h.low in let waits = (rule.order.served (omega arith)).0 in let none : line.waits line.holder ≡ 0 = ap line.waits holds ∙ mine.1 in omega arith,

@@ -1,8 +1,6 @@
 -- How a value grows over several turns.
-use Rattle.std.proofs.Common.{◌≡◌, ◌≢◌, ⊎_elim, inl, inr, ℕ, ◌-◌, ◌<◌, ◌≤◌, ◌==◌, cond, false, arith, List, [], ◌∷◌, ◌++◌, All, Option, Some, None, refl, sym, ap, ◌∙◌, append-nil, append_assoc, length, take, drop, ne_eqb}
-use Rattle.std.proofs.lemmas.List.{take-append-drop}
+use Rattle.std.proofs.Common.{◌≡◌, ◌≢◌, ⊎_elim, inl, inr, ℕ, ◌<◌, ◌==◌, cond, false, arith, List, [], ◌∷◌, ◌++◌, All, Option, Some, None, refl, sym, ap, ◌∙◌, append-nil, append_assoc, ne_eqb}
 use Rattle.std.proofs.lemmas.List.Elements.{filter-append, All-head, All-tail}
-use Rattle.std.proofs.Math.Seq.{drop-append-add, drop-append_seam}
 use Rattle.nf_turn.specs.Book.{Shelf, Meanings, KeepsShelf, Keeps, entries_of, AddsAlone, Grows, GrowsWithout}
 
 pub KeepsShelf-refl : (shelf : Option Shelf) → KeepsShelf shelf shelf
@@ -27,10 +25,10 @@ KeepsShelf-trans (Some a) (Some b) (Some c) h g = let low = h.0 in let up = g.0 
       (g.2 m (omega arith)),
 )
 
--- where a list has no element, its end has none
-nothing_right : {A : Type 0} (xs ys : List A) → xs ++ ys ≡ [] → ys ≡ []
-nothing_right [] ys e = e
-nothing_right (x ∷ xs) ys e = absurd (cc)
+-- where a list has no element, neither of its parts has one
+both_empty : {A : Type 0} (xs ys : List A) → xs ++ ys ≡ [] → (xs ≡ []) × (ys ≡ [])
+both_empty [] ys e = (refl, e)
+both_empty (x ∷ xs) ys e = absurd (cc)
 
 module _ {E O W : Type 0} (book : Meanings E O W) where
   -- under m stands nothing of what another number did
@@ -41,13 +39,15 @@ module _ {E O W : Type 0} (book : Meanings E O W) where
       let not : (book.seat_of e == m) ≡ false = ne_eqb (book.seat_of e) m (λ same. apart (sym same ∙ All-head P e entries h)) in
       ap (λ t. cond t (e ∷ entries_of book m entries) (entries_of book m entries)) not ∙ others_entries m n apart entries (All-tail P e entries h)
 
-  -- of two ends of a list the shorter one has no entry of a seat where the longer one has none
-  pub shorter_end : (n : ℕ) (xs ys long short : List E) → xs ++ long ≡ ys ++ short → length xs ≤ length ys → entries_of book n long ≡ [] → entries_of book n short ≡ []
-  shorter_end n xs ys long short same up none =
-      let i = length ys - length xs in
-      let is : drop i long ≡ short = sym (drop-append-add xs long i) ∙ ap (λ j. drop j (xs ++ long)) (omega (arith, up)) ∙ ap (drop (length ys)) same ∙ drop-append_seam ys short in
-      let both : entries_of book n (take i long) ++ entries_of book n (drop i long) ≡ [] = sym (filter-append (λ e. book.seat_of e == n) (take i long) (drop i long)) ∙ ap (entries_of book n) (take-append-drop i long) ∙ none in
-      ap (entries_of book n) (sym is) ∙ nothing_right (entries_of book n (take i long)) (entries_of book n (drop i long)) both
+  -- where entries have none of a seat, neither of their parts has one
+  pub none_in_parts : (n : ℕ) (xs ys : List E) → entries_of book n (xs ++ ys) ≡ [] → (entries_of book n xs ≡ []) × (entries_of book n ys ≡ [])
+  none_in_parts n xs ys none = both_empty (entries_of book n xs) (entries_of book n ys) (sym (filter-append (λ e. book.seat_of e == n) xs ys) ∙ none)
+
+  -- those of a seat stay where more have none of it
+  pub entries_of-more : (n : ℕ) (xs more : List E) → entries_of book n more ≡ [] → entries_of book n (xs ++ more) ≡ entries_of book n xs
+  entries_of-more n xs more none =
+      let old = entries_of book n xs in
+      filter-append (λ e. book.seat_of e == n) xs more ∙ ap (λ l. old ++ l) none ∙ append-nil old
 
   keeps-refl : (x : W) → Keeps book x x
   keeps-refl x = record { opening = refl; shelf = KeepsShelf-refl (book.shelf x) }
@@ -79,6 +79,4 @@ module _ {E O W : Type 0} (book : Meanings E O W) where
 
   -- under the seat's number stands what stood there
   pub entries_stay : (n : ℕ) (x y : W) → GrowsWithout book n x y → entries_of book n (book.entries y) ≡ entries_of book n (book.entries x)
-  entries_stay n x y h =
-      let old = entries_of book n (book.entries x) in
-      ap (entries_of book n) h.grows.entries ∙ filter-append (λ e. book.seat_of e == n) (book.entries x) h.grows.added ∙ ap (λ l. old ++ l) h.none ∙ append-nil old
+  entries_stay n x y h = ap (entries_of book n) h.grows.entries ∙ entries_of-more n (book.entries x) h.grows.added h.none

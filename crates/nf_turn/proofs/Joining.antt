@@ -1,5 +1,5 @@
 -- Joining a seat into another.
-use Rattle.std.proofs.Common.{◌≡◌, ◌≢◌, ◌⊎◌, ⊎_elim, ℕ, suc, ◌+◌, ◌^◌, ◌<◌, ◌≤◌, Bool, true, false, inl, inr, length, cond, ltb, eqb, eq-eqb, ne_eqb, List, [], ◌∷◌, ◌++◌, append-nil, length-append, set, refl, sym, ap, ◌∙◌, subst, arith}
+use Rattle.std.proofs.Common.{◌≡◌, ◌≢◌, ⊎_elim, ℕ, suc, ◌+◌, ◌^◌, ◌<◌, ◌≤◌, length, cond, eqb, eq-eqb, ne_eqb, List, [], ◌∷◌, ◌++◌, append-nil, length-append, set, refl, sym, ap, ◌∙◌, subst, arith}
 use mathlib.Core.Logic.{dite}
 use mathlib.Core.Option.{some}
 use native.Mathlib.Decide.{ℕ_discrete}
@@ -7,7 +7,7 @@ use lib.ListN.{get_elem?}
 use Rattle.std.proofs.lemmas.Bool.{cases_lt, lt-ltb, le-ltb}
 use Rattle.atomic_table.specs.Table.{Joins}
 use Rattle.atomic_table.proofs.Lists.{at_set}
-use Rattle.nf_turn.specs.Book.{Meanings, Grows}
+use Rattle.nf_turn.specs.Book.{Meanings, Grows, Precedes}
 use Rattle.nf_turn.specs.declared.view.Memory.{Memory}
 use Rattle.nf_turn.specs.declared.view.View.{View}
 use Rattle.nf_turn.specs.declared.view.View.TheVariants.{Spent, Idle}
@@ -16,6 +16,7 @@ use Rattle.nf_turn.specs.Turns.{Line, AreJoined, IsKnown, Knows, IsInTurn}
 use Rattle.nf_turn.specs.Numbers.{IsOther, numbers_of, AreSound}
 use Rattle.nf_turn.specs.Steps.{Place, after_join}
 use Rattle.nf_turn.proofs.Numbers.{redirect, redirect_hit, redirect_miss}
+use Rattle.nf_turn.proofs.Preceding.{Precedes-refl, Precedes-trans, AllPrecede-trans, AllPrecede-append, shorter_precedes}
 use Rattle.nf_turn.proofs.Sounding.{few_numbers}
 use Rattle.nf_turn.proofs.Staying.{LeavesAlone, views_stay, others_stay}
 
@@ -23,19 +24,15 @@ IsOther-append : {W : Type 0} (n : ℕ) (seats more : List (ℕ × W)) → IsOth
 IsOther-append n [] more h h' = h'
 IsOther-append {W} n (seat ∷ seats) more h h' = (h.0, IsOther-append n seats more h.1 h')
 
-one_of : {W : Type 0} (t : Bool) (a b : W) → (cond t b a ≡ a) ⊎ (cond t b a ≡ b)
-one_of true a b = inr refl
-one_of false a b = inl refl
-
 module _ {E O W : Type 0} (book : Meanings E O W) where
-  longer_picks : (a b : W) → (longer book a b ≡ a) ⊎ (longer book a b ≡ b)
-  longer_picks a b = one_of (ltb (length (book.entries a)) (length (book.entries b))) a b
+  -- one of two values is picked: the later value grew from it, and both come before it
+  abbrev IsPicked : W → W → W → W → Type 0
+  IsPicked a b value picked = Grows book picked value × Precedes book a picked × Precedes book b picked
 
-  -- the one that is picked isn't shorter than the first
-  longer_is_longer : (a b : W) → length (book.entries a) ≤ length (book.entries (longer book a b))
-  longer_is_longer a b = let n = length (book.entries a) in let m = length (book.entries b) in ⊎_elim
-      (λ (less : n < m). let picked = ap (λ t. length (book.entries (cond t b a))) (lt-ltb n m less) in omega arith)
-      (λ (more : m ≤ n). let picked = ap (λ t. length (book.entries (cond t b a))) (le-ltb n m more) in omega arith)
+  longer_is_picked : (a b value : W) → Grows book a value → Grows book b value → IsPicked a b value (longer book a b)
+  longer_is_picked a b value h g = let n = length (book.entries a) in let m = length (book.entries b) in ⊎_elim
+      (λ (less : n < m). subst (IsPicked a b value) (ap (λ t. cond t b a) (sym (lt-ltb n m less))) (g, shorter_precedes book a b value h g (omega arith), Precedes-refl book b))
+      (λ (more : m ≤ n). subst (IsPicked a b value) (ap (λ t. cond t b a) (sym (le-ltb n m more))) (h, Precedes-refl book a, shorter_precedes book b a value g h more))
       (cases_lt n m)
 
   -- a number of another seat of the table is none of these
@@ -106,19 +103,20 @@ module _ {E O W : Type 0} (book : Meanings E O W) where
 
     known_of_both : (line : Line W) (id other : ℕ) (k q : Memory W) → other ≢ id → line.waits q.number ≡ 0 → IsKnown book seats origin line id k → IsKnown book seats origin line other q
         → IsKnown book seats origin (joining line id other) id (having_joined (longer book) k q)
-    known_of_both line id other k q apart idle h t = record {
+    known_of_both line id other k q apart idle h t = let longest = longer book k.known q.known in let is = longer_is_picked k.known q.known line.value h.known t.known in record {
       low = h.low;
       given = h.given;
       its = redirect_miss line.place other id k.number (λ e. apart (sym e ∙ h.its)) ∙ h.its;
       all = h.all;
       first = h.first;
-      known = ⊎_elim (λ (e : longer book k.known q.known ≡ k.known). subst (λ (w : W). Grows book w line.value) (sym e) h.known) (λ (e : longer book k.known q.known ≡ q.known). subst (λ (w : W). Grows book w line.value) (sym e) t.known) (longer_picks k.known q.known);
+      known = is.0;
       own = h.own;
       passed = h.passed;
       told = h.told;
       left = left_with_both line id other k q apart h t;
       joined = joined_of_both line id other k q apart idle h t;
-      lasting = (let mine = h.lasting in let up = longer_is_longer k.known q.known in omega arith);
+      last = Precedes-trans book k.last k.known longest h.last is.1;
+      heard = (is.1, (is.2, AllPrecede-append book q.heard k.heard longest (AllPrecede-trans book q.heard q.known longest t.heard is.2) (AllPrecede-trans book k.heard k.known longest h.heard is.1)));
       sole = λ alone.
           let low = h.low in let below = h.given in let low' = t.low in let below' = t.given in let same : q.number ≡ k.number = omega arith in
           absurd (apart (sym t.its ∙ ap line.place same ∙ h.its));

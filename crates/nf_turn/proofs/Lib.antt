@@ -1,5 +1,6 @@
 pub mod Numbers
 pub mod Growing
+pub mod Preceding
 pub mod Shelves
 pub mod Left
 pub mod Agreed

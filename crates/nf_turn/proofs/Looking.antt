@@ -76,7 +76,7 @@ module _ {E O W : Type 0} (book : Meanings E O W) (seats : ℕ) (origin : W) whe
       let new = holding line n in
       let home : set s.homes 0 none ≡ home_of n line.value = ap (λ hs. set hs 0 none) (rule.home ∙ ap (λ (z : ℕ). home_of z line.value) free) ∙ empty_home n line.value h.low in (
         steps book seats origin s rule new id 1 (get_or s.words 1 0) (set s.homes 0 none) (Holding line.value k) (set-get_or s.words 1 0 ∙ rule.words) home (in_order line n rule.order (omega arith) first) (
-          record { low = h.low; given = h.given; its = h.its; all = h.all; first = h.first; known = h.known; own = h.own; passed = h.passed; told = h.told; left = h.left; joined = joined_stay book line new id n (leaves_joined line n) k.joined h.joined; lasting = h.lasting; sole = h.sole },
+          record { low = h.low; given = h.given; its = h.its; all = h.all; first = h.first; known = h.known; own = h.own; passed = h.passed; told = h.told; left = h.left; joined = joined_stay book line new id n (leaves_joined line n) k.joined h.joined; last = h.last; heard = h.heard; sole = h.sole },
           refl,
           refl,
         ) (leaves_others line id n h.its free),

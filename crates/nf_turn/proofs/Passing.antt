@@ -11,6 +11,7 @@ use Rattle.nf_turn.specs.Steps.{Place, PassesOn}
 use Rattle.nf_turn.specs.Views.{memory_in}
 use Rattle.nf_turn.proofs.Numbers.{put, put_at, put_here, put_else, put_small, total_put, next_modulo}
 use Rattle.nf_turn.proofs.Growing.{Grows-refl, Grows-AddsAlone, GrowsWithout-refl, GrowsWithout-AddsAlone}
+use Rattle.nf_turn.proofs.Preceding.{Precedes-refl, grown_precedes, AllPrecede-trans}
 use Rattle.nf_turn.proofs.Staying.{LeavesAlone, LeavesJoined, grew_stays, joined_stay, steps, other_number}
 
 abbrev value_out : {W : Type 0} → W → Place W → W
@@ -81,7 +82,8 @@ module _ {E O W : Type 0} (book : Meanings E O W) (seats : ℕ) (origin : W) whe
         told = grew_stays book line.value value more k.told h.told;
         left = h.left;
         joined = joined_stay book line (passing line n value) id n (leaves_joined line n value added) k.joined h.joined;
-        lasting = omega arith;
+        last = Precedes-refl book value;
+        heard = AllPrecede-trans book k.heard k.known value h.heard (grown_precedes book k.known value (more k.known h.known));
         sole = λ _. (refl, refl);
       }
 

@@ -13,6 +13,7 @@ use Rattle.nf_turn.specs.Memory.{having_split, split_from}
 use Rattle.nf_turn.specs.Turns.{Line, AreJoined, IsKnown, Knows, InOrder, IsInTurn}
 use Rattle.nf_turn.specs.Steps.{after_split, split_off}
 use Rattle.nf_turn.proofs.Numbers.{put, put_here, put_else}
+use Rattle.nf_turn.proofs.Preceding.{fresh_precedes}
 use Rattle.nf_turn.proofs.Shelves.{grew_append}
 use Rattle.nf_turn.proofs.Staying.{LeavesAlone, views_stay, others_stay}
 
@@ -69,7 +70,8 @@ module _ {E O W : Type 0} (book : Meanings E O W) (seats : ℕ) (origin : W) whe
     told = h.told;
     left = λ _. (has.0, omega arith, omega arith);
     joined = joined_stay line id added k.number k.joined h.joined;
-    lasting = h.lasting;
+    last = h.last;
+    heard = h.heard;
     sole = λ alone. absurd (omega arith);
   }
 
@@ -86,7 +88,8 @@ module _ {E O W : Type 0} (book : Meanings E O W) (seats : ℕ) (origin : W) whe
     told = grew_append book line.value k.passed k.told h.passed h.told;
     left = λ none_left. absurd (omega arith);
     joined = tt;
-    lasting = (let none : length (book.entries k.first) ≡ 0 = ap (λ w. length (book.entries w)) h.first ∙ ap length new.no_entries in omega arith);
+    last = fresh_precedes book k.first k.known (subst (λ (w : W). IsFresh book w) (sym h.first) new);
+    heard = tt;
     sole = λ alone. absurd (omega arith);
   }
 

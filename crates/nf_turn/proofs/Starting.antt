@@ -10,6 +10,7 @@ use Rattle.nf_turn.specs.Memory.{of_the_first}
 use Rattle.nf_turn.specs.Turns.{Line, Knows, IsInTurn}
 use Rattle.nf_turn.proofs.Numbers.{total_zero}
 use Rattle.nf_turn.proofs.Growing.{Grows-refl, GrowsWithout-refl}
+use Rattle.nf_turn.proofs.Preceding.{Precedes-refl}
 use Rattle.nf_turn.proofs.Staying.{views_stay}
 
 none_beyond : {V : Type 0} (view : V) (j : ℕ) (v : V) → j ≢ 0 → get_elem? (view ∷ []) j ≡ some v → ⊥
@@ -34,7 +35,8 @@ module _ {E O W : Type 0} (book : Meanings E O W) (seats : ℕ) (origin : W) whe
       told = (Grows-refl book origin, tt);
       left = λ _. (refl, refl, omega arith);
       joined = tt;
-      lasting = omega arith;
+      last = Precedes-refl book origin;
+      heard = tt;
       sole = λ _. (refl, refl);
     },
     refl,

@@ -68,7 +68,8 @@ module _ {E O W : Type 0} (book : Meanings E O W) where
       told = grew_stays old.value new.value leaves.grew k.told h.told;
       left = λ some_left. let was = h.left some_left in let is = leaves.gives was.0 in (is.0, is.1 ∙ was.1, was.2);
       joined = others_joined_stay old new id k.number leaves k.joined h.joined;
-      lasting = h.lasting;
+      last = h.last;
+      heard = h.heard;
       sole = λ alone. let was = h.sole (omega arith) in let same = sym (leaves.sole k.number low given h.its alone) in (was.0 ∙ same, was.1 ∙ same);
     }
 

@@ -1,11 +1,14 @@
 use Rattle.std.proofs.Common.{rules, ◌≡◌, ◌+◌, ◌-◌, ◌<◌, [], length, sym, ap, ◌∙◌, subst, arith}
 use Rattle.std.proofs.Math.Logic.{∥∥₁_map}
+use Rattle.nf_turn.specs.declared.view.Memory.{Memory}
+use Rattle.nf_turn.specs.Agreeing.{IsTold}
 use Rattle.nf_turn.specs.Memory.{having_split, split_from}
 use Rattle.nf_turn.specs.Numbers.{Numbers, numbers_of, AreSound}
 use Rattle.nf_turn.specs.Seats.{memory}
-use Rattle.nf_turn.specs.Steps.{after_split, split_off}
-use Rattle.nf_turn.specs.Views.{numbers_in}
+use Rattle.nf_turn.specs.Steps.{Place, after_split, split_off}
+use Rattle.nf_turn.specs.Views.{numbers_in, memory_in}
 use Rattle.nf_turn.proofs.Numbering.{kept_is_sound, split_is_sound, next_is_small}
+use Rattle.nf_turn.proofs.Sounding.{may_count}
 use Rattle.nf_turn.proofs.Splitting.{may_split}
 use Rattle.nf_turn.proofs.lock.TurnLock.split_off.Goals as goal
 
@@ -14,6 +17,12 @@ split_seat-place-requires g c =
     let key = c.args.self.now.table.shared.key in let seat = c.args.seat.now in let k = memory c.args.self.now seat in
     let left : 0 < k.left = subst (λ (m : Numbers g.row.W.Denot). 0 < m.left) (ap numbers_in c.requires.idle) c.requires.left in
     (search rules, search rules, may_split g.W.Book.book key.seats key.first.value _ _ k (ap (λ m. m.0) c.requires.idle) left)
+
+pub load-requires : goal.load-requires
+load-requires g c =
+    let key = c.args.self.now.table.shared.key in
+    let new = c.split_seat-place.ensures.4 ∙ ap (λ m. (split_off m.0, [])) c.requires.idle in
+    (search rules, search rules, may_count g.W.Book.book key.seats key.first.value _ _ _ _ new)
 
 pub overflow_add-seat : goal.overflow_add-seat
 overflow_add-seat g c =
@@ -40,7 +49,8 @@ invariant_of-result g c =
     let seat = c.args.seat.now in let k = memory c.args.self.now seat in
     let was : numbers_in seat.place.me ≡ numbers_of k = ap numbers_in c.requires.idle in
     let left : 0 < k.left = subst (λ (m : Numbers g.row.W.Denot). 0 < m.left) was c.requires.left in
-    let now : numbers_in c.split_seat-place.result.me ≡ numbers_of (split_from k) = ap numbers_in (c.split_seat-place.ensures.4 ∙ ap (λ m. (split_off m.0, [])) c.requires.idle) in
+    let new = c.split_seat-place.ensures.4 ∙ ap (λ m. (split_off m.0, [])) c.requires.idle in
+    let now : numbers_in c.load.new.seat.me ≡ numbers_of (split_from k) = ap numbers_in (c.load.ensures.2.0 ∙ new) in
     record {
       seats_is = seat.seats_is ∙ ap (λ m. m.seats) was ∙ sym (ap (λ m. m.seats) now);
       number_is = seat.next_is ∙ ap (λ m. m.next) was ∙ sym (ap (λ m. m.number) now);
@@ -49,3 +59,10 @@ invariant_of-result g c =
       joined_is = sym (ap (λ m. length m.joined) now);
       sound = subst (λ (m : Numbers g.row.W.Denot). ∥ AreSound m ∥₁) (sym now) (∥∥₁_map (subst (λ (m : Numbers g.row.W.Denot). ∥ AreSound m ∥₁) was seat.sound) (λ h. split_is_sound k left h));
     }
+
+pub returns-clause-told : goal.returns-clause-told
+returns-clause-told g c =
+    let k = memory c.args.self.now c.args.seat.now in
+    let new = c.split_seat-place.ensures.4 ∙ ap (λ m. (split_off m.0, [])) c.requires.idle in
+    let now = ap (λ (m : Place g.row.W.Denot). memory_in c.args.self.now.table.shared.key.first.value m) (c.load.ensures.2.0 ∙ new) in
+    subst (λ (m : Memory g.row.W.Denot). IsTold g.W.Book.book m) (sym now) (c.load.ensures.2.1 (split_from k) new).1
