@@ -6,7 +6,7 @@ use Rattle.nf_defs.specs.Blobs.{Blobs}
 use Rattle.nf_desk.specs.Desk.{Served, blobs_in, book_at, entries_by, failed_marks, meanings, most_seats, risen, shown, strikes_of}
 use Rattle.nf_keeper.specs.declared.keeper.Keeper.{Ghosts as KeeperOf}
 use Rattle.nf_session.specs.Book.{Book, IsBook, held}
-use Rattle.nf_turn.specs.Agreeing.{IsTold}
+use Rattle.nf_turn.specs.Agreeing.{HasHeard}
 use Rattle.nf_turn.specs.Seats.{IsIdle, IsSeatOf, memory, numbers}
 use Rattle.nf_turn.specs.declared.view.Memory.{Memory}
 use Rattle.nf_words.specs.declared.history.Entry.{Entry}
@@ -49,7 +49,7 @@ pub record IsSeat {K : Type 0} (k : KeeperOf K) (hub : HubOf (Served K) Entry (L
   pub its : IsSeatOf hub.lock seat.turns
   pub rests : IsIdle hub.lock seat.turns
   pub few : (numbers seat.turns).seats ≤ most_seats
-  pub told : IsTold (meanings k) (memory_of k hub seat)
+  pub told : HasHeard (meanings k) (memory_of k hub seat)
   pub book_is : IsBook (book k hub seat)
   pub flag : seat.is_idle ≡ is_none (held (book k hub seat))
   pub joined : AllWereIdle k (memory_of k hub seat).joined

@@ -1,4 +1,4 @@
--- What the rule says of a seat, in the words of `Agrees` and `IsTold`.
+-- What the rule says of a seat, in the words of `Agrees` and `HasHeard`.
 use Rattle.std.proofs.Common.{◌≡◌, ⊎_elim, inl, inr, ℕ, ◌<◌, List, [], ◌∷◌, ◌++◌, append_assoc, refl, sym, ap, ◌∙◌, subst, arith}
 use Rattle.std.proofs.lemmas.List.{append_cancel_left}
 use mathlib.Core.Logic.{dite}
@@ -6,7 +6,7 @@ use native.Mathlib.Decide.{ℕ_discrete}
 use Rattle.nf_turn.specs.Book.{Meanings, entries_of, HasNothing, IsFresh, GrowsWithout}
 use Rattle.nf_turn.specs.declared.view.Memory.{Memory}
 use Rattle.nf_turn.specs.Numbers.{numbers_of}
-use Rattle.nf_turn.specs.Agreeing.{opening, AllAreKept, Agrees, IsTold}
+use Rattle.nf_turn.specs.Agreeing.{opening, AllAreKept, Agrees, HasHeard}
 use Rattle.nf_turn.specs.Turns.{Line, AreJoined, IsKnown, InOrder}
 use Rattle.nf_turn.proofs.Growing.{none_in_parts, entries_of-more, entries_stay}
 use Rattle.nf_turn.proofs.Left.{left_test}
@@ -31,8 +31,8 @@ module _ {E O W : Type 0} (book : Meanings E O W) where
   opens_alike : (seats : ℕ) (origin : W) (line : Line W) (id : ℕ) (k : Memory W) → InOrder book seats origin line → IsKnown book seats origin line id k → book.opening line.value ≡ opening book k
   opens_alike seats origin line id k order h = (order.unused 0 (inl refl)).grows.keeps.opening ∙ ap book.opening (sym h.first)
 
-  pub is_told : (seats : ℕ) (origin : W) (line : Line W) (id : ℕ) (k : Memory W) → IsFresh book origin → InOrder book seats origin line → IsKnown book seats origin line id k → IsTold book k
-  is_told seats origin line id k fresh order h = record {
+  pub has_heard : (seats : ℕ) (origin : W) (line : Line W) (id : ℕ) (k : Memory W) → IsFresh book origin → InOrder book seats origin line → IsKnown book seats origin line id k → HasHeard book k
+  has_heard seats origin line id k fresh order h = record {
     fresh = subst (λ (w : W). IsFresh book w) (sym h.first) fresh;
     opening = sym h.known.keeps.opening ∙ opens_alike seats origin line id k order h;
     last = h.last;

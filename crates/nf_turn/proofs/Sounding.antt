@@ -9,12 +9,12 @@ use Rattle.nf_turn.specs.declared.view.Memory.{Memory}
 use Rattle.nf_turn.specs.declared.view.View.TheVariants.{Idle}
 use Rattle.nf_turn.specs.Numbers.{Numbers, numbers_of, is_joined}
 use Rattle.nf_turn.specs.Numbers.{IsOther, AreApart, AreSound}
-use Rattle.nf_turn.specs.Agreeing.{IsTold}
+use Rattle.nf_turn.specs.Agreeing.{HasHeard}
 use Rattle.nf_turn.specs.Turns.{total, Line, AreJoined, IsKnown, InOrder, IsInTurn}
 use Rattle.nf_turn.specs.Steps.{Place, Counts}
 use Rattle.nf_turn.specs.Views.{memory_in}
 use Rattle.nf_turn.proofs.Numbers.{put, put_at, put_else, put_small, total_put, total_le, total_zero}
-use Rattle.nf_turn.proofs.Agreed.{is_told}
+use Rattle.nf_turn.proofs.Agreed.{has_heard}
 use Rattle.nf_turn.proofs.Staying.{reads}
 
 module _ {E O W : Type 0} (book : Meanings E O W) (seats : ℕ) (origin : W) where
@@ -34,12 +34,12 @@ module _ {E O W : Type 0} (book : Meanings E O W) (seats : ℕ) (origin : W) whe
   counts : (slots id : ℕ) (k : Memory W) → Allows (IsInTurn book seats origin) slots id (Idle k, []) 0 (λ x. x) (Counts book (step slots 0 0 0 none) (Idle k, []))
   counts slots id k s rule _ at _ =
       let h = (rule.views id (Idle k) at).0 in
-      let known : AreSound (numbers_of k) × IsTold book k = (is_sound rule.line id k rule.order h, is_told book seats origin rule.line id k rule.fresh rule.order h) in (
+      let known : AreSound (numbers_of k) × HasHeard book k = (is_sound rule.line id k rule.order h, has_heard book seats origin rule.line id k rule.fresh rule.order h) in (
         Idle k,
         keeps,
         tt,
         reads book seats origin s rule 0 id (Idle k) at,
-        (refl, λ k' is. subst (λ (z : Memory W). AreSound (numbers_of z) × IsTold book z) (ap (λ (m : Place W). memory_in origin m) is) known),
+        (refl, λ k' is. subst (λ (z : Memory W). AreSound (numbers_of z) × HasHeard book z) (ap (λ (m : Place W). memory_in origin m) is) known),
       )
 
   -- an idle seat may be counted

@@ -80,7 +80,7 @@ pub record Agrees {E O W : Type 0} (book : Meanings E O W) (k : Memory W) (value
   pub sole : k.left + 1 ≡ k.seats → (k.known ≡ value) × (k.last ≡ value)
 
 -- what the holder of a seat knows without a value
-pub record IsTold {E O W : Type 0} (book : Meanings E O W) (k : Memory W) : Type 0 where
+pub record HasHeard {E O W : Type 0} (book : Meanings E O W) (k : Memory W) : Type 0 where
   pub fresh : IsFresh book k.first
   pub opening : book.opening k.known ≡ opening book k
   -- what the seat knows of begins with what it passed on last, and with what was known before others were joined into it

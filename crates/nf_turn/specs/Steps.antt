@@ -6,7 +6,7 @@ use Rattle.nf_turn.specs.declared.view.View.{View}
 use Rattle.nf_turn.specs.declared.view.View.TheVariants.{Spent, Idle, Waiting, Holding}
 use Rattle.nf_turn.specs.Book.{Meanings}
 use Rattle.nf_turn.specs.Memory.{having_passed, having_split, split_from, having_joined}
-use Rattle.nf_turn.specs.Agreeing.{Agrees, IsTold}
+use Rattle.nf_turn.specs.Agreeing.{Agrees, HasHeard}
 use Rattle.nf_turn.specs.Numbers.{numbers_of, AreSound}
 
 abbrev pub Place : Type 0 → Type 0
@@ -39,4 +39,4 @@ module _ {E O W : Type 0} (book : Meanings E O W) where
 
   -- what the rule says of an idle seat
   abbrev pub Counts : Step (Option W) → Place W → ℕ → Place W → Type 0
-  Counts step old found new = (new ≡ old) × ((k : Memory W) → old ≡ (Idle k, []) → AreSound (numbers_of k) × IsTold book k)
+  Counts step old found new = (new ≡ old) × ((k : Memory W) → old ≡ (Idle k, []) → AreSound (numbers_of k) × HasHeard book k)

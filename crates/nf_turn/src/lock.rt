@@ -23,7 +23,7 @@ impl<W: Book> TurnLock<W> {
     ghost use Rattle.nf_turn.specs.Book.{IsFresh, AddsAlone};
     ghost use Rattle.nf_turn.specs.Memory.{of_the_first, having_passed, having_split, split_from, having_joined, longer};
     ghost use Rattle.nf_turn.specs.Numbers.{IsWhole};
-    ghost use Rattle.nf_turn.specs.Agreeing.{Agrees, IsTold};
+    ghost use Rattle.nf_turn.specs.Agreeing.{Agrees, HasHeard};
     ghost use Rattle.nf_turn.specs.Seats.{numbers, memory, taken, IsIdle, HasTurn, IsSeatOf};
 
     /// A lock with this many seats, from 1 to 64. The value comes back for want of memory.
@@ -114,7 +114,7 @@ impl<W: Book> TurnLock<W> {
         ensures unchanged { IfNone result (seat.new ≡ seat.old) }
         ensures new { IfSome result (λ new. IsSeatOf self.now new × IsIdle self.now new × (memory self.now new ≡ split_from (memory self.now seat.old))) }
         ensures kept { IfSome result (λ _. memory self.now seat.new ≡ having_split (memory self.now seat.old)) }
-        ensures told { IfSome result (λ new. IsTold W.book (memory self.now new)) }
+        ensures told { IfSome result (λ new. HasHeard W.book (memory self.now new)) }
     {
         if seat.left == 0 {
             return None;
@@ -128,7 +128,7 @@ impl<W: Book> TurnLock<W> {
         requires left { 0 < (numbers seat.old).left }
         ensures own { IsSeatOf self.now seat.new × IsIdle self.now seat.new × (memory self.now seat.new ≡ having_split (memory self.now seat.old)) }
         ensures new { IsSeatOf self.now result × IsIdle self.now result × (memory self.now result ≡ split_from (memory self.now seat.old)) }
-        ensures told { IsTold W.book (memory self.now result) }
+        ensures told { HasHeard W.book (memory self.now result) }
     {
         let shared = &self.table.shared;
         let mut place = shared.split_seat::<SplitOff>(&mut seat.place);
@@ -152,7 +152,7 @@ impl<W: Book> TurnLock<W> {
         requires idle { IsIdle self.now seat.old × IsIdle self.now other }
         ensures own { IsSeatOf self.now seat.new × IsIdle self.now seat.new }
         ensures memory { memory self.now seat.new ≡ having_joined (longer W.book) (memory self.now seat.old) (memory self.now other) }
-        ensures told { IsTold W.book (memory self.now seat.new) }
+        ensures told { HasHeard W.book (memory self.now seat.new) }
     {
         let Seat {
             place,

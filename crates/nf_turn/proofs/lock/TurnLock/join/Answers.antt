@@ -1,6 +1,6 @@
 use Rattle.std.proofs.Common.{rules, ◌≡◌, ◌+◌, ◌==◌, if◌then◌else◌, length, sym, ap, ◌∙◌, subst, arith}
 use Rattle.nf_turn.specs.declared.view.Memory.{Memory}
-use Rattle.nf_turn.specs.Agreeing.{IsTold}
+use Rattle.nf_turn.specs.Agreeing.{HasHeard}
 use Rattle.nf_turn.specs.Memory.{having_joined, longer}
 use Rattle.nf_turn.specs.Numbers.{Numbers, numbers_of, AreSound}
 use Rattle.nf_turn.specs.Seats.{memory}
@@ -83,4 +83,4 @@ returns-clause-told g c =
     let mine = c.args.seat.now in let other = c.args.other in let k = memory c.args.self.now mine in let q = memory c.args.self.now other in let picks = longer g.W.Book.book in
     let known = both_known picks mine.place.me other.place.me c.join_seat.new.seat.me k q c.requires.idle.0 c.requires.idle.1 c.join_seat.ensures.2 in
     let now = ap (λ (m : Place g.row.W.Denot). memory_in c.args.self.now.table.shared.key.first.value m) (c.load-seat.ensures.2.0 ∙ known) in
-    subst (λ (m : Memory g.row.W.Denot). IsTold g.W.Book.book m) (sym now) (c.load-seat.ensures.2.1 (having_joined picks k q) known).1
+    subst (λ (m : Memory g.row.W.Denot). HasHeard g.W.Book.book m) (sym now) (c.load-seat.ensures.2.1 (having_joined picks k q) known).1

@@ -1,7 +1,7 @@
 use Rattle.std.proofs.Common.{rules, ◌≡◌, ◌+◌, ◌-◌, ◌<◌, [], length, sym, ap, ◌∙◌, subst, arith}
 use Rattle.std.proofs.Math.Logic.{∥∥₁_map}
 use Rattle.nf_turn.specs.declared.view.Memory.{Memory}
-use Rattle.nf_turn.specs.Agreeing.{IsTold}
+use Rattle.nf_turn.specs.Agreeing.{HasHeard}
 use Rattle.nf_turn.specs.Memory.{having_split, split_from}
 use Rattle.nf_turn.specs.Numbers.{Numbers, numbers_of, AreSound}
 use Rattle.nf_turn.specs.Seats.{memory}
@@ -65,4 +65,4 @@ returns-clause-told g c =
     let k = memory c.args.self.now c.args.seat.now in
     let new = c.split_seat-place.ensures.4 ∙ ap (λ m. (split_off m.0, [])) c.requires.idle in
     let now = ap (λ (m : Place g.row.W.Denot). memory_in c.args.self.now.table.shared.key.first.value m) (c.load.ensures.2.0 ∙ new) in
-    subst (λ (m : Memory g.row.W.Denot). IsTold g.W.Book.book m) (sym now) (c.load.ensures.2.1 (split_from k) new).1
+    subst (λ (m : Memory g.row.W.Denot). HasHeard g.W.Book.book m) (sym now) (c.load.ensures.2.1 (split_from k) new).1
