@@ -4,9 +4,13 @@ use Rattle.std.specs.declared.snapshot.Snapshot.{Snapshot}
 use Rattle.nf_base.specs.declared.rows.Row.{Row}
 use Rattle.nf_defs.specs.Blobs.{Blobs}
 use Rattle.nf_desk.specs.Desk.{Served, blobs_in, book_at, entries_by, failed_marks, meanings, most_seats, risen, shown, strikes_of}
+use Rattle.nf_desk.specs.Opened.{Opens}
+use Rattle.nf_desk.specs.declared.first.Opening.{Opening}
 use Rattle.nf_keeper.specs.declared.keeper.Keeper.{Ghosts as KeeperOf}
+use Rattle.nf_rules.specs.Rules.{AreUnbroken}
 use Rattle.nf_session.specs.Book.{Book, IsBook, held}
 use Rattle.nf_turn.specs.Agreeing.{HasHeard}
+use Rattle.nf_turn.specs.Memory.{of_the_first}
 use Rattle.nf_turn.specs.Seats.{IsIdle, IsSeatOf, memory, numbers}
 use Rattle.nf_turn.specs.declared.view.Memory.{Memory}
 use Rattle.nf_words.specs.declared.history.Entry.{Entry}
@@ -53,3 +57,14 @@ pub record IsSeat {K : Type 0} (k : KeeperOf K) (hub : HubOf (Served K) Entry (L
   pub book_is : IsBook (book k hub seat)
   pub flag : seat.is_idle ≡ is_none (held (book k hub seat))
   pub joined : AllWereIdle k (memory_of k hub seat).joined
+
+-- ---- the start
+
+-- what the first seat knows of a hub that was started over what a keeper had
+pub record Starts {K : Type 0} (k : KeeperOf K) (opening : Opening) (keeper : K) (seats : ℕ) (m : Memory (Served K)) : Type 0 where
+  pub desk : Served K
+  pub memory_is : m ≡ of_the_first seats desk
+  pub opens : Opens opening (k.told keeper) (k.told desk.keeper) desk.site.kept
+  pub unbroken : AreUnbroken desk.site.kept.opening
+  pub faults : k.faults desk.keeper ≡ k.faults keeper
+  pub start : desk.start.value ≡ desk.keeper
