@@ -8,9 +8,9 @@ use Rattle.nf_laws.specs.Wholes.{IsWhole}
 use Rattle.nf_base.specs.declared.rows.Row.{Row}
 use Rattle.nf_session.specs.Book.{Book, TellsStill, own_from}
 use Rattle.nf_site.specs.Held.{Held}
-use Rattle.nf_site.specs.Kept.{Kept}
+use Rattle.nf_site.specs.Kept.{IsHistory, Kept}
 use Rattle.nf_told.specs.Told.{AreFit, Told, told_of}
-use Rattle.nf_turn.specs.Book.{Meanings, Shelf}
+use Rattle.nf_turn.specs.Book.{AddsAlone, Meanings, Shelf}
 use Rattle.nf_words.specs.History.{replay}
 use Rattle.nf_words.specs.State.{opened}
 use Rattle.nf_words.specs.declared.history.Entry.{Entry}
@@ -161,3 +161,9 @@ meanings k = record {
   opening = λ desk. (desk.site.kept.opening, desk.start);
   shelf = λ desk. option_map (shelf_of desk.site.kept) (k.told desk.keeper);
 }
+
+-- only the seat with the number n did something, and the history before and after is legal
+pub record TakesTurn {K : Type 0} (k : KeeperOf K) (n : ℕ) (old new : Served K) : Type 0 where
+  pub alone : AddsAlone (meanings k) n old new
+  pub before : IsHistory old.site.kept
+  pub after : IsHistory new.site.kept

@@ -2,7 +2,7 @@
 
 ghost use Rattle.std.specs.Prelude.{◌≡◌, ◌<◌, ◌≤◌, [], length, IfErr, IfOk, IfSome, None, Some};
 ghost use Rattle.sha2.specs.Sha256.{sha256};
-ghost use Rattle.nf_desk.specs.Desk.{IsDesk, book_at, meanings, most_seats, shown};
+ghost use Rattle.nf_desk.specs.Desk.{IsDesk, TakesTurn, book_at, meanings, most_seats, shown};
 ghost use Rattle.nf_desk.specs.Opened.{CountsFault, IsFault, MayBegin, Opens};
 ghost use Rattle.nf_desk.specs.Pieces.{Reads};
 ghost use Rattle.nf_desk.specs.Stepping.{HeldMayEnd, IsEmpty};
@@ -11,7 +11,7 @@ ghost use Rattle.nf_rules.specs.Rules.{AreUnbroken};
 ghost use Rattle.nf_session.specs.Book.{Begins, EndsBody, EndsEmpty, held};
 ghost use Rattle.nf_site.specs.Kept.{IsHistory};
 ghost use Rattle.nf_told.specs.Told.{AreFit};
-ghost use Rattle.nf_turn.specs.Book.{AddsAlone, IsFresh};
+ghost use Rattle.nf_turn.specs.Book.{IsFresh};
 ghost use Rattle.nf_words.specs.History.{MayWant};
 ghost use Rattle.nf_words.specs.Sound.{IsSound};
 ghost use Rattle.nf_words.specs.declared.answer.Goal.TheVariants.{Serve};
@@ -100,7 +100,7 @@ impl<K: Keeper + Drop> Desk<K> {
         requires idle { held (book_at seat (shown K.Keeper self.old)) ≡ None }
         requires wants { MayWant request }
         ensures begins { Begins (book_at seat (shown K.Keeper self.old)) (book_at seat (shown K.Keeper self.new)) now words request result }
-        ensures alone { AddsAlone (meanings K.Keeper) seat self.old self.new }
+        ensures turn { TakesTurn K.Keeper seat self.old self.new }
     {
         let _ = self.site.history();
         begin(
@@ -125,7 +125,7 @@ impl<K: Keeper + Drop> Desk<K> {
         requires granted { held (book_at seat (shown K.Keeper self.old)) ≡ Some (Serve content.now) }
         requires index { index < length content.now }
         ensures reads { Reads seat (shown K.Keeper self.old) (shown K.Keeper self.new) content.now index result }
-        ensures alone { AddsAlone (meanings K.Keeper) seat self.old self.new }
+        ensures turn { TakesTurn K.Keeper seat self.old self.new }
     {
         let _ = self.site.history();
         let result = self.keeper.blob(piece_at(content, index).blob);
@@ -141,7 +141,7 @@ impl<K: Keeper + Drop> Desk<K> {
         requires empty { IsEmpty outcome }
         requires granted { HeldMayEnd (held (book_at seat (shown K.Keeper self.old))) outcome }
         ensures ends { EndsEmpty (book_at seat (shown K.Keeper self.old)) (book_at seat (shown K.Keeper self.new)) now outcome result }
-        ensures alone { AddsAlone (meanings K.Keeper) seat self.old self.new }
+        ensures turn { TakesTurn K.Keeper seat self.old self.new }
     {
         let _ = self.site.history();
         finish(self.alloc, &mut self.site, seat, now, outcome)
@@ -152,7 +152,7 @@ impl<K: Keeper + Drop> Desk<K> {
         requires digest { digest ≡ sha256 body.now }
         requires granted { HeldMayEnd (held (book_at seat (shown K.Keeper self.old))) (Body digest (length body.now)) }
         ensures ends { EndsBody (book_at seat (shown K.Keeper self.old)) (book_at seat (shown K.Keeper self.new)) now body.now result }
-        ensures alone { AddsAlone (meanings K.Keeper) seat self.old self.new }
+        ensures turn { TakesTurn K.Keeper seat self.old self.new }
     {
         let _ = self.site.history();
         store(
