@@ -36,6 +36,7 @@ IsBad raws (rows.Unread index why) = IsUnread raws index why
 IsBad raws (rows.Broken index rule) =
     (all : List Row) × AreSpelled raws all × (first_broken rules all ≡ Some (record { rule = rule; index = index }))
 IsBad raws rows.Found = raws ≢ []
+IsBad raws rows.Missing = ⊥
 
 -- the status of an opening that failed
 abbrev pub status_of_fault : OpenFault → Status
@@ -44,6 +45,7 @@ status_of_fault (fault.Unread index why) = exit.BadRows (rows.Unread index why)
 status_of_fault (fault.Broken broken) = exit.BadRows (rows.Broken broken.index broken.rule)
 status_of_fault fault.Memory = exit.Memory
 status_of_fault fault.Found = exit.BadRows rows.Found
+status_of_fault fault.Missing = exit.BadRows rows.Missing
 
 -- the keeper failed; or there was no memory; or what it has is bad
 abbrev pub WhyUnopened : Option Told → ℕ → ℕ → Status → Type 0

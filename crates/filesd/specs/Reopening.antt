@@ -2,12 +2,13 @@
 use Rattle.std.specs.Prelude.{◌≡◌, ◌⊎◌, ℕ, ◌+◌, ◌-◌, ◌^◌, ◌≤◌, [], Option, None}
 use Rattle.std.specs.Option.{IfSome}
 use Rattle.nf_defs.specs.Tables.{Tables, rows_of, tables_of}
-use Rattle.nf_desk.specs.Desk.{AreOwn, TellsSite, book_of}
+use Rattle.nf_desk.specs.Desk.{TellsSite}
 use Rattle.nf_rules.specs.Rules.{AreUnbroken}
 use Rattle.nf_session.specs.Laws.{failed_entries}
 use Rattle.nf_site.specs.Kept.{IsHistory, Kept}
 use Rattle.nf_told.specs.Told.{AreFit, Told}
 use Rattle.nf_words.specs.Sound.{IsSound}
+use Rattle.filesd.specs.Seat.{AreOwn, book_of}
 
 -- the rows of the tables, as they are spelled, can be read again, break no rule, and make the same tables
 pub record OpensAgain (t : Tables) : Type 0 where

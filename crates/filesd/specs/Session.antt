@@ -1,7 +1,7 @@
 -- A run of `batch`: one session over the rows that the keeper has, from the ends that it is given.
 use Rattle.std.specs.Prelude.{◌≡◌, ℕ, ◌≤◌, List, [], length, Option, None, Some}
 use Rattle.nf_base.specs.declared.rows.Row.{Row}
-use Rattle.nf_desk.specs.Desk.{book_of}
+use Rattle.nf_desk.specs.Desk.{Shown}
 use Rattle.nf_desk.specs.Opening.{IsLoaded, OpensTo}
 use Rattle.nf_http.specs.Told.{stream}
 use Rattle.nf_rows.specs.Spelling.{Raw}
@@ -17,6 +17,7 @@ use Rattle.nf_site.specs.Kept.{opened_over}
 use Rattle.nf_told.specs.Told.{Told}
 use Rattle.filesd.specs.Opening.{IsUnopened, told_opened}
 use Rattle.filesd.specs.Outside.{Outside}
+use Rattle.filesd.specs.Seat.{book_of}
 use Rattle.filesd.specs.declared.status.Status.{Status}
 use Rattle.filesd.specs.declared.status.Status.TheVariants as exit
 
@@ -70,3 +71,10 @@ Runs reads a b status (Some site) = Serves reads a b status site
 -- nothing was done: no site, nothing taken, written or read, and the keeper wasn't asked
 abbrev pub DoesNothing : {C : Type 0} → Outside C → Outside C → Option Held → Type 0
 DoesNothing a b site = (site ≡ None) × (b ≡ a)
+
+-- a session over a desk that was just opened, through the one seat of a run
+abbrev pub ServesDesk : {C : Type 0} → (C → ℕ → C → Type 0) → Shown → Outside C → Outside C → Status → Option Held → Type 0
+ServesDesk reads desk a b status None = ⊥
+ServesDesk reads desk a b status (Some site) =
+    (end : Option Ended) × (kept : List ℕ) × (status ≡ status_of end) × (length kept ≤ 8192)
+    × Session reads (scene_of a [] (book_of desk.site desk.told desk.faults)) (scene_of b kept (book_of site.kept b.told b.faults)) end

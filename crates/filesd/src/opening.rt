@@ -37,6 +37,7 @@ pub(crate) fn status_of(fault: OpenFault) -> Status
             rule: broken.rule,
         }),
         OpenFault::Found => Status::BadRows(RowsFault::Found),
+        OpenFault::Missing => Status::BadRows(RowsFault::Missing),
         OpenFault::Memory => Status::Memory,
     }
 }

@@ -1,20 +1,20 @@
 //! The top call.
 
-ghost use Rattle.std.specs.Prelude.{◌≡◌, ◌≢◌, ◌≤◌, ◌⊎◌, ℕ, List, map, IfSome, None, Some};
+ghost use Rattle.std.specs.Prelude.{◌≡◌, ◌≢◌, ◌≤◌, ◌⊎◌, ℕ, List, map, [], IfSome, None, Some};
 ghost use Rattle.std.specs.String.{string_bytes};
 ghost use Rattle.nf_base.specs.Naming.{IsName};
 ghost use Rattle.nf_command.specs.Command.{IsBatch, IsCommand, IsInit};
 ghost use Rattle.nf_command.specs.First.{first_rows, init_rows};
 ghost use Rattle.nf_command.specs.Reading.{IsNearlyInit};
-ghost use Rattle.nf_desk.specs.Desk.{book_of};
+ghost use Rattle.nf_desk.specs.Desk.{meanings, shown};
 ghost use Rattle.nf_outside.specs.Causes.{Rose};
 ghost use Rattle.nf_rules.specs.Rules.{most_quota};
-ghost use Rattle.nf_session.specs.Book.{held};
+ghost use Rattle.nf_turn.specs.Book.{IsFresh};
 ghost use Rattle.filesd.specs.Init.{Inits, IsSomeDigest};
 ghost use Rattle.filesd.specs.OneFile.{ServesOneFile};
 ghost use Rattle.filesd.specs.Outside.{outlet, outside};
 ghost use Rattle.filesd.specs.Reopening.{Leaves, Pays};
-ghost use Rattle.filesd.specs.Session.{DoesNothing, Runs};
+ghost use Rattle.filesd.specs.Session.{DoesNothing, Runs, ServesDesk};
 ghost use Rattle.filesd.specs.declared.status.Status.TheVariants as exit;
 
 use crate::opening::{demonstration, status_of as status_of_fault};
@@ -22,12 +22,17 @@ use crate::status::{Status, status_of};
 use nf_command::{Command, Init, command_of, init_rows};
 use nf_desk::{Desk, First, Opening, Unopened};
 use nf_http::send;
+use nf_hub::Hub;
 use nf_keeper::Keeper;
 use nf_outside::{Clock, Sink, Source};
 use nf_routes::Routes;
-use nf_session::serve_session;
+use nf_server::{Served, serve_ends};
 use nf_site::Site;
 use std::alloc::Global;
+use std::sync::Wait;
+
+/// How many seats a run has.
+const SEATS: usize = 64;
 
 /// What is left of a run: how it ended, the keeper, and the site, if one was opened.
 #[derive(Drop)]
@@ -41,7 +46,8 @@ pub struct Finished<K: Drop> {
 /// the demonstration rows, which it stores first where the keeper has none. `init` stores the rows of one administrator.
 ///
 /// The site after the run is handed out with its history, but where none was opened.
-pub fn run<S: Source, O: Sink, K: Keeper + Drop, C: Clock>(
+pub fn run<R: Wait, S: Source, O: Sink, K: Keeper + Drop, C: Clock>(
+    rt: &R,
     alloc: Global,
     words: &[String],
     input: &mut S,
@@ -78,7 +84,7 @@ pub fn run<S: Source, O: Sink, K: Keeper + Drop, C: Clock>(
     ensures store { result.status ≡ exit.StoreFault → Rose (K.faults keeper) (K.faults result.keeper) }
 {
     match command_of(alloc, words) {
-        Ok(Some(Command::Batch)) => batch(alloc, input, output, keeper, clock),
+        Ok(Some(Command::Batch)) => batch(rt, alloc, input, output, keeper, clock),
         Ok(Some(Command::Init(init))) => initialize(alloc, &init, output, keeper),
         Ok(None) => unopened(Status::Words, keeper),
         Err(_) => unopened(Status::Memory, keeper),
@@ -86,7 +92,8 @@ pub fn run<S: Source, O: Sink, K: Keeper + Drop, C: Clock>(
 }
 
 /// One session over what the keeper has.
-fn batch<S: Source, O: Sink, K: Keeper + Drop, C: Clock>(
+fn batch<R: Wait, S: Source, O: Sink, K: Keeper + Drop, C: Clock>(
+    rt: &R,
     alloc: Global,
     input: &mut S,
     output: &mut O,
@@ -109,11 +116,41 @@ fn batch<S: Source, O: Sink, K: Keeper + Drop, C: Clock>(
         Err(_) => return unopened(Status::Memory, keeper),
     };
     match Desk::open(alloc, keeper, Opening::Either(first)) {
-        Ok(mut desk) => {
-            let end = serve_session(alloc, &routes, input, output, clock, &mut desk);
-            handed_out(status_of(end), desk)
-        }
+        Ok(desk) => serve_desk(rt, alloc, &routes, input, output, desk, clock),
         Err(Unopened { fault, keeper }) => unopened(status_of_fault(fault), keeper),
+    }
+}
+
+/// One session over a desk that was just opened, through the first seat of its hub.
+fn serve_desk<R: Wait, S: Source, O: Sink, K: Keeper + Drop, C: Clock>(
+    rt: &R,
+    alloc: Global,
+    routes: &Routes,
+    input: &mut S,
+    output: &mut O,
+    desk: Desk<K>,
+    clock: &mut C,
+) -> Finished<K>
+    requires fresh { IsFresh (meanings K.Keeper) desk }
+    requires history { desk.site.kept.history ≡ [] }
+    requires start { desk.start.value ≡ desk.keeper }
+    ensures session { ServesDesk C.reads (shown K.Keeper desk)
+        (outside S.Ends O.Ends K.Keeper input.old output.old desk.keeper clock.old)
+        (outside S.Ends O.Ends K.Keeper input.new output.new result.keeper clock.new) result.status result.site }
+    ensures leaves { IfSome result.site (λ site. Leaves site.kept (K.told result.keeper)) }
+{
+    match Hub::over(alloc, desk, SEATS) {
+        Ok((hub, seat)) => {
+            let Served { ended, seat } =
+                serve_ends(rt, alloc, routes, &hub, seat, input, output, clock);
+            let (site, keeper) = hub.close(seat);
+            Finished {
+                status: status_of(ended),
+                keeper,
+                site: Some(site),
+            }
+        }
+        Err(desk) => handed_out(Status::Memory, desk),
     }
 }
 
@@ -145,8 +182,9 @@ fn initialize<O: Sink, K: Keeper + Drop>(
     }
 }
 
+/// A desk at which no seat did anything.
 fn handed_out<K: Keeper + Drop>(status: Status, desk: Desk<K>) -> Finished<K>
-    requires idle { held (book_of desk.site.kept (K.told desk.keeper) (K.faults desk.keeper)) ≡ None }
+    requires history { desk.site.kept.history ≡ [] }
     ensures status { result.status ≡ status }
     ensures keeper { result.keeper ≡ desk.keeper }
     ensures site { result.site ≡ Some desk.site }

@@ -16,6 +16,8 @@ pub enum RowsFault {
     Broken { index: usize, rule: u8 },
     /// There are rows where there should be none.
     Found,
+    /// There are none where there should be some.
+    Missing,
 }
 
 /// How a run ended.

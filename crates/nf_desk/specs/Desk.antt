@@ -106,17 +106,6 @@ book_at n a = record {
   told = blobs_in a.told;
 }
 
--- what the one seat of a run knows: the whole history, whose entries are all its own, and how often the keeper failed
-abbrev pub book_of : Kept → Option Told → ℕ → Book
-book_of k told faults = record {
-  opening = k.opening;
-  seat = 1;
-  known = k.history;
-  own = own_from 1 (opened k.opening) k.history;
-  strikes = faults;
-  told = blobs_in told;
-}
-
 -- ---- what a desk keeps
 
 -- what is told are the site's rows, as they are spelled, and blobs that are whole for it

@@ -48,7 +48,7 @@ pub trait Backend {
     /// What it was lent, which no call changes.
     type Lent;
 
-    ghost lent: { Self → Lent };
+    ghost lent: { Self → Self.Lent };
 
     /// What the seat knows.
     ghost book: { Self → Book };

@@ -1,0 +1,17 @@
+-- What a session through a seat touches.
+use Rattle.std.specs.Prelude.{ℕ, List}
+use Rattle.nf_http.specs.Told.{stream}
+use Rattle.nf_outside.specs.declared.traits.Ends.{Ghosts as EndsOf}
+use Rattle.nf_session.specs.Book.{Book}
+use Rattle.nf_session.specs.Steps.{Scene}
+
+-- two ends and a clock, where these bytes were read and not yet taken, and the seat knows that
+abbrev pub scene_at : {S O C : Type 0} → EndsOf S → EndsOf O → Book → List ℕ → S → O → C → Scene C
+scene_at s o book kept input output clock = record {
+  input = stream kept (s.left input);
+  output = o.written output;
+  book = book;
+  clock = clock;
+  read_faults = s.read_faults input;
+  write_faults = o.write_faults output;
+}
