@@ -6,6 +6,7 @@ mod folder;
 mod judging;
 mod reading;
 mod running;
+mod seats;
 mod showing;
 mod tally;
 mod texts;
@@ -73,8 +74,8 @@ fn check_case(
     };
     let mut keepers = Keepers::new(rt.alloc(), &case.failing)?;
     for (index, run) in case.runs.iter().enumerate() {
-        let served = serve(rt.alloc(), run, keepers)?;
-        let line = judge(rt.alloc(), run, &served.whole, &served.cut)?;
+        let served = serve(rt, rt.alloc(), run, keepers)?;
+        let line = judge(rt.alloc(), run, &served.whole, &served.cut, &served.seats)?;
         judged.push(Judged::of(&line))?;
         if let Some(line) = line {
             println!(rt; "{name}: run {}, {line}", index + 1)?;

@@ -1,11 +1,13 @@
 //! A run of a case, with all that it depends on in memory.
 
 use crate::case::{Damage, Run};
+use crate::seats::serve_by_seats;
 use filesd::{Finished, run};
 use nf_base::BlobId;
 use nf_keeper::MemKeeper;
 use nf_outside::{ListClock, MemSink, MemSource};
 use std::alloc::{AllocError, Global};
+use std::sync::Wait;
 
 /// What a run gave.
 #[derive(Drop)]
@@ -15,11 +17,13 @@ pub struct Outcome {
     pub status: u8,
 }
 
-/// What a case's next run is over: what the runs before it left, where all input was read whole, and where it was read byte by byte.
+/// What a case's next run is over: what the runs before it left, where all input was read whole, where it was read byte by byte, and
+/// where two seats took turns.
 #[derive(Drop)]
 pub struct Keepers {
     whole: MemKeeper,
     cut: MemKeeper,
+    seats: MemKeeper,
 }
 
 impl Keepers {
@@ -28,34 +32,60 @@ impl Keepers {
         Ok(Keepers {
             whole: MemKeeper::new(alloc, failing)?,
             cut: MemKeeper::new(alloc, failing)?,
+            seats: MemKeeper::new(alloc, failing)?,
         })
     }
 }
 
-/// What a run gave, with its input and its output whole and cut into single bytes, and what it left.
+/// What a run gave, with its input and its output whole and cut into single bytes; what two seats wrote in its place; and what it left.
 #[derive(Drop)]
 pub struct Served {
     pub whole: Outcome,
     pub cut: Outcome,
+    pub seats: Vec<u8>,
     pub keepers: Keepers,
 }
 
-/// Runs it twice, with its input and its output whole and cut into single bytes: the answer may not depend on the cutting.
-pub fn serve(alloc: Global, run: &Run, keepers: Keepers) -> Result<Served, AllocError> {
-    let Keepers { whole, cut } = keepers;
-    let (whole, whole_left) = serve_in_pieces(alloc, run, whole, Vec::new(alloc))?;
-    let (cut, cut_left) = serve_in_pieces(alloc, run, cut, vec![in alloc; 1]?)?;
+/// Runs it with its input and its output whole, cut into single bytes, and by two seats: the answers may not depend on that.
+pub fn serve<R: Wait>(
+    rt: &R,
+    alloc: Global,
+    run: &Run,
+    keepers: Keepers,
+) -> Result<Served, AllocError> {
+    let Keepers { whole, cut, seats } = keepers;
+    let (whole, whole_left) = serve_in_pieces(rt, alloc, run, whole, Vec::new(alloc))?;
+    let (cut, cut_left) = serve_in_pieces(rt, alloc, run, cut, vec![in alloc; 1]?)?;
+    let (seats, seats_left) = serve_in_turn(rt, alloc, run, seats)?;
     Ok(Served {
         whole,
         cut,
+        seats,
         keepers: Keepers {
             whole: whole_left,
             cut: cut_left,
+            seats: seats_left,
         },
     })
 }
 
-fn serve_in_pieces(
+// Two seats serve what a `batch` has to serve; any other words are run as they are.
+fn serve_in_turn<R: Wait>(
+    rt: &R,
+    alloc: Global,
+    case: &Run,
+    mut keeper: MemKeeper,
+) -> Result<(Vec<u8>, MemKeeper), AllocError> {
+    if case.words.len() == 1 && case.words[0].as_str() == "batch" {
+        put_damage(&mut keeper, &case.damage)?;
+        return serve_by_seats(rt, alloc, case, keeper);
+    }
+    let (outcome, keeper) = serve_in_pieces(rt, alloc, case, keeper, Vec::new(alloc))?;
+    Ok((outcome.output, keeper))
+}
+
+fn serve_in_pieces<R: Wait>(
+    rt: &R,
     alloc: Global,
     case: &Run,
     mut keeper: MemKeeper,
@@ -71,6 +101,7 @@ fn serve_in_pieces(
         keeper,
         site: _site,
     } = run(
+        rt,
         alloc,
         &case.words,
         &mut input,

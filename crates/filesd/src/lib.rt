@@ -8,5 +8,6 @@ mod status;
 #[cfg(test)]
 mod tests;
 
+pub use opening::demonstration;
 pub use running::{Finished, run};
 pub use status::{RowsFault, Status};

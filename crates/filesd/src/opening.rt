@@ -12,7 +12,7 @@ use nf_site::demo_rows;
 use std::alloc::{AllocError, Global};
 
 /// The demonstration rows, and the bytes of their one file.
-pub(crate) fn demonstration(alloc: Global) -> Result<First, AllocError>
+pub fn demonstration(alloc: Global) -> Result<First, AllocError>
     ensures rows { IfOk result (λ first. first.rows ≡ demo_rows) }
     ensures blob { IfOk result (λ first. first_blob first ≡ demo_blob) }
 {

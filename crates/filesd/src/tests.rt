@@ -42,7 +42,7 @@ fn batch(
     let mut input = input;
     let mut output = MemSink::new(alloc, Vec::new(alloc));
     let mut clock = ListClock::new(Vec::new(alloc));
-    let finished = run(alloc, &words, &mut input, &mut output, keeper, &mut clock);
+    let finished = run(&rt, alloc, &words, &mut input, &mut output, keeper, &mut clock);
     Ok((finished, output.bytes().to_vec(alloc)?))
 }
 
@@ -63,7 +63,7 @@ fn other_words_are_no_command(rt: HostRuntime) -> Result<(), Fail> {
         let mut output = MemSink::new(alloc, Vec::new(alloc));
         let mut clock = ListClock::new(Vec::new(alloc));
         let keeper = MemKeeper::new(alloc, &[])?;
-        let finished = run(alloc, &words, &mut input, &mut output, keeper, &mut clock);
+        let finished = run(&rt, alloc, &words, &mut input, &mut output, keeper, &mut clock);
         assert!(rt; finished.status == Status::Words, "at {case:?}");
         assert!(rt; finished.site.is_none());
     }
@@ -91,7 +91,7 @@ fn faults_of_the_outside(rt: HostRuntime) -> Result<(), Fail> {
         let mut clock = ListClock::new(Vec::new(alloc));
         let words = words_of(alloc, &["batch"])?;
         let keeper = MemKeeper::new(alloc, &[])?;
-        let finished = run(alloc, &words, &mut input, &mut output, keeper, &mut clock);
+        let finished = run(&rt, alloc, &words, &mut input, &mut output, keeper, &mut clock);
         assert!(rt; finished.status == status);
         assert_eq!(rt; output.bytes().len(), count);
         assert!(rt; finished.site.is_some());

@@ -69,6 +69,7 @@ fn serve_over<K: Keeper + Drop>(rt: &HostRuntime, keeper: K) -> Finished<K> {
         };
     };
     run(
+        rt,
         rt.alloc(),
         &words,
         &mut Input::new(rt.stdin()),
