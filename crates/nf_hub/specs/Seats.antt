@@ -33,6 +33,10 @@ book_in k m = record (book_at m.number (shown k m.known)) {
 abbrev pub blobs_at_start : {K : Type 0} → KeeperOf K → Memory (Served K) → Option Blobs
 blobs_at_start k m = blobs_in (k.told m.first.start.value)
 
+-- what no call for a request changes
+abbrev pub steady : {K : Type 0} → Memory (Served K) → Memory (Served K)
+steady m = record m { known = m.first; last = m.first; passed = [] }
+
 -- each of these seats held nothing when it was joined
 abbrev pub AllWereIdle : {K : Type 0} → KeeperOf K → List (ℕ × Served K) → Type 0
 AllWereIdle k [] = Unit {0}
@@ -53,6 +57,9 @@ pub record IsSeat {K : Type 0} (k : KeeperOf K) (hub : HubOf (Served K) Entry (L
   pub its : IsSeatOf hub.lock seat.turns
   pub rests : IsIdle hub.lock seat.turns
   pub few : (numbers seat.turns).seats ≤ most_seats
+  -- the first value is as it was opened, and what the seat passed on last is of the same opening
+  pub opened : (memory_of k hub seat).first.start.value ≡ (memory_of k hub seat).first.keeper
+  pub last : (meanings k).opening (memory_of k hub seat).last ≡ (meanings k).opening (memory_of k hub seat).first
   pub told : HasHeard (meanings k) (memory_of k hub seat)
   pub book_is : IsBook (book k hub seat)
   pub flag : seat.is_idle ≡ is_none (held (book k hub seat))

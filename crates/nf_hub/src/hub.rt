@@ -6,7 +6,7 @@ ghost use Rattle.nf_desk.specs.Desk.{meanings, most_seats};
 ghost use Rattle.nf_desk.specs.Opened.{CountsFault, IsFault, MayBegin};
 ghost use Rattle.nf_desk.specs.Stepping.{HeldMayEnd, IsEmpty};
 ghost use Rattle.nf_hub.specs.Calls.{AsksGoal, AsksPiece, GivesGoal, HasPiece, HasTicket, IsBegan, LeavesKeeper, ReadsInTurn, ShelvesBody, ShelvesEnding, answer_of};
-ghost use Rattle.nf_hub.specs.Seats.{IsSeat, Starts, book, memory_of};
+ghost use Rattle.nf_hub.specs.Seats.{IsSeat, Starts, book, memory_of, steady};
 ghost use Rattle.nf_hub.specs.Closing.{Closes};
 ghost use Rattle.nf_session.specs.Book.{Begins, EndsBody, EndsEmpty, Ends, GivesPiece, MayEnd, granted, held};
 ghost use Rattle.nf_turn.specs.Book.{IsFresh};
@@ -46,6 +46,7 @@ impl<K: Keeper + Drop> Hub<K> {
     ) -> Result<(Hub<K>, Seat<K>), Desk<K>>
         requires seats { (0 < seats) × (seats ≤ most_seats) }
         requires fresh { IsFresh (meanings K.Keeper) desk }
+        requires opened { desk.start.value ≡ desk.keeper }
         ensures seat { IfOk result (λ made. IsSeat K.Keeper made.0 made.1) }
         ensures memory { IfOk result (λ made. memory_of K.Keeper made.0 made.1 ≡ of_the_first seats desk) }
         ensures err { IfErr result (λ same. same ≡ desk) }
@@ -100,7 +101,7 @@ impl<K: Keeper + Drop> Hub<K> {
         requires idle { held (book K.Keeper self.now seat.old) ≡ None }
         requires wants { MayWant request }
         ensures seat { IsSeat K.Keeper self.now seat.new }
-        ensures numbers { numbers seat.new.turns ≡ numbers seat.old.turns }
+        ensures steady { steady (memory_of K.Keeper self.now seat.new) ≡ steady (memory_of K.Keeper self.now seat.old) }
         ensures begins { Begins (book K.Keeper self.now seat.old) (book K.Keeper self.now seat.new) now words request (answer_of result) }
         ensures began { IsBegan result }
     {
@@ -123,7 +124,7 @@ impl<K: Keeper + Drop> Hub<K> {
         requires granted { held (book K.Keeper self.now seat.old) ≡ Some ticket.now.goal }
         requires piece { HasPiece ticket.now.goal index }
         ensures seat { IsSeat K.Keeper self.now seat.new }
-        ensures numbers { numbers seat.new.turns ≡ numbers seat.old.turns }
+        ensures steady { steady (memory_of K.Keeper self.now seat.new) ≡ steady (memory_of K.Keeper self.now seat.old) }
         ensures ticket { HasTicket (book K.Keeper self.now seat.new) ticket.now.goal }
         ensures gives { GivesGoal (book K.Keeper self.now seat.old) (book K.Keeper self.now seat.new) ticket.now.goal index result }
         ensures asks { AsksGoal K.Keeper (memory_of K.Keeper self.now seat.old) (memory_of K.Keeper self.now seat.new) ticket.now.goal index result }
@@ -148,7 +149,7 @@ impl<K: Keeper + Drop> Hub<K> {
         requires may { MayEnd (Some ticket.goal) ending }
         ensures seat { IsSeat K.Keeper self.now seat.new }
         ensures idle { held (book K.Keeper self.now seat.new) ≡ None }
-        ensures numbers { numbers seat.new.turns ≡ numbers seat.old.turns }
+        ensures steady { steady (memory_of K.Keeper self.now seat.new) ≡ steady (memory_of K.Keeper self.now seat.old) }
         ensures ends { Ends (book K.Keeper self.now seat.old) (book K.Keeper self.now seat.new) now ending result }
         ensures shelved { ShelvesEnding K.Keeper (memory_of K.Keeper self.now seat.old) (memory_of K.Keeper self.now seat.new) ending result }
     {
@@ -215,7 +216,7 @@ impl<K: Keeper + Drop> Hub<K> {
         requires idle { held (book K.Keeper self.now seat.old) ≡ None }
         requires wants { MayWant request }
         ensures seat { IsSeat K.Keeper self.now seat.new }
-        ensures numbers { numbers seat.new.turns ≡ numbers seat.old.turns }
+        ensures steady { steady (memory_of K.Keeper self.now seat.new) ≡ steady (memory_of K.Keeper self.now seat.old) }
         ensures begins { Begins (book K.Keeper self.now seat.old) (book K.Keeper self.now seat.new) now words request result }
     {
         let number = seat.turns.number();
@@ -238,7 +239,7 @@ impl<K: Keeper + Drop> Hub<K> {
         requires granted { held (book K.Keeper self.now seat.old) ≡ Some (Serve content.now) }
         requires index { index < length content.now }
         ensures seat { IsSeat K.Keeper self.now seat.new }
-        ensures numbers { numbers seat.new.turns ≡ numbers seat.old.turns }
+        ensures steady { steady (memory_of K.Keeper self.now seat.new) ≡ steady (memory_of K.Keeper self.now seat.old) }
         ensures ticket { HasTicket (book K.Keeper self.now seat.new) (Serve content.now) }
         ensures gives { GivesPiece (book K.Keeper self.now seat.old) (book K.Keeper self.now seat.new) content.now index result }
         ensures asks { AsksPiece K.Keeper (memory_of K.Keeper self.now seat.old) (memory_of K.Keeper self.now seat.new) content.now index result }
@@ -258,7 +259,7 @@ impl<K: Keeper + Drop> Hub<K> {
         requires granted { held (book K.Keeper self.now seat.old) ≡ Some (Serve content.now) }
         requires index { index < length content.now }
         ensures seat { IsSeat K.Keeper self.now seat.new }
-        ensures numbers { numbers seat.new.turns ≡ numbers seat.old.turns }
+        ensures steady { steady (memory_of K.Keeper self.now seat.new) ≡ steady (memory_of K.Keeper self.now seat.old) }
         ensures ticket { HasTicket (book K.Keeper self.now seat.new) (Serve content.now) }
         ensures reads { ReadsInTurn K.Keeper (memory_of K.Keeper self.now seat.old) (memory_of K.Keeper self.now seat.new) content.now index result }
     {
@@ -281,7 +282,7 @@ impl<K: Keeper + Drop> Hub<K> {
         requires granted { MayEnd (held (book K.Keeper self.now seat.old)) ending }
         ensures seat { IsSeat K.Keeper self.now seat.new }
         ensures idle { held (book K.Keeper self.now seat.new) ≡ None }
-        ensures numbers { numbers seat.new.turns ≡ numbers seat.old.turns }
+        ensures steady { steady (memory_of K.Keeper self.now seat.new) ≡ steady (memory_of K.Keeper self.now seat.old) }
         ensures ends { Ends (book K.Keeper self.now seat.old) (book K.Keeper self.now seat.new) now ending result }
         ensures shelved { ShelvesEnding K.Keeper (memory_of K.Keeper self.now seat.old) (memory_of K.Keeper self.now seat.new) ending result }
     {
@@ -304,7 +305,7 @@ impl<K: Keeper + Drop> Hub<K> {
         requires granted { HeldMayEnd (held (book K.Keeper self.now seat.old)) outcome }
         ensures seat { IsSeat K.Keeper self.now seat.new }
         ensures idle { held (book K.Keeper self.now seat.new) ≡ None }
-        ensures numbers { numbers seat.new.turns ≡ numbers seat.old.turns }
+        ensures steady { steady (memory_of K.Keeper self.now seat.new) ≡ steady (memory_of K.Keeper self.now seat.old) }
         ensures ends { EndsEmpty (book K.Keeper self.now seat.old) (book K.Keeper self.now seat.new) now outcome result }
     {
         let number = seat.turns.number();
@@ -320,7 +321,7 @@ impl<K: Keeper + Drop> Hub<K> {
         requires granted { HeldMayEnd (held (book K.Keeper self.now seat.old)) (Body (sha256 body.now) (length body.now)) }
         ensures seat { IsSeat K.Keeper self.now seat.new }
         ensures idle { held (book K.Keeper self.now seat.new) ≡ None }
-        ensures numbers { numbers seat.new.turns ≡ numbers seat.old.turns }
+        ensures steady { steady (memory_of K.Keeper self.now seat.new) ≡ steady (memory_of K.Keeper self.now seat.old) }
         ensures ends { EndsBody (book K.Keeper self.now seat.old) (book K.Keeper self.now seat.new) now body.now result }
         ensures shelved { ShelvesBody K.Keeper (memory_of K.Keeper self.now seat.old) (memory_of K.Keeper self.now seat.new) body.now result }
     {

@@ -4,8 +4,8 @@
 
 mod hub;
 mod seat;
-#[cfg(test)]
-mod tests;
+mod visit;
 
 pub use hub::{Hub, HubOf};
 pub use seat::{Began, Seat, SeatOf, Ticket};
+pub use visit::Visit;
