@@ -15,6 +15,7 @@ use judging::judge;
 use reading::case_of;
 use running::{Keepers, serve};
 use std::process::ExitCode;
+use std::sync::Wait;
 use std::{env, fs, io};
 use tally::{Judged, Tally};
 
@@ -25,7 +26,7 @@ const HERE: &str = ".";
 const NO_CASES: u8 = 2;
 
 fn main(rt: HostRuntime) -> ExitCode {
-    match check_all(&rt) {
+    match check_all(&rt, &rt) {
         Ok(tally) => ExitCode::from(tally.code()),
         Err(error) => {
             let _ = eprintln!(rt; "cases: {error}");
@@ -34,12 +35,13 @@ fn main(rt: HostRuntime) -> ExitCode {
     }
 }
 
-fn check_all(rt: &HostRuntime) -> io::Result<Tally> {
+// `turns` is the same runtime, as what may wait for turns.
+fn check_all<W: Wait>(rt: &HostRuntime, turns: &W) -> io::Result<Tally> {
     let folder = folder_named(rt)?;
     let names = folder::names(rt, folder.as_str())?;
     let mut judged = Vec::new(rt.alloc());
     for name in &names {
-        check_case(rt, folder.as_str(), name.as_str(), &mut judged)?;
+        check_case(rt, turns, folder.as_str(), name.as_str(), &mut judged)?;
     }
     let tally = Tally::of(&judged);
     let (passed, differing, not_run) = (tally.passed, tally.differing, tally.not_run);
@@ -58,8 +60,9 @@ fn folder_named(rt: &HostRuntime) -> io::Result<String> {
 }
 
 // Makes the runs of one case, each over what the one before it left, and prints a line for each that differs.
-fn check_case(
+fn check_case<W: Wait>(
     rt: &HostRuntime,
+    turns: &W,
     folder: &str,
     name: &str,
     judged: &mut Vec<Judged>,
@@ -74,7 +77,7 @@ fn check_case(
     };
     let mut keepers = Keepers::new(rt.alloc(), &case.failing)?;
     for (index, run) in case.runs.iter().enumerate() {
-        let served = serve(rt, rt.alloc(), run, keepers)?;
+        let served = serve(turns, rt.alloc(), run, keepers)?;
         let line = judge(rt.alloc(), run, &served.whole, &served.cut, &served.seats)?;
         judged.push(Judged::of(&line))?;
         if let Some(line) = line {

@@ -8,13 +8,14 @@ use nf_outside::{Input, Output, RealClock};
 use sqlite::{Connection, Error, ErrorCode};
 use std::env::{self, VarError};
 use std::process::ExitCode;
+use std::sync::Wait;
 
 #[cfg(test)]
 mod tests;
 
 /// Serves standard input and output by the words, and says on standard error how it ended, if not well.
 fn main(rt: HostRuntime) -> ExitCode {
-    let status = serve(&rt);
+    let status = serve(&rt, &rt);
     if status != Status::Done {
         let word = status.word();
         let _ = eprintln!(rt; "filesd: {word}");
@@ -22,11 +23,11 @@ fn main(rt: HostRuntime) -> ExitCode {
     ExitCode::from(status.code())
 }
 
-/// Over the file that FILESD_STORE names, or else over a keeper in memory.
-fn serve(rt: &HostRuntime) -> Status {
+/// Over the file that FILESD_STORE names, or else over a keeper in memory. `turns` is the same runtime, as what may wait for turns.
+fn serve<W: Wait>(rt: &HostRuntime, turns: &W) -> Status {
     match env::var(rt, "FILESD_STORE") {
-        Ok(path) => serve_file(rt, &path),
-        Err(VarError::NotPresent) => serve_memory(rt),
+        Ok(path) => serve_file(rt, turns, &path),
+        Err(VarError::NotPresent) => serve_memory(rt, turns),
         Err(VarError::NotUnicode) => {
             let _ = eprintln!(rt; "filesd: the path of the store is no text");
             Status::StoreFault
@@ -35,14 +36,14 @@ fn serve(rt: &HostRuntime) -> Status {
     }
 }
 
-fn serve_memory(rt: &HostRuntime) -> Status {
+fn serve_memory<W: Wait>(rt: &HostRuntime, turns: &W) -> Status {
     match MemKeeper::new(rt.alloc(), &[]) {
-        Ok(keeper) => serve_over(rt, keeper).status,
+        Ok(keeper) => serve_over(rt, turns, keeper).status,
         Err(_) => Status::Memory,
     }
 }
 
-fn serve_file(rt: &HostRuntime, path: &str) -> Status {
+fn serve_file<W: Wait>(rt: &HostRuntime, turns: &W, path: &str) -> Status {
     let connection = match Connection::open(rt, path) {
         Ok(connection) => connection,
         Err(Error::SqliteFailure(ErrorCode::OutOfMemory)) => return Status::Memory,
@@ -51,7 +52,7 @@ fn serve_file(rt: &HostRuntime, path: &str) -> Status {
             return Status::StoreFault;
         }
     };
-    let finished = serve_over(rt, SqlKeeper::over(rt.alloc(), connection));
+    let finished = serve_over(rt, turns, SqlKeeper::over(rt.alloc(), connection));
     // Whatever was answered is in the log already, from which the next opening takes it.
     if let Err(error) = finished.keeper.into_connection().close() {
         let _ = eprintln!(rt; "filesd: the store's log can't be copied back: {error}");
@@ -59,7 +60,7 @@ fn serve_file(rt: &HostRuntime, path: &str) -> Status {
     finished.status
 }
 
-fn serve_over<K: Keeper + Drop>(rt: &HostRuntime, keeper: K) -> Finished<K> {
+fn serve_over<W: Wait, K: Keeper + Drop>(rt: &HostRuntime, turns: &W, keeper: K) -> Finished<K> {
     let clock: Result<_, _> = rt.clone();
     let (Ok(words), Ok(clock)) = (words(rt), clock) else {
         return Finished {
@@ -69,7 +70,7 @@ fn serve_over<K: Keeper + Drop>(rt: &HostRuntime, keeper: K) -> Finished<K> {
         };
     };
     run(
-        rt,
+        turns,
         rt.alloc(),
         &words,
         &mut Input::new(rt.stdin()),

@@ -7,7 +7,7 @@ use Rattle.nf_session.specs.declared.session.Connection.{Connection}
 use Rattle.nf_session.specs.Steps.{Scene}
 
 -- what is touched between two ends, a clock and a backend, where these bytes were read and not yet taken
-abbrev pub between : {S O C B : Type 0} → EndsOf S → EndsOf O → BackendOf B
+abbrev pub between : {S O C B L : Type 0} → EndsOf S → EndsOf O → BackendOf B L
     → List ℕ → S → O → C → B → Scene C
 between s o b kept input output clock backend = record {
   input = stream kept (s.left input);
@@ -19,11 +19,11 @@ between s o b kept input output clock backend = record {
 }
 
 -- the scene of a connection
-abbrev pub scene : {S O C B : Type 0} → EndsOf S → EndsOf O → BackendOf B → Connection S O C B → Scene C
+abbrev pub scene : {S O C B L : Type 0} → EndsOf S → EndsOf O → BackendOf B L → Connection S O C B L → Scene C
 scene s o b c = between s o b c.buffer.now c.input.now c.output.now c.clock.now c.backend.now
 
 -- the same buffer, ends, clock and backend are lent, and to that what it was lent
-pub record IsSame {S O C B : Type 0} (k : BackendOf B) (a b : Connection S O C B) : Type 0 where
+pub record IsSame {S O C B L : Type 0} (k : BackendOf B L) (a b : Connection S O C B L) : Type 0 where
   pub buffer : b.buffer.ghost_name ≡ a.buffer.ghost_name
   pub input : b.input.ghost_name ≡ a.input.ghost_name
   pub output : b.output.ghost_name ≡ a.output.ghost_name

@@ -39,7 +39,7 @@ loop-index-init g c =
           first_sent c.args.close c.args.content.now c.args.first.now (scene g.S.Ends g.O.Ends g.B.Backend c.args.self.now) m b c.in-Some.piece
           c.requires c.in-Some.is c.in_ok-send_head.ensures.says
           (subst (λ (z : List ℕ). Wrote m b z) c.deref.ensures.value c.in_ok-write.ensures.sends);
-      same = same_then _ _ _ c.send_head.ensures.same c.write.ensures.same;
+      same = same_then g.B.Backend _ _ _ c.send_head.ensures.same c.write.ensures.same;
       held_is = book_held m b c.in_ok-write.ensures.sends.only ∙ book_held (scene g.S.Ends g.O.Ends g.B.Backend c.args.self.now) m c.in_ok-send_head.ensures.says.only;
     }
 
@@ -57,7 +57,7 @@ loop-index-preserved g c = record {
       piece_sent c.args.close c.args.content.now c.args.first.now (Unit {0}) tt (scene g.S.Ends g.O.Ends g.B.Backend c.args.self.now)
       (scene g.S.Ends g.O.Ends g.B.Backend c.loop-index.self) (scene g.S.Ends g.O.Ends g.B.Backend c.send_piece.new.self) c.loop-index.index
       c.loop-index.invariant.so_far c.in_ok-send_piece.ensures.sends;
-  same = same_then _ _ _ c.loop-index.invariant.same c.send_piece.ensures.same;
+  same = same_then g.B.Backend _ _ _ c.loop-index.invariant.same c.send_piece.ensures.same;
   held_is = c.send_piece.ensures.held ∙ c.loop-index.invariant.held_is;
 }
 

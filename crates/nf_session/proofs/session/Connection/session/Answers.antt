@@ -20,6 +20,6 @@ pub loop-turn-preserved : goal.loop-turn-preserved
 loop-turn-preserved g c = (
   so_far_more g.C.Clock.reads (scene g.S.Ends g.O.Ends g.B.Backend c.args.self.now) (scene g.S.Ends g.O.Ends g.B.Backend c.loop-turn.self)
       (scene g.S.Ends g.O.Ends g.B.Backend c.exchange.new.self) c.loop-turn.turn c.loop-turn.invariant.0 c.in_default.ensures.turn,
-  same_then _ _ _ c.loop-turn.invariant.1 c.in_default.ensures.same,
+  same_then g.B.Backend _ _ _ c.loop-turn.invariant.1 c.in_default.ensures.same,
   c.in_default.ensures.idle,
 )
