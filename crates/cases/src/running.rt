@@ -9,6 +9,9 @@ use nf_outside::{ListClock, MemSink, MemSource};
 use std::alloc::{AllocError, Global};
 use std::sync::Wait;
 
+/// How many messages a session answers at most.
+const MOST_MESSAGES: usize = 10_000;
+
 /// What a run gave.
 #[derive(Drop)]
 pub struct Outcome {
@@ -69,14 +72,14 @@ pub fn serve<R: Wait>(
     })
 }
 
-// Two seats serve what a `batch` has to serve; any other words are run as they are.
+// Two seats serve what a `batch` has to serve. Any other words are run as they are, and so are as many messages as end a session.
 fn serve_in_turn<R: Wait>(
     rt: &R,
     alloc: Global,
     case: &Run,
     mut keeper: MemKeeper,
 ) -> Result<(Vec<u8>, MemKeeper), AllocError> {
-    if case.words.len() == 1 && case.words[0].as_str() == "batch" {
+    if is_batch(&case.words) && case.exchanges.len() < MOST_MESSAGES {
         put_damage(&mut keeper, &case.damage)?;
         return serve_by_seats(rt, alloc, case, keeper);
     }
@@ -114,6 +117,10 @@ fn serve_in_pieces<R: Wait>(
         status: status.code(),
     };
     Ok((outcome, keeper))
+}
+
+fn is_batch(words: &[String]) -> bool {
+    words.len() == 1 && words[0].as_str() == "batch"
 }
 
 fn put_damage(keeper: &mut MemKeeper, damage: &[Damage]) -> Result<(), AllocError> {
