@@ -1,6 +1,6 @@
 -- How the keeper's failures are counted, all of them and those of each seat.
 use Rattle.std.proofs.Common.{◌≡◌, ◌≢◌, ◌⊎◌, inl, inr, ℕ, zero, suc, min, ◌+◌, ◌-◌, ◌^◌, ◌<◌, ◌≤◌, ◌==◌, List, [], ◌∷◌, ◌++◌, length, get_or, refl, sym, ap, subst, ◌∙◌, add-one, arith}
-use Rattle.std.specs.Prelude.{Option, filter, sum}
+use Rattle.std.specs.Prelude.{Option, sum}
 use Rattle.std.proofs.Math.ListN.{set}
 use Rattle.std.proofs.Math.ListN.{length-set}
 use Rattle.std.proofs.lemmas.Bool.{cases_lt, eq-eqb}
@@ -96,10 +96,10 @@ failures_of_more : (seat : ℕ) (a : Shown) (e : Entry) (told : Option Told) (fa
     → failures_of seat (moved a (standing (entered a.site e) told faults)) ≡ failures_of seat a + failed_mark e.mark
 failures_of_more seat a e told faults is =
     let marks : failed_marks (entries_by seat (a.site.history ++ e ∷ [])) ≡ failed_marks (entries_by seat a.site.history) + failed_mark e.mark
-        = ap failed_marks (entries_by_more seat a.site.history e is) ∙ failed_marks_more (entries_by seat a.site.history) e in
+    = ap failed_marks (entries_by_more seat a.site.history e is) ∙ failed_marks_more (entries_by seat a.site.history) e in
     omega (arith, marks)
 
--- what an entry's mark adds
+-- ---- what the mark of an entry adds
 
 mark_strikes : (m : Mark) (before n more : ℕ) → more ≡ n + failed_mark m → Strikes m (risen before n) (risen before more)
 mark_strikes mark.Answered before n more is = let same : more ≡ n = omega (arith, is) in ap (risen before) same

@@ -12,7 +12,7 @@ use Rattle.nf_words.specs.Actors.{actor_of}
 use Rattle.nf_words.specs.Changes.{reply_to}
 use Rattle.nf_words.proofs.Steps.{put_grants_nothing}
 use Rattle.nf_words.specs.Endings.{end_refusal, ends_goal, ends_ticket, stored_at as stores_at, unless_refused}
-use Rattle.nf_words.specs.History.{MayAsk, MayBring, MayEnd, MayCome, MayWant, after, answer_at, most_entries}
+use Rattle.nf_words.specs.History.{MayAsk, MayBring, MayEnd, MayCome, MayWant, answer_at, most_entries}
 use Rattle.nf_words.specs.Sound.{IsSound}
 use Rattle.nf_words.specs.State.{State, ticket_for, ticket_of}
 use Rattle.nf_words.specs.Step.{answer_to, answered_by, blob_to, decision_of}

@@ -1,8 +1,8 @@
 -- What the keeper tells after a step is true of the site after it.
-use Rattle.std.proofs.Common.{◌≡◌, ℕ, inl, inr, List, [], ◌∷◌, length, refl, sym, ap, subst, ◌∙◌, arith}
+use Rattle.std.proofs.Common.{◌≡◌, ℕ, List, [], ◌∷◌, length, refl, sym, ap, subst, ◌∙◌, arith}
 use Rattle.std.specs.Prelude.{Option, None, Some, option_map}
 use Rattle.std.specs.Option.{IfSome}
-use Rattle.std.proofs.lemmas.List.Elements.{All-nil, All-push}
+use Rattle.std.proofs.lemmas.List.Elements.{All-nil}
 use Rattle.nf_base.specs.declared.changes.Change.{Change}
 use Rattle.nf_defs.specs.Blobs.{Blobs, with_blob}
 use Rattle.nf_defs.specs.Rising.{AreRising}
@@ -28,8 +28,6 @@ use Rattle.nf_words.specs.declared.history.Mark.TheVariants as mark
 use Rattle.nf_words.specs.declared.history.Outcome.{Outcome}
 use Rattle.nf_words.specs.declared.history.Outcome.TheVariants.{Sent, Gone, Body}
 use Rattle.nf_words.specs.declared.history.Ticket.{Ticket}
-use Rattle.nf_words.specs.declared.request.Request.{Request}
-use Rattle.nf_words.specs.declared.request.Words.{Words}
 use Rattle.nf_desk.specs.Desk.{TellsSite, blobs_in}
 use Rattle.nf_desk.specs.Stepping.{IsEmpty, Makes, Standing, Steps, Tells, entry_at, standing, stored_by, told_by}
 

@@ -28,7 +28,7 @@ use Rattle.nf_words.specs.declared.history.Event.{Event}
 use Rattle.nf_words.specs.declared.history.Event.TheVariants.{Begin}
 use Rattle.nf_words.specs.declared.request.Request.{Request}
 use Rattle.nf_words.specs.declared.request.Words.{Words}
-use Rattle.nf_desk.specs.Desk.{IsCounted, IsDesk, Served, Shown, TakesTurn, blobs_in, book_at, failures, first_blob_of, meanings, shelf_of, shown, strikes_of}
+use Rattle.nf_desk.specs.Desk.{IsCounted, IsDesk, Served, Shown, TakesTurn, blobs_in, book_at, failures, first_blob_of, shelf_of, shown, strikes_of}
 use Rattle.nf_desk.specs.Pieces.{Reads, StrikesBy}
 use Rattle.nf_desk.specs.Stepping.{Asks, Standing, Steps, entry_at, standing}
 use Rattle.nf_desk.proofs.Counting.{counted_more, counted_same, failures_struck, marks, moved, standing_in, strike}

@@ -1,5 +1,5 @@
 -- The site, its keeper and the strikes, at which the seats take their turns.
-use Rattle.std.specs.Prelude.{◌≡◌, ℕ, zero, suc, min, ◌+◌, ◌-◌, ◌*◌, ◌^◌, ◌<◌, ◌≤◌, ◌==◌, List, [], ◌∷◌, filter, get_or, length, sum, Option, option_map}
+use Rattle.std.specs.Prelude.{◌≡◌, ℕ, zero, suc, min, ◌+◌, ◌-◌, ◌^◌, ◌<◌, ◌==◌, List, [], ◌∷◌, filter, get_or, length, sum, Option, option_map}
 use Rattle.std.specs.Option.{IfSome}
 use Rattle.std.specs.declared.snapshot.Snapshot.{Snapshot}
 use Rattle.nf_defs.specs.Blobs.{Blobs, blob_at}

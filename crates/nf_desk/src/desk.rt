@@ -47,11 +47,11 @@ impl<K: Keeper + Drop> Model for Desk<K> {
     ghost view = { λ desk. record { site = desk.site; keeper = desk.keeper; strikes = desk.strikes; start = desk.start } };
 
     ghost invariant = { λ desk. IsDesk record {
-        site = desk.site.kept;
-        told = K.told desk.keeper;
-        faults = K.faults desk.keeper;
-        strikes = desk.strikes;
-        start = tale K.Keeper desk.start.value;
+      site = desk.site.kept;
+      told = K.told desk.keeper;
+      faults = K.faults desk.keeper;
+      strikes = desk.strikes;
+      start = tale K.Keeper desk.start.value;
     } };
 }
 

@@ -1,4 +1,4 @@
-use Rattle.std.proofs.Common.{List, subst, sym}
+use Rattle.std.proofs.Common.{List, subst}
 use Rattle.nf_rows.specs.Spelling.{Raw}
 use Rattle.nf_desk.specs.Opening.{AreSpelled}
 use Rattle.nf_desk.proofs.Loadings.{are_some, first_fit, may_have, opens_loaded}

@@ -1,4 +1,4 @@
-use Rattle.std.proofs.Common.{List, ℕ, ap, length, refl, sym, subst, ◌∙◌}
+use Rattle.std.proofs.Common.{List, ℕ, ap, length}
 use Rattle.std.specs.Prelude.{sum}
 use Rattle.nf_site.specs.Kept.{Kept}
 use Rattle.nf_desk.proofs.Loadings.{no_strikes_of, opened_desk, opened_tale}

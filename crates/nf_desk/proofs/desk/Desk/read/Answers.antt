@@ -1,4 +1,4 @@
-use Rattle.std.proofs.Common.{arith, refl, subst, sym}
+use Rattle.std.proofs.Common.{arith, subst, sym}
 use Rattle.std.specs.Prelude.{Option}
 use Rattle.nf_told.specs.Told.{Told}
 use Rattle.nf_desk.specs.Desk.{IsDesk, shown}
