@@ -1,4 +1,4 @@
--- The desk's seat: what it holds is its ticket's, and how its Begins and Ends are answered.
+-- What a seat holds at the desk is its ticket's goal, and how its Begins and Ends are answered.
 use Rattle.std.proofs.Common.{◌≡◌, ◌≢◌, ◌⊎◌, inl, inr, ℕ, ◌+◌, ◌<◌, ◌≤◌, ◌==◌, Bool, true, false, List, [], length, Result, Ok, Err, IsNone, refl, sym, ap, subst, ◌∙◌, arith}
 use Rattle.std.specs.Prelude.{Option, None, Some, option_map, OnOk, MatchBool}
 use Rattle.sha2.specs.Sha256.{sha256}
@@ -12,7 +12,7 @@ use Rattle.nf_words.specs.Actors.{actor_of}
 use Rattle.nf_words.specs.Changes.{reply_to}
 use Rattle.nf_words.proofs.Steps.{put_grants_nothing}
 use Rattle.nf_words.specs.Endings.{end_refusal, ends_goal, ends_ticket, stored_at as stores_at, unless_refused}
-use Rattle.nf_words.specs.History.{MayAsk, MayBring, MayCome, MayWant, after, answer_at, most_entries}
+use Rattle.nf_words.specs.History.{MayAsk, MayBring, MayEnd, MayCome, MayWant, answer_at, most_entries}
 use Rattle.nf_words.specs.Sound.{IsSound}
 use Rattle.nf_words.specs.State.{State, ticket_for, ticket_of}
 use Rattle.nf_words.specs.Step.{answer_to, answered_by, blob_to, decision_of}
@@ -42,17 +42,16 @@ use Rattle.nf_words.proofs.Marks.{is_failure, never_failed}
 use Rattle.nf_words.proofs.Opens.{begins_open, bodies_open, ends_grant_nothing}
 use Rattle.nf_laws.proofs.Blobs.{blobs_are_new}
 use Rattle.nf_laws.specs.Wholes.{blob_under}
-use Rattle.nf_session.specs.Book.{Answer, Begins, Ends, EndsBody, IsOfBegin, IsOfBody, MayEnd, Passes, Stores, entries_wanted, event_of_body, held, is_unmade, is_unmade_by, outcome_of, state_after}
+use Rattle.nf_session.specs.Book.{Answer, Begins, EndsBody, EndsEmpty, IsBook, IsOfBegin, IsOfBody, Passes, Stores, entries_wanted, event_of_body, held, is_unmade, is_unmade_by, state_after}
 use Rattle.nf_session.proofs.Books.{held_is_ticket}
-use Rattle.nf_session.specs.declared.backend.Ending.{Ending}
-use Rattle.nf_session.specs.declared.backend.Ending.TheVariants as ending
 use Rattle.nf_site.specs.Held.{entries_wanted as site_wanted}
-use Rattle.nf_site.specs.Kept.{Kept, IsHistory, entered, moment_of}
+use Rattle.nf_site.specs.Kept.{Kept, IsHistory, moment_of}
 use Rattle.nf_told.specs.Told.{Told}
-use Rattle.nf_desk.specs.Desk.{book_of, seat}
-use Rattle.nf_desk.specs.Stepping.{Asks, Makes, Standing, Steps, entry_at}
-use Rattle.nf_desk.proofs.Entering.{book, enters, state_again, steps_enter, waits}
-use Rattle.nf_desk.proofs.Tellings.{blobs_in, steps_still, steps_told, told_after}
+use Rattle.nf_desk.specs.Desk.{IsCounted, Shown, blobs_in, book_at}
+use Rattle.nf_desk.specs.Stepping.{Asks, HeldMayEnd, IsEmpty, Makes, Standing, Steps, entry_at, standing}
+use Rattle.nf_desk.proofs.Counting.{moved, standing_in}
+use Rattle.nf_desk.proofs.Entering.{enters, state_again, step_enters, stepped, steps_enter, waits}
+use Rattle.nf_desk.proofs.Tellings.{empty_steps, steps_told, told_after}
 
 -- ---- what the seat holds
 
@@ -60,10 +59,12 @@ use Rattle.nf_desk.proofs.Tellings.{blobs_in, steps_still, steps_told, told_afte
 abbrev pub goal_in : Option Ticket → Option Goal
 goal_in o = option_map (λ (ticket : Ticket). ticket.goal) o
 
-held_is : (a : Standing) → IsHistory a.site → held (book a) ≡ goal_in (ticket_of a.site.state seat)
-held_is a h =
-    held_is_ticket (book a) (record { legal = h.legal; own = refl })
-    ∙ ap (λ (s : State). goal_in (ticket_of s seat)) (sym h.replayed)
+pub book_is : (seat : ℕ) (a : Shown) → IsHistory a.site → IsBook (book_at seat a)
+book_is seat a h = record { legal = h.legal; own = refl }
+
+pub held_is : (seat : ℕ) (a : Shown) → IsHistory a.site → held (book_at seat a) ≡ goal_in (ticket_of a.site.state seat)
+held_is seat a h =
+    held_is_ticket (book_at seat a) (book_is seat a h) ∙ ap (λ (s : State). goal_in (ticket_of s seat)) (sym h.replayed)
 
 some_none : (o : Option Ticket) → goal_in o ≡ None → IsNone o
 some_none None is = refl
@@ -74,52 +75,56 @@ has_goal None goal is = absurd (none-some goal is)
 has_goal (Some ticket) goal is = (ticket, refl, same_Some ticket.goal goal is)
 
 -- a seat that holds something has its ticket
-pub ticket_is : (a : Standing) (goal : Goal) → IsHistory a.site → held (book a) ≡ Some goal
+pub ticket_is : (seat : ℕ) (a : Shown) (goal : Goal) → IsHistory a.site → held (book_at seat a) ≡ Some goal
     → (ticket : Ticket) × (ticket_of a.site.state seat ≡ Some ticket) × (ticket.goal ≡ goal)
-ticket_is a goal h holds = has_goal (ticket_of a.site.state seat) goal (sym (held_is a h) ∙ holds)
+ticket_is seat a goal h holds = has_goal (ticket_of a.site.state seat) goal (sym (held_is seat a h) ∙ holds)
 
 -- an idle seat may ask
-pub may_ask : (a : Standing) (words : Words) (request : Request) → IsHistory a.site → held (book a) ≡ None → MayWant request
+pub may_ask : (seat : ℕ) (a : Shown) (words : Words) (request : Request) → IsHistory a.site → held (book_at seat a) ≡ None → MayWant request
     → MayAsk a.site.state seat (Begin words request)
-may_ask a words request h idle wants = (some_none (ticket_of a.site.state seat) (sym (held_is a h) ∙ idle), wants)
+may_ask seat a words request h idle wants = (some_none (ticket_of a.site.state seat) (sym (held_is seat a h) ∙ idle), wants)
 
 -- what may end so of the seat's goal may end so of its ticket
-pub may_end : (a : Standing) (how : Ending) → IsHistory a.site → MayEnd (held (book a)) how → MayAsk a.site.state seat (End (outcome_of how))
-may_end a how h may = here (held (book a)) refl may
+pub may_end : (seat : ℕ) (a : Shown) (outcome : Outcome) → IsHistory a.site → HeldMayEnd (held (book_at seat a)) outcome
+    → MayAsk a.site.state seat (End outcome)
+may_end seat a outcome h may = here (held (book_at seat a)) refl may
   where
-    here : (o : Option Goal) → held (book a) ≡ o → MayEnd o how → MayAsk a.site.state seat (End (outcome_of how))
+    here : (o : Option Goal) → held (book_at seat a) ≡ o → HeldMayEnd o outcome → MayAsk a.site.state seat (End outcome)
     here None e may = absurd may
     here (Some goal) e may =
-        let ticket = ticket_is a goal h e in
-        subst (λ (o : Option Ticket). Rattle.nf_words.specs.History.MayEnd o (outcome_of how)) (sym ticket.1)
-        (subst (λ (g : Goal). MayBring g (outcome_of how)) (sym ticket.2) may)
+        let ticket = ticket_is seat a goal h e in
+        subst (λ (o : Option Ticket). MayEnd o outcome) (sym ticket.1)
+        (subst (λ (g : Goal). MayBring g outcome) (sym ticket.2) may)
 
 -- ---- a Begin that finds no room
 
-wanted_is : (a : Standing) → IsHistory a.site → entries_wanted (book a) ≡ site_wanted a.site
-wanted_is a h = ap (λ (s : State). length a.site.history + length s.tickets + 2) (sym h.replayed)
+wanted_is : (seat : ℕ) (a : Shown) → IsHistory a.site → entries_wanted (book_at seat a) ≡ site_wanted a.site
+wanted_is seat a h = ap (λ (s : State). length a.site.history + length s.tickets + 2) (sym h.replayed)
 
-passes : (a : Standing) → Passes (book a) (book a)
-passes a = record { waits = waits a a refl refl (omega arith); unstruck = refl }
+passes : (seat : ℕ) (a : Shown) → Passes (book_at seat a) (book_at seat a)
+passes seat a = record {
+  waits = waits seat a.site a.site a.told a.told (book_at seat a).strikes (book_at seat a).strikes refl refl (omega arith);
+  unstruck = refl;
+}
 
-finds_none : (a : Standing) (now : ℕ) (words : Words) (request : Request) (answer : Answer) → IsHistory a.site
+finds_none : (seat : ℕ) (a : Shown) (now : ℕ) (words : Words) (request : Request) (answer : Answer) → IsHistory a.site
     → ((answer ≡ Err denial.RunFull) × (most_entries < site_wanted a.site)) ⊎ ((answer ≡ Err denial.Memory) × (site_wanted a.site ≤ most_entries))
-    → Begins (book a) (book a) now words request answer
-finds_none a now words request answer h (inl full) =
-    subst (λ (x : Answer). Begins (book a) (book a) now words request x) (sym full.0)
+    → Begins (book_at seat a) (book_at seat a) now words request answer
+finds_none seat a now words request answer h (inl full) =
+    subst (λ (x : Answer). Begins (book_at seat a) (book_at seat a) now words request x) (sym full.0)
     (record {
-      entry = passes a;
+      entry = passes seat a;
       answered = tt;
-      full = λ is. subst (λ (n : ℕ). most_entries < n) (sym (wanted_is a h)) full.1;
+      full = λ is. subst (λ (n : ℕ). most_entries < n) (sym (wanted_is seat a h)) full.1;
       room = λ is. absurd (cc);
     })
-finds_none a now words request answer h (inr memory) =
-    subst (λ (x : Answer). Begins (book a) (book a) now words request x) (sym memory.0)
+finds_none seat a now words request answer h (inr memory) =
+    subst (λ (x : Answer). Begins (book_at seat a) (book_at seat a) now words request x) (sym memory.0)
     (record {
-      entry = passes a;
+      entry = passes seat a;
       answered = tt;
       full = λ is. absurd (cc);
-      room = λ is. subst (λ (n : ℕ). n ≤ most_entries) (sym (wanted_is a h)) memory.1;
+      room = λ is. subst (λ (n : ℕ). n ≤ most_entries) (sym (wanted_is seat a h)) memory.1;
     })
 
 -- ---- a Begin that is made
@@ -163,53 +168,55 @@ granted_short : (t : Tables) (now : ℕ) (who : Option ℕ) (decision : Result A
 granted_short t now who (Ok act) by key size known is = put_short t now who act by key size (known act refl) (ok_same (reply_to act) _ is)
 granted_short t now who (Err refusal) by key size known is = absurd (cc)
 
-of_begin : (s : State) (now : ℕ) (words : Words) (request : Request) (answer : Answer) → IsSound s → MayAsk s seat (Begin words request)
+of_begin : (seat : ℕ) (s : State) (now : ℕ) (words : Words) (request : Request) (answer : Answer) → IsSound s → MayAsk s seat (Begin words request)
     → answer ≡ answer_to s seat now (Begin words request) → IsOfBegin answer
-of_begin s now words request (Ok (reply.Granted (Store by key size))) sound asked is =
+of_begin seat s now words request (Ok (reply.Granted (Store by key size))) sound asked is =
     granted_short s.tables now (actor_of s seat (Begin words request)) (decision_of s seat now (Begin words request)) by key size
     (λ act done. known_change s seat now (Begin words request) act sound asked done) (sym is)
-of_begin s now words request (Ok (reply.Granted (Serve content))) sound asked is = tt
-of_begin s now words request (Ok reply.Made) sound asked is = tt
-of_begin s now words request (Ok reply.Done) sound asked is = tt
-of_begin s now words request (Ok (reply.Listing lines)) sound asked is = tt
-of_begin s now words request (Ok reply.Closed) sound asked is = absurd (begins_open s seat now words request (sym is))
-of_begin s now words request (Err refusal) sound asked is = tt
+of_begin seat s now words request (Ok (reply.Granted (Serve content))) sound asked is = tt
+of_begin seat s now words request (Ok reply.Made) sound asked is = tt
+of_begin seat s now words request (Ok reply.Done) sound asked is = tt
+of_begin seat s now words request (Ok (reply.Listing lines)) sound asked is = tt
+of_begin seat s now words request (Ok reply.Closed) sound asked is = absurd (begins_open s seat now words request (sym is))
+of_begin seat s now words request (Err refusal) sound asked is = tt
 
 -- its answer isn't that of one that isn't made, whatever its mark, and is a Begin's
 record BeginAnswer (answer : Answer) : Type 0 where
   made : is_unmade answer ≡ false
   answered : IsOfBegin answer
 
-begin_answer : (k : Kept) (now : ℕ) (words : Words) (request : Request) (m : Mark) (answer : Answer) → IsSound k.state
-    → MayCome (length k.history) k.state (entry_at k now (Begin words request) m)
-    → answer ≡ answer_at k.state (entry_at k now (Begin words request) m) m → BeginAnswer answer
-begin_answer k now words request mark.Answered answer sound may is = record {
+begin_answer : (seat : ℕ) (k : Kept) (now : ℕ) (words : Words) (request : Request) (m : Mark) (answer : Answer) → IsSound k.state
+    → MayCome (length k.history) k.state (entry_at seat k now (Begin words request) m)
+    → answer ≡ answer_at k.state (entry_at seat k now (Begin words request) m) m → BeginAnswer answer
+begin_answer seat k now words request mark.Answered answer sound may is = record {
   made = is_made k.state seat (moment_of k.state now) (Begin words request) answer is;
-  answered = of_begin k.state (moment_of k.state now) words request answer sound may.asked is;
+  answered = of_begin seat k.state (moment_of k.state now) words request answer sound may.asked is;
 }
-begin_answer k now words request mark.Store answer sound may is = subst BeginAnswer (sym is) (record { made = refl; answered = tt })
-begin_answer k now words request mark.Memory answer sound may is = absurd may.marked
+begin_answer seat k now words request mark.Store answer sound may is = subst BeginAnswer (sym is) (record { made = refl; answered = tt })
+begin_answer seat k now words request mark.Memory answer sound may is = absurd may.marked
 
 match_false : (P Q : Type 0) (b : Bool) → b ≡ false → Q → MatchBool b P Q
 match_false P Q b is q = subst (λ (c : Bool). MatchBool c P Q) (sym is) q
 
-begins_made : (a b : Standing) (now : ℕ) (words : Words) (request : Request) (answer : Answer) → IsHistory a.site → IsSound a.site.state
-    → Steps a b now (Begin words request) [] answer → Begins (book a) (book b) now words request answer
-begins_made a b now words request answer h sound steps =
-    let of = begin_answer a.site now words request steps.mark answer sound steps.makes.may_come steps.makes.answered in
+begins_made : (seat : ℕ) (a : Shown) (b : Standing) (now : ℕ) (words : Words) (request : Request) (answer : Answer) → IsHistory a.site
+    → IsSound a.site.state → IsCounted a → Steps seat (standing_in a) b now (Begin words request) [] answer
+    → Begins (book_at seat a) (book_at seat (moved a b)) now words request answer
+begins_made seat a b now words request answer h sound counted steps =
+    let of = begin_answer seat a.site now words request steps.mark answer sound steps.makes.may_come steps.makes.answered in
     record {
-      entry = match_false _ _ (is_unmade answer) of.made (steps_enter a b now (Begin words request) [] answer h sound steps);
+      entry = match_false _ _ (is_unmade answer) of.made (steps_enter seat a b now (Begin words request) [] answer h sound counted steps);
       answered = of.answered;
       full = λ is. absurd (is_memory (is_unmade answer) (ap is_unmade is) of.made);
       room = λ is. absurd (is_memory (is_unmade answer) (ap is_unmade is) of.made);
     }
 
-pub begins : (a b : Standing) (now : ℕ) (words : Words) (request : Request) (answer : Answer) → IsHistory a.site → IsSound a.site.state
-    → Asks a b now words request answer → Begins (book a) (book b) now words request answer
-begins a b now words request answer h sound (inl steps) = begins_made a b now words request answer h sound steps
-begins a b now words request answer h sound (inr none) =
-    subst (λ (z : Standing). Begins (book a) (book z) now words request answer) (sym none.same)
-    (finds_none a now words request answer h none.why)
+pub begins : (seat : ℕ) (a : Shown) (b : Standing) (now : ℕ) (words : Words) (request : Request) (answer : Answer) → IsHistory a.site
+    → IsSound a.site.state → IsCounted a → Asks seat (standing_in a) b now words request answer
+    → Begins (book_at seat a) (book_at seat (moved a b)) now words request answer
+begins seat a b now words request answer h sound counted (inl steps) = begins_made seat a b now words request answer h sound counted steps
+begins seat a b now words request answer h sound counted (inr none) =
+    subst (λ (z : Standing). Begins (book_at seat a) (book_at seat (moved a z)) now words request answer) (sym none.same)
+    (finds_none seat a now words request answer h none.why)
 
 -- ---- the End of what brings nothing
 
@@ -218,20 +225,19 @@ closed_of : (ticket : Option Ticket) (t : Tables) (now : ℕ) (outcome : Outcome
 closed_of None t now outcome closes = refl
 closed_of (Some ticket) t now outcome closes = ap answered_by (closes ticket.goal)
 
-pub ends_sent : (a b : Standing) (now : ℕ) (answer : Answer) → IsHistory a.site → IsSound a.site.state
-    → Makes a.site b.site now (End Sent) mark.Answered answer → Steps a b now (End Sent) [] answer
-    → Ends (book a) (book b) now ending.Sent answer
-ends_sent a b now answer h sound makes steps = record {
-  enters = steps_enter a b now (End Sent) [] answer h sound steps;
-  answered = makes.answered ∙ closed_of (ticket_of a.site.state seat) a.site.state.tables (moment_of a.site.state now) Sent (λ goal. refl);
-}
+closed_by : (seat : ℕ) (k : Kept) (now : ℕ) (outcome : Outcome) → IsEmpty outcome
+    → answer_at k.state (entry_at seat k now (End outcome) mark.Answered) mark.Answered ≡ Ok reply.Closed
+closed_by seat k now Sent empty = closed_of (ticket_of k.state seat) k.state.tables (moment_of k.state now) Sent (λ goal. refl)
+closed_by seat k now Gone empty = closed_of (ticket_of k.state seat) k.state.tables (moment_of k.state now) Gone (λ goal. refl)
+closed_by seat k now (Body digest size) empty = absurd empty
 
-pub ends_gone : (a b : Standing) (now : ℕ) (answer : Answer) → IsHistory a.site → IsSound a.site.state
-    → Makes a.site b.site now (End Gone) mark.Answered answer → Steps a b now (End Gone) [] answer
-    → Ends (book a) (book b) now ending.Gone answer
-ends_gone a b now answer h sound makes steps = record {
-  enters = steps_enter a b now (End Gone) [] answer h sound steps;
-  answered = makes.answered ∙ closed_of (ticket_of a.site.state seat) a.site.state.tables (moment_of a.site.state now) Gone (λ goal. refl);
+pub ends_empty : (seat : ℕ) (a : Shown) (l : Kept) (now : ℕ) (outcome : Outcome) (answer : Answer) → IsHistory a.site → IsSound a.site.state
+    → IsCounted a → IsEmpty outcome → Makes seat a.site l now (End outcome) mark.Answered answer
+    → EndsEmpty (book_at seat a) (book_at seat (record a { site = l })) now outcome answer
+ends_empty seat a l now outcome answer h sound counted empty makes = record {
+  enters = steps_enter seat a (standing l a.told a.faults) now (End outcome) [] answer h sound counted
+      (empty_steps seat a.site l a.told a.faults now outcome answer empty makes);
+  answered = makes.answered ∙ closed_by seat a.site now outcome empty;
 }
 
 -- ---- the End of a body
@@ -242,11 +248,11 @@ body_goal : (goal : Goal) (body : List ℕ) → MayBring goal (Body (sha256 body
 body_goal (Serve content) body may = absurd may
 body_goal (Store by key size) body may = (by, key, size, refl)
 
-body_ticket : (s : State) (body : List ℕ) (ticket : Option Ticket) → ticket_of s seat ≡ ticket
-    → Rattle.nf_words.specs.History.MayEnd ticket (Body (sha256 body) (length body))
+body_ticket : (seat : ℕ) (s : State) (body : List ℕ) (ticket : Option Ticket) → ticket_of s seat ≡ ticket
+    → MayEnd ticket (Body (sha256 body) (length body))
     → (by : Seeker) × (key : LockKey) × (size : ℕ) × (ticket_of s seat ≡ Some (ticket_for seat (Store by key size)))
-body_ticket s body None is may = absurd may
-body_ticket s body (Some ticket) is may =
+body_ticket seat s body None is may = absurd may
+body_ticket seat s body (Some ticket) is may =
     let goal = body_goal ticket.goal body may in
     let its : ticket.seat ≡ seat = eqb-true ticket.seat seat (found_passes (λ (ticket : Ticket). ticket.seat == seat) s.tickets ticket is) in
     (goal.0, goal.1, goal.2, is ∙ ap Some (same_ticket ticket its goal.3))
@@ -261,30 +267,30 @@ stored_lists_nothing None t now (Node node) digest size lines = λ is. cc
 stored_lists_nothing None t now (Slot folder name) digest size lines = λ is. cc
 stored_lists_nothing (Some refusal) t now key digest size lines = λ is. cc
 
-body_lists_nothing : (s : State) (now : ℕ) (body : List ℕ) (by : Seeker) (key : LockKey) (size : ℕ) (lines : List ListingLine)
+body_lists_nothing : (seat : ℕ) (s : State) (now : ℕ) (body : List ℕ) (by : Seeker) (key : LockKey) (size : ℕ) (lines : List ListingLine)
     → ticket_of s seat ≡ Some (ticket_for seat (Store by key size)) → answer_to s seat now (event_of_body body) ≢ Ok (reply.Listing lines)
-body_lists_nothing s now body by key size lines has =
+body_lists_nothing seat s now body by key size lines has =
     subst (λ (ticket : Option Ticket). answered_by (ends_ticket s.tables now (Body (sha256 body) (length body)) ticket) ≢ Ok (reply.Listing lines))
     (sym has) (stored_lists_nothing (end_refusal s.tables key (length body)) s.tables now key (sha256 body) (length body) lines)
 
-of_body : (s : State) (now : ℕ) (body : List ℕ) (by : Seeker) (key : LockKey) (size : ℕ) (answer : Answer)
+of_body : (seat : ℕ) (s : State) (now : ℕ) (body : List ℕ) (by : Seeker) (key : LockKey) (size : ℕ) (answer : Answer)
     → ticket_of s seat ≡ Some (ticket_for seat (Store by key size)) → answer ≡ answer_to s seat now (event_of_body body) → IsOfBody answer
-of_body s now body by key size (Ok reply.Made) has is = tt
-of_body s now body by key size (Ok reply.Done) has is = tt
-of_body s now body by key size (Ok reply.Closed) has is =
+of_body seat s now body by key size (Ok reply.Made) has is = tt
+of_body seat s now body by key size (Ok reply.Done) has is = tt
+of_body seat s now body by key size (Ok reply.Closed) has is =
     absurd (bodies_open s seat now (sha256 body) (length body) by key size has (sym is))
-of_body s now body by key size (Ok (reply.Granted goal)) has is =
+of_body seat s now body by key size (Ok (reply.Granted goal)) has is =
     absurd (ends_grant_nothing s seat now (Body (sha256 body) (length body)) goal (sym is))
-of_body s now body by key size (Ok (reply.Listing lines)) has is = absurd (body_lists_nothing s now body by key size lines has (sym is))
-of_body s now body by key size (Err refusal) has is = tt
+of_body seat s now body by key size (Ok (reply.Listing lines)) has is = absurd (body_lists_nothing seat s now body by key size lines has (sym is))
+of_body seat s now body by key size (Err refusal) has is = tt
 
-marked_of_body : (k : Kept) (now : ℕ) (body : List ℕ) (m : Mark) (answer : Answer)
-    → MayAsk k.state seat (event_of_body body) → answer ≡ answer_at k.state (entry_at k now (event_of_body body) m) m → IsOfBody answer
-marked_of_body k now body mark.Answered answer asked is =
-    let has = body_ticket k.state body (ticket_of k.state seat) refl asked in
-    of_body k.state (moment_of k.state now) body has.0 has.1 has.2 answer has.3 is
-marked_of_body k now body mark.Store answer asked is = subst IsOfBody (sym is) tt
-marked_of_body k now body mark.Memory answer asked is = subst IsOfBody (sym is) tt
+marked_of_body : (seat : ℕ) (k : Kept) (now : ℕ) (body : List ℕ) (m : Mark) (answer : Answer)
+    → MayAsk k.state seat (event_of_body body) → answer ≡ answer_at k.state (entry_at seat k now (event_of_body body) m) m → IsOfBody answer
+marked_of_body seat k now body mark.Answered answer asked is =
+    let has = body_ticket seat k.state body (ticket_of k.state seat) refl asked in
+    of_body seat k.state (moment_of k.state now) body has.0 has.1 has.2 answer has.3 is
+marked_of_body seat k now body mark.Store answer asked is = subst IsOfBody (sym is) tt
+marked_of_body seat k now body mark.Memory answer asked is = subst IsOfBody (sym is) tt
 
 -- an answer that isn't a refusal is of an entry whose step was made
 blob_marked : (s : State) (e : Entry) (m : Mark) (reply : Reply) (id : ℕ) → ◌≡◌ {A = Answer} (Ok reply) (answer_at s e m)
@@ -306,31 +312,29 @@ stored_at n s e body (Ok reply) before sound may is = stored_some n s e body rep
 stored_at n s e body (Err refusal) before sound may is = tt
 
 -- in the state that the book knows
-steps_stored : (a b : Standing) (now : ℕ) (body : List ℕ) (answer : Answer) → IsHistory a.site → IsSound a.site.state
-    → (steps : Steps a b now (event_of_body body) body answer)
-    → OnOk answer (IfSome (blobs_in b.told) (Stores (state_after (book a) []) (entry_at a.site now (event_of_body body) steps.mark) body))
-steps_stored a b now body answer h sound steps =
-    let e = entry_at a.site now (event_of_body body) steps.mark in
-    subst (λ (s : State). OnOk answer (IfSome (blobs_in b.told) (Stores s e body))) (sym (state_again a h))
+steps_stored : (seat : ℕ) (a : Shown) (b : Standing) (now : ℕ) (body : List ℕ) (answer : Answer) → IsHistory a.site → IsSound a.site.state
+    → (steps : Steps seat (standing_in a) b now (event_of_body body) body answer)
+    → OnOk answer (IfSome (blobs_in b.told) (Stores (state_after (book_at seat a) []) (entry_at seat a.site now (event_of_body body) steps.mark) body))
+steps_stored seat a b now body answer h sound steps =
+    let e = entry_at seat a.site now (event_of_body body) steps.mark in
+    subst (λ (s : State). OnOk answer (IfSome (blobs_in b.told) (Stores s e body))) (sym (state_again a.site h))
     (subst (λ (o : Option Told). OnOk answer (IfSome (blobs_in o) (Stores a.site.state e body)))
-    (sym (steps_told a b now (event_of_body body) body answer sound steps))
+    (sym (steps_told seat (standing_in a) b now (event_of_body body) body answer sound steps))
     (stored_at (length a.site.history) a.site.state e body answer a.told sound steps.makes.may_come steps.makes.answered))
 
-ends_entered : (a b : Standing) (now : ℕ) (body : List ℕ) (answer : Answer) → IsHistory a.site → IsSound a.site.state
-    → (steps : Steps a b now (event_of_body body) body answer)
-    → EndsBody (book a) (book_of (entered a.site (entry_at a.site now (event_of_body body) steps.mark)) b.told b.faults) now body answer
-unfolding enters
-ends_entered a b now body answer h sound steps =
-    let e = entry_at a.site now (event_of_body body) steps.mark in
-    record {
-      enters = enters a e b.told b.faults now (event_of_body body) answer h steps.makes.may_come refl refl refl steps.makes.answered
-          (steps_still a b now (event_of_body body) body answer sound steps) steps.rises steps.strikes;
-      answered = marked_of_body a.site now body steps.mark answer steps.makes.may_come.asked steps.makes.answered;
-      stored = steps_stored a b now body answer h sound steps;
-    }
+ends_entered : (seat : ℕ) (a : Shown) (b : Standing) (now : ℕ) (body : List ℕ) (answer : Answer) → IsHistory a.site → IsSound a.site.state
+    → IsCounted a → (steps : Steps seat (standing_in a) b now (event_of_body body) body answer)
+    → EndsBody (book_at seat a) (book_at seat (stepped seat a b now (event_of_body body) body answer steps)) now body answer
+unfolding enters step_enters
+ends_entered seat a b now body answer h sound counted steps = record {
+  enters = step_enters seat a b now (event_of_body body) body answer h sound counted steps;
+  answered = marked_of_body seat a.site now body steps.mark answer steps.makes.may_come.asked steps.makes.answered;
+  stored = steps_stored seat a b now body answer h sound steps;
+}
 
-pub ends_body : (a b : Standing) (now : ℕ) (body : List ℕ) (answer : Answer) → IsHistory a.site → IsSound a.site.state
-    → Steps a b now (event_of_body body) body answer → EndsBody (book a) (book b) now body answer
-ends_body a b now body answer h sound steps =
-    subst (λ (k : Kept). EndsBody (book a) (book_of k b.told b.faults) now body answer) (sym steps.makes.site)
-    (ends_entered a b now body answer h sound steps)
+pub ends_body : (seat : ℕ) (a : Shown) (b : Standing) (now : ℕ) (body : List ℕ) (answer : Answer) → IsHistory a.site → IsSound a.site.state
+    → IsCounted a → Steps seat (standing_in a) b now (event_of_body body) body answer
+    → EndsBody (book_at seat a) (book_at seat (moved a b)) now body answer
+ends_body seat a b now body answer h sound counted steps =
+    subst (λ (k : Kept). EndsBody (book_at seat a) (book_at seat (moved a (standing k b.told b.faults))) now body answer) (sym steps.makes.site)
+    (ends_entered seat a b now body answer h sound counted steps)

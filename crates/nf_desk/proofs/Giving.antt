@@ -1,21 +1,25 @@
--- The pieces that the desk's seat is granted.
-use Rattle.std.proofs.Common.{◌≡◌, ℕ, ◌<◌, ◌≤◌, ◌==◌, inl, inr, List, length, Result, Ok, Err, sym, ap, subst, ◌∙◌, arith}
-use Rattle.std.specs.Prelude.{Option, None, Some, slice_get, Vec}
+-- The pieces of what a seat was granted.
+use Rattle.std.proofs.Common.{◌≡◌, ℕ, ◌<◌, ◌≤◌, ◌==◌, inl, inr, List, length, Result, Ok, Err, refl, sym, ap, subst, ◌∙◌, arith}
+use Rattle.std.specs.Prelude.{Option, None, Some, IfOk, slice_get, Vec}
 use Rattle.std.specs.declared.alloc.Global.{Global}
 use Rattle.sha2.specs.Sha256.{sha256}
 use Rattle.std.specs.List.{All}
 use Rattle.std.specs.Option.{IfSome}
 use Rattle.std.proofs.lemmas.List.Elements.{All-get_or}
-use Rattle.std.proofs.lemmas.Option.{get_or_from_slice_get, slice_get_within}
+use Rattle.std.proofs.lemmas.Option.{IfSome_then, get_or_from_slice_get, same_Some, slice_get_within}
 use Rattle.nf_base.specs.declared.content.Piece.{Piece}
 use Rattle.nf_base.specs.declared.rows.Row.{Row}
 use Rattle.nf_defs.specs.Blobs.{Blobs, blob_at}
-use Rattle.nf_keeper.specs.Keeping.{IsTold}
+use Rattle.nf_keeper.specs.Keeping.{Counts, IsTold}
+use Rattle.nf_keeper.specs.Views.{bytes_in}
+use Rattle.nf_keeper.specs.declared.keeper.KeepFault.{KeepFault}
+use Rattle.nf_keeper.specs.declared.keeper.KeepFault.TheVariants.{Failed, Memory}
 use Rattle.nf_laws.specs.Wholes.{IsDamaged, IsGoalHeld, IsHeld, IsThere}
-use Rattle.nf_session.specs.Book.{Book, GivesOrFails, GivesPiece, TellsDamage, TellsPiece, held, measured, next_blob_of}
+use Rattle.nf_rules.specs.Rules.{AreUnbroken}
+use Rattle.nf_session.specs.Book.{Book, GivesOrFails, GivesPiece, TellsDamage, TellsPiece, TellsStill, held, measured, next_blob_of}
 use Rattle.nf_session.specs.declared.backend.PieceFault.{PieceFault}
 use Rattle.nf_session.specs.declared.backend.PieceFault.TheVariants as fault
-use Rattle.nf_site.specs.Kept.{Kept, IsHistory}
+use Rattle.nf_site.specs.Kept.{IsHistory}
 use Rattle.nf_told.specs.Told.{Told}
 use Rattle.nf_words.proofs.Known.{found_has}
 use Rattle.nf_words.specs.Sound.{IsGoalSound, IsPieceSound, IsSound}
@@ -24,12 +28,12 @@ use Rattle.nf_words.specs.declared.answer.Goal.{Goal}
 use Rattle.nf_words.specs.declared.answer.Goal.TheVariants.{Serve}
 use Rattle.nf_words.specs.declared.answer.Measure.{Measure}
 use Rattle.nf_words.specs.declared.history.Ticket.{Ticket}
-use Rattle.nf_desk.specs.Desk.{TellsSite, seat}
-use Rattle.nf_desk.specs.Pieces.{CountsPiece, Gets, IsDamage}
-use Rattle.nf_desk.specs.Stepping.{Standing}
+use Rattle.nf_desk.specs.Desk.{IsCounted, IsDesk, Shown, TellsSite, blobs_in, book_at, failures_of, first_blob_of}
+use Rattle.nf_desk.specs.Pieces.{IsDamage, IsRead, IsTested, Reads, StrikesBy, StrikesSeat, TellsFound}
+use Rattle.nf_desk.proofs.Counting.{failures_of_struck, risen_struck, risen_up, start_fits, strike}
+use Rattle.nf_desk.proofs.Damages.{damaged_since}
 use Rattle.nf_desk.proofs.Desks.{ticket_is}
-use Rattle.nf_desk.proofs.Entering.{book, next_again, waits}
-use Rattle.nf_desk.proofs.Tellings.{blobs_in}
+use Rattle.nf_desk.proofs.Entering.{next_again, waits}
 
 -- ---- what is true of each goal is true of the piece
 
@@ -38,35 +42,102 @@ piece_has P content index piece at all =
     subst P (get_or_from_slice_get content index piece piece at)
     (All-get_or P content index piece (slice_get_within content index piece at) all)
 
-goal_has : (a : Standing) (P : Goal → Type 0) (goal : Goal) → IsHistory a.site → held (book a) ≡ Some goal
+goal_has : (seat : ℕ) (a : Shown) (P : Goal → Type 0) (goal : Goal) → IsHistory a.site → held (book_at seat a) ≡ Some goal
     → All (λ (ticket : Ticket). P ticket.goal) a.site.state.tickets → P goal
-goal_has a P goal h holds all =
-    let ticket = ticket_is a goal h holds in
+goal_has seat a P goal h holds all =
+    let ticket = ticket_is seat a goal h holds in
     subst P ticket.2
     (subst (λ (o : Option Ticket). IfSome o (λ (ticket : Ticket). P ticket.goal)) ticket.1
     (found_has (λ (ticket : Ticket). P ticket.goal) (λ ticket. ticket.seat == seat) a.site.state.tickets all))
 
-piece_given : (a : Standing) (content : List Piece) (index : ℕ) (piece : Piece) → IsHistory a.site → IsSound a.site.state
-    → held (book a) ≡ Some (Serve content) → slice_get content index ≡ Some piece → piece.blob < a.site.state.tables.meta.next_blob
-piece_given a content index piece h sound holds at =
+piece_given : (seat : ℕ) (a : Shown) (content : List Piece) (index : ℕ) (piece : Piece) → IsHistory a.site → IsSound a.site.state
+    → held (book_at seat a) ≡ Some (Serve content) → slice_get content index ≡ Some piece → piece.blob < a.site.state.tables.meta.next_blob
+piece_given seat a content index piece h sound holds at =
     (piece_has (IsPieceSound a.site.state.tables) content index piece at
-    (goal_has a (IsGoalSound a.site.state.tables) (Serve content) h holds sound.goals)).given
+    (goal_has seat a (IsGoalSound a.site.state.tables) (Serve content) h holds sound.goals)).given
 
-piece_held : (a : Standing) (content : List Piece) (index : ℕ) (piece : Piece) (told : Told) → IsHistory a.site
-    → held (book a) ≡ Some (Serve content) → slice_get content index ≡ Some piece → TellsSite a.site told
-    → IsHeld a.site.opening told.blobs piece
-piece_held a content index piece told h holds at tells =
+piece_held : (seat : ℕ) (a : Shown) (content : List Piece) (index : ℕ) (piece : Piece) (told : Option Told) → IsHistory a.site
+    → held (book_at seat a) ≡ Some (Serve content) → slice_get content index ≡ Some piece → IfSome told (TellsSite a.site)
+    → IfSome told (λ told. IsHeld a.site.opening told.blobs piece)
+piece_held seat a content index piece None h holds at tells = tt
+piece_held seat a content index piece (Some told) h holds at tells =
     piece_has (IsHeld a.site.opening told.blobs) content index piece at
-    (goal_has a (IsGoalHeld a.site.opening told.blobs) (Serve content) h holds tells.whole.tickets)
+    (goal_has seat a (IsGoalHeld a.site.opening told.blobs) (Serve content) h holds tells.whole.tickets)
 
--- ---- bytes that are given
+-- ---- what is read
 
-tells_piece : (book : Book) (piece : Piece) (bytes : List ℕ) (found : Option (List ℕ)) (told : Option Told) → piece.blob < next_blob_of book
-    → IsTold told piece.blob found → found ≡ Some bytes → IfSome (blobs_in told) (TellsPiece book piece bytes)
-tells_piece book piece bytes found None given is same = tt
-tells_piece book piece bytes found (Some told) given is same = record { given = given; there = sym is ∙ same }
+found_told : (b : Book) (start : Option Blobs) (piece : Piece) (found : Option (List ℕ)) (told : Option Told) → piece.blob < next_blob_of b
+    → AreUnbroken b.opening → TellsStill (first_blob_of b.opening) start (blobs_in told) → IsTold told piece.blob found
+    → IfSome told (λ told. IsHeld b.opening told.blobs piece) → IfSome (blobs_in told) (TellsFound b start piece found)
+found_told b start piece found None given unbroken still is holds = tt
+found_told b start piece found (Some told) given unbroken still is holds = record {
+  given = given;
+  there = is;
+  held = holds;
+  since = damaged_since b.opening start told.blobs piece unbroken still;
+}
 
--- ---- bytes that differ
+-- a seat that has strikes
+abbrev pub HasStrikes : ℕ → Shown → Type 0
+HasStrikes seat a = (0 < seat) × (seat ≤ length a.strikes)
+
+-- the desk after a call of the keeper
+abbrev pub counted_on : Shown → ℕ → List ℕ → Shown
+counted_on a faults strikes = record a { faults = faults; strikes = strikes }
+
+same_strikes : (seat : ℕ) (a : Shown) (faults : ℕ) (strikes : List ℕ) → strikes ≡ a.strikes
+    → (book_at seat (counted_on a faults strikes)).strikes ≡ (book_at seat a).strikes
+same_strikes seat a faults strikes same = ap (λ (z : List ℕ). (book_at seat (counted_on a faults z)).strikes) same
+
+strikes_rise : (seat : ℕ) (a : Shown) (faults : ℕ) (strikes : List ℕ) (result : Result (Option (Vec ℕ Global)) KeepFault)
+    → HasStrikes seat a → IsCounted a → Counts a.faults faults result → StrikesBy seat a.strikes strikes result
+    → (book_at seat a).strikes ≤ (book_at seat (counted_on a faults strikes)).strikes
+strikes_rise seat a faults strikes (Ok found) has counted counts by = let same = same_strikes seat a faults strikes by in omega (arith, same)
+strikes_rise seat a faults strikes (Err Failed) has counted counts by =
+    risen_up a.start.faults (failures_of seat a) (failures_of seat (counted_on a faults strikes))
+    (start_fits a faults counted counts.0 counts.1) (failures_of_struck a faults strikes seat (strike seat a.strikes strikes has.0 has.1 by))
+strikes_rise seat a faults strikes (Err Memory) has counted counts by = let same = same_strikes seat a faults strikes by in omega (arith, same)
+
+-- what the keeper tells of it, where it found that
+abbrev pub Tells : ℕ → Shown → ℕ → List ℕ → Piece → Option (List ℕ) → Type 0
+Tells seat a faults strikes piece found =
+    IfSome (blobs_in a.told) (TellsFound (book_at seat (counted_on a faults strikes)) (blobs_in a.start.told) piece found)
+
+is_read : (seat : ℕ) (a : Shown) (faults : ℕ) (strikes : List ℕ) (piece : Piece) (result : Result (Option (Vec ℕ Global)) KeepFault)
+    → HasStrikes seat a → ((found : Option (List ℕ)) → IsTold a.told piece.blob found → Tells seat a faults strikes piece found)
+    → IfOk result (λ bytes. IsTold a.told piece.blob (bytes_in bytes)) → StrikesBy seat a.strikes strikes result
+    → IsRead (book_at seat a) (book_at seat (counted_on a faults strikes)) (blobs_in a.start.told) piece result
+is_read seat a faults strikes piece (Ok found) has tells told by = (same_strikes seat a faults strikes by, tells (bytes_in found) told)
+is_read seat a faults strikes piece (Err Failed) has tells told by =
+    risen_struck a.start.faults (failures_of seat a) (failures_of seat (counted_on a faults strikes)) (failures_of_struck a faults strikes seat (strike seat a.strikes strikes has.0 has.1 by))
+is_read seat a faults strikes piece (Err Memory) has tells told by = same_strikes seat a faults strikes by
+
+strikes_seat : (seat : ℕ) (strikes more : List ℕ) (result : Result (Option (Vec ℕ Global)) KeepFault) → StrikesBy seat strikes more result
+    → StrikesSeat seat strikes more result
+strikes_seat seat strikes more (Ok found) by = by
+strikes_seat seat strikes more (Err Failed) by = by.struck
+strikes_seat seat strikes more (Err Memory) by = by
+
+pub reads : (seat : ℕ) (a : Shown) (faults : ℕ) (strikes : List ℕ) (content : List Piece) (index : ℕ) (piece : Piece)
+    (result : Result (Option (Vec ℕ Global)) KeepFault)
+    → HasStrikes seat a → IsHistory a.site → IsSound a.site.state → IsDesk a → held (book_at seat a) ≡ Some (Serve content)
+    → slice_get content index ≡ Some piece → IfOk result (λ bytes. IsTold a.told piece.blob (bytes_in bytes)) → Counts a.faults faults result → StrikesBy seat a.strikes strikes result
+    → Reads seat a (counted_on a faults strikes) content index result
+reads seat a faults strikes content index piece result has h sound desk holds at told counts by = record {
+  waits = waits seat a.site a.site a.told a.told (book_at seat a).strikes (book_at seat (counted_on a faults strikes)).strikes refl refl
+      (strikes_rise seat a faults strikes result has desk.counted counts by);
+  piece = piece;
+  at_index = at;
+  read = is_read seat a faults strikes piece result has
+      (λ found is.
+      found_told (book_at seat (counted_on a faults strikes)) (blobs_in a.start.told) piece found a.told
+      (subst (λ (n : ℕ). piece.blob < n) (sym (next_again a.site h)) (piece_given seat a content index piece h sound holds at))
+      desk.unbroken desk.since is (piece_held seat a content index piece a.told h holds at desk.told))
+      told by;
+  strikes = strikes_seat seat a.strikes strikes result by;
+}
+
+-- ---- what is given of it
 
 -- what is there can't differ
 there_same : (blobs : Blobs) (piece : Piece) (found : Option (List ℕ)) (damage : Damage) → found ≡ blob_at blobs piece.blob
@@ -86,62 +157,45 @@ held_damaged : (opening : List Row) (blobs : Blobs) (piece : Piece) (found : Opt
 held_damaged opening blobs piece found damage is differs (inl there) = absurd (there_same blobs piece found damage is differs there)
 held_damaged opening blobs piece found damage is differs (inr damaged) = damaged
 
-tells_damage : (book : Book) (piece : Piece) (found : Option (List ℕ)) (damage : Damage) (told : Option Told)
-    → IsTold told piece.blob found → IsDamage piece found damage → IfSome told (λ told. IsHeld book.opening told.blobs piece)
-    → IfSome (blobs_in told) (TellsDamage book piece damage)
-tells_damage book piece found damage None is differs holds = tt
-tells_damage book piece found damage (Some told) is differs holds = record {
-  damaged = held_damaged book.opening told.blobs piece found damage is differs holds;
-  found = differs.found_is ∙ ap measured is;
+tells_piece : (b : Book) (start : Option Blobs) (piece : Piece) (found : Option (List ℕ)) (bytes : List ℕ) → found ≡ Some bytes
+    → (shelf : Blobs) → TellsFound b start piece found shelf → TellsPiece b piece bytes shelf
+tells_piece b start piece found bytes same shelf tells = record { given = tells.given; there = sym tells.there ∙ same }
+
+tells_damage : (b : Book) (start : Option Blobs) (piece : Piece) (found : Option (List ℕ)) (damage : Damage) → IsDamage piece found damage
+    → (shelf : Blobs) → TellsFound b start piece found shelf → TellsDamage b piece damage shelf
+tells_damage b start piece found damage differs shelf tells = record {
+  damaged = held_damaged b.opening shelf piece found damage tells.there differs tells.held;
+  found = differs.found_is ∙ ap measured tells.there;
 }
 
--- ---- a call
-
-held_some : (a : Standing) (content : List Piece) (index : ℕ) (piece : Piece) (o : Option Told) → IsHistory a.site
-    → held (book a) ≡ Some (Serve content) → slice_get content index ≡ Some piece → IfSome o (TellsSite a.site)
-    → IfSome o (λ told. IsHeld a.site.opening told.blobs piece)
-held_some a content index piece None h holds at tells = tt
-held_some a content index piece (Some told) h holds at tells = piece_held a content index piece told h holds at tells
-
--- what the seat knows after it, but for the count
-gives_or_fails : (a b : Standing) (piece : Piece) (result : Result (Vec ℕ Global) PieceFault) → b.site ≡ a.site → b.told ≡ a.told
-    → piece.blob < next_blob_of (book a) → IfSome a.told (λ told. IsHeld a.site.opening told.blobs piece)
-    → Gets a.told piece result → CountsPiece a.faults b.faults result → GivesOrFails (book a) (book b) piece result
-gives_or_fails a b piece (Ok bytes) site told given holds gets counts = (
+gives_or_fails : (a b : Book) (start : Option Blobs) (piece : Piece) (read : Result (Option (Vec ℕ Global)) KeepFault)
+    (result : Result (Vec ℕ Global) PieceFault)
+    → IsRead a b start piece read → IsTested piece read result → GivesOrFails a b piece result
+gives_or_fails a b start piece (Ok found) (Ok bytes) read tested = (
   record {
-    size = gets.2.size;
-    digest = gets.2.digest;
-    told = subst (λ (z : Kept). IfSome (blobs_in b.told) (TellsPiece (book (record b { site = z })) piece bytes.items)) (sym site)
-        (subst (λ (o : Option Told). IfSome (blobs_in o) (TellsPiece (book (record a { told = o; faults = b.faults })) piece bytes.items)) (sym told)
-        (tells_piece (book (record a { faults = b.faults })) piece bytes.items gets.0 a.told given gets.1 gets.2.found_are));
+    size = tested.size;
+    digest = tested.digest;
+    told = IfSome_then b.told read.1 (tells_piece b start piece (bytes_in found) bytes.items tested.found_are);
   },
-  counts,
+  read.0,
 )
-gives_or_fails a b piece (Err fault.Store) site told given holds gets counts = counts.0
-gives_or_fails a b piece (Err (fault.Damaged damage)) site told given holds gets counts = (
-  counts,
-  gets.2.differs,
-  subst (λ (z : Kept). IfSome (blobs_in b.told) (TellsDamage (book (record b { site = z })) piece damage)) (sym site)
-      (subst (λ (o : Option Told). IfSome (blobs_in o) (TellsDamage (book (record a { told = o; faults = b.faults })) piece damage)) (sym told)
-      (tells_damage (book (record a { faults = b.faults })) piece gets.0 damage a.told gets.1 gets.2 holds)),
-)
-gives_or_fails a b piece (Err fault.Memory) site told given holds gets counts = counts
+gives_or_fails a b start piece (Ok found) (Err (fault.Damaged damage)) read tested =
+    (read.0, tested.differs, IfSome_then b.told read.1 (tells_damage b start piece (bytes_in found) damage tested))
+gives_or_fails a b start piece (Ok found) (Err fault.Store) read tested = absurd tested
+gives_or_fails a b start piece (Ok found) (Err fault.Memory) read tested = absurd tested
+gives_or_fails a b start piece (Err Failed) result read tested = subst (GivesOrFails a b piece) (sym tested) read
+gives_or_fails a b start piece (Err Memory) result read tested = subst (GivesOrFails a b piece) (sym tested) read
 
-rises_by : (before now : ℕ) (result : Result (Vec ℕ Global) PieceFault) → CountsPiece before now result → before ≤ now
-rises_by before now (Ok bytes) counts = omega arith
-rises_by before now (Err fault.Store) counts = counts.1
-rises_by before now (Err (fault.Damaged damage)) counts = omega arith
-rises_by before now (Err fault.Memory) counts = omega arith
-
-pub gives_piece : (a b : Standing) (content : List Piece) (index : ℕ) (piece : Piece) (result : Result (Vec ℕ Global) PieceFault)
-    → IsHistory a.site → IsSound a.site.state → IfSome a.told (TellsSite a.site) → held (book a) ≡ Some (Serve content)
-    → slice_get content index ≡ Some piece → b.site ≡ a.site → b.told ≡ a.told → Gets a.told piece result
-    → CountsPiece a.faults b.faults result → GivesPiece (book a) (book b) content index result
-gives_piece a b content index piece result h sound tells holds at site told gets counts = record {
-  waits = waits a b site told (rises_by a.faults b.faults result counts);
+-- what was read of a piece and then tested is given
+pub gives_piece : (seat : ℕ) (a b : Shown) (content : List Piece) (index : ℕ) (piece : Piece) (read : Result (Option (Vec ℕ Global)) KeepFault)
+    (result : Result (Vec ℕ Global) PieceFault)
+    → Reads seat a b content index read → slice_get content index ≡ Some piece → IsTested piece read result
+    → GivesPiece (book_at seat a) (book_at seat b) content index result
+gives_piece seat a b content index piece read result reads at tested = record {
+  waits = reads.waits;
   piece = piece;
   at_index = at;
-  given = gives_or_fails a b piece result site told
-      (subst (λ (n : ℕ). piece.blob < n) (sym (next_again a h)) (piece_given a content index piece h sound holds at))
-      (held_some a content index piece a.told h holds at tells) gets counts;
+  given = gives_or_fails (book_at seat a) (book_at seat b) (blobs_in a.start.told) piece read result
+      (subst (λ (z : Piece). IsRead (book_at seat a) (book_at seat b) (blobs_in a.start.told) z read)
+      (same_Some reads.piece piece (sym reads.at_index ∙ at)) reads.read) tested;
 }

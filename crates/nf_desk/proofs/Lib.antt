@@ -1,5 +1,8 @@
-mod Desks
-mod Entering
-mod Giving
+pub mod Counting
+mod Damages
+pub mod Desks
+pub mod Entering
+pub mod Giving
 mod Loadings
 mod Tellings
+pub mod Turns

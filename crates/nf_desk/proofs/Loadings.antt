@@ -1,11 +1,11 @@
 -- What the rows that are loaded, or the first ones, make of a desk.
-use Rattle.std.proofs.Common.{◌≡◌, ◌≢◌, ℕ, ◌+◌, ◌<◌, ◌==◌, Bool, true, false, List, [], ◌∷◌, ◌++◌, length, get_or, map, take, drop, refl, sym, ap, subst, ◌∙◌, arith}
-use Rattle.std.specs.Prelude.{Option, None, Some, not, option_map, if◌then◌else◌, Result, Ok, Err, IfOk, OnOk}
+use Rattle.std.proofs.Common.{◌≡◌, ◌≢◌, ◌⊎◌, inl, inr, ℕ, zero, suc, ◌+◌, ◌<◌, ◌==◌, Bool, true, false, List, [], ◌∷◌, ◌++◌, length, get_or, map, take, drop, replicate, refl, sym, ap, subst, ◌∙◌, arith}
+use Rattle.std.specs.Prelude.{Option, None, Some, not, option_map, sum, if◌then◌else◌, Result, Ok, Err, IfOk, OnOk}
 use Rattle.std.specs.List.{All, Contains, list_any}
 use Rattle.std.specs.Option.{IfSome, option_or}
-use Rattle.std.proofs.lemmas.Bool.{eqb-true, false≢true}
-use Rattle.std.proofs.lemmas.List.{get_or-map, length-map, length-take-le, map-append, take_more}
-use Rattle.std.proofs.lemmas.List.Elements.{All-nil, All-push}
+use Rattle.std.proofs.lemmas.Bool.{cases_lt, eqb-true, false≢true}
+use Rattle.std.proofs.lemmas.List.{get_or_past, get_or-map, get_or-replicate, length-map, length-take-le, map-append, take_more}
+use Rattle.std.proofs.lemmas.List.Elements.{All-push}
 use Rattle.std.proofs.lemmas.List.Folds.{Any-from_list_any}
 use Rattle.std.proofs.lemmas.Option.{IfSome_then, none-some, slice_get_read}
 use Rattle.nf_base.specs.declared.changes.Change.TheVariants.{Put}
@@ -14,6 +14,7 @@ use Rattle.nf_base.specs.declared.rows.Row.{Row}
 use Rattle.nf_base.specs.declared.rows.Row.TheVariants as rows
 use Rattle.nf_defs.specs.Tables.{tables_of}
 use Rattle.nf_keeper.specs.Keeping.{AreTold, applied}
+use Rattle.nf_keeper.specs.declared.keeper.Keeper.{Ghosts as KeeperOf}
 use Rattle.nf_laws.proofs.Opening.{opens_whole}
 use Rattle.nf_rows.specs.Spelling.{Fits, Raw, spelling_of}
 use Rattle.nf_rules.specs.Rules.{AreUnbroken, Rule, broken_at, first_broken, first_index, is_meta, is_twice, lacks_meta, rules}
@@ -21,15 +22,16 @@ use Rattle.nf_site.specs.Held.{Held}
 use Rattle.nf_site.specs.Kept.{Kept, opened_over}
 use Rattle.nf_told.proofs.Follows.{told_again, told_begins}
 use Rattle.nf_told.specs.Told.{AreFit, AreRisingRaws, FitsChange, Told, told_all, told_of}
-use Rattle.nf_words.specs.declared.history.Entry.{Entry}
-use Rattle.nf_desk.specs.Desk.{IsDesk, seat}
-use Rattle.nf_desk.specs.Opened.{AreUnread, IsEither, IsFresh, IsSpelled, IsUnreadAt, Opens, first_blob, first_of, told_first}
+use Rattle.nf_desk.specs.Desk.{IsCounted, IsDesk, Shown, blobs_in, failures, first_blob_of, most_seats, risen, strikes_of, tale}
+use Rattle.nf_desk.specs.Opened.{AreUnread, IsFresh, IsKept, IsSpelled, IsUnreadAt, MayBegin, MayHaveRows, Opens, first_blob, first_of, told_first}
 use Rattle.nf_desk.specs.Opening.{AreSpelled, BeginsWithMeta, IsLoaded, IsUnread, OpensTo}
 use Rattle.nf_desk.specs.declared.first.First.{First}
 use Rattle.nf_desk.specs.declared.first.OpenFault.{OpenFault}
 use Rattle.nf_desk.specs.declared.first.OpenFault.TheVariants as fault
 use Rattle.nf_desk.specs.declared.first.Opening.{Opening}
 use Rattle.nf_desk.specs.declared.first.Opening.TheVariants.{Fresh, Either}
+use Rattle.nf_desk.specs.declared.first.Opening.TheVariants as over
+use Rattle.nf_desk.proofs.Entering.{still_same}
 
 -- ---- rows that are read
 
@@ -60,6 +62,7 @@ unread_here raws i raw rows (fault.Unread index why) less at before is =
 unread_here raws i raw rows (fault.Broken broken) less at before is = is
 unread_here raws i raw rows fault.Memory less at before is = tt
 unread_here raws i raw rows fault.Found less at before is = is
+unread_here raws i raw rows fault.Missing less at before is = is
 
 -- ---- rows that break no rule have a meta row
 
@@ -143,27 +146,73 @@ loaded_told all raws before told rising spelled unbroken =
     here (Some old) told is = sym told ∙ is
 
 rows_told : (first : First) (all : List Row) (raws : List Raw) (before : Option Told) → IsLoaded before raws
-    → OpensTo first.rows raws all → AreUnbroken all → All Fits all → BeginsWithMeta first.rows → AreToldRows all (told_first first raws before)
-rows_told first all [] before loaded opens unbroken fit meta = first_told first all before loaded.told opens fit meta
+    → OpensTo first.rows raws all → AreUnbroken all → All Fits all → (raws ≡ [] → BeginsWithMeta first.rows)
+    → AreToldRows all (told_first first raws before)
+rows_told first all [] before loaded opens unbroken fit meta = first_told first all before loaded.told opens fit (meta refl)
 rows_told first all (raw ∷ raws) before loaded opens unbroken fit meta =
     loaded_told all (raw ∷ raws) before loaded.told loaded.rising opens unbroken
 
+-- where none were loaded there are first ones
+first_meta : (opening : Opening) (raws : List Raw) → MayBegin opening → (IsKept opening → raws ≢ []) → raws ≡ []
+    → BeginsWithMeta (first_of opening).rows
+first_meta (Fresh first) raws may kept none = may.meta
+first_meta (Either first) raws may kept none = may.meta
+first_meta over.Kept raws may kept none = absurd (kept tt none)
+
 -- ---- the desk
 
-begun_desk : (all : List Row) (keeper : Option Told) → AreToldRows all keeper → IsDesk (opened_over all) keeper
-begun_desk all keeper told = record {
-  alone = All-nil (λ (e : Entry). e.seat ≡ seat);
-  fit = told.fit;
-  told = IfSome_then keeper told.told (λ one is. record { rows = is; whole = opens_whole all one.blobs });
+-- a desk at which nothing was done
+abbrev pub begun : Kept → Option Told → ℕ → List ℕ → Shown
+begun k told faults strikes = record {
+  site = k;
+  told = told;
+  faults = faults;
+  strikes = strikes;
+  start = record { told = told; faults = faults };
 }
 
-pub opened_desk : (opening : Opening) (before after : Option Told) (k : Kept) → Opens opening before after k
-    → AreUnbroken k.opening → All Fits k.opening → BeginsWithMeta (first_of opening).rows → IsDesk k after
-opened_desk opening before after k opens unbroken fit meta =
-    subst (λ (z : Kept). IsDesk z after) (sym opens.begun)
-    (subst (λ (o : Option Told). IsDesk (opened_over k.opening) o) (sym opens.told)
-    (begun_desk k.opening (told_first (first_of opening) opens.raws before)
-    (rows_told (first_of opening) k.opening opens.raws before opens.loaded opens.rows unbroken fit meta)))
+begun_counted : (all : List Row) (told : Option Told) (faults : ℕ) (strikes : List ℕ) → sum strikes ≡ 0
+    → IsCounted (begun (opened_over all) told faults strikes)
+begun_counted all told faults strikes none =
+    let failed : failures (begun (opened_over all) told faults strikes) ≡ 0 = omega (arith, none) in
+    record { is = ap (risen faults) (sym failed); fits = λ some. absurd (omega (arith, failed, some)) }
+
+begun_desk : (all : List Row) (told : Option Told) (faults : ℕ) (strikes : List ℕ) → AreUnbroken all → AreToldRows all told
+    → length strikes ≡ most_seats → sum strikes ≡ 0 → IsDesk (begun (opened_over all) told faults strikes)
+begun_desk all told faults strikes unbroken rows seats none = record {
+  unbroken = unbroken;
+  fit = rows.fit;
+  told = IfSome_then told rows.told (λ one is. record { rows = is; whole = opens_whole all one.blobs });
+  since = still_same (first_blob_of all) (blobs_in told);
+  seats = seats;
+  counted = begun_counted all told faults strikes none;
+}
+
+pub opened_desk : (opening : Opening) (before after : Option Told) (k : Kept) (faults : ℕ) (strikes : List ℕ) → Opens opening before after k
+    → AreUnbroken k.opening → All Fits k.opening → MayBegin opening → length strikes ≡ most_seats → sum strikes ≡ 0
+    → IsDesk (begun k after faults strikes)
+opened_desk opening before after k faults strikes opens unbroken fit may seats none =
+    subst (λ (z : Kept). IsDesk (begun z after faults strikes)) (sym opens.begun)
+    (subst (λ (o : Option Told). IsDesk (begun (opened_over k.opening) o faults strikes)) (sym opens.told)
+    (begun_desk k.opening (told_first (first_of opening) opens.raws before) faults strikes unbroken
+    (rows_told (first_of opening) k.opening opens.raws before opens.loaded opens.rows unbroken fit (first_meta opening opens.raws may opens.kept))
+    seats none))
+
+-- what the keeper told then is what it tells
+pub opened_tale : {K : Type 0} (k : KeeperOf K) (site : Kept) (keeper : K) (strikes : List ℕ) (start : K) → start ≡ keeper
+    → IsDesk (begun site (k.told keeper) (k.faults keeper) strikes)
+    → IsDesk (record { site = site; told = k.told keeper; faults = k.faults keeper; strikes = strikes; start = tale k start })
+opened_tale {K = K} k site keeper strikes start same desk =
+    subst (λ (z : K). IsDesk (record { site = site; told = k.told keeper; faults = k.faults keeper; strikes = strikes; start = tale k z }))
+    (sym same) desk
+
+-- no seat has a strike
+pub no_strikes_of : (strikes : List ℕ) → strikes ≡ replicate most_seats 0 → (seat : ℕ) → strikes_of strikes seat ≡ 0
+no_strikes_of strikes none zero = refl
+no_strikes_of strikes none (suc place) = ap (λ (z : List ℕ). get_or z place 0) none ∙ elim (cases_lt place most_seats) [
+  | inl within ↦ get_or-replicate most_seats place 0 0 within
+  | inr past ↦ get_or_past (replicate most_seats 0) place 0 past
+]
 
 -- ---- what is opened
 
@@ -181,28 +230,29 @@ are_some raws shown empty is same some = λ none.
 
 -- over the first rows, where none were loaded
 opens_none : (opening : Opening) (before after : Option Told) (first : First) (k : Kept) → AreTold before [] → AreRisingRaws []
-    → first ≡ first_of opening → k ≡ opened_over first.rows
+    → (IsKept opening → ⊥) → first ≡ first_of opening → k ≡ opened_over first.rows
     → after ≡ option_map (applied (map Put first.rows) (first_blob first)) before → Opens opening before after k
-opens_none opening before after first k told rising same is made =
+opens_none opening before after first k told rising never same is made =
     subst (λ (z : Kept). Opens opening before after z) (sym is)
     (record {
       raws = [];
       loaded = record { told = told; rising = rising };
       fresh = λ _. refl;
+      kept = λ kept. absurd (never kept);
       rows = ap (λ (z : First). z.rows) same;
       begun = refl;
       told = subst (λ (z : First). after ≡ told_first z [] before) same made;
     })
 
 pub opens_first : (opening : Opening) (before loaded after : Option Told) (raws : List Raw) (first : First) (result : Result Held OpenFault)
-    → raws ≡ [] → AreTold before raws → AreRisingRaws raws → loaded ≡ before → first ≡ first_of opening
+    → raws ≡ [] → AreTold before raws → AreRisingRaws raws → loaded ≡ before → (IsKept opening → ⊥) → first ≡ first_of opening
     → IfOk result (λ site. site.kept ≡ opened_over first.rows)
     → OnOk result (after ≡ option_map (applied (map Put first.rows) (first_blob first)) loaded)
     → IfOk result (λ site. Opens opening before after site.kept)
-opens_first opening before loaded after raws first (Ok site) none told rising still same is made =
-    opens_none opening before after first site.kept (subst (AreTold before) none told) (subst AreRisingRaws none rising) same is
+opens_first opening before loaded after raws first (Ok site) none told rising still never same is made =
+    opens_none opening before after first site.kept (subst (AreTold before) none told) (subst AreRisingRaws none rising) never same is
     (subst (λ (o : Option Told). after ≡ option_map (applied (map Put first.rows) (first_blob first)) o) still made)
-opens_first opening before loaded after raws first (Err why) none told rising still same is made = tt
+opens_first opening before loaded after raws first (Err why) none told rising still never same is made = tt
 
 -- a Put fits where its row does
 puts_fit : (all : List Row) → All FitsChange (map Put all) → All Fits all
@@ -214,22 +264,29 @@ pub first_fit : (first : First) (result : Result Held OpenFault) → IfOk result
 first_fit first (Ok site) is fits = subst (λ (k : Kept). All Fits k.opening) (sym is) (puts_fit first.rows fits)
 first_fit first (Err why) is fits = tt
 
+-- what isn't to be fresh may have rows
+pub may_have : (opening : Opening) → ((first : First) × (opening ≡ Either first)) ⊎ (opening ≡ over.Kept) → MayHaveRows opening
+may_have opening (inl either) = subst MayHaveRows (sym either.1) tt
+may_have opening (inr kept) = subst MayHaveRows (sym kept) tt
+
 -- over the rows that were loaded
 pub opens_loaded : (opening : Opening) (before after : Option Told) (raws : List Raw) (all : List Row) (k : Kept) → raws ≢ []
-    → AreTold before raws → AreRisingRaws raws → after ≡ before → IsEither opening → AreSpelled raws all → k ≡ opened_over all
+    → AreTold before raws → AreRisingRaws raws → after ≡ before → MayHaveRows opening → AreSpelled raws all → k ≡ opened_over all
     → Opens opening before after k
-opens_loaded opening before after [] all k some told rising still either spelled is = absurd (some refl)
-opens_loaded opening before after (raw ∷ raws) all k some told rising still either spelled is =
+opens_loaded opening before after [] all k some told rising still may spelled is = absurd (some refl)
+opens_loaded opening before after (raw ∷ raws) all k some told rising still may spelled is =
     subst (λ (z : Kept). Opens opening before after z) (sym is)
     (record {
       raws = raw ∷ raws;
       loaded = record { told = told; rising = rising };
-      fresh = λ fresh. absurd (never opening fresh either);
+      fresh = λ fresh. absurd (never opening fresh may);
+      kept = λ _. some;
       rows = spelled;
       begun = refl;
       told = still;
     })
   where
-    never : (opening : Opening) → IsFresh opening → IsEither opening → ⊥
-    never (Fresh first) fresh either = either
-    never (Either first) fresh either = fresh
+    never : (opening : Opening) → IsFresh opening → MayHaveRows opening → ⊥
+    never (Fresh first) fresh may = may
+    never (Either first) fresh may = fresh
+    never over.Kept fresh may = fresh

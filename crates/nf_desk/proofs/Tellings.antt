@@ -1,8 +1,8 @@
 -- What the keeper tells after a step is true of the site after it.
-use Rattle.std.proofs.Common.{◌≡◌, ℕ, inl, inr, List, [], ◌∷◌, length, refl, sym, ap, subst, ◌∙◌, arith}
+use Rattle.std.proofs.Common.{◌≡◌, ℕ, List, [], ◌∷◌, length, refl, sym, ap, subst, ◌∙◌, arith}
 use Rattle.std.specs.Prelude.{Option, None, Some, option_map}
 use Rattle.std.specs.Option.{IfSome}
-use Rattle.std.proofs.lemmas.List.Elements.{All-nil, All-push}
+use Rattle.std.proofs.lemmas.List.Elements.{All-nil}
 use Rattle.nf_base.specs.declared.changes.Change.{Change}
 use Rattle.nf_defs.specs.Blobs.{Blobs, with_blob}
 use Rattle.nf_defs.specs.Rising.{AreRising}
@@ -28,10 +28,8 @@ use Rattle.nf_words.specs.declared.history.Mark.TheVariants as mark
 use Rattle.nf_words.specs.declared.history.Outcome.{Outcome}
 use Rattle.nf_words.specs.declared.history.Outcome.TheVariants.{Sent, Gone, Body}
 use Rattle.nf_words.specs.declared.history.Ticket.{Ticket}
-use Rattle.nf_words.specs.declared.request.Request.{Request}
-use Rattle.nf_words.specs.declared.request.Words.{Words}
-use Rattle.nf_desk.specs.Desk.{IsDesk, TellsSite, seat}
-use Rattle.nf_desk.specs.Stepping.{Asks, IsEmpty, Makes, Standing, Steps, Tells, entry_at, standing, stored_by, told_by}
+use Rattle.nf_desk.specs.Desk.{TellsSite, blobs_in}
+use Rattle.nf_desk.specs.Stepping.{IsEmpty, Makes, Standing, Steps, Tells, entry_at, standing, stored_by, told_by}
 
 -- ---- what is told after an entry, as a function
 
@@ -95,34 +93,40 @@ empty_changes s by now outcome empty = here outcome (ticket_of s by) empty
     here Gone (Some ticket) empty = refl
     here (Body digest size) ticket empty = absurd empty
 
+pub empty_brings : (outcome : Outcome) → IsEmpty outcome → Brings [] (End outcome)
+empty_brings Sent empty = tt
+empty_brings Gone empty = tt
+empty_brings (Body digest size) empty = absurd empty
+
 -- so it is a step of which the keeper isn't told
-pub empty_steps : (k l : Kept) (told : Option Told) (faults now : ℕ) (outcome : Outcome) (answer : Answer) → IsEmpty outcome
-    → Makes k l now (End outcome) mark.Answered answer → Steps (standing k told faults) (standing l told faults) now (End outcome) [] answer
-empty_steps k l told faults now outcome answer empty makes = record {
+pub empty_steps : (seat : ℕ) (k l : Kept) (told : Option Told) (faults now : ℕ) (outcome : Outcome) (answer : Answer) → IsEmpty outcome
+    → Makes seat k l now (End outcome) mark.Answered answer
+    → Steps seat (standing k told faults) (standing l told faults) now (End outcome) [] answer
+empty_steps seat k l told faults now outcome answer empty makes = record {
   mark = mark.Answered;
   makes = makes;
   tells = subst (λ (changes : List Change). Tells mark.Answered changes (stored_by (blob_to k.state seat (moment_of k.state now) (End outcome)) []) told told)
       (sym (empty_changes k.state seat (moment_of k.state now) outcome empty))
       (refl, All-nil FitsChange);
-  strikes = refl;
+  faults = refl;
   rises = omega arith;
 }
 
 -- ---- what is told after a step
 
-told_is : (n : ℕ) (s : State) (moment : ℕ) (event : Event) (m : Mark) (body : List ℕ) (before now : Option Told) → IsSound s
+told_is : (seat n : ℕ) (s : State) (moment : ℕ) (event : Event) (m : Mark) (body : List ℕ) (before now : Option Told) → IsSound s
     → MayCome n s (entry seat moment event m) → Tells m (changes_to s seat moment event) (stored_by (blob_to s seat moment event) body) before now
     → now ≡ option_map (told_after s (entry seat moment event m) body) before
-told_is n s moment event mark.Answered body before now sound may tells =
+told_is seat n s moment event mark.Answered body before now sound may tells =
     tells.0 ∙ told_by_is (changes_to s seat moment event) (blob_to s seat moment event) body before (no_blob n s seat moment event sound may)
-told_is n s moment event mark.Store body before now sound may tells = tells ∙ told_same before body
-told_is n s moment event mark.Memory body before now sound may tells = tells ∙ told_same before body
+told_is seat n s moment event mark.Store body before now sound may tells = tells ∙ told_same before body
+told_is seat n s moment event mark.Memory body before now sound may tells = tells ∙ told_same before body
 
-pub steps_told : (a b : Standing) (now : ℕ) (event : Event) (body : List ℕ) (answer : Answer) → IsSound a.site.state
-    → (steps : Steps a b now event body answer)
-    → b.told ≡ option_map (told_after a.site.state (entry_at a.site now event steps.mark) body) a.told
-steps_told a b now event body answer sound steps =
-    told_is (length a.site.history) a.site.state (moment_of a.site.state now) event steps.mark body a.told b.told sound steps.makes.may_come steps.tells
+pub steps_told : (seat : ℕ) (a b : Standing) (now : ℕ) (event : Event) (body : List ℕ) (answer : Answer) → IsSound a.site.state
+    → (steps : Steps seat a b now event body answer)
+    → b.told ≡ option_map (told_after a.site.state (entry_at seat a.site now event steps.mark) body) a.told
+steps_told seat a b now event body answer sound steps =
+    told_is seat (length a.site.history) a.site.state (moment_of a.site.state now) event steps.mark body a.told b.told sound steps.makes.may_come steps.tells
 
 -- ---- the rows
 
@@ -138,18 +142,18 @@ record FollowsRows (s : State) (e : Entry) (m : Mark) : Type 0 where
 failed_rows : (s t : State) → t.tables ≡ s.tables → AreFit s.tables → (told_of t.tables ≡ told_of s.tables) × AreFit t.tables
 failed_rows s t same fit = (ap told_of same, subst AreFit (sym same) fit)
 
-rows_follow : (n : ℕ) (s : State) (moment : ℕ) (event : Event) (m : Mark) (stored : Option Stored) (before now : Option Told)
+rows_follow : (seat n : ℕ) (s : State) (moment : ℕ) (event : Event) (m : Mark) (stored : Option Stored) (before now : Option Told)
     → IsSound s → AreRising s.tables → AreFit s.tables → MayCome n s (entry seat moment event m)
     → Tells m (changes_to s seat moment event) stored before now → FollowsRows s (entry seat moment event m) m
-rows_follow n s moment event mark.Answered stored before now sound rising fit may tells =
+rows_follow seat n s moment event mark.Answered stored before now sound rising fit may tells =
     let changes = changes_to s seat moment event in
     let put = changes_tell.put s seat moment event sound may.asked in
     let next = told_follows s.tables changes rising fit tells.1 (changes_tell.droppable s seat moment event) in
     record { rows = ap told_of (sym put) ∙ next.told; fit = subst AreFit put next.fit }
-rows_follow n s moment event mark.Store stored before now sound rising fit may tells =
+rows_follow seat n s moment event mark.Store stored before now sound rising fit may tells =
     let same = failed_rows s (failed s seat moment event) (failed_tables s seat moment event) fit in
     record { rows = same.0; fit = same.1 }
-rows_follow n s moment event mark.Memory stored before now sound rising fit may tells =
+rows_follow seat n s moment event mark.Memory stored before now sound rising fit may tells =
     let same = failed_rows s (failed s seat moment event) (failed_tables s seat moment event) fit in
     record { rows = same.0; fit = same.1 }
 
@@ -167,32 +171,26 @@ tells_after k e body told sound may brings follows tells = record {
   whole = stays_whole (length k.history) k.state e body k.opening told.blobs sound may brings tells.whole;
 }
 
-pub steps_desk : (a b : Standing) (now : ℕ) (event : Event) (body : List ℕ) (answer : Answer) → IsSound a.site.state
-    → AreRising a.site.state.tables → Brings body event → Steps a b now event body answer → IsDesk a.site a.told → IsDesk b.site b.told
-steps_desk a b now event body answer sound rising brings steps desk =
-    let e = entry_at a.site now event steps.mark in
-    let rows = rows_follow (length a.site.history) a.site.state (moment_of a.site.state now) event steps.mark
-    (stored_by (blob_to a.site.state seat (moment_of a.site.state now) event) body) a.told b.told sound rising desk.fit steps.makes.may_come steps.tells in
-    subst (λ (k : Kept). IsDesk k b.told) (sym steps.makes.site)
-    (subst (λ (o : Option Told). IsDesk (entered a.site e) o) (sym (steps_told a b now event body answer sound steps))
+-- of what a desk keeps, what is true of the site
+pub record IsTrueOf (k : Kept) (keeper : Option Told) : Type 0 where
+  pub fit : AreFit k.state.tables
+  pub told : IfSome keeper (TellsSite k)
+
+pub steps_true : (seat : ℕ) (a b : Standing) (now : ℕ) (event : Event) (body : List ℕ) (answer : Answer) → IsSound a.site.state
+    → AreRising a.site.state.tables → Brings body event → (steps : Steps seat a b now event body answer) → AreFit a.site.state.tables
+    → IfSome a.told (TellsSite a.site) → IsTrueOf (entered a.site (entry_at seat a.site now event steps.mark)) b.told
+steps_true seat a b now event body answer sound rising brings steps fit tells =
+    let e = entry_at seat a.site now event steps.mark in
+    let rows = rows_follow seat (length a.site.history) a.site.state (moment_of a.site.state now) event steps.mark
+    (stored_by (blob_to a.site.state seat (moment_of a.site.state now) event) body) a.told b.told sound rising fit steps.makes.may_come steps.tells in
+    subst (λ (o : Option Told). IsTrueOf (entered a.site e) o) (sym (steps_told seat a b now event body answer sound steps))
     (record {
-      alone = All-push (λ (x : Entry). x.seat ≡ seat) a.site.history e desk.alone refl;
       fit = rows.fit;
       told = map_some (TellsSite a.site) (TellsSite (entered a.site e)) (told_after a.site.state e body) a.told
-          (λ told tells. tells_after a.site e body told sound steps.makes.may_come brings rows tells) desk.told;
-    }))
-
-pub asks_desk : (a b : Standing) (now : ℕ) (words : Words) (request : Request) (answer : Answer) → IsSound a.site.state
-    → AreRising a.site.state.tables → Asks a b now words request answer → IsDesk a.site a.told → IsDesk b.site b.told
-asks_desk a b now words request answer sound rising (inl steps) desk =
-    steps_desk a b now (Begin words request) [] answer sound rising tt steps desk
-asks_desk a b now words request answer sound rising (inr none) desk =
-    subst (λ (z : Standing). IsDesk z.site z.told) (sym none.same) desk
+          (λ told is. tells_after a.site e body told sound steps.makes.may_come brings rows is) tells;
+    })
 
 -- ---- the blobs
-
-abbrev pub blobs_in : Option Told → Option Blobs
-blobs_in told = option_map (λ told. told.blobs) told
 
 -- numbers that were given keep their bytes
 still_by : (n : ℕ) (s : State) (e : Entry) (body : List ℕ) (before : Option Told) → IsSound s → MayCome n s e
@@ -200,9 +198,9 @@ still_by : (n : ℕ) (s : State) (e : Entry) (body : List ℕ) (before : Option 
 still_by n s e body None sound may = refl
 still_by n s e body (Some told) sound may = λ id less. blobs_are_new.same n s e body told.blobs id sound may less
 
-pub steps_still : (a b : Standing) (now : ℕ) (event : Event) (body : List ℕ) (answer : Answer) → IsSound a.site.state
-    → Steps a b now event body answer → TellsStill a.site.state.tables.meta.next_blob (blobs_in a.told) (blobs_in b.told)
-steps_still a b now event body answer sound steps =
+pub steps_still : (seat : ℕ) (a b : Standing) (now : ℕ) (event : Event) (body : List ℕ) (answer : Answer) → IsSound a.site.state
+    → Steps seat a b now event body answer → TellsStill a.site.state.tables.meta.next_blob (blobs_in a.told) (blobs_in b.told)
+steps_still seat a b now event body answer sound steps =
     subst (λ (o : Option Told). TellsStill a.site.state.tables.meta.next_blob (blobs_in a.told) (blobs_in o))
-    (sym (steps_told a b now event body answer sound steps))
-    (still_by (length a.site.history) a.site.state (entry_at a.site now event steps.mark) body a.told sound steps.makes.may_come)
+    (sym (steps_told seat a b now event body answer sound steps))
+    (still_by (length a.site.history) a.site.state (entry_at seat a.site now event steps.mark) body a.told sound steps.makes.may_come)

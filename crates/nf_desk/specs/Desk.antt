@@ -1,11 +1,12 @@
 -- The site, its keeper and the strikes, at which the seats take their turns.
-use Rattle.std.specs.Prelude.{◌≡◌, ℕ, zero, suc, min, ◌+◌, ◌-◌, ◌*◌, ◌^◌, ◌<◌, ◌≤◌, ◌==◌, List, [], filter, get_or, length, sum, Option, option_map}
+use Rattle.std.specs.Prelude.{◌≡◌, ℕ, zero, suc, min, ◌+◌, ◌-◌, ◌^◌, ◌<◌, ◌==◌, List, [], ◌∷◌, filter, get_or, length, sum, Option, option_map}
 use Rattle.std.specs.Option.{IfSome}
 use Rattle.std.specs.declared.snapshot.Snapshot.{Snapshot}
 use Rattle.nf_defs.specs.Blobs.{Blobs, blob_at}
 use Rattle.nf_keeper.specs.declared.keeper.Keeper.{Ghosts as KeeperOf}
 use Rattle.nf_laws.specs.Wholes.{IsWhole}
 use Rattle.nf_base.specs.declared.rows.Row.{Row}
+use Rattle.nf_rules.specs.Rules.{AreUnbroken}
 use Rattle.nf_session.specs.Book.{Book, TellsStill, own_from}
 use Rattle.nf_site.specs.Held.{Held}
 use Rattle.nf_site.specs.Kept.{IsHistory, Kept}
@@ -122,9 +123,10 @@ pub record IsCounted (a : Shown) : Type 0 where
   pub is : a.faults ≡ risen a.start.faults (failures a)
   pub fits : 0 < failures a → a.start.faults < 2 ^ 64
 
--- each row has a spelling, what the keeper tells is true of the site, the blobs of the opening are told as they were then, and each
--- failure is counted
+-- the opening's rows break no rule, each row has a spelling, what the keeper tells is true of the site, the blobs of the opening are told
+-- as they were then, and each failure is counted
 pub record IsDesk (a : Shown) : Type 0 where
+  pub unbroken : AreUnbroken a.site.opening
   pub fit : AreFit a.site.state.tables
   pub told : IfSome a.told (TellsSite a.site)
   pub since : TellsStill (first_blob_of a.site.opening) (blobs_in a.start.told) (blobs_in a.told)

@@ -1,5 +1,5 @@
 -- What a keeper gives of a piece.
-use Rattle.std.specs.Prelude.{◌≡◌, ℕ, ◌<◌, List, length, Option, Some, Result, Ok, Err, slice_get, Vec}
+use Rattle.std.specs.Prelude.{◌≡◌, ℕ, ◌-◌, ◌<◌, ◌≤◌, List, length, Option, Some, Result, Ok, Err, slice_get, slice_set, Vec}
 use Rattle.std.specs.Option.{IfSome}
 use Rattle.std.specs.declared.alloc.Global.{Global}
 use Rattle.sha2.specs.Sha256.{sha256}
@@ -61,6 +61,18 @@ abbrev pub StrikesSeat : ℕ → List ℕ → List ℕ → Result (Option (Vec �
 StrikesSeat n before now (Ok found) = now ≡ before
 StrikesSeat n before now (Err Failed) = Struck (strikes_of before n) (strikes_of now n)
 StrikesSeat n before now (Err Memory) = now ≡ before
+
+-- the seat's strikes rose by one, and no other's
+pub record StrikesOne (n : ℕ) (before now : List ℕ) : Type 0 where
+  pub struck : Struck (strikes_of before n) (strikes_of now n)
+  pub rises : strikes_of before n ≤ strikes_of now n
+  pub alone : now ≡ slice_set before (n - 1) (strikes_of now n)
+
+-- what counting it does to the strikes
+abbrev pub StrikesBy : ℕ → List ℕ → List ℕ → Result (Option (Vec ℕ Global)) KeepFault → Type 0
+StrikesBy n before now (Ok found) = now ≡ before
+StrikesBy n before now (Err Failed) = StrikesOne n before now
+StrikesBy n before now (Err Memory) = now ≡ before
 
 -- a piece of what the seat with the number n was granted was read, or not
 pub record Reads (n : ℕ) (a b : Shown) (content : List Piece) (index : ℕ)

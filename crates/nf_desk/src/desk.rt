@@ -1,16 +1,15 @@
 //! The site and its keeper, at which seats take their turns.
 
-ghost use Rattle.std.specs.Prelude.{◌≡◌, ◌<◌, ◌≤◌, [], length, IfErr, IfOk, IfSome, None, Some};
+ghost use Rattle.std.specs.Prelude.{◌≡◌, ◌<◌, ◌≤◌, length, replicate, IfErr, IfOk, None, Some};
 ghost use Rattle.sha2.specs.Sha256.{sha256};
 ghost use Rattle.nf_desk.specs.Desk.{IsDesk, TakesTurn, book_at, meanings, most_seats, shown};
 ghost use Rattle.nf_desk.specs.Opened.{CountsFault, IsFault, MayBegin, Opens};
-ghost use Rattle.nf_desk.specs.Pieces.{Reads};
+ghost use Rattle.nf_desk.specs.Pieces.{Reads, StrikesBy};
 ghost use Rattle.nf_desk.specs.Stepping.{HeldMayEnd, IsEmpty};
 ghost use Rattle.nf_rules.specs.Ruled.{AreRuled};
 ghost use Rattle.nf_rules.specs.Rules.{AreUnbroken};
 ghost use Rattle.nf_session.specs.Book.{Begins, EndsBody, EndsEmpty, held};
 ghost use Rattle.nf_site.specs.Kept.{IsHistory};
-ghost use Rattle.nf_told.specs.Told.{AreFit};
 ghost use Rattle.nf_turn.specs.Book.{IsFresh};
 ghost use Rattle.nf_words.specs.History.{MayWant};
 ghost use Rattle.nf_words.specs.Sound.{IsSound};
@@ -41,18 +40,18 @@ pub struct Desk<K: Keeper + Drop> {
 }
 
 impl<K: Keeper + Drop> Model for Desk<K> {
-    ghost use Rattle.nf_desk.specs.Desk.{Served, tale};
+    ghost use Rattle.nf_desk.specs.Desk.{IsDesk, Served, tale};
 
     ghost Value = { Served K };
 
     ghost view = { λ desk. record { site = desk.site; keeper = desk.keeper; strikes = desk.strikes; start = desk.start } };
 
     ghost invariant = { λ desk. IsDesk record {
-        site = desk.site.kept;
-        told = K.told desk.keeper;
-        faults = K.faults desk.keeper;
-        strikes = desk.strikes;
-        start = tale K.Keeper desk.start.value;
+      site = desk.site.kept;
+      told = K.told desk.keeper;
+      faults = K.faults desk.keeper;
+      strikes = desk.strikes;
+      start = tale K.Keeper desk.start.value;
     } };
 }
 
@@ -87,7 +86,7 @@ impl<K: Keeper + Drop> Desk<K> {
                     alloc,
                     site,
                     keeper,
-                    strikes: [0; 64],
+                    strikes: no_strikes(),
                     start,
                 })
             }
@@ -103,7 +102,7 @@ impl<K: Keeper + Drop> Desk<K> {
         ensures turn { TakesTurn K.Keeper seat self.old self.new }
     {
         let _ = self.site.history();
-        begin(
+        let answer = begin(
             self.alloc,
             &mut self.site,
             &mut self.keeper,
@@ -111,7 +110,9 @@ impl<K: Keeper + Drop> Desk<K> {
             now,
             words,
             request,
-        )
+        );
+        let _ = self.site.history();
+        answer
     }
 
     /// Reads a piece of what the seat was granted. Whether it is whole isn't tested here, since that takes its time.
@@ -128,12 +129,9 @@ impl<K: Keeper + Drop> Desk<K> {
         ensures turn { TakesTurn K.Keeper seat self.old self.new }
     {
         let _ = self.site.history();
-        let result = self.keeper.blob(piece_at(content, index).blob);
-        if let Err(KeepFault::Failed) = result {
-            let place = (seat - 1) as usize;
-            self.strikes[place] = self.strikes[place].saturating_add(1);
-        }
-        result
+        let read = self.keeper.blob(piece_at(content, index).blob);
+        strike(&mut self.strikes, seat, &read);
+        read
     }
 
     /// Ends what was granted to the seat, where it brings nothing. It takes no memory, and the keeper has nothing to do.
@@ -144,7 +142,9 @@ impl<K: Keeper + Drop> Desk<K> {
         ensures turn { TakesTurn K.Keeper seat self.old self.new }
     {
         let _ = self.site.history();
-        finish(self.alloc, &mut self.site, seat, now, outcome)
+        let answer = finish(self.alloc, &mut self.site, seat, now, outcome);
+        let _ = self.site.history();
+        answer
     }
 
     /// Ends the PUT that was granted to the seat, with its body and that body's digest.
@@ -155,7 +155,7 @@ impl<K: Keeper + Drop> Desk<K> {
         ensures turn { TakesTurn K.Keeper seat self.old self.new }
     {
         let _ = self.site.history();
-        store(
+        let answer = store(
             self.alloc,
             &mut self.site,
             &mut self.keeper,
@@ -163,7 +163,9 @@ impl<K: Keeper + Drop> Desk<K> {
             now,
             digest,
             body,
-        )
+        );
+        let _ = self.site.history();
+        answer
     }
 
     /// The site and its keeper. The history is legal, the state is sound, each failure of the keeper is counted, and what it tells is true
@@ -185,5 +187,22 @@ impl<K: Keeper + Drop> Desk<K> {
         } = self;
         let _ = site.history();
         (site, keeper)
+    }
+}
+
+fn no_strikes() -> [u64; 64]
+    ensures { result ≡ replicate most_seats 0 }
+{
+    [0; 64]
+}
+
+/// Counts it at the seat where the keeper failed.
+fn strike(strikes: &mut [u64; 64], seat: u64, read: &Result<Option<Vec<u8>>, KeepFault>)
+    requires { (0 < seat) × (seat ≤ most_seats) }
+    ensures { StrikesBy seat strikes.old strikes.new read.now }
+{
+    if let Err(KeepFault::Failed) = read {
+        let place = (seat - 1) as usize;
+        strikes[place] = strikes[place].saturating_add(1);
     }
 }

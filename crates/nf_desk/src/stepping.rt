@@ -82,15 +82,7 @@ pub(crate) fn store<K: Keeper>(
     ensures { Steps seat (standing site.old.kept (K.told keeper.old) (K.faults keeper.old))
         (standing site.new.kept (K.told keeper.new) (K.faults keeper.new)) now (event_of_body body.now) body.now result }
 {
-    match step(
-        alloc,
-        site,
-        keeper,
-        seat,
-        now,
-        event_of(digest, body),
-        body,
-    ) {
+    match step(alloc, site, keeper, seat, now, event_of(digest, body), body) {
         Ok(answer) => answer,
         Err(AllocError) => {
             site.fail(seat, now, event_of(digest, body), Mark::Memory);

@@ -1,0 +1,218 @@
+-- What a turn at the desk keeps, and what it is to the lock.
+use Rattle.std.proofs.Common.{◌≡◌, ◌≢◌, inl, inr, ℕ, ◌<◌, ◌≤◌, List, [], ◌∷◌, ◌++◌, length, Result, Ok, Err, refl, sym, ap, subst, ◌∙◌, append-nil, arith}
+use Rattle.std.specs.Prelude.{Option, None, Some, IfOk, option_map, slice_get, Vec}
+use Rattle.std.specs.declared.alloc.Global.{Global}
+use Rattle.std.specs.declared.snapshot.Snapshot.{Snapshot}
+use Rattle.std.specs.List.{All}
+use Rattle.std.proofs.lemmas.List.Elements.{All-cons, All-nil}
+use Rattle.nf_base.specs.declared.content.Piece.{Piece}
+use Rattle.nf_defs.specs.Blobs.{Blobs}
+use Rattle.nf_defs.specs.Rising.{AreRising}
+use Rattle.nf_keeper.specs.Keeping.{Counts, IsTold}
+use Rattle.nf_keeper.specs.Views.{bytes_in}
+use Rattle.nf_keeper.specs.declared.keeper.KeepFault.{KeepFault}
+use Rattle.nf_keeper.specs.declared.keeper.KeepFault.TheVariants.{Failed, Memory}
+use Rattle.nf_keeper.specs.declared.keeper.Keeper.{Ghosts as KeeperOf}
+use Rattle.nf_laws.proofs.Counters.{counters_rise}
+use Rattle.nf_laws.specs.Wholes.{Brings}
+use Rattle.nf_session.specs.Book.{Answer, Lasts, TellsStill, held, next_blob_of}
+use Rattle.nf_site.specs.Held.{Held}
+use Rattle.nf_site.specs.Kept.{IsHistory, Kept}
+use Rattle.nf_told.specs.Told.{Told}
+use Rattle.nf_turn.specs.Book.{KeepsShelf}
+use Rattle.nf_words.specs.Sound.{IsSound}
+use Rattle.nf_words.specs.State.{opened}
+use Rattle.nf_words.specs.declared.answer.Goal.TheVariants.{Serve}
+use Rattle.nf_words.specs.declared.history.Entry.{Entry}
+use Rattle.nf_words.specs.declared.history.Event.{Event}
+use Rattle.nf_words.specs.declared.history.Event.TheVariants.{Begin}
+use Rattle.nf_words.specs.declared.request.Request.{Request}
+use Rattle.nf_words.specs.declared.request.Words.{Words}
+use Rattle.nf_desk.specs.Desk.{IsCounted, IsDesk, Served, Shown, TakesTurn, blobs_in, book_at, failures, first_blob_of, shelf_of, shown, strikes_of}
+use Rattle.nf_desk.specs.Pieces.{Reads, StrikesBy}
+use Rattle.nf_desk.specs.Stepping.{Asks, Standing, Steps, entry_at, standing}
+use Rattle.nf_desk.proofs.Counting.{counted_more, counted_same, failures_struck, marks, moved, standing_in, strike}
+use Rattle.nf_desk.proofs.Entering.{step_enters, stepped, steps_enter, waits}
+use Rattle.nf_desk.proofs.Giving.{HasStrikes, counted_on, reads}
+use Rattle.nf_desk.proofs.Tellings.{steps_true}
+
+-- ---- the blobs of the opening
+
+still_then : (first next : ℕ) (start old new : Option Blobs) → first ≤ next → TellsStill first start old → TellsStill next old new
+    → TellsStill first start new
+still_then first next None old new less before now = subst (λ (o : Option Blobs). TellsStill next o new) before now
+still_then first next (Some begun) None new less before now = absurd before
+still_then first next (Some begun) (Some old) None less before now = absurd now
+still_then first next (Some begun) (Some old) (Some new) less before now = λ id within. now id (omega (arith, less, within)) ∙ before id within
+
+pub since_start : (seat : ℕ) (a b : Shown) → Lasts (book_at seat a) (book_at seat b) → b.start ≡ a.start
+    → TellsStill (first_blob_of a.site.opening) (blobs_in a.start.told) (blobs_in a.told)
+    → TellsStill (first_blob_of a.site.opening) (blobs_in a.start.told) (blobs_in b.told)
+since_start seat a b lasts start since =
+    still_then (first_blob_of a.site.opening) _ (blobs_in a.start.told) (blobs_in a.told) (blobs_in b.told)
+    (counters_rise (opened a.site.opening) a.site.history).blobs since lasts.told
+
+-- ---- a step
+
+desk_stepped : (seat : ℕ) (a : Shown) (b : Standing) (now : ℕ) (event : Event) (body : List ℕ) (answer : Answer) → IsHistory a.site
+    → IsSound a.site.state → AreRising a.site.state.tables → Brings body event → (steps : Steps seat (standing_in a) b now event body answer)
+    → IsDesk a → IsDesk (stepped seat a b now event body answer steps)
+desk_stepped seat a b now event body answer h sound rising brings steps desk =
+    let true_of = steps_true seat (standing_in a) b now event body answer sound rising brings steps desk.fit desk.told in
+    let enters = step_enters seat a b now event body answer h sound desk.counted steps in
+    record {
+      unbroken = desk.unbroken;
+      fit = true_of.fit;
+      told = true_of.told;
+      since = since_start seat a (stepped seat a b now event body answer steps) enters.lasts refl desk.since;
+      seats = desk.seats;
+      counted = (marks seat a (entry_at seat a.site now event steps.mark) b.told b.faults desk.counted refl steps.faults steps.rises).counted;
+    }
+
+pub steps_desk : (seat : ℕ) (a : Shown) (b : Standing) (now : ℕ) (event : Event) (body : List ℕ) (answer : Answer) → IsHistory a.site
+    → IsSound a.site.state → AreRising a.site.state.tables → Brings body event → Steps seat (standing_in a) b now event body answer
+    → IsDesk a → IsDesk (moved a b)
+steps_desk seat a b now event body answer h sound rising brings steps desk =
+    subst (λ (k : Kept). IsDesk (moved a (standing k b.told b.faults))) (sym steps.makes.site)
+    (desk_stepped seat a b now event body answer h sound rising brings steps desk)
+
+pub asks_desk : (seat : ℕ) (a : Shown) (b : Standing) (now : ℕ) (words : Words) (request : Request) (answer : Answer) → IsHistory a.site
+    → IsSound a.site.state → AreRising a.site.state.tables → Asks seat (standing_in a) b now words request answer → IsDesk a → IsDesk (moved a b)
+asks_desk seat a b now words request answer h sound rising (inl steps) desk =
+    steps_desk seat a b now (Begin words request) [] answer h sound rising tt steps desk
+asks_desk seat a b now words request answer h sound rising (inr none) desk =
+    subst (λ (z : Standing). IsDesk (moved a z)) (sym none.same) desk
+
+-- ---- reading
+
+read_counted : (seat : ℕ) (a : Shown) (faults : ℕ) (strikes : List ℕ) (result : Result (Option (Vec ℕ Global)) KeepFault)
+    → HasStrikes seat a → IsCounted a → Counts a.faults faults result → StrikesBy seat a.strikes strikes result → IsCounted (counted_on a faults strikes)
+read_counted seat a faults strikes (Ok found) has counted counts by =
+    counted_same a (counted_on a faults strikes) counted refl (ap (λ (z : List ℕ). failures (counted_on a faults z)) by) counts
+read_counted seat a faults strikes (Err Failed) has counted counts by =
+    counted_more a (counted_on a faults strikes) counted refl (failures_struck a faults strikes seat (strike seat a.strikes strikes has.0 has.1 by)) counts.0 counts.1
+read_counted seat a faults strikes (Err Memory) has counted counts by =
+    counted_same a (counted_on a faults strikes) counted refl (ap (λ (z : List ℕ). failures (counted_on a faults z)) by) counts
+
+-- what a call of the keeper does to the strikes of the seats
+pub record StrikesAlone (seat : ℕ) (strikes more : List ℕ) : Type 0 where
+  pub seats : length more ≡ length strikes
+  pub rises : strikes_of strikes seat ≤ strikes_of more seat
+  pub others : (m : ℕ) → m ≢ seat → strikes_of more m ≡ strikes_of strikes m
+
+strikes_stay : (seat : ℕ) (strikes more : List ℕ) → more ≡ strikes → StrikesAlone seat strikes more
+strikes_stay seat strikes more same = record {
+  seats = ap (λ (z : List ℕ). length z) same;
+  rises = let is : strikes_of more seat ≡ strikes_of strikes seat = ap (λ (z : List ℕ). strikes_of z seat) same in omega (arith, is);
+  others = λ m differ. ap (λ (z : List ℕ). strikes_of z m) same;
+}
+
+strikes_alone : (seat : ℕ) (strikes more : List ℕ) (result : Result (Option (Vec ℕ Global)) KeepFault) → 0 < seat → seat ≤ length strikes
+    → StrikesBy seat strikes more result → StrikesAlone seat strikes more
+strikes_alone seat strikes more (Ok found) some within by = strikes_stay seat strikes more by
+strikes_alone seat strikes more (Err Failed) some within by =
+    let struck = strike seat strikes more some within by in record { seats = struck.seats; rises = by.rises; others = struck.others }
+strikes_alone seat strikes more (Err Memory) some within by = strikes_stay seat strikes more by
+
+pub read_desk : (seat : ℕ) (a : Shown) (faults : ℕ) (strikes : List ℕ) (result : Result (Option (Vec ℕ Global)) KeepFault)
+    → HasStrikes seat a → Counts a.faults faults result → StrikesBy seat a.strikes strikes result → IsDesk a
+    → IsDesk (counted_on a faults strikes)
+read_desk seat a faults strikes result has counts by desk = record {
+  unbroken = desk.unbroken;
+  fit = desk.fit;
+  told = desk.told;
+  since = desk.since;
+  seats = (strikes_alone seat a.strikes strikes result has.0 has.1 by).seats ∙ desk.seats;
+  counted = read_counted seat a faults strikes result has desk.counted counts by;
+}
+
+-- ---- a turn
+
+stays : (seat : ℕ) (a : Shown) → Lasts (book_at seat a) (book_at seat a)
+stays seat a = (waits seat a.site a.site a.told a.told (book_at seat a).strikes (book_at seat a).strikes refl refl (omega arith)).lasts
+
+shelf_kept : (seat : ℕ) (a b : Shown) → Lasts (book_at seat a) (book_at seat b)
+    → KeepsShelf (option_map (shelf_of a.site) a.told) (option_map (shelf_of b.site) b.told)
+shelf_kept seat a b lasts = here a.told b.told lasts.told
+  where
+    here : (old new : Option Told) → TellsStill (next_blob_of (book_at seat a)) (blobs_in old) (blobs_in new)
+        → KeepsShelf (option_map (shelf_of a.site) old) (option_map (shelf_of b.site) new)
+    here None None still = tt
+    here None (Some new) still = absurd (cc)
+    here (Some old) None still = absurd still
+    here (Some old) (Some new) still = (lasts.next_blob, omega arith, λ m less. inl (still m less))
+
+-- what a desk holds, of its fields
+abbrev pub served : {K : Type 0} → Held → K → List ℕ → Snapshot K → Served K
+served site keeper strikes start = record { site = site; keeper = keeper; strikes = strikes; start = start }
+
+module _ {K : Type 0} (k : KeeperOf K) (seat : ℕ) (old : Served K) where
+  takes_turn : (new : Served K) (added : List Entry) → IsHistory old.site.kept → IsHistory new.site.kept
+      → new.site.kept.history ≡ old.site.kept.history ++ added → All (λ (e : Entry). e.seat ≡ seat) added
+      → StrikesAlone seat old.strikes new.strikes → new.start ≡ old.start
+      → Lasts (book_at seat (shown k old)) (book_at seat (shown k new)) → TakesTurn k seat old new
+  takes_turn new added before after entries alone strikes start lasts = record {
+    alone = record {
+      added = added;
+      entries = entries;
+      alone = alone;
+      others = strikes.others;
+      strikes = strikes.rises;
+      keeps = record {
+        opening = λ i. (lasts.opening i, start i);
+        shelf = shelf_kept seat (shown k old) (shown k new) lasts;
+      };
+    };
+    before = before;
+    after = after;
+  }
+
+  -- the desk after a step
+  abbrev pub serving : Held → K → Served K
+  serving site keeper = record old { site = site; keeper = keeper }
+
+  abbrev pub standing_by : Held → K → Standing
+  standing_by site keeper = standing site.kept (k.told keeper) (k.faults keeper)
+
+  pub steps_turn : (site : Held) (keeper : K) (now : ℕ) (event : Event) (body : List ℕ) (answer : Answer) → IsHistory old.site.kept
+      → IsHistory site.kept → IsSound old.site.kept.state → IsCounted (shown k old)
+      → Steps seat (standing_by old.site old.keeper) (standing_by site keeper) now event body answer → TakesTurn k seat old (serving site keeper)
+  steps_turn site keeper now event body answer before after sound counted steps =
+      takes_turn (serving site keeper) (entry_at seat old.site.kept now event steps.mark ∷ []) before after
+      (ap (λ (z : Kept). z.history) steps.makes.site)
+      (All-cons (λ (e : Entry). e.seat ≡ seat) _ [] refl (All-nil (λ (e : Entry). e.seat ≡ seat)))
+      (strikes_stay seat old.strikes old.strikes refl) refl
+      (steps_enter seat (shown k old) (standing_by site keeper) now event body answer before sound counted steps).lasts
+
+  pub asks_turn : (site : Held) (keeper : K) (now : ℕ) (words : Words) (request : Request) (answer : Answer) → IsHistory old.site.kept
+      → IsHistory site.kept → IsSound old.site.kept.state → IsCounted (shown k old)
+      → Asks seat (standing_by old.site old.keeper) (standing_by site keeper) now words request answer
+      → TakesTurn k seat old (serving site keeper)
+  asks_turn site keeper now words request answer before after sound counted (inl steps) =
+      steps_turn site keeper now (Begin words request) [] answer before after sound counted steps
+  asks_turn site keeper now words request answer before after sound counted (inr none) =
+      takes_turn (serving site keeper) [] before after
+      (ap (λ (z : Standing). z.site.history) none.same ∙ sym (append-nil old.site.kept.history)) (All-nil (λ (e : Entry). e.seat ≡ seat))
+      (strikes_stay seat old.strikes old.strikes refl) refl
+      (subst (λ (z : Standing). Lasts (book_at seat (shown k old)) (book_at seat (moved (shown k old) z))) (sym none.same)
+      (stays seat (shown k old)))
+
+  pub read_shown : (keeper : K) (strikes : List ℕ) (content : List Piece) (index : ℕ) (piece : Piece)
+      (result : Result (Option (Vec ℕ Global)) KeepFault)
+      → HasStrikes seat (shown k old) → IsHistory old.site.kept → IsSound old.site.kept.state → IsDesk (shown k old)
+      → held (book_at seat (shown k old)) ≡ Some (Serve content) → slice_get content index ≡ Some piece → k.told keeper ≡ k.told old.keeper
+      → IfOk result (λ bytes. IsTold (k.told old.keeper) piece.blob (bytes_in bytes)) → Counts (k.faults old.keeper) (k.faults keeper) result
+      → StrikesBy seat old.strikes strikes result
+      → Reads seat (shown k old) (shown k (record old { keeper = keeper; strikes = strikes })) content index result
+  read_shown keeper strikes content index piece result has h sound desk holds at same told counts by =
+      subst (λ (o : Option Told). Reads seat (shown k old) (record (counted_on (shown k old) (k.faults keeper) strikes) { told = o }) content index result)
+      (sym same)
+      (reads seat (shown k old) (k.faults keeper) strikes content index piece result has h sound desk holds at told counts by)
+
+  pub read_turn : (keeper : K) (strikes : List ℕ) (result : Result (Option (Vec ℕ Global)) KeepFault) → IsHistory old.site.kept
+      → HasStrikes seat (shown k old) → StrikesBy seat old.strikes strikes result
+      → Lasts (book_at seat (shown k old)) (book_at seat (shown k (record old { keeper = keeper; strikes = strikes })))
+      → TakesTurn k seat old (record old { keeper = keeper; strikes = strikes })
+  read_turn keeper strikes result h has by lasts =
+      takes_turn (record old { keeper = keeper; strikes = strikes }) [] h h (sym (append-nil old.site.kept.history))
+      (All-nil (λ (e : Entry). e.seat ≡ seat)) (strikes_alone seat old.strikes strikes result has.0 has.1 by) refl lasts
