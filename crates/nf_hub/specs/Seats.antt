@@ -1,5 +1,5 @@
 -- What a seat of a hub knows.
-use Rattle.std.specs.Prelude.{◌≡◌, ℕ, ◌≤◌, Bool, true, false, List, [], ◌∷◌, Option, None, Some, is_none}
+use Rattle.std.specs.Prelude.{◌≡◌, ℕ, ◌+◌, ◌≤◌, List, [], ◌∷◌, Option, None, is_none}
 use Rattle.std.specs.declared.snapshot.Snapshot.{Snapshot}
 use Rattle.nf_base.specs.declared.rows.Row.{Row}
 use Rattle.nf_defs.specs.Blobs.{Blobs}
@@ -26,7 +26,7 @@ strikes_in m = strikes_of m.last.strikes m.number
 -- what the seat knows: the longest history that it has seen with its entries there, and the failures that it met
 abbrev pub book_in : {K : Type 0} → KeeperOf K → Memory (Served K) → Book
 book_in k m = record (book_at m.number (shown k m.known)) {
-  strikes = risen (k.faults m.known.start.value) (failed_marks (entries_by m.number m.known.site.kept.history) + strikes_in m)
+  strikes = risen (k.faults m.known.start.value) (failed_marks (entries_by m.number m.known.site.kept.history) + strikes_in m);
 }
 
 -- the blobs that were told when the hub was started

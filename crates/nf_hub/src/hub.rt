@@ -1,6 +1,6 @@
 //! The hub's calls.
 
-ghost use Rattle.std.specs.Prelude.{◌≡◌, ◌↔◌, ◌<◌, ◌≤◌, ◌×◌, length, IfErr, IfOk, IfSome, IfNone, IsNone, None, Some, is_some};
+ghost use Rattle.std.specs.Prelude.{◌≡◌, ◌↔◌, ◌<◌, ◌≤◌, length, IfErr, IfOk, IfSome, IfNone, IsNone, None, Some, is_some};
 ghost use Rattle.sha2.specs.Sha256.{sha256};
 ghost use Rattle.nf_desk.specs.Desk.{meanings, most_seats};
 ghost use Rattle.nf_desk.specs.Opened.{CountsFault, IsFault, MayBegin};
@@ -39,11 +39,7 @@ pub type Hub<K> = HubOf<Desk<K>>;
 
 impl<K: Keeper + Drop> Hub<K> {
     /// A hub over a desk that was just opened, and its first seat. The desk comes back for want of memory.
-    pub fn over(
-        alloc: Global,
-        desk: Desk<K>,
-        seats: usize,
-    ) -> Result<(Hub<K>, Seat<K>), Desk<K>>
+    pub fn over(alloc: Global, desk: Desk<K>, seats: usize) -> Result<(Hub<K>, Seat<K>), Desk<K>>
         requires seats { (0 < seats) × (seats ≤ most_seats) }
         requires fresh { IsFresh (meanings K.Keeper) desk }
         requires opened { desk.start.value ≡ desk.keeper }
@@ -293,13 +289,7 @@ impl<K: Keeper + Drop> Hub<K> {
         }
     }
 
-    fn release<R: Wait>(
-        &self,
-        rt: &R,
-        seat: &mut Seat<K>,
-        now: Moment,
-        outcome: Outcome,
-    ) -> Answer
+    fn release<R: Wait>(&self, rt: &R, seat: &mut Seat<K>, now: Moment, outcome: Outcome) -> Answer
         requires seat { IsSeat K.Keeper self.now seat.old }
         requires empty { IsEmpty outcome }
         requires granted { HeldMayEnd (held (book K.Keeper self.now seat.old)) outcome }

@@ -36,16 +36,20 @@ impl<'r, 'h, R: Wait, K: Keeper + Drop> Model for Visit<'r, 'h, R, K> {
 impl<'r, 'h, R: Wait, K: Keeper + Drop> Visit<'r, 'h, R, K> {
     pub fn new(rt: &'r R, hub: &'h Hub<K>, seat: Seat<K>) -> Self
         requires { IsSeat K.Keeper hub.now seat }
-        ensures { result ≡ record { hub = hub; seat = seat } }
+        ensures { result ≡ record { hub = hub.entry; seat = seat } }
     {
         Visit { rt, hub, seat }
     }
 
     pub fn into_seat(self) -> Seat<K>
-        ensures same { result ≡ self.seat }
-        ensures seat { IsSeat K.Keeper self.hub.now result }
+        ensures same { result ≡ self.entry.seat }
+        ensures seat { IsSeat K.Keeper self.entry.hub.now result }
     {
-        let Visit { rt: _, hub: _, seat } = self;
+        let Visit {
+            rt: _,
+            hub: _,
+            seat,
+        } = self;
         seat
     }
 }

@@ -1,0 +1,12 @@
+mod Owning
+mod Seeing
+mod Following
+mod Knowing
+mod Splitting
+mod Joining
+mod Telling
+mod Asking
+mod Ending
+mod Tickets
+mod Closing
+mod Turning

@@ -1,0 +1,81 @@
+-- What a seat knows of a desk that it takes: others may have come, and nothing was done under its number.
+use Rattle.std.proofs.Common.{◌≡◌, ℕ, ◌+◌, ◌<◌, ◌≤◌, List, [], ◌++◌, refl, ap, ◌∙◌, arith, ⊎_elim}
+use Rattle.std.specs.Prelude.{Option, None, Some, option_map}
+use Rattle.std.specs.declared.snapshot.Snapshot.{Snapshot}
+use Rattle.nf_base.specs.declared.rows.Row.{Row}
+use Rattle.nf_defs.specs.Blobs.{blob_at}
+use Rattle.nf_desk.specs.Desk.{Served, blobs_in, book_at, entries_by, failed_marks, meanings, risen, shelf_of, shown}
+use Rattle.nf_keeper.specs.declared.keeper.Keeper.{Ghosts as KeeperOf}
+use Rattle.nf_laws.proofs.Counters.{counters_go_on}
+use Rattle.nf_session.specs.Book.{Passes, TellsStill, held, held_after, next_blob_of, own_from}
+use Rattle.nf_site.specs.Kept.{Kept}
+use Rattle.nf_told.specs.Told.{Told}
+use Rattle.nf_turn.specs.Agreeing.{Agrees}
+use Rattle.nf_turn.specs.Book.{Grows, KeepsShelf}
+use Rattle.nf_turn.specs.declared.view.Memory.{Memory}
+use Rattle.nf_turn.proofs.Growing.{entries_of-more}
+use Rattle.nf_words.specs.History.{replay}
+use Rattle.nf_words.specs.State.{State, opened}
+use Rattle.nf_hub.specs.Seats.{book_in}
+use Rattle.nf_hub.proofs.Owning.{own_stays}
+
+-- a shelf that keeps what is on it tells still
+keeps_tells : (old new : Option Told) (x y : Kept) → KeepsShelf (option_map (shelf_of x) old) (option_map (shelf_of y) new)
+    → TellsStill (replay (opened x.opening) x.history).tables.meta.next_blob (blobs_in old) (blobs_in new)
+keeps_tells None None x y keeps = refl
+keeps_tells None (Some new) x y keeps = absurd keeps
+keeps_tells (Some old) None x y keeps = absurd keeps
+keeps_tells (Some old) (Some new) x y keeps = λ id less.
+    ⊎_elim (λ (same : blob_at new.blobs id ≡ blob_at old.blobs id). same)
+    (λ (gone : (blob_at new.blobs id ≡ None) × (0 < 0)). absurd (omega (arith, gone.1))) (keeps.2 id less)
+
+module _ {K : Type 0} (k : KeeperOf K) (n : ℕ) (x y : Served K) (grows : Grows (meanings k) x y) (none : entries_by n grows.added ≡ []) where
+  rows_stay : y.site.kept.opening ≡ x.site.kept.opening
+  rows_stay = ap (λ (o : List Row × Snapshot K). o.0) grows.keeps.opening
+
+  -- the seat's own entries and answers stay
+  pub own_kept : (book_at n (shown k y)).own ≡ (book_at n (shown k x)).own
+  own_kept =
+      (λ i. own_from n (opened (rows_stay i)) (grows.entries i))
+      ∙ own_stays n (opened x.site.kept.opening) x.site.kept.history grows.added none
+
+  pub held_kept : held (book_at n (shown k y)) ≡ held (book_at n (shown k x))
+  held_kept = ap (held_after None) own_kept
+
+  entries_kept : entries_by n y.site.kept.history ≡ entries_by n x.site.kept.history
+  entries_kept =
+      ap (entries_by n) grows.entries ∙ entries_of-more (meanings k) n x.site.kept.history grows.added none
+
+  next_up : next_blob_of (book_at n (shown k x)) ≤ next_blob_of (book_at n (shown k y))
+  next_up =
+      let same : replay (opened y.site.kept.opening) y.site.kept.history ≡ replay (opened x.site.kept.opening) (x.site.kept.history ++ grows.added) =
+      (λ i. replay (opened (rows_stay i)) (grows.entries i)) in
+      omega (arith, (counters_go_on (opened x.site.kept.opening) x.site.kept.history grows.added).blobs, ap (λ (s : State). s.tables.meta.next_blob) same)
+
+module _ {K : Type 0} (k : KeeperOf K) (m : Memory (Served K)) (a : Served K) (agrees : Agrees (meanings k) m a) where
+  strikes_same : (book_at m.number (shown k a)).strikes ≡ (book_in k m).strikes
+  strikes_same =
+      let start = ap (λ (o : List Row × Snapshot K). o.1) agrees.known.keeps.opening in
+      let entries = entries_kept k m.number m.known a agrees.known agrees.others in
+      let struck = agrees.strikes in
+      (λ i. risen (k.faults (start i).value) (failed_marks (entries i) + struck i))
+
+  pub sees : Passes (book_in k m) (book_at m.number (shown k a))
+  sees = record {
+    waits = record {
+      lasts = record {
+        opening = rows_stay k m.number m.known a agrees.known agrees.others;
+        seat = refl;
+        strikes = omega (arith, strikes_same);
+        next_blob = next_up k m.number m.known a agrees.known agrees.others;
+        told = keeps_tells (k.told m.known.keeper) (k.told a.keeper) m.known.site.kept a.site.kept agrees.known.keeps.shelf;
+      };
+      own = own_kept k m.number m.known a agrees.known agrees.others;
+      known = (agrees.known.added, agrees.known.entries);
+    };
+    unstruck = strikes_same;
+  }
+
+  -- what the seat holds
+  pub held_seen : held (book_at m.number (shown k a)) ≡ held (book_in k m)
+  held_seen = held_kept k m.number m.known a agrees.known agrees.others
