@@ -1,7 +1,7 @@
 -- A run isn't full for a session that began it.
 use Rattle.std.proofs.Common.{ℕ, suc, ◌+◌, ◌*◌, ◌≡◌, ◌<◌, ◌≤◌, ◌==◌, Bool, true, false, List, [], ◌∷◌, length, Option, Some, Result, Ok, Err, inl, inr, refl, ap, subst, sym, ◌∙◌, arith}
 use Rattle.nf_base.specs.declared.content.Piece.{Piece}
-use Rattle.nf_dav.specs.Reply.{continue_reply}
+use Rattle.nf_dav.specs.Reply.{continue_reply, refusal_reply}
 use Rattle.nf_dav.specs.declared.replies.Manner.{Manner}
 use Rattle.nf_http.specs.Head.{Head}
 use Rattle.nf_http.specs.declared.wire.WireFault.{WireFault}
@@ -13,20 +13,21 @@ use Rattle.nf_words.specs.declared.answer.Denial.TheVariants as denial
 use Rattle.nf_words.specs.declared.answer.Goal.TheVariants as goal
 use Rattle.nf_words.specs.declared.answer.Reply.TheVariants as reply
 use Rattle.nf_session.specs.Book.{Answer, Book, entries_wanted, state_after}
-use Rattle.nf_session.specs.Session.{Through}
-use Rattle.nf_session.specs.Steps.{EndsBy, Invites, IsResponse, Judges, Passes, Scene, Sends, Starts, TakesIn}
-use Rattle.nf_session.specs.Turn.{Answers, CutsShort, Responds, StopsShort, Turn, Way, Writes, end_by, end_of, end_of_close, end_of_denial, manner_of, way_of}
+use Rattle.nf_session.specs.Session.{Session, Through}
+use Rattle.nf_session.specs.Steps.{Closes, EndsBy, Invites, IsResponse, Judges, Passes, Scene, Sends, Starts, TakesIn}
+use Rattle.nf_session.specs.Turn.{Answers, CutsShort, Responds, StopsShort, Turn, Way, Writes, end_by, end_of, end_of_close, end_of_denial, how_of, manner_of, stays_granted, way_of}
 use Rattle.nf_session.specs.declared.begun.Begun.{Begun}
 use Rattle.nf_session.specs.declared.begun.Begun.TheVariants as begun
 use Rattle.nf_session.specs.declared.ended.Ended.{Ended}
 use Rattle.nf_session.specs.declared.ended.Ended.TheVariants as ended
 use Rattle.nf_session.specs.declared.response.Response.{Response}
 use Rattle.nf_session.specs.declared.response.Response.TheVariants as response
-use Rattle.nf_session.proofs.Inviting.{stops_sends}
-use Rattle.nf_promises.proofs.Growing.{answers_grow, invites_grow, turn_grows, Grew, Grows, grew_none, grows_more, grows_none, grows_on, heads_same, judges_grow}
+use Rattle.nf_session.proofs.Inviting.{invites_wrote, stops_sends}
+use Rattle.nf_promises.proofs.Growing.{turn_grows, Grew, grew_none, grows_on}
 use Rattle.nf_promises.proofs.Refusals.{end_not_full, request_not_full}
 use Rattle.nf_promises.proofs.Tickets.{few_tickets}
-use Rattle.nf_promises.specs.Room.{NeverFull}
+use Rattle.nf_promises.proofs.Touches.{book_of, says_only}
+use Rattle.nf_promises.specs.Room.{FullIsSeen, NeverFull}
 
 -- ---- which response ends a session so
 
@@ -110,30 +111,40 @@ judges_full reads head a b (begun.Unasked refusal) (inl asked, same) is =
 judges_full reads head a b (begun.Unasked refusal) (inr memory, same) is = absurd (cc)
 judges_full reads head a b (begun.Asked answer) (r, now, asked, read, begins, only) is = begins.full is
 
--- ---- a turn
+-- nothing is done then
+found_same : {C : Type 0} (reads : C → ℕ → C → Type 0) (body : List ℕ) (a b : Scene C) (begun : Begun) (v : Response)
+    → IsFound begun → Passes reads body a b begun v → b ≡ a
+found_same reads body a b (begun.Unasked refusal) v is (denied, same) = same
+found_same reads body a b (begun.Asked answer) v is passes =
+    (subst (λ (x : Answer). Passes reads body a b (begun.Asked x) v) is passes).1
 
--- between two books the run was found full
-record FindsFull (a b : Book) : Type 0 where
-  middle : Book
-  before : Grows a middle 3
-  behind : Grows middle b 3
-  full : most_entries < entries_wanted middle
+refusal_same : {C : Type 0} (last : Bool) (way : Way) (refusal : Denial) (a b : Scene C) (result : Result (Option Ended) Ended)
+    → Responds last way (response.Denied refusal) a b result → b.book ≡ a.book
+refusal_same last way refusal a b (Ok end) (is, says) =
+    book_of a b (says_only {T = Unit {0}} a b (refusal_reply (manner_of last way (response.Denied refusal)) refusal) (Ok tt) says)
+refusal_same last way refusal a b (Err by) says =
+    book_of a b (says_only {T = Unit {0}} a b (refusal_reply (manner_of last way (response.Denied refusal)) refusal) (Err by) says)
+
+-- ---- a turn
 
 answers_full : {C : Type 0} (reads : C → ℕ → C → Type 0) (last : Bool) (head : Head) (begun : Begun) (a m n b : Scene C)
     → Judges reads head a m begun → Invites {T = Unit {0}} head begun m n (Ok tt) → Answers reads last head begun n b (Some ended.RunFull)
-    → FindsFull a.book b.book
+    → most_entries < entries_wanted b.book
 answers_full {C} reads last head begun a m n b judges invites answers =
     let v : answers.response ≡ response.Denied denial.RunFull =
     responds_full last (way_of head begun) answers.response answers.taken answers.sent answers.result answers.responds (sym answers.ends) in
     let takes : TakesIn reads head n answers.taken begun (Ok (response.Denied denial.RunFull)) =
     subst (λ (v : Response). TakesIn reads head n answers.taken begun (Ok v)) v answers.takes in
-    record {
-      middle = m.book;
-      before = grows_more a.book m.book 1 3 (omega arith) (judges_grow reads head a m begun judges);
-      behind = grows_on m.book n.book b.book 0 2 3 (omega arith) (invites_grow head begun m n invites)
-          (answers_grow reads last head begun n b (Some ended.RunFull) answers);
-      full = judges_full reads head a m begun judges (passes_full reads takes.1 takes.0 answers.taken begun takes.3);
-    }
+    let responds : Responds last (way_of head begun) (response.Denied denial.RunFull) answers.taken answers.sent answers.result =
+    subst (λ (v : Response). Responds last (way_of head begun) v answers.taken answers.sent answers.result) v answers.responds in
+    let closes : b ≡ answers.sent =
+    subst (λ (v : Response). Closes reads (how_of v answers.result) (stays_granted v) answers.sent b) v answers.closes in
+    let found = passes_full reads takes.1 takes.0 answers.taken begun takes.3 in
+    let same : b.book ≡ m.book =
+    ap (λ (x : Scene C). x.book) closes ∙ refusal_same last (way_of head begun) denial.RunFull answers.taken answers.sent answers.result responds
+    ∙ ap (λ (x : Scene C). x.book) (found_same reads takes.1 takes.0 answers.taken begun _ found takes.3)
+    ∙ ap (λ (x : Scene C). x.book) takes.2.only ∙ ap (λ (x : Scene C). x.book) (invites_wrote head begun m n (Unit {0}) tt invites).only in
+    subst (λ (k : Book). most_entries < entries_wanted k) (sym same) (judges_full reads head a m begun judges found)
 
 cuts_not_full : {C : Type 0} (reads : C → ℕ → C → Type 0) (head : Head) (begun : Begun) (a b : Scene C)
     → CutsShort reads head begun a b (Some ended.RunFull) → ⊥
@@ -149,24 +160,18 @@ stops_not_full {C} reads head begun a b stops =
     (stops_sends head begun a stops.sent (Unit {0}) stops.by stops.invites)
 
 turn_full : {C : Type 0} (reads : C → ℕ → C → Type 0) (last : Bool) (a b : Scene C) → Turn reads last a b (Some ended.RunFull)
-    → FindsFull a.book b.book
+    → most_entries < entries_wanted b.book
 turn_full reads last a b (inl (heads, is)) = absurd (cc)
 turn_full {C} reads last a b (inr (inl (m, fault, by, heads, ends, is))) =
     let same : by ≡ ended.RunFull = cc in
     absurd (ends_not_full fault m b (subst (λ (e : Ended). EndsBy fault m b e) same ends))
 turn_full reads last a b (inr (inr (m, head, heads, (n, begun, judges, inl stops)))) = absurd (stops_not_full reads head begun n b stops)
 turn_full reads last a b (inr (inr (m, head, heads, (n, begun, judges, inr (told, invites, inl answers))))) =
-    let found = answers_full reads last head begun m n told b judges invites answers in
-    record {
-      middle = found.middle;
-      before = grows_on a.book m.book found.middle 0 3 3 (omega arith) (grows_none a.book m.book (heads_same a m (Ok (Some head)) heads)) found.before;
-      behind = found.behind;
-      full = found.full;
-    }
+    answers_full reads last head begun m n told b judges invites answers
 turn_full reads last a b (inr (inr (m, head, heads, (n, begun, judges, inr (told, invites, inr cuts))))) =
     absurd (cuts_not_full reads head begun told b cuts)
 
--- and how much the turns before it make it grow
+-- how much some turns make the history grow
 through_grow : {C : Type 0} (reads : C → ℕ → C → Type 0) (a : Scene C) (scenes : List (Scene C)) (b : Scene C)
     → Through reads a scenes b → Grew a b (3 * length scenes)
 through_grow {C} reads a [] b same = grew_none a b (ap (λ (x : Scene C). x.book) (sym same))
@@ -180,14 +185,15 @@ through_grow reads a (m ∷ scenes) b (turn, more) =
 few_wanted : (b : Book) (most : ℕ) → length b.known ≤ most → entries_wanted b ≤ most + most + 2
 few_wanted b most few = omega (arith, few_tickets (opened b.opening) b.known)
 
+pub full_is_seen : {C : Type 0} (reads : C → ℕ → C → Type 0) → FullIsSeen reads
+full_is_seen {C} reads a b session = turn_full reads (length session.scenes == 9999) session.before b session.turn
+
 pub never_full : {C : Type 0} (reads : C → ℕ → C → Type 0) → NeverFull reads
 never_full {C} reads a b end session fresh alone is =
-    let found = turn_full reads (length session.scenes == 9999) session.before b
-    (subst (λ (e : Option Ended). Turn reads (length session.scenes == 9999) session.before b e) is session.turn) in
+    let full = full_is_seen reads a b (subst (λ (e : Option Ended). Session reads a b e) is session) in
     let through = through_grow reads a session.scenes session.before session.through in
-    let whole = grows_on a.book session.before.book found.middle (3 * length session.scenes) 3 30000 (omega (arith, session.few)) through found.before in
-    let known : length a.book.known ≡ 0 = ap length fresh.known in
+    let last = turn_grows reads (length session.scenes == 9999) session.before b end session.turn in
+    let whole = grows_on a.book session.before.book b.book (3 * length session.scenes) 3 30000 (omega (arith, session.few)) through last in
     let own : length a.book.own ≡ 0 = ap length fresh.own in
-    let few : length found.middle.known ≤ 30000 = omega (arith, whole.own, whole.known, found.behind.own, found.behind.known) in
-    let wanted = few_wanted found.middle 30000 few in
-    omega (arith, wanted, found.full)
+    let few : length b.book.known ≤ 30000 = omega (arith, whole.own, own, alone) in
+    omega (arith, few_wanted b.book 30000 few, full)

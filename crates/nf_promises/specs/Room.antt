@@ -1,6 +1,7 @@
--- A session never wants room.
-use Rattle.std.specs.Prelude.{◌≡◌, ◌≢◌, ℕ, [], length, Option, Some}
-use Rattle.nf_session.specs.Book.{Book}
+-- When a session finds the run full.
+use Rattle.std.specs.Prelude.{◌≡◌, ◌≢◌, ℕ, ◌<◌, [], length, Option, Some}
+use Rattle.nf_words.specs.History.{most_entries}
+use Rattle.nf_session.specs.Book.{Book, entries_wanted}
 use Rattle.nf_session.specs.Session.{Session}
 use Rattle.nf_session.specs.Steps.{Scene}
 use Rattle.nf_session.specs.declared.ended.Ended.{Ended}
@@ -20,3 +21,7 @@ abbrev pub NeverFull : {C : Type 0} → (C → ℕ → C → Type 0) → Type 0
 NeverFull {C} reads =
     (a b : Scene C) (end : Option Ended) → Session reads a b end → IsFresh a.book → IsAlone b.book
     → end ≢ Some ended.RunFull
+
+-- a session that ends because the run is full has seen that it is: what it knows at its end leaves no room for two entries more
+abbrev pub FullIsSeen : {C : Type 0} → (C → ℕ → C → Type 0) → Type 0
+FullIsSeen {C} reads = (a b : Scene C) → Session reads a b (Some ended.RunFull) → most_entries < entries_wanted b.book

@@ -5,4 +5,4 @@ mod kept;
 mod room;
 
 pub use kept::{put_then_get, put_then_get_of_bytes};
-pub use room::never_full;
+pub use room::{full_is_seen, never_full};

@@ -1,6 +1,6 @@
-//! A session never wants room.
+//! When a session finds the run full.
 
-ghost use Rattle.nf_promises.specs.Room.{NeverFull};
+ghost use Rattle.nf_promises.specs.Room.{FullIsSeen, NeverFull};
 
 use nf_outside::Clock;
 
@@ -8,4 +8,9 @@ use nf_outside::Clock;
 /// the run full.
 pub fn never_full<C: Clock>()
     ensures { NeverFull C.reads }
+{}
+
+/// A session that ends because the run is full has seen that it is.
+pub fn full_is_seen<C: Clock>()
+    ensures { FullIsSeen C.reads }
 {}

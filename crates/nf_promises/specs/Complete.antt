@@ -1,0 +1,115 @@
+-- What a message gets while nothing fails: the bytes of its step's answer, or that there was no memory.
+use Rattle.std.specs.Prelude.{◌≡◌, ◌⊎◌, ℕ, ◌-◌, ◌^◌, ◌<◌, ◌≤◌, Bool, List, [], ◌∷◌, ◌++◌, length, Option, None, Some, IsSome, Result, Ok, Err}
+use Rattle.std.specs.List.{concat}
+use Rattle.std.specs.Io.KnownBytes.{Appends}
+use Rattle.nf_base.specs.Content.{size_of}
+use Rattle.nf_base.specs.declared.content.Piece.{Piece}
+use Rattle.nf_defs.specs.Blobs.{Blobs}
+use Rattle.nf_dav.specs.Asked.{request_of}
+use Rattle.nf_dav.specs.Reply.{done_reply, file_head, listing_reply, made_reply, refusal_reply}
+use Rattle.nf_http.specs.Head.{Head}
+use Rattle.nf_laws.specs.Wholes.{IsDamaged}
+use Rattle.nf_session.specs.Book.{Answer, Book, Lasts, entries_wanted, state_after}
+use Rattle.nf_session.specs.Files.{AreGiven}
+use Rattle.nf_session.specs.Session.{Session}
+use Rattle.nf_session.specs.Steps.{Heads, Scene}
+use Rattle.nf_session.specs.Turn.{Meets}
+use Rattle.nf_session.specs.declared.ended.Ended.{Ended}
+use Rattle.nf_session.specs.declared.ended.Ended.TheVariants as ended
+use Rattle.nf_words.specs.History.{most_entries}
+use Rattle.nf_words.specs.Step.{answer_to}
+use Rattle.nf_words.specs.declared.answer.Denial.TheVariants as denial
+use Rattle.nf_words.specs.declared.answer.Goal.TheVariants.{Serve, Store}
+use Rattle.nf_words.specs.declared.answer.Reply.TheVariants as reply
+use Rattle.nf_words.specs.declared.history.Entry.{Entry}
+use Rattle.nf_words.specs.declared.history.Event.{Event}
+use Rattle.nf_words.specs.declared.history.Event.TheVariants.{Begin, End}
+use Rattle.nf_words.specs.declared.history.Outcome.{Outcome}
+use Rattle.nf_words.specs.declared.request.Request.{Request}
+use Rattle.nf_promises.specs.Kept.{invitation}
+
+-- ---- nothing fails
+
+-- a count didn't rise, and isn't at its last value
+abbrev pub IsUnrisen : ℕ → ℕ → Type 0
+IsUnrisen before now = (now ≡ before) × (before < 2 ^ 64 - 1)
+
+-- neither the store nor an end failed
+pub record NothingFails {C : Type 0} (a b : Scene C) : Type 0 where
+  pub store : IsUnrisen a.book.strikes b.book.strikes
+  pub read : IsUnrisen a.read_faults b.read_faults
+  pub write : IsUnrisen a.write_faults b.write_faults
+
+-- the store tells, and nothing is damaged at any moment between
+pub record StaysWhole (a b : Book) : Type 0 where
+  pub tells : IsSome a.told
+  pub whole : (x : Book) (shelf : Blobs) (piece : Piece) → Lasts a x → Lasts x b → x.told ≡ Some shelf → IsDamaged x.opening shelf piece → ⊥
+
+-- ---- what is written
+
+-- that is the answer of a step of the seat's event, at some place behind what the seat knew
+abbrev pub IsAnswerOf : Book → Event → Answer → Type 0
+IsAnswerOf b event answer = (others : List Entry) × (moment : ℕ) × (answer ≡ answer_to (state_after b others) b.seat moment event)
+
+-- what is written of the answer of an End with a body, behind the invitation to send it; a refusal is written as such
+abbrev pub SaysEnd : {C : Type 0} → Head → Bool → Answer → Scene C → Scene C → Type 0
+SaysEnd head close (Ok reply.Made) a b = Appends a.output b.output (invitation head ++ made_reply close)
+SaysEnd head close (Ok reply.Done) a b = Appends a.output b.output (invitation head ++ done_reply close)
+SaysEnd head close (Ok other) a b = ⊥
+SaysEnd head close (Err refusal) a b = (manner : Manner) × Appends a.output b.output (invitation head ++ refusal_reply manner refusal)
+
+-- a body of the length that was granted was taken, and its End answered
+pub record SaysStored {C : Type 0} (head : Head) (close : Bool) (size : ℕ) (a b : Scene C) : Type 0 where
+  pub body : List ℕ
+  pub size_is : length body ≡ size
+  pub answer : Answer
+  pub answers : IsAnswerOf a.book (End (Body (sha256 body) (length body))) answer
+  pub says : SaysEnd head close answer a b
+
+-- all pieces of a content were given, and written behind its head
+pub record SaysFile {C : Type 0} (close : Bool) (content : List Piece) (a b : Scene C) : Type 0 where
+  pub given : List (List ℕ)
+  pub are_given : AreGiven b.book content given
+  pub all : length given ≡ length content
+  pub bytes : Appends a.output b.output (file_head close (size_of content) ++ concat given)
+
+-- what is written of the answer of a Begin
+abbrev pub Says : {C : Type 0} → Head → Bool → Answer → Scene C → Scene C → Type 0
+Says head close (Ok reply.Made) a b = Appends a.output b.output (made_reply close)
+Says head close (Ok reply.Done) a b = Appends a.output b.output (done_reply close)
+Says head close (Ok (reply.Listing lines)) a b = Appends a.output b.output (listing_reply close lines)
+Says head close (Ok (reply.Granted (Serve content))) a b = SaysFile close content a b
+Says head close (Ok (reply.Granted (Store by key size))) a b = SaysStored head close size a b
+Says head close (Ok reply.Closed) a b = ⊥
+Says head close (Err refusal) a b = (manner : Manner) × Appends a.output b.output (refusal_reply manner refusal)
+
+-- there was no memory: the session ended so, or the message was refused so
+abbrev pub IsWanting : {C : Type 0} → Scene C → Scene C → Option Ended → Type 0
+IsWanting a b end =
+    (end ≡ Some ended.Memory)
+    ⊎ ((front : List ℕ) × (manner : Manner) × Appends a.output b.output (front ++ refusal_reply manner denial.Memory))
+
+-- ---- the law
+
+-- a message with a request, at which nothing fails, is answered what its step is, at its place, and that is written; or there was no
+-- memory; or the run was full; or its body was cut
+abbrev pub Completes : {C : Type 0} → (C → ℕ → C → Type 0) → Type 0
+Completes {C} reads =
+    (last : Bool) (a m b : Scene C) (head : Head) (r : Request) (end : Option Ended)
+    → Heads a m (Ok (Some head)) → request_of head ≡ Ok r → Meets reads last head m b end → NothingFails a b → StaysWhole a.book b.book
+    → IsWanting m b end ⊎ (most_entries < entries_wanted b.book) ⊎ (end ≡ Some ended.BadMessage)
+    ⊎ ((answer : Answer) × IsAnswerOf m.book (Begin no_words r) answer × Says head (last || closes_session head) answer m b)
+
+-- how a session may end in which nothing fails
+abbrev pub IsWell : Option Ended → Type 0
+IsWell None = Unit {0}
+IsWell (Some ended.Closed) = Unit {0}
+IsWell (Some ended.BadMessage) = Unit {0}
+IsWell (Some ended.NotBuilt) = Unit {0}
+IsWell (Some ended.RunFull) = Unit {0}
+IsWell (Some ended.Memory) = Unit {0}
+IsWell (Some other) = ⊥
+
+abbrev pub EndsWell : {C : Type 0} → (C → ℕ → C → Type 0) → Type 0
+EndsWell {C} reads =
+    (a b : Scene C) (end : Option Ended) → Session reads a b end → NothingFails a b → StaysWhole a.book b.book → IsWell end
