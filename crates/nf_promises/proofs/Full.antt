@@ -127,7 +127,7 @@ refusal_same last way refusal a b (Err by) says =
 
 -- ---- a turn
 
-answers_full : {C : Type 0} (reads : C → ℕ → C → Type 0) (last : Bool) (head : Head) (begun : Begun) (a m n b : Scene C)
+pub answers_full : {C : Type 0} (reads : C → ℕ → C → Type 0) (last : Bool) (head : Head) (begun : Begun) (a m n b : Scene C)
     → Judges reads head a m begun → Invites {T = Unit {0}} head begun m n (Ok tt) → Answers reads last head begun n b (Some ended.RunFull)
     → most_entries < entries_wanted b.book
 answers_full {C} reads last head begun a m n b judges invites answers =

@@ -49,6 +49,7 @@ use Rattle.nf_session.specs.declared.begun.Begun.TheVariants as begun
 use Rattle.nf_session.specs.declared.response.Response.{Response}
 use Rattle.nf_session.specs.declared.response.Response.TheVariants as response
 use Rattle.nf_promises.proofs.Alone.{entered, none_of}
+use Rattle.nf_promises.proofs.Calm.{begins_onward}
 use Rattle.nf_promises.proofs.Plain.{IsPlain, asked_plain}
 use Rattle.nf_promises.proofs.Putting.{content_of_body}
 use Rattle.nf_promises.proofs.Puts.{IsKept, Keeps}
@@ -79,7 +80,7 @@ begin_marked s e words request content event is mark.Store may =
     ∙ serves_nothing s.tables e.moment (decision_of s e.seat e.moment (Begin words request)) content is))
 begin_marked s e words request content event is mark.Memory may = absurd (subst (λ (ev : Event). HasBody ev) event may)
 
-unmade_is : (answer : Answer) → is_unmade answer ≡ true → (answer ≡ Err denial.RunFull) ⊎ (answer ≡ Err denial.Memory)
+pub unmade_is : (answer : Answer) → is_unmade answer ≡ true → (answer ≡ Err denial.RunFull) ⊎ (answer ≡ Err denial.Memory)
 unmade_is (Ok answered) is = absurd (cc)
 unmade_is (Err denial.RunFull) is = inl refl
 unmade_is (Err denial.Memory) is = inr refl
@@ -105,13 +106,6 @@ get_answered a m now caller spot body answer kept only begins = here (is_unmade 
         let marked : e.mark ≡ mark.Answered =
         begin_marked s e no_words (get_of caller spot) (content_of_body kept.before body) begin.event_is got e.mark begin.may.marked in
         inl (sym begin.answer_is ∙ ap (answer_at s e) marked ∙ ap (answer_to s e.seat e.moment) begin.event_is ∙ got)
-
-begins_lasts : (a m : Book) (now : ℕ) (words : Words) (request : Request) (answer : Answer) → Begins a m now words request answer → Lasts a m
-begins_lasts a m now words request answer begins = here (is_unmade answer) begins.entry
-  where
-    here : (unmade : Bool) → MatchBool unmade (Unchanged a m) (Enters a m now (Begin words request) answer) → Lasts a m
-    here true passes = passes.waits.lasts
-    here false enters = enters.lasts
 
 -- ---- the bytes of the file
 
@@ -186,7 +180,7 @@ file_bytes close b before body keeps (Some id) is (bytes ∷ more ∷ given) are
 
 -- ---- how it starts
 
-starts_file : (a b : Book) (content other : List Piece) (first : Option (Vec ℕ Global)) → Starts a b content (response.File other first)
+pub starts_file : (a b : Book) (content other : List Piece) (first : Option (Vec ℕ Global)) → Starts a b content (response.File other first)
     → (other ≡ content) × Lasts a b
 starts_file a b [] other None (is, same) = (is, lasts_same a b same)
 starts_file a b [] other (Some first) never = absurd never
@@ -200,7 +194,7 @@ starts_lost : (a b : Book) (next : ℕ) (body : List ℕ) (why : PieceFault) (o 
 starts_lost a b next body why None is never = absurd never
 starts_lost a b next body why (Some id) is (waits, fails) = (id, is, waits.lasts, fails)
 
-abbrev StartsOther : Response → Type 0
+abbrev pub StartsOther : Response → Type 0
 StartsOther (response.File content first) = Unit {0}
 StartsOther (response.Lost fault) = Unit {0}
 StartsOther (response.Denied refusal) = ⊥
@@ -208,7 +202,7 @@ StartsOther response.Made = ⊥
 StartsOther response.Done = ⊥
 StartsOther (response.Listing lines) = ⊥
 
-starts_other : (a b : Book) (content : List Piece) (v : Response) → Starts a b content v → StartsOther v
+pub starts_other : (a b : Book) (content : List Piece) (v : Response) → Starts a b content v → StartsOther v
 starts_other a b content (response.File other first) starts = tt
 starts_other a b content (response.Lost fault) starts = tt
 starts_other a b [] (response.Denied refusal) never = never
@@ -407,4 +401,4 @@ begun_shown {C} reads last head caller spot body (begun.Asked answer) k m a b v 
     let get : Begins k.book m.book now no_words (get_of caller spot) answer =
     subst (λ (q : Request). Begins k.book m.book now no_words q answer) same begins in
     answered_shown reads last head caller spot body k.book m a b v answer kept (asked_plain head (begun.Asked answer) _ asked) (get_answered k.book m.book now caller spot body answer kept alone get)
-    (begins_lasts k.book m.book now no_words (get_of caller spot) answer get) takes written writes
+    (begins_onward k.book m.book now no_words (get_of caller spot) answer get).lasts takes written writes

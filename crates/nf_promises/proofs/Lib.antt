@@ -1,4 +1,5 @@
 pub mod Touches
+pub mod Calm
 pub mod Refusals
 pub mod Tickets
 pub mod Growing
@@ -11,3 +12,5 @@ pub mod Gets
 pub mod Returning
 pub mod Marks
 pub mod Bytes
+pub mod Unfailing
+pub mod Completing

@@ -1,5 +1,5 @@
 -- What is put is what is got.
-use Rattle.std.proofs.Common.{ℕ, ◌≡◌, ◌||◌, ◌≤◌, ◌⊎◌, ◌++◌, length, Bool, true, false, List, Option, None, Some, Result, Ok, Err, inl, inr, refl, sym, ap, subst, ◌∙◌, arith}
+use Rattle.std.proofs.Common.{ℕ, ◌≡◌, ◌||◌, ◌≤◌, ◌⊎◌, ◌++◌, length, Bool, false, List, Option, None, Some, Result, Ok, Err, inl, inr, refl, sym, ap, subst, ◌∙◌, arith}
 use Rattle.std.specs.Prelude.{IsOk, MatchBool}
 use Rattle.std.specs.Io.KnownBytes.{Appends}
 use Rattle.nf_defs.specs.Blobs.{Blobs}
@@ -10,22 +10,19 @@ use Rattle.nf_http.specs.Head.{Head, closes_session}
 use Rattle.nf_http.specs.declared.wire.WireFault.{WireFault}
 use Rattle.nf_http.specs.declared.wire.WireFault.TheVariants as wire
 use Rattle.nf_words.specs.declared.answer.Denial.TheVariants as denial
-use Rattle.nf_words.specs.declared.answer.Reply.TheVariants as reply
 use Rattle.nf_words.specs.declared.request.Caller.{Caller}
 use Rattle.nf_words.specs.declared.request.Spot.{Spot}
-use Rattle.nf_session.specs.Book.{Book, Ends}
-use Rattle.nf_session.specs.Steps.{Closes, EndsBy, Invites, Judges, Scene, Sends, TakesIn, is_invited}
+use Rattle.nf_session.specs.Book.{Book}
+use Rattle.nf_session.specs.Steps.{EndsBy, Invites, Judges, Scene, Sends, TakesIn, is_invited}
 use Rattle.nf_session.specs.Turn.{Answers, Meets, Responds, Way, Writes, end_by, end_of, how_of, manner_of, stays_granted, way_of}
-use Rattle.nf_session.specs.declared.backend.Ending.{Ending}
-use Rattle.nf_session.specs.declared.backend.Ending.TheVariants as ending
 use Rattle.nf_session.specs.declared.begun.Begun.{Begun}
 use Rattle.nf_session.specs.declared.ended.Ended.{Ended}
 use Rattle.nf_session.specs.declared.ended.Ended.TheVariants as ended
 use Rattle.nf_session.specs.declared.response.Response.{Response}
 use Rattle.nf_session.specs.declared.response.Response.TheVariants as response
 use Rattle.nf_session.proofs.Inviting.{stops_sends}
-use Rattle.nf_session.proofs.Lasting.{lasts_same}
 use Rattle.nf_promises.proofs.Alone.{only_within}
+use Rattle.nf_promises.proofs.Calm.{closes_calm, writes_calm}
 use Rattle.nf_promises.proofs.Gets.{Shown, begun_shown, get_not_invited}
 use Rattle.nf_promises.proofs.Growing.{answers_grow, grows_none, grows_on, heads_same, invites_grow, judges_grow, meets_grow}
 use Rattle.nf_promises.proofs.Puts.{IsKept, put_is_kept}
@@ -36,18 +33,6 @@ pub takes_output : {C : Type 0} (reads : C → ℕ → C → Type 0) (head : Hea
     → TakesIn reads head a b begun (Ok v) → b.output ≡ a.output
 takes_output {C} reads head a b begun v (m, body, bodies, passes) =
     output_of m b (passes_only reads body m b begun v passes) ∙ ap (λ (x : Scene C). x.output) bodies.only
-
--- ---- strikes rise
-
-ends_strikes : (a b : Book) (now : ℕ) (how : Ending) → Ends a b now how (Ok reply.Closed) → a.strikes ≤ b.strikes
-ends_strikes a b now ending.Sent ends = ends.enters.lasts.strikes
-ends_strikes a b now ending.Gone ends = ends.enters.lasts.strikes
-ends_strikes a b now (ending.Body bytes) ends = ends.enters.lasts.strikes
-
-closes_strikes : {C : Type 0} (reads : C → ℕ → C → Type 0) (how : Ending) (granted : Bool) (a b : Scene C) → Closes reads how granted a b
-    → a.book.strikes ≤ b.book.strikes
-closes_strikes {C} reads how true a b (now, read, ends, only) = ends_strikes a.book b.book now how ends
-closes_strikes {C} reads how false a b same = (lasts_same a.book b.book (ap (λ (x : Scene C). x.book) same)).strikes
 
 -- ---- what was written whole
 
@@ -150,15 +135,6 @@ told_shown close unsent body shelf a b told (inr (inr (inr (inl fails)))) = inr 
 told_shown close unsent body shelf a b told (inr (inr (inr (inr damage)))) =
     absurd (subst (λ (o : Option Blobs). ShowsDamage o close a b) told damage)
 
-writes_strikes : {C : Type 0} (manner : Manner) (v : Response) (a b : Scene C) → Writes {T = Unit {0}} manner v a b (Ok tt)
-    → a.book.strikes ≤ b.book.strikes
-writes_strikes {C} manner (response.Denied refusal) a b wrote = (lasts_same a.book b.book (ap (λ (x : Scene C). x.book) wrote.only)).strikes
-writes_strikes {C} manner (response.Lost fault) a b wrote = (lasts_same a.book b.book (ap (λ (x : Scene C). x.book) wrote.only)).strikes
-writes_strikes manner (response.File content first) a b (given, writes, count, calm) = writes.pieces.waits.lasts.strikes
-writes_strikes {C} manner response.Made a b wrote = (lasts_same a.book b.book (ap (λ (x : Scene C). x.book) wrote.only)).strikes
-writes_strikes {C} manner response.Done a b wrote = (lasts_same a.book b.book (ap (λ (x : Scene C). x.book) wrote.only)).strikes
-writes_strikes {C} manner (response.Listing lines) a b wrote = (lasts_same a.book b.book (ap (λ (x : Scene C). x.book) wrote.only)).strikes
-
 answers_shown : {C : Type 0} (reads : C → ℕ → C → Type 0) (last : Bool) (head : Head) (caller : Caller) (spot : Spot) (body : List ℕ)
     (begun : Begun) (k m b : Scene C) (end : Option Ended) → request_of head ≡ Ok (get_of caller spot) → Judges reads head k m begun
     → IsKept k.book caller spot body → OnlyOwn k.book m.book
@@ -173,8 +149,8 @@ answers_shown {C} reads last head caller spot body begun k m b end asked judges 
     let later : answers.taken.book.strikes ≤ b.book.strikes =
     omega (
       arith,
-      writes_strikes (manner_of last (way_of head begun) v) v answers.taken answers.sent wrote.1,
-      closes_strikes reads (how_of v answers.result) (stays_granted v) answers.sent b answers.closes,
+      (writes_calm (manner_of last (way_of head begun) v) v answers.taken answers.sent wrote.1).onward.lasts.strikes,
+      (closes_calm reads (how_of v answers.result) (stays_granted v) answers.sent b answers.closes).onward.lasts.strikes,
     ) in
     shown_later (last || closes_session head) (waits head) body k answers.taken answers.sent b front (sym closed) later shown
 

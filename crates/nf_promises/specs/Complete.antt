@@ -1,18 +1,20 @@
 -- What a message gets while nothing fails: the bytes of its step's answer, or that there was no memory.
-use Rattle.std.specs.Prelude.{◌≡◌, ◌⊎◌, ℕ, ◌-◌, ◌^◌, ◌<◌, ◌≤◌, Bool, List, [], ◌∷◌, ◌++◌, length, Option, None, Some, IsSome, Result, Ok, Err}
+use Rattle.std.specs.Prelude.{◌≡◌, ◌⊎◌, ℕ, ◌-◌, ◌^◌, ◌<◌, Bool, ◌||◌, List, ◌∷◌, ◌++◌, length, Option, None, Some, IsSome, Ok, Err}
 use Rattle.std.specs.List.{concat}
 use Rattle.std.specs.Io.KnownBytes.{Appends}
+use Rattle.sha2.specs.Sha256.{sha256}
 use Rattle.nf_base.specs.Content.{size_of}
 use Rattle.nf_base.specs.declared.content.Piece.{Piece}
 use Rattle.nf_defs.specs.Blobs.{Blobs}
 use Rattle.nf_dav.specs.Asked.{request_of}
 use Rattle.nf_dav.specs.Reply.{done_reply, file_head, listing_reply, made_reply, refusal_reply}
-use Rattle.nf_http.specs.Head.{Head}
+use Rattle.nf_dav.specs.declared.replies.Manner.{Manner}
+use Rattle.nf_http.specs.Head.{Head, closes_session}
 use Rattle.nf_laws.specs.Wholes.{IsDamaged}
 use Rattle.nf_session.specs.Book.{Answer, Book, Lasts, entries_wanted, state_after}
 use Rattle.nf_session.specs.Files.{AreGiven}
 use Rattle.nf_session.specs.Session.{Session}
-use Rattle.nf_session.specs.Steps.{Heads, Scene}
+use Rattle.nf_session.specs.Steps.{Heads, Scene, no_words}
 use Rattle.nf_session.specs.Turn.{Meets}
 use Rattle.nf_session.specs.declared.ended.Ended.{Ended}
 use Rattle.nf_session.specs.declared.ended.Ended.TheVariants as ended
@@ -24,7 +26,7 @@ use Rattle.nf_words.specs.declared.answer.Reply.TheVariants as reply
 use Rattle.nf_words.specs.declared.history.Entry.{Entry}
 use Rattle.nf_words.specs.declared.history.Event.{Event}
 use Rattle.nf_words.specs.declared.history.Event.TheVariants.{Begin, End}
-use Rattle.nf_words.specs.declared.history.Outcome.{Outcome}
+use Rattle.nf_words.specs.declared.history.Outcome.TheVariants.{Body}
 use Rattle.nf_words.specs.declared.request.Request.{Request}
 use Rattle.nf_promises.specs.Kept.{invitation}
 
@@ -47,9 +49,16 @@ pub record StaysWhole (a b : Book) : Type 0 where
 
 -- ---- what is written
 
--- that is the answer of a step of the seat's event, at some place behind what the seat knew
-abbrev pub IsAnswerOf : Book → Event → Answer → Type 0
-IsAnswerOf b event answer = (others : List Entry) × (moment : ℕ) × (answer ≡ answer_to (state_after b others) b.seat moment event)
+-- that is the answer of the seat's step of that event, at its place: the step of an entry that the seat knows by then, behind what it
+-- knew before
+pub record IsAnswerOf (a b : Book) (event : Event) (answer : Answer) : Type 0 where
+  pub others : List Entry
+  pub entry : Entry
+  pub more : List Entry
+  pub known : b.known ≡ (a.known ++ others) ++ entry ∷ more
+  pub seat_is : entry.seat ≡ a.seat
+  pub event_is : entry.event ≡ event
+  pub answer_is : answer ≡ answer_to (state_after a others) entry.seat entry.moment entry.event
 
 -- what is written of the answer of an End with a body, behind the invitation to send it; a refusal is written as such
 abbrev pub SaysEnd : {C : Type 0} → Head → Bool → Answer → Scene C → Scene C → Type 0
@@ -63,7 +72,7 @@ pub record SaysStored {C : Type 0} (head : Head) (close : Bool) (size : ℕ) (a 
   pub body : List ℕ
   pub size_is : length body ≡ size
   pub answer : Answer
-  pub answers : IsAnswerOf a.book (End (Body (sha256 body) (length body))) answer
+  pub answers : IsAnswerOf a.book b.book (End (Body (sha256 body) (length body))) answer
   pub says : SaysEnd head close answer a b
 
 -- all pieces of a content were given, and written behind its head
@@ -83,22 +92,28 @@ Says head close (Ok (reply.Granted (Store by key size))) a b = SaysStored head c
 Says head close (Ok reply.Closed) a b = ⊥
 Says head close (Err refusal) a b = (manner : Manner) × Appends a.output b.output (refusal_reply manner refusal)
 
--- there was no memory: the session ended so, or the message was refused so
-abbrev pub IsWanting : {C : Type 0} → Scene C → Scene C → Option Ended → Type 0
-IsWanting a b end =
+-- there was no memory: the session ended so, or the message was refused so, maybe behind the invitation to send its body
+abbrev pub IsWanting : {C : Type 0} → Head → Scene C → Scene C → Option Ended → Type 0
+IsWanting head a b end =
     (end ≡ Some ended.Memory)
-    ⊎ ((front : List ℕ) × (manner : Manner) × Appends a.output b.output (front ++ refusal_reply manner denial.Memory))
+    ⊎ ((manner : Manner) × (Appends a.output b.output (refusal_reply manner denial.Memory)
+    ⊎ Appends a.output b.output (invitation head ++ refusal_reply manner denial.Memory)))
 
 -- ---- the law
 
--- a message with a request, at which nothing fails, is answered what its step is, at its place, and that is written; or there was no
--- memory; or the run was full; or its body was cut
+-- a message with that request is answered what its step is, at its place, and that is written; or there was no memory; or the session
+-- ended there because the run is full, and it is; or because the body was cut
+abbrev pub IsMet : {C : Type 0} → Bool → Head → Request → Scene C → Scene C → Option Ended → Type 0
+IsMet last head r a b end =
+    IsWanting head a b end ⊎ ((end ≡ Some ended.RunFull) × (most_entries < entries_wanted b.book)) ⊎ (end ≡ Some ended.BadMessage)
+    ⊎ ((answer : Answer) × IsAnswerOf a.book b.book (Begin no_words r) answer × Says head (last || closes_session head) answer a b)
+
+-- each message with a request is, at which nothing fails
 abbrev pub Completes : {C : Type 0} → (C → ℕ → C → Type 0) → Type 0
 Completes {C} reads =
     (last : Bool) (a m b : Scene C) (head : Head) (r : Request) (end : Option Ended)
     → Heads a m (Ok (Some head)) → request_of head ≡ Ok r → Meets reads last head m b end → NothingFails a b → StaysWhole a.book b.book
-    → IsWanting m b end ⊎ (most_entries < entries_wanted b.book) ⊎ (end ≡ Some ended.BadMessage)
-    ⊎ ((answer : Answer) × IsAnswerOf m.book (Begin no_words r) answer × Says head (last || closes_session head) answer m b)
+    → IsMet last head r m b end
 
 -- how a session may end in which nothing fails
 abbrev pub IsWell : Option Ended → Type 0
@@ -110,6 +125,7 @@ IsWell (Some ended.RunFull) = Unit {0}
 IsWell (Some ended.Memory) = Unit {0}
 IsWell (Some other) = ⊥
 
+-- each session does, in which nothing fails
 abbrev pub EndsWell : {C : Type 0} → (C → ℕ → C → Type 0) → Type 0
 EndsWell {C} reads =
     (a b : Scene C) (end : Option Ended) → Session reads a b end → NothingFails a b → StaysWhole a.book b.book → IsWell end

@@ -1,0 +1,5 @@
+use Rattle.nf_promises.proofs.Unfailing.{ends_well}
+use Rattle.nf_promises.proofs.complete.sessions_end_well.Goals as goal
+
+pub returns : goal.returns
+returns g c = ends_well g.C.Clock.reads
