@@ -7,9 +7,10 @@ use Rattle.std.specs.Io.KnownBytes.{Appends}
 use Rattle.nf_base.specs.Content.{size_of}
 use Rattle.nf_base.specs.declared.content.Piece.{Piece}
 use Rattle.nf_dav.specs.Asked.{request_of}
-use Rattle.nf_dav.specs.Reply.{done_reply, file_head, listing_reply, made_reply, refusal_reply}
+use Rattle.nf_dav.specs.Reply.{file_head, refusal_reply}
 use Rattle.nf_dav.specs.declared.replies.Manner.{Manner}
 use Rattle.nf_defs.specs.declared.Seeker.{Seeker}
+use Rattle.nf_http.specs.Bodies.{TakesBody}
 use Rattle.nf_http.specs.Head.{Head, closes_session}
 use Rattle.nf_words.specs.History.{answer_at}
 use Rattle.nf_words.specs.State.{State, opened}
@@ -19,7 +20,6 @@ use Rattle.nf_words.specs.declared.answer.Denial.{Denial}
 use Rattle.nf_words.specs.declared.answer.Denial.TheVariants as denial
 use Rattle.nf_words.specs.declared.answer.Goal.TheVariants as goal
 use Rattle.nf_words.specs.declared.answer.LockKey.{LockKey}
-use Rattle.nf_words.specs.declared.answer.Reply.{Reply}
 use Rattle.nf_words.specs.declared.answer.Reply.TheVariants as reply
 use Rattle.nf_words.specs.declared.history.Entry.{Entry}
 use Rattle.nf_words.specs.declared.history.Event.{Event}
@@ -30,7 +30,7 @@ use Rattle.nf_words.specs.declared.request.Request.{Request}
 use Rattle.nf_session.specs.Book.{Answer, Begins, Book, Enters, IsOfBody, Lasts, Strikes, denial_of_piece, event_of_body, is_unmade, state_after}
 use Rattle.nf_session.specs.Book.{Passes as Unchanged}
 use Rattle.nf_session.specs.Files.{AreGiven}
-use Rattle.nf_session.specs.Steps.{Bodies, Invites, IsResponse, Judges, Passes, Scene, Starts, StartsFile, StoresBody, no_words, taken_length}
+use Rattle.nf_session.specs.Steps.{Invites, IsResponse, Judges, Passes, Scene, Starts, StartsFile, StoresBody, no_words, taken_length}
 use Rattle.nf_session.specs.Turn.{Answers, Meets, Way, Writes, end_by, end_of, end_of_close, how_of, manner_of, stays_granted, way_of}
 use Rattle.nf_session.specs.declared.backend.PieceFault.{PieceFault}
 use Rattle.nf_session.specs.declared.backend.PieceFault.TheVariants as fault
@@ -46,8 +46,9 @@ use Rattle.nf_promises.proofs.Calm.{Calm, Onward, bodies_calm, calm_same, calm_t
 use Rattle.nf_promises.proofs.Full.{answers_full}
 use Rattle.nf_promises.proofs.Gets.{starts_file, starts_other, unmade_is}
 use Rattle.nf_promises.proofs.Returning.{appends_by, takes_output}
-use Rattle.nf_promises.proofs.Touches.{closes_only, judges_only, output_of}
+use Rattle.nf_promises.proofs.Touches.{closes_only, input_of, judges_only, output_of, passes_only}
 use Rattle.nf_promises.proofs.Unfailing.{not_struck, piece_wanting, responds_whole, short_whole, stop_whole}
+use Rattle.nf_promises.proofs.Wording.{writes_input, Fronts, close_is, refusal_written, word_written}
 use Rattle.nf_promises.specs.Complete.{Completes, IsAnswerOf, IsMet, IsUnrisen, IsWanting, NothingFails, Says, SaysEnd, SaysFile, SaysStored, StaysWhole}
 use Rattle.nf_promises.specs.Kept.{invitation}
 
@@ -73,48 +74,7 @@ answer_known a x y b now event answer before enters behind is =
       answer_is = is ∙ ap (λ (s : State). answer_to s e.seat e.moment e.event) state;
     }
 
--- ---- words
-
-close_is : (last closes : Bool) → (last || is_some (end_of_close (closes || false))) ≡ (last || closes)
-close_is true closes = refl
-close_is false true = refl
-close_is false false = refl
-
--- what is written of an answer that grants nothing, behind these bytes
-abbrev SaysWord : {C : Type 0} → List ℕ → Bool → Reply → Scene C → Scene C → Type 0
-SaysWord front close reply.Made a b = Appends a.output b.output (front ++ made_reply close)
-SaysWord front close reply.Done a b = Appends a.output b.output (front ++ done_reply close)
-SaysWord front close (reply.Listing lines) a b = Appends a.output b.output (front ++ listing_reply close lines)
-SaysWord front close reply.Closed a b = ⊥
-SaysWord front close (reply.Granted goal) a b = ⊥
-
--- what was written between two scenes, behind these bytes, is what was between two others
-abbrev Fronts : {C : Type 0} → List ℕ → Scene C → Scene C → Scene C → Scene C → Type 0
-Fronts front x y a b = (bytes : List ℕ) → Appends x.output y.output bytes → Appends a.output b.output (front ++ bytes)
-
-word_written : {C : Type 0} (front : List ℕ) (close last : Bool) (way : Way) (answered : Reply) (v : Response) (a x y b : Scene C)
-    → (last || is_some (end_of_close way.closes)) ≡ close → Fronts front x y a b → IsResponse (Ok answered) v
-    → Writes {T = Unit {0}} (manner_of last way v) v x y (Ok tt) → SaysWord front close answered a b
-word_written {C} front close last way answered v a x y b closes fronts is writes = here answered is
-  where
-    so : (w : Response) → v ≡ w → Writes {T = Unit {0}} (manner_of last way w) w x y (Ok tt)
-    so w is = subst (λ (w : Response). Writes {T = Unit {0}} (manner_of last way w) w x y (Ok tt)) is writes
-
-    here : (answered : Reply) → IsResponse (Ok answered) v → SaysWord front close answered a b
-    here reply.Made is = subst (λ (c : Bool). Appends a.output b.output (front ++ made_reply c)) closes (fronts _ (so response.Made is).bytes_are)
-    here reply.Done is = subst (λ (c : Bool). Appends a.output b.output (front ++ done_reply c)) closes (fronts _ (so response.Done is).bytes_are)
-    here (reply.Listing lines) is =
-        subst (λ (c : Bool). Appends a.output b.output (front ++ listing_reply c lines)) closes (fronts _ (so (response.Listing lines) is).bytes_are)
-    here reply.Closed never = absurd never
-    here (reply.Granted goal) never = absurd never
-
-refusal_written : {C : Type 0} (front : List ℕ) (last : Bool) (way : Way) (refusal : Denial) (v : Response) (a x y b : Scene C)
-    → Fronts front x y a b → v ≡ response.Denied refusal → Writes {T = Unit {0}} (manner_of last way v) v x y (Ok tt)
-    → (manner : Manner) × Appends a.output b.output (front ++ refusal_reply manner refusal)
-refusal_written front last way refusal v a x y b fronts is writes = (
-  manner_of last way (response.Denied refusal),
-  fronts _ (subst (λ (w : Response). Writes {T = Unit {0}} (manner_of last way w) w x y (Ok tt)) is writes).bytes_are,
-)
+-- ---- pieces
 
 given_later : (a b : Book) (content : List Piece) (given : List (List ℕ)) → Lasts a b → AreGiven a content given → AreGiven b content given
 given_later a b content [] lasts are = tt
@@ -184,11 +144,11 @@ module _ {C : Type 0} (reads : C → ℕ → C → Type 0) (last : Bool) (head :
           piece_wanting a b nothing whole x k piece why before (calm_then k s b (writes_calm _ (response.Lost why) k s wrote) behind) waits.lasts fails
   file_said content other end x k s before behind fronts starts writes = absurd (starts_other x.book k.book content other starts.starts)
 
-  body_said : (who : Seeker) (key : LockKey) (size : ℕ) (body : List ℕ) (v : Response) (end : Option Ended) (t x k s : Scene C)
-      → Calm a x → Calm k b → Fronts (invitation head) k s a b → Bodies t x size body → StoresBody reads body x k v
+  body_said : (who : Seeker) (key : LockKey) (size : ℕ) (body : List ℕ) (v : Response) (end : Option Ended) (x k s : Scene C)
+      → Calm a x → Calm k b → Fronts (invitation head) k s a b → TakesBody a.input b.input size body → StoresBody reads body x k v
       → Writes {T = Unit {0}} (manner_of last (way_of head (begun.Asked (Ok (reply.Granted (goal.Store who key size))))) v) v k s (Ok tt)
       → IsWanting head a b end ⊎ SaysStored head (last || closes_session head) size a b
-  body_said who key size body v end t x k s before behind fronts bodies (now, answer, read, ends, is, only) writes =
+  body_said who key size body v end x k s before behind fronts takes (now, answer, read, ends, is, only) writes =
       here (step_known x k now (event_of_body body) answer before behind ends.enters)
     where
       way : Way
@@ -208,41 +168,41 @@ module _ {C : Type 0} (reads : C → ℕ → C → Type 0) (last : Bool) (head :
           let refused = refusal_written (invitation head) last way denial.Memory v a k s b fronts
           (subst (λ (z : Answer). IsResponse z v) memory is) writes in
           inl (inr (refused.0, inr refused.1))
-      here (inr answers) = inr (record { body = body; size_is = bodies.taken.0; answer = answer; answers = answers; says = says answer ends.answered is })
+      here (inr answers) = inr (record { body = body; taken = takes; answer = answer; answers = answers; says = says answer ends.answered is })
 
   -- ---- what was begun
 
-  answer_said : (answer : Answer) (v : Response) (end : Option Ended) (t x k s : Scene C) (body : List ℕ) → Calm a x → Calm k b → Calm s b
-      → Fronts (invited_bytes head (begun.Asked answer)) k s a b → Bodies t x (taken_length head (begun.Asked answer)) body
+  answer_said : (answer : Answer) (v : Response) (end : Option Ended) (x k s : Scene C) (body : List ℕ) → Calm a x → Calm k b → Calm s b
+      → Fronts (invited_bytes head (begun.Asked answer)) k s a b → TakesBody a.input b.input (taken_length head (begun.Asked answer)) body
       → Passes reads body x k (begun.Asked answer) v → Writes {T = Unit {0}} (manner_of last (way_of head (begun.Asked answer)) v) v k s (Ok tt)
       → IsWanting head a b end ⊎ Says head (last || closes_session head) answer a b
-  answer_said (Ok reply.Made) v end t x k s body before taken sent fronts bodies (is, same) writes =
+  answer_said (Ok reply.Made) v end x k s body before taken sent fronts takes (is, same) writes =
       inr (word_written [] (last || closes_session head) last (way_of head (begun.Asked (Ok reply.Made))) reply.Made v a k s b
       (close_is last (closes_session head)) fronts is writes)
-  answer_said (Ok reply.Done) v end t x k s body before taken sent fronts bodies (is, same) writes =
+  answer_said (Ok reply.Done) v end x k s body before taken sent fronts takes (is, same) writes =
       inr (word_written [] (last || closes_session head) last (way_of head (begun.Asked (Ok reply.Done))) reply.Done v a k s b
       (close_is last (closes_session head)) fronts is writes)
-  answer_said (Ok (reply.Listing lines)) v end t x k s body before taken sent fronts bodies (is, same) writes =
+  answer_said (Ok (reply.Listing lines)) v end x k s body before taken sent fronts takes (is, same) writes =
       inr (word_written [] (last || closes_session head) last (way_of head (begun.Asked (Ok (reply.Listing lines)))) (reply.Listing lines) v a k s b
       (close_is last (closes_session head)) fronts is writes)
-  answer_said (Ok reply.Closed) v end t x k s body before taken sent fronts bodies (never, same) writes = absurd never
-  answer_said (Ok (reply.Granted (goal.Serve content))) v end t x k s body before taken sent fronts bodies starts writes =
+  answer_said (Ok reply.Closed) v end x k s body before taken sent fronts takes (never, same) writes = absurd never
+  answer_said (Ok (reply.Granted (goal.Serve content))) v end x k s body before taken sent fronts takes starts writes =
       file_said content v end x k s before sent fronts starts writes
-  answer_said (Ok (reply.Granted (goal.Store who key size))) v end t x k s body before taken sent fronts bodies stores writes =
-      body_said who key size body v end t x k s before taken fronts bodies stores writes
-  answer_said (Err refusal) v end t x k s body before taken sent fronts bodies (is, same) writes =
+  answer_said (Ok (reply.Granted (goal.Store who key size))) v end x k s body before taken sent fronts takes stores writes =
+      body_said who key size body v end x k s before taken fronts takes stores writes
+  answer_said (Err refusal) v end x k s body before taken sent fronts takes (is, same) writes =
       inr (refusal_written [] last (way_of head (begun.Asked (Err refusal))) refusal v a k s b fronts is writes)
 
   -- it found the run full, or was met
-  begun_met : (r : Request) (u : Begun) (v : Response) (end : Option Ended) (n t x k s : Scene C) (body : List ℕ) → request_of head ≡ Ok r
+  begun_met : (r : Request) (u : Begun) (v : Response) (end : Option Ended) (n x k s : Scene C) (body : List ℕ) → request_of head ≡ Ok r
       → Judges reads head a n u → Calm a x → Calm n b → Calm k b → Calm s b → Fronts (invited_bytes head u) k s a b
-      → Bodies t x (taken_length head u) body → Passes reads body x k u v → Writes {T = Unit {0}} (manner_of last (way_of head u) v) v k s (Ok tt)
+      → TakesBody a.input b.input (taken_length head u) body → Passes reads body x k u v → Writes {T = Unit {0}} (manner_of last (way_of head u) v) v k s (Ok tt)
       → (v ≡ response.Denied denial.RunFull) ⊎ IsMet last head r a b end
-  begun_met r (begun.Unasked refusal) v end n t x k s body asked (inl refused, same) before judged taken sent fronts bodies passes writes = absurd (cc)
-  begun_met r (begun.Unasked refusal) v end n t x k s body asked (inr memory, same) before judged taken sent fronts bodies (is, kept) writes =
+  begun_met r (begun.Unasked refusal) v end n x k s body asked (inl refused, same) before judged taken sent fronts takes passes writes = absurd (cc)
+  begun_met r (begun.Unasked refusal) v end n x k s body asked (inr memory, same) before judged taken sent fronts takes (is, kept) writes =
       let refused = refusal_written [] last (way_of head (begun.Unasked refusal)) denial.Memory v a k s b fronts (is ∙ ap response.Denied memory) writes in
       inr (inl (inr (refused.0, inl refused.1)))
-  begun_met r (begun.Asked answer) v end n t x k s body asked (other, now, is, read, begins, only) before judged taken sent fronts bodies passes writes =
+  begun_met r (begun.Asked answer) v end n x k s body asked (other, now, is, read, begins, only) before judged taken sent fronts takes passes writes =
       let same : other ≡ r = cc in
       here (begin_known n now r answer judged (subst (λ (q : Request). Begins a.book n.book now no_words q answer) same begins))
     where
@@ -256,7 +216,7 @@ module _ {C : Type 0} (reads : C → ℕ → C → Type 0) (last : Bool) (head :
           let front : Fronts [] k s a b = subst (λ (z : Answer). Fronts (invited_bytes head (begun.Asked z)) k s a b) memory fronts in
           let written = refusal_written [] last (way_of head (begun.Asked answer)) denial.Memory v a k s b front (refused denial.Memory memory) writes in
           inr (inl (inr (written.0, inl written.1)))
-      here (inr (inr answers)) = inr (said (answer_said answer v end t x k s body before taken sent fronts bodies passes writes))
+      here (inr (inr answers)) = inr (said (answer_said answer v end x k s body before taken sent fronts takes passes writes))
         where
           said : IsWanting head a b end ⊎ Says head (last || closes_session head) answer a b → IsMet last head r a b end
           said (inl wanting) = inl wanting
@@ -301,6 +261,17 @@ module _ {C : Type 0} (reads : C → ℕ → C → Type 0) (last : Bool) (head :
           (appends_by t.output b.output k.output s.output bytes (takes_output reads head t k u v answers.takes)
           (sym (output_of s b (closes_only reads (how_of v answers.result) (stays_granted v) s b answers.closes))) is)
 
+      -- nothing else is taken from the input
+      takes : s.input ≡ k.input → TakesBody a.input b.input (taken_length head u) answers.takes.1
+      takes kept =
+          let came : t.input ≡ a.input =
+          ap (λ (y : Scene C). y.input) (invites_wrote head u n t (Unit {0}) tt invites).only ∙ input_of a n (judges_only reads head a n u judges) in
+          let went : b.input ≡ x.input =
+          input_of s b (closes_only reads (how_of v answers.result) (stays_granted v) s b answers.closes) ∙ kept
+          ∙ input_of x k (passes_only reads answers.takes.1 x k u v answers.takes.3) in
+          subst (λ (o : Option (List ℕ)). TakesBody o b.input (taken_length head u) answers.takes.1) came
+          (subst (λ (o : Option (List ℕ)). TakesBody t.input o (taken_length head u) answers.takes.1) (sym went) answers.takes.2.taken)
+
       met : (end ≡ end_of (way_of head u).closes v) → (v ≡ response.Denied denial.RunFull) ⊎ IsMet last head r a b end → IsMet last head r a b end
       met ends (inl full) =
           let is : end ≡ Some ended.RunFull = ends ∙ ap (end_of (way_of head u).closes) full in
@@ -313,8 +284,8 @@ module _ {C : Type 0} (reads : C → ℕ → C → Type 0) (last : Bool) (head :
       here (inl memory) = inl (inl (answers.ends ∙ memory))
       here (inr (is, writes)) =
           let taken = calm_then k s b (writes_calm (manner_of last (way_of head u) v) v k s writes) sent in
-          met (answers.ends ∙ is) (begun_met r u v end n t x k s answers.takes.1 asked judges before (calm_then n x b told (calm_then x k b passed taken)) taken sent
-          fronts answers.takes.2 answers.takes.3 writes)
+          met (answers.ends ∙ is) (begun_met r u v end n x k s answers.takes.1 asked judges before (calm_then n x b told (calm_then x k b passed taken)) taken sent
+          fronts (takes (writes_input (manner_of last (way_of head u) v) v k s writes)) answers.takes.3 writes)
 
   meets_met : (r : Request) (end : Option Ended) → request_of head ≡ Ok r → Meets reads last head a b end → IsMet last head r a b end
   meets_met r end asked (n, u, judges, inl stops) =

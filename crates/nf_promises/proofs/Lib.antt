@@ -13,4 +13,5 @@ pub mod Returning
 pub mod Marks
 pub mod Bytes
 pub mod Unfailing
+pub mod Wording
 pub mod Completing

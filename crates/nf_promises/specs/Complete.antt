@@ -9,6 +9,7 @@ use Rattle.nf_defs.specs.Blobs.{Blobs}
 use Rattle.nf_dav.specs.Asked.{request_of}
 use Rattle.nf_dav.specs.Reply.{done_reply, file_head, listing_reply, made_reply, refusal_reply}
 use Rattle.nf_dav.specs.declared.replies.Manner.{Manner}
+use Rattle.nf_http.specs.Bodies.{TakesBody}
 use Rattle.nf_http.specs.Head.{Head, closes_session}
 use Rattle.nf_laws.specs.Wholes.{IsDamaged}
 use Rattle.nf_session.specs.Book.{Answer, Book, Lasts, entries_wanted, state_after}
@@ -67,10 +68,10 @@ SaysEnd head close (Ok reply.Done) a b = Appends a.output b.output (invitation h
 SaysEnd head close (Ok other) a b = ⊥
 SaysEnd head close (Err refusal) a b = (manner : Manner) × Appends a.output b.output (invitation head ++ refusal_reply manner refusal)
 
--- a body of the length that was granted was taken, and its End answered
+-- a body of the length that was granted was taken from the front of the input, and its End answered
 pub record SaysStored {C : Type 0} (head : Head) (close : Bool) (size : ℕ) (a b : Scene C) : Type 0 where
   pub body : List ℕ
-  pub size_is : length body ≡ size
+  pub taken : TakesBody a.input b.input size body
   pub answer : Answer
   pub answers : IsAnswerOf a.book b.book (End (Body (sha256 body) (length body))) answer
   pub says : SaysEnd head close answer a b
