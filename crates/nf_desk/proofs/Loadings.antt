@@ -3,7 +3,7 @@ use Rattle.std.proofs.Common.{◌≡◌, ◌≢◌, ◌⊎◌, inl, inr, ℕ, ze
 use Rattle.std.specs.Prelude.{Option, None, Some, not, option_map, sum, if◌then◌else◌, Result, Ok, Err, IfOk, OnOk}
 use Rattle.std.specs.List.{All, Contains, list_any}
 use Rattle.std.specs.Option.{IfSome, option_or}
-use Rattle.std.proofs.lemmas.Bool.{cases_lt, eqb-true, false≢true}
+use Rattle.std.proofs.lemmas.Bool.{cases_lt, false≢true}
 use Rattle.std.proofs.lemmas.List.{get_or_past, get_or-map, get_or-replicate, length-map, length-take-le, map-append, take_more}
 use Rattle.std.proofs.lemmas.List.Elements.{All-push}
 use Rattle.std.proofs.lemmas.List.Folds.{Any-from_list_any}
@@ -13,7 +13,7 @@ use Rattle.nf_base.specs.declared.rows.MetaRow.{MetaRow}
 use Rattle.nf_base.specs.declared.rows.Row.{Row}
 use Rattle.nf_base.specs.declared.rows.Row.TheVariants as rows
 use Rattle.nf_defs.specs.Tables.{tables_of}
-use Rattle.nf_keeper.specs.Keeping.{AreTold, applied}
+use Rattle.nf_keeper.specs.Keeping.{AreTold}
 use Rattle.nf_keeper.specs.declared.keeper.Keeper.{Ghosts as KeeperOf}
 use Rattle.nf_laws.proofs.Opening.{opens_whole}
 use Rattle.nf_rows.specs.Spelling.{Fits, Raw, spelling_of}
@@ -23,7 +23,7 @@ use Rattle.nf_site.specs.Kept.{Kept, opened_over}
 use Rattle.nf_told.proofs.Follows.{told_again, told_begins}
 use Rattle.nf_told.specs.Told.{AreFit, AreRisingRaws, FitsChange, Told, told_all, told_of}
 use Rattle.nf_desk.specs.Desk.{IsCounted, IsDesk, Shown, blobs_in, failures, first_blob_of, most_seats, risen, strikes_of, tale}
-use Rattle.nf_desk.specs.Opened.{AreUnread, IsFresh, IsKept, IsSpelled, IsUnreadAt, MayBegin, MayHaveRows, Opens, first_blob, first_of, told_first}
+use Rattle.nf_desk.specs.Opened.{AreUnread, IsFresh, IsKept, IsSpelled, IsUnreadAt, MayBegin, MayHaveRows, Opens, first_of, told_first}
 use Rattle.nf_desk.specs.Opening.{AreSpelled, BeginsWithMeta, IsLoaded, IsUnread, OpensTo}
 use Rattle.nf_desk.specs.declared.first.First.{First}
 use Rattle.nf_desk.specs.declared.first.OpenFault.{OpenFault}
@@ -216,43 +216,10 @@ no_strikes_of strikes none (suc place) = ap (λ (z : List ℕ). get_or z place 0
 
 -- ---- what is opened
 
--- whether no rows were loaded
-pub are_none : (raws shown : List Raw) (empty : Bool) → empty ≡ (length shown == 0) → shown ≡ raws → empty ≡ true → raws ≡ []
-are_none raws shown empty is same none = sym same ∙ none_is shown (eqb-true (length shown) 0 (sym is ∙ none))
-  where
-    none_is : (these : List Raw) → length these ≡ 0 → these ≡ []
-    none_is [] is = refl
-    none_is (raw ∷ these) is = absurd (omega (arith, is))
-
+-- whether rows were loaded
 pub are_some : (raws shown : List Raw) (empty : Bool) → empty ≡ (length shown == 0) → shown ≡ raws → empty ≡ false → raws ≢ []
 are_some raws shown empty is same some = λ none.
     false≢true (sym some ∙ is ∙ ap (λ (these : List Raw). length these == 0) (same ∙ none))
-
--- over the first rows, where none were loaded
-opens_none : (opening : Opening) (before after : Option Told) (first : First) (k : Kept) → AreTold before [] → AreRisingRaws []
-    → (IsKept opening → ⊥) → first ≡ first_of opening → k ≡ opened_over first.rows
-    → after ≡ option_map (applied (map Put first.rows) (first_blob first)) before → Opens opening before after k
-opens_none opening before after first k told rising never same is made =
-    subst (λ (z : Kept). Opens opening before after z) (sym is)
-    (record {
-      raws = [];
-      loaded = record { told = told; rising = rising };
-      fresh = λ _. refl;
-      kept = λ kept. absurd (never kept);
-      rows = ap (λ (z : First). z.rows) same;
-      begun = refl;
-      told = subst (λ (z : First). after ≡ told_first z [] before) same made;
-    })
-
-pub opens_first : (opening : Opening) (before loaded after : Option Told) (raws : List Raw) (first : First) (result : Result Held OpenFault)
-    → raws ≡ [] → AreTold before raws → AreRisingRaws raws → loaded ≡ before → (IsKept opening → ⊥) → first ≡ first_of opening
-    → IfOk result (λ site. site.kept ≡ opened_over first.rows)
-    → OnOk result (after ≡ option_map (applied (map Put first.rows) (first_blob first)) loaded)
-    → IfOk result (λ site. Opens opening before after site.kept)
-opens_first opening before loaded after raws first (Ok site) none told rising still never same is made =
-    opens_none opening before after first site.kept (subst (AreTold before) none told) (subst AreRisingRaws none rising) never same is
-    (subst (λ (o : Option Told). after ≡ option_map (applied (map Put first.rows) (first_blob first)) o) still made)
-opens_first opening before loaded after raws first (Err why) none told rising still never same is made = tt
 
 -- a Put fits where its row does
 puts_fit : (all : List Row) → All FitsChange (map Put all) → All Fits all
