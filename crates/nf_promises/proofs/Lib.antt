@@ -13,5 +13,6 @@ pub mod Returning
 pub mod Marks
 pub mod Bytes
 pub mod Unfailing
+pub mod Placing
 pub mod Wording
 pub mod Completing
