@@ -1,14 +1,14 @@
 //! A case that is served by two seats of one hub, which take turns: each exchange is a session of its own.
 
+ghost use Rattle.std.specs.Prelude.{◌≡◌, IfOk, None};
 ghost use Rattle.nf_hub.specs.Seats.{IsSeat, book};
-ghost use Rattle.nf_keeper.specs.declared.memory.MemKeeper.{MemKeeper};
 ghost use Rattle.nf_session.specs.Book.{held};
 
 use crate::case::Run;
 use filesd::demonstration;
 use nf_desk::{Desk, Opening, Unopened};
 use nf_hub::{Hub, Seat};
-use nf_keeper::MemKeeper;
+use nf_keeper::{Keeper, MemKeeper};
 use nf_outside::{ListClock, MemSink, MemSource};
 use nf_routes::Routes;
 use nf_server::{MemLink, serve_link};
@@ -28,14 +28,15 @@ pub fn serve_by_seats<R: Wait>(
         Ok(desk) => desk,
         Err(Unopened { fault: _, keeper }) => return Ok((Vec::new(alloc), keeper)),
     };
-    let Ok((hub, mut first)) = Hub::over(alloc, desk, 2) else {
+    let Ok((hub, mut seat)) = Hub::over(alloc, desk, 2) else {
         return Err(AllocError);
     };
-    let Some(second) = hub.split(&mut first) else {
+    let Some(other) = hub.split(&mut seat) else {
         return Err(AllocError);
     };
     let mut output = Vec::new(alloc);
-    let (mut seat, other) = take_turns(rt, alloc, case, &routes, &hub, (first, second), &mut output)?;
+    let (mut seat, other) =
+        take_turns(rt, alloc, case, &routes, &hub, (seat, other), &mut output)?;
     hub.join(&mut seat, other);
     if !seat.whole() {
         return Err(AllocError);
@@ -46,15 +47,19 @@ pub fn serve_by_seats<R: Wait>(
 
 // Serves one exchange after the other, each by the seat that didn't serve the one before. What comes behind the end of the run's one
 // session has no answer, and isn't served.
-fn take_turns<R: Wait>(
+fn take_turns<R: Wait, K: Keeper + Drop>(
     rt: &R,
     alloc: Global,
     case: &Run,
     routes: &Routes,
-    hub: &Hub<MemKeeper>,
-    seats: (Seat<MemKeeper>, Seat<MemKeeper>),
+    hub: &Hub<K>,
+    seats: (Seat<K>, Seat<K>),
     output: &mut Vec<u8>,
-) -> Result<(Seat<MemKeeper>, Seat<MemKeeper>), AllocError>
+) -> Result<(Seat<K>, Seat<K>), AllocError>
+    requires seats { IsSeat K.Keeper hub.now seats.0 × IsSeat K.Keeper hub.now seats.1 }
+    requires idle { (held (book K.Keeper hub.now seats.0) ≡ None) × (held (book K.Keeper hub.now seats.1) ≡ None) }
+    ensures seats { IfOk result (λ seats. IsSeat K.Keeper hub.now seats.0 × IsSeat K.Keeper hub.now seats.1) }
+    ensures idle { IfOk result (λ seats. (held (book K.Keeper hub.now seats.0) ≡ None) × (held (book K.Keeper hub.now seats.1) ≡ None)) }
 {
     let (mut next, mut last) = seats;
     let mut clock = ListClock::new(case.clock.as_slice().to_vec(alloc)?);

@@ -3,26 +3,28 @@ use Rattle.std.proofs.Common.{◌≡◌, ◌⊎◌, ℕ, ◌+◌, ◌-◌, ◌^�
 use Rattle.std.specs.Prelude.{Option, None}
 use Rattle.std.specs.Option.{IfSome}
 use Rattle.nf_defs.proofs.Tables.{tables_again}
-use Rattle.nf_desk.specs.Desk.{AreOwn, TellsSite, book_of}
+use Rattle.nf_desk.specs.Desk.{TellsSite}
 use Rattle.nf_rules.proofs.Ruled.{ruled_are_unbroken}
 use Rattle.nf_rules.specs.Ruled.{AreRuled}
-use Rattle.nf_session.specs.Book.{Answer, Book, held}
+use Rattle.nf_session.specs.Book.{Answer, Book}
 use Rattle.nf_session.specs.Laws.{Counted, CountsStrikes, failed_entries}
 use Rattle.nf_site.specs.Kept.{IsHistory, Kept}
 use Rattle.nf_told.specs.Told.{AreFit, Told}
+use Rattle.nf_words.specs.History.{replay}
 use Rattle.nf_words.specs.Sound.{IsSound}
+use Rattle.nf_words.specs.State.{State, opened}
 use Rattle.nf_words.specs.declared.history.Entry.{Entry}
 use Rattle.filesd.specs.Reopening.{Leaves}
-use Rattle.filesd.proofs.Alone.{no_tickets}
+use Rattle.filesd.specs.Seat.{AreOwn}
 
--- a site whose seat is idle, and what its desk tells of it
-pub leaves : (k : Kept) (keeper : Option Told) (faults : ℕ) → IsHistory k → IsSound k.state → AreRuled k.state.tables → AreOwn k.history
-    → AreFit k.state.tables → IfSome keeper (TellsSite k) → held (book_of k keeper faults) ≡ None → Leaves k keeper
-leaves k keeper faults h sound ruled own fit tells idle = record {
+-- a site at which nothing is granted, and what its desk tells of it
+pub leaves : (k : Kept) (keeper : Option Told) → IsHistory k → IsSound k.state → AreRuled k.state.tables → AreOwn k.history
+    → k.state.tickets ≡ [] → AreFit k.state.tables → IfSome keeper (TellsSite k) → Leaves k keeper
+leaves k keeper h sound ruled own idle fit tells = record {
   history = h;
   sound = sound;
   alone = own;
-  idle = no_tickets k keeper faults h own idle;
+  idle = idle;
   again = record {
     fit = fit;
     unbroken = ruled_are_unbroken k.state.tables fit ruled;
@@ -30,6 +32,11 @@ leaves k keeper faults h sound ruled own fit tells idle = record {
   };
   told = tells;
 }
+
+-- nor is anything where no seat has an entry
+pub none_granted : (k : Kept) → IsHistory k → k.history ≡ [] → k.state.tickets ≡ []
+none_granted k h none =
+    ap (λ (s : State). s.tickets) h.replayed ∙ ap (λ (es : List Entry). (replay (opened k.opening) es).tickets) none
 
 -- each failure of the store is paid for, pieces that weren't given among them
 pub paid : (before own pieces now : ℕ) → Counted before (own + pieces) now → (own + before ≤ now) ⊎ (now ≡ 2 ^ 64 - 1)

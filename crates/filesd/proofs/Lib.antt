@@ -1,7 +1,9 @@
 pub mod Alone
 pub mod Beginning
+pub mod Closing
 pub mod Leaving
 pub mod OneFile
 pub mod Runs
 pub mod Serving
 pub mod Shown
+pub mod Sole

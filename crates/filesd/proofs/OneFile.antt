@@ -15,7 +15,6 @@ use Rattle.nf_http.specs.Told.{stream}
 use Rattle.nf_http.proofs.Fronts.{head_costs}
 use Rattle.nf_defs.specs.Blobs.{Blobs, blob_at, put_blob}
 use Rattle.nf_base.specs.declared.rows.Row.{Row}
-use Rattle.nf_desk.specs.Desk.{book_of}
 use Rattle.nf_desk.specs.Opening.{IsLoaded, OpensTo}
 use Rattle.nf_keeper.specs.Keeping.{AreTold}
 use Rattle.nf_promises.specs.Kept.{FailsStore, Gets, IsWritten, OnlyOwn, Prints, ShowsFile, get_of, plainly, waits}
@@ -48,6 +47,7 @@ use Rattle.filesd.specs.OneFile.{IsFileOf, ServesOneFile, fresh_book}
 use Rattle.filesd.specs.Opening.{IsUnopened, WhyUnopened, told_opened}
 use Rattle.filesd.specs.Outside.{Outside}
 use Rattle.filesd.specs.Reopening.{Leaves}
+use Rattle.filesd.specs.Seat.{book_of}
 use Rattle.filesd.specs.Session.{Runs, first_book, scene_of, status_of}
 use Rattle.filesd.specs.declared.status.Status.{Status}
 use Rattle.filesd.specs.declared.status.Status.TheVariants as exit

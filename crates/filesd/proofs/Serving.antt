@@ -1,8 +1,9 @@
 -- A run of `batch`, from what its parts say.
 use Rattle.std.proofs.Common.{◌≡◌, ℕ, ◌≤◌, List, [], ◌∷◌, length, refl, ◌∙◌, ap, subst}
+use Rattle.std.specs.Option.{IfSome}
 use Rattle.std.specs.Prelude.{Option, None, Some}
 use Rattle.nf_base.specs.declared.rows.Row.{Row}
-use Rattle.nf_desk.specs.Desk.{book_of}
+use Rattle.nf_desk.specs.Desk.{Shown}
 use Rattle.nf_desk.specs.Opened.{Opens, first_blob, told_first}
 use Rattle.nf_desk.specs.Opening.{OpensTo}
 use Rattle.nf_desk.specs.declared.first.First.{First}
@@ -12,20 +13,27 @@ use Rattle.nf_outside.specs.Causes.{Rose}
 use Rattle.nf_rows.specs.Spelling.{Raw}
 use Rattle.nf_rules.specs.Rules.{AreUnbroken}
 use Rattle.nf_session.proofs.Causes.{session_follows}
-use Rattle.nf_session.specs.Book.{Book}
+use Rattle.nf_session.proofs.Strikes.{session_counts}
+use Rattle.nf_session.specs.Book.{Book, own_from}
 use Rattle.nf_session.specs.Session.{Session}
 use Rattle.nf_session.specs.declared.ended.Ended.{Ended}
 use Rattle.nf_site.specs.Demo.{demo_rows}
 use Rattle.nf_site.specs.Held.{Held}
 use Rattle.nf_site.specs.Kept.{Kept, opened_over}
 use Rattle.nf_told.specs.Told.{Told}
+use Rattle.nf_words.specs.State.{opened}
+use Rattle.nf_words.specs.declared.history.Entry.{Entry}
 use Rattle.filesd.specs.Opening.{IsUnopened, WhyUnopened, demo_blob, told_opened}
 use Rattle.filesd.specs.Opening as opening
 use Rattle.filesd.specs.Outside.{Outside}
-use Rattle.filesd.specs.Session.{Runs, Serves, first_book, scene_of, status_of}
+use Rattle.filesd.specs.Reopening.{Leaves, Pays}
+use Rattle.filesd.specs.Seat.{book_of, seat}
+use Rattle.filesd.specs.Session.{Runs, ServesDesk, first_book, scene_of}
 use Rattle.filesd.specs.declared.status.Status.{Status}
 use Rattle.filesd.specs.declared.status.Status.TheVariants as exit
-use Rattle.filesd.proofs.Runs.{read_rose, write_rose}
+use Rattle.filesd.proofs.Alone.{is_alone}
+use Rattle.filesd.proofs.Leaving.{own_paid}
+use Rattle.filesd.proofs.Runs.{has_room, read_rose, write_rose}
 
 -- what is told once the demonstration rows are the first
 told_is : (first : First) (raws : List Raw) (told : Option Told) → first.rows ≡ demo_rows → first_blob first ≡ demo_blob
@@ -35,6 +43,10 @@ told_is first [] told rows blob =
     ∙ ap (λ (stored : Option Stored). opening.told_first demo_rows stored told) blob
 told_is first (raw ∷ raws) told rows blob = refl
 
+-- no entry is the seat's own where there is none
+none_own : (k : Kept) → k.history ≡ [] → own_from seat (opened k.opening) k.history ≡ []
+none_own k none = ap (λ (es : List Entry). own_from seat (opened k.opening) es) none
+
 -- the book with which the session begins
 book_is : (k : Kept) (rows : List Row) (told now : Option Told) (before faults : ℕ) → k ≡ opened_over rows → told ≡ now → faults ≡ before
     → book_of k told faults ≡ first_book rows now before
@@ -42,28 +54,43 @@ book_is k rows told now before faults begun tells same =
     ap (λ (z : Kept). book_of z told faults) begun ∙ ap (λ (o : Option Told). book_of (opened_over rows) o faults) tells
     ∙ ap (λ (n : ℕ). book_of (opened_over rows) now n) same
 
--- a session over a desk that was opened so
-pub serves : {C : Type 0} (reads : C → ℕ → C → Type 0) (a b : Outside C) (status : Status) (site : Held) (first : First) (k : Kept)
-    (told : Option Told) (faults : ℕ) (end : Option Ended) (kept : List ℕ)
-    → Opens (Either first) a.told told k → first.rows ≡ demo_rows → first_blob first ≡ demo_blob → AreUnbroken k.opening → faults ≡ a.faults
-    → status ≡ status_of end → length kept ≤ 8192
-    → Session reads (scene_of a [] (book_of k told faults)) (scene_of b kept (book_of site.kept b.told b.faults)) end
-    → Serves reads a b status site
-serves reads a b status site first k told faults end kept opens rows blob unbroken same ended few session = record {
-  raws = opens.raws;
-  loaded = opens.loaded;
-  rows = k.opening;
-  opens = subst (λ (these : List Row). OpensTo these opens.raws k.opening) rows opens.rows;
-  unbroken = unbroken;
-  end = end;
-  ended = ended;
-  kept = kept;
-  few = few;
-  session = subst (λ (book : Book). Session reads (scene_of a [] book) (scene_of b kept (book_of site.kept b.told b.faults)) end)
-      (book_is k k.opening told (told_opened opens.raws a.told) a.faults faults opens.begun
-      (opens.told ∙ told_is first opens.raws a.told rows blob) same) session;
-  opening = (session_follows reads _ _ end session).lasts.opening;
-}
+module _ {C : Type 0} (reads : C → ℕ → C → Type 0) (a b : Outside C) (status : Status) (desk : Shown) where
+  -- a session over a desk that was opened so
+  pub serves : (site : Option Held) (first : First)
+      → Opens (Either first) a.told desk.told desk.site → first.rows ≡ demo_rows → first_blob first ≡ demo_blob
+      → AreUnbroken desk.site.opening → desk.faults ≡ a.faults → ServesDesk reads desk a b status site → Runs reads a b status site
+  serves None first opens rows blob unbroken same never = absurd never
+  serves (Some site) first opens rows blob unbroken same (end, kept, ended, few, session) = record {
+    raws = opens.raws;
+    loaded = opens.loaded;
+    rows = desk.site.opening;
+    opens = subst (λ (these : List Row). OpensTo these opens.raws desk.site.opening) rows opens.rows;
+    unbroken = unbroken;
+    end = end;
+    ended = ended;
+    kept = kept;
+    few = few;
+    session = subst (λ (book : Book). Session reads (scene_of a [] book) (scene_of b kept (book_of site.kept b.told b.faults)) end)
+        (book_is desk.site desk.site.opening desk.told (told_opened opens.raws a.told) a.faults desk.faults opens.begun
+        (opens.told ∙ told_is first opens.raws a.told rows blob) same) session;
+    opening = (session_follows reads _ _ end session).lasts.opening;
+  }
+
+  -- each failure of the store in it is paid for
+  pub serving_pays : (site : Option Held) → desk.site.history ≡ [] → ServesDesk reads desk a b status site
+      → IfSome site (λ site. Pays site.kept desk.faults b.faults)
+  serving_pays None none never = absurd never
+  serving_pays (Some site) none (end, kept, ended, few, session) =
+      own_paid (book_of desk.site desk.told desk.faults) (book_of site.kept b.told b.faults) _ (none_own desk.site none)
+      (session_counts reads _ _ end session)
+
+  -- and it never finds the run full
+  pub serving_has_room : (site : Option Held) → desk.site.history ≡ [] → ServesDesk reads desk a b status site
+      → IfSome site (λ site. Leaves site.kept b.told) → status ≡ exit.RunFull → ⊥
+  serving_has_room None none never leaves full = never
+  serving_has_room (Some site) none (end, kept, ended, few, session) leaves full =
+      has_room reads _ _ end status session ended (record { known = none; own = none_own desk.site none })
+      (is_alone site.kept b.told b.faults leaves.alone) full
 
 -- ---- faults of the ends
 

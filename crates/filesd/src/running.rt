@@ -141,8 +141,9 @@ fn serve_desk<R: Wait, S: Source, O: Sink, K: Keeper + Drop, C: Clock>(
 {
     match Hub::over(alloc, desk, SEATS) {
         Ok((hub, seat)) => {
-            let Served { ended, seat } =
-                serve_ends(rt, alloc, routes, &hub, seat, input, output, clock);
+            let Served { ended, seat } = serve_ends(
+                rt, alloc, routes, &hub, seat, input, output, clock,
+            );
             let (site, keeper) = hub.close(seat);
             Finished {
                 status: status_of(ended),

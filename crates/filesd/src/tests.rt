@@ -5,6 +5,7 @@ use crate::status::Status;
 use nf_keeper::MemKeeper;
 use nf_outside::{ListClock, MemSink, MemSource};
 use std::alloc::{AllocError, Global};
+use std::sync::Wait;
 use std::test::Fail;
 
 const GET_HELLO: &str =
@@ -33,7 +34,8 @@ fn words_of(alloc: Global, words: &[&str]) -> Result<Vec<String>, AllocError> {
 }
 
 /// A run of `batch` over a keeper, and what it wrote.
-fn batch(
+fn batch<R: Wait>(
+    rt: &R,
     alloc: Global,
     keeper: MemKeeper,
     input: MemSource,
@@ -42,7 +44,15 @@ fn batch(
     let mut input = input;
     let mut output = MemSink::new(alloc, Vec::new(alloc));
     let mut clock = ListClock::new(Vec::new(alloc));
-    let finished = run(&rt, alloc, &words, &mut input, &mut output, keeper, &mut clock);
+    let finished = run(
+        rt,
+        alloc,
+        &words,
+        &mut input,
+        &mut output,
+        keeper,
+        &mut clock,
+    );
     Ok((finished, output.bytes().to_vec(alloc)?))
 }
 
@@ -63,7 +73,15 @@ fn other_words_are_no_command(rt: HostRuntime) -> Result<(), Fail> {
         let mut output = MemSink::new(alloc, Vec::new(alloc));
         let mut clock = ListClock::new(Vec::new(alloc));
         let keeper = MemKeeper::new(alloc, &[])?;
-        let finished = run(&rt, alloc, &words, &mut input, &mut output, keeper, &mut clock);
+        let finished = run(
+            &rt,
+            alloc,
+            &words,
+            &mut input,
+            &mut output,
+            keeper,
+            &mut clock,
+        );
         assert!(rt; finished.status == Status::Words, "at {case:?}");
         assert!(rt; finished.site.is_none());
     }
@@ -91,7 +109,15 @@ fn faults_of_the_outside(rt: HostRuntime) -> Result<(), Fail> {
         let mut clock = ListClock::new(Vec::new(alloc));
         let words = words_of(alloc, &["batch"])?;
         let keeper = MemKeeper::new(alloc, &[])?;
-        let finished = run(&rt, alloc, &words, &mut input, &mut output, keeper, &mut clock);
+        let finished = run(
+            &rt,
+            alloc,
+            &words,
+            &mut input,
+            &mut output,
+            keeper,
+            &mut clock,
+        );
         assert!(rt; finished.status == status);
         assert_eq!(rt; output.bytes().len(), count);
         assert!(rt; finished.site.is_some());
@@ -103,9 +129,9 @@ fn faults_of_the_outside(rt: HostRuntime) -> Result<(), Fail> {
 fn a_put_that_is_cut_stores_nothing(rt: HostRuntime) -> Result<(), Fail> {
     let alloc = rt.alloc();
     let keeper = MemKeeper::new(alloc, &[])?;
-    let (finished, _) = batch(alloc, keeper, source(alloc, PUT_HELLO)?)?;
+    let (finished, _) = batch(&rt, alloc, keeper, source(alloc, PUT_HELLO)?)?;
     assert!(rt; finished.status == Status::BadMessage);
-    let (finished, bytes) = batch(alloc, finished.keeper, source(alloc, GET_HELLO)?)?;
+    let (finished, bytes) = batch(&rt, alloc, finished.keeper, source(alloc, GET_HELLO)?)?;
     assert!(rt; finished.status == Status::Done);
     assert_eq!(rt; bytes.as_slice(), HELLO.as_bytes());
     Ok(())
@@ -121,7 +147,7 @@ fn the_longest_body_is_stored_and_read(rt: HostRuntime) -> Result<(), Fail> {
     bytes.extend_from_slice(&body)?;
     bytes.extend_from_slice(GET_HELLO.as_bytes())?;
     let input = MemSource::new(bytes, Vec::new(alloc), Vec::new(alloc));
-    let (finished, written) = batch(alloc, MemKeeper::new(alloc, &[])?, input)?;
+    let (finished, written) = batch(&rt, alloc, MemKeeper::new(alloc, &[])?, input)?;
     assert!(rt; finished.status == Status::Done);
     assert!(rt; written.ends_with(&body));
     Ok(())

@@ -1,8 +1,15 @@
-use Rattle.filesd.proofs.Leaving.{leaves}
+use Rattle.std.proofs.Common.{◌≡◌, List, sym, subst}
+use Rattle.std.proofs.lemmas.List.Elements.{All-nil}
+use Rattle.nf_words.specs.declared.history.Entry.{Entry}
+use Rattle.filesd.specs.Seat.{AreOwn, seat}
+use Rattle.filesd.proofs.Leaving.{leaves, none_granted}
 use Rattle.filesd.proofs.running.handed_out.Goals as goal
 
 pub returns-clause-leaves : goal.returns-clause-leaves
 returns-clause-leaves g c =
     let said = c.into_parts-site.ensures in
-    leaves c.args.desk.site.kept (g.K.Keeper.told c.args.desk.keeper) (g.K.Keeper.faults c.args.desk.keeper)
-    said.history said.sound said.ruled said.alone said.fit said.told c.requires.idle
+    let k = c.args.desk.site.kept in
+    let none = c.requires.history in
+    leaves k (g.K.Keeper.told c.args.desk.keeper) said.history said.sound said.ruled
+    (subst (λ (es : List Entry). AreOwn es) (sym none) (All-nil (λ (e : Entry). e.seat ≡ seat)))
+    (none_granted k said.history none) said.desk.fit said.desk.told

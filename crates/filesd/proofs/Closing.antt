@@ -1,0 +1,100 @@
+-- What is left once the one seat of a hub has closed it, or where there was no memory for a hub.
+use Rattle.std.proofs.Common.{◌≡◌, ℕ, ◌≤◌, List, [], length, refl, sym, ◌∙◌, ap, subst, inl, inr, arith}
+use Rattle.std.proofs.KnownBytes.{Keeps-refl}
+use Rattle.std.specs.Prelude.{Option, Some}
+use Rattle.std.specs.declared.snapshot.Snapshot.{Snapshot}
+use Rattle.nf_base.specs.declared.rows.Row.{Row}
+use Rattle.nf_desk.specs.Desk.{Served, shown}
+use Rattle.nf_http.specs.declared.wire.WireFault.TheVariants as wire
+use Rattle.nf_hub.specs.Closing.{Closes}
+use Rattle.nf_hub.specs.Seats.{book_in, memory_of, steady}
+use Rattle.nf_hub.specs.declared.hub.HubOf.{HubOf}
+use Rattle.nf_hub.specs.declared.seat.SeatOf.{SeatOf}
+use Rattle.nf_keeper.specs.declared.keeper.Keeper.{Ghosts as KeeperOf}
+use Rattle.nf_session.specs.Book.{Book}
+use Rattle.nf_session.specs.Session.{Session}
+use Rattle.nf_session.specs.Steps.{Scene}
+use Rattle.nf_session.specs.declared.ended.Ended.{Ended}
+use Rattle.nf_session.specs.declared.ended.Ended.TheVariants as ended
+use Rattle.nf_site.specs.Held.{Held}
+use Rattle.nf_turn.proofs.Poses.{numbers_known}
+use Rattle.nf_turn.specs.Memory.{of_the_first}
+use Rattle.nf_turn.specs.Numbers.{IsWhole, Numbers, numbers_of}
+use Rattle.nf_turn.specs.Seats.{numbers}
+use Rattle.nf_turn.specs.declared.view.Memory.{Memory}
+use Rattle.nf_words.specs.declared.history.Entry.{Entry}
+use Rattle.filesd.specs.Outside.{Outside}
+use Rattle.filesd.specs.Reopening.{Leaves}
+use Rattle.filesd.specs.Seat.{book_of}
+use Rattle.filesd.specs.Session.{ServesDesk, scene_of}
+use Rattle.filesd.specs.declared.status.Status.{Status}
+use Rattle.filesd.specs.declared.status.Status.TheVariants as exit
+use Rattle.filesd.proofs.Leaving.{leaves}
+use Rattle.filesd.proofs.Sole.{all_numbers, are_own, is_whole, last_book_is}
+
+-- a session keeps the numbers of its seat
+pub numbers_stay : {K : Type 0} (m before : Memory (Served K)) (desk : Served K) → steady m ≡ steady before → before ≡ of_the_first 64 desk
+    → numbers_of m ≡ all_numbers desk
+numbers_stay {K} m before desk same first =
+    ap (λ (x : Memory (Served K)). numbers_of x) same ∙ ap (λ (x : Memory (Served K)). numbers_of x) first
+
+pub seat_is_whole : {K : Type 0} (k : KeeperOf K) (hub : HubOf (Served K) Entry (List Row × Snapshot K))
+    (seat : SeatOf (Served K) Entry (List Row × Snapshot K)) (desk : Served K)
+    → numbers_of (memory_of k hub seat) ≡ all_numbers desk → IsWhole (numbers seat.turns)
+seat_is_whole {K} k hub seat desk all =
+    subst (λ (n : Numbers (Served K)). IsWhole n) (sym all ∙ numbers_known _ seat.turns.place.me) (is_whole desk)
+
+module _ {K : Type 0} (k : KeeperOf K) (m : Memory (Served K)) (first : Served K) (all : numbers_of m ≡ all_numbers first)
+    (site : Held) (keeper : K) (closes : Closes k m site keeper) where
+  pub closing_leaves : Leaves site.kept (k.told keeper)
+  closing_leaves =
+      let desk = closes.desk in
+      subst (λ (s : Held). Leaves s.kept (k.told keeper)) (sym closes.site_is)
+      (subst (λ (z : K). Leaves desk.site.kept (k.told z)) (sym closes.keeper_is)
+      (leaves desk.site.kept (k.told desk.keeper) closes.history closes.sound closes.ruled (are_own k m first desk all closes.agrees)
+      closes.idle closes.is_desk.fit closes.is_desk.told))
+
+  pub closing_book : book_in k m ≡ book_of site.kept (k.told keeper) (k.faults keeper)
+  closing_book =
+      let desk = closes.desk in
+      last_book_is k m first desk all closes.agrees closes.is_desk
+      ∙ ap (λ (z : K). book_of desk.site.kept (k.told z) (k.faults z)) (sym closes.keeper_is)
+      ∙ ap (λ (s : Held). book_of s.kept (k.told keeper) (k.faults keeper)) (sym closes.site_is)
+
+-- a session between two scenes, by what its seat knew there
+pub session_between : {C : Type 0} (reads : C → ℕ → C → Type 0) (a b : Outside C) (kept : List ℕ) (end : Option Ended) (p q r s : Book)
+    → p ≡ q → r ≡ s → Session reads (scene_of a [] p) (scene_of b kept r) end → Session reads (scene_of a [] q) (scene_of b kept s) end
+session_between reads a b kept end p q r s first last session =
+    subst (λ (book : Book). Session reads (scene_of a [] q) (scene_of b kept book) end) last
+    (subst (λ (book : Book). Session reads (scene_of a [] book) (scene_of b kept r) end) first session)
+
+-- ---- without a hub
+
+-- where there is no memory, a session ends at once, and nothing was touched
+none_served : {C : Type 0} (reads : C → ℕ → C → Type 0) (a : Scene C) → Session reads a a (Some ended.Memory)
+none_served reads a = record {
+  scenes = [];
+  before = a;
+  through = refl;
+  few = omega arith;
+  turn = inr (inl (a, wire.Memory, ended.Memory, record { only = refl; next = Keeps-refl a.input; cause = refl }, (refl, refl), refl));
+  full = λ is. absurd (cc);
+}
+
+-- what was handed out is the desk as it was opened
+pub serves_none : {C K : Type 0} (reads : C → ℕ → C → Type 0) (k : KeeperOf K) (a : Outside C) (desk left : Served K) (status : Status)
+    (site : Option Held) (keeper : K) → left ≡ desk → status ≡ exit.Memory → site ≡ Some left.site → keeper ≡ left.keeper
+    → ServesDesk reads (shown k desk) a (record a { told = k.told keeper; faults = k.faults keeper }) status site
+serves_none {C} {K} reads k a desk left status site keeper same is handed its =
+    let b : Outside C = record a { told = k.told keeper; faults = k.faults keeper } in
+    let book : Book = book_of desk.site.kept (k.told desk.keeper) (k.faults desk.keeper) in
+    let last : book ≡ book_of left.site.kept (k.told keeper) (k.faults keeper) =
+    ap (λ (d : Served K). book_of d.site.kept (k.told d.keeper) (k.faults d.keeper)) (sym same)
+    ∙ ap (λ (z : K). book_of left.site.kept (k.told z) (k.faults z)) (sym its) in
+    subst (λ (s : Option Held). ServesDesk reads (shown k desk) a b status s) (sym handed) (
+      Some ended.Memory,
+      [],
+      is,
+      omega arith,
+      session_between reads a b [] (Some ended.Memory) book book book _ refl last (none_served reads (scene_of a [] book)),
+    )
