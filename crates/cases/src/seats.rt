@@ -35,8 +35,7 @@ pub fn serve_by_seats<R: Wait>(
         return Err(AllocError);
     };
     let mut output = Vec::new(alloc);
-    let (mut seat, other) =
-        take_turns(rt, alloc, case, &routes, &hub, (seat, other), &mut output)?;
+    let (mut seat, other) = take_turns(rt, alloc, case, &routes, &hub, (seat, other), &mut output)?;
     hub.join(&mut seat, other);
     if !seat.whole() {
         return Err(AllocError);
