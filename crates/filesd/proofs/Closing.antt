@@ -1,5 +1,5 @@
 -- What is left once the one seat of a hub has closed it, or where there was no memory for a hub.
-use Rattle.std.proofs.Common.{◌≡◌, ℕ, ◌≤◌, List, [], length, refl, sym, ◌∙◌, ap, subst, inl, inr, arith}
+use Rattle.std.proofs.Common.{◌≡◌, ℕ, List, [], refl, sym, ◌∙◌, ap, subst, inl, inr, arith}
 use Rattle.std.proofs.KnownBytes.{Keeps-refl}
 use Rattle.std.specs.Prelude.{Option, Some}
 use Rattle.std.specs.declared.snapshot.Snapshot.{Snapshot}

@@ -1,6 +1,6 @@
 -- What is left when a run ends, and what the keeper counted.
 use Rattle.std.proofs.Common.{◌≡◌, ◌⊎◌, ℕ, ◌+◌, ◌-◌, ◌^◌, ◌≤◌, List, [], ◌++◌, sym, ◌∙◌, ap, subst, inl, inr, arith}
-use Rattle.std.specs.Prelude.{Option, None}
+use Rattle.std.specs.Prelude.{Option}
 use Rattle.std.specs.Option.{IfSome}
 use Rattle.nf_defs.proofs.Tables.{tables_again}
 use Rattle.nf_desk.specs.Desk.{TellsSite}

@@ -1,5 +1,5 @@
 -- A run of `batch`, from what its parts say.
-use Rattle.std.proofs.Common.{◌≡◌, ℕ, ◌≤◌, List, [], ◌∷◌, length, refl, ◌∙◌, ap, subst}
+use Rattle.std.proofs.Common.{◌≡◌, ℕ, List, [], ◌∷◌, refl, ◌∙◌, ap, subst}
 use Rattle.std.specs.Option.{IfSome}
 use Rattle.std.specs.Prelude.{Option, None, Some}
 use Rattle.nf_base.specs.declared.rows.Row.{Row}
@@ -16,7 +16,6 @@ use Rattle.nf_session.proofs.Causes.{session_follows}
 use Rattle.nf_session.proofs.Strikes.{session_counts}
 use Rattle.nf_session.specs.Book.{Book, own_from}
 use Rattle.nf_session.specs.Session.{Session}
-use Rattle.nf_session.specs.declared.ended.Ended.{Ended}
 use Rattle.nf_site.specs.Demo.{demo_rows}
 use Rattle.nf_site.specs.Held.{Held}
 use Rattle.nf_site.specs.Kept.{Kept, opened_over}

@@ -12,7 +12,7 @@ use Rattle.nf_session.specs.Book.{Book, held, held_after, own_from}
 use Rattle.nf_turn.specs.Agreeing.{Agrees}
 use Rattle.nf_turn.specs.Book.{HasNothing, IsFresh}
 use Rattle.nf_turn.specs.Memory.{of_the_first}
-use Rattle.nf_turn.specs.Numbers.{IsWhole, Numbers, has_number, is_left, numbers_of}
+use Rattle.nf_turn.specs.Numbers.{IsWhole, Numbers, is_left, numbers_of}
 use Rattle.nf_turn.specs.declared.view.Memory.{Memory}
 use Rattle.nf_words.specs.State.{opened}
 use Rattle.nf_words.specs.declared.history.Entry.{Entry}
@@ -103,8 +103,8 @@ module _ {K : Type 0} (k : KeeperOf K) where
       let none : failed_marks (entries_by seat desk.site.kept.history) + strikes_of desk.strikes seat ≡ 0 = omega arith in
       ap (λ (n : ℕ). book_with desk (risen (k.faults desk.start.value) n)) none ∙ ap (λ (z : K). book_with desk (k.faults z)) start
 
-  pub first_idle : (desk : Served K) → desk.site.kept.history ≡ [] → held (book_in k (of_the_first 64 desk)) ≡ None
-  first_idle desk none = ap (λ (es : List Entry). held_after None (own_from seat (opened desk.site.kept.opening) es)) none
+  pub first_idle : (seats : ℕ) (desk : Served K) → desk.site.kept.history ≡ [] → held (book_in k (of_the_first seats desk)) ≡ None
+  first_idle seats desk none = ap (λ (es : List Entry). held_after None (own_from seat (opened desk.site.kept.opening) es)) none
 
   module _ (m : Memory (Served K)) (first desk : Served K) (numbers : numbers_of m ≡ all_numbers first)
       (agrees : Agrees (meanings k) m desk) where

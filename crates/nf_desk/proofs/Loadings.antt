@@ -16,6 +16,9 @@ use Rattle.nf_defs.specs.Tables.{tables_of}
 use Rattle.nf_keeper.specs.Keeping.{AreTold}
 use Rattle.nf_keeper.specs.declared.keeper.Keeper.{Ghosts as KeeperOf}
 use Rattle.nf_laws.proofs.Opening.{opens_whole}
+use Rattle.nf_opening.specs.Judged.{IsFaultOf}
+use Rattle.nf_opening.specs.declared.fault.SiteFault.{SiteFault}
+use Rattle.nf_opening.specs.declared.fault.SiteFault.TheVariants as judged
 use Rattle.nf_rows.specs.Spelling.{Fits, Raw, spelling_of}
 use Rattle.nf_rules.specs.Rules.{AreUnbroken, Rule, broken_at, first_broken, first_index, is_meta, is_twice, lacks_meta, rules}
 use Rattle.nf_site.specs.Held.{Held}
@@ -23,7 +26,8 @@ use Rattle.nf_site.specs.Kept.{Kept, opened_over}
 use Rattle.nf_told.proofs.Follows.{told_again, told_begins}
 use Rattle.nf_told.specs.Told.{AreFit, AreRisingRaws, FitsChange, Told, told_all, told_of}
 use Rattle.nf_desk.specs.Desk.{IsCounted, IsDesk, Shown, blobs_in, failures, first_blob_of, most_seats, risen, strikes_of, tale}
-use Rattle.nf_desk.specs.Opened.{AreUnread, IsFresh, IsKept, IsSpelled, IsUnreadAt, MayBegin, MayHaveRows, Opens, first_of, told_first}
+use Rattle.nf_desk.specs.Faults.{of_site}
+use Rattle.nf_desk.specs.Opened.{AreUnread, IsFault, IsFresh, IsKept, IsSpelled, IsUnreadAt, MayBegin, MayHaveRows, Opens, first_of, told_first}
 use Rattle.nf_desk.specs.Opening.{AreSpelled, BeginsWithMeta, IsLoaded, IsUnread, OpensTo}
 use Rattle.nf_desk.specs.declared.first.First.{First}
 use Rattle.nf_desk.specs.declared.first.OpenFault.{OpenFault}
@@ -257,3 +261,20 @@ opens_loaded opening before after (raw ∷ raws) all k some told rising still ma
     never (Fresh first) fresh may = may
     never (Either first) fresh may = fresh
     never over.Kept fresh may = fresh
+
+-- ---- why nothing is opened
+
+pub unread_fault : (opening : Opening) (keeper : Option Told) (raws : List Raw) (why : OpenFault) → MayHaveRows opening → AreTold keeper raws
+    → AreRisingRaws raws → AreUnread raws why → IsFault opening keeper why
+unread_fault opening keeper raws fault.Failed may told rising is = tt
+unread_fault opening keeper raws (fault.Unread index why) may told rising is = (may, (raws, record { told = told; rising = rising }, is))
+unread_fault opening keeper raws (fault.Broken broken) may told rising is = absurd is
+unread_fault opening keeper raws fault.Memory may told rising is = tt
+unread_fault opening keeper raws fault.Found may told rising is = absurd is
+unread_fault opening keeper raws fault.Missing may told rising is = absurd is
+
+pub unbuilt_fault : (opening : Opening) (keeper : Option Told) (raws : List Raw) (all : List Row) (why : SiteFault) → MayHaveRows opening
+    → AreTold keeper raws → AreRisingRaws raws → AreSpelled raws all → IsFaultOf all why → IsFault opening keeper (of_site why)
+unbuilt_fault opening keeper raws all (judged.Broken broken) may told rising spelled is =
+    (may, (raws, record { told = told; rising = rising }, record { rows = all; spelled = spelled; first = is }))
+unbuilt_fault opening keeper raws all judged.Memory may told rising spelled is = tt

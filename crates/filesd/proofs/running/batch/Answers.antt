@@ -1,7 +1,6 @@
-use Rattle.std.proofs.Common.{ℕ, ap, subst}
+use Rattle.std.proofs.Common.{ℕ, subst}
 use Rattle.std.specs.Option.{IfSome}
 use Rattle.nf_desk.specs.Desk.{shown}
-use Rattle.nf_site.specs.Kept.{Kept}
 use Rattle.filesd.specs.Outside.{outside}
 use Rattle.filesd.specs.Reopening.{Pays}
 use Rattle.filesd.proofs.Beginning.{demo_first}

@@ -1,4 +1,4 @@
-use Rattle.std.proofs.Common.{ap, sym, subst, ◌∙◌}
+use Rattle.std.proofs.Common.{ap, ◌∙◌}
 use Rattle.nf_desk.specs.Desk.{Served}
 use Rattle.nf_hub.specs.Seats.{book_in, memory_of}
 use Rattle.nf_session.specs.Book.{held}
@@ -11,7 +11,7 @@ use Rattle.filesd.proofs.running.serve_desk.Goals as goal
 pub serve_ends-ended-requires-clause-idle : goal.serve_ends-ended-requires-clause-idle
 serve_ends-ended-requires-clause-idle g c =
     ap (λ (m : Memory (Served g.row.K.Denot)). held (book_in g.K.Keeper m)) c.in-Ok.ensures.memory
-    ∙ first_idle g.K.Keeper c.args.desk c.requires.history
+    ∙ first_idle g.K.Keeper 64 c.args.desk c.requires.history
 
 pub close-site-requires-clause-whole : goal.close-site-requires-clause-whole
 close-site-requires-clause-whole g c =
