@@ -6,7 +6,6 @@ mod folder;
 mod judging;
 mod reading;
 mod running;
-mod seats;
 mod showing;
 mod tally;
 mod texts;
@@ -78,7 +77,7 @@ fn check_case<W: Wait>(
     let mut keepers = Keepers::new(rt.alloc(), &case.failing)?;
     for (index, run) in case.runs.iter().enumerate() {
         let served = serve(turns, rt.alloc(), run, keepers)?;
-        let line = judge(rt.alloc(), run, &served.whole, &served.cut, &served.seats)?;
+        let line = judge(rt.alloc(), run, &served.whole, &served.cut)?;
         judged.push(Judged::of(&line))?;
         if let Some(line) = line {
             println!(rt; "{name}: run {}, {line}", index + 1)?;
