@@ -1,3 +1,4 @@
 mod Numbers
 pub mod Readings
 pub mod Unbroken
+mod Words

@@ -5,15 +5,18 @@ use Rattle.std.specs.declared.alloc.AllocError.{AllocError}
 use Rattle.std.proofs.lemmas.Fmt.{decimal_injective}
 use Rattle.sha2.specs.Sha256.{sha256}
 use Rattle.nf_rules.specs.Rules.{most_quota}
-use Rattle.nf_command.specs.Command.{IsBatch, IsCommand, IsInit}
-use Rattle.nf_command.specs.Reading.{GivesInit, IsNearlyInit, ReadsCommand}
+use Rattle.nf_command.specs.Command.{IsBatch, IsCommand, IsInit, IsServe, IsSomeInit, IsSomeServe}
+use Rattle.nf_command.specs.Reading.{GivesInit, GivesServe, IsNearlyInit, ReadsCommand}
 use Rattle.nf_command.specs.declared.command.Command.{Command}
 use Rattle.nf_command.specs.declared.command.Command.TheVariants as commands
+use Rattle.nf_command.proofs.Words.{begins, is_said, serve_begins}
 
 pub batch_is_read : (words : List (List ℕ)) (read : Result (Option Command) AllocError) → IsBatch words → ReadsCommand words read
     → read ≡ Ok (Some commands.Batch)
 batch_is_read words (Ok (Some commands.Batch)) batch reads = refl
 batch_is_read words (Ok (Some (commands.Init init))) batch reads = absurd (cc (sym batch ∙ reads.1.spelled))
+batch_is_read words (Ok (Some (commands.Serve n))) batch reads =
+    absurd (omega (arith, serve_begins words n reads.spelled, ap begins batch))
 batch_is_read words (Ok None) batch reads = absurd (reads (inl batch))
 batch_is_read words (Err error) batch reads = absurd (cc (sym batch ∙ reads.3))
 
@@ -33,13 +36,36 @@ init_is_read words name token quota (Ok (Some commands.Batch)) is reads = absurd
 init_is_read words name token quota (Ok (Some (commands.Init init))) is reads =
     let same = same_init init.name reads.0 init.quota name token quota reads.1.few is.few (sym reads.1.spelled ∙ is.spelled) in
     (same.0, reads.2 ∙ ap sha256 same.1, same.2)
-init_is_read words name token quota (Ok None) is reads = reads (inr (name, token, quota, is))
+init_is_read words name token quota (Ok (Some (commands.Serve n))) is reads =
+    absurd (omega (arith, serve_begins words n reads.spelled, ap begins is.spelled))
+init_is_read words name token quota (Ok None) is reads = reads (inr (inl (name, token, quota, is)))
 init_is_read words name token quota (Err error) is reads = tt
+
+pub serve_is_read : (words : List (List ℕ)) (n : ℕ) (read : Result (Option Command) AllocError)
+    → IsServe words n → ReadsCommand words read → GivesServe read n
+serve_is_read words n (Ok (Some commands.Batch)) is reads =
+    absurd (omega (arith, serve_begins words n is.spelled, ap begins reads))
+serve_is_read words n (Ok (Some (commands.Init init))) is reads =
+    absurd (omega (arith, serve_begins words n is.spelled, ap begins reads.1.spelled))
+serve_is_read words n (Ok (Some (commands.Serve m))) is reads =
+    decimal_injective m n (omega (arith, reads.few)) (omega (arith, is.few)) (is_said words m reads.spelled ∙ sym (is_said words n is.spelled))
+serve_is_read words n (Ok None) is reads = reads (inr (inr (n, is)))
+serve_is_read words n (Err error) is reads =
+    absurd (omega (arith, serve_begins words n is.spelled, ap begins reads.3))
+
+pub commands_exclude : (words : List (List ℕ))
+    → (IsBatch words → IsSomeInit words → ⊥) × (IsBatch words → IsSomeServe words → ⊥) × (IsSomeInit words → IsSomeServe words → ⊥)
+commands_exclude words = (
+  λ batch init. init_is_read words init.0 init.1 init.2 (Ok (Some commands.Batch)) init.3 batch,
+  λ batch serve. serve_is_read words serve.0 (Ok (Some commands.Batch)) serve.1 batch,
+  λ init serve. init_is_read words init.0 init.1 init.2 (Ok (Some (commands.Serve serve.0))) init.3 serve.1,
+)
 
 pub others_are_refused : (words : List (List ℕ)) (read : Result (Option Command) AllocError) → (IsCommand words → ⊥)
     → ReadsCommand words read → MatchResult read (λ command. command ≡ None) (λ error. IsNearlyInit words)
 others_are_refused words (Ok (Some commands.Batch)) none reads = absurd (none (inl reads))
 others_are_refused words (Ok (Some (commands.Init init))) none reads =
-    absurd (none (inr (init.name, reads.0, init.quota, reads.1)))
+    absurd (none (inr (inl (init.name, reads.0, init.quota, reads.1))))
+others_are_refused words (Ok (Some (commands.Serve n))) none reads = absurd (none (inr (inr (n, reads))))
 others_are_refused words (Ok None) none reads = refl
 others_are_refused words (Err error) none reads = reads

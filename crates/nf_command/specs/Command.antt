@@ -1,5 +1,5 @@
 -- The words of the command line: what is a command, and what isn't.
-use Rattle.std.specs.Prelude.{◌≡◌, ◌⊎◌, ℕ, ◌≤◌, All, List, [], ◌∷◌, codes, decimal, length, slice_index}
+use Rattle.std.specs.Prelude.{◌≡◌, ◌⊎◌, ℕ, ◌≤◌, All, List, [], ◌∷◌, ◌++◌, codes, decimal, length, slice_index}
 use Rattle.nf_base.specs.Naming.{IsName}
 use Rattle.nf_rules.specs.Rules.{most_quota}
 
@@ -27,5 +27,28 @@ pub record IsInit (words : List (List ℕ)) (name token : List ℕ) (quota : ℕ
 abbrev pub IsSomeInit : List (List ℕ) → Type 0
 IsSomeInit words = (name : List ℕ) × (token : List ℕ) × (quota : ℕ) × IsInit words name token quota
 
+-- the most connections of a worker where a `serve` doesn't say it
+abbrev pub default_connections : ℕ
+default_connections = 1000
+
+-- the most that it may say
+abbrev pub most_connections : ℕ
+most_connections = 1000000
+
+-- no number is said, or by its digits, without a sign or a leading zero, behind the option or joined to it
+abbrev pub SaysServe : List (List ℕ) → ℕ → Type 0
+SaysServe words n = ((words ≡ codes "serve" ∷ []) × (n ≡ default_connections))
+    ⊎ ((words ≡ codes "serve" ∷ codes "--connections" ∷ decimal n ∷ [])
+    ⊎ (words ≡ codes "serve" ∷ (codes "--connections=" ++ decimal n) ∷ []))
+
+-- by each worker at most so many connections
+pub record IsServe (words : List (List ℕ)) (n : ℕ) : Type 0 where
+  pub spelled : SaysServe words n
+  pub some : 1 ≤ n
+  pub few : n ≤ most_connections
+
+abbrev pub IsSomeServe : List (List ℕ) → Type 0
+IsSomeServe words = (n : ℕ) × IsServe words n
+
 abbrev pub IsCommand : List (List ℕ) → Type 0
-IsCommand words = IsBatch words ⊎ IsSomeInit words
+IsCommand words = IsBatch words ⊎ (IsSomeInit words ⊎ IsSomeServe words)

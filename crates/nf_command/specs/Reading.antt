@@ -3,7 +3,7 @@ use Rattle.std.specs.Prelude.{◌≡◌, ℕ, ◌≤◌, List, [], ◌∷◌, co
 use Rattle.std.specs.declared.alloc.AllocError.{AllocError}
 use Rattle.sha2.specs.Sha256.{sha256}
 use Rattle.nf_rules.specs.Rules.{most_quota}
-use Rattle.nf_command.specs.Command.{IsBatch, IsCommand, IsInit, IsOption, IsSecret}
+use Rattle.nf_command.specs.Command.{IsBatch, IsCommand, IsInit, IsOption, IsSecret, IsServe}
 use Rattle.nf_command.specs.declared.command.Command.{Command}
 use Rattle.nf_command.specs.declared.command.Command.TheVariants as commands
 use Rattle.nf_command.specs.declared.command.Init.{Init}
@@ -22,6 +22,7 @@ IsNearlyInit words =
 abbrev pub ReadsCommand : List (List ℕ) → Result (Option Command) AllocError → Type 0
 ReadsCommand words (Ok (Some commands.Batch)) = IsBatch words
 ReadsCommand words (Ok (Some (commands.Init init))) = IsInitOf words init
+ReadsCommand words (Ok (Some (commands.Serve connections))) = IsServe words connections
 ReadsCommand words (Ok None) = IsCommand words → ⊥
 ReadsCommand words (Err error) = IsNearlyInit words
 
@@ -30,5 +31,11 @@ abbrev pub GivesInit : Result (Option Command) AllocError → List ℕ → List 
 GivesInit (Ok (Some commands.Batch)) name token quota = ⊥
 GivesInit (Ok (Some (commands.Init init))) name token quota =
     (init.name ≡ name) × (init.token ≡ sha256 token) × (init.quota ≡ quota)
+GivesInit (Ok (Some (commands.Serve connections))) name token quota = ⊥
 GivesInit (Ok None) name token quota = ⊥
 GivesInit (Err error) name token quota = Unit {0}
+
+-- it is a `serve` of so many
+abbrev pub GivesServe : Result (Option Command) AllocError → ℕ → Type 0
+GivesServe (Ok (Some (commands.Serve connections))) n = connections ≡ n
+GivesServe other n = ⊥

@@ -1,18 +1,27 @@
 //! The words of the command line.
 
-ghost use Rattle.std.specs.Prelude.{◌≡◌, ◌∷◌, [], ◌↔◌, IsTrue, map};
+ghost use Rattle.std.specs.Prelude.{◌≡◌, ℕ, ◌∷◌, [], ◌↔◌, IsTrue, MatchOption, map};
 ghost use Rattle.std.specs.Char.{is_ascii_graphic};
 ghost use Rattle.std.specs.List.{list_all};
 ghost use Rattle.std.specs.String.{string_bytes};
-ghost use Rattle.nf_command.specs.Command.{IsBatch, IsOption, IsSecret};
+ghost use Rattle.nf_command.specs.Command.{IsBatch, IsOption, IsSecret, IsServe};
 ghost use Rattle.nf_command.specs.Reading.{ReadsCommand};
 
-use crate::quota::quota_of;
+use crate::number::number_of;
 use nf_base::{Digest, Name, NameFault};
 use std::alloc::{AllocError, Global};
 
 /// The most bytes of a token.
 const MOST_TOKEN: usize = 128;
+
+/// The most bytes that a quota allows: 1 TiB.
+const MOST_QUOTA: u64 = 1_099_511_627_776;
+
+/// The most connections of a worker where the words don't say it.
+const DEFAULT_CONNECTIONS: u64 = 1_000;
+
+/// The most that they may say.
+const MOST_CONNECTIONS: u64 = 1_000_000;
 
 /// What the words of the command line ask for.
 #[derive(Drop)]
@@ -21,6 +30,8 @@ pub enum Command {
     Batch,
     /// To begin a store.
     Init(Init),
+    /// To serve the connections of doors, by each worker at most so many.
+    Serve { connections: u64 },
 }
 
 /// The first administrator of a store.
@@ -39,6 +50,9 @@ pub fn command_of(alloc: Global, words: &[String]) -> Result<Option<Command>, Al
 {
     if is_batch(words) {
         return Ok(Some(Command::Batch));
+    }
+    if let Some(connections) = serve_of(words) {
+        return Ok(Some(Command::Serve { connections }));
     }
     match words {
         [word, name, token, quota] => init_of(
@@ -61,6 +75,32 @@ fn is_batch(words: &[String]) -> bool
     }
 }
 
+// How many connections a `serve` says.
+fn serve_of(words: &[String]) -> Option<u64>
+    ensures { MatchOption result
+        ((n : ℕ) → IsServe (map string_bytes words.now) n → ⊥)
+        (λ n. IsServe (map string_bytes words.now) n) }
+{
+    let [word, options @ ..] = words else {
+        return None;
+    };
+    if word.as_str() != "serve" {
+        return None;
+    }
+    match options {
+        [] => Some(DEFAULT_CONNECTIONS),
+        [option] => number_of(
+            option.as_str().strip_prefix("--connections=")?,
+            1,
+            MOST_CONNECTIONS,
+        ),
+        [option, number] if option.as_str() == "--connections" => {
+            number_of(number.as_str(), 1, MOST_CONNECTIONS)
+        }
+        _ => None,
+    }
+}
+
 fn init_of(
     alloc: Global,
     word: &str,
@@ -73,7 +113,7 @@ fn init_of(
     if word != "init" || is_option(name) || is_option(token) || !is_secret(token.as_bytes()) {
         return Ok(None);
     }
-    let Some(quota) = quota_of(quota) else {
+    let Some(quota) = number_of(quota, 0, MOST_QUOTA) else {
         return Ok(None);
     };
     match Name::read(alloc, name.as_bytes()) {

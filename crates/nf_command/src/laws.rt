@@ -7,9 +7,9 @@ ghost use Rattle.nf_base.specs.declared.rows.MetaRow.{MetaRow};
 ghost use Rattle.nf_base.specs.declared.rows.Row.{Row};
 ghost use Rattle.nf_base.specs.declared.rows.Row.TheVariants.{Meta};
 ghost use Rattle.nf_rules.specs.Rules.{AreUnbroken, most_quota};
-ghost use Rattle.nf_command.specs.Command.{IsBatch, IsCommand, IsInit};
+ghost use Rattle.nf_command.specs.Command.{IsBatch, IsCommand, IsInit, IsServe, IsSomeInit, IsSomeServe};
 ghost use Rattle.nf_command.specs.First.{init_rows};
-ghost use Rattle.nf_command.specs.Reading.{GivesInit, IsNearlyInit, ReadsCommand};
+ghost use Rattle.nf_command.specs.Reading.{GivesInit, GivesServe, IsNearlyInit, ReadsCommand};
 ghost use Rattle.nf_command.specs.declared.command.Command.{Command};
 ghost use Rattle.nf_command.specs.declared.command.Command.TheVariants.{Batch};
 
@@ -21,6 +21,16 @@ pub fn batch_is_read()
 /// Those of an `init` are read as that one, but for want of memory.
 pub fn init_is_read()
     ensures { (words : List (List ℕ)) (name : List ℕ) (token : List ℕ) (quota : ℕ) (read : Result (Option Command) AllocError) → IsInit words name token quota → ReadsCommand words read → GivesInit read name token quota }
+{}
+
+/// Those of a `serve` are always read as one, of as many connections.
+pub fn serve_is_read()
+    ensures { (words : List (List ℕ)) (n : ℕ) (read : Result (Option Command) AllocError) → IsServe words n → ReadsCommand words read → GivesServe read n }
+{}
+
+/// No words are two commands.
+pub fn commands_exclude()
+    ensures { (words : List (List ℕ)) → (IsBatch words → IsSomeInit words → ⊥) × (IsBatch words → IsSomeServe words → ⊥) × (IsSomeInit words → IsSomeServe words → ⊥) }
 {}
 
 /// Words that are no command are told so, or they are those of an `init` but for the name, and memory was wanting.

@@ -4,7 +4,7 @@
 mod command;
 mod first;
 pub mod laws;
-mod quota;
+mod number;
 #[cfg(test)]
 mod tests;
 

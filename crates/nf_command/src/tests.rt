@@ -18,6 +18,8 @@ fn kind(alloc: Global, line: &str) -> Result<&'static str, AllocError> {
     Ok(match command_of(alloc, &words_of(alloc, line)?)? {
         Some(Command::Batch) => "batch",
         Some(Command::Init(_)) => "init",
+        Some(Command::Serve { connections: 1_000 }) => "serve 1000",
+        Some(Command::Serve { .. }) => "serve",
         None => "none",
     })
 }
@@ -64,6 +66,28 @@ fn reads_commands(rt: HostRuntime) -> Result<(), Fail> {
         ("init|alice|alice-1|0x1", "none"),
         ("init|alice|alice-1|1099511627777", "none"),
         ("init|alice|alice-1|18446744073709551616", "none"),
+        ("serve", "serve 1000"),
+        ("serve|--connections|1000", "serve 1000"),
+        ("serve|--connections=1000", "serve 1000"),
+        ("serve|--connections|1", "serve"),
+        ("serve|--connections=1000000", "serve"),
+        ("serve ", "none"),
+        ("serve|", "none"),
+        ("serve|1000", "none"),
+        ("serve|--connections", "none"),
+        ("serve|--connections=", "none"),
+        ("serve|--connections|", "none"),
+        ("serve|--connections|0", "none"),
+        ("serve|--connections|1000001", "none"),
+        ("serve|--connections=+1", "none"),
+        ("serve|--connections=01", "none"),
+        ("serve|--connections==1", "none"),
+        ("serve|--connection|1", "none"),
+        ("serve|--connections|1|", "none"),
+        ("serve|--connections=1|1", "none"),
+        ("serve|alice|alice-1|5", "none"),
+        ("Serve|--connections|1", "none"),
+        ("batch|--connections|1", "none"),
     ];
     for (line, wanted) in lines {
         assert_eq!(rt; kind(rt.alloc(), line)?, wanted, "at {line}");

@@ -1,13 +1,9 @@
-use Rattle.std.proofs.Common.{arith, ◌≡◌, ◌≤◌, ◌<◌, sym, ◌∙◌, ap, map, List, [], ◌∷◌, ℕ, length, get_or, codes, Bool, true}
+use Rattle.std.proofs.Common.{arith, ◌≡◌, sym, ◌∙◌, ap, map, List, [], ◌∷◌, ℕ, codes, Bool, true}
 use Rattle.std.specs.String.{string_bytes}
 use Rattle.std.specs.Str.{bytes_eq}
 use Rattle.std.proofs.lemmas.Slice.Eq.{bytes_eq-Decides}
+use Rattle.nf_command.proofs.Words.{one_item}
 use Rattle.nf_command.proofs.command.is_batch.Goals as goal
-
-one_item : {S : Type 0} (f : S → List ℕ) (w : S) (ws : List S) → 1 ≤ length ws → length ws < 2 → get_or ws 0 w ≡ w → map f ws ≡ f w ∷ []
-one_item f w [] some one is = absurd (omega arith)
-one_item f w (x ∷ []) some one is = ap (λ z. f z ∷ []) is
-one_item f w (x ∷ (y ∷ ws)) some one is = absurd (omega arith)
 
 decides_one : (text word : List ℕ) (all : List (List ℕ)) (r : Bool) → r ≡ bytes_eq text word → all ≡ text ∷ []
     → (r ≡ true → all ≡ word ∷ []) × (all ≡ word ∷ [] → r ≡ true)
@@ -18,5 +14,4 @@ decides_one text word all r is one =
 pub returns-in-len1 : goal.returns-in-len1
 returns-in-len1 c =
     decides_one c.as_str.result.now (codes "batch") (map string_bytes c.args.words.now) c.eq.result c.eq.ensures
-    (one_item string_bytes c.word-item.result c.args.words.now (omega arith) (omega arith) (sym c.word-item.is)
-    ∙ ap (λ z. z ∷ []) (sym c.as_str.ensures.value))
+    (one_item string_bytes c.word-item.result c.args.words.now c.as_str.result.now (omega arith) (omega arith) c.word-item.is c.as_str.ensures.value)
