@@ -30,9 +30,9 @@ use Rattle.nf_session.specs.declared.ended.Ended.{Ended}
 use Rattle.nf_session.specs.declared.ended.Ended.TheVariants as ended
 use Rattle.nf_session.specs.declared.response.Response.{Response}
 use Rattle.nf_session.specs.declared.response.Response.TheVariants as response
+use Rattle.nf_session.proofs.Calm.{Calm, bodies_calm, calm_then, closes_calm, heads_calm, invites_calm, judges_calm, passes_calm, writes_calm}
 use Rattle.nf_session.proofs.Inviting.{invited_bytes, invites_wrote}
 use Rattle.nf_session.proofs.Lasting.{piece_lasts}
-use Rattle.nf_promises.proofs.Calm.{Calm, bodies_calm, calm_then, closes_calm, heads_calm, invites_calm, judges_calm, passes_calm, writes_calm}
 use Rattle.nf_promises.proofs.Full.{answers_full}
 use Rattle.nf_promises.proofs.Gets.{starts_file, starts_other}
 use Rattle.nf_promises.proofs.Placing.{begin_known, step_known}

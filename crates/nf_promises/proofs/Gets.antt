@@ -38,6 +38,7 @@ use Rattle.nf_defs.specs.Blobs.{Blobs}
 use Rattle.nf_laws.specs.Wholes.{IsThere}
 use Rattle.nf_session.specs.Book.{Answer, Begins, Book, Enters, FailsPiece, Lasts, TellsDamage, TellsPiece, TellsStill, is_unmade, next_blob_of, state_of}
 use Rattle.nf_session.specs.Book.{Passes as Unchanged}
+use Rattle.nf_session.proofs.Calm.{begins_onward}
 use Rattle.nf_session.proofs.Lasting.{lasts_same, lasts_then}
 use Rattle.nf_session.specs.Files.{AreGiven, SendsFile, file_front}
 use Rattle.nf_session.specs.Steps.{Judges, Scene, Starts, StartsFile, TakesIn, is_invited, is_unsent, no_words}
@@ -49,7 +50,6 @@ use Rattle.nf_session.specs.declared.begun.Begun.TheVariants as begun
 use Rattle.nf_session.specs.declared.response.Response.{Response}
 use Rattle.nf_session.specs.declared.response.Response.TheVariants as response
 use Rattle.nf_promises.proofs.Alone.{entered, none_of}
-use Rattle.nf_promises.proofs.Calm.{begins_onward}
 use Rattle.nf_promises.proofs.Plain.{IsPlain, asked_plain}
 use Rattle.nf_promises.proofs.Putting.{content_of_body}
 use Rattle.nf_promises.proofs.Puts.{IsKept, Keeps}

@@ -1,5 +1,4 @@
 pub mod Touches
-pub mod Calm
 pub mod Refusals
 pub mod Tickets
 pub mod Growing

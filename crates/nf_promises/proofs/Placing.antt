@@ -14,7 +14,7 @@ use Rattle.nf_words.specs.declared.request.Request.{Request}
 use Rattle.nf_session.specs.Book.{Answer, Begins, Book, Enters, Strikes, is_unmade, state_after}
 use Rattle.nf_session.specs.Book.{Passes as Unchanged}
 use Rattle.nf_session.specs.Steps.{Scene, no_words}
-use Rattle.nf_promises.proofs.Calm.{Calm, Onward, calm_same}
+use Rattle.nf_session.proofs.Calm.{Calm, Onward, calm_same}
 use Rattle.nf_promises.proofs.Gets.{unmade_is}
 use Rattle.nf_promises.proofs.Unfailing.{not_struck}
 use Rattle.nf_promises.specs.Complete.{IsAnswerOf, NothingFails, StaysWhole}

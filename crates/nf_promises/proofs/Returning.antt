@@ -20,9 +20,9 @@ use Rattle.nf_session.specs.declared.ended.Ended.{Ended}
 use Rattle.nf_session.specs.declared.ended.Ended.TheVariants as ended
 use Rattle.nf_session.specs.declared.response.Response.{Response}
 use Rattle.nf_session.specs.declared.response.Response.TheVariants as response
+use Rattle.nf_session.proofs.Calm.{closes_calm, writes_calm}
 use Rattle.nf_session.proofs.Inviting.{stops_sends}
 use Rattle.nf_promises.proofs.Alone.{only_within}
-use Rattle.nf_promises.proofs.Calm.{closes_calm, writes_calm}
 use Rattle.nf_promises.proofs.Gets.{Shown, begun_shown, get_not_invited}
 use Rattle.nf_promises.proofs.Growing.{answers_grow, grows_none, grows_on, heads_same, invites_grow, judges_grow, meets_grow}
 use Rattle.nf_promises.proofs.Puts.{IsKept, put_is_kept}

@@ -26,10 +26,11 @@ use Rattle.nf_session.specs.declared.ended.Ended.{Ended}
 use Rattle.nf_session.specs.declared.ended.Ended.TheVariants as ended
 use Rattle.nf_session.specs.declared.response.Response.{Response}
 use Rattle.nf_session.specs.declared.response.Response.TheVariants as response
+use Rattle.nf_session.proofs.Calm.{Calm, calm_same, calm_then, closes_calm, heads_calm, invites_calm, judges_calm, taken_calm}
+use Rattle.nf_session.proofs.Causes.{through_calm}
 use Rattle.nf_session.proofs.Inviting.{stops_sends}
 use Rattle.nf_session.proofs.Lasting.{lasts_then}
 use Rattle.nf_session.proofs.Turns.{sends_says}
-use Rattle.nf_promises.proofs.Calm.{Calm, calm_same, calm_then, closes_calm, heads_calm, invites_calm, judges_calm, taken_calm, through_calm}
 use Rattle.nf_promises.specs.Complete.{EndsWell, IsWell, NothingFails, StaysWhole}
 
 -- ---- what was written

@@ -49,11 +49,7 @@ ends_read a b wire.Memory ends = absurd (never ends.0)
   where
     never : ended.ReadFault ≡ ended.Memory → ⊥
     never e = cc
-ends_read a b wire.Bad ends = absurd ends
-ends_read a b wire.HeadLong ends = absurd ends
-ends_read a b wire.Coding ends = absurd ends
-ends_read a b (wire.TooLarge n) ends = absurd ends
-ends_read a b wire.Truncated ends = absurd ends
+ends_read a b other ends = absurd ends
 
 read_by : (by : Ended) → ◌≡◌ {A = Option Ended} (Some ended.ReadFault) (Some by) → by ≡ ended.ReadFault
 read_by by e = cc

@@ -1,10 +1,11 @@
 -- A file that is sent piece by piece.
-use Rattle.std.proofs.Common.{◌≡◌, ℕ, ◌+◌, ◌-◌, ◌^◌, ◌<◌, List, [], ◌∷◌, ◌++◌, length, take, sym, ◌∙◌, ap, subst, inl, inr, arith, append-nil, append_assoc, length-append, Result, Ok, Err}
+use Rattle.std.proofs.Common.{◌≡◌, ℕ, ◌+◌, ◌-◌, ◌^◌, ◌<◌, ◌≤◌, List, [], ◌∷◌, ◌++◌, length, take, sym, ◌∙◌, ap, subst, inl, inr, arith, append-nil, append_assoc, length-append, Result, Ok, Err}
 use Rattle.std.proofs.Math.Seq.{take-append-add}
 use Rattle.std.proofs.lemmas.List.{take-append-le}
 use Rattle.std.proofs.lemmas.List.Folds.{concat-append}
+use Rattle.std.proofs.lemmas.Option.{slice_get_within}
 use Rattle.std.proofs.KnownBytes.{Appends-trans}
-use Rattle.std.specs.Prelude.{Bool, min, Option, None, Some, slice_get, Vec}
+use Rattle.std.specs.Prelude.{Bool, min, Option, Some, slice_get, Vec}
 use Rattle.std.specs.List.{concat}
 use Rattle.std.specs.declared.alloc.Global.{Global}
 use Rattle.std.specs.Io.KnownBytes.{Appends}
@@ -14,12 +15,13 @@ use Rattle.nf_base.specs.declared.content.Piece.{Piece}
 use Rattle.nf_dav.specs.Reply.{file_head}
 use Rattle.nf_session.specs.Book.{Book, FailsPiece, IsPiece, Waits, held}
 use Rattle.nf_session.specs.Files.{AreGiven, IsStarted, Lacks, SendsFile, SendsPiece, SendsPieces, TakesPiece, WritesPieces, file_front, taken_first}
-use Rattle.nf_session.specs.Steps.{Scene, Says, Sends, Wrote}
+use Rattle.nf_session.specs.Steps.{Scene, Says, Sends, Wrote, WrotePart}
 use Rattle.nf_session.specs.declared.backend.PieceFault.{PieceFault}
 use Rattle.nf_session.specs.declared.backend.PieceFault.TheVariants as fault
 use Rattle.nf_session.specs.declared.ended.Ended.{Ended}
 use Rattle.nf_session.specs.declared.ended.Ended.TheVariants as ended
 use Rattle.nf_session.proofs.Lasting.{piece_lasts, waits_same, waits_then}
+use Rattle.nf_session.proofs.Turns.{sends_failed}
 
 -- ---- pieces that were given
 
@@ -40,6 +42,11 @@ given_more b (first ∷ content) [] piece bytes are at is =
 given_more b [] (other ∷ given) piece bytes are at is = absurd are
 given_more b (first ∷ content) (other ∷ given) piece bytes are at is = (are.0, given_more b content given piece bytes are.1 at is)
 
+-- where one more is there, as many were given as its index says
+so_many : (content : List Piece) (given : List (List ℕ)) (n : ℕ) (piece : Piece) → length given ≡ min n (length content)
+    → slice_get content n ≡ Some piece → (length given ≡ n) × (n < length content)
+so_many content given n piece count at = let below : n < length content = slice_get_within content n piece at in (omega arith, below)
+
 -- ---- bytes
 
 front_more : (close : Bool) (content : List Piece) (given : List (List ℕ)) (bytes : List ℕ)
@@ -48,6 +55,14 @@ front_more close content given bytes =
     ap (λ (z : List ℕ). file_head close (size_of content) ++ z)
     (concat-append given (bytes ∷ []) ∙ ap (λ (z : List ℕ). concat given ++ z) (append-nil bytes))
     ∙ sym (append_assoc (file_head close (size_of content)) (concat given) bytes)
+
+-- the head and the first piece, however they are cut
+pub front_is : (close : Bool) (content : List Piece) (first : Option (Vec ℕ Global)) (size : ℕ) (head piece front rest : List ℕ)
+    → size ≡ size_of content → head ≡ file_head close size → piece ≡ concat (taken_first first) → front ++ rest ≡ head ++ piece
+    → front ++ rest ≡ file_front close content (taken_first first)
+front_is close content first size head piece front rest size_is head_is piece_is cut =
+    cut ∙ ap (λ (z : List ℕ). z ++ piece) (head_is ∙ ap (file_head close) size_is)
+    ∙ ap (λ (z : List ℕ). file_head close (size_of content) ++ z) piece_is
 
 -- a front of some bytes after others is a front of both
 pub record IsFront (a b : Option (List ℕ)) (bytes : List ℕ) : Type 0 where
@@ -64,13 +79,8 @@ front_behind a m b bytes more p q = record {
       (Appends-trans a m b bytes (take q.count more) p q.bytes_are);
 }
 
-front_before : (a b : Option (List ℕ)) (bytes more : List ℕ) → IsFront a b bytes → IsFront a b (bytes ++ more)
-front_before a b bytes more p = record {
-  count = p.count;
-  less = omega (arith, length-append bytes more, p.less);
-  bytes_are =
-      subst (λ (z : List ℕ). Appends a b z) (sym (take-append-le p.count bytes more (omega (arith, p.less)))) p.bytes_are;
-}
+front_of : {C : Type 0} (a b : Scene C) (bytes : List ℕ) → WrotePart a b bytes → IsFront a.output b.output bytes
+front_of a b bytes part = record { count = part.count; less = part.less; bytes_are = part.bytes_are }
 
 -- ---- scenes
 
@@ -80,10 +90,7 @@ OnlySends a b = b ≡ record a { book = b.book; output = b.output; write_faults 
 
 sends_then : {C : Type 0} (a m b : Scene C) → OnlySends a m → OnlySends m b → OnlySends a b
 sends_then a m b p q =
-    let input : m.input ≡ a.input = ap (λ (z : Scene _). z.input) p in
-    let clock : m.clock ≡ a.clock = ap (λ (z : Scene _). z.clock) p in
-    let faults : m.read_faults ≡ a.read_faults = ap (λ (z : Scene _). z.read_faults) p in
-    cc
+    q ∙ ap (λ (z : Scene _). record z { book = b.book; output = b.output; write_faults = b.write_faults }) p
 
 wrote_sends : {C : Type 0} (a b : Scene C) → b ≡ record a { output = b.output } → OnlySends a b
 wrote_sends a b p =
@@ -103,6 +110,49 @@ took_sends a b p =
 same_waits : {C : Type 0} (a b : Scene C) → b.book ≡ a.book → Waits a.book b.book
 same_waits a b is = waits_same a.book b.book is
 
+-- ---- bytes that are written in two parts
+
+part_before : {C : Type 0} (a b : Scene C) (bytes more : List ℕ) → WrotePart a b bytes → WrotePart a b (bytes ++ more)
+part_before a b bytes more part = record {
+  only = part.only;
+  count = part.count;
+  less = omega (arith, length-append bytes more, part.less);
+  bytes_are =
+      subst (λ (z : List ℕ). Appends a.output b.output z) (sym (take-append-le part.count bytes more (omega (arith, part.less)))) part.bytes_are;
+  cause = part.cause;
+}
+
+part_behind : {C : Type 0} (a m b : Scene C) (bytes more : List ℕ) → Wrote a m bytes → WrotePart m b more → WrotePart a b (bytes ++ more)
+part_behind a m b bytes more wrote part =
+    let front = front_behind a.output m.output b.output bytes more wrote.bytes_are (front_of m b more part) in
+    record {
+      only = part.only ∙ ap (λ (z : Scene _). record z { output = b.output; write_faults = b.write_faults }) wrote.only;
+      count = front.count;
+      less = front.less;
+      bytes_are = front.bytes_are;
+      cause = subst (λ z. Rose z b.write_faults) (ap (λ (z : Scene _). z.write_faults) wrote.only) part.cause;
+    }
+
+pub part_failed : {C : Type 0} (T : Type 0) (a b : Scene C) (bytes more all : List ℕ) (by : Ended) → bytes ++ more ≡ all
+    → Sends {T = T} a b bytes (Err by) → Says {T = T} a b all (Err by)
+part_failed T a b bytes more all by is sends =
+    let p = sends_failed T a b bytes by sends in
+    subst (λ (z : Ended). Says {T = T} a b all (Err z)) (sym p.0)
+    (subst (λ (z : List ℕ). WrotePart a b z) is (part_before a b bytes more p.1))
+
+pub parts_written : {C T : Type 0} (a m b : Scene C) (bytes more all : List ℕ) (result : Result T Ended) → bytes ++ more ≡ all
+    → Wrote a m bytes → Sends m b more result → Says a b all result
+parts_written a m b bytes more all (Ok sent) is wrote sends = record {
+  only = sends.only ∙ ap (λ (z : Scene _). record z { output = b.output }) wrote.only;
+  bytes_are =
+      subst (λ (z : List ℕ). Appends a.output b.output z) is
+      (Appends-trans a.output m.output b.output bytes more wrote.bytes_are sends.bytes_are);
+}
+parts_written {C} {T} a m b bytes more all (Err by) is wrote sends =
+    let p = sends_failed T m b more by sends in
+    subst (λ (z : Ended). Says {T = T} a b all (Err z)) (sym p.0)
+    (subst (λ (z : List ℕ). WrotePart a b z) is (part_behind a m b bytes more wrote p.1))
+
 -- a write leaves what is held
 pub book_held : {C : Type 0} (a b : Scene C) → b ≡ record a { output = b.output } → held b.book ≡ held a.book
 book_held a b p = ap (λ (z : Scene _). held z.book) p
@@ -116,10 +166,10 @@ fails_since piece m a b fault.Memory same none = none ∙ same
 -- ---- a file so far
 
 module _ {C : Type 0} (close : Bool) (content : List Piece) (first : Option (Vec ℕ Global)) where
-  -- so many pieces were sent behind the head, without a strike
+  -- so many pieces were sent behind the head, or as many as there are, without a strike
   abbrev pub SentSome : Scene C → Scene C → ℕ → Type 0
   SentSome a b n =
-      (given : List (List ℕ)) × (length given ≡ n) × WritesPieces close content first a b given
+      (given : List (List ℕ)) × (length given ≡ min n (length content)) × WritesPieces close content first a b given
       × (b.book.strikes ≡ a.book.strikes)
 
   pieces_then : (a m b : Scene C) (given : List (List ℕ)) → SendsPieces content first a m given → OnlySends m b → Waits m.book b.book
@@ -153,7 +203,7 @@ module _ {C : Type 0} (close : Bool) (content : List Piece) (first : Option (Vec
     first_is = ([], sym (append-nil (taken_first first)));
   }
 
-  -- ---- the head and the first piece
+  -- ---- the head and the first piece, if it has one
 
   breaks_off : (a b : Scene C) (given : List (List ℕ)) → SendsPieces content first a b given → IsFront a.output b.output (file_front close content given)
       → Rose a.write_faults b.write_faults → b.book.strikes ≡ a.book.strikes
@@ -163,83 +213,28 @@ module _ {C : Type 0} (close : Bool) (content : List Piece) (first : Option (Vec
     record { pieces = sends; count = is.count; less = is.less; bytes_are = is.bytes_are; cause = rose; unstruck = unstruck },
   )
 
-  pub head_failed : (T : Type 0) (a b : Scene C) (by : Ended) → IsStarted a.book content first
-      → Says {T = T} a b (file_head close (size_of content)) (Err by) → SendsFile {T = Unit {0}} close content first a b (Err by)
-  head_failed T a b ended.WriteFault started says =
+  pub front_failed : (T : Type 0) (a b : Scene C) (by : Ended) → IsStarted a.book content first
+      → Says {T = T} a b (file_front close content (taken_first first)) (Err by) → SendsFile {T = Unit {0}} close content first a b (Err by)
+  front_failed T a b ended.WriteFault started says =
       breaks_off a b (taken_first first) (pieces_first a b started (part_sends a b says.only) (ap (λ (z : Scene C). z.book) says.only))
-      (front_before a.output b.output (file_head close (size_of content)) (concat (taken_first first))
-      (record { count = says.count; less = says.less; bytes_are = says.bytes_are }))
+      (front_of a b (file_front close content (taken_first first)) says)
       says.cause
       (ap (λ (z : Scene C). z.book.strikes) says.only)
-  head_failed T a b ended.Memory started says = inl says
-  head_failed T a b ended.Closed started says = absurd says
-  head_failed T a b ended.BadMessage started says = absurd says
-  head_failed T a b ended.NotBuilt started says = absurd says
-  head_failed T a b ended.RunFull started says = absurd says
-  head_failed T a b (ended.Cut why) started says = absurd says
-  head_failed T a b ended.ReadFault started says = absurd says
+  front_failed T a b ended.Memory started says = inl says
+  front_failed T a b other started says = absurd says
 
-  pub empty_sent : (a b : Scene C) → IsStarted a.book content first → first ≡ None → Wrote a b (file_head close (size_of content))
-      → SendsFile {T = Unit {0}} close content first a b (Ok tt)
-  empty_sent a b started none wrote = (
+  pub front_sent : (a b : Scene C) → IsStarted a.book content first → Wrote a b (file_front close content (taken_first first))
+      → SentSome a b 1
+  front_sent a b started wrote = (
     taken_first first,
+    started.count,
     record {
       pieces = pieces_first a b started (wrote_sends a b wrote.only) (ap (λ (z : Scene C). z.book) wrote.only);
-      bytes_are =
-          subst (λ (z : List ℕ). Appends a.output b.output z)
-          (sym (ap (λ (z : Option (Vec ℕ Global)). file_front close content (taken_first z)) none ∙ append-nil (file_head close (size_of content))))
-          wrote.bytes_are;
+      bytes_are = wrote.bytes_are;
       no_fault = ap (λ (z : Scene C). z.write_faults) wrote.only;
     },
-    no_pieces content (sym (ap (λ (z : Option (Vec ℕ Global)). length (taken_first z)) none) ∙ started.count)
-        (ap (λ (z : Option (Vec ℕ Global)). length (taken_first z)) none),
     ap (λ (z : Scene C). z.book.strikes) wrote.only,
   )
-    where
-      no_pieces : (pieces : List Piece) → 0 ≡ min 1 (length pieces) → length (taken_first first) ≡ 0 → length (taken_first first) ≡ length pieces
-      no_pieces pieces none is = omega arith
-
-  module _ (a m b : Scene C) (piece : Vec ℕ Global) (started : IsStarted a.book content first) (is : first ≡ Some piece)
-      (head : Wrote a m (file_head close (size_of content))) where
-    first_front : file_front close content (taken_first first) ≡ file_head close (size_of content) ++ piece.items
-    first_front =
-        ap (λ (z : Option (Vec ℕ Global)). file_front close content (taken_first z)) is
-        ∙ ap (λ (z : List ℕ). file_head close (size_of content) ++ z) (append-nil piece.items)
-
-    pub first_sent : Wrote m b piece.items → SentSome a b 1
-    first_sent wrote = (
-      taken_first first,
-      ap (λ (z : Option (Vec ℕ Global)). length (taken_first z)) is,
-      record {
-        pieces =
-            pieces_first a b started (sends_then a m b (wrote_sends a m head.only) (wrote_sends m b wrote.only))
-            (ap (λ (z : Scene C). z.book) wrote.only ∙ ap (λ (z : Scene C). z.book) head.only);
-        bytes_are =
-            subst (λ (z : List ℕ). Appends a.output b.output z) (sym first_front)
-            (Appends-trans a.output m.output b.output _ piece.items head.bytes_are wrote.bytes_are);
-        no_fault = ap (λ (z : Scene C). z.write_faults) wrote.only ∙ ap (λ (z : Scene C). z.write_faults) head.only;
-      },
-      ap (λ (z : Scene C). z.book.strikes) wrote.only ∙ ap (λ (z : Scene C). z.book.strikes) head.only,
-    )
-
-    pub first_failed : (T : Type 0) (by : Ended) → Sends {T = T} m b piece.items (Err by)
-        → SendsFile {T = Unit {0}} close content first a b (Err by)
-    first_failed T ended.WriteFault sends =
-        breaks_off a b (taken_first first)
-        (pieces_first a b started (sends_then a m b (wrote_sends a m head.only) (part_sends m b sends.only))
-        (ap (λ (z : Scene C). z.book) sends.only ∙ ap (λ (z : Scene C). z.book) head.only))
-        (subst (λ (z : List ℕ). IsFront a.output b.output z) (sym first_front)
-        (front_behind a.output m.output b.output _ piece.items head.bytes_are
-        (record { count = sends.count; less = sends.less; bytes_are = sends.bytes_are })))
-        (subst (λ z. Rose z b.write_faults) (ap (λ (z : Scene C). z.write_faults) head.only) sends.cause)
-        (ap (λ (z : Scene C). z.book.strikes) sends.only ∙ ap (λ (z : Scene C). z.book.strikes) head.only)
-    first_failed T ended.Memory sends = absurd sends
-    first_failed T ended.Closed sends = absurd sends
-    first_failed T ended.BadMessage sends = absurd sends
-    first_failed T ended.NotBuilt sends = absurd sends
-    first_failed T ended.RunFull sends = absurd sends
-    first_failed T (ended.Cut why) sends = absurd sends
-    first_failed T ended.ReadFault sends = absurd sends
 
   -- ---- the pieces behind
 
@@ -248,16 +243,16 @@ module _ {C : Type 0} (close : Bool) (content : List Piece) (first : Option (Vec
   took_then a m t given n got sends takes = pieces_then a m t given sends (took_sends m t takes.only) takes.gives.waits
 
   -- a piece more was taken
-  took_more : (a m t : Scene C) (given : List (List ℕ)) (n : ℕ) (piece : Vec ℕ Global) → length given ≡ n → SendsPieces content first a m given
+  took_more : (a m t : Scene C) (given : List (List ℕ)) (n : ℕ) (piece : Vec ℕ Global) → length given ≡ min n (length content) → SendsPieces content first a m given
       → TakesPiece content n m t (Ok piece) → SendsPieces content first a t (given ++ piece.items ∷ [])
   took_more a m t given n piece count sends takes =
       pieces_more a t given takes.gives.piece piece.items (took_then a m t given n (Ok piece) sends takes)
-      (ap (slice_get content) count ∙ takes.gives.at_index) takes.gives.given.0
+      (ap (slice_get content) (so_many content given n takes.gives.piece count takes.gives.at_index).0 ∙ takes.gives.at_index) takes.gives.given.0
 
   pub piece_sent : (T : Type 0) (sent : T) (a m b : Scene C) (n : ℕ) → SentSome a m n → SendsPiece content n m b (Ok sent) → SentSome a b (n + 1)
   piece_sent T sent a m b n (given, count, so_far, unstruck) (t, piece, takes, wrote) = (
     given ++ piece.items ∷ [],
-    length-append given (piece.items ∷ []) ∙ ap (λ z. z + 1) count,
+    omega (arith, length-append given (piece.items ∷ []), so_many content given n takes.gives.piece count takes.gives.at_index),
     record {
       pieces =
           pieces_then a t b (given ++ piece.items ∷ []) (took_more a m t given n piece count so_far.pieces takes)
@@ -272,7 +267,7 @@ module _ {C : Type 0} (close : Bool) (content : List Piece) (first : Option (Vec
     ap (λ (z : Scene C). z.book.strikes) wrote.only ∙ takes.gives.given.1 ∙ unstruck,
   )
 
-  lacks : (a m b : Scene C) (given : List (List ℕ)) (n : ℕ) (why : PieceFault) → length given ≡ n → WritesPieces close content first a m given
+  lacks : (a m b : Scene C) (given : List (List ℕ)) (n : ℕ) (why : PieceFault) → length given ≡ min n (length content) → WritesPieces close content first a m given
       → m.book.strikes ≡ a.book.strikes → TakesPiece content n m b (Err why)
       → WritesPieces close content first a b given × Lacks content a b given why
   lacks a m b given n why count so_far unstruck takes = (
@@ -283,7 +278,7 @@ module _ {C : Type 0} (close : Bool) (content : List Piece) (first : Option (Vec
     },
     record {
       piece = takes.gives.piece;
-      at_index = ap (slice_get content) count ∙ takes.gives.at_index;
+      at_index = ap (slice_get content) (so_many content given n takes.gives.piece count takes.gives.at_index).0 ∙ takes.gives.at_index;
       failed = fails_since takes.gives.piece m.book a.book b.book why unstruck takes.gives.given;
     },
   )
@@ -297,31 +292,22 @@ module _ {C : Type 0} (close : Bool) (content : List Piece) (first : Option (Vec
       (subst (λ (z : List ℕ). IsFront a.output b.output z) (sym (front_more close content given piece.items))
       (front_behind a.output m.output b.output _ piece.items so_far.bytes_are
       (subst (λ (z : Option (List ℕ)). IsFront z b.output piece.items) (ap (λ (z : Scene C). z.output) takes.only)
-      (record { count = part.count; less = part.less; bytes_are = part.bytes_are }))))
+      (front_of t b piece.items part))))
       (subst (λ z. Rose z b.write_faults) (ap (λ (z : Scene C). z.write_faults) takes.only ∙ so_far.no_fault) part.cause)
       (ap (λ (z : Scene C). z.book.strikes) part.only ∙ takes.gives.given.1 ∙ unstruck)
   piece_failed T a m b n (ended.Cut why) (given, count, so_far, unstruck) sends =
       let cut = lacks a m b given n why count so_far unstruck sends.0 in (given, cut.0, cut.1, sends.1)
   piece_failed T a m b n ended.Memory (given, count, so_far, unstruck) sends =
       let cut = lacks a m b given n fault.Memory count so_far unstruck sends in inr (given, cut.0, cut.1)
-  piece_failed T a m b n ended.Closed so_far sends = absurd sends
-  piece_failed T a m b n ended.BadMessage so_far sends = absurd sends
-  piece_failed T a m b n ended.NotBuilt so_far sends = absurd sends
-  piece_failed T a m b n ended.RunFull so_far sends = absurd sends
-  piece_failed T a m b n ended.ReadFault so_far sends = absurd sends
+  piece_failed T a m b n other so_far sends = absurd sends
 
-  pub all_sent : (a b : Scene C) (n : ℕ) → SentSome a b n → n ≡ length content → SendsFile {T = Unit {0}} close content first a b (Ok tt)
-  all_sent a b n (given, count, so_far, unstruck) is = (given, so_far, count ∙ is, unstruck)
+  pub all_sent : (a b : Scene C) (n : ℕ) → SentSome a b n → length content ≤ n → SendsFile {T = Unit {0}} close content first a b (Ok tt)
+  all_sent a b n (given, count, so_far, unstruck) all = (given, so_far, omega arith, unstruck)
 
 -- a piece that was given, and then written or not
 pub piece_written : {C T : Type 0} (content : List Piece) (n : ℕ) (a m b : Scene C) (piece : Vec ℕ Global) (result : Result T Ended)
     → TakesPiece content n a m (Ok piece) → Sends m b piece.items result → SendsPiece content n a b result
 piece_written content n a m b piece (Ok sent) takes sends = (m, piece, takes, sends)
-piece_written content n a m b piece (Err ended.WriteFault) takes sends = (m, piece, takes, sends)
-piece_written content n a m b piece (Err ended.Closed) takes sends = absurd sends
-piece_written content n a m b piece (Err ended.BadMessage) takes sends = absurd sends
-piece_written content n a m b piece (Err ended.NotBuilt) takes sends = absurd sends
-piece_written content n a m b piece (Err ended.RunFull) takes sends = absurd sends
-piece_written content n a m b piece (Err (ended.Cut fault)) takes sends = absurd sends
-piece_written content n a m b piece (Err ended.ReadFault) takes sends = absurd sends
-piece_written content n a m b piece (Err ended.Memory) takes sends = absurd sends
+piece_written {C} {T} content n a m b piece (Err by) takes sends =
+    let p = sends_failed T m b piece.items by sends in
+    subst (λ (z : Ended). SendsPiece {T = T} content n a b (Err z)) (sym p.0) (m, piece, takes, p.1)

@@ -194,19 +194,9 @@ cut_pays a b fault.Memory pays = pays
 
 starts_pays : (a b : Book) (content : List Piece) (v : Response) → Starts a b content v → Pays a b (failed_first v)
 starts_pays a b [] (response.File content None) starts = pays_same a b starts.1
-starts_pays a b [] (response.File content (Some first)) starts = absurd starts
-starts_pays a b [] (response.Lost why) starts = absurd starts
-starts_pays a b [] (response.Denied d) starts = absurd starts
-starts_pays a b [] response.Made starts = absurd starts
-starts_pays a b [] response.Done starts = absurd starts
-starts_pays a b [] (response.Listing lines) starts = absurd starts
-starts_pays a b (piece ∷ pieces) (response.File content None) starts = absurd starts
 starts_pays a b (piece ∷ pieces) (response.File content (Some first)) starts = pays_none a b 0 starts.1.own (inl (refl, starts.3))
 starts_pays a b (piece ∷ pieces) (response.Lost why) starts = lost_pays a b why (fails_pays a b piece why starts.0 starts.1)
-starts_pays a b (piece ∷ pieces) (response.Denied d) starts = absurd starts
-starts_pays a b (piece ∷ pieces) response.Made starts = absurd starts
-starts_pays a b (piece ∷ pieces) response.Done starts = absurd starts
-starts_pays a b (piece ∷ pieces) (response.Listing lines) starts = absurd starts
+starts_pays a b content other starts = absurd starts
 
 -- ---- the steps
 
@@ -253,12 +243,7 @@ closes_pays reads how false a b same = pays_same a.book b.book (ap (λ (s : Scen
 says_pays : {C : Type 0} (T : Type 0) (a b : Scene C) (bytes : List ℕ) (by : Ended) → Says {T = T} a b bytes (Err by) → Pays a.book b.book (failed_by by)
 says_pays T a b bytes ended.WriteFault says = pays_same a.book b.book (ap (λ (s : Scene _). s.book) says.only)
 says_pays T a b bytes ended.Memory says = pays_same a.book b.book (ap (λ (s : Scene _). s.book) says)
-says_pays T a b bytes ended.Closed says = absurd says
-says_pays T a b bytes ended.BadMessage says = absurd says
-says_pays T a b bytes ended.NotBuilt says = absurd says
-says_pays T a b bytes ended.RunFull says = absurd says
-says_pays T a b bytes (ended.Cut why) says = absurd says
-says_pays T a b bytes ended.ReadFault says = absurd says
+says_pays T a b bytes other says = absurd says
 
 file_pays : {C : Type 0} (T : Type 0) (close : Bool) (content : List Piece) (first : Option (Vec ℕ Global)) (a b : Scene C) (by : Ended)
     → SendsFile {T = T} close content first a b (Err by) → Pays a.book b.book (failed_by by)
@@ -269,11 +254,7 @@ file_pays T close content first a b ended.Memory (inr (given, writes, lacks)) =
     fails_pays a.book b.book lacks.piece fault.Memory writes.pieces.waits lacks.failed
 file_pays T close content first a b ended.WriteFault (given, breaks) =
     pays_none a.book b.book 0 breaks.pieces.waits.own (inl (refl, breaks.unstruck))
-file_pays T close content first a b ended.Closed sends = absurd sends
-file_pays T close content first a b ended.BadMessage sends = absurd sends
-file_pays T close content first a b ended.NotBuilt sends = absurd sends
-file_pays T close content first a b ended.RunFull sends = absurd sends
-file_pays T close content first a b ended.ReadFault sends = absurd sends
+file_pays T close content first a b other sends = absurd sends
 
 fault_pays : {C : Type 0} (T : Type 0) (manner : Manner) (v : Response) (a b : Scene C) (by : Ended) → Writes {T = T} manner v a b (Err by)
     → Pays a.book b.book (failed_by by)
@@ -304,20 +285,12 @@ so_pays : {C : Type 0} (d : Denial) (a b : Scene C) (by : Ended) → EndsSo d a 
 so_pays d a b ended.BadMessage ends = pays_same a.book b.book (ap (λ (s : Scene _). s.book) ends.only)
 so_pays d a b ended.WriteFault ends = pays_same a.book b.book (ap (λ (s : Scene _). s.book) ends.only)
 so_pays d a b ended.Memory ends = pays_same a.book b.book (ap (λ (s : Scene _). s.book) ends)
-so_pays d a b ended.Closed ends = absurd ends
-so_pays d a b ended.NotBuilt ends = absurd ends
-so_pays d a b ended.RunFull ends = absurd ends
-so_pays d a b (ended.Cut why) ends = absurd ends
-so_pays d a b ended.ReadFault ends = absurd ends
+so_pays d a b other ends = absurd ends
 
 by_pays : {C : Type 0} (a b : Scene C) (fault : WireFault) (by : Ended) → EndsBy fault a b by → Pays a.book b.book 0
 by_pays a b wire.ReadFault by ends = pays_same a.book b.book (ap (λ (s : Scene _). s.book) ends.1)
 by_pays a b wire.Memory by ends = pays_same a.book b.book (ap (λ (s : Scene _). s.book) ends.1)
-by_pays a b wire.Bad by ends = so_pays (denial_of wire.Bad) a b by ends
-by_pays a b wire.HeadLong by ends = so_pays (denial_of wire.HeadLong) a b by ends
-by_pays a b wire.Coding by ends = so_pays (denial_of wire.Coding) a b by ends
-by_pays a b (wire.TooLarge n) by ends = so_pays (denial_of (wire.TooLarge n)) a b by ends
-by_pays a b wire.Truncated by ends = so_pays (denial_of wire.Truncated) a b by ends
+by_pays a b other by ends = so_pays (denial_of other) a b by ends
 
 reads_pays : {C : Type 0} (a b : Scene C) → OnlyReads a b → Pays a.book b.book 0
 reads_pays a b only = pays_same a.book b.book (ap (λ (s : Scene _). s.book) only)

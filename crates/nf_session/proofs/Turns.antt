@@ -5,7 +5,7 @@ use Rattle.std.specs.Prelude.{Bool, true, false, ◌||◌, ◌==◌, Option, Non
 use Rattle.nf_http.specs.Head.{Head, closes_session}
 use Rattle.nf_http.specs.declared.wire.WireFault.{WireFault}
 use Rattle.nf_session.specs.Session.{Session, Through}
-use Rattle.nf_session.specs.Steps.{Scene, Heads, Invites, Judges, TakesIn, Closes, EndsBy, Says, Sends, is_granted, is_unsent}
+use Rattle.nf_session.specs.Steps.{Scene, Heads, Invites, Judges, TakesIn, Closes, EndsBy, Says, Sends, WrotePart, is_granted, is_unsent}
 use Rattle.nf_session.specs.Turn.{Meets, Responds, Turn, end_by, how_of, stays_granted, way_by}
 use Rattle.nf_session.specs.declared.backend.Ending.{Ending}
 use Rattle.nf_session.specs.declared.backend.Ending.TheVariants as ending
@@ -16,16 +16,16 @@ use Rattle.nf_session.specs.declared.ended.Ended.TheVariants as ended
 
 -- ---- an answer that may find no memory
 
+-- what isn't written was kept back by the output alone
+pub sends_failed : {C : Type 0} (T : Type 0) (a b : Scene C) (bytes : List ℕ) (by : Ended) → Sends {T = T} a b bytes (Err by)
+    → (by ≡ ended.WriteFault) × WrotePart a b bytes
+sends_failed T a b bytes ended.WriteFault part = (refl, part)
+sends_failed T a b bytes other sends = absurd sends
+
 pub sends_says : {C T : Type 0} (a b : Scene C) (bytes : List ℕ) (result : Result T Ended) → Sends a b bytes result → Says a b bytes result
 sends_says a b bytes (Ok sent) sends = sends
-sends_says a b bytes (Err ended.WriteFault) sends = sends
-sends_says a b bytes (Err ended.Closed) sends = absurd sends
-sends_says a b bytes (Err ended.BadMessage) sends = absurd sends
-sends_says a b bytes (Err ended.NotBuilt) sends = absurd sends
-sends_says a b bytes (Err ended.RunFull) sends = absurd sends
-sends_says a b bytes (Err (ended.Cut fault)) sends = absurd sends
-sends_says a b bytes (Err ended.ReadFault) sends = absurd sends
-sends_says a b bytes (Err ended.Memory) sends = absurd sends
+sends_says {C} {T} a b bytes (Err by) sends =
+    let p = sends_failed T a b bytes by sends in subst (λ (z : Ended). Says {T = T} a b bytes (Err z)) (sym p.0) p.1
 
 pub says_so : {C T V E : Type 0} (a b : Scene C) (items : V → List ℕ) (want : List ℕ) (made : Result V E) (result : Result T Ended)
     → IfOk made (λ v. items v ≡ want) → IfOk made (λ v. Sends a b (items v) result)

@@ -1,14 +1,13 @@
 //! A session: messages, answered one after the other.
 
-ghost use Rattle.std.specs.Prelude.{◌≡◌, ◌<◌, ◌≤◌, ℕ, List, [], length, codes, bytes_eq, None, Some, Ok, Err, IfOk, IfErr, OnOk, OnErr, is_some};
+ghost use Rattle.std.specs.Prelude.{◌≡◌, ◌<◌, ◌≤◌, ℕ, List, [], ◌++◌, length, codes, bytes_eq, None, Some, Ok, Err, IfOk, IfErr, OnOk, OnErr, is_some};
+ghost use Rattle.std.specs.List.{concat};
 ghost use Rattle.nf_http.specs.Bodies.{CutsBody, CutsRead};
 ghost use Rattle.nf_words.specs.declared.answer.Goal.TheVariants.{Serve};
-ghost use Rattle.nf_base.specs.Content.{size_of};
 ghost use Rattle.nf_routes.specs.Targets.{is_ocs as begins_with_ocs};
-ghost use Rattle.nf_dav.specs.Reply.{file_head as head_of_file};
 ghost use Rattle.nf_session.specs.Book.{MayEnd, held};
 ghost use Rattle.nf_session.specs.Connections.{between, scene, IsSame};
-ghost use Rattle.nf_session.specs.Files.{IsResponding, IsStarted, SendsFile, SendsPiece, TakesPiece};
+ghost use Rattle.nf_session.specs.Files.{IsResponding, IsStarted, SendsFile, SendsPiece, TakesPiece, file_front, taken_first};
 ghost use Rattle.nf_session.specs.Steps.{IsClosing, Heads, Bodies, Cuts, Skips, Judges, IsBegun, Invites, TakesIn, StoresBody, StartsFile, Says, Sends, Closes, EndsBy, EndsSo, skipped_length};
 ghost use Rattle.nf_session.specs.Turn.{Meets, Responds, Turn, Writes, way_by};
 ghost use Rattle.nf_session.specs.Session.{Session};
@@ -32,6 +31,10 @@ const NO_WORDS: Words = Words {
     first: 0,
     second: 0,
 };
+
+/// The most bytes of a first piece that is written with its head in one call, so that both leave in one run of packets. A
+/// longer one isn't worth the copy.
+const SMALL_PIECE: usize = 65_536;
 
 // How bytes are refused that are no message, or end inside one.
 const LAST: Manner = Manner {
@@ -277,23 +280,30 @@ where
             (scene S.Ends O.Ends B.Backend self.new) result }
         ensures held { held (B.book self.new.backend.now) ≡ held (B.book self.old.backend.now) }
     {
-        self.send_head(content, close)?;
-        let Some(piece) = first else {
-            return Ok(());
-        };
-        self.write(piece)?;
+        self.send_front(content, first, close)?;
         for index in 1..content.pieces().len() {
             self.send_piece(content, index)?;
         }
         Ok(())
     }
 
-    fn send_head(&mut self, content: &Content, close: bool) -> Result<(), Ended>
+    // Writes the head of a file and its first piece, by one call of the sink where that piece is small.
+    fn send_front(
+        &mut self,
+        content: &Content,
+        first: &Option<Vec<u8>>,
+        close: bool,
+    ) -> Result<(), Ended>
         ensures same { IsSame B.Backend self.old self.new }
         ensures says { Says (scene S.Ends O.Ends B.Backend self.old) (scene S.Ends O.Ends B.Backend self.new)
-            (head_of_file close (size_of content.now)) result }
+            (file_front close content.now (taken_first first.now)) result }
     {
-        self.say(file_head(self.alloc, content.size(), close))
+        let Ok(mut front) = file_head(self.alloc, content.size(), close) else {
+            return Err(Ended::Memory);
+        };
+        let rest = append_small(&mut front, bytes_of(first));
+        self.write(&front)?;
+        self.write(rest)
     }
 
     fn take_piece(&mut self, content: &Content, index: usize) -> Result<Vec<u8>, PieceFault>
@@ -438,6 +448,27 @@ fn manner(message: &Message, close: bool) -> Manner
         close,
         ocs: is_ocs(message.target()),
         head_only: message.method() == b"HEAD".as_slice(),
+    }
+}
+
+// The bytes of a file's first piece, if it has one.
+fn bytes_of(first: &Option<Vec<u8>>) -> &[u8]
+    ensures { result.now ≡ concat (taken_first first.now) }
+{
+    match first {
+        Some(piece) => piece,
+        None => &[],
+    }
+}
+
+// Appends a small piece to the head, where there is memory for that; the bytes that are still to be written behind it.
+fn append_small<'p>(head: &mut Vec<u8>, piece: &'p [u8]) -> &'p [u8]
+    ensures { head.new.items ++ result.now ≡ head.old.items ++ piece.now }
+{
+    if piece.len() <= SMALL_PIECE && head.extend_from_slice(piece).is_ok() {
+        &[]
+    } else {
+        piece
     }
 }
 
