@@ -10,3 +10,5 @@ mod Ending
 mod Tickets
 mod Closing
 mod Turning
+mod Holding
+pub mod Sending

@@ -65,6 +65,11 @@ pub record IsSeat {K : Type 0} (k : KeeperOf K) (hub : HubOf (Served K) Entry (L
   pub flag : seat.is_idle ≡ is_none (held (book k hub seat))
   pub joined : AllWereIdle k (memory_of k hub seat).joined
 
+-- a seat of this hub that holds nothing
+abbrev pub IsIdleSeat : {K : Type 0} → KeeperOf K → HubOf (Served K) Entry (List Row × Snapshot K)
+    → SeatOf (Served K) Entry (List Row × Snapshot K) → Type 0
+IsIdleSeat k hub seat = IsSeat k hub seat × (held (book k hub seat) ≡ None)
+
 -- ---- the start
 
 -- what the first seat knows of a hub that was started over what a keeper had

@@ -4,6 +4,8 @@
 
 mod hub;
 mod seat;
+#[cfg(test)]
+mod tests;
 mod visit;
 
 pub use hub::{Hub, HubOf};

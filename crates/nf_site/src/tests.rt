@@ -1,4 +1,4 @@
-//! Several seats, and want of memory. What is answered to one seat the suite's cases show.
+//! Want of memory. What else several seats are answered nf_hub's tests show.
 
 ghost use Rattle.std.specs.Prelude.{◌≡◌, ℕ, List, [], ◌∷◌, ◌++◌, Some, IfOk, OnOk, IsNone};
 ghost use Rattle.nf_site.specs.Demo.{demo_rows};
@@ -9,9 +9,7 @@ ghost use Rattle.nf_words.specs.declared.history.Outcome.TheVariants.{Body};
 
 use crate::{Site, demo_rows};
 use nf_base::{BlobId, Digest, Moment, Name, Path};
-use nf_words::{
-    Answer, Caller, Denial, Event, Goal, Mark, Outcome, Reply, Request, Spot, Wanted, Words,
-};
+use nf_words::{Answer, Caller, Event, Goal, Mark, Outcome, Reply, Request, Spot, Wanted, Words};
 use std::alloc::Global;
 use std::test::Fail;
 
@@ -30,8 +28,8 @@ fn demo(alloc: Global) -> Result<Site, Fail>
     }
 }
 
-/// A PUT of so many bytes to a file of alice's, or its DELETE.
-fn request(alloc: Global, length: Option<u8>, name: &str) -> Result<Request, Fail>
+/// A PUT of so many bytes to a file of alice's.
+fn request(alloc: Global, length: u8, name: &str) -> Result<Request, Fail>
     ensures { IfOk result MayWant }
 {
     let names = vec![in alloc; name.as_bytes().to_vec(alloc)?]?;
@@ -39,12 +37,9 @@ fn request(alloc: Global, length: Option<u8>, name: &str) -> Result<Request, Fai
         user: Some(Name::read(alloc, b"alice")?),
         path: Path::read(alloc, &names)?,
     };
-    let wanted = match length {
-        Some(length) => Wanted::Put {
-            spot,
-            length: u64::from(length),
-        },
-        None => Wanted::Delete(spot),
+    let wanted = Wanted::Put {
+        spot,
+        length: u64::from(length),
     };
     Ok(Request {
         caller: Caller::Token(Digest::of(b"alice-1")),
@@ -68,7 +63,7 @@ fn start(alloc: Global, site: &mut Site, seat: u64, length: u8, name: &str) -> R
     requires { IsNone (ticket_of site.old.kept.state seat) }
     ensures { IfOk result (λ goal. site.new.kept.state.tickets ≡ site.old.kept.state.tickets ++ ticket_for seat goal ∷ []) }
 {
-    let request = request(alloc, Some(length), name)?;
+    let request = request(alloc, length, name)?;
     let Ok(()) = site.room() else {
         return Err("no room")?;
     };
@@ -103,27 +98,6 @@ fn store(
     Ok((site.adopt(plan), blob))
 }
 
-/// A DELETE that is done.
-#[tactic(auto, using(crate::proofs::Answered::done_tickets))]
-fn remove(alloc: Global, site: &mut Site, seat: u64, name: &str) -> Result<(), Fail>
-    requires { IsNone (ticket_of site.old.kept.state seat) }
-    ensures { OnOk result (site.new.kept.state.tickets ≡ site.old.kept.state.tickets) }
-{
-    let request = request(alloc, None, name)?;
-    let Ok(()) = site.room() else {
-        return Err("no room")?;
-    };
-    let event = Event::Begin {
-        words: WORDS,
-        request,
-    };
-    let plan = site.plan(alloc, seat, Moment::new(5), event)?;
-    match site.adopt(plan) {
-        Ok(Reply::Done) => Ok(()),
-        _ => Err("not done")?,
-    }
-}
-
 /// The End of a granted PUT that finds no memory.
 fn lose(site: &mut Site, seat: u64, goal: &Goal) -> Result<(), Fail>
     requires { ticket_of site.old.kept.state seat ≡ Some (ticket_for seat goal.now) }
@@ -134,38 +108,6 @@ fn lose(site: &mut Site, seat: u64, goal: &Goal) -> Result<(), Fail>
     };
     let event = Event::End(body(u8::try_from(*length)?));
     site.fail(seat, Moment::new(5), event, Mark::Memory);
-    Ok(())
-}
-
-/// Two seats store under one free name, and then one of them over it.
-#[test]
-fn stores_the_first_of_two(rt: HostRuntime) -> Result<(), Fail> {
-    let alloc = rt.alloc();
-    let mut site = demo(alloc)?;
-    let first = start(alloc, &mut site, 1, 2, "x")?;
-    let second = start(alloc, &mut site, 2, 3, "x")?;
-    let (answer, blob) = store(alloc, &mut site, 1, &first)?;
-    assert!(rt; matches!(answer, Ok(Reply::Made)));
-    assert_eq!(rt; blob, Some(BlobId::new(2)));
-    let (answer, blob) = store(alloc, &mut site, 2, &second)?;
-    assert!(rt; matches!(answer, Err(Denial::NotFound)));
-    assert_eq!(rt; blob, None);
-    let third = start(alloc, &mut site, 2, 3, "x")?;
-    let (answer, blob) = store(alloc, &mut site, 2, &third)?;
-    assert!(rt; matches!(answer, Ok(Reply::Done)));
-    assert_eq!(rt; blob, Some(BlobId::new(3)));
-    Ok(())
-}
-
-/// A seat stores over a file that another removes meanwhile.
-#[test]
-fn stores_nothing_over_what_is_gone(rt: HostRuntime) -> Result<(), Fail> {
-    let alloc = rt.alloc();
-    let mut site = demo(alloc)?;
-    let goal = start(alloc, &mut site, 1, 2, "hello.txt")?;
-    remove(alloc, &mut site, 2, "hello.txt")?;
-    let (answer, _) = store(alloc, &mut site, 1, &goal)?;
-    assert!(rt; matches!(answer, Err(Denial::NotFound)));
     Ok(())
 }
 
