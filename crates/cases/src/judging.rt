@@ -61,17 +61,33 @@ fn judge_one(
     }
 }
 
-/// Whether a run gave what is wanted, with its input read whole and cut into small reads; the first line that says how it differs.
+/// Whether two seats wrote what is wanted: a line that says how it differs, if it does.
+fn judge_seats(alloc: Global, run: &Run, written: &[u8]) -> Result<Option<String>, AllocError>
+    ensures { IfOk result (λ line. IsNone line ↔ (written.now ≡ answers run.now.exchanges.items)) }
+{
+    match first_difference(&run.exchanges, written) {
+        Some(difference) => Ok(Some(line_of_answer(alloc, run, &difference, "by two seats")?)),
+        None => Ok(None),
+    }
+}
+
+/// Whether a run gave what is wanted, with its input read whole, cut into small reads, and by two seats; the first line that says how it
+/// differs.
 pub fn judge(
     alloc: Global,
     run: &Run,
     whole: &Outcome,
     cut: &Outcome,
+    seats: &[u8],
 ) -> Result<Option<String>, AllocError>
-    ensures { IfOk result (λ line. IsNone line ↔ (IsAsWanted run.now whole.now × IsAsWanted run.now cut.now)) }
+    ensures { IfOk result (λ line. IsNone line
+        ↔ (IsAsWanted run.now whole.now × IsAsWanted run.now cut.now × (seats.now ≡ answers run.now.exchanges.items))) }
 {
-    match judge_one(alloc, run, whole, "read whole")? {
-        Some(line) => Ok(Some(line)),
-        None => judge_one(alloc, run, cut, "read byte by byte"),
+    if let Some(line) = judge_one(alloc, run, whole, "read whole")? {
+        return Ok(Some(line));
     }
+    if let Some(line) = judge_one(alloc, run, cut, "read byte by byte")? {
+        return Ok(Some(line));
+    }
+    judge_seats(alloc, run, seats)
 }

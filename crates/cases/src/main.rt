@@ -1,4 +1,4 @@
-//! Runs the cases of a folder through the server's top call, and tells which of them differ.
+//! Runs the cases of a folder through the server's top call, and by two seats of a hub, and tells which of them differ.
 #![tactic(auto)]
 
 mod case;
@@ -6,6 +6,7 @@ mod folder;
 mod judging;
 mod reading;
 mod running;
+mod seats;
 mod showing;
 mod tally;
 mod texts;
@@ -77,7 +78,7 @@ fn check_case<W: Wait>(
     let mut keepers = Keepers::new(rt.alloc(), &case.failing)?;
     for (index, run) in case.runs.iter().enumerate() {
         let served = serve(turns, rt.alloc(), run, keepers)?;
-        let line = judge(rt.alloc(), run, &served.whole, &served.cut)?;
+        let line = judge(rt.alloc(), run, &served.whole, &served.cut, &served.seats)?;
         judged.push(Judged::of(&line))?;
         if let Some(line) = line {
             println!(rt; "{name}: run {}, {line}", index + 1)?;

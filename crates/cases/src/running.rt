@@ -1,12 +1,16 @@
 //! A run of a case, with all that it depends on in memory.
 
 use crate::case::{Damage, Run};
+use crate::seats::serve_by_seats;
 use filesd::{Finished, run};
 use nf_base::BlobId;
 use nf_keeper::MemKeeper;
 use nf_outside::{ListClock, MemSink, MemSource};
 use std::alloc::{AllocError, Global};
 use std::sync::Wait;
+
+/// How many messages a session answers at most.
+const MOST_MESSAGES: usize = 10_000;
 
 /// What a run gave.
 #[derive(Drop)]
@@ -16,11 +20,13 @@ pub struct Outcome {
     pub status: u8,
 }
 
-/// What a case's next run is over: what the runs before it left, where all input was read whole, and where it was read byte by byte.
+/// What a case's next run is over: what the runs before it left, where all input was read whole, where it was read byte by byte, and
+/// where two seats took turns.
 #[derive(Drop)]
 pub struct Keepers {
     whole: MemKeeper,
     cut: MemKeeper,
+    seats: MemKeeper,
 }
 
 impl Keepers {
@@ -29,36 +35,56 @@ impl Keepers {
         Ok(Keepers {
             whole: MemKeeper::new(alloc, failing)?,
             cut: MemKeeper::new(alloc, failing)?,
+            seats: MemKeeper::new(alloc, failing)?,
         })
     }
 }
 
-/// What a run gave, with its input and its output whole and cut into single bytes, and what it left.
+/// What a run gave, with its input and its output whole and cut into single bytes; what two seats wrote in its place; and what it left.
 #[derive(Drop)]
 pub struct Served {
     pub whole: Outcome,
     pub cut: Outcome,
+    pub seats: Vec<u8>,
     pub keepers: Keepers,
 }
 
-/// Runs it twice, with its input and its output whole and cut into single bytes: the answer may not depend on the cutting.
+/// Runs it with its input and its output whole, cut into single bytes, and by two seats: the answers may not depend on that.
 pub fn serve<R: Wait>(
     rt: &R,
     alloc: Global,
     run: &Run,
     keepers: Keepers,
 ) -> Result<Served, AllocError> {
-    let Keepers { whole, cut } = keepers;
+    let Keepers { whole, cut, seats } = keepers;
     let (whole, whole_left) = serve_in_pieces(rt, alloc, run, whole, Vec::new(alloc))?;
     let (cut, cut_left) = serve_in_pieces(rt, alloc, run, cut, vec![in alloc; 1]?)?;
+    let (seats, seats_left) = serve_in_turn(rt, alloc, run, seats)?;
     Ok(Served {
         whole,
         cut,
+        seats,
         keepers: Keepers {
             whole: whole_left,
             cut: cut_left,
+            seats: seats_left,
         },
     })
+}
+
+// Two seats serve what a `batch` has to serve. Any other words are run as they are, and so are as many messages as end a session.
+fn serve_in_turn<R: Wait>(
+    rt: &R,
+    alloc: Global,
+    case: &Run,
+    mut keeper: MemKeeper,
+) -> Result<(Vec<u8>, MemKeeper), AllocError> {
+    if is_batch(&case.words) && case.exchanges.len() < MOST_MESSAGES {
+        put_damage(&mut keeper, &case.damage)?;
+        return serve_by_seats(rt, alloc, case, keeper);
+    }
+    let (outcome, keeper) = serve_in_pieces(rt, alloc, case, keeper, Vec::new(alloc))?;
+    Ok((outcome.output, keeper))
 }
 
 fn serve_in_pieces<R: Wait>(
@@ -91,6 +117,10 @@ fn serve_in_pieces<R: Wait>(
         status: status.code(),
     };
     Ok((outcome, keeper))
+}
+
+fn is_batch(words: &[String]) -> bool {
+    words.len() == 1 && words[0].as_str() == "batch"
 }
 
 fn put_damage(keeper: &mut MemKeeper, damage: &[Damage]) -> Result<(), AllocError> {

@@ -7,7 +7,7 @@ use std::alloc::{AllocError, Global};
 /// How many bytes of a message or an answer are shown.
 const SHOWN: usize = 240;
 
-/// That an answer differs. `cut` says how the input was read.
+/// That an answer differs. `cut` says how the run was made.
 pub fn line_of_answer(
     alloc: Global,
     run: &Run,

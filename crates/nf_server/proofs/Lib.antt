@@ -1,1 +1,4 @@
+pub mod Posting
+pub mod Spanning
 pub mod Visits
+pub mod Working

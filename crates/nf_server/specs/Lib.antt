@@ -1,1 +1,4 @@
+pub mod Doors
 pub mod Links
+pub mod Posts
+pub mod Work

@@ -1,0 +1,194 @@
+-- One worker's work, link by link.
+use Rattle.std.proofs.Common.{◌≡◌, ◌≢◌, ℕ, ◌+◌, ◌<◌, ◌≤◌, List, [], ◌∷◌, ◌++◌, refl, sym, ◌∙◌, ap, subst, inl, inr, arith, length, length-append, map, append-nil, append_assoc, Result, Ok, Err}
+use Rattle.std.proofs.lemmas.List.{map-append}
+use Rattle.std.proofs.lemmas.List.Elements.{All-nil, All-push}
+use Rattle.std.specs.Prelude.{Option, None, Some, option_map}
+use Rattle.nf_desk.specs.Desk.{Served}
+use Rattle.nf_keeper.specs.declared.keeper.Keeper.{Ghosts as KeeperOf}
+use Rattle.nf_outside.specs.Causes.{Rose}
+use Rattle.nf_outside.specs.declared.traits.Ends.{Ghosts as EndsOf}
+use Rattle.nf_session.specs.declared.ended.Ended.{Ended}
+use Rattle.nf_session.specs.declared.ended.Ended.TheVariants.{RunFull as EndedFull}
+use Rattle.nf_turn.specs.declared.view.Memory.{Memory}
+use Rattle.nf_server.specs.Doors.{GivesLink, behind}
+use Rattle.nf_server.specs.Work.{EndsWork, GaveAndTook, HasNone, InTurn, NoneFull, ServesEnds, ServesNext, Visited, Works}
+use Rattle.nf_server.specs.declared.door.Door.{Ghosts as DoorOf}
+use Rattle.nf_server.specs.declared.link.Link.{Link}
+use Rattle.nf_server.specs.declared.workers.Worked.TheVariants as worked
+use Rattle.nf_server.specs.declared.workers.Worker.{Worker}
+
+module _ {K S O C : Type 0} (k : KeeperOf K) (s : EndsOf S) (o : EndsOf O) (reads : C → ℕ → C → Type 0) where
+  in_turn_more : (m : Memory (Served K)) (c : C) (visits : List (Visited K S O C)) (n : Memory (Served K)) (d : C) (v : Visited K S O C)
+      → InTurn k s o reads m c visits n d → ServesEnds k s o reads n v.memory d v.clock v.came v.left v.ended
+      → InTurn k s o reads m c (visits ++ v ∷ []) v.memory v.clock
+  in_turn_more m c [] n d v so serves = (
+    subst (λ (z : C). ServesEnds k s o reads m v.memory z v.clock v.came v.left v.ended) so.1
+        (subst (λ (z : Memory (Served K)). ServesEnds k s o reads z v.memory d v.clock v.came v.left v.ended) so.0 serves),
+    (refl, refl),
+  )
+  in_turn_more m c (u ∷ visits) n d v so serves = (so.0, in_turn_more u.memory u.clock visits n d v so.1 serves)
+
+  came_more : (visits : List (Visited K S O C)) (v : Visited K S O C) (b next : Option (List (Link S O))) → GivesLink b next (Ok (Some v.came))
+      → option_map (λ (links : List (Link S O)). map (λ (u : Visited K S O C). u.came) visits ++ links) b
+      ≡ option_map (λ (links : List (Link S O)). map (λ (u : Visited K S O C). u.came) (visits ++ v ∷ []) ++ links) next
+  came_more visits v None None gives = refl
+  came_more visits v None (Some left) gives = absurd gives
+  came_more visits v (Some links) None gives = absurd gives
+  came_more visits v (Some links) (Some left) gives =
+      let f = λ (u : Visited K S O C). u.came in
+      ap Some
+      (ap (λ (z : List (Link S O)). map f visits ++ z) gives ∙ sym (append_assoc (map f visits) (v.came ∷ []) left)
+      ∙ ap (λ (z : List (Link S O)). z ++ left) (sym (map-append f visits (v ∷ []))))
+
+  left_more : (visits : List (Visited K S O C)) (v : Visited K S O C) (a : Option (List (Link S O)))
+      → behind (option_map (λ (links : List (Link S O)). links ++ map (λ (u : Visited K S O C). u.left) visits) a) v.left
+      ≡ option_map (λ (links : List (Link S O)). links ++ map (λ (u : Visited K S O C). u.left) (visits ++ v ∷ [])) a
+  left_more visits v None = refl
+  left_more visits v (Some links) =
+      let f = λ (u : Visited K S O C). u.left in
+      ap Some
+      (append_assoc links (map f visits) (v.left ∷ []) ∙ ap (λ (z : List (Link S O)). links ++ z) (sym (map-append f visits (v ∷ []))))
+
+  nothing_came : (a : Option (List (Link S O))) → a ≡ option_map (λ (links : List (Link S O)). [] ++ links) a
+  nothing_came None = refl
+  nothing_came (Some links) = refl
+
+  nothing_left : (a : Option (List (Link S O))) → a ≡ option_map (λ (links : List (Link S O)). links ++ []) a
+  nothing_left None = refl
+  nothing_left (Some links) = ap Some (sym (append-nil links))
+
+  module _ {D : Type 0} (door : DoorOf D S O) where
+    -- so many links were served, and no session found the run full
+    pub record SoFar (m n : Memory (Served K)) (a b : Worker D C) (count : ℕ) : Type 0 where
+      pub visits : List (Visited K S O C)
+      pub so_many : length visits ≡ count
+      pub in_turn : InTurn k s o reads m a.clock visits n b.clock
+      pub gave : GaveAndTook k s o reads door a.door b.door visits
+      pub none_full : NoneFull k s o reads visits
+      pub same : door.faults b.door ≡ door.faults a.door
+
+    pub nothing_yet : (m n : Memory (Served K)) (a b : Worker D C) → n ≡ m → b ≡ a → SoFar m n a b 0
+    nothing_yet m n a b knows same = record {
+      visits = [];
+      so_many = refl;
+      in_turn = (knows, ap (λ (w : Worker D C). w.clock) same);
+      gave = record {
+        came = ap (λ (w : Worker D C). door.coming w.door) (sym same) ∙ nothing_came (door.coming b.door);
+        left = ap (λ (w : Worker D C). door.served w.door) same ∙ nothing_left (door.served a.door);
+      };
+      none_full = All-nil _;
+      same = ap (λ (w : Worker D C). door.faults w.door) same;
+    }
+
+    -- another link was given, served and given back
+    module _ (m n p : Memory (Served K)) (a b t e : Worker D C) (count : ℕ) (so_far : SoFar m n a b count) (link : Link S O) (ended : Option Ended)
+        (clock : t.clock ≡ b.clock) (gives : GivesLink (door.coming b.door) (door.coming t.door) (Ok (Some link)))
+        (kept : door.served t.door ≡ door.served b.door) (unfailed : door.faults t.door ≡ door.faults b.door)
+        (next : ServesNext k s o reads door n p t e link ended) where
+      abbrev visit : Visited K S O C
+      visit = record { came = link; left = next.after; memory = p; clock = e.clock; ended = ended }
+
+      abbrev visits : List (Visited K S O C)
+      visits = so_far.visits ++ visit ∷ []
+
+      in_turn : InTurn k s o reads m a.clock visits p e.clock
+      in_turn =
+          in_turn_more m a.clock so_far.visits n b.clock visit so_far.in_turn
+          (subst (λ (z : C). ServesEnds k s o reads n p z e.clock link next.after ended) clock next.serves)
+
+      gave : GaveAndTook k s o reads door a.door e.door visits
+      gave = record {
+        came =
+            so_far.gave.came
+            ∙ came_more so_far.visits visit (door.coming b.door) (door.coming e.door)
+              (subst (λ (z : Option (List (Link S O))). GivesLink (door.coming b.door) z (Ok (Some link))) (sym next.coming) gives);
+        left =
+            next.back ∙ ap (λ (z : Option (List (Link S O))). behind z next.after) (kept ∙ so_far.gave.left)
+            ∙ left_more so_far.visits visit (door.served a.door);
+      }
+
+      faults : door.faults e.door ≡ door.faults a.door
+      faults = next.faults ∙ unfailed ∙ so_far.same
+
+      so_many : length visits ≡ count + 1
+      so_many = length-append so_far.visits (visit ∷ []) ∙ ap (λ (z : ℕ). z + 1) so_far.so_many
+
+      pub one_more : ended ≢ Some EndedFull → SoFar m p a e (count + 1)
+      one_more other = record {
+        visits = visits;
+        so_many = so_many;
+        in_turn = in_turn;
+        gave = gave;
+        none_full = All-push (λ (v : Visited K S O C). v.ended ≢ Some EndedFull) so_far.visits visit so_far.none_full other;
+        same = faults;
+      }
+
+      pub full_work : (connections : ℕ) → count < connections → ended ≡ Some EndedFull → Works k s o reads door connections m p a e worked.RunFull
+      full_work connections less full = record {
+        visits = visits;
+        few = omega (arith, so_many);
+        in_turn = in_turn;
+        gave = gave;
+        ends = (so_far.visits, visit, refl, so_far.none_full, full, faults);
+      }
+
+    pub no_work : (m : Memory (Served K)) (a : Worker D C) (connections : ℕ) → Works k s o reads door connections m m a a worked.Memory
+    no_work m a connections = record {
+      visits = [];
+      few = omega arith;
+      in_turn = (refl, refl);
+      gave = record { came = nothing_came (door.coming a.door); left = nothing_left (door.served a.door) };
+      ends = (refl, refl);
+    }
+
+    pub all_work : (m n : Memory (Served K)) (a b : Worker D C) (connections : ℕ) → SoFar m n a b connections
+        → Works k s o reads door connections m n a b worked.All
+    all_work m n a b connections so_far = record {
+      visits = so_far.visits;
+      few = omega (arith, so_far.so_many);
+      in_turn = so_far.in_turn;
+      gave = so_far.gave;
+      ends = (so_far.none_full, so_far.same, inr so_far.so_many);
+    }
+
+    -- the door did nothing but to say that it is closed, or to fail
+    module _ (m n : Memory (Served K)) (a b e : Worker D C) (count connections : ℕ) (less : count < connections) (so_far : SoFar m n a b count)
+        (clock : e.clock ≡ b.clock) (kept : door.served e.door ≡ door.served b.door) where
+      in_turn_still : InTurn k s o reads m a.clock so_far.visits n e.clock
+      in_turn_still = subst (λ (z : C). InTurn k s o reads m a.clock so_far.visits n z) (sym clock) so_far.in_turn
+
+      gave_still : door.coming e.door ≡ door.coming b.door → GaveAndTook k s o reads door a.door e.door so_far.visits
+      gave_still same = record {
+        came =
+            so_far.gave.came
+            ∙ ap (λ (z : Option (List (Link S O))). option_map (λ (links : List (Link S O)). map (λ (v : Visited K S O C). v.came) so_far.visits ++ links) z) (sym same);
+        left = kept ∙ so_far.gave.left;
+      }
+
+      pub closed_work : GivesLink (door.coming b.door) (door.coming e.door) (Ok None) → door.faults e.door ≡ door.faults b.door
+          → Works k s o reads door connections m n a e worked.All
+      closed_work gives unfailed =
+          let shut = closed_door (door.coming b.door) (door.coming e.door) gives in
+          record {
+            visits = so_far.visits;
+            few = omega (arith, so_far.so_many);
+            in_turn = in_turn_still;
+            gave = gave_still shut.0;
+            ends = (so_far.none_full, unfailed ∙ so_far.same, inl shut.1);
+          }
+        where
+          closed_door : (x y : Option (List (Link S O))) → GivesLink x y (Ok None) → (y ≡ x) × HasNone k s o reads door y
+          closed_door None None gives = (refl, tt)
+          closed_door None (Some left) gives = absurd gives
+          closed_door (Some links) None gives = absurd gives
+          closed_door (Some links) (Some left) gives = (ap Some (gives.1 ∙ sym gives.0), gives.1)
+
+      pub failed_work : (T : Type 0) → (door.coming e.door ≡ door.coming b.door) → Rose (door.faults b.door) (door.faults e.door)
+          → Works k s o reads door connections m n a e worked.DoorFault
+      failed_work T same rose = record {
+        visits = so_far.visits;
+        few = omega (arith, so_far.so_many);
+        in_turn = in_turn_still;
+        gave = gave_still same;
+        ends = (so_far.none_full, subst (λ (z : ℕ). Rose z (door.faults e.door)) so_far.same rose, omega (arith, so_far.so_many));
+      }

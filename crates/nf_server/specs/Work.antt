@@ -1,0 +1,105 @@
+-- What workers do: each serves the links of its door, one after the other, through a seat of its own.
+use Rattle.std.specs.Prelude.{◌≡◌, ◌⊎◌, ℕ, ◌<◌, ◌≤◌, All, ◌≢◌, List, [], ◌∷◌, ◌++◌, length, map, Option, None, Some, option_map}
+use Rattle.std.specs.declared.snapshot.Snapshot.{Snapshot}
+use Rattle.nf_desk.specs.Desk.{Served}
+use Rattle.nf_hub.specs.Seats.{book_in, steady}
+use Rattle.nf_keeper.specs.declared.keeper.Keeper.{Ghosts as KeeperOf}
+use Rattle.nf_outside.specs.Causes.{Rose}
+use Rattle.nf_outside.specs.declared.traits.Ends.{Ghosts as EndsOf}
+use Rattle.nf_session.specs.Book.{entries_wanted}
+use Rattle.nf_session.specs.Session.{Session}
+use Rattle.nf_session.specs.declared.ended.Ended.{Ended}
+use Rattle.nf_session.specs.declared.ended.Ended.TheVariants.{RunFull as EndedFull}
+use Rattle.nf_turn.specs.Memory.{having_joined, having_split, split_from}
+use Rattle.nf_turn.specs.declared.view.Memory.{Memory}
+use Rattle.nf_words.specs.History.{most_entries}
+use Rattle.nf_server.specs.Links.{scene_at}
+use Rattle.nf_server.specs.declared.door.Door.{Ghosts as DoorOf}
+use Rattle.nf_server.specs.declared.link.Link.{Link}
+use Rattle.nf_server.specs.declared.workers.Worked.{Worked}
+use Rattle.nf_server.specs.declared.workers.Worked.TheVariants as worked
+use Rattle.nf_server.specs.declared.workers.Worker.{Worker}
+
+-- a link that was served: as it came, and as it was given back; what the seat knew then, and the clock; and how its session ended
+pub record Visited (K S O C : Type 0) : Type 0 where
+  pub came : Link S O
+  pub left : Link S O
+  pub memory : Memory (Served K)
+  pub clock : C
+  pub ended : Option Ended
+
+module _ {K S O C : Type 0} (k : KeeperOf K) (s : EndsOf S) (o : EndsOf O) (reads : C → ℕ → C → Type 0) where
+  -- a session through a seat that knew m, and then n; it ends because the run is full only where the seat has seen that it is
+  pub record ServesEnds (m n : Memory (Served K)) (c d : C) (before after : Link S O) (ended : Option Ended) : Type 0 where
+    pub steady_is : steady n ≡ steady m
+    pub kept : List ℕ
+    pub few : length kept ≤ 8192
+    pub session : Session reads (scene_at s o (book_in k m) [] before.source before.sink c) (scene_at s o (book_in k n) kept after.source after.sink d) ended
+    pub full : ended ≡ Some EndedFull → most_entries < entries_wanted (book_in k n)
+
+  -- these links were served one after the other, each from what the one before it left
+  abbrev pub InTurn : Memory (Served K) → C → List (Visited K S O C) → Memory (Served K) → C → Type 0
+  InTurn m c [] n d = (n ≡ m) × (d ≡ c)
+  InTurn m c (v ∷ visits) n d = ServesEnds m v.memory c v.clock v.came v.left v.ended × InTurn v.memory v.clock visits n d
+
+  -- none of these sessions ended because the run is full
+  abbrev pub NoneFull : List (Visited K S O C) → Type 0
+  NoneFull visits = All (λ (v : Visited K S O C). v.ended ≢ Some EndedFull) visits
+
+  module _ {D : Type 0} (door : DoorOf D S O) where
+    -- what the door had to give was the links that came, and then what it has; and they were given back to it, in that order
+    pub record GaveAndTook (a b : D) (visits : List (Visited K S O C)) : Type 0 where
+      pub came : door.coming a ≡ option_map (λ (links : List (Link S O)). map (λ (v : Visited K S O C). v.came) visits ++ links) (door.coming b)
+      pub left : door.served b ≡ option_map (λ (links : List (Link S O)). links ++ map (λ (v : Visited K S O C). v.left) visits) (door.served a)
+
+    -- it has no link left, as far as it tells
+    abbrev pub HasNone : Option (List (Link S O)) → Type 0
+    HasNone None = Unit {0}
+    HasNone (Some links) = links ≡ []
+
+    -- the door has no link left, or so many were served; or it failed, and counted it; or the last session found the run full; or there was no
+    -- memory to begin with
+    abbrev pub EndsWork : ℕ → D → D → List (Visited K S O C) → Worked → Type 0
+    EndsWork connections a b visits worked.All =
+        NoneFull visits × (door.faults b ≡ door.faults a) × (HasNone (door.coming b) ⊎ (length visits ≡ connections))
+    EndsWork connections a b visits worked.DoorFault = NoneFull visits × Rose (door.faults a) (door.faults b) × (length visits < connections)
+    EndsWork connections a b visits worked.RunFull =
+        (front : List (Visited K S O C)) × (last : Visited K S O C) × (visits ≡ front ++ last ∷ []) × NoneFull front
+        × (last.ended ≡ Some EndedFull) × (door.faults b ≡ door.faults a)
+    EndsWork connections a b visits worked.Memory = (visits ≡ []) × (door.faults b ≡ door.faults a)
+
+    -- one worker
+    pub record Works (connections : ℕ) (m n : Memory (Served K)) (a b : Worker D C) (result : Worked) : Type 0 where
+      pub visits : List (Visited K S O C)
+      pub few : length visits ≤ connections
+      pub in_turn : InTurn m a.clock visits n b.clock
+      pub gave : GaveAndTook a.door b.door visits
+      pub ends : EndsWork connections a.door b.door visits result
+
+    -- one connection was served and given back
+    pub record ServesNext (m n : Memory (Served K)) (a b : Worker D C) (link : Link S O) (ended : Option Ended) : Type 0 where
+      pub after : Link S O
+      pub serves : ServesEnds m n a.clock b.clock link after ended
+      pub back : door.served b.door ≡ option_map (λ (links : List (Link S O)). links ++ after ∷ []) (door.served a.door)
+      pub coming : door.coming b.door ≡ door.coming a.door
+      pub faults : door.faults b.door ≡ door.faults a.door
+
+-- the ends of two: a door that failed comes first, then a full run, and then want of memory
+abbrev pub both : Worked → Worked → Worked
+both worked.DoorFault other = worked.DoorFault
+both worked.RunFull worked.DoorFault = worked.DoorFault
+both worked.RunFull other = worked.RunFull
+both worked.Memory worked.DoorFault = worked.DoorFault
+both worked.Memory worked.RunFull = worked.RunFull
+both worked.Memory other = worked.Memory
+both worked.All other = other
+
+module _ {V W : Type 0} (pick : V → V → V) (works : Memory V → Memory V → W → W → Worked → Type 0) where
+  -- each worked through a seat of its own, which was split off from the one that knew m, and was joined into it again
+  abbrev pub WorkBeside : Memory V → Memory V → List W → List W → Worked → Type 0
+  WorkBeside m n [] [] result = (n ≡ m) × (result ≡ worked.All)
+  WorkBeside m n [] (b ∷ after) result = ⊥
+  WorkBeside m n (a ∷ before) [] result = ⊥
+  WorkBeside m n (a ∷ before) (b ∷ after) result =
+      (mine : Memory V) × (others : Memory V) × (one : Worked) × (rest : Worked) × works (split_from m) mine a b one
+      × WorkBeside (having_split m) others before after rest × (n ≡ having_joined pick others mine) × (result ≡ both one rest)

@@ -1,0 +1,84 @@
+//! A door in memory.
+
+ghost use Rattle.std.specs.Prelude.{◌≡◌, ◌+◌, ◌≤◌, ◌<◌, [], length, vec_capacity, vec_len, IfOk, Some, is_ok};
+ghost use Rattle.std.specs.Vec.Iter.{into_iter_items, into_iter_len};
+ghost use Rattle.nf_server.specs.Doors.{behind};
+
+use crate::door::Door;
+use crate::link::Link;
+use nf_outside::{Failed, Sink, Source};
+use std::alloc::{AllocError, Global};
+use std::vec::IntoIter;
+
+/// A door in memory, which tells its connections. It keeps those that were served.
+#[derive(Drop)]
+pub struct MemDoor<S: Drop, O: Drop> {
+    coming: IntoIter<Link<S, O>, Global>,
+    served: Vec<Link<S, O>>,
+    failing: Vec<u64>,
+    made: u64,
+    faults: u64,
+    ghost room: { vec_len served + into_iter_len coming ≤ vec_capacity served },
+}
+
+impl<S: Drop, O: Drop> MemDoor<S, O> {
+    /// The calls of `next` whose numbers are in `failing` fail, and no others. The first has number 1.
+    pub fn new(
+        alloc: Global,
+        links: Vec<Link<S, O>>,
+        failing: Vec<u64>,
+    ) -> Result<MemDoor<S, O>, AllocError>
+        ensures coming { IfOk result (λ door. into_iter_items door.coming ≡ links.items) }
+        ensures served { IfOk result (λ door. door.served.items ≡ []) }
+        ensures calls { IfOk result (λ door. (door.failing ≡ failing) × (door.made ≡ 0) × (door.faults ≡ 0)) }
+    {
+        let mut served = Vec::new(alloc);
+        served.reserve(links.len())?;
+        Ok(MemDoor {
+            coming: links.into_iter(),
+            served,
+            failing,
+            made: 0,
+            faults: 0,
+        })
+    }
+
+    /// The connections that were given back, in their order.
+    pub fn served(&self) -> &[Link<S, O>]
+        ensures { result.now ≡ self.now.served.items }
+    {
+        &self.served
+    }
+}
+
+impl<S: Source + Drop, O: Sink + Drop> Door for MemDoor<S, O> {
+    type Source = S;
+
+    type Sink = O;
+
+    ghost coming = { λ door. Some (into_iter_items door.coming) };
+
+    ghost served = { λ door. Some door.served.items };
+
+    ghost faults = { λ door. door.faults };
+
+    ghost has_room = { λ door. vec_len door.served + into_iter_len door.coming < vec_capacity door.served };
+
+    fn next(&mut self) -> Result<Option<Link<S, O>>, Failed> {
+        self.made = self.made.saturating_add(1);
+        if self.failing.as_slice().contains(&self.made) {
+            self.faults = self.faults.saturating_add(1);
+            return Err(Failed);
+        }
+        Ok(self.coming.next())
+    }
+
+    fn back(&mut self, link: Link<S, O>)
+        requires room { ⟦<MemDoor<S, O> as Door>⟧.has_room self.old }
+        ensures served { ⟦<MemDoor<S, O> as Door>⟧.served self.new ≡ behind (⟦<MemDoor<S, O> as Door>⟧.served self.old) link }
+        ensures coming { ⟦<MemDoor<S, O> as Door>⟧.coming self.new ≡ ⟦<MemDoor<S, O> as Door>⟧.coming self.old }
+        ensures faults { ⟦<MemDoor<S, O> as Door>⟧.faults self.new ≡ ⟦<MemDoor<S, O> as Door>⟧.faults self.old }
+    {
+        self.served.push_reserved(link);
+    }
+}

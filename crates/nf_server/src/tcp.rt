@@ -1,0 +1,169 @@
+//! Connections over TCP: the edge to the real outside, which tells nothing of content.
+
+ghost use Rattle.std.specs.Prelude.{◌≡◌, None};
+
+use crate::door::Door;
+use crate::link::Link;
+use nf_outside::{Ends, Failed, Sink, Source};
+use std::io::{ErrorKind, Read, Write};
+use std::net::{OpenListener, OpenStream, Shutdown};
+use std::time::Duration;
+
+/// How many connections that broke off before they could be served are passed over in one call.
+const MOST_BROKEN: u32 = 1_000;
+
+/// How many reads are made of a connection that is closed while its other end still sends.
+const MOST_LEFT: u32 = 64;
+
+/// The end of a connection that is read. A read that waits longer than the door's limit is a fault.
+#[derive(Drop)]
+pub struct TcpSource<T: Drop> {
+    stream: T,
+    faults: u64,
+}
+
+impl<T: Drop> Ends for TcpSource<T> {
+    ghost left = { λ _. None };
+
+    ghost written = { λ _. None };
+
+    ghost read_faults = { λ end. end.faults };
+
+    ghost write_faults = { λ _. 0 };
+}
+
+impl<T: Read + Drop> Source for TcpSource<T> {
+    fn read(&mut self, room: &mut [u8]) -> Result<usize, Failed> {
+        match self.stream.read(room) {
+            Ok(count) => Ok(count),
+            Err(_) => {
+                self.faults = self.faults.saturating_add(1);
+                Err(Failed)
+            }
+        }
+    }
+}
+
+/// The end of a connection that is written.
+#[derive(Drop)]
+pub struct TcpSink<T: Drop> {
+    stream: T,
+    faults: u64,
+}
+
+impl<T: Drop> Ends for TcpSink<T> {
+    ghost left = { λ _. None };
+
+    ghost written = { λ _. None };
+
+    ghost read_faults = { λ _. 0 };
+
+    ghost write_faults = { λ end. end.faults };
+}
+
+impl<T: Write + Drop> Sink for TcpSink<T> {
+    fn write(&mut self, bytes: &[u8]) -> Result<usize, Failed> {
+        match self.stream.write(bytes) {
+            Ok(count) if count > 0 || bytes.is_empty() => Ok(count),
+            _ => {
+                self.faults = self.faults.saturating_add(1);
+                Err(Failed)
+            }
+        }
+    }
+}
+
+/// A door over a listener. Several may share its socket, each with a listener of its own.
+#[derive(Drop)]
+pub struct TcpDoor<L: Drop> {
+    listener: L,
+    limit: Duration,
+    faults: u64,
+}
+
+impl<L: Drop> TcpDoor<L> {
+    /// Reads and writes of its connections wait no longer than the limit, which isn't zero.
+    pub fn new(listener: L, limit: Duration) -> TcpDoor<L> {
+        TcpDoor {
+            listener,
+            limit,
+            faults: 0,
+        }
+    }
+}
+
+impl<T: Read + Write + OpenStream + Drop, L: OpenListener<Stream = T> + Drop> TcpDoor<L> {
+    // The ends of a connection that was just made; None where it broke off already.
+    fn open(&self, stream: T) -> Option<Link<TcpSource<T>, TcpSink<T>>> {
+        stream.set_read_timeout(Some(self.limit)).ok()?;
+        stream.set_write_timeout(Some(self.limit)).ok()?;
+        // Small answers go out at once.
+        stream.set_nodelay(true).ok()?;
+        let other = stream.try_clone().ok()?;
+        Some(Link {
+            source: TcpSource {
+                stream,
+                faults: 0,
+            },
+            sink: TcpSink {
+                stream: other,
+                faults: 0,
+            },
+        })
+    }
+}
+
+impl<T: Read + Write + OpenStream + Drop, L: OpenListener<Stream = T> + Drop>
+    Door for TcpDoor<L>
+{
+    type Source = TcpSource<T>;
+
+    type Sink = TcpSink<T>;
+
+    ghost coming = { λ _. None };
+
+    ghost served = { λ _. None };
+
+    ghost faults = { λ door. door.faults };
+
+    ghost has_room = { λ _. Unit {0} };
+
+    fn next(&mut self) -> Result<Option<Link<TcpSource<T>, TcpSink<T>>>, Failed> {
+        for _ in 0..MOST_BROKEN {
+            match self.listener.accept() {
+                Ok((stream, _)) => {
+                    if let Some(link) = self.open(stream) {
+                        return Ok(Some(link));
+                    }
+                }
+                Err(error) if error.kind() == ErrorKind::ConnectionAborted => {}
+                Err(_) => break,
+            }
+        }
+        self.faults = self.faults.saturating_add(1);
+        Err(Failed)
+    }
+
+    fn back(&mut self, link: Link<TcpSource<T>, TcpSink<T>>)
+        ensures same { self.new ≡ self.old }
+    {
+        let Link { mut source, sink } = link;
+        close(&mut source.stream, &sink.stream);
+    }
+}
+
+// Says that no more is written, and reads for a moment what is still on its way: closed with bytes unread, a connection is reset, and a
+// reset can destroy the last answer before it is read.
+fn close<T: Read + OpenStream>(input: &mut T, output: &T) {
+    if output.shutdown(Shutdown::Write).is_err() {
+        return;
+    }
+    let _ = input.set_read_timeout(Some(Duration::from_millis(500)));
+    let mut room = [0; 4096];
+    for _ in 0..MOST_LEFT {
+        match input.read(&mut room) {
+            Ok(count) if count > 0 => {}
+            _ => return,
+        }
+    }
+}
