@@ -98,14 +98,13 @@ module _ {K : Type 0} (k : KeeperOf K) where
     beside_seats p q m (a ∷ before) [] result so knew = absurd so
     beside_seats p q m (a ∷ before) (b ∷ after) result (kept, new, mine, others, one, rest, splits, its, beside, joins, ends) knew =
         let others_knew = beside_seats kept others (having_split m) before after rest beside
-            (subst (λ (z : Memory (Served K)). Knew k kept (having_split z)) (knew_once p splits.before m splits.knew knew) splits.kept) in
+        (subst (λ (z : Memory (Served K)). Knew k kept (having_split z)) (knew_once p splits.before m splits.knew knew) splits.kept) in
         let n = others_knew.0 in
         let started : its.before ≡ split_from m =
-            knew_once new its.before (split_from splits.before) its.knew splits.split
-            ∙ ap (λ (z : Memory (Served K)). split_from z) (knew_once p splits.before m splits.knew knew) in
+        knew_once new its.before (split_from splits.before) its.knew splits.split
+        ∙ ap (λ (z : Memory (Served K)). split_from z) (knew_once p splits.before m splits.knew knew) in
         let joined : joins.joined ≡ its.after = knew_once mine joins.joined its.after joins.other_knew its.knows in
-        let was : joins.before ≡ n = knew_once others joins.before n joins.knew others_knew.1 in
-        (
+        let was : joins.before ≡ n = knew_once others joins.before n joins.knew others_knew.1 in (
           having_joined (longer (meanings k)) n its.after,
           subst (λ (z : Memory (Served K)). Knew k q (having_joined (longer (meanings k)) n z)) joined
               (subst (λ (z : Memory (Served K)). Knew k q (having_joined (longer (meanings k)) z joins.joined)) was joins.knows),

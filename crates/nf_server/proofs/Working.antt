@@ -101,7 +101,7 @@ module _ {K S O C : Type 0} (k : KeeperOf K) (s : EndsOf S) (o : EndsOf O) (read
         came =
             so_far.gave.came
             ∙ came_more so_far.visits visit (door.coming b.door) (door.coming e.door)
-              (subst (λ (z : Option (List (Link S O))). GivesLink (door.coming b.door) z (Ok (Some link))) (sym next.coming) gives);
+            (subst (λ (z : Option (List (Link S O))). GivesLink (door.coming b.door) z (Ok (Some link))) (sym next.coming) gives);
         left =
             next.back ∙ ap (λ (z : Option (List (Link S O))). behind z next.after) (kept ∙ so_far.gave.left)
             ∙ left_more so_far.visits visit (door.served a.door);

@@ -5,11 +5,11 @@ ghost use Rattle.std.specs.Prelude.{◌≡◌, None};
 use crate::door::Door;
 use crate::link::Link;
 use nf_outside::{Ends, Failed, Sink, Source};
-use std::io::{ErrorKind, Read, Write};
+use std::io::{Read, Write};
 use std::net::{OpenListener, OpenStream, Shutdown};
 use std::time::Duration;
 
-/// How many connections that broke off before they could be served are passed over in one call.
+/// How many connections in a row may break off before they can be served: `accept` tells of them, too.
 const MOST_BROKEN: u32 = 1_000;
 
 /// How many reads are made of a connection that is closed while its other end still sends.
@@ -101,10 +101,7 @@ impl<T: Read + Write + OpenStream + Drop, L: OpenListener<Stream = T> + Drop> Tc
         stream.set_nodelay(true).ok()?;
         let other = stream.try_clone().ok()?;
         Some(Link {
-            source: TcpSource {
-                stream,
-                faults: 0,
-            },
+            source: TcpSource { stream, faults: 0 },
             sink: TcpSink {
                 stream: other,
                 faults: 0,
@@ -113,9 +110,7 @@ impl<T: Read + Write + OpenStream + Drop, L: OpenListener<Stream = T> + Drop> Tc
     }
 }
 
-impl<T: Read + Write + OpenStream + Drop, L: OpenListener<Stream = T> + Drop>
-    Door for TcpDoor<L>
-{
+impl<T: Read + Write + OpenStream + Drop, L: OpenListener<Stream = T> + Drop> Door for TcpDoor<L> {
     type Source = TcpSource<T>;
 
     type Sink = TcpSink<T>;
@@ -130,14 +125,10 @@ impl<T: Read + Write + OpenStream + Drop, L: OpenListener<Stream = T> + Drop>
 
     fn next(&mut self) -> Result<Option<Link<TcpSource<T>, TcpSink<T>>>, Failed> {
         for _ in 0..MOST_BROKEN {
-            match self.listener.accept() {
-                Ok((stream, _)) => {
-                    if let Some(link) = self.open(stream) {
-                        return Ok(Some(link));
-                    }
-                }
-                Err(error) if error.kind() == ErrorKind::ConnectionAborted => {}
-                Err(_) => break,
+            if let Ok((stream, _)) = self.listener.accept()
+                && let Some(link) = self.open(stream)
+            {
+                return Ok(Some(link));
             }
         }
         self.faults = self.faults.saturating_add(1);
@@ -159,7 +150,7 @@ fn close<T: Read + OpenStream>(input: &mut T, output: &T) {
         return;
     }
     let _ = input.set_read_timeout(Some(Duration::from_millis(500)));
-    let mut room = [0; 4096];
+    let mut room = [0; 65_536];
     for _ in 0..MOST_LEFT {
         match input.read(&mut room) {
             Ok(count) if count > 0 => {}

@@ -212,7 +212,8 @@ impl<'t, R: Wait, K: Keeper + Drop> Post<'t, R, K> {
     }
 }
 
-impl<'t, R: Wait, K: Keeper + Drop, D: Door + Drop, C: Clock + Drop> Workplace<Worker<D, C>> for Post<'t, R, K> {
+impl<'t, R: Wait, K: Keeper + Drop, D: Door + Drop, C: Clock + Drop> Workplace<Worker<D, C>>
+    for Post<'t, R, K> {
     ghost use Rattle.nf_server.specs.Posts.{IsBeside, JoinsIn, SplitsOff, WorksThrough, left_at};
 
     ghost left = { λ p. left_at K.Keeper p.seat };
@@ -251,13 +252,27 @@ impl<'t, R: Wait, K: Keeper + Drop, D: Door + Drop, C: Clock + Drop> Workplace<W
         let Some(seat) = self.seat.take() else {
             unreachable!()
         };
-        let (worked, seat) = work(self.rt, self.alloc, &routes, self.hub, self.connections, seat, worker);
+        let (worked, seat) = work(
+            self.rt,
+            self.alloc,
+            &routes,
+            self.hub,
+            self.connections,
+            seat,
+            worker,
+        );
         self.seat = Some(seat);
         worked
     }
 
     fn join(&mut self, other: Self) {
-        let Post { rt: _, alloc: _, hub: _, connections: _, seat: other } = other;
+        let Post {
+            rt: _,
+            alloc: _,
+            hub: _,
+            connections: _,
+            seat: other,
+        } = other;
         let (Some(mut seat), Some(other)) = (self.seat.take(), other) else {
             unreachable!()
         };

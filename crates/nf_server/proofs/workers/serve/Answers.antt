@@ -24,15 +24,15 @@ all-worked-requires-send-P g c κs within = search (post_send, sendable) depth 2
 pub returns-clause-seat : goal.returns-clause-seat
 returns-clause-seat g c =
     let down = beside_seats g.K.Keeper (Works g.K.Keeper g.D.Source.Ends g.D.Sink.Ends g.C.Clock.reads g.D.Door)
-        (posted g.K.Keeper c.args.hub c.args.connections c.args.seat) c.all-worked.new.place (memory_of g.K.Keeper c.args.hub.now c.args.seat)
-        c.args.workers.now c.all-worked.new.workers c.all-worked.result c.all-worked.ensures.work (c.args.seat, refl, refl) in
+    (posted g.K.Keeper c.args.hub c.args.connections c.args.seat) c.all-worked.new.place (memory_of g.K.Keeper c.args.hub.now c.args.seat)
+    c.args.workers.now c.all-worked.new.workers c.all-worked.result c.all-worked.ensures.work (c.args.seat, refl, refl) in
     subst (λ (h : LentHub g.K.Keeper). IsSeat g.K.Keeper h.now c.into_seat.result) down.2.hub c.into_seat.ensures.filled.0
 
 pub returns-clause-work : goal.returns-clause-work
 returns-clause-work g c =
     let down = beside_seats g.K.Keeper (Works g.K.Keeper g.D.Source.Ends g.D.Sink.Ends g.C.Clock.reads g.D.Door)
-        (posted g.K.Keeper c.args.hub c.args.connections c.args.seat) c.all-worked.new.place (memory_of g.K.Keeper c.args.hub.now c.args.seat)
-        c.args.workers.now c.all-worked.new.workers c.all-worked.result c.all-worked.ensures.work (c.args.seat, refl, refl) in
+    (posted g.K.Keeper c.args.hub c.args.connections c.args.seat) c.all-worked.new.place (memory_of g.K.Keeper c.args.hub.now c.args.seat)
+    c.args.workers.now c.all-worked.new.workers c.all-worked.result c.all-worked.ensures.work (c.args.seat, refl, refl) in
     let place = c.all-worked.new.place in
     subst (λ (n : Memory (Served g.row.K.Denot)). WorkBeside (longer (meanings g.K.Keeper))
     (Works g.K.Keeper g.D.Source.Ends g.D.Sink.Ends g.C.Clock.reads g.D.Door c.args.connections) (memory_of g.K.Keeper c.args.hub.now c.args.seat) n
