@@ -1,0 +1,123 @@
+-- A seat that was whole is whole again once all that were split off from it were joined into it.
+use Rattle.std.proofs.Common.{◌≡◌, ◌⊎◌, ⊎_elim, inl, inr, ℕ, ◌+◌, ◌-◌, ◌<◌, ◌≤◌, Bool, true, false, true≢false, ◌||◌, ◌==◌, eq-eqb, List, [], ◌∷◌, ◌++◌, if◌then◌else◌, refl, sym, ◌∙◌, ap, subst, arith}
+use mathlib.Core.Logic.{dite}
+use native.Mathlib.Decide.{ℕ_discrete}
+use Rattle.std.proofs.lemmas.Bool.{ne_eqb}
+use Rattle.nf_desk.specs.Desk.{Served, meanings}
+use Rattle.nf_keeper.specs.declared.keeper.Keeper.{Ghosts as KeeperOf}
+use Rattle.nf_outside.specs.declared.traits.Ends.{Ghosts as EndsOf}
+use Rattle.nf_turn.proofs.Left.{IsLeft, left_tests}
+use Rattle.nf_turn.proofs.Whole.{ways}
+use Rattle.nf_turn.specs.Memory.{having_joined, having_split, longer, split_from}
+use Rattle.nf_turn.specs.Numbers.{IsWhole, Numbers, has_number, is_joined, is_left, numbers_of}
+use Rattle.nf_turn.specs.declared.view.Memory.{Memory}
+use Rattle.nf_server.specs.Work.{InTurn, Visited, WorkBeside, Works}
+use Rattle.nf_server.specs.declared.door.Door.{Ghosts as DoorOf}
+use Rattle.nf_server.specs.declared.workers.Worked.{Worked}
+use Rattle.nf_server.specs.declared.workers.Worker.{Worker}
+
+-- whatever number the one has, the other has too
+pub record Spans {W : Type 0} (k l : Numbers W) : Type 0 where
+  pub seats : l.seats ≡ k.seats
+  pub has : (n : ℕ) → has_number k n ≡ true → has_number l n ≡ true
+
+pub whole_still : {W : Type 0} (k l : Numbers W) → Spans k l → IsWhole k → IsWhole l
+whole_still k l spans whole = λ n low up. spans.has n (whole n low (let same = spans.seats in omega arith))
+
+-- what it has left it has, whichever next number it keeps
+left_still : (left next other n : ℕ) → next ≤ n → n < next + left → (if left == 0 then other else next) ≡ next
+left_still left next other n low up = simp (ne_eqb left 0 (λ none. absurd (omega arith))) refl
+
+module _ {W : Type 0} where
+  has_so : (k : Numbers W) (n : ℕ) → (n ≡ k.number) ⊎ (IsLeft k n ⊎ (is_joined n k.joined ≡ true)) → has_number k n ≡ true
+  has_so k n (inl own) = simp (eq-eqb n k.number own) refl
+  has_so k n (inr (inl left)) = let is = left_tests k n left in go (n == k.number) (is_left k n) (is_joined n k.joined) is
+    where
+      go : (a b c : Bool) → b ≡ true → (a || (b || c)) ≡ true
+      go true b c is = refl
+      go false true c is = refl
+      go false false c is = absurd (true≢false (sym is))
+  has_so k n (inr (inr joined)) = go (n == k.number) (is_left k n) (is_joined n k.joined) joined
+    where
+      go : (a b c : Bool) → c ≡ true → (a || (b || c)) ≡ true
+      go true b c is = refl
+      go false true c is = refl
+      go false false c is = is
+
+  joined_first : (n number : ℕ) (value : W) (rest : List (ℕ × W)) → n ≡ number → is_joined n ((number, value) ∷ rest) ≡ true
+  joined_first n number value rest same = simp (eq-eqb number n (sym same)) refl
+
+  joined_behind : (n number : ℕ) (value : W) (rest : List (ℕ × W)) → is_joined n rest ≡ true → is_joined n ((number, value) ∷ rest) ≡ true
+  joined_behind n number value rest is = go (number == n) (is_joined n rest) is
+    where
+      go : (a b : Bool) → b ≡ true → (a || b) ≡ true
+      go true b is = refl
+      go false b is = is
+
+  module _ (pick : W → W → W) (m mine others : Memory W) (its : numbers_of mine ≡ numbers_of (split_from m))
+      (spans : Spans (numbers_of (having_split m)) (numbers_of others)) where
+    abbrev pub both : Memory W
+    both = having_joined pick others mine
+
+    no_joined : mine.joined ≡ []
+    no_joined = ap (λ (k : Numbers W). k.joined) its
+
+    none_left : mine.left ≡ 0
+    none_left = ap (λ (k : Numbers W). k.left) its
+
+    its_number : mine.number ≡ m.next
+    its_number = ap (λ (k : Numbers W). k.number) its
+
+    from_others : (n : ℕ) → has_number (numbers_of others) n ≡ true → has_number (numbers_of both) n ≡ true
+    from_others n has =
+        has_so (numbers_of both) n
+        (⊎_elim (λ (own : n ≡ others.number). inl own)
+        (λ (more : IsLeft (numbers_of others) n ⊎ (is_joined n others.joined ≡ true)). inr (⊎_elim
+        (λ (left : IsLeft (numbers_of others) n). let low = left.0 in let up = left.1 in let next = left_still others.left others.next mine.next n low up in inl (omega (arith, next), omega (arith, next, none_left)))
+        (λ (joined : is_joined n others.joined ≡ true). inr (joined_behind n mine.number mine.last (mine.joined ++ others.joined)
+        (subst (λ (z : List (ℕ × W)). is_joined n (z ++ others.joined) ≡ true) (sym no_joined) joined)))
+        more))
+        (ways (numbers_of others) n has))
+
+    pub joined_spans : Spans (numbers_of m) (numbers_of both)
+    joined_spans = record {
+      seats = spans.seats;
+      has =
+          λ n has. ⊎_elim
+          (λ (own : n ≡ m.number). from_others n (spans.has n (has_so (numbers_of (having_split m)) n (inl own))))
+          (λ (more : IsLeft (numbers_of m) n ⊎ (is_joined n m.joined ≡ true)). ⊎_elim
+          (λ (left : IsLeft (numbers_of m) n). dite (ℕ_discrete n m.next)
+          (λ first. has_so (numbers_of both) n (inr (inr (joined_first n mine.number mine.last (mine.joined ++ others.joined) (first ∙ sym its_number)))))
+          (λ later. let low = left.0 in let up = left.1 in from_others n (spans.has n (has_so (numbers_of (having_split m)) n (inr (inl (omega arith, omega arith)))))))
+          (λ (joined : is_joined n m.joined ≡ true). from_others n (spans.has n (has_so (numbers_of (having_split m)) n (inr (inr joined)))))
+          more)
+          (ways (numbers_of m) n has);
+    }
+
+module _ {K S O C D : Type 0} (k : KeeperOf K) (s : EndsOf S) (o : EndsOf O) (reads : C → ℕ → C → Type 0) (door : DoorOf D S O) where
+  numbers_stay : (m : Memory (Served K)) (c : C) (visits : List (Visited K S O C)) (n : Memory (Served K)) (d : C)
+      → InTurn k s o reads m c visits n d → numbers_of n ≡ numbers_of m
+  numbers_stay m c [] n d so = ap (λ (x : Memory (Served K)). numbers_of x) so.0
+  numbers_stay m c (v ∷ visits) n d so =
+      numbers_stay v.memory v.clock visits n d so.1 ∙ ap (λ (x : Memory (Served K)). numbers_of x) so.0.steady_is
+
+  pub work_spans : (connections : ℕ) (m n : Memory (Served K)) (before after : List (Worker D C)) (result : Worked)
+      → WorkBeside (longer (meanings k)) (Works k s o reads door connections) m n before after result → Spans (numbers_of m) (numbers_of n)
+  work_spans connections m n [] [] result so =
+      subst (λ (x : Memory (Served K)). Spans (numbers_of m) (numbers_of x)) (sym so.0) (record { seats = refl; has = λ n has. has })
+  work_spans connections m n [] (b ∷ after) result so = absurd so
+  work_spans connections m n (a ∷ before) [] result so = absurd so
+  work_spans connections m n (a ∷ before) (b ∷ after) result (mine, others, one, rest, works, beside, is, ends) =
+      subst (λ (x : Memory (Served K)). Spans (numbers_of m) (numbers_of x)) (sym is)
+      (joined_spans (longer (meanings k)) m mine others
+      (numbers_stay (split_from m) a.clock works.visits mine b.clock works.in_turn)
+      (work_spans connections (having_split m) others before after rest beside))
+
+  -- the first value stays
+  pub work_begins : (connections : ℕ) (m n : Memory (Served K)) (before after : List (Worker D C)) (result : Worked)
+      → WorkBeside (longer (meanings k)) (Works k s o reads door connections) m n before after result → n.first ≡ m.first
+  work_begins connections m n [] [] result so = ap (λ (x : Memory (Served K)). x.first) so.0
+  work_begins connections m n [] (b ∷ after) result so = absurd so
+  work_begins connections m n (a ∷ before) [] result so = absurd so
+  work_begins connections m n (a ∷ before) (b ∷ after) result (mine, others, one, rest, works, beside, is, ends) =
+      ap (λ (x : Memory (Served K)). x.first) is ∙ work_begins connections (having_split m) others before after rest beside
