@@ -40,6 +40,11 @@ both_door worked.DoorFault rest is = inl refl
 both_door worked.RunFull worked.DoorFault is = inr refl
 both_door worked.RunFull worked.All is = absurd (cc)
 both_door worked.RunFull worked.RunFull is = absurd (cc)
+both_door worked.RunFull worked.Memory is = absurd (cc)
+both_door worked.Memory worked.DoorFault is = inr refl
+both_door worked.Memory worked.RunFull is = absurd (cc)
+both_door worked.Memory worked.All is = absurd (cc)
+both_door worked.Memory worked.Memory is = absurd (cc)
 both_door worked.All other is = inr is
 
 module _ {K I A C D : Type 0} (k : KeeperOf K) (i : EndsOf I) (a : EndsOf A) (reads : C → ℕ → C → Type 0) (door : DoorOf D I A) where
@@ -82,6 +87,7 @@ module _ {K I A C D : Type 0} (k : KeeperOf K) (i : EndsOf I) (a : EndsOf A) (re
     work_says worked.All rose = tt
     work_says worked.DoorFault rose = rose refl
     work_says worked.RunFull rose = tt
+    work_says worked.Memory rose = tt
 
   work_rose : (connections : ℕ) (m n : Memory (Served K)) (before after : List (Worker D C)) (result : Worked)
       → WorkBeside (longer (meanings k)) (Works k i a reads door connections) m n before after result → result ≡ worked.DoorFault

@@ -27,6 +27,7 @@ abbrev pub status_of_work : Worked → Status
 status_of_work worked.All = exit.Done
 status_of_work worked.DoorFault = exit.DoorFault
 status_of_work worked.RunFull = exit.RunFull
+status_of_work worked.Memory = exit.Memory
 
 module _ {K I A C D : Type 0} (k : KeeperOf K) (i : EndsOf I) (a : EndsOf A) (reads : C → ℕ → C → Type 0) (door : DoorOf D I A) where
   -- no site was opened, and no worker did anything

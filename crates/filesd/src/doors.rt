@@ -13,7 +13,6 @@ use nf_desk::{Desk, Opening, Unopened};
 use nf_hub::Hub;
 use nf_keeper::Keeper;
 use nf_outside::Clock;
-use nf_routes::Routes;
 use nf_server::{Door, Worker, serve};
 use std::alloc::Global;
 use std::sync::Wait;
@@ -39,12 +38,8 @@ where
     ensures leaves { IfSome result.site (λ site. Leaves site.kept (K.told result.keeper)) }
     ensures paid { IfSome result.site (λ site. Pays site.kept (K.faults keeper) (K.faults result.keeper)) }
 {
-    let routes = match Routes::new(alloc) {
-        Ok(routes) => routes,
-        Err(_) => return unopened(Status::Memory, keeper),
-    };
     match Desk::open(alloc, keeper, Opening::Kept) {
-        Ok(desk) => serve_over(rt, alloc, &routes, desk, workers, connections),
+        Ok(desk) => serve_over(rt, alloc, desk, workers, connections),
         Err(Unopened { fault, keeper }) => unopened(status_of(fault), keeper),
     }
 }
@@ -53,7 +48,6 @@ where
 fn serve_over<R, K, D, W>(
     rt: &R,
     alloc: Global,
-    routes: &Routes,
     desk: Desk<K>,
     workers: &mut [Worker<D, W>],
     connections: u64,
@@ -75,7 +69,7 @@ where
 {
     match Hub::over(alloc, desk, SEATS) {
         Ok((hub, seat)) => {
-            let (worked, seat) = serve(rt, alloc, routes, &hub, seat, workers, connections);
+            let (worked, seat) = serve(rt, alloc, &hub, seat, workers, connections);
             let (site, keeper) = hub.close(seat);
             Finished {
                 status: status_of_workers(worked),

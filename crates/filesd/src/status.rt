@@ -122,5 +122,6 @@ pub(crate) fn status_of_workers(worked: Worked) -> Status
         Worked::All => Status::Done,
         Worked::DoorFault => Status::DoorFault,
         Worked::RunFull => Status::RunFull,
+        Worked::Memory => Status::Memory,
     }
 }
