@@ -1,10 +1,10 @@
 -- What is left once the one seat of a hub has closed it, or where there was no memory for a hub.
 use Rattle.std.proofs.Common.{◌≡◌, ℕ, List, [], refl, sym, ◌∙◌, ap, subst, inl, inr, arith}
 use Rattle.std.proofs.KnownBytes.{Keeps-refl}
-use Rattle.std.specs.Prelude.{Option, Some}
+use Rattle.std.specs.Prelude.{Option, Some, sum}
 use Rattle.std.specs.declared.snapshot.Snapshot.{Snapshot}
 use Rattle.nf_base.specs.declared.rows.Row.{Row}
-use Rattle.nf_desk.specs.Desk.{Served, shown}
+use Rattle.nf_desk.specs.Desk.{Served, failed_marks, failures, risen, shown}
 use Rattle.nf_http.specs.declared.wire.WireFault.TheVariants as wire
 use Rattle.nf_hub.specs.Closing.{Closes}
 use Rattle.nf_hub.specs.Seats.{book_in, memory_of, steady}
@@ -24,12 +24,12 @@ use Rattle.nf_turn.specs.Seats.{numbers}
 use Rattle.nf_turn.specs.declared.view.Memory.{Memory}
 use Rattle.nf_words.specs.declared.history.Entry.{Entry}
 use Rattle.filesd.specs.Outside.{Outside}
-use Rattle.filesd.specs.Reopening.{Leaves}
-use Rattle.filesd.specs.Seat.{book_of}
+use Rattle.filesd.specs.Reopening.{Leaves, Pays}
+use Rattle.filesd.specs.Seat.{AreOwn, book_of}
 use Rattle.filesd.specs.Session.{ServesDesk, scene_of}
 use Rattle.filesd.specs.declared.status.Status.{Status}
 use Rattle.filesd.specs.declared.status.Status.TheVariants as exit
-use Rattle.filesd.proofs.Leaving.{leaves}
+use Rattle.filesd.proofs.Leaving.{leaves, paid}
 use Rattle.filesd.proofs.Sole.{all_numbers, are_own, is_whole, last_book_is}
 
 -- a session keeps the numbers of its seat
@@ -44,15 +44,20 @@ pub seat_is_whole : {K : Type 0} (k : KeeperOf K) (hub : HubOf (Served K) Entry 
 seat_is_whole {K} k hub seat desk all =
     subst (λ (n : Numbers (Served K)). IsWhole n) (sym all ∙ numbers_known _ seat.turns.place.me) (is_whole desk)
 
+-- what is left of a hub
+pub closing_leaves : {K : Type 0} (k : KeeperOf K) (m : Memory (Served K)) (site : Held) (keeper : K) → Closes k m site keeper
+    → Leaves site.kept (k.told keeper)
+closing_leaves {K} k m site keeper closes =
+    let desk = closes.desk in
+    subst (λ (s : Held). Leaves s.kept (k.told keeper)) (sym closes.site_is)
+    (subst (λ (z : K). Leaves desk.site.kept (k.told z)) (sym closes.keeper_is)
+    (leaves desk.site.kept (k.told desk.keeper) closes.history closes.sound closes.ruled closes.idle closes.is_desk.fit closes.is_desk.told))
+
 module _ {K : Type 0} (k : KeeperOf K) (m : Memory (Served K)) (first : Served K) (all : numbers_of m ≡ all_numbers first)
     (site : Held) (keeper : K) (closes : Closes k m site keeper) where
-  pub closing_leaves : Leaves site.kept (k.told keeper)
-  closing_leaves =
-      let desk = closes.desk in
-      subst (λ (s : Held). Leaves s.kept (k.told keeper)) (sym closes.site_is)
-      (subst (λ (z : K). Leaves desk.site.kept (k.told z)) (sym closes.keeper_is)
-      (leaves desk.site.kept (k.told desk.keeper) closes.history closes.sound closes.ruled (are_own k m first desk all closes.agrees)
-      closes.idle closes.is_desk.fit closes.is_desk.told))
+  pub closing_own : AreOwn site.kept.history
+  closing_own =
+      subst (λ (s : Held). AreOwn s.kept.history) (sym closes.site_is) (are_own k m first closes.desk all closes.agrees)
 
   pub closing_book : book_in k m ≡ book_of site.kept (k.told keeper) (k.faults keeper)
   closing_book =
@@ -60,6 +65,20 @@ module _ {K : Type 0} (k : KeeperOf K) (m : Memory (Served K)) (first : Served K
       last_book_is k m first desk all closes.agrees closes.is_desk
       ∙ ap (λ (z : K). book_of desk.site.kept (k.told z) (k.faults z)) (sym closes.keeper_is)
       ∙ ap (λ (s : Held). book_of s.kept (k.told keeper) (k.faults keeper)) (sym closes.site_is)
+
+-- each failure of the store is paid for since the desk of the first seat was opened
+pub closing_pays : {K : Type 0} (k : KeeperOf K) (m : Memory (Served K)) (first : Served K) (site : Held) (keeper : K) → m.first ≡ first
+    → first.start.value ≡ first.keeper → Closes k m site keeper → Pays site.kept (k.faults first.keeper) (k.faults keeper)
+closing_pays {K} k m first site keeper same start closes =
+    let desk = closes.desk in
+    let began : k.faults desk.start.value ≡ k.faults first.keeper =
+    ap (λ (o : List Row × Snapshot K). k.faults o.1.value) closes.agrees.opening
+    ∙ ap (λ (d : Served K). k.faults d.start.value) same ∙ ap k.faults start in
+    let n = failures (shown k desk) in
+    let pays = paid (k.faults first.keeper) (failed_marks desk.site.kept.history) (sum desk.strikes) n (k.faults desk.keeper) refl
+    (closes.is_desk.counted.is ∙ ap (λ (before : ℕ). risen before n) began) in
+    subst (λ (s : Held). Pays s.kept (k.faults first.keeper) (k.faults keeper)) (sym closes.site_is)
+    (subst (λ (z : K). Pays desk.site.kept (k.faults first.keeper) (k.faults z)) (sym closes.keeper_is) pays)
 
 -- a session between two scenes, by what its seat knew there
 pub session_between : {C : Type 0} (reads : C → ℕ → C → Type 0) (a b : Outside C) (kept : List ℕ) (end : Option Ended) (p q r s : Book)

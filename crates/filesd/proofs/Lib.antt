@@ -7,3 +7,4 @@ pub mod Runs
 pub mod Serving
 pub mod Shown
 pub mod Sole
+pub mod Working

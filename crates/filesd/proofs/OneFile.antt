@@ -46,8 +46,7 @@ use Rattle.nf_told.specs.Told.{Told}
 use Rattle.filesd.specs.OneFile.{IsFileOf, ServesOneFile, fresh_book}
 use Rattle.filesd.specs.Opening.{IsUnopened, WhyUnopened, told_opened}
 use Rattle.filesd.specs.Outside.{Outside}
-use Rattle.filesd.specs.Reopening.{Leaves}
-use Rattle.filesd.specs.Seat.{book_of}
+use Rattle.filesd.specs.Seat.{AreOwn, book_of}
 use Rattle.filesd.specs.Session.{Runs, first_book, scene_of, status_of}
 use Rattle.filesd.specs.declared.status.Status.{Status}
 use Rattle.filesd.specs.declared.status.Status.TheVariants as exit
@@ -289,16 +288,16 @@ unopened_not_done a b status unopened is = subst (λ (z : Status). WhyUnopened a
 
 -- a run over such an input
 pub serves_one : {C : Type 0} (reads : C → ℕ → C → Type 0) (a b : Outside C) (status : Status) (site : Option Held)
-    → Runs reads a b status site → IfSome site (λ site. Leaves site.kept b.told) → ServesOneFile a b status
-serves_one reads a b status None runs leaves =
+    → Runs reads a b status site → IfSome site (λ site. AreOwn site.kept.history) → ServesOneFile a b status
+serves_one reads a b status None runs own =
     λ told input before output h caller spot body tells none left first last done prints file is.
     absurd (unopened_not_done a b status runs done)
-serves_one {C} reads a b status (Some site) runs leaves =
+serves_one {C} reads a b status (Some site) runs own =
     λ told input before output h caller spot body tells none left first last done prints file is.
     let fresh = fresh_is told a.told runs.raws runs.rows a.faults tells (none_loaded told a.told runs.raws tells none runs.loaded) runs.opens in
     let end : runs.end ≡ Some ended.Closed = done_is runs.end (sym done ∙ runs.ended) in
     closed_one reads told a.faults _ _ input before output
     (subst (λ (e : Option Ended). Session reads (scene_of a [] (first_book runs.rows (told_opened runs.raws a.told) a.faults))
     (scene_of b runs.kept (book_of site.kept b.told b.faults)) e) end runs.session)
-    (ap (λ (o : Option (List ℕ)). stream [] o) left) first last fresh (is_alone site.kept b.told b.faults leaves.alone)
+    (ap (λ (o : Option (List ℕ)). stream [] o) left) first last fresh (is_alone site.kept b.told b.faults own)
     h caller spot body prints file is

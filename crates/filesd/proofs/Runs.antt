@@ -28,6 +28,7 @@ end_named exit.ReadFault = Some (Some ended.ReadFault)
 end_named exit.WriteFault = Some (Some ended.WriteFault)
 end_named exit.Memory = Some (Some ended.Memory)
 end_named exit.Cut = None
+end_named exit.DoorFault = None
 end_named exit.StoreFault = None
 end_named (exit.BadRows fault) = None
 end_named exit.Words = None

@@ -13,7 +13,6 @@ use Rattle.nf_outside.specs.Causes.{Rose}
 use Rattle.nf_rows.specs.Spelling.{Raw}
 use Rattle.nf_rules.specs.Rules.{AreUnbroken}
 use Rattle.nf_session.proofs.Causes.{session_follows}
-use Rattle.nf_session.proofs.Strikes.{session_counts}
 use Rattle.nf_session.specs.Book.{Book, own_from}
 use Rattle.nf_session.specs.Session.{Session}
 use Rattle.nf_site.specs.Demo.{demo_rows}
@@ -25,13 +24,11 @@ use Rattle.nf_words.specs.declared.history.Entry.{Entry}
 use Rattle.filesd.specs.Opening.{IsUnopened, WhyUnopened, demo_blob, told_opened}
 use Rattle.filesd.specs.Opening as opening
 use Rattle.filesd.specs.Outside.{Outside}
-use Rattle.filesd.specs.Reopening.{Leaves, Pays}
-use Rattle.filesd.specs.Seat.{book_of, seat}
+use Rattle.filesd.specs.Seat.{AreOwn, book_of, seat}
 use Rattle.filesd.specs.Session.{Runs, ServesDesk, first_book, scene_of}
 use Rattle.filesd.specs.declared.status.Status.{Status}
 use Rattle.filesd.specs.declared.status.Status.TheVariants as exit
 use Rattle.filesd.proofs.Alone.{is_alone}
-use Rattle.filesd.proofs.Leaving.{own_paid}
 use Rattle.filesd.proofs.Runs.{has_room, read_rose, write_rose}
 
 -- what is told once the demonstration rows are the first
@@ -75,21 +72,13 @@ module _ {C : Type 0} (reads : C → ℕ → C → Type 0) (a b : Outside C) (st
     opening = (session_follows reads _ _ end session).lasts.opening;
   }
 
-  -- each failure of the store in it is paid for
-  pub serving_pays : (site : Option Held) → desk.site.history ≡ [] → ServesDesk reads desk a b status site
-      → IfSome site (λ site. Pays site.kept desk.faults b.faults)
-  serving_pays None none never = absurd never
-  serving_pays (Some site) none (end, kept, ended, few, session) =
-      own_paid (book_of desk.site desk.told desk.faults) (book_of site.kept b.told b.faults) _ (none_own desk.site none)
-      (session_counts reads _ _ end session)
-
-  -- and it never finds the run full
+  -- it never finds the run full
   pub serving_has_room : (site : Option Held) → desk.site.history ≡ [] → ServesDesk reads desk a b status site
-      → IfSome site (λ site. Leaves site.kept b.told) → status ≡ exit.RunFull → ⊥
-  serving_has_room None none never leaves full = never
-  serving_has_room (Some site) none (end, kept, ended, few, session) leaves full =
+      → IfSome site (λ site. AreOwn site.kept.history) → status ≡ exit.RunFull → ⊥
+  serving_has_room None none never own full = never
+  serving_has_room (Some site) none (end, kept, ended, few, session) own full =
       has_room reads _ _ end status session ended (record { known = none; own = none_own desk.site none })
-      (is_alone site.kept b.told b.faults leaves.alone) full
+      (is_alone site.kept b.told b.faults own) full
 
 -- ---- faults of the ends
 

@@ -1,3 +1,4 @@
+pub mod Doors
 pub mod Seat
 pub mod Statuses
 pub mod Outside

@@ -1,6 +1,9 @@
 //! The top call: what the words of the command line ask for, over a keeper, from the bytes of requests to the bytes of answers.
 #![tactic(auto)]
 
+#[cfg(test)]
+mod door_tests;
+mod doors;
 pub mod laws;
 mod opening;
 mod running;

@@ -1,22 +1,25 @@
 //! The top call.
 
-ghost use Rattle.std.specs.Prelude.{◌≡◌, ◌≢◌, ◌≤◌, ◌⊎◌, ℕ, List, map, [], IfSome, None, Some};
+ghost use Rattle.std.specs.Prelude.{◌≡◌, ◌≢◌, ◌<◌, ◌≤◌, ◌⊎◌, ℕ, length, List, map, [], IfSome, None, Some};
 ghost use Rattle.std.specs.String.{string_bytes};
 ghost use Rattle.nf_base.specs.Naming.{IsName};
-ghost use Rattle.nf_command.specs.Command.{IsBatch, IsCommand, IsInit};
+ghost use Rattle.nf_command.specs.Command.{IsBatch, IsCommand, IsInit, IsServe, IsSomeServe};
 ghost use Rattle.nf_command.specs.First.{first_rows, init_rows};
 ghost use Rattle.nf_command.specs.Reading.{IsNearlyInit};
 ghost use Rattle.nf_desk.specs.Desk.{meanings, shown};
 ghost use Rattle.nf_outside.specs.Causes.{Rose};
 ghost use Rattle.nf_rules.specs.Rules.{most_quota};
 ghost use Rattle.nf_turn.specs.Book.{IsFresh};
+ghost use Rattle.filesd.specs.Doors.{OneRose, RunsDoors};
 ghost use Rattle.filesd.specs.Init.{Inits, IsSomeDigest};
 ghost use Rattle.filesd.specs.OneFile.{ServesOneFile};
 ghost use Rattle.filesd.specs.Outside.{outlet, outside};
 ghost use Rattle.filesd.specs.Reopening.{Leaves, Pays};
+ghost use Rattle.filesd.specs.Seat.{AreOwn};
 ghost use Rattle.filesd.specs.Session.{DoesNothing, Runs, ServesDesk};
 ghost use Rattle.filesd.specs.declared.status.Status.TheVariants as exit;
 
+use crate::doors::serve_doors;
 use crate::opening::{demonstration, status_of as status_of_fault};
 use crate::status::{Status, status_of};
 use nf_command::{Command, Init, command_of, init_rows};
@@ -26,13 +29,14 @@ use nf_hub::Hub;
 use nf_keeper::Keeper;
 use nf_outside::{Clock, Sink, Source};
 use nf_routes::Routes;
-use nf_server::{Served, serve_ends};
+use nf_server::{Door, Served, Worker, serve_ends};
 use nf_site::Site;
 use std::alloc::Global;
 use std::sync::Wait;
+use std::thread::Threads;
 
 /// How many seats a run has.
-const SEATS: usize = 64;
+pub(crate) const SEATS: usize = 64;
 
 /// What is left of a run: how it ended, the keeper, and the site, if one was opened.
 #[derive(Drop)]
@@ -43,10 +47,11 @@ pub struct Finished<K: Drop> {
 }
 
 /// What the program does by its words: `batch` serves the input and the output as one session over the rows that the keeper has, or over
-/// the demonstration rows, which it stores first where the keeper has none. `init` stores the rows of one administrator.
+/// the demonstration rows, which it stores first where the keeper has none. `init` stores the rows of one administrator. `serve` serves
+/// the connections of the workers' doors over the rows that the keeper has.
 ///
 /// The site after the run is handed out with its history, but where none was opened.
-pub fn run<R: Wait, S: Source, O: Sink, K: Keeper + Drop, C: Clock>(
+pub fn run<R, S, O, K, C, D, W>(
     rt: &R,
     alloc: Global,
     words: &[String],
@@ -54,7 +59,19 @@ pub fn run<R: Wait, S: Source, O: Sink, K: Keeper + Drop, C: Clock>(
     output: &mut O,
     keeper: K,
     clock: &mut C,
+    workers: &mut [Worker<D, W>],
 ) -> Finished<K>
+where
+    R: Threads + Wait + Sync,
+    S: Source,
+    O: Sink,
+    K: Keeper + Drop + Send,
+    C: Clock,
+    D: Door + Drop + Send,
+    W: Clock + Drop + Send,
+    D::Source: Send,
+    D::Sink: Send,
+    requires workers { length workers.old < 64 }
     ensures words { result.status ≡ exit.Words → IsCommand (map string_bytes words.now) → ⊥ }
     // Memory can be wanting for the name of an `init` that is right but for its name.
     ensures no_command { (IsCommand (map string_bytes words.now) → ⊥)
@@ -65,6 +82,13 @@ pub fn run<R: Wait, S: Source, O: Sink, K: Keeper + Drop, C: Clock>(
     ensures init { (name token : List ℕ) (quota : ℕ) → IsInit (map string_bytes words.now) name token quota → Inits (init_rows name token quota)
         (outside S.Ends O.Ends K.Keeper input.old output.old keeper clock.old)
         (outside S.Ends O.Ends K.Keeper input.new output.new result.keeper clock.new) result.status result.site }
+    ensures serve { (n : ℕ) → IsServe (map string_bytes words.now) n
+        → RunsDoors K.Keeper D.Source.Ends D.Sink.Ends W.reads D.Door n keeper result.keeper workers.old workers.new result.status result.site }
+    // A `serve` uses neither the input, nor the output, nor the clock; and no other command uses the workers.
+    ensures apart { IsSomeServe (map string_bytes words.now)
+        → outside S.Ends O.Ends K.Keeper input.new output.new result.keeper clock.new
+        ≡ record (outside S.Ends O.Ends K.Keeper input.old output.old keeper clock.old) { told = K.told result.keeper; faults = K.faults result.keeper } }
+    ensures workers { (IsSomeServe (map string_bytes words.now) → ⊥) → workers.new ≡ workers.old }
     ensures nothing { (IsCommand (map string_bytes words.now) → ⊥) → DoesNothing
         (outside S.Ends O.Ends K.Keeper input.old output.old keeper clock.old)
         (outside S.Ends O.Ends K.Keeper input.new output.new result.keeper clock.new) result.site }
@@ -72,7 +96,9 @@ pub fn run<R: Wait, S: Source, O: Sink, K: Keeper + Drop, C: Clock>(
     // The site at the end, and what the keeper tells then: its rows, and blobs that are whole for it.
     ensures leaves { IfSome result.site (λ site. Leaves site.kept (K.told result.keeper)) }
     ensures paid { IfSome result.site (λ site. Pays site.kept (K.faults keeper) (K.faults result.keeper)) }
-    ensures room { result.status ≢ exit.RunFull }
+    // But for a `serve`, all entries are those of the one seat.
+    ensures alone { (IsSomeServe (map string_bytes words.now) → ⊥) → IfSome result.site (λ site. AreOwn site.kept.history) }
+    ensures room { IsBatch (map string_bytes words.now) → result.status ≢ exit.RunFull }
 
     // One GET of a file, said without the session.
     ensures one_file { IsBatch (map string_bytes words.now) → ServesOneFile
@@ -82,10 +108,18 @@ pub fn run<R: Wait, S: Source, O: Sink, K: Keeper + Drop, C: Clock>(
     ensures read { result.status ≡ exit.ReadFault → Rose (S.read_faults input.old) (S.read_faults input.new) }
     ensures write { result.status ≡ exit.WriteFault → Rose (O.write_faults output.old) (O.write_faults output.new) }
     ensures store { result.status ≡ exit.StoreFault → Rose (K.faults keeper) (K.faults result.keeper) }
+    ensures door { result.status ≡ exit.DoorFault → OneRose D.Door workers.old workers.new }
 {
     match command_of(alloc, words) {
         Ok(Some(Command::Batch)) => batch(rt, alloc, input, output, keeper, clock),
         Ok(Some(Command::Init(init))) => initialize(alloc, &init, output, keeper),
+        Ok(Some(Command::Serve { connections })) => serve_doors(
+            rt,
+            alloc,
+            keeper,
+            workers,
+            connections,
+        ),
         Ok(None) => unopened(Status::Words, keeper),
         Err(_) => unopened(Status::Memory, keeper),
     }
@@ -105,6 +139,7 @@ fn batch<R: Wait, S: Source, O: Sink, K: Keeper + Drop, C: Clock>(
         (outside S.Ends O.Ends K.Keeper input.new output.new result.keeper clock.new) result.status result.site }
     ensures leaves { IfSome result.site (λ site. Leaves site.kept (K.told result.keeper)) }
     ensures paid { IfSome result.site (λ site. Pays site.kept (K.faults keeper) (K.faults result.keeper)) }
+    ensures alone { IfSome result.site (λ site. AreOwn site.kept.history) }
     ensures room { result.status ≢ exit.RunFull }
 {
     let first = match demonstration(alloc) {
@@ -138,6 +173,8 @@ fn serve_desk<R: Wait, S: Source, O: Sink, K: Keeper + Drop, C: Clock>(
         (outside S.Ends O.Ends K.Keeper input.old output.old desk.keeper clock.old)
         (outside S.Ends O.Ends K.Keeper input.new output.new result.keeper clock.new) result.status result.site }
     ensures leaves { IfSome result.site (λ site. Leaves site.kept (K.told result.keeper)) }
+    ensures paid { IfSome result.site (λ site. Pays site.kept (K.faults desk.keeper) (K.faults result.keeper)) }
+    ensures alone { IfSome result.site (λ site. AreOwn site.kept.history) }
 {
     match Hub::over(alloc, desk, SEATS) {
         Ok((hub, seat)) => {
@@ -169,6 +206,7 @@ fn initialize<O: Sink, K: Keeper + Drop>(
         (outlet O.Ends K.Keeper output.old keeper) (outlet O.Ends K.Keeper output.new result.keeper) result.status result.site }
     ensures leaves { IfSome result.site (λ site. Leaves site.kept (K.told result.keeper)) }
     ensures paid { IfSome result.site (λ site. Pays site.kept (K.faults keeper) (K.faults result.keeper)) }
+    ensures alone { IfSome result.site (λ site. AreOwn site.kept.history) }
 {
     let rows = match init_rows(alloc, init) {
         Ok(rows) => rows,
@@ -184,12 +222,14 @@ fn initialize<O: Sink, K: Keeper + Drop>(
 }
 
 /// A desk at which no seat did anything.
-fn handed_out<K: Keeper + Drop>(status: Status, desk: Desk<K>) -> Finished<K>
+pub(crate) fn handed_out<K: Keeper + Drop>(status: Status, desk: Desk<K>) -> Finished<K>
     requires history { desk.site.kept.history ≡ [] }
     ensures status { result.status ≡ status }
     ensures keeper { result.keeper ≡ desk.keeper }
     ensures site { result.site ≡ Some desk.site }
     ensures leaves { Leaves desk.site.kept (K.told desk.keeper) }
+    ensures paid { Pays desk.site.kept (K.faults desk.keeper) (K.faults desk.keeper) }
+    ensures alone { AreOwn desk.site.kept.history }
 {
     let (site, keeper) = desk.into_parts();
     Finished {
@@ -199,7 +239,7 @@ fn handed_out<K: Keeper + Drop>(status: Status, desk: Desk<K>) -> Finished<K>
     }
 }
 
-fn unopened<K: Keeper + Drop>(status: Status, keeper: K) -> Finished<K>
+pub(crate) fn unopened<K: Keeper + Drop>(status: Status, keeper: K) -> Finished<K>
     ensures { result ≡ record { status = status; keeper = keeper; site = None } }
 {
     Finished {

@@ -1,10 +1,12 @@
 //! How a run ends.
 
 ghost use Rattle.std.specs.Prelude.{◌≡◌};
+ghost use Rattle.filesd.specs.Doors.{status_of_work};
 ghost use Rattle.filesd.specs.Session.{status_of as status_by};
 ghost use Rattle.filesd.specs.Statuses.{code_of, word_of};
 
 use nf_rows::RowFault;
+use nf_server::Worked;
 use nf_session::Ended;
 
 /// Why the rows that a keeper has are none to run over.
@@ -39,6 +41,8 @@ pub enum Status {
     BadMessage,
     /// A file that was being sent broke off, since the keeper had not all of it.
     Cut,
+    /// A door failed, and counted it.
+    DoorFault,
     /// There was no memory.
     Memory,
     /// The run has no room for two more entries.
@@ -63,6 +67,7 @@ impl Status {
             Status::Words => 5,
             Status::BadMessage => 6,
             Status::Cut => 7,
+            Status::DoorFault => 8,
             Status::Memory => 9,
             Status::RunFull => 10,
             Status::Budget => 11,
@@ -83,6 +88,7 @@ impl Status {
             Status::Words => "words",
             Status::BadMessage => "badmessage",
             Status::Cut => "cut",
+            Status::DoorFault => "doorfault",
             Status::Memory => "memory",
             Status::RunFull => "runfull",
             Status::Budget => "budget",
@@ -105,5 +111,17 @@ pub(crate) fn status_of(end: Option<Ended>) -> Status
         Some(Ended::ReadFault) => Status::ReadFault,
         Some(Ended::WriteFault) => Status::WriteFault,
         Some(Ended::Memory) => Status::Memory,
+    }
+}
+
+/// The status of the workers' end.
+pub(crate) fn status_of_workers(worked: Worked) -> Status
+    ensures { result ≡ status_of_work worked }
+{
+    match worked {
+        Worked::All => Status::Done,
+        Worked::DoorFault => Status::DoorFault,
+        Worked::RunFull => Status::RunFull,
+        Worked::Memory => Status::Memory,
     }
 }

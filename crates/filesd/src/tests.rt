@@ -4,9 +4,11 @@ use crate::running::{Finished, run};
 use crate::status::Status;
 use nf_keeper::MemKeeper;
 use nf_outside::{ListClock, MemSink, MemSource};
+use nf_server::{MemDoor, Worker};
 use std::alloc::{AllocError, Global};
 use std::sync::Wait;
 use std::test::Fail;
+use std::thread::Threads;
 
 const GET_HELLO: &str =
     "GET /remote.php/dav/files/alice/hello.txt HTTP/1.1\r\nAuthorization: Bearer alice-1\r\n\r\n";
@@ -25,6 +27,12 @@ fn source(alloc: Global, text: &str) -> Result<MemSource, AllocError> {
     ))
 }
 
+type NoWorker = Worker<MemDoor<MemSource, MemSink>, ListClock>;
+
+fn no_workers() -> [NoWorker; 0] {
+    []
+}
+
 fn words_of(alloc: Global, words: &[&str]) -> Result<Vec<String>, AllocError> {
     let mut list = Vec::new(alloc);
     for word in words {
@@ -34,7 +42,7 @@ fn words_of(alloc: Global, words: &[&str]) -> Result<Vec<String>, AllocError> {
 }
 
 /// A run of `batch` over a keeper, and what it wrote.
-fn batch<R: Wait>(
+fn batch<R: Threads + Wait + Sync>(
     rt: &R,
     alloc: Global,
     keeper: MemKeeper,
@@ -52,6 +60,7 @@ fn batch<R: Wait>(
         &mut output,
         keeper,
         &mut clock,
+        &mut no_workers(),
     );
     Ok((finished, output.bytes().to_vec(alloc)?))
 }
@@ -81,6 +90,7 @@ fn other_words_are_no_command(rt: HostRuntime) -> Result<(), Fail> {
             &mut output,
             keeper,
             &mut clock,
+            &mut no_workers(),
         );
         assert!(rt; finished.status == Status::Words, "at {case:?}");
         assert!(rt; finished.site.is_none());
@@ -117,6 +127,7 @@ fn faults_of_the_outside(rt: HostRuntime) -> Result<(), Fail> {
             &mut output,
             keeper,
             &mut clock,
+            &mut no_workers(),
         );
         assert!(rt; finished.status == status);
         assert_eq!(rt; output.bytes().len(), count);

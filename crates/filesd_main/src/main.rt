@@ -1,6 +1,7 @@
 //! The file server's program.
 #![tactic(auto)]
 
+use crate::listening::workers;
 use filesd::{Finished, Status, run};
 use nf_keeper::{Keeper, MemKeeper};
 use nf_keeper_sql::SqlKeeper;
@@ -9,7 +10,9 @@ use sqlite::{Connection, Error, ErrorCode};
 use std::env::{self, VarError};
 use std::process::ExitCode;
 use std::sync::Wait;
+use std::thread::Threads;
 
+mod listening;
 #[cfg(test)]
 mod tests;
 
@@ -24,7 +27,7 @@ fn main(rt: HostRuntime) -> ExitCode {
 }
 
 /// Over the file that FILESD_STORE names, or else over a keeper in memory. `turns` is the same runtime, as what may wait for turns.
-fn serve<W: Wait>(rt: &HostRuntime, turns: &W) -> Status {
+fn serve<W: Threads + Wait + Sync>(rt: &HostRuntime, turns: &W) -> Status {
     match env::var(rt, "FILESD_STORE") {
         Ok(path) => serve_file(rt, turns, &path),
         Err(VarError::NotPresent) => serve_memory(rt, turns),
@@ -36,14 +39,14 @@ fn serve<W: Wait>(rt: &HostRuntime, turns: &W) -> Status {
     }
 }
 
-fn serve_memory<W: Wait>(rt: &HostRuntime, turns: &W) -> Status {
+fn serve_memory<W: Threads + Wait + Sync>(rt: &HostRuntime, turns: &W) -> Status {
     match MemKeeper::new(rt.alloc(), &[]) {
         Ok(keeper) => serve_over(rt, turns, keeper).status,
         Err(_) => Status::Memory,
     }
 }
 
-fn serve_file<W: Wait>(rt: &HostRuntime, turns: &W, path: &str) -> Status {
+fn serve_file<W: Threads + Wait + Sync>(rt: &HostRuntime, turns: &W, path: &str) -> Status {
     let connection = match Connection::open(rt, path) {
         Ok(connection) => connection,
         Err(Error::SqliteFailure(ErrorCode::OutOfMemory)) => return Status::Memory,
@@ -60,14 +63,18 @@ fn serve_file<W: Wait>(rt: &HostRuntime, turns: &W, path: &str) -> Status {
     finished.status
 }
 
-fn serve_over<W: Wait, K: Keeper + Drop>(rt: &HostRuntime, turns: &W, keeper: K) -> Finished<K> {
+fn serve_over<W: Threads + Wait + Sync, K: Keeper + Drop + Send>(
+    rt: &HostRuntime,
+    turns: &W,
+    keeper: K,
+) -> Finished<K> {
     let clock: Result<_, _> = rt.clone();
     let (Ok(words), Ok(clock)) = (words(rt), clock) else {
-        return Finished {
-            status: Status::Memory,
-            keeper,
-            site: None,
-        };
+        return unopened(Status::Memory, keeper);
+    };
+    let mut workers = match workers(rt, &words) {
+        Ok(workers) => workers,
+        Err(status) => return unopened(status, keeper),
     };
     run(
         turns,
@@ -77,7 +84,16 @@ fn serve_over<W: Wait, K: Keeper + Drop>(rt: &HostRuntime, turns: &W, keeper: K)
         &mut Output::new(rt.stdout()),
         keeper,
         &mut RealClock::new(clock),
+        &mut workers,
     )
+}
+
+fn unopened<K: Keeper + Drop>(status: Status, keeper: K) -> Finished<K> {
+    Finished {
+        status,
+        keeper,
+        site: None,
+    }
 }
 
 // The words after the program's own name.

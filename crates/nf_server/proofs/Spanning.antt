@@ -112,3 +112,12 @@ module _ {K S O C D : Type 0} (k : KeeperOf K) (s : EndsOf S) (o : EndsOf O) (re
       (joined_spans (longer (meanings k)) m mine others
       (numbers_stay (split_from m) a.clock works.visits mine b.clock works.in_turn)
       (work_spans connections (having_split m) others before after rest beside))
+
+  -- the first value stays
+  pub work_begins : (connections : ℕ) (m n : Memory (Served K)) (before after : List (Worker D C)) (result : Worked)
+      → WorkBeside (longer (meanings k)) (Works k s o reads door connections) m n before after result → n.first ≡ m.first
+  work_begins connections m n [] [] result so = ap (λ (x : Memory (Served K)). x.first) so.0
+  work_begins connections m n [] (b ∷ after) result so = absurd so
+  work_begins connections m n (a ∷ before) [] result so = absurd so
+  work_begins connections m n (a ∷ before) (b ∷ after) result (mine, others, one, rest, works, beside, is, ends) =
+      ap (λ (x : Memory (Served K)). x.first) is ∙ work_begins connections (having_split m) others before after rest beside

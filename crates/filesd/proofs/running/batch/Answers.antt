@@ -4,7 +4,7 @@ use Rattle.nf_desk.specs.Desk.{shown}
 use Rattle.filesd.specs.Outside.{outside}
 use Rattle.filesd.specs.Reopening.{Pays}
 use Rattle.filesd.proofs.Beginning.{demo_first}
-use Rattle.filesd.proofs.Serving.{serves, serving_has_room, serving_pays}
+use Rattle.filesd.proofs.Serving.{serves, serving_has_room}
 use Rattle.filesd.proofs.running.batch.Goals as goal
 
 pub open-requires : goal.open-requires
@@ -20,10 +20,9 @@ pub returns-in-Ok-open-clause-paid : goal.returns-in-Ok-open-clause-paid
 returns-in-Ok-open-clause-paid g c =
     let opened = c.in-Ok-open.ensures in
     subst (λ (n : ℕ). IfSome c.serve_desk.result.site (λ site. Pays site.kept n (g.K.Keeper.faults c.serve_desk.result.keeper))) opened.uncounted
-    (serving_pays g.C.Clock.reads (outside g.S.Ends g.O.Ends g.K.Keeper c.args.input.now c.args.output.now c.args.keeper c.args.clock.now) _ c.serve_desk.result.status (shown g.K.Keeper c.in-Ok-open.desk) c.serve_desk.result.site
-    opened.fresh.no_entries c.serve_desk.ensures.session)
+    c.serve_desk.ensures.paid
 
 pub returns-in-Ok-open-clause-room : goal.returns-in-Ok-open-clause-room
 returns-in-Ok-open-clause-room g c =
     serving_has_room g.C.Clock.reads (outside g.S.Ends g.O.Ends g.K.Keeper c.args.input.now c.args.output.now c.args.keeper c.args.clock.now) _ c.serve_desk.result.status (shown g.K.Keeper c.in-Ok-open.desk) c.serve_desk.result.site
-    c.in-Ok-open.ensures.fresh.no_entries c.serve_desk.ensures.session c.serve_desk.ensures.leaves
+    c.in-Ok-open.ensures.fresh.no_entries c.serve_desk.ensures.session c.serve_desk.ensures.alone

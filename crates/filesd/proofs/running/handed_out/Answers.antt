@@ -9,7 +9,8 @@ pub returns-clause-leaves : goal.returns-clause-leaves
 returns-clause-leaves g c =
     let said = c.into_parts-site.ensures in
     let k = c.args.desk.site.kept in
-    let none = c.requires.history in
-    leaves k (g.K.Keeper.told c.args.desk.keeper) said.history said.sound said.ruled
-    (subst (λ (es : List Entry). AreOwn es) (sym none) (All-nil (λ (e : Entry). e.seat ≡ seat)))
-    (none_granted k said.history none) said.desk.fit said.desk.told
+    leaves k (g.K.Keeper.told c.args.desk.keeper) said.history said.sound said.ruled (none_granted k said.history c.requires.history) said.desk.fit said.desk.told
+
+pub returns-clause-alone : goal.returns-clause-alone
+returns-clause-alone g c =
+    subst (λ (es : List Entry). AreOwn es) (sym c.requires.history) (All-nil (λ (e : Entry). e.seat ≡ seat))

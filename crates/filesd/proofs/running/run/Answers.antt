@@ -1,23 +1,26 @@
-use Rattle.std.proofs.Common.{List, subst}
+use Rattle.std.proofs.Common.{List, subst, ℕ}
 use Rattle.std.specs.Prelude.{Option, Some, Result, Ok, map}
 use Rattle.std.specs.String.{string_bytes}
 use Rattle.std.specs.declared.alloc.AllocError.{AllocError}
 use Rattle.nf_base.specs.declared.rows.Row.{Row}
-use Rattle.nf_command.proofs.Readings.{init_is_read}
+use Rattle.nf_command.proofs.Readings.{init_is_read, serve_is_read}
 use Rattle.nf_command.specs.First.{init_rows}
 use Rattle.nf_command.specs.Reading.{ReadsCommand}
 use Rattle.nf_command.specs.declared.command.Command.{Command}
 use Rattle.nf_command.specs.declared.command.Command.TheVariants as commands
+use Rattle.filesd.specs.Doors.{RunsDoors}
 use Rattle.filesd.specs.Init.{Inits}
 use Rattle.filesd.specs.Outside.{outlet}
+use Rattle.filesd.specs.declared.status.Status.{Status}
 use Rattle.filesd.proofs.Beginning.{inits_beside, rows_are}
+use Rattle.filesd.proofs.Working.{Says, runs_say}
 use Rattle.filesd.proofs.OneFile.{serves_one}
 use Rattle.filesd.proofs.Serving.{runs_read, runs_write}
 use Rattle.filesd.proofs.running.run.Goals as goal
 
 pub returns-in-Ok-Some-Batch-clause-one_file : goal.returns-in-Ok-Some-Batch-clause-one_file
 returns-in-Ok-Some-Batch-clause-one_file g c = λ batch.
-    serves_one g.C.Clock.reads _ _ c.batch.result.status c.batch.result.site c.batch.ensures.runs c.batch.ensures.leaves
+    serves_one g.C.Clock.reads _ _ c.batch.result.status c.batch.result.site c.batch.ensures.runs c.batch.ensures.alone
 
 pub returns-in-Ok-Some-Batch-clause-read : goal.returns-in-Ok-Some-Batch-clause-read
 returns-in-Ok-Some-Batch-clause-read g c =
@@ -43,3 +46,22 @@ returns-in-Ok-Some-Init-clause-init g c = λ name token quota is.
     (outlet g.O.Ends g.K.Keeper c.args.output.now c.args.keeper)
     (outlet g.O.Ends g.K.Keeper c.initialize.new.output c.initialize.result.keeper)
     c.initialize.result.status c.initialize.result.site) rows c.initialize.ensures.inits)
+
+pub returns-in-Ok-Some-Serve-clause-serve : goal.returns-in-Ok-Some-Serve-clause-serve
+returns-in-Ok-Some-Serve-clause-serve g c = λ n is.
+    let connections = c.in-Ok-Some-Serve.connections in
+    let words = map string_bytes c.args.words.now in
+    let read : ReadsCommand words (Ok (Some (commands.Serve connections))) =
+    subst (λ (command : Command). ReadsCommand words (Ok (Some command))) c.in-Ok-Some-Serve.field-0-0-is
+    (subst (λ (command : Option Command). ReadsCommand words (Ok command)) c.in-Ok-Some-Serve.field-0-is
+    (subst (λ (read : Result (Option Command) AllocError). ReadsCommand words read) c.in-Ok-Some-Serve.is c.command_of.ensures)) in
+    subst (λ (count : ℕ). RunsDoors g.K.Keeper g.D.Source.Ends g.D.Sink.Ends g.W.Clock.reads g.D.Door count c.args.keeper
+    c.serve_doors.result.keeper c.args.workers.now c.serve_doors.new.workers c.serve_doors.result.status c.serve_doors.result.site)
+    (serve_is_read words n (Ok (Some (commands.Serve connections))) is read) c.serve_doors.ensures.runs
+
+pub returns-in-Ok-Some-Serve-clause-door : goal.returns-in-Ok-Some-Serve-clause-door
+returns-in-Ok-Some-Serve-clause-door g c = λ is.
+    subst (λ (s : Status). Says g.K.Keeper g.D.Source.Ends g.D.Sink.Ends g.W.Clock.reads g.D.Door c.args.keeper c.serve_doors.result.keeper
+    c.args.workers.now c.serve_doors.new.workers s) is
+    (runs_say g.K.Keeper g.D.Source.Ends g.D.Sink.Ends g.W.Clock.reads g.D.Door c.in-Ok-Some-Serve.connections c.args.keeper
+    c.serve_doors.result.keeper _ _ c.serve_doors.result.status c.serve_doors.result.site c.serve_doors.ensures.runs)

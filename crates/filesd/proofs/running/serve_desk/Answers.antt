@@ -4,7 +4,7 @@ use Rattle.nf_hub.specs.Seats.{book_in, memory_of}
 use Rattle.nf_session.specs.Book.{held}
 use Rattle.nf_turn.specs.declared.view.Memory.{Memory}
 use Rattle.filesd.specs.Outside.{outside}
-use Rattle.filesd.proofs.Closing.{closing_book, closing_leaves, numbers_stay, seat_is_whole, serves_none, session_between}
+use Rattle.filesd.proofs.Closing.{closing_book, closing_leaves, closing_own, closing_pays, numbers_stay, seat_is_whole, serves_none, session_between}
 use Rattle.filesd.proofs.Sole.{first_book_is, first_idle}
 use Rattle.filesd.proofs.running.serve_desk.Goals as goal
 
@@ -42,9 +42,21 @@ returns-in-Ok-clause-session g c =
 pub returns-in-Ok-clause-leaves : goal.returns-in-Ok-clause-leaves
 returns-in-Ok-clause-leaves g c =
     let last = memory_of g.K.Keeper c.in-Ok.hub c.serve_ends-ended.result.seat in
+    closing_leaves g.K.Keeper last c.close-site.result.0 c.close-site.result.1 c.close-site.ensures.closes
+
+pub returns-in-Ok-clause-paid : goal.returns-in-Ok-clause-paid
+returns-in-Ok-clause-paid g c =
+    let last = memory_of g.K.Keeper c.in-Ok.hub c.serve_ends-ended.result.seat in
+    let same = ap (λ (m : Memory (Served g.row.K.Denot)). m.first) c.serve_ends-ended.ensures.steady
+    ∙ ap (λ (m : Memory (Served g.row.K.Denot)). m.first) c.in-Ok.ensures.memory in
+    closing_pays g.K.Keeper last c.args.desk c.close-site.result.0 c.close-site.result.1 same c.requires.start c.close-site.ensures.closes
+
+pub returns-in-Ok-clause-alone : goal.returns-in-Ok-clause-alone
+returns-in-Ok-clause-alone g c =
+    let last = memory_of g.K.Keeper c.in-Ok.hub c.serve_ends-ended.result.seat in
     let all = numbers_stay last (memory_of g.K.Keeper c.in-Ok.hub c.in-Ok.seat) c.args.desk
     c.serve_ends-ended.ensures.steady c.in-Ok.ensures.memory in
-    closing_leaves g.K.Keeper last c.args.desk all c.close-site.result.0 c.close-site.result.1 c.close-site.ensures.closes
+    closing_own g.K.Keeper last c.args.desk all c.close-site.result.0 c.close-site.result.1 c.close-site.ensures.closes
 
 pub returns-in-Err-clause-session : goal.returns-in-Err-clause-session
 returns-in-Err-clause-session g c =
