@@ -16,6 +16,7 @@ use reading::case_of;
 use running::{Keepers, serve};
 use std::process::ExitCode;
 use std::sync::Wait;
+use std::thread::Threads;
 use std::{env, fs, io};
 use tally::{Judged, Tally};
 
@@ -36,7 +37,7 @@ fn main(rt: HostRuntime) -> ExitCode {
 }
 
 // `turns` is the same runtime, as what may wait for turns.
-fn check_all<W: Wait>(rt: &HostRuntime, turns: &W) -> io::Result<Tally> {
+fn check_all<W: Threads + Wait + Sync>(rt: &HostRuntime, turns: &W) -> io::Result<Tally> {
     let folder = folder_named(rt)?;
     let names = folder::names(rt, folder.as_str())?;
     let mut judged = Vec::new(rt.alloc());
@@ -60,7 +61,7 @@ fn folder_named(rt: &HostRuntime) -> io::Result<String> {
 }
 
 // Makes the runs of one case, each over what the one before it left, and prints a line for each that differs.
-fn check_case<W: Wait>(
+fn check_case<W: Threads + Wait + Sync>(
     rt: &HostRuntime,
     turns: &W,
     folder: &str,

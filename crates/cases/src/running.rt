@@ -6,8 +6,10 @@ use filesd::{Finished, run};
 use nf_base::BlobId;
 use nf_keeper::MemKeeper;
 use nf_outside::{ListClock, MemSink, MemSource};
+use nf_server::{MemDoor, Worker};
 use std::alloc::{AllocError, Global};
 use std::sync::Wait;
+use std::thread::Threads;
 
 /// How many messages a session answers at most.
 const MOST_MESSAGES: usize = 10_000;
@@ -50,7 +52,7 @@ pub struct Served {
 }
 
 /// Runs it with its input and its output whole, cut into single bytes, and by two seats: the answers may not depend on that.
-pub fn serve<R: Wait>(
+pub fn serve<R: Threads + Wait + Sync>(
     rt: &R,
     alloc: Global,
     run: &Run,
@@ -73,7 +75,7 @@ pub fn serve<R: Wait>(
 }
 
 // Two seats serve what a `batch` has to serve. Any other words are run as they are, and so are as many messages as end a session.
-fn serve_in_turn<R: Wait>(
+fn serve_in_turn<R: Threads + Wait + Sync>(
     rt: &R,
     alloc: Global,
     case: &Run,
@@ -87,7 +89,7 @@ fn serve_in_turn<R: Wait>(
     Ok((outcome.output, keeper))
 }
 
-fn serve_in_pieces<R: Wait>(
+fn serve_in_pieces<R: Threads + Wait + Sync>(
     rt: &R,
     alloc: Global,
     case: &Run,
@@ -99,6 +101,7 @@ fn serve_in_pieces<R: Wait>(
     let mut input = MemSource::new(input_of(alloc, case)?, pieces, Vec::new(alloc));
     let mut output = MemSink::in_pieces(alloc, output_pieces, Vec::new(alloc));
     let mut clock = ListClock::new(case.clock.as_slice().to_vec(alloc)?);
+    let mut nobody: [Worker<MemDoor<MemSource, MemSink>, ListClock>; 0] = [];
     let Finished {
         status,
         keeper,
@@ -111,6 +114,7 @@ fn serve_in_pieces<R: Wait>(
         &mut output,
         keeper,
         &mut clock,
+        &mut nobody,
     );
     let outcome = Outcome {
         output: output.bytes().to_vec(alloc)?,
