@@ -10,9 +10,6 @@ use Rattle.filesd.proofs.Working.{has_left, whole_again, work_of}
 use Rattle.filesd.proofs.Sole.{first_idle}
 use Rattle.filesd.proofs.doors.serve_over.Goals as goal
 
-pub serve-worked-requires-clause-stand_in : goal.serve-worked-requires-clause-stand_in
-serve-worked-requires-clause-stand_in g c = ?
-
 pub serve-worked-requires-clause-idle : goal.serve-worked-requires-clause-idle
 serve-worked-requires-clause-idle g c = λ κs within.
     ap (λ (m : Memory (Served g.row.K.Denot)). held (book_in g.K.Keeper m)) c.in-Ok.ensures.memory
