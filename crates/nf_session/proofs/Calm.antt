@@ -61,9 +61,8 @@ begins_onward a b now words r answer begins = here (is_unmade answer) _ begins.e
     here false event enters = enters_onward a b now event answer enters
 
 ends_onward : (a b : Book) (now : ℕ) (how : Ending) (answer : Answer) → Ends a b now how answer → Onward a b
-ends_onward a b now ending.Sent answer ends = enters_onward a b now _ answer ends.enters
-ends_onward a b now ending.Gone answer ends = enters_onward a b now _ answer ends.enters
 ends_onward a b now (ending.Body bytes) answer ends = enters_onward a b now _ answer ends.enters
+ends_onward a b now other answer ends = enters_onward a b now _ answer ends.enters
 
 starts_onward : (a b : Book) (content : List Piece) (v : Response) → Starts a b content v → Onward a b
 starts_onward a b [] (response.File content None) (is, same) = same_onward a b same
@@ -137,11 +136,7 @@ passes_calm {C} reads body a b (begun.Asked (Ok (reply.Granted (goal.Serve conte
 }
 passes_calm reads body a b (begun.Asked (Ok (reply.Granted (goal.Store who key length)))) v (now, answer, read, ends, is, only) =
     asks_calm a b only (enters_onward a.book b.book now _ answer ends.enters)
-passes_calm reads body a b (begun.Asked (Ok reply.Made)) v (is, same) = calm_same a b same
-passes_calm reads body a b (begun.Asked (Ok reply.Done)) v (is, same) = calm_same a b same
-passes_calm reads body a b (begun.Asked (Ok (reply.Listing lines))) v (is, same) = calm_same a b same
-passes_calm reads body a b (begun.Asked (Ok reply.Closed)) v (is, same) = calm_same a b same
-passes_calm reads body a b (begun.Asked (Err refusal)) v (is, same) = calm_same a b same
+passes_calm reads body a b (begun.Asked other) v passes = calm_same a b passes.1
 
 pub taken_calm : {C : Type 0} (reads : C → ℕ → C → Type 0) (head : Head) (a b : Scene C) (u : Begun) (v : Response)
     → TakesIn reads head a b u (Ok v) → Calm a b
@@ -158,12 +153,8 @@ pieces_calm {C} close content first a b given writes = record {
 
 -- a response that is written whole
 pub writes_calm : {C : Type 0} (manner : Manner) (v : Response) (a b : Scene C) → Writes {T = Unit {0}} manner v a b (Ok tt) → Calm a b
-writes_calm manner (response.Denied refusal) a b wrote = wrote_calm a b _ wrote
-writes_calm manner (response.Lost fault) a b wrote = wrote_calm a b _ wrote
 writes_calm manner (response.File content first) a b (given, writes, all, unstruck) = pieces_calm manner.close content first a b given writes
-writes_calm manner response.Made a b wrote = wrote_calm a b _ wrote
-writes_calm manner response.Done a b wrote = wrote_calm a b _ wrote
-writes_calm manner (response.Listing lines) a b wrote = wrote_calm a b _ wrote
+writes_calm manner other a b wrote = wrote_calm a b _ wrote
 
 pub closes_calm : {C : Type 0} (reads : C → ℕ → C → Type 0) (how : Ending) (granted : Bool) (a b : Scene C) → Closes reads how granted a b
     → Calm a b

@@ -78,11 +78,7 @@ denial_is_none closes other = close_is_none closes
 
 pub end_is_none : (closes : Bool) (v : Response) → is_fault (end_of closes v) ≡ false
 end_is_none closes (response.Denied d) = denial_is_none closes d
-end_is_none closes response.Made = close_is_none closes
-end_is_none closes response.Done = close_is_none closes
-end_is_none closes (response.Listing lines) = close_is_none closes
-end_is_none closes (response.Lost fault) = close_is_none closes
-end_is_none closes (response.File content first) = close_is_none closes
+end_is_none closes other = close_is_none closes
 
 -- ---- responses
 
@@ -111,12 +107,8 @@ file_follows T close content first a b ended.WriteFault (given, breaks) = record
 file_follows T close content first a b other sends = absurd sends
 
 writes_follows : {C : Type 0} (T : Type 0) (manner : Manner) (v : Response) (a b : Scene C) (by : Ended) → Writes {T = T} manner v a b (Err by) → FollowsOn a b (Some by)
-writes_follows T manner (response.Denied d) a b by writes = says_follows T a b _ by writes
-writes_follows T manner (response.Lost fault) a b by writes = says_follows T a b _ by writes
 writes_follows T manner (response.File content first) a b by writes = file_follows T manner.close content first a b by writes
-writes_follows T manner response.Made a b by writes = says_follows T a b _ by writes
-writes_follows T manner response.Done a b by writes = says_follows T a b _ by writes
-writes_follows T manner (response.Listing lines) a b by writes = says_follows T a b _ by writes
+writes_follows T manner other a b by writes = says_follows T a b _ by writes
 
 responds_follows : {C : Type 0} (last : Bool) (way : Way) (v : Response) (a b : Scene C) (result : Result (Option Ended) Ended)
     → Responds last way v a b result → FollowsOn a b (end_by result)

@@ -23,12 +23,8 @@ end_no_read closes v e = never (sym (end_is_none closes v) ∙ ap is_fault e)
     never e = cc
 
 writes_no_read : {C : Type 0} (T : Type 0) (manner : Manner) (v : Response) (a b : Scene C) → Writes {T = T} manner v a b (Err ended.ReadFault) → ⊥
-writes_no_read T manner (response.Denied d) a b writes = writes
-writes_no_read T manner response.Made a b writes = writes
-writes_no_read T manner response.Done a b writes = writes
-writes_no_read T manner (response.Listing lines) a b writes = writes
-writes_no_read T manner (response.Lost fault) a b writes = writes
 writes_no_read T manner (response.File content first) a b writes = writes
+writes_no_read T manner other a b writes = writes
 
 answered_no_read : {C : Type 0} (last : Bool) (way : Way) (v : Response) (a b : Scene C) (result : Result (Option Ended) Ended)
     → Responds last way v a b result → Some ended.ReadFault ≡ end_by result → ⊥

@@ -165,9 +165,8 @@ begins_pays a b now words r answer begins = here (is_unmade answer) _ begins.ent
     here false event made = enters_pays a b now event answer made
 
 ends_pays : (a b : Book) (now : ℕ) (how : Ending) (answer : Answer) → Ends a b now how answer → Pays a b 0
-ends_pays a b now ending.Sent answer ends = enters_pays a b now _ answer ends.enters
-ends_pays a b now ending.Gone answer ends = enters_pays a b now _ answer ends.enters
 ends_pays a b now (ending.Body bytes) answer ends = enters_pays a b now _ answer ends.enters
+ends_pays a b now other answer ends = enters_pays a b now _ answer ends.enters
 
 -- ---- a piece
 
@@ -184,13 +183,11 @@ fails_pays a b piece fault.Memory waits none = pays_none a b 0 waits.own (inl (r
 
 lost_pays : (a b : Book) (why : PieceFault) → Pays a b (failed_at why) → Pays a b (failed_first (response.Lost why))
 lost_pays a b fault.Store pays = pays
-lost_pays a b (fault.Damaged damage) pays = pays
-lost_pays a b fault.Memory pays = pays
+lost_pays a b other pays = pays
 
 cut_pays : (a b : Book) (why : PieceFault) → Pays a b (failed_at why) → Pays a b (failed_by (ended.Cut why))
 cut_pays a b fault.Store pays = pays
-cut_pays a b (fault.Damaged damage) pays = pays
-cut_pays a b fault.Memory pays = pays
+cut_pays a b other pays = pays
 
 starts_pays : (a b : Book) (content : List Piece) (v : Response) → Starts a b content v → Pays a b (failed_first v)
 starts_pays a b [] (response.File content None) starts = pays_same a b starts.1
@@ -206,12 +203,9 @@ judges_pays reads head a b (begun.Asked answer) (r, now, of, read, begins, only)
 
 -- an answer that isn't of a file has no piece
 plain_response : (answer : Answer) (v : Response) → IsResponse answer v → failed_first v ≡ 0
-plain_response (Ok reply.Made) v is = ap failed_first is
-plain_response (Ok reply.Done) v is = ap failed_first is
 plain_response (Ok reply.Closed) v is = absurd is
-plain_response (Ok (reply.Listing lines)) v is = ap failed_first is
 plain_response (Ok (reply.Granted goal)) v is = absurd is
-plain_response (Err refusal) v is = ap failed_first is
+plain_response other v is = ap failed_first is
 
 stores_pays : {C : Type 0} (reads : C → ℕ → C → Type 0) (body : List ℕ) (a b : Scene C) (v : Response) → StoresBody reads body a b v
     → Pays a.book b.book (failed_first v)
@@ -227,11 +221,7 @@ passes_pays : {C : Type 0} (reads : C → ℕ → C → Type 0) (body : List ℕ
 passes_pays reads body a b (begun.Unasked d) v passes = plain_pays a b (Err d) v passes.0 passes.1
 passes_pays reads body a b (begun.Asked (Ok (reply.Granted (goal.Serve content)))) v passes = starts_pays a.book b.book content v passes.starts
 passes_pays reads body a b (begun.Asked (Ok (reply.Granted (goal.Store who key length)))) v passes = stores_pays reads body a b v passes
-passes_pays reads body a b (begun.Asked (Ok reply.Made)) v passes = plain_pays a b (Ok reply.Made) v passes.0 passes.1
-passes_pays reads body a b (begun.Asked (Ok reply.Done)) v passes = plain_pays a b (Ok reply.Done) v passes.0 passes.1
-passes_pays reads body a b (begun.Asked (Ok reply.Closed)) v passes = absurd passes.0
-passes_pays reads body a b (begun.Asked (Ok (reply.Listing lines))) v passes = plain_pays a b (Ok (reply.Listing lines)) v passes.0 passes.1
-passes_pays reads body a b (begun.Asked (Err d)) v passes = plain_pays a b (Err d) v passes.0 passes.1
+passes_pays reads body a b (begun.Asked answer) v passes = plain_pays a b answer v passes.0 passes.1
 
 closes_pays : {C : Type 0} (reads : C → ℕ → C → Type 0) (how : Ending) (granted : Bool) (a b : Scene C) → Closes reads how granted a b
     → Pays a.book b.book 0
@@ -258,21 +248,13 @@ file_pays T close content first a b other sends = absurd sends
 
 fault_pays : {C : Type 0} (T : Type 0) (manner : Manner) (v : Response) (a b : Scene C) (by : Ended) → Writes {T = T} manner v a b (Err by)
     → Pays a.book b.book (failed_by by)
-fault_pays T manner (response.Denied d) a b by writes = says_pays T a b _ by writes
-fault_pays T manner (response.Lost fault) a b by writes = says_pays T a b _ by writes
 fault_pays T manner (response.File content first) a b by writes = file_pays T manner.close content first a b by writes
-fault_pays T manner response.Made a b by writes = says_pays T a b _ by writes
-fault_pays T manner response.Done a b by writes = says_pays T a b _ by writes
-fault_pays T manner (response.Listing lines) a b by writes = says_pays T a b _ by writes
+fault_pays T manner other a b by writes = says_pays T a b _ by writes
 
 writes_pays : {C : Type 0} (T : Type 0) (manner : Manner) (v : Response) (a b : Scene C) (sent : T) → Writes {T = T} manner v a b (Ok sent) → Pays a.book b.book 0
-writes_pays T manner (response.Denied d) a b sent writes = pays_same a.book b.book (ap (λ (s : Scene _). s.book) writes.only)
-writes_pays T manner (response.Lost fault) a b sent writes = pays_same a.book b.book (ap (λ (s : Scene _). s.book) writes.only)
 writes_pays T manner (response.File content first) a b sent (given, writes, all, unstruck) =
     pays_none a.book b.book 0 writes.pieces.waits.own (inl (refl, unstruck))
-writes_pays T manner response.Made a b sent writes = pays_same a.book b.book (ap (λ (s : Scene _). s.book) writes.only)
-writes_pays T manner response.Done a b sent writes = pays_same a.book b.book (ap (λ (s : Scene _). s.book) writes.only)
-writes_pays T manner (response.Listing lines) a b sent writes = pays_same a.book b.book (ap (λ (s : Scene _). s.book) writes.only)
+writes_pays T manner other a b sent writes = pays_same a.book b.book (ap (λ (s : Scene _). s.book) writes.only)
 
 responds_pays : {C : Type 0} (last : Bool) (way : Way) (v : Response) (a b : Scene C) (result : Result (Option Ended) Ended)
     → Responds last way v a b result → Pays a.book b.book (failed_behind result)
