@@ -3,6 +3,8 @@ use Rattle.std.proofs.Common.{◌≡◌, ◌⊎◌, ℕ, List, [], ◌∷◌, re
 use Rattle.std.specs.Io.KnownBytes.{IsAtEnd}
 use Rattle.std.specs.declared.option.Option.{Option}
 use Rattle.std.specs.declared.option.Option.TheVariants.{None, Some}
+use Rattle.std.specs.Prelude.{Vec}
+use Rattle.std.specs.declared.alloc.Global.{Global}
 use Rattle.nf_base.specs.declared.content.Piece.{Piece}
 use Rattle.nf_http.specs.Bodies.{CutsBody, CutsRead, TakesBody}
 use Rattle.nf_http.proofs.Wholes.{whole_or_cut}
@@ -29,27 +31,14 @@ use Rattle.nf_checks.proofs.Scenes.{Stays, asks_same, reads_stay, readings_same,
 -- ---- responses
 
 -- the same response, but for the bytes of a file's first piece
-abbrev pub Similar : Response → Response → Type 0
-Similar (response.Denied one) (response.Denied other) = one ≡ other
-Similar (response.File one first) (response.File other also) = one ≡ other
-Similar response.Made response.Made = Unit {0}
-Similar response.Done response.Done = Unit {0}
-Similar (response.Listing one) (response.Listing other) = one ≡ other
-Similar one other = ⊥
-
-denied : (v w : Response) (r : Denial) → v ≡ response.Denied r → w ≡ response.Denied r → Similar v w
-denied v w r p q = subst (λ z. Similar z w) (sym p) (subst (λ z. Similar (response.Denied r) z) (sym q) refl)
-
-listed : (v w : Response) (lines : List ListingLine) → v ≡ response.Listing lines → w ≡ response.Listing lines → Similar v w
-listed v w lines p q = subst (λ z. Similar z w) (sym p) (subst (λ z. Similar (response.Listing lines) z) (sym q) refl)
+pub data Similar (v w : Response) : Type 0 where
+  equal : w ≡ v → Similar v w
+  files : (content : List Piece) (one other : Option (Vec ℕ Global)) → v ≡ response.File content one → w ≡ response.File content other → Similar v w
 
 similar : (answer : Answer) (v w : Response) → IsResponse answer v → IsResponse answer w → Similar v w
-similar (Ok reply.Made) v w p q = subst (λ z. Similar z w) (sym p) (subst (λ z. Similar response.Made z) (sym q) tt)
-similar (Ok reply.Done) v w p q = subst (λ z. Similar z w) (sym p) (subst (λ z. Similar response.Done z) (sym q) tt)
 similar (Ok reply.Closed) v w p q = absurd p
-similar (Ok (reply.Listing lines)) v w p q = listed v w lines p q
 similar (Ok (reply.Granted goal)) v w p q = absurd p
-similar (Err refusal) v w p q = denied v w refusal p q
+similar answer v w p q = equal (q ∙ sym p)
 
 calm_answer : (answer : Answer) (v : Response) → IsResponse answer v → IsCalmResponse v → IsCalmAnswer answer
 calm_answer (Ok reply) v p calm = tt
@@ -63,7 +52,8 @@ IsFileOf content (response.File same first) = same ≡ content
 IsFileOf content other = ⊥
 
 files_similar : (content : List Piece) (v w : Response) → IsFileOf content v → IsFileOf content w → Similar v w
-files_similar content (response.File one first) (response.File other also) p q = p ∙ sym q
+files_similar content (response.File one first) (response.File other also) p q =
+    files content first also (ap (λ z. response.File z first) p) (ap (λ z. response.File z also) q)
 files_similar content (response.File one first) other p q = absurd q
 files_similar content one other p q = absurd p
 
@@ -119,27 +109,19 @@ stores_same reads body a b c d v w steady same (now1, x, read1, ends1, is1, only
 
 -- ---- what the body makes of what was begun
 
-plain_same : {C : Type 0} (a b c d : Scene C) (answer : Answer) (v w : Response)
-    → AreSame a c → IsResponse answer v × (b ≡ a) → IsResponse answer w × (d ≡ c) → Similar v w × AreSame b d
-plain_same a b c d answer v w same p q = (similar answer v w p.0 q.0, same_self a b c d same p.1 q.1)
-
 pub passes_same : {C : Type 0} (reads : C → ℕ → C → Type 0) (body : List ℕ) (a b c d : Scene C) (x : Begun)
     (v w : Response)
     → IsSteady reads → AreSame a c → Passes reads body a b x v → Passes reads body c d x w → IsCalmResponse v
     → IsCalmResponse w
     → IsAlone a.book b.book → IsAlone c.book d.book → Similar v w × AreSame b d
 passes_same reads body a b c d (begun.Unasked refusal) v w steady same p q calm still alone also =
-    (denied v w refusal p.0 q.0, same_self a b c d same p.1 q.1)
+    (equal (q.0 ∙ sym p.0), same_self a b c d same p.1 q.1)
 passes_same reads body a b c d (begun.Asked (Ok (reply.Granted (goal.Serve content)))) v w steady same p q calm still alone also =
     starts_same a b c d content v w same p q calm still alone also
 passes_same reads body a b c d (begun.Asked (Ok (reply.Granted (goal.Store who key size)))) v w steady same p q calm still alone also =
     stores_same reads body a b c d v w steady same p q calm still alone also
-passes_same reads body a b c d (begun.Asked (Ok reply.Made)) v w steady same p q calm still alone also = plain_same a b c d (Ok reply.Made) v w same p q
-passes_same reads body a b c d (begun.Asked (Ok reply.Done)) v w steady same p q calm still alone also = plain_same a b c d (Ok reply.Done) v w same p q
-passes_same reads body a b c d (begun.Asked (Ok reply.Closed)) v w steady same p q calm still alone also = absurd p.0
-passes_same reads body a b c d (begun.Asked (Ok (reply.Listing lines))) v w steady same p q calm still alone also =
-    plain_same a b c d (Ok (reply.Listing lines)) v w same p q
-passes_same reads body a b c d (begun.Asked (Err refusal)) v w steady same p q calm still alone also = plain_same a b c d (Err refusal) v w same p q
+passes_same reads body a b c d (begun.Asked answer) v w steady same p q calm still alone also =
+    (similar answer v w p.0 q.0, same_self a b c d same p.1 q.1)
 
 pub passes_go : {C : Type 0} (reads : C → ℕ → C → Type 0) (body : List ℕ) (a b : Scene C) (x : Begun) (v : Response)
     → Passes reads body a b x v → IsCalmResponse v → Goes a b
@@ -148,11 +130,7 @@ passes_go {C = C} reads body a b (begun.Asked (Ok (reply.Granted (goal.Serve con
     goes_quietly a b (ap (λ (z : Scene C). z.output) p.only) (waited_grows a.book b.book (started a.book b.book content v p.starts calm).waits)
 passes_go {C = C} reads body a b (begun.Asked (Ok (reply.Granted (goal.Store who key size)))) v (now1, x, read1, ends1, is1, only1) calm =
     goes_quietly a b (ap (λ (z : Scene C). z.output) only1) (enters_grow a.book b.book now1 (event_of_body body) x ends1.enters)
-passes_go reads body a b (begun.Asked (Ok reply.Made)) v p calm = goes_self a b p.1
-passes_go reads body a b (begun.Asked (Ok reply.Done)) v p calm = goes_self a b p.1
-passes_go reads body a b (begun.Asked (Ok reply.Closed)) v p calm = absurd p.0
-passes_go reads body a b (begun.Asked (Ok (reply.Listing lines))) v p calm = goes_self a b p.1
-passes_go reads body a b (begun.Asked (Err refusal)) v p calm = goes_self a b p.1
+passes_go reads body a b (begun.Asked other) v p calm = goes_self a b p.1
 
 -- ---- the body itself
 

@@ -25,7 +25,7 @@ use Rattle.nf_session.specs.declared.response.Response.{Response}
 use Rattle.nf_session.specs.declared.response.Response.TheVariants as response
 use Rattle.nf_checks.specs.Alike.{AreSame, Clash, IsAlone, IsCalmEnd, IsCalmEnded}
 use Rattle.nf_checks.proofs.Basics.{told_appended, told_more, told_moved}
-use Rattle.nf_checks.proofs.Bodies.{Similar}
+use Rattle.nf_checks.proofs.Bodies.{Similar, equal, files}
 use Rattle.nf_checks.proofs.Goes.{Goes}
 use Rattle.nf_checks.proofs.Books.{know_next, lone_waits, waits_grow}
 use Rattle.nf_checks.proofs.Scenes.{wrote_goes, wrote_same}
@@ -158,68 +158,50 @@ files_same a b c d close content first other same (xs, p, n, calm) (ys, q, m, st
 
 -- ---- any response
 
+same_writes : {C : Type 0} (a b c d : Scene C) (manner : Manner) (v : Response)
+    → AreSame a c → Writes {T = Unit {0}} manner v a b (Ok tt) → Writes {T = Unit {0}} manner v c d (Ok tt)
+    → IsAlone a.book b.book → IsAlone c.book d.book → AreSame b d ⊎ Clash b d
+same_writes a b c d manner (response.File content first) same p q alone also = files_same a b c d manner.close content first first same p q alone also
+same_writes a b c d manner other same p q alone also = inl (wrote_same a b c d _ same p q)
+
 pub writes_same : {C : Type 0} (a b c d : Scene C) (manner : Manner) (v w : Response)
     → Similar v w → AreSame a c → Writes {T = Unit {0}} manner v a b (Ok tt) → Writes {T = Unit {0}} manner w c d (Ok tt)
     → IsAlone a.book b.book → IsAlone c.book d.book → AreSame b d ⊎ Clash b d
-writes_same a b c d manner (response.Denied r) (response.Denied s) is same p q alone also =
-    let bytes : Wrote c d (refusal_reply manner r) = subst (λ z. Wrote c d (refusal_reply manner z)) (sym is) q in
-    inl (wrote_same a b c d (refusal_reply manner r) same p bytes)
-writes_same a b c d manner (response.File one first) (response.File two other) is same p q alone also =
-    let file : Whole manner.close one other c d = subst (λ z. Whole manner.close z other c d) (sym is) q in
-    files_same a b c d manner.close one first other same p file alone also
-writes_same a b c d manner response.Made response.Made is same p q alone also = inl (wrote_same a b c d (made_reply manner.close) same p q)
-writes_same a b c d manner response.Done response.Done is same p q alone also = inl (wrote_same a b c d (done_reply manner.close) same p q)
-writes_same a b c d manner (response.Listing one) (response.Listing other) is same p q alone also =
-    let bytes : Wrote c d (listing_reply manner.close one) = subst (λ z. Wrote c d (listing_reply manner.close z)) (sym is) q in
-    inl (wrote_same a b c d (listing_reply manner.close one) same p bytes)
-writes_same a b c d manner one two is same p q alone also = absurd is
+writes_same a b c d manner v w (equal e) same p q alone also =
+    same_writes a b c d manner v same p (subst (λ z. Writes {T = Unit {0}} manner z c d (Ok tt)) e q) alone also
+writes_same a b c d manner v w (files content one two e f) same p q alone also =
+    files_same a b c d manner.close content one two same
+    (subst (λ z. Writes {T = Unit {0}} manner z a b (Ok tt)) e p) (subst (λ z. Writes {T = Unit {0}} manner z c d (Ok tt)) f q) alone also
 
 pub writes_go : {C : Type 0} (a b : Scene C) (manner : Manner) (v : Response)
     → Writes {T = Unit {0}} manner v a b (Ok tt) → Goes a b
-writes_go a b manner (response.Denied r) p = wrote_goes a b (refusal_reply manner r) p
-writes_go a b manner (response.Lost fault) p = wrote_goes a b (refusal_reply manner (denial_of_piece fault)) p
 writes_go a b manner (response.File content first) p = record {
   book = waits_grow a.book b.book p.1.pieces.waits;
   bytes = file_front manner.close content p.0;
   output = p.1.bytes_are;
 }
-writes_go a b manner response.Made p = wrote_goes a b (made_reply manner.close) p
-writes_go a b manner response.Done p = wrote_goes a b (done_reply manner.close) p
-writes_go a b manner (response.Listing lines) p = wrote_goes a b (listing_reply manner.close lines) p
+writes_go a b manner other p = wrote_goes a b _ p
 
 -- ---- how the response ends the session
 
 -- a response that isn't written whole ends it otherwise
 unsaid : {C : Type 0} (a b : Scene C) (bytes : List ℕ) (by : Ended)
     → Says {T = Unit {0}} a b bytes (Err by) → IsCalmEnded by → ⊥
-unsaid a b bytes ended.Closed p calm = p
-unsaid a b bytes ended.BadMessage p calm = p
-unsaid a b bytes ended.NotBuilt p calm = p
-unsaid a b bytes ended.RunFull p calm = p
-unsaid a b bytes (ended.Cut fault) p calm = calm
-unsaid a b bytes ended.ReadFault p calm = calm
 unsaid a b bytes ended.WriteFault p calm = calm
 unsaid a b bytes ended.Memory p calm = calm
+unsaid a b bytes other p calm = p
 
 unsent : {C : Type 0} (a b : Scene C) (close : Bool) (content : List Piece) (first : Option (Vec ℕ Global)) (by : Ended)
     → SendsFile {T = Unit {0}} close content first a b (Err by) → IsCalmEnded by → ⊥
-unsent a b close content first ended.Closed p calm = p
-unsent a b close content first ended.BadMessage p calm = p
-unsent a b close content first ended.NotBuilt p calm = p
-unsent a b close content first ended.RunFull p calm = p
 unsent a b close content first (ended.Cut fault) p calm = calm
-unsent a b close content first ended.ReadFault p calm = calm
 unsent a b close content first ended.WriteFault p calm = calm
 unsent a b close content first ended.Memory p calm = calm
+unsent a b close content first other p calm = p
 
 unwritten : {C : Type 0} (a b : Scene C) (manner : Manner) (v : Response) (by : Ended)
     → Writes {T = Unit {0}} manner v a b (Err by) → IsCalmEnded by → ⊥
-unwritten a b manner (response.Denied r) by p calm = unsaid a b (refusal_reply manner r) by p calm
-unwritten a b manner (response.Lost fault) by p calm = unsaid a b (refusal_reply manner (denial_of_piece fault)) by p calm
 unwritten a b manner (response.File content first) by p calm = unsent a b manner.close content first by p calm
-unwritten a b manner response.Made by p calm = unsaid a b (made_reply manner.close) by p calm
-unwritten a b manner response.Done by p calm = unsaid a b (done_reply manner.close) by p calm
-unwritten a b manner (response.Listing lines) by p calm = unsaid a b (listing_reply manner.close lines) by p calm
+unwritten a b manner other by p calm = unsaid a b _ by p calm
 
 -- whoever is invited is told
 pub untold : {C : Type 0} (a b : Scene C) (bytes : List ℕ) (by : Ended)
@@ -241,29 +223,22 @@ written_of last way v a b (Ok e) end p is calm = record { whole = ap (λ z. Ok z
 written_of last way v a b (Err by) end p is calm = absurd (unwritten a b (manner_of last way v) v by p (subst (λ z. IsCalmEnd z) is calm))
 
 pub ends_similar : (closes : Bool) (v w : Response) → Similar v w → end_of closes v ≡ end_of closes w
-ends_similar closes (response.Denied r) (response.Denied s) is = ap (λ z. end_of closes (response.Denied z)) is
-ends_similar closes (response.File one first) (response.File two other) is = refl
-ends_similar closes response.Made response.Made is = refl
-ends_similar closes response.Done response.Done is = refl
-ends_similar closes (response.Listing one) (response.Listing other) is = refl
-ends_similar closes one two is = absurd is
+ends_similar closes v w (equal e) = sym (ap (end_of closes) e)
+ends_similar closes v w (files content one other e f) = ap (end_of closes) e ∙ sym (ap (end_of closes) f)
 
 pub stays_similar : (v w : Response) → Similar v w → stays_granted v ≡ stays_granted w
-stays_similar (response.Denied r) (response.Denied s) is = refl
-stays_similar (response.File one first) (response.File two other) is = refl
-stays_similar response.Made response.Made is = refl
-stays_similar response.Done response.Done is = refl
-stays_similar (response.Listing one) (response.Listing other) is = refl
-stays_similar one two is = absurd is
+stays_similar v w (equal e) = sym (ap stays_granted e)
+stays_similar v w (files content one other e f) = ap stays_granted e ∙ sym (ap stays_granted f)
 
 pub how_similar : (v w : Response) (one two : Option Ended) → Similar v w
     → how_of {T = Option Ended} v (Ok one) ≡ how_of {T = Option Ended} w (Ok two)
-how_similar (response.Denied r) (response.Denied s) one two is = refl
-how_similar (response.File a first) (response.File b other) one two is = refl
-how_similar response.Made response.Made one two is = refl
-how_similar response.Done response.Done one two is = refl
-how_similar (response.Listing a) (response.Listing b) one two is = refl
-how_similar v w one two is = absurd is
+how_similar v w one two (equal e) = whole v one two ∙ sym (ap (λ z. how_of {T = Option Ended} z (Ok two)) e)
+  where
+    whole : (v : Response) (one two : Option Ended) → how_of {T = Option Ended} v (Ok one) ≡ how_of {T = Option Ended} v (Ok two)
+    whole (response.File content first) one two = refl
+    whole other one two = refl
+how_similar v w one two (files content first other e f) =
+    ap (λ z. how_of {T = Option Ended} z (Ok one)) e ∙ sym (ap (λ z. how_of {T = Option Ended} z (Ok two)) f)
 
 -- ---- no message
 
@@ -291,8 +266,4 @@ pub denied_of : {C : Type 0} (fault : WireFault) (a b : Scene C) (by : Ended) �
     → IsDenied fault a b by
 denied_of wire.ReadFault a b by p calm = absurd (subst (λ z. IsCalmEnded z) p.0 calm)
 denied_of wire.Memory a b by p calm = absurd (subst (λ z. IsCalmEnded z) p.0 calm)
-denied_of wire.Bad a b by p calm = told_so wire.Bad a b by tt p calm
-denied_of wire.HeadLong a b by p calm = told_so wire.HeadLong a b by tt p calm
-denied_of wire.Coding a b by p calm = told_so wire.Coding a b by tt p calm
-denied_of (wire.TooLarge n) a b by p calm = told_so (wire.TooLarge n) a b by tt p calm
-denied_of wire.Truncated a b by p calm = told_so wire.Truncated a b by tt p calm
+denied_of other a b by p calm = told_so other a b by tt p calm

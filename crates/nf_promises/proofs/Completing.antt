@@ -34,10 +34,10 @@ use Rattle.nf_session.proofs.Calm.{Calm, bodies_calm, calm_then, closes_calm, he
 use Rattle.nf_session.proofs.Inviting.{invited_bytes, invites_wrote}
 use Rattle.nf_session.proofs.Lasting.{piece_lasts}
 use Rattle.nf_promises.proofs.Full.{answers_full}
-use Rattle.nf_promises.proofs.Gets.{starts_file, starts_other}
+use Rattle.nf_promises.proofs.Gets.{starts_file}
 use Rattle.nf_promises.proofs.Placing.{begin_known, step_known}
 use Rattle.nf_promises.proofs.Returning.{appends_by, takes_output}
-use Rattle.nf_promises.proofs.Touches.{closes_only, input_of, judges_only, output_of, passes_only}
+use Rattle.nf_promises.proofs.Touches.{closes_only, input_of, judges_only, output_of, passes_only, starts_other}
 use Rattle.nf_promises.proofs.Unfailing.{piece_wanting, responds_whole, short_whole, stop_whole}
 use Rattle.nf_promises.proofs.Wording.{writes_input, Fronts, close_is, refusal_written, word_written}
 use Rattle.nf_promises.specs.Complete.{Completes, IsAnswerOf, IsMet, IsUnrisen, IsWanting, NothingFails, Says, SaysEnd, SaysFile, SaysStored, StaysWhole}

@@ -42,20 +42,12 @@ denial_full closes other is = absurd (close_not_full closes is)
 
 response_full : (closes : Bool) (v : Response) → end_of closes v ≡ Some ended.RunFull → v ≡ response.Denied denial.RunFull
 response_full closes (response.Denied refusal) is = ap response.Denied (denial_full closes refusal is)
-response_full closes (response.Lost fault) is = absurd (close_not_full closes is)
-response_full closes (response.File content first) is = absurd (close_not_full closes is)
-response_full closes response.Made is = absurd (close_not_full closes is)
-response_full closes response.Done is = absurd (close_not_full closes is)
-response_full closes (response.Listing lines) is = absurd (close_not_full closes is)
+response_full closes other is = absurd (close_not_full closes is)
 
 -- no writing does
 writes_not_full : {C : Type 0} (manner : Manner) (v : Response) (a b : Scene C) → Writes {T = Unit {0}} manner v a b (Err ended.RunFull) → ⊥
-writes_not_full manner (response.Denied refusal) a b never = never
-writes_not_full manner (response.Lost fault) a b never = never
 writes_not_full manner (response.File content first) a b never = never
-writes_not_full manner response.Made a b never = never
-writes_not_full manner response.Done a b never = never
-writes_not_full manner (response.Listing lines) a b never = never
+writes_not_full manner other a b never = never
 
 responds_full : {C : Type 0} (last : Bool) (way : Way) (v : Response) (a b : Scene C) (result : Result (Option Ended) Ended)
     → Responds last way v a b result → end_by result ≡ Some ended.RunFull → v ≡ response.Denied denial.RunFull
@@ -78,12 +70,10 @@ starts_not_full a b [] never = never
 starts_not_full a b (piece ∷ pieces) never = never
 
 answer_full : (answer : Answer) → IsResponse answer (response.Denied denial.RunFull) → answer ≡ Err denial.RunFull
-answer_full (Ok reply.Made) is = absurd (cc)
-answer_full (Ok reply.Done) is = absurd (cc)
-answer_full (Ok (reply.Listing lines)) is = absurd (cc)
+answer_full (Err refusal) is = cc
 answer_full (Ok reply.Closed) never = absurd never
 answer_full (Ok (reply.Granted goal)) never = absurd never
-answer_full (Err refusal) is = cc
+answer_full other is = absurd (cc)
 
 -- it was refused before its body, or it was asked, and answered so
 abbrev IsFound : Begun → Type 0
@@ -98,11 +88,7 @@ passes_full reads body a b (begun.Asked (Ok (reply.Granted (goal.Serve content))
 passes_full reads body a b (begun.Asked (Ok (reply.Granted (goal.Store who key length)))) (now, answer, read, ends, is, only) =
     let enters = ends.enters in
     absurd (end_not_full (state_after a.book enters.others) enters.entry _ enters.event_is (sym enters.answer_is ∙ answer_full answer is))
-passes_full reads body a b (begun.Asked (Ok reply.Made)) (is, same) = answer_full (Ok reply.Made) is
-passes_full reads body a b (begun.Asked (Ok reply.Done)) (is, same) = answer_full (Ok reply.Done) is
-passes_full reads body a b (begun.Asked (Ok (reply.Listing lines))) (is, same) = answer_full (Ok (reply.Listing lines)) is
-passes_full reads body a b (begun.Asked (Ok reply.Closed)) (is, same) = answer_full (Ok reply.Closed) is
-passes_full reads body a b (begun.Asked (Err refusal)) (is, same) = answer_full (Err refusal) is
+passes_full reads body a b (begun.Asked answer) passes = answer_full answer passes.0
 
 judges_full : {C : Type 0} (reads : C → ℕ → C → Type 0) (head : Head) (a b : Scene C) (begun : Begun)
     → Judges reads head a b begun → IsFound begun → most_entries < entries_wanted b.book

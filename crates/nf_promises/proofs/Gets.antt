@@ -53,6 +53,7 @@ use Rattle.nf_promises.proofs.Alone.{entered, none_of}
 use Rattle.nf_promises.proofs.Plain.{IsPlain, asked_plain}
 use Rattle.nf_promises.proofs.Putting.{content_of_body}
 use Rattle.nf_promises.proofs.Puts.{IsKept, Keeps}
+use Rattle.nf_promises.proofs.Touches.{starts_other}
 use Rattle.nf_promises.specs.Kept.{AreOfBody, FailsStore, IsWritten, OnlyOwn, ShowsDamage, get_of, plainly, waits}
 
 -- ---- what its Begin is answered
@@ -61,16 +62,10 @@ use Rattle.nf_promises.specs.Kept.{AreOfBody, FailsStore, IsWritten, OnlyOwn, Sh
 serves_nothing : (t : Tables) (now : ℕ) (d : Result Allowed Denial) (content : List Piece) → answered_by d ≡ Ok (reply.Granted (Serve content))
     → changes_by t now d ≡ []
 serves_nothing t now (Ok (allowed.Get node other)) content is = refl
-serves_nothing t now (Ok (allowed.List listing)) content is = absurd (cc)
-serves_nothing t now (Ok (allowed.Put by key size)) content is = absurd (cc)
-serves_nothing t now (Ok (allowed.StoreNew row blob)) content is = absurd (cc)
-serves_nothing t now (Ok (allowed.StoreOver node other blob)) content is = absurd (cc)
-serves_nothing t now (Ok (allowed.Mkcol row)) content is = absurd (cc)
-serves_nothing t now (Ok (allowed.Delete node)) content is = absurd (cc)
 serves_nothing t now (Ok (allowed.Move transfer name)) content is = absurd (put_grants_nothing transfer.replaced (Serve content) (cc))
 serves_nothing t now (Ok (allowed.Copy rows replaced)) content is = absurd (put_grants_nothing replaced (Serve content) (cc))
-serves_nothing t now (Ok allowed.Close) content is = absurd (cc)
 serves_nothing t now (Err refusal) content is = refl
+serves_nothing t now other content is = absurd (cc)
 
 begin_marked : (s : State) (e : Entry) (words : Words) (request : Request) (content : List Piece) → e.event ≡ Begin words request
     → answer_to s e.seat e.moment (Begin words request) ≡ Ok (reply.Granted (Serve content)) → (m : Mark) → MayBear s e m → m ≡ mark.Answered
@@ -194,26 +189,6 @@ starts_lost : (a b : Book) (next : ℕ) (body : List ℕ) (why : PieceFault) (o 
 starts_lost a b next body why None is never = absurd never
 starts_lost a b next body why (Some id) is (waits, fails) = (id, is, waits.lasts, fails)
 
-abbrev pub StartsOther : Response → Type 0
-StartsOther (response.File content first) = Unit {0}
-StartsOther (response.Lost fault) = Unit {0}
-StartsOther (response.Denied refusal) = ⊥
-StartsOther response.Made = ⊥
-StartsOther response.Done = ⊥
-StartsOther (response.Listing lines) = ⊥
-
-pub starts_other : (a b : Book) (content : List Piece) (v : Response) → Starts a b content v → StartsOther v
-starts_other a b content (response.File other first) starts = tt
-starts_other a b content (response.Lost fault) starts = tt
-starts_other a b [] (response.Denied refusal) never = never
-starts_other a b (piece ∷ pieces) (response.Denied refusal) never = never
-starts_other a b [] response.Made never = never
-starts_other a b (piece ∷ pieces) response.Made never = never
-starts_other a b [] response.Done never = never
-starts_other a b (piece ∷ pieces) response.Done never = never
-starts_other a b [] (response.Listing lines) never = never
-starts_other a b (piece ∷ pieces) (response.Listing lines) never = never
-
 -- ---- what is written
 
 -- the same, of two scenes with a book before them
@@ -298,14 +273,8 @@ served_shown last way plain unsent caller spot body k x a b (response.Lost why) 
     let lost = starts_lost x.book a.book kept.before.tables.meta.next_blob body why
     (blob_for kept.before.tables.meta.next_blob (length body)) refl starts.starts in
     lost_shown last way plain unsent body kept.before k x a b lost.0 why before (lasts_then k x.book a.book before lost.2) kept.bytes lost.1 lost.3 writes
-served_shown last way plain unsent caller spot body k x a b (response.Denied refusal) kept before starts writes =
-    absurd (starts_other x.book a.book (content_of_body kept.before body) (response.Denied refusal) starts.starts)
-served_shown last way plain unsent caller spot body k x a b response.Made kept before starts writes =
-    absurd (starts_other x.book a.book (content_of_body kept.before body) response.Made starts.starts)
-served_shown last way plain unsent caller spot body k x a b response.Done kept before starts writes =
-    absurd (starts_other x.book a.book (content_of_body kept.before body) response.Done starts.starts)
-served_shown last way plain unsent caller spot body k x a b (response.Listing lines) kept before starts writes =
-    absurd (starts_other x.book a.book (content_of_body kept.before body) (response.Listing lines) starts.starts)
+served_shown last way plain unsent caller spot body k x a b other kept before starts writes =
+    absurd (starts_other x.book a.book (content_of_body kept.before body) other starts.starts)
 
 -- ---- the turn
 

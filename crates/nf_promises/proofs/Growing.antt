@@ -77,9 +77,8 @@ grows_begins a b now words request answer begins = here (is_unmade answer) begin
     here false enters = grows_enters a b now (Begin words request) answer enters
 
 pub grows_ends : (a b : Book) (now : ℕ) (how : Ending) (answer : Answer) → Ends a b now how answer → Grows a b 1
-grows_ends a b now ending.Sent answer ends = grows_enters a b now (End Sent) answer ends.enters
-grows_ends a b now ending.Gone answer ends = grows_enters a b now (End Gone) answer ends.enters
-grows_ends a b now (ending.Body bytes) answer ends = grows_enters a b now (event_of_body bytes.items) answer ends.enters
+grows_ends a b now (ending.Body bytes) answer ends = grows_enters a b now _ answer ends.enters
+grows_ends a b now other answer ends = grows_enters a b now _ answer ends.enters
 
 grows_starts : (a b : Book) (content : List Piece) (v : Response) → Starts a b content v → Grows a b 0
 grows_starts a b [] (response.File content None) (is, same) = grows_none a b same
@@ -115,11 +114,7 @@ passes_grow reads body a b (begun.Asked (Ok (reply.Granted (goal.Serve content))
     grows_more a.book b.book 0 1 (omega arith) (grows_starts a.book b.book content v starts.starts)
 passes_grow reads body a b (begun.Asked (Ok (reply.Granted (goal.Store who key length)))) v (now, answer, read, ends, is, only) =
     grows_enters a.book b.book now (event_of_body body) answer ends.enters
-passes_grow reads body a b (begun.Asked (Ok reply.Made)) v (is, same) = still a b same
-passes_grow reads body a b (begun.Asked (Ok reply.Done)) v (is, same) = still a b same
-passes_grow reads body a b (begun.Asked (Ok (reply.Listing lines))) v (is, same) = still a b same
-passes_grow reads body a b (begun.Asked (Ok reply.Closed)) v (is, same) = still a b same
-passes_grow reads body a b (begun.Asked (Err refusal)) v (is, same) = still a b same
+passes_grow reads body a b (begun.Asked other) v passes = still a b passes.1
 
 pub takes_grow : {C : Type 0} (reads : C → ℕ → C → Type 0) (head : Head) (a b : Scene C) (begun : Begun) (result : Result Response WireFault)
     → TakesIn reads head a b begun result → Grew a b 1
@@ -139,13 +134,8 @@ sends_grow close content first a b (Err ended.WriteFault) (given, breaks) = grow
 sends_grow close content first a b (Err other) never = absurd never
 
 writes_grow : {C T : Type 0} (manner : Manner) (v : Response) (a b : Scene C) (result : Result T Ended) → Writes manner v a b result → Grew a b 0
-writes_grow manner (response.Denied refusal) a b result says = grew_none a b (book_of a b (says_only a b (refusal_reply manner refusal) result says))
-writes_grow manner (response.Lost fault) a b result says =
-    grew_none a b (book_of a b (says_only a b (refusal_reply manner (denial_of_piece fault)) result says))
 writes_grow manner (response.File content first) a b result sends = sends_grow manner.close content first a b result sends
-writes_grow manner response.Made a b result says = grew_none a b (book_of a b (says_only a b (made_reply manner.close) result says))
-writes_grow manner response.Done a b result says = grew_none a b (book_of a b (says_only a b (done_reply manner.close) result says))
-writes_grow manner (response.Listing lines) a b result says = grew_none a b (book_of a b (says_only a b (listing_reply manner.close lines) result says))
+writes_grow manner other a b result says = grew_none a b (book_of a b (says_only a b _ result says))
 
 pub responds_grow : {C : Type 0} (last : Bool) (way : Way) (v : Response) (a b : Scene C) (result : Result (Option Ended) Ended)
     → Responds last way v a b result → Grew a b 0

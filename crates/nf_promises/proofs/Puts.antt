@@ -34,7 +34,7 @@ use Rattle.nf_session.proofs.Inviting.{invites_wrote}
 use Rattle.nf_promises.proofs.Alone.{entered, no_others, only_within, same_state}
 use Rattle.nf_promises.proofs.Growing.{closes_grow, grows_none, grows_on, heads_same, judges_grow, responds_grow, takes_grow}
 use Rattle.nf_promises.proofs.Putting.{IsOfPut, content_of_body, ok_answer, put_is_got, put_replies, put_size}
-use Rattle.nf_promises.proofs.Touches.{book_of, stored_only}
+use Rattle.nf_promises.proofs.Touches.{StartsOther, book_of, starts_other, stored_only}
 use Rattle.nf_promises.specs.Kept.{OnlyOwn, Puts, SaysStored, get_of, put_of}
 use Rattle.nf_words.specs.declared.answer.Goal.TheVariants.{Serve}
 
@@ -98,14 +98,12 @@ not_stored : (v : Response) (refusal : Denial) → v ≡ response.Denied refusal
 not_stored v refusal is says = subst (λ (x : Response). SaysStored x) is says
 
 starts_not_stored : (a b : Book) (content : List Piece) (v : Response) → Starts a b content v → SaysStored v → ⊥
-starts_not_stored a b [] response.Made never says = never
-starts_not_stored a b (piece ∷ pieces) response.Made never says = never
-starts_not_stored a b [] response.Done never says = never
-starts_not_stored a b (piece ∷ pieces) response.Done never says = never
-starts_not_stored a b content (response.Denied refusal) never says = says
-starts_not_stored a b content (response.Listing lines) never says = says
-starts_not_stored a b content (response.Lost fault) never says = says
-starts_not_stored a b content (response.File other first) never says = says
+starts_not_stored a b content v starts says = here v (starts_other a b content v starts) says
+  where
+    here : (v : Response) → StartsOther v → SaysStored v → ⊥
+    here (response.File other first) starts says = says
+    here (response.Lost fault) starts says = says
+    here other never says = absurd never
 
 stored_ok : (answer : Answer) (v : Response) → IsResponse answer v → SaysStored v → IsOk answer
 stored_ok (Ok r) v is says = refl
@@ -190,10 +188,7 @@ closes_book : {C : Type 0} (reads : C → ℕ → C → Type 0) (v : Response) (
     → Closes reads (how_of v result) (stays_granted v) a b → b.book ≡ a.book
 closes_book {C} reads response.Made a b result says same = ap (λ (x : Scene C). x.book) same
 closes_book {C} reads response.Done a b result says same = ap (λ (x : Scene C). x.book) same
-closes_book reads (response.Denied refusal) a b result says same = absurd says
-closes_book reads (response.Listing lines) a b result says same = absurd says
-closes_book reads (response.Lost fault) a b result says same = absurd says
-closes_book reads (response.File content first) a b result says same = absurd says
+closes_book reads other a b result says same = absurd says
 
 pub put_is_kept : {C : Type 0} (reads : C → ℕ → C → Type 0) (last : Bool) (caller : Caller) (spot : Spot) (body : List ℕ) (a b : Scene C)
     (end : Option Ended) → Puts reads last caller spot body a b end

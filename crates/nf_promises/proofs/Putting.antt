@@ -77,17 +77,10 @@ ok_answer s e event r event_is is =
 
 put_only : (d : Result Allowed Denial) (who : Seeker) (key : LockKey) (size : ℕ) → answered_by d ≡ Ok (Granted (Store who key size))
     → d ≡ Ok (allowed.Put who key size)
-put_only (Ok (allowed.Get node content)) who key size is = absurd (cc)
-put_only (Ok (allowed.List listing)) who key size is = absurd (cc)
 put_only (Ok (allowed.Put by at length)) who key size is = cc
-put_only (Ok (allowed.StoreNew row blob)) who key size is = absurd (cc)
-put_only (Ok (allowed.StoreOver node content blob)) who key size is = absurd (cc)
-put_only (Ok (allowed.Mkcol row)) who key size is = absurd (cc)
-put_only (Ok (allowed.Delete node)) who key size is = absurd (cc)
 put_only (Ok (allowed.Move transfer name)) who key size is = absurd (put_grants_nothing transfer.replaced (Store who key size) (cc))
 put_only (Ok (allowed.Copy rows replaced)) who key size is = absurd (put_grants_nothing replaced (Store who key size) (cc))
-put_only (Ok allowed.Close) who key size is = absurd (cc)
-put_only (Err refusal) who key size is = absurd (cc)
+put_only other who key size is = absurd (cc)
 
 -- the answers of a PUT's Begin, but for refusals
 abbrev pub IsOfPut : Reply → Type 0

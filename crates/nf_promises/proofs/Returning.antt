@@ -37,12 +37,8 @@ takes_output {C} reads head a b begun v (m, body, bodies, passes) =
 -- ---- what was written whole
 
 writes_not_closed : {C : Type 0} (manner : Manner) (v : Response) (a b : Scene C) → Writes {T = Unit {0}} manner v a b (Err ended.Closed) → ⊥
-writes_not_closed manner (response.Denied refusal) a b never = never
-writes_not_closed manner (response.Lost fault) a b never = never
 writes_not_closed manner (response.File content first) a b never = never
-writes_not_closed manner response.Made a b never = never
-writes_not_closed manner response.Done a b never = never
-writes_not_closed manner (response.Listing lines) a b never = never
+writes_not_closed manner other a b never = never
 
 -- how it was written
 abbrev WroteWhole : {C : Type 0} → Bool → Way → Response → Scene C → Scene C → Type 0

@@ -1,5 +1,5 @@
 -- What each step of a turn touches.
-use Rattle.std.proofs.Common.{ℕ, ◌≡◌, Bool, true, false, List, Option, Result, Ok, Err, refl, sym, ap, subst, ◌∙◌}
+use Rattle.std.proofs.Common.{ℕ, ◌≡◌, Bool, true, false, List, [], ◌∷◌, Option, Result, Ok, Err, refl, sym, ap, subst, ◌∙◌}
 use Rattle.nf_dav.specs.Reply.{continue_reply, done_reply, made_reply}
 use Rattle.nf_http.specs.Head.{Head}
 use Rattle.nf_http.specs.declared.wire.WireFault.{WireFault}
@@ -7,7 +7,9 @@ use Rattle.nf_http.specs.declared.wire.WireFault.TheVariants as wire
 use Rattle.nf_words.specs.declared.answer.Denial.{Denial}
 use Rattle.nf_words.specs.declared.answer.Goal.TheVariants as goal
 use Rattle.nf_words.specs.declared.answer.Reply.TheVariants as reply
-use Rattle.nf_session.specs.Steps.{Closes, EndsBy, EndsSo, Invites, Judges, OnlyAsks, OnlyWrites, Passes, Says, Scene, denial_of}
+use Rattle.nf_base.specs.declared.content.Piece.{Piece}
+use Rattle.nf_session.specs.Book.{Book}
+use Rattle.nf_session.specs.Steps.{Closes, EndsBy, EndsSo, Invites, Judges, OnlyAsks, OnlyWrites, Passes, Says, Scene, Starts, denial_of}
 use Rattle.nf_session.specs.Turn.{Responds, Way, says_close}
 use Rattle.nf_session.specs.declared.backend.Ending.{Ending}
 use Rattle.nf_session.specs.declared.begun.Begun.{Begun}
@@ -44,16 +46,26 @@ pub passes_only : {C : Type 0} (reads : C → ℕ → C → Type 0) (body : List
 passes_only reads body a b (begun.Unasked refusal) v (is, same) = asks_none a b same
 passes_only reads body a b (begun.Asked (Ok (reply.Granted (goal.Serve content)))) v starts = asks_book a b starts.only
 passes_only reads body a b (begun.Asked (Ok (reply.Granted (goal.Store who key length)))) v (now, answer, read, ends, is, only) = only
-passes_only reads body a b (begun.Asked (Ok reply.Made)) v (is, same) = asks_none a b same
-passes_only reads body a b (begun.Asked (Ok reply.Done)) v (is, same) = asks_none a b same
-passes_only reads body a b (begun.Asked (Ok (reply.Listing lines))) v (is, same) = asks_none a b same
-passes_only reads body a b (begun.Asked (Ok reply.Closed)) v (is, same) = asks_none a b same
-passes_only reads body a b (begun.Asked (Err refusal)) v (is, same) = asks_none a b same
+passes_only reads body a b (begun.Asked other) v passes = asks_none a b passes.1
 
 pub closes_only : {C : Type 0} (reads : C → ℕ → C → Type 0) (how : Ending) (granted : Bool) (a b : Scene C) → Closes reads how granted a b
     → OnlyAsks a b
 closes_only reads how true a b (now, read, ends, only) = only
 closes_only reads how false a b same = asks_none a b same
+
+-- ---- the first piece
+
+-- what a file's first piece isn't responded by
+abbrev pub StartsOther : Response → Type 0
+StartsOther (response.File content first) = Unit {0}
+StartsOther (response.Lost fault) = Unit {0}
+StartsOther other = ⊥
+
+pub starts_other : (a b : Book) (content : List Piece) (v : Response) → Starts a b content v → StartsOther v
+starts_other a b content (response.File other first) starts = tt
+starts_other a b content (response.Lost fault) starts = tt
+starts_other a b [] other never = never
+starts_other a b (piece ∷ pieces) other never = never
 
 -- ---- the output alone
 
@@ -72,18 +84,11 @@ stops_only head begun a b by invites =
 
 pub stored_only : {C : Type 0} (last : Bool) (way : Way) (v : Response) (a b : Scene C) (result : Result (Option Ended) Ended) → SaysStored v
     → Responds last way v a b result → OnlyWrites a b
-stored_only last way response.Made a b (Ok end) says (is, wrote) =
-    says_only {T = Unit {0}} a b (made_reply (says_close last way response.Made)) (Ok tt) wrote
-stored_only last way response.Made a b (Err by) says wrote =
-    says_only {T = Unit {0}} a b (made_reply (says_close last way response.Made)) (Err by) wrote
-stored_only last way response.Done a b (Ok end) says (is, wrote) =
-    says_only {T = Unit {0}} a b (done_reply (says_close last way response.Done)) (Ok tt) wrote
-stored_only last way response.Done a b (Err by) says wrote =
-    says_only {T = Unit {0}} a b (done_reply (says_close last way response.Done)) (Err by) wrote
-stored_only last way (response.Denied refusal) a b result says responds = absurd says
-stored_only last way (response.Listing lines) a b result says responds = absurd says
-stored_only last way (response.Lost why) a b result says responds = absurd says
-stored_only last way (response.File content first) a b result says responds = absurd says
+stored_only last way response.Made a b (Ok end) says (is, wrote) = writes_all a b wrote.only
+stored_only last way response.Made a b (Err by) says wrote = says_only {T = Unit {0}} a b _ (Err by) wrote
+stored_only last way response.Done a b (Ok end) says (is, wrote) = writes_all a b wrote.only
+stored_only last way response.Done a b (Err by) says wrote = says_only {T = Unit {0}} a b _ (Err by) wrote
+stored_only last way other a b result says responds = absurd says
 
 ends_so_only : {C : Type 0} (refusal : Denial) (a b : Scene C) (end : Ended) → EndsSo refusal a b end → OnlyWrites a b
 ends_so_only refusal a b ended.BadMessage wrote = writes_all a b wrote.only

@@ -95,12 +95,8 @@ module _ {C : Type 0} (a b : Scene C) (nothing : NothingFails a b) (whole : Stay
 
   writes_whole : (manner : Manner) (v : Response) (x y : Scene C) (by : Ended) → Calm a x → Calm y b
       → Writes {T = Unit {0}} manner v x y (Err by) → by ≡ ended.Memory
-  writes_whole manner (response.Denied refusal) x y by before behind says = says_whole x y _ by (not_risen x y before behind) says
-  writes_whole manner (response.Lost why) x y by before behind says = says_whole x y _ by (not_risen x y before behind) says
   writes_whole manner (response.File content first) x y by before behind sends = sends_whole manner.close content first x y by before behind sends
-  writes_whole manner response.Made x y by before behind says = says_whole x y _ by (not_risen x y before behind) says
-  writes_whole manner response.Done x y by before behind says = says_whole x y _ by (not_risen x y before behind) says
-  writes_whole manner (response.Listing lines) x y by before behind says = says_whole x y _ by (not_risen x y before behind) says
+  writes_whole manner other x y by before behind says = says_whole x y _ by (not_risen x y before behind) says
 
   -- it was written, or there was no memory for it
   pub responds_whole : (last : Bool) (way : Way) (v : Response) (x y : Scene C) (result : Result (Option Ended) Ended) → Calm a x → Calm y b
@@ -148,11 +144,7 @@ denial_well closes other = close_well closes
 
 response_well : (closes : Bool) (v : Response) → IsWell (end_of closes v)
 response_well closes (response.Denied refusal) = denial_well closes refusal
-response_well closes (response.Lost why) = close_well closes
-response_well closes (response.File content first) = close_well closes
-response_well closes response.Made = close_well closes
-response_well closes response.Done = close_well closes
-response_well closes (response.Listing lines) = close_well closes
+response_well closes other = close_well closes
 
 well_by : (end good : Option Ended) → end ≡ good → IsWell good → IsWell end
 well_by end good is well = subst (λ (e : Option Ended). IsWell e) (sym is) well

@@ -54,9 +54,5 @@ refusal_written front last way refusal v a x y b fronts is writes = (
 
 -- writing takes nothing from the input
 pub writes_input : {C : Type 0} (manner : Manner) (v : Response) (a b : Scene C) → Writes {T = Unit {0}} manner v a b (Ok tt) → b.input ≡ a.input
-writes_input {C} manner (response.Denied refusal) a b wrote = ap (λ (x : Scene C). x.input) wrote.only
-writes_input {C} manner (response.Lost fault) a b wrote = ap (λ (x : Scene C). x.input) wrote.only
 writes_input {C} manner (response.File content first) a b (given, writes, all, unstruck) = ap (λ (x : Scene C). x.input) writes.pieces.only
-writes_input {C} manner response.Made a b wrote = ap (λ (x : Scene C). x.input) wrote.only
-writes_input {C} manner response.Done a b wrote = ap (λ (x : Scene C). x.input) wrote.only
-writes_input {C} manner (response.Listing lines) a b wrote = ap (λ (x : Scene C). x.input) wrote.only
+writes_input {C} manner other a b wrote = ap (λ (x : Scene C). x.input) wrote.only
