@@ -22,19 +22,6 @@ told_appended a b c d bytes (xs, e, f) x y = (
   told_more xs bytes d (subst (λ z. Appends z d bytes) f y),
 )
 
-appends_none : (a : Option (List ℕ)) → Appends a a []
-appends_none None = tt
-appends_none (Some xs) = sym (append-nil xs)
-
-pub appends_self : (a b : Option (List ℕ)) → b ≡ a → Appends a b []
-appends_self a b e = subst (λ z. Appends a z []) (sym e) (appends_none a)
-
-pub appends_on : (a m b : Option (List ℕ)) (p q : List ℕ) → Appends a m p → Appends m b q → Appends a b (p ++ q)
-appends_on None m b p q x y = tt
-appends_on (Some xs) None b p q x y = absurd x
-appends_on (Some xs) (Some ys) None p q x y = absurd y
-appends_on (Some xs) (Some ys) (Some zs) p q x y = y ∙ ap (λ z. z ++ q) x ∙ append_assoc xs p q
-
 -- what is left behind a front
 abbrev pub Left : Option (List ℕ) → Type 0
 Left b = (rest : List ℕ) × (b ≡ Some rest)

@@ -24,9 +24,8 @@ use Rattle.nf_session.specs.declared.response.Response.{Response}
 use Rattle.nf_session.specs.declared.response.Response.TheVariants as response
 use Rattle.nf_checks.specs.Alike.{AreSame, IsAlone, IsCalmAnswer, IsCalmResponse, IsSteady, KnowSame, TellSame}
 use Rattle.nf_checks.proofs.Basics.{Left, left_of, told_moved, told_taken}
-use Rattle.nf_checks.proofs.Goes.{Goes, goes_on, goes_quietly, goes_self}
-use Rattle.nf_checks.proofs.Books.{Grows, enters_grow, enters_same, grows_self, know_next, know_self, lone_waits, waits_grow}
-use Rattle.nf_checks.proofs.Scenes.{Stays, asks_same, reads_stay, readings_same, same_self, same_stays, stays_go}
+use Rattle.nf_checks.proofs.Books.{enters_same, know_next, know_self, lone_waits}
+use Rattle.nf_checks.proofs.Scenes.{Stays, asks_same, reads_stay, readings_same, same_self, same_stays}
 
 -- ---- responses
 
@@ -67,10 +66,6 @@ started a b [] (response.File content None) s calm = record { file = s.0; waits 
 started a b (piece ∷ pieces) (response.File content (Some first)) s calm = record { file = s.0; waits = inr s.1 }
 started a b (piece ∷ pieces) (response.Lost fault) s calm = absurd calm
 started a b content other s calm = absurd s
-
-waited_grows : (a b : Book) → (b ≡ a) ⊎ Waits a b → Grows a b
-waited_grows a b (inl e) = grows_self a b e
-waited_grows a b (inr w) = waits_grow a b w
 
 lone_waited : (a b : Book) → (b ≡ a) ⊎ Waits a b → IsAlone a b → KnowSame a b
 lone_waited a b (inl e) alone = know_self a b e
@@ -123,15 +118,6 @@ passes_same reads body a b c d (begun.Asked (Ok (reply.Granted (goal.Store who k
 passes_same reads body a b c d (begun.Asked answer) v w steady same p q calm still alone also =
     (similar answer v w p.0 q.0, same_self a b c d same p.1 q.1)
 
-pub passes_go : {C : Type 0} (reads : C → ℕ → C → Type 0) (body : List ℕ) (a b : Scene C) (x : Begun) (v : Response)
-    → Passes reads body a b x v → IsCalmResponse v → Goes a b
-passes_go reads body a b (begun.Unasked refusal) v p calm = goes_self a b p.1
-passes_go {C = C} reads body a b (begun.Asked (Ok (reply.Granted (goal.Serve content)))) v p calm =
-    goes_quietly a b (ap (λ (z : Scene C). z.output) p.only) (waited_grows a.book b.book (started a.book b.book content v p.starts calm).waits)
-passes_go {C = C} reads body a b (begun.Asked (Ok (reply.Granted (goal.Store who key size)))) v (now1, x, read1, ends1, is1, only1) calm =
-    goes_quietly a b (ap (λ (z : Scene C). z.output) only1) (enters_grow a.book b.book now1 (event_of_body body) x ends1.enters)
-passes_go reads body a b (begun.Asked other) v p calm = goes_self a b p.1
-
 -- ---- the body itself
 
 bodies_stay : {C : Type 0} (a b : Scene C) (n : ℕ) (p : List ℕ) → Bodies a b n p → Stays a b
@@ -158,11 +144,6 @@ takes_same {C = C} reads head a b c d x v w steady same (m, p, bodies1, passes1)
     passes_same reads p m b n d x v w steady taken.1 passes1 passes calm still
     (subst (λ z. IsAlone z b.book) (sym (ap (λ (z : Scene C). z.book) bodies1.only)) alone)
     (subst (λ z. IsAlone z d.book) (sym (ap (λ (z : Scene C). z.book) bodies2.only)) also)
-
-pub takes_go : {C : Type 0} (reads : C → ℕ → C → Type 0) (head : Head) (a b : Scene C) (x : Begun) (v : Response)
-    → TakesIn reads head a b x (Ok v) → IsCalmResponse v → Goes a b
-takes_go reads head a b x v (m, p, bodies, passes) calm =
-    goes_on a m b (stays_go a m (bodies_stay a m (taken_length head x) p bodies)) (passes_go reads p m b x v passes calm)
 
 -- ---- a body that is cut
 

@@ -11,7 +11,6 @@ use Rattle.nf_words.specs.declared.history.Mark.TheVariants as mark
 use Rattle.nf_words.specs.declared.request.Request.{Request}
 use Rattle.nf_words.specs.declared.request.Words.{Words}
 use Rattle.nf_session.specs.Book.{Answer, Begins, Book, Enters, Lasts, Waits, entries_wanted, state_after, state_of}
-use Rattle.nf_session.proofs.Lasting.{lasts_same, lasts_then}
 use Rattle.nf_checks.specs.Alike.{IsAlone, IsCalmAnswer, KnowSame}
 
 -- ---- one book
@@ -31,42 +30,6 @@ know_next a b c d k p q = record {
   seat = q.seat ∙ k.seat ∙ sym p.seat;
   known = q.known ∙ k.known ∙ sym p.known;
   own = q.own ∙ k.own ∙ sym p.own;
-}
-
--- the seat's entries are among those that are known, and what every call keeps is kept
-pub record Grows (a b : Book) : Type 0 where
-  pub counts : length a.known + length b.own ≤ length b.known + length a.own
-  pub lasts : Lasts a b
-
-pub grows_self : (a b : Book) → b ≡ a → Grows a b
-grows_self a b e =
-    let known = ap (λ (z : Book). length z.known) e in
-    let own = ap (λ (z : Book). length z.own) e in
-    record { counts = omega arith; lasts = lasts_same a b e }
-
-pub grows_on : (a m b : Book) → Grows a m → Grows m b → Grows a b
-grows_on a m b p q = record {
-  counts = omega (arith, p.counts, q.counts);
-  lasts = lasts_then a m b p.lasts q.lasts;
-}
-
-pub waits_grow : (a b : Book) → Waits a b → Grows a b
-waits_grow a b w = record {
-  counts = omega (arith, ap length w.own, ap length w.known.1, length-append a.known w.known.0);
-  lasts = w.lasts;
-}
-
-pub enters_grow : (a b : Book) (now : ℕ) (event : Event) (answer : Answer) → Enters a b now event answer → Grows a b
-enters_grow a b now event answer e = record {
-  counts = omega (
-    arith,
-    ap length e.own,
-    ap length e.known,
-    length-append a.own ((e.entry, answer) ∷ []),
-    length-append (a.known ++ e.others) (e.entry ∷ []),
-    length-append a.known e.others,
-  );
-  lasts = e.lasts;
 }
 
 -- ---- alone
@@ -143,14 +106,6 @@ fate a b now words request (Ok reply) begins calm = made begins.entry
 fate a b now words request (Err denial.RunFull) begins calm = unmade refl begins.entry.waits (begins.full refl)
 fate a b now words request (Err denial.Memory) begins calm = absurd calm
 fate a b now words request (Err refusal) begins calm = made begins.entry
-
-pub begins_grow : (a b : Book) (now : ℕ) (words : Words) (request : Request) (x : Answer)
-    → Begins a b now words request x → IsCalmAnswer x → Grows a b
-begins_grow a b now words request x begins calm = grows (fate a b now words request x begins calm)
-  where
-    grows : Fate a b now words request x → Grows a b
-    grows (unmade is waits full) = waits_grow a b waits
-    grows (made enters) = enters_grow a b now (Begin words request) x enters
 
 -- an entry that is made had room
 no_room : (a b c d : Book) (now : ℕ) (words : Words) (request : Request) (y : Answer)

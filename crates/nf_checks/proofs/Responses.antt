@@ -26,9 +26,8 @@ use Rattle.nf_session.specs.declared.response.Response.TheVariants as response
 use Rattle.nf_checks.specs.Alike.{AreSame, Clash, IsAlone, IsCalmEnd, IsCalmEnded}
 use Rattle.nf_checks.proofs.Basics.{told_appended, told_more, told_moved}
 use Rattle.nf_checks.proofs.Bodies.{Similar, equal, files}
-use Rattle.nf_checks.proofs.Goes.{Goes}
-use Rattle.nf_checks.proofs.Books.{know_next, lone_waits, waits_grow}
-use Rattle.nf_checks.proofs.Scenes.{wrote_goes, wrote_same}
+use Rattle.nf_checks.proofs.Books.{know_next, lone_waits}
+use Rattle.nf_checks.proofs.Scenes.{wrote_same}
 
 -- ---- the bytes of pieces
 
@@ -172,15 +171,6 @@ writes_same a b c d manner v w (equal e) same p q alone also =
 writes_same a b c d manner v w (files content one two e f) same p q alone also =
     files_same a b c d manner.close content one two same
     (subst (λ z. Writes {T = Unit {0}} manner z a b (Ok tt)) e p) (subst (λ z. Writes {T = Unit {0}} manner z c d (Ok tt)) f q) alone also
-
-pub writes_go : {C : Type 0} (a b : Scene C) (manner : Manner) (v : Response)
-    → Writes {T = Unit {0}} manner v a b (Ok tt) → Goes a b
-writes_go a b manner (response.File content first) p = record {
-  book = waits_grow a.book b.book p.1.pieces.waits;
-  bytes = file_front manner.close content p.0;
-  output = p.1.bytes_are;
-}
-writes_go a b manner other p = wrote_goes a b _ p
 
 -- ---- how the response ends the session
 

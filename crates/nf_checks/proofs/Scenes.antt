@@ -22,8 +22,7 @@ use Rattle.nf_session.specs.declared.begun.Begun.{Begun}
 use Rattle.nf_session.specs.declared.begun.Begun.TheVariants as begun
 use Rattle.nf_checks.specs.Alike.{AreSame, IsAlone, IsCalmBegun, IsCalmDenial, IsSteady, KnowSame, TellSame}
 use Rattle.nf_checks.proofs.Basics.{Left, left_of, told_appended, told_moved}
-use Rattle.nf_checks.proofs.Goes.{Goes, goes_quietly, goes_self}
-use Rattle.nf_checks.proofs.Books.{Grows, begins_grow, begins_same, enters_grow, enters_same, grows_self, know_next, know_self}
+use Rattle.nf_checks.proofs.Books.{begins_same, enters_same, know_next, know_self}
 
 -- ---- scenes that stay
 
@@ -50,9 +49,6 @@ reads_stay {C = C} a b e = record {
   book = ap (λ (z : Scene C). z.book) e;
   clock = ap (λ (z : Scene C). z.clock) e;
 }
-
-pub stays_go : {C : Type 0} (a b : Scene C) → Stays a b → Goes a b
-stays_go a b p = goes_quietly a b p.output (grows_self a.book b.book p.book)
 
 pub same_stays : {C : Type 0} (a b c d : Scene C) → AreSame a c → Stays a b → Stays c d → TellSame b.input d.input
     → AreSame b d
@@ -97,13 +93,6 @@ wrote_same {C = C} a b c d bytes s p q = record {
   book = know_next a.book b.book c.book d.book s.book
       (know_self a.book b.book (ap (λ (z : Scene C). z.book) p.only)) (know_self c.book d.book (ap (λ (z : Scene C). z.book) q.only));
   clock = ap (λ (z : Scene C). z.clock) q.only ∙ s.clock ∙ sym (ap (λ (z : Scene C). z.clock) p.only);
-}
-
-pub wrote_goes : {C : Type 0} (a b : Scene C) (bytes : List ℕ) → Wrote a b bytes → Goes a b
-wrote_goes {C = C} a b bytes p = record {
-  book = grows_self a.book b.book (ap (λ (z : Scene C). z.book) p.only);
-  bytes = bytes;
-  output = p.bytes_are;
 }
 
 -- ---- asking
@@ -153,27 +142,14 @@ judges_same reads head a b c d (begun.Asked x) (begun.Asked y) steady same
     begins_same a.book b.book c.book d.book now1 no_words r1 x y same.book begins1 begins alone also calm still in
     (ap (λ z. begun.Asked z) asked.0, asks_same a b c d same only1 only2 asked.1 read.1)
 
-pub judges_go : {C : Type 0} (reads : C → ℕ → C → Type 0) (head : Head) (a b : Scene C) (x : Begun)
-    → Judges reads head a b x → IsCalmBegun x → Goes a b
-judges_go reads head a b (begun.Unasked r) p calm = goes_self a b p.1
-judges_go {C = C} reads head a b (begun.Asked x) (r1, now1, is1, read1, begins1, only1) calm =
-    goes_quietly a b (ap (λ (z : Scene C). z.output) only1) (begins_grow a.book b.book now1 no_words r1 x begins1 calm)
-
 -- ---- the End of what brings no body
 
 ends_same : (a b c d : Book) (now : ℕ) (how : Ending) → KnowSame a c → Ends a b now how (Ok reply.Closed)
     → Ends c d now how (Ok reply.Closed)
     → IsAlone a b → IsAlone c d → KnowSame b d
-ends_same a b c d now ending.Sent k p q alone also =
-    (enters_same a b c d now (End Sent) (Ok reply.Closed) (Ok reply.Closed) k p.enters q.enters alone also tt tt).1
-ends_same a b c d now ending.Gone k p q alone also =
-    (enters_same a b c d now (End Gone) (Ok reply.Closed) (Ok reply.Closed) k p.enters q.enters alone also tt tt).1
 ends_same a b c d now (ending.Body bytes) k p q alone also = absurd p.answered
-
-ends_grow : (a b : Book) (now : ℕ) (how : Ending) → Ends a b now how (Ok reply.Closed) → Grows a b
-ends_grow a b now ending.Sent p = enters_grow a b now (End Sent) (Ok reply.Closed) p.enters
-ends_grow a b now ending.Gone p = enters_grow a b now (End Gone) (Ok reply.Closed) p.enters
-ends_grow a b now (ending.Body bytes) p = absurd p.answered
+ends_same a b c d now other k p q alone also =
+    (enters_same a b c d now _ (Ok reply.Closed) (Ok reply.Closed) k p.enters q.enters alone also tt tt).1
 
 pub closes_same : {C : Type 0} (reads : C → ℕ → C → Type 0) (how : Ending) (granted : Bool) (a b c d : Scene C)
     → IsSteady reads → AreSame a c → Closes reads how granted a b → Closes reads how granted c d
@@ -184,9 +160,3 @@ closes_same reads how true a b c d steady same (now1, read1, ends1, only1) (now2
     let ends : Ends c.book d.book now1 how (Ok reply.Closed) =
     subst (λ z. Ends c.book d.book z how (Ok reply.Closed)) (sym read.0) ends2 in
     asks_same a b c d same only1 only2 (ends_same a.book b.book c.book d.book now1 how same.book ends1 ends alone also) read.1
-
-pub closes_go : {C : Type 0} (reads : C → ℕ → C → Type 0) (how : Ending) (granted : Bool) (a b : Scene C)
-    → Closes reads how granted a b → Goes a b
-closes_go reads how false a b p = goes_self a b p
-closes_go {C = C} reads how true a b (now1, read1, ends1, only1) =
-    goes_quietly a b (ap (λ (z : Scene C). z.output) only1) (ends_grow a.book b.book now1 how ends1)

@@ -7,10 +7,12 @@ use Rattle.nf_session.specs.Session.{Session, Through}
 use Rattle.nf_session.specs.Steps.{Scene}
 use Rattle.nf_session.specs.Turn.{Turn}
 use Rattle.nf_session.specs.declared.ended.Ended.{Ended}
+use Rattle.nf_session.proofs.Calm.{goes_then, same_goes}
+use Rattle.nf_session.proofs.Causes.{through_goes, turn_goes}
 use Rattle.nf_checks.specs.Alike.{AreCalmTurns, AreSame, Clash, IsAlone, IsCalmEnd, IsCalmTurn, IsSteady, IsUndisturbed, SessionsEndAlike, StoresAgree, ToldSessionsEndAlike}
-use Rattle.nf_checks.proofs.Goes.{Goes, alone_first, alone_then, clash_back, clash_on, goes_on, goes_self, no_clash}
+use Rattle.nf_checks.proofs.Goes.{Goes, alone_first, alone_then, clash_back, clash_on, goes_of, no_clash}
 use Rattle.nf_checks.proofs.Scenes.{same_back}
-use Rattle.nf_checks.proofs.Turns.{EndsSame, turn_goes, turns_same}
+use Rattle.nf_checks.proofs.Turns.{EndsSame, turns_same}
 
 -- the last turn of a session of n messages, and those before it
 record Rest {C : Type 0} (reads : C → ℕ → C → Type 0) (n : ℕ) (a : Scene C) (scenes : List (Scene C)) (m b : Scene C) (end : Option Ended) : Type 0 where
@@ -31,25 +33,11 @@ alike_of : {C : Type 0} (b d : Scene C) (end also : Option Ended) → EndsSame b
 alike_of b d end also (inl same) = inl (same.end_is, same.scene)
 alike_of b d end also (inr clash) = inr clash
 
-through_goes : {C : Type 0} (reads : C → ℕ → C → Type 0) (a : Scene C) (scenes : List (Scene C)) (m : Scene C)
-    (through : Through reads a scenes m) → AreCalmTurns reads a scenes m through → Goes a m
-through_goes reads a [] m through calm = goes_self a m (sym through)
-through_goes reads a (next ∷ scenes) m through calm =
-    goes_on a next m (turn_goes reads false a next None through.0 calm.0 tt)
-    (through_goes reads next scenes m through.1 calm.1)
-
-rest_goes : {C : Type 0} (reads : C → ℕ → C → Type 0) (n : ℕ) (a : Scene C) (scenes : List (Scene C)) (m b : Scene C)
-    (end : Option Ended)
-    → (through : Through reads a scenes m) → AreCalmTurns reads a scenes m through
-    → (turn : Turn reads (n == 9999) m b end)
-    → IsCalmTurn reads (n == 9999) m b end turn → IsCalmEnd end → Goes a b
-rest_goes reads n a scenes m b end through turns turn calm well =
-    goes_on a m b (through_goes reads a scenes m through turns) (turn_goes reads (n == 9999) m b end turn calm well)
-
 next_goes : {C : Type 0} (reads : C → ℕ → C → Type 0) (n : ℕ) (a next : Scene C) (scenes : List (Scene C))
     (m b : Scene C) (end : Option Ended)
     → Rest reads n a (next ∷ scenes) m b end → Goes next b
-next_goes reads n a next scenes m b end p = rest_goes reads n next scenes m b end p.through.1 p.turns.1 p.turn p.calm p.end_is
+next_goes reads n a next scenes m b end p =
+    goes_of (goes_then (through_goes reads next scenes m p.through.1) (turn_goes reads (n == 9999) m b end p.turn))
 
 -- what follows the first turn
 next_of : {C : Type 0} (reads : C → ℕ → C → Type 0) (n : ℕ) (a next : Scene C) (scenes : List (Scene C)) (m b : Scene C)
@@ -63,16 +51,14 @@ next_of reads n a next scenes m b end p = record {
   end_is = p.end_is;
   few = p.few;
   full = p.full;
-  alone = alone_then a next b (turn_goes reads false a next None p.through.0 p.turns.0 tt)
-      (next_goes reads n a next scenes m b end p) p.alone;
+  alone = alone_then (goes_of (turn_goes reads false a next None p.through.0)) (next_goes reads n a next scenes m b end p) p.alone;
 }
 
 first_alone : {C : Type 0} (reads : C → ℕ → C → Type 0) (n : ℕ) (a next : Scene C) (scenes : List (Scene C))
     (m b : Scene C) (end : Option Ended)
     → Rest reads n a (next ∷ scenes) m b end → IsAlone a.book next.book
 first_alone reads n a next scenes m b end p =
-    alone_first a next b (turn_goes reads false a next None p.through.0 p.turns.0 tt)
-    (next_goes reads n a next scenes m b end p) p.alone
+    alone_first (goes_of (turn_goes reads false a next None p.through.0)) (next_goes reads n a next scenes m b end p) p.alone
 
 -- a turn that is the session's last
 record Last {C : Type 0} (reads : C → ℕ → C → Type 0) (last : Bool) (a b : Scene C) (end : Option Ended) : Type 0 where
@@ -126,11 +112,11 @@ rests_same reads k n also_n a c [] [] m b l d end also steady same p q e f =
     alike_of b d end also
     (lasts_same reads (n == 9999) a b c d end also steady same (last_of reads n a m b end p) last p.end_is q.end_is p.alone q.alone)
 rests_same reads k n also_n a c [] (next ∷ others) m b l d end also steady same p q e f =
-    inr (clash_on b b next d (goes_self b b refl) (next_goes reads also_n c next others l d also q)
+    inr (clash_on b b next d (goes_of (same_goes b b 0 refl)) (next_goes reads also_n c next others l d also q)
     (longer reads n a m b c next d end q.through.0 steady same p (omega (arith, q.few)) q.turns.0
     (first_alone reads also_n c next others l d also q)))
 rests_same reads k n also_n a c (next ∷ scenes) [] m b l d end also steady same p q e f =
-    inr (clash_on next b d d (next_goes reads n a next scenes m b end p) (goes_self d d refl)
+    inr (clash_on next b d d (next_goes reads n a next scenes m b end p) (goes_of (same_goes d d 0 refl))
     (clash_back d next (longer reads also_n c l d a next b also p.through.0 steady (same_back a c same) q
     (omega (arith, p.few)) p.turns.0 (first_alone reads n a next scenes m b end p))))
 rests_same reads k n also_n a c (next ∷ scenes) (other ∷ others) m b l d end also steady same p q e f =

@@ -8,17 +8,11 @@ use Rattle.nf_words.specs.declared.history.Entry.{Entry}
 use Rattle.nf_words.specs.declared.history.Event.{Event}
 use Rattle.nf_session.specs.Book.{Answer, Book, Enters, state_after, state_of}
 use Rattle.nf_base.specs.declared.rows.Row.{Row}
-use Rattle.nf_promises.proofs.Growing.{Grows}
 use Rattle.nf_promises.specs.Kept.{OnlyOwn}
 
 pub none_of : {X : Type 0} (xs : List X) → length xs ≡ 0 → xs ≡ []
 none_of [] none = refl
 none_of (x ∷ xs) none = absurd (omega (arith, none))
-
--- ---- where no other's entry came between two books, none did between two others on the way
-
-pub only_within : (a x y c : Book) (n m k : ℕ) → Grows a x n → Grows x y m → Grows y c k → OnlyOwn a c → OnlyOwn x y
-only_within a x y c n m k first middle last only = omega (arith, first.known, middle.known, last.known, only)
 
 pub no_others : (a b : Book) (now : ℕ) (event : Event) (answer : Answer) (enters : Enters a b now event answer) → OnlyOwn a b → enters.others ≡ []
 no_others a b now event answer enters only =

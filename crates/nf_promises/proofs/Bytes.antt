@@ -25,8 +25,10 @@ use Rattle.nf_session.specs.declared.begun.Begun.TheVariants as begun
 use Rattle.nf_session.specs.declared.ended.Ended.{Ended}
 use Rattle.nf_session.specs.declared.ended.Ended.TheVariants as ended
 use Rattle.nf_session.proofs.Inviting.{invited_bytes, invites_wrote, stops_sends}
-use Rattle.nf_promises.proofs.Alone.{only_within}
-use Rattle.nf_promises.proofs.Growing.{answers_grow, grows_none, grows_on, heads_same, invites_grow, judges_grow, turn_grows}
+use Rattle.nf_session.proofs.Calm.{goes_first, heads_go, invites_go, judges_go}
+use Rattle.nf_session.proofs.Causes.{answers_go, turn_goes}
+use Rattle.nf_session.proofs.Moving.{same_moves}
+use Rattle.nf_promises.proofs.Growing.{only_within}
 use Rattle.nf_promises.proofs.Marks.{done_mark, ends_not_done, invited_mark, is_done, made_mark, one_written, responds_stored}
 use Rattle.nf_promises.proofs.Puts.{BeginsPut, put_begun}
 use Rattle.nf_promises.proofs.Returning.{appends_by, cut_not_written, put_then_get, takes_output}
@@ -237,9 +239,8 @@ turn_puts {C} reads last caller spot h body left a b end answer prints input tol
         → PutsAndLeaves reads last caller spot body left a b end
     here (inl stops) = absurd (stops_not_done reads head begun k m b end answer judges stops tells written)
     here (inr (n, invites, inl answers)) =
-        let first = grows_none a.book k.book (heads_same a k (Ok (Some head)) heads) in
-        let one : OnlyOwn k.book m.book = only_within a.book k.book m.book b.book 0 1 2 first (judges_grow reads head k m begun judges)
-        (grows_on m.book n.book b.book 0 2 2 (omega arith) (invites_grow head begun m n invites) (answers_grow reads last head begun n b end answers)) only in
+        let one : OnlyOwn k.book m.book = only_within (heads_go a k 0 (Some head) heads).book (judges_go reads head k m begun judges).book
+        (goes_first (invites_go head begun m n invites) (answers_go reads last head begun n b end answers)).book only in
         answers_put reads last caller spot body left head begun a k m n b end answer heads (ap request_of at.0 ∙ prints.asks) at.1 judges invites
         answers tells written done one
     here (inr (n, invites, inr cuts)) =
@@ -273,9 +274,8 @@ put_then_get_of_bytes {C} reads caller spot put get body rest a b c first last e
     let wrote = says_done (head_of put) a b says in
     let parts : print_request put ++ body ++ print_request get ++ rest ≡ print_request put ++ (body ++ (print_request get ++ rest)) =
     append_assoc (print_request put ++ body) (print_request get) rest ∙ append_assoc (print_request put) body (print_request get ++ rest) in
-    let none = grows_none a.book a.book refl in
-    let alone : OnlyOwn a.book b.book = only_within a.book a.book b.book c.book 0 3 3 none (turn_grows reads first a b end turn)
-    (turn_grows reads last b c done later) only in
+    let alone : OnlyOwn a.book b.book = only_within (same_moves a.book a.book 0 refl) (turn_goes reads first a b end turn).book
+    (turn_goes reads last b c done later).book only in
     let one = turn_puts reads first caller spot put body (print_request get ++ rest) a b end wrote.0 puts (input ∙ ap (λ (bytes : List ℕ). Some bytes) parts) told wrote.1 wrote.2 alone turn in
     let two = turn_gets reads last caller spot get rest b c done gets one.1 written later in
     subst (λ (head : Head). ShowsFile (last || closes_session head) (waits head) body b c) two.1

@@ -30,7 +30,7 @@ use Rattle.nf_session.specs.declared.ended.Ended.{Ended}
 use Rattle.nf_session.specs.declared.ended.Ended.TheVariants as ended
 use Rattle.nf_session.specs.declared.response.Response.{Response}
 use Rattle.nf_session.specs.declared.response.Response.TheVariants as response
-use Rattle.nf_session.proofs.Calm.{Calm, bodies_calm, calm_then, closes_calm, heads_calm, invites_calm, judges_calm, passes_calm, writes_calm}
+use Rattle.nf_session.proofs.Calm.{Calm, bodies_go, calm_of, calm_then, closes_go, goes_then, heads_go, invites_go, judges_go, passes_go, writes_go}
 use Rattle.nf_session.proofs.Inviting.{invited_bytes, invites_wrote}
 use Rattle.nf_session.proofs.Lasting.{piece_lasts}
 use Rattle.nf_promises.proofs.Full.{answers_full}
@@ -83,7 +83,7 @@ module _ {C : Type 0} (reads : C → ℕ → C → Type 0) (last : Bool) (head :
       lost : (content : List Piece) → Starts x.book k.book content (response.Lost why) → why ≡ fault.Memory
       lost [] never = absurd never
       lost (piece ∷ pieces) (waits, fails) =
-          piece_wanting a b nothing whole x k piece why before (calm_then k s b (writes_calm _ (response.Lost why) k s wrote) behind) waits.lasts fails
+          piece_wanting a b nothing whole x k piece why before (calm_then k s b (calm_of (writes_go _ (response.Lost why) k s wrote)) behind) waits.lasts fails
   file_said content other end x k s before behind fronts starts writes = absurd (starts_other x.book k.book content other starts.starts)
 
   body_said : (who : Seeker) (key : LockKey) (size : ℕ) (body : List ℕ) (v : Response) (end : Option Ended) (x k s : Scene C)
@@ -184,16 +184,16 @@ module _ {C : Type 0} (reads : C → ℕ → C → Type 0) (last : Bool) (head :
       s = answers.sent
 
       told : Calm n x
-      told = calm_then n t x (invites_calm head u n t invites) (bodies_calm t x (taken_length head u) answers.takes.1 answers.takes.2)
+      told = calm_of (goes_then (invites_go head u n t invites) (bodies_go t x (taken_length head u) answers.takes.1 answers.takes.2))
 
       before : Calm a x
-      before = calm_then a n x (judges_calm reads head a n u judges) told
+      before = calm_then a n x (calm_of (judges_go reads head a n u judges)) told
 
       passed : Calm x k
-      passed = passes_calm reads answers.takes.1 x k u v answers.takes.3
+      passed = calm_of (passes_go reads answers.takes.1 x k u v answers.takes.3)
 
       sent : Calm s b
-      sent = closes_calm reads (how_of v answers.result) (stays_granted v) s b answers.closes
+      sent = calm_of (closes_go reads (how_of v answers.result) (stays_granted v) s b answers.closes)
 
       fronts : Fronts (invited_bytes head u) k s a b
       fronts bytes is =
@@ -225,17 +225,17 @@ module _ {C : Type 0} (reads : C → ℕ → C → Type 0) (last : Bool) (head :
           → IsMet last head r a b end
       here (inl memory) = inl (inl (answers.ends ∙ memory))
       here (inr (is, writes)) =
-          let taken = calm_then k s b (writes_calm (manner_of last (way_of head u) v) v k s writes) sent in
+          let taken = calm_then k s b (calm_of (writes_go (manner_of last (way_of head u) v) v k s writes)) sent in
           met (answers.ends ∙ is) (begun_met r u v end n x k s answers.takes.1 asked judges before (calm_then n x b told (calm_then x k b passed taken)) taken sent
           fronts (takes (writes_input (manner_of last (way_of head u) v) v k s writes)) answers.takes.3 writes)
 
   meets_met : (r : Request) (end : Option Ended) → request_of head ≡ Ok r → Meets reads last head a b end → IsMet last head r a b end
   meets_met r end asked (n, u, judges, inl stops) =
-      inl (inl (stop_whole a b nothing whole reads head u n end (judges_calm reads head a n u judges) stops))
+      inl (inl (stop_whole a b nothing whole reads head u n end (calm_of (judges_go reads head a n u judges)) stops))
   meets_met r end asked (n, u, judges, inr (t, invites, inl answers)) = answers_met r u n t end asked judges invites answers
   meets_met r end asked (n, u, judges, inr (t, invites, inr cuts)) =
       here (short_whole a b nothing whole reads head u t end
-      (calm_then a n t (judges_calm reads head a n u judges) (invites_calm head u n t invites)) cuts)
+      (calm_of (goes_then (judges_go reads head a n u judges) (invites_go head u n t invites))) cuts)
     where
       here : (end ≡ Some ended.Memory) ⊎ (end ≡ Some ended.BadMessage) → IsMet last head r a b end
       here (inl memory) = inl (inl memory)
@@ -244,7 +244,7 @@ module _ {C : Type 0} (reads : C → ℕ → C → Type 0) (last : Bool) (head :
 pub completes : {C : Type 0} (reads : C → ℕ → C → Type 0) → Completes reads
 completes {C} reads last a m b head r end heads asked meets nothing whole =
     let book : m.book ≡ a.book = ap (λ (x : Scene C). x.book) heads.only in
-    let calm = heads_calm a m (Some head) heads in
+    let calm = calm_of (heads_go a m 0 (Some head) heads) in
     meets_met reads last head m b
     (record {
       store = subst (λ (x : Book). IsUnrisen x.strikes b.book.strikes) (sym book) nothing.store;

@@ -23,7 +23,7 @@ use Rattle.nf_session.specs.declared.ended.Ended.TheVariants as ended
 use Rattle.nf_session.specs.declared.response.Response.{Response}
 use Rattle.nf_session.specs.declared.response.Response.TheVariants as response
 use Rattle.nf_session.proofs.Inviting.{invites_wrote, stops_sends}
-use Rattle.nf_promises.proofs.Growing.{turn_grows, Grew, grew_none, grows_on}
+use Rattle.nf_session.proofs.Causes.{session_goes}
 use Rattle.nf_promises.proofs.Refusals.{end_not_full, request_not_full}
 use Rattle.nf_promises.proofs.Tickets.{few_tickets}
 use Rattle.nf_promises.proofs.Touches.{book_of, says_only}
@@ -157,14 +157,6 @@ turn_full reads last a b (inr (inr (m, head, heads, (n, begun, judges, inr (told
 turn_full reads last a b (inr (inr (m, head, heads, (n, begun, judges, inr (told, invites, inr cuts))))) =
     absurd (cuts_not_full reads head begun told b cuts)
 
--- how much some turns make the history grow
-through_grow : {C : Type 0} (reads : C → ℕ → C → Type 0) (a : Scene C) (scenes : List (Scene C)) (b : Scene C)
-    → Through reads a scenes b → Grew a b (3 * length scenes)
-through_grow {C} reads a [] b same = grew_none a b (ap (λ (x : Scene C). x.book) (sym same))
-through_grow reads a (m ∷ scenes) b (turn, more) =
-    grows_on a.book m.book b.book 3 (3 * length scenes) (3 * suc (length scenes)) (omega arith)
-    (turn_grows reads false a m _ turn) (through_grow reads m scenes b more)
-
 -- ---- a session
 
 -- a history of few entries leaves room
@@ -177,9 +169,7 @@ full_is_seen {C} reads a b session = turn_full reads (length session.scenes == 9
 pub never_full : {C : Type 0} (reads : C → ℕ → C → Type 0) → NeverFull reads
 never_full {C} reads a b end session fresh alone is =
     let full = full_is_seen reads a b (subst (λ (e : Option Ended). Session reads a b e) is session) in
-    let through = through_grow reads a session.scenes session.before session.through in
-    let last = turn_grows reads (length session.scenes == 9999) session.before b end session.turn in
-    let whole = grows_on a.book session.before.book b.book (3 * length session.scenes) 3 30000 (omega (arith, session.few)) through last in
+    let whole = (session_goes reads a b end session).book in
     let own : length a.book.own ≡ 0 = ap length fresh.own in
-    let few : length b.book.known ≤ 30000 = omega (arith, whole.own, own, alone) in
+    let few : length b.book.known ≤ 30000 = omega (arith, whole.few, session.few, own, alone) in
     omega (arith, few_wanted b.book 30000 few, full)

@@ -38,7 +38,7 @@ use Rattle.nf_defs.specs.Blobs.{Blobs}
 use Rattle.nf_laws.specs.Wholes.{IsThere}
 use Rattle.nf_session.specs.Book.{Answer, Begins, Book, Enters, FailsPiece, Lasts, TellsDamage, TellsPiece, TellsStill, is_unmade, next_blob_of, state_of}
 use Rattle.nf_session.specs.Book.{Passes as Unchanged}
-use Rattle.nf_session.proofs.Calm.{begins_onward}
+use Rattle.nf_session.proofs.Moving.{begins_move}
 use Rattle.nf_session.proofs.Lasting.{lasts_same, lasts_then}
 use Rattle.nf_session.specs.Files.{AreGiven, SendsFile, file_front}
 use Rattle.nf_session.specs.Steps.{Judges, Scene, Starts, StartsFile, TakesIn, is_invited, is_unsent, no_words}
@@ -370,4 +370,4 @@ begun_shown {C} reads last head caller spot body (begun.Asked answer) k m a b v 
     let get : Begins k.book m.book now no_words (get_of caller spot) answer =
     subst (λ (q : Request). Begins k.book m.book now no_words q answer) same begins in
     answered_shown reads last head caller spot body k.book m a b v answer kept (asked_plain head (begun.Asked answer) _ asked) (get_answered k.book m.book now caller spot body answer kept alone get)
-    (begins_onward k.book m.book now no_words (get_of caller spot) answer get).lasts takes written writes
+    (begins_move k.book m.book now no_words (get_of caller spot) answer get).onward.lasts takes written writes

@@ -14,7 +14,8 @@ use Rattle.nf_words.specs.declared.request.Request.{Request}
 use Rattle.nf_session.specs.Book.{Answer, Begins, Book, Enters, Strikes, is_unmade, state_after}
 use Rattle.nf_session.specs.Book.{Passes as Unchanged}
 use Rattle.nf_session.specs.Steps.{Scene, no_words}
-use Rattle.nf_session.proofs.Calm.{Calm, Onward, calm_same}
+use Rattle.nf_session.proofs.Calm.{Calm, calm_of, same_goes}
+use Rattle.nf_session.proofs.Moving.{Onward}
 use Rattle.nf_promises.proofs.Gets.{unmade_is}
 use Rattle.nf_promises.proofs.Unfailing.{not_struck}
 use Rattle.nf_promises.specs.Complete.{IsAnswerOf, NothingFails, StaysWhole}
@@ -64,4 +65,4 @@ module _ {C : Type 0} (a b : Scene C) (nothing : NothingFails a b)
           → MatchBool unmade (Unchanged a.book y.book) (Enters a.book y.book now (Begin no_words r) answer)
           → (answer ≡ Err denial.RunFull) ⊎ (answer ≡ Err denial.Memory) ⊎ IsAnswerOf a.book b.book (Begin no_words r) answer
       here true is passes = made (unmade_is answer is)
-      here false is enters = inr (step_known a y now (Begin no_words r) answer (calm_same a a refl) behind enters)
+      here false is enters = inr (step_known a y now (Begin no_words r) answer (calm_of (same_goes a a 0 refl)) behind enters)

@@ -31,8 +31,10 @@ use Rattle.nf_session.specs.declared.ended.Ended.{Ended}
 use Rattle.nf_session.specs.declared.response.Response.{Response}
 use Rattle.nf_session.specs.declared.response.Response.TheVariants as response
 use Rattle.nf_session.proofs.Inviting.{invites_wrote}
-use Rattle.nf_promises.proofs.Alone.{entered, no_others, only_within, same_state}
-use Rattle.nf_promises.proofs.Growing.{closes_grow, grows_none, grows_on, heads_same, judges_grow, responds_grow, takes_grow}
+use Rattle.nf_session.proofs.Calm.{closes_go, goes_first, goes_last, goes_then, heads_go, invites_go, judges_go, takes_go}
+use Rattle.nf_session.proofs.Causes.{responds_go}
+use Rattle.nf_promises.proofs.Alone.{entered, no_others, same_state}
+use Rattle.nf_promises.proofs.Growing.{heads_same, only_within}
 use Rattle.nf_promises.proofs.Putting.{IsOfPut, content_of_body, ok_answer, put_is_got, put_replies, put_size}
 use Rattle.nf_promises.proofs.Touches.{StartsOther, book_of, starts_other, stored_only}
 use Rattle.nf_promises.specs.Kept.{OnlyOwn, Puts, SaysStored, get_of, put_of}
@@ -197,22 +199,16 @@ put_is_kept reads last caller spot body a b end put sound only =
     let answers = put.answers in
     let v = answers.response in
     let same : put.behind.book ≡ a.book = heads_same a put.behind (Ok (Some put.head)) put.heads in
-    let none = grows_none put.behind.book put.behind.book refl in
-    let first = judges_grow reads put.head put.behind put.judged put.begun put.judges in
+    let heads = heads_go a put.behind 0 (Some put.head) put.heads in
+    let first = judges_go reads put.head put.behind put.judged put.begun put.judges in
     let told : put.invited.book ≡ put.judged.book = ap (λ (x : Scene _). x.book)
     (invites_wrote put.head put.begun put.judged put.invited (Unit {0}) tt put.invites).only in
-    let second = grows_on put.judged.book put.invited.book answers.taken.book 0 1 1 (omega arith) (grows_none put.judged.book put.invited.book told)
-    (takes_grow reads put.head put.invited answers.taken put.begun (Ok v) answers.takes) in
-    let third = grows_on answers.taken.book answers.sent.book b.book 0 1 1 (omega arith)
-    (responds_grow last (way_of put.head put.begun) v answers.taken answers.sent answers.result answers.responds)
-    (closes_grow reads (how_of v answers.result) (stays_granted v) answers.sent b answers.closes) in
-    let behind : OnlyOwn put.behind.book b.book = subst (λ (k : Book). OnlyOwn k b.book) (sym same) only in
-    let rest = grows_on put.judged.book answers.taken.book b.book 1 1 2 (omega arith) second third in
-    let front = grows_on put.behind.book put.behind.book put.judged.book 0 1 1 (omega arith) none first in
-    let one : OnlyOwn put.behind.book put.judged.book =
-    only_within put.behind.book put.behind.book put.judged.book b.book 0 1 2 none first rest behind in
-    let two : OnlyOwn put.judged.book answers.taken.book =
-    only_within put.behind.book put.judged.book answers.taken.book b.book 1 1 1 front second third behind in
+    let second = goes_first (invites_go put.head put.begun put.judged put.invited put.invites)
+    (takes_go reads put.head put.invited answers.taken put.begun v answers.takes) in
+    let third = goes_last (responds_go last (way_of put.head put.begun) v answers.taken answers.sent answers.result answers.responds)
+    (closes_go reads (how_of v answers.result) (stays_granted v) answers.sent b answers.closes) in
+    let one : OnlyOwn put.behind.book put.judged.book = only_within heads.book first.book (goes_then second third).book only in
+    let two : OnlyOwn put.judged.book answers.taken.book = only_within (goes_first heads first).book second.book third.book only in
     let kept = kept_taken reads put.head put.begun v put.behind put.judged put.invited answers.takes.0 answers.taken answers.takes.1
     caller spot (length body) put.asked put.judges told answers.takes.2 answers.takes.3
     put.stored (subst (λ (k : Book). IsSound (state_of k)) (sym same) sound) one two in

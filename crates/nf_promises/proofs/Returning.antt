@@ -20,11 +20,12 @@ use Rattle.nf_session.specs.declared.ended.Ended.{Ended}
 use Rattle.nf_session.specs.declared.ended.Ended.TheVariants as ended
 use Rattle.nf_session.specs.declared.response.Response.{Response}
 use Rattle.nf_session.specs.declared.response.Response.TheVariants as response
-use Rattle.nf_session.proofs.Calm.{closes_calm, writes_calm}
+use Rattle.nf_session.proofs.Calm.{closes_go, goes_first, goes_then, invites_go, judges_go, writes_go}
+use Rattle.nf_session.proofs.Causes.{answers_go, turn_goes}
+use Rattle.nf_session.proofs.Moving.{same_moves}
 use Rattle.nf_session.proofs.Inviting.{stops_sends}
-use Rattle.nf_promises.proofs.Alone.{only_within}
 use Rattle.nf_promises.proofs.Gets.{Shown, begun_shown, get_not_invited}
-use Rattle.nf_promises.proofs.Growing.{answers_grow, grows_none, grows_on, heads_same, invites_grow, judges_grow, meets_grow}
+use Rattle.nf_promises.proofs.Growing.{heads_same, only_within}
 use Rattle.nf_promises.proofs.Puts.{IsKept, put_is_kept}
 use Rattle.nf_promises.proofs.Touches.{closes_only, judges_only, output_of, passes_only}
 use Rattle.nf_promises.specs.Kept.{AreOfBody, FailsStore, IsWritten, OnlyOwn, PutThenGet, ShowsDamage, ShowsFile, get_of, plainly, waits}
@@ -143,11 +144,8 @@ answers_shown {C} reads last head caller spot body begun k m b end asked judges 
     let front : answers.taken.output ≡ k.output = takes_output reads head m answers.taken begun v answers.takes ∙ output_of k m (judges_only reads head k m begun judges) in
     let closed = output_of answers.sent b (closes_only reads (how_of v answers.result) (stays_granted v) answers.sent b answers.closes) in
     let later : answers.taken.book.strikes ≤ b.book.strikes =
-    omega (
-      arith,
-      (writes_calm (manner_of last (way_of head begun) v) v answers.taken answers.sent wrote.1).onward.lasts.strikes,
-      (closes_calm reads (how_of v answers.result) (stays_granted v) answers.sent b answers.closes).onward.lasts.strikes,
-    ) in
+    (goes_then (writes_go (manner_of last (way_of head begun) v) v answers.taken answers.sent wrote.1)
+    (closes_go reads (how_of v answers.result) (stays_granted v) answers.sent b answers.closes)).book.onward.lasts.strikes in
     shown_later (last || closes_session head) (waits head) body k answers.taken answers.sent b front (sym closed) later shown
 
 pub meets_shown : {C : Type 0} (reads : C → ℕ → C → Type 0) (last : Bool) (head : Head) (caller : Caller) (spot : Spot) (body : List ℕ)
@@ -158,8 +156,8 @@ meets_shown reads last head caller spot body k b end (m, begun, judges, inl stop
     (subst (λ (e : Option Ended). IsWritten e) stops.ends written))
 meets_shown {C} reads last head caller spot body k b end (m, begun, judges, inr (n, invites, inl answers)) asked kept only written =
     let one : OnlyOwn k.book m.book =
-    only_within k.book k.book m.book b.book 0 1 2 (grows_none k.book k.book refl) (judges_grow reads head k m begun judges)
-    (grows_on m.book n.book b.book 0 2 2 (omega arith) (invites_grow head begun m n invites) (answers_grow reads last head begun n b end answers)) only in
+    only_within (same_moves k.book k.book 0 refl) (judges_go reads head k m begun judges).book
+    (goes_first (invites_go head begun m n invites) (answers_go reads last head begun n b end answers)).book only in
     let same : n ≡ m = quiet head begun m n (get_not_invited reads head caller spot body begun k m asked judges kept one) invites in
     answers_shown reads last head caller spot body begun k m b end asked judges kept one
     (subst (λ (x : Scene C). Answers reads last head begun x b end) same answers) written
@@ -169,14 +167,11 @@ meets_shown reads last head caller spot body k b end (m, begun, judges, inr (n, 
 pub put_then_get : {C : Type 0} (reads : C → ℕ → C → Type 0) → PutThenGet reads
 put_then_get {C} reads caller spot body a b c first last end done put get sound only written =
     let same : get.behind.book ≡ b.book = heads_same b get.behind (Ok (Some get.head)) get.heads in
-    let none = grows_none a.book a.book refl in
-    let heads = grows_none a.book put.behind.book (heads_same a put.behind (Ok (Some put.head)) put.heads) in
-    let one = grows_on a.book put.behind.book b.book 0 3 3 (omega arith) heads
-    (meets_grow reads first put.head put.behind b end (put.judged, put.begun, put.judges, inr (put.invited, put.invites, inl put.answers))) in
-    let two = grows_on b.book get.behind.book c.book 0 3 3 (omega arith) (grows_none b.book get.behind.book same)
-    (meets_grow reads last get.head get.behind c done get.meets) in
-    let kept = put_is_kept reads first caller spot body a b end put sound (only_within a.book a.book b.book c.book 0 3 3 none one two only) in
-    let rest : OnlyOwn b.book c.book = only_within a.book b.book c.book c.book 3 3 0 one two (grows_none c.book c.book refl) only in
+    let one = turn_goes reads first a b end
+    (inr (inr (put.behind, put.head, put.heads, (put.judged, put.begun, put.judges, inr (put.invited, put.invites, inl put.answers))))) in
+    let two = turn_goes reads last b c done (inr (inr (get.behind, get.head, get.heads, get.meets))) in
+    let kept = put_is_kept reads first caller spot body a b end put sound (only_within (same_moves a.book a.book 0 refl) one.book two.book only) in
+    let rest : OnlyOwn b.book c.book = only_within one.book two.book (same_moves c.book c.book 0 refl) only in
     let shown = meets_shown reads last get.head caller spot body get.behind c done get.meets get.asked
     (subst (λ (k : Book). IsKept k caller spot body) (sym same) kept) (subst (λ (k : Book). OnlyOwn k c.book) (sym same) rest) written in
     front_shown (last || closes_session get.head) (waits get.head) body b get.behind c

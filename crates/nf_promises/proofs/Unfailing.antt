@@ -26,8 +26,8 @@ use Rattle.nf_session.specs.declared.ended.Ended.{Ended}
 use Rattle.nf_session.specs.declared.ended.Ended.TheVariants as ended
 use Rattle.nf_session.specs.declared.response.Response.{Response}
 use Rattle.nf_session.specs.declared.response.Response.TheVariants as response
-use Rattle.nf_session.proofs.Calm.{Calm, calm_same, calm_then, closes_calm, heads_calm, invites_calm, judges_calm, taken_calm}
-use Rattle.nf_session.proofs.Causes.{through_calm}
+use Rattle.nf_session.proofs.Calm.{Calm, calm_of, calm_then, closes_go, goes_then, heads_go, invites_go, judges_go, same_goes, takes_go}
+use Rattle.nf_session.proofs.Causes.{through_goes}
 use Rattle.nf_session.proofs.Inviting.{stops_sends}
 use Rattle.nf_session.proofs.Lasting.{lasts_then}
 use Rattle.nf_session.proofs.Turns.{sends_says}
@@ -117,14 +117,14 @@ module _ {C : Type 0} (a b : Scene C) (nothing : NothingFails a b) (whole : Stay
   pub stop_whole : (reads : C → ℕ → C → Type 0) (head : Head) (u : Begun) (x : Scene C) (end : Option Ended) → Calm a x
       → StopsShort reads head u x b end → end ≡ Some ended.Memory
   stop_whole reads head u x end before stops =
-      let behind = closes_calm reads ending.Gone _ stops.sent b stops.closes in
+      let behind = calm_of (closes_go reads ending.Gone _ stops.sent b stops.closes) in
       let says = sends_says {T = Unit {0}} x stops.sent continue_reply (Err stops.by) (stops_sends head u x stops.sent (Unit {0}) stops.by stops.invites) in
       stops.ends ∙ ap (λ (e : Ended). Some e) (says_whole x stops.sent continue_reply stops.by (not_risen x stops.sent before behind) says)
 
   pub short_whole : (reads : C → ℕ → C → Type 0) (head : Head) (u : Begun) (x : Scene C) (end : Option Ended) → Calm a x
       → CutsShort reads head u x b end → (end ≡ Some ended.Memory) ⊎ (end ≡ Some ended.BadMessage)
   short_whole reads head u x end before cuts =
-      here (cut_whole ℕ x cuts.cut cuts.sent cuts.fault cuts.by before (closes_calm reads ending.Gone _ cuts.sent b cuts.closes)
+      here (cut_whole ℕ x cuts.cut cuts.sent cuts.fault cuts.by before (calm_of (closes_go reads ending.Gone _ cuts.sent b cuts.closes))
       cuts.takes.only cuts.takes.cause cuts.responds)
     where
       here : IsRefused cuts.by → (end ≡ Some ended.Memory) ⊎ (end ≡ Some ended.BadMessage)
@@ -153,8 +153,8 @@ module _ {C : Type 0} (reads : C → ℕ → C → Type 0) (a b : Scene C) (noth
   answers_well : (last : Bool) (head : Head) (u : Begun) (x : Scene C) (end : Option Ended) → Calm a x → Answers reads last head u x b end → IsWell end
   answers_well last head u x end before answers =
       let v = answers.response in
-      let taken = calm_then a x answers.taken before (taken_calm reads head x answers.taken u v answers.takes) in
-      let behind = closes_calm reads (how_of v answers.result) (stays_granted v) answers.sent b answers.closes in
+      let taken = calm_then a x answers.taken before (calm_of (takes_go reads head x answers.taken u v answers.takes)) in
+      let behind = calm_of (closes_go reads (how_of v answers.result) (stays_granted v) answers.sent b answers.closes) in
       here (responds_whole a b nothing whole last (way_of head u) v answers.taken answers.sent answers.result taken behind answers.responds)
     where
       here : (end_by answers.result ≡ Some ended.Memory)
@@ -169,26 +169,26 @@ module _ {C : Type 0} (reads : C → ℕ → C → Type 0) (a b : Scene C) (noth
 
   meets_well : (last : Bool) (head : Head) (x : Scene C) (end : Option Ended) → Calm a x → Meets reads last head x b end → IsWell end
   meets_well last head x end before (n, u, judges, inl stops) =
-      well_by end _ (stop_whole a b nothing whole reads head u n end (calm_then a x n before (judges_calm reads head x n u judges)) stops) tt
+      well_by end _ (stop_whole a b nothing whole reads head u n end (calm_then a x n before (calm_of (judges_go reads head x n u judges))) stops) tt
   meets_well last head x end before (n, u, judges, inr (t, invites, inl answers)) =
       answers_well last head u t end
-      (calm_then a x t before (calm_then x n t (judges_calm reads head x n u judges) (invites_calm head u n t invites))) answers
+      (calm_then a x t before (calm_of (goes_then (judges_go reads head x n u judges) (invites_go head u n t invites)))) answers
   meets_well last head x end before (n, u, judges, inr (t, invites, inr cuts)) =
       refused_well end (short_whole a b nothing whole reads head u t end
-      (calm_then a x t before (calm_then x n t (judges_calm reads head x n u judges) (invites_calm head u n t invites))) cuts)
+      (calm_then a x t before (calm_of (goes_then (judges_go reads head x n u judges) (invites_go head u n t invites)))) cuts)
 
   turn_well : (last : Bool) (x : Scene C) (end : Option Ended) → Calm a x → Turn reads last x b end → IsWell end
   turn_well last x end before (inl (heads, is)) = well_by end _ is tt
   turn_well last x end before (inr (inl (m, why, by, heads, ends, is))) =
-      here (cut_whole a b nothing whole (Option Head) x m b why by before (calm_same b b refl) heads.only heads.cause ends)
+      here (cut_whole a b nothing whole (Option Head) x m b why by before (calm_of (same_goes b b 0 refl)) heads.only heads.cause ends)
     where
       here : IsRefused by → IsWell end
       here (inl memory) = well_by end _ (is ∙ ap (λ (e : Ended). Some e) memory) tt
       here (inr bad) = well_by end _ (is ∙ ap (λ (e : Ended). Some e) bad) tt
   turn_well last x end before (inr (inr (m, head, heads, meets))) =
-      meets_well last head m end (calm_then a x m before (heads_calm x m (Some head) heads)) meets
+      meets_well last head m end (calm_then a x m before (calm_of (heads_go x m 0 (Some head) heads))) meets
 
 pub ends_well : {C : Type 0} (reads : C → ℕ → C → Type 0) → EndsWell reads
 ends_well reads a b end session nothing whole =
     turn_well reads a b nothing whole (length session.scenes == 9999) session.before end
-    (through_calm reads a session.scenes session.before session.through) session.turn
+    (calm_of (through_goes reads a session.scenes session.before session.through)) session.turn

@@ -142,7 +142,7 @@ answers_go reads last head u a b end answers =
     (goes_last (responds_go last (way_of head u) answers.response answers.taken answers.sent answers.result answers.responds)
     (closes_go reads _ _ answers.sent b answers.closes)))
 
-short_goes : {C : Type 0} (reads : C → ℕ → C → Type 0) (head : Head) (u : Begun) (a b : Scene C) (end : Option Ended)
+pub short_goes : {C : Type 0} (reads : C → ℕ → C → Type 0) (head : Head) (u : Begun) (a b : Scene C) (end : Option Ended)
     → CutsShort reads head u a b end → Goes a b 1 0 end
 short_goes reads head u a b end cut =
     ends_as end (Some cut.by) cut.ends
