@@ -12,10 +12,8 @@ use Rattle.nf_http.specs.Head.{Head}
 use Rattle.nf_http.specs.Next.{IsOfBytes}
 use Rattle.nf_http.specs.declared.wire.WireFault.{WireFault}
 use Rattle.nf_http.specs.declared.wire.WireFault.TheVariants as wire
-use Rattle.nf_words.specs.declared.answer.Denial.{Denial}
 use Rattle.nf_words.specs.declared.answer.Goal.TheVariants as goal
 use Rattle.nf_words.specs.declared.answer.Reply.TheVariants as reply
-use Rattle.nf_words.specs.declared.listing.ListingLine.{ListingLine}
 use Rattle.nf_session.specs.Book.{Answer, Book, EndsBody, Waits, event_of_body}
 use Rattle.nf_session.specs.Steps.{Bodies, Cuts, IsResponse, Passes, Scene, Starts, StartsFile, StoresBody, TakesIn, cutting, taken_length}
 use Rattle.nf_session.specs.declared.begun.Begun.{Begun}

@@ -10,7 +10,7 @@ use Rattle.nf_words.specs.declared.history.Mark.{Mark}
 use Rattle.nf_words.specs.declared.history.Mark.TheVariants as mark
 use Rattle.nf_words.specs.declared.request.Request.{Request}
 use Rattle.nf_words.specs.declared.request.Words.{Words}
-use Rattle.nf_session.specs.Book.{Answer, Begins, Book, Enters, Lasts, Waits, entries_wanted, state_after, state_of}
+use Rattle.nf_session.specs.Book.{Answer, Begins, Book, Enters, Waits, entries_wanted, state_after, state_of}
 use Rattle.nf_checks.specs.Alike.{IsAlone, IsCalmAnswer, KnowSame}
 
 -- ---- one book

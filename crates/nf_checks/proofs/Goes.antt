@@ -1,5 +1,5 @@
 -- How scenes go on: the book grows, and so does what was written.
-use Rattle.std.proofs.Common.{◌≡◌, ℕ, ◌+◌, ◌≤◌, List, [], ◌++◌, append_assoc, sym, ◌∙◌, ap, subst, arith, length}
+use Rattle.std.proofs.Common.{◌≡◌, ℕ, ◌+◌, ◌≤◌, List, ◌++◌, append_assoc, sym, ◌∙◌, ap, subst, arith, length}
 use Rattle.std.proofs.KnownBytes.{Appends-trans}
 use Rattle.std.specs.Io.KnownBytes.{Appends}
 use Rattle.std.specs.Option.{IfSome}

@@ -13,9 +13,9 @@ use Rattle.nf_http.specs.declared.wire.WireFault.{WireFault}
 use Rattle.nf_http.specs.declared.wire.WireFault.TheVariants as wire
 use Rattle.nf_http.specs.Next.{IsOfBytes}
 use Rattle.nf_words.specs.declared.answer.Denial.{Denial}
-use Rattle.nf_dav.specs.Reply.{done_reply, file_head, last_manner, listing_reply, made_reply, refusal_reply}
+use Rattle.nf_dav.specs.Reply.{file_head, last_manner, refusal_reply}
 use Rattle.nf_dav.specs.declared.replies.Manner.{Manner}
-use Rattle.nf_session.specs.Book.{Book, IsPiece, denial_of_piece}
+use Rattle.nf_session.specs.Book.{Book, IsPiece}
 use Rattle.nf_session.specs.Files.{AreGiven, SendsFile, WritesPieces, file_front}
 use Rattle.nf_session.specs.Steps.{EndsBy, EndsSo, Says, Scene, Sends, Wrote, denial_of}
 use Rattle.nf_session.specs.Turn.{Responds, Way, Writes, end_by, end_of, how_of, manner_of, stays_granted}

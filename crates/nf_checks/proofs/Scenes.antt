@@ -11,8 +11,6 @@ use Rattle.nf_http.specs.declared.wire.WireFault.TheVariants as wire
 use Rattle.nf_http.proofs.Agreement.{one_answer_and_rest}
 use Rattle.nf_words.specs.declared.answer.Denial.{Denial}
 use Rattle.nf_words.specs.declared.answer.Reply.TheVariants as reply
-use Rattle.nf_words.specs.declared.history.Event.TheVariants.{End}
-use Rattle.nf_words.specs.declared.history.Outcome.TheVariants.{Sent, Gone}
 use Rattle.nf_dav.specs.Asked.{request_of}
 use Rattle.nf_session.specs.Book.{Begins, Book, Ends}
 use Rattle.nf_session.specs.Steps.{Closes, Heads, IsUnasked, Judges, OnlyAsks, OnlyReads, Scene, Wrote, no_words}

@@ -1,5 +1,5 @@
 -- A run isn't full for a session that began it.
-use Rattle.std.proofs.Common.{ℕ, suc, ◌+◌, ◌*◌, ◌≡◌, ◌<◌, ◌≤◌, ◌==◌, Bool, true, false, List, [], ◌∷◌, length, Option, Some, Result, Ok, Err, inl, inr, refl, ap, subst, sym, ◌∙◌, arith}
+use Rattle.std.proofs.Common.{ℕ, ◌+◌, ◌≡◌, ◌<◌, ◌≤◌, ◌==◌, Bool, true, false, List, [], ◌∷◌, length, Option, Some, Result, Ok, Err, inl, inr, refl, ap, subst, sym, ◌∙◌, arith}
 use Rattle.nf_base.specs.declared.content.Piece.{Piece}
 use Rattle.nf_dav.specs.Reply.{continue_reply, refusal_reply}
 use Rattle.nf_dav.specs.declared.replies.Manner.{Manner}
@@ -13,7 +13,7 @@ use Rattle.nf_words.specs.declared.answer.Denial.TheVariants as denial
 use Rattle.nf_words.specs.declared.answer.Goal.TheVariants as goal
 use Rattle.nf_words.specs.declared.answer.Reply.TheVariants as reply
 use Rattle.nf_session.specs.Book.{Answer, Book, entries_wanted, state_after}
-use Rattle.nf_session.specs.Session.{Session, Through}
+use Rattle.nf_session.specs.Session.{Session}
 use Rattle.nf_session.specs.Steps.{Closes, EndsBy, Invites, IsResponse, Judges, Passes, Scene, Sends, Starts, TakesIn}
 use Rattle.nf_session.specs.Turn.{Answers, CutsShort, Responds, StopsShort, Turn, Way, Writes, end_by, end_of, end_of_close, end_of_denial, how_of, manner_of, stays_granted, way_of}
 use Rattle.nf_session.specs.declared.begun.Begun.{Begun}

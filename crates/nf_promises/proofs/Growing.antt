@@ -1,5 +1,5 @@
 -- How a history grows by each step of a turn, as far as that is no other seat's doing.
-use Rattle.std.proofs.Common.{ℕ, ◌+◌, ◌≡◌, ◌≤◌, length, Option, Result, ap, arith}
+use Rattle.std.proofs.Common.{ℕ, ◌≡◌, Option, Result, ap, arith}
 use Rattle.nf_http.specs.Head.{Head}
 use Rattle.nf_http.specs.declared.wire.WireFault.{WireFault}
 use Rattle.nf_session.specs.Book.{Book}

@@ -1,5 +1,5 @@
 -- What a PUT that was stored makes of the state, and of a GET of its path behind it.
-use Rattle.std.proofs.Common.{ℕ, ◌-◌, ◌≡◌, false, List, [], ◌∷◌, ◌++◌, length, Option, None, Some, Result, Ok, Err, is_some, slice_get, unwrap_or, get_or, if◌then◌else◌, refl, sym, ap, subst, ◌∙◌, arith, length-append}
+use Rattle.std.proofs.Common.{ℕ, ◌-◌, ◌≡◌, false, List, [], ◌∷◌, ◌++◌, length, Option, None, Some, Result, Ok, is_some, slice_get, unwrap_or, get_or, if◌then◌else◌, refl, sym, ap, subst, ◌∙◌, arith, length-append}
 use Rattle.std.specs.Prelude.{IsOk, bytes_eq}
 use Rattle.std.specs.List.{list_all}
 use Rattle.std.specs.Option.{option_and_then, option_map_or}

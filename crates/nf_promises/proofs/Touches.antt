@@ -1,6 +1,6 @@
 -- What each step of a turn touches.
 use Rattle.std.proofs.Common.{ℕ, ◌≡◌, Bool, true, false, List, [], ◌∷◌, Option, Result, Ok, Err, refl, sym, ap, subst, ◌∙◌}
-use Rattle.nf_dav.specs.Reply.{continue_reply, done_reply, made_reply}
+use Rattle.nf_dav.specs.Reply.{continue_reply}
 use Rattle.nf_http.specs.Head.{Head}
 use Rattle.nf_http.specs.declared.wire.WireFault.{WireFault}
 use Rattle.nf_http.specs.declared.wire.WireFault.TheVariants as wire
@@ -10,7 +10,7 @@ use Rattle.nf_words.specs.declared.answer.Reply.TheVariants as reply
 use Rattle.nf_base.specs.declared.content.Piece.{Piece}
 use Rattle.nf_session.specs.Book.{Book}
 use Rattle.nf_session.specs.Steps.{Closes, EndsBy, EndsSo, Invites, Judges, OnlyAsks, OnlyWrites, Passes, Says, Scene, Starts, denial_of}
-use Rattle.nf_session.specs.Turn.{Responds, Way, says_close}
+use Rattle.nf_session.specs.Turn.{Responds, Way}
 use Rattle.nf_session.specs.declared.backend.Ending.{Ending}
 use Rattle.nf_session.specs.declared.begun.Begun.{Begun}
 use Rattle.nf_session.specs.declared.begun.Begun.TheVariants as begun

@@ -1,16 +1,15 @@
 -- How scenes go on by each step: what the seat knows goes on, the output grows, and a fault of an end is counted where it is named.
 -- Here are the steps at which no end fails.
-use Rattle.std.proofs.Common.{◌≡◌, ℕ, ◌+◌, ◌≤◌, List, [], ◌++◌, sym, ◌∙◌, ap, subst, inl, refl, arith, Ok, Err}
+use Rattle.std.proofs.Common.{◌≡◌, ℕ, ◌+◌, List, [], ◌++◌, sym, ◌∙◌, ap, subst, inl, refl, arith, Ok, Err}
 use Rattle.std.proofs.KnownBytes.{Appends-nil, Appends-trans}
 use Rattle.std.specs.Io.KnownBytes.{Appends}
-use Rattle.std.specs.Prelude.{Bool, true, false, Option, None, Some, Vec}
+use Rattle.std.specs.Prelude.{Bool, true, false, Option, None, Vec}
 use Rattle.std.specs.declared.alloc.Global.{Global}
 use Rattle.nf_base.specs.declared.content.Piece.{Piece}
 use Rattle.nf_dav.specs.declared.replies.Manner.{Manner}
 use Rattle.nf_http.specs.Head.{Head}
 use Rattle.nf_words.specs.declared.answer.Goal.TheVariants as goal
 use Rattle.nf_words.specs.declared.answer.Reply.TheVariants as reply
-use Rattle.nf_words.specs.declared.answer.Denial.{Denial}
 use Rattle.nf_session.specs.Book.{Answer}
 use Rattle.nf_session.specs.Files.{WritesPieces, file_front}
 use Rattle.nf_session.specs.Laws.{CountsFault, failed_first}

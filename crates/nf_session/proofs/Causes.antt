@@ -1,5 +1,5 @@
 -- How scenes go on where a message may fail, by a turn and by a session: what a session counts of the faults of its ends.
-use Rattle.std.proofs.Common.{◌≡◌, ℕ, ◌+◌, ◌*◌, ◌≤◌, suc, List, [], ◌∷◌, length, take, refl, sym, ◌∙◌, ap, subst, inl, inr, arith, Result, Ok, Err}
+use Rattle.std.proofs.Common.{◌≡◌, ℕ, ◌+◌, ◌*◌, suc, List, [], ◌∷◌, length, take, refl, sym, ◌∙◌, ap, subst, inl, inr, arith, Result, Ok, Err}
 use Rattle.std.specs.Prelude.{Bool, true, false, Option, None, Some, Vec}
 use Rattle.std.specs.declared.alloc.Global.{Global}
 use Rattle.nf_base.specs.declared.content.Piece.{Piece}
@@ -15,9 +15,8 @@ use Rattle.nf_session.specs.Files.{SendsFile, file_front}
 use Rattle.nf_session.specs.Laws.{CountsFault, SessionsFollow, failed_behind, failed_by, failed_first, failed_in, failed_pieces, failed_through}
 use Rattle.nf_session.specs.Session.{Session, Through}
 use Rattle.nf_session.specs.Steps.{Scene, OnlyReads, EndsBy, EndsSo, Says, WrotePart, denial_of}
-use Rattle.nf_session.specs.Turn.{Answers, CutsShort, Meets, Responds, StopsShort, Turn, Way, Writes, end_by, end_of, end_of_close, end_of_denial, manner_of, way_of}
+use Rattle.nf_session.specs.Turn.{Answers, CutsShort, Responds, StopsShort, Turn, Way, Writes, end_by, end_of, end_of_close, end_of_denial, manner_of, way_of}
 use Rattle.nf_session.specs.declared.backend.Ending.TheVariants as ending
-use Rattle.nf_session.specs.declared.backend.PieceFault.TheVariants as fault
 use Rattle.nf_session.specs.declared.begun.Begun.{Begun}
 use Rattle.nf_session.specs.declared.ended.Ended.{Ended}
 use Rattle.nf_session.specs.declared.ended.Ended.TheVariants as ended
