@@ -75,13 +75,6 @@ says_only a b bytes (Err ended.Memory) same = writes_none a b same
 says_only a b bytes (Err ended.WriteFault) part = part.only
 says_only a b bytes (Err other) never = absurd never
 
--- whoever is invited couldn't be told
-pub stops_only : {C : Type 0} (head : Head) (begun : Begun) (a b : Scene C) (by : Ended) → Invites {T = Unit {0}} head begun a b (Err by)
-    → OnlyWrites a b
-stops_only head begun a b by invites =
-    says_only {T = Unit {0}} a b continue_reply (Err by)
-    (sends_says {T = Unit {0}} a b continue_reply (Err by) (stops_sends head begun a b (Unit {0}) by invites))
-
 pub stored_only : {C : Type 0} (last : Bool) (way : Way) (v : Response) (a b : Scene C) (result : Result (Option Ended) Ended) → SaysStored v
     → Responds last way v a b result → OnlyWrites a b
 stored_only last way response.Made a b (Ok end) says (is, wrote) = writes_all a b wrote.only
@@ -89,17 +82,6 @@ stored_only last way response.Made a b (Err by) says wrote = says_only {T = Unit
 stored_only last way response.Done a b (Ok end) says (is, wrote) = writes_all a b wrote.only
 stored_only last way response.Done a b (Err by) says wrote = says_only {T = Unit {0}} a b _ (Err by) wrote
 stored_only last way other a b result says responds = absurd says
-
-ends_so_only : {C : Type 0} (refusal : Denial) (a b : Scene C) (end : Ended) → EndsSo refusal a b end → OnlyWrites a b
-ends_so_only refusal a b ended.BadMessage wrote = writes_all a b wrote.only
-ends_so_only refusal a b ended.WriteFault part = part.only
-ends_so_only refusal a b ended.Memory same = writes_none a b same
-ends_so_only refusal a b other never = absurd never
-
-pub ends_only : {C : Type 0} (fault : WireFault) (a b : Scene C) (end : Ended) → EndsBy fault a b end → OnlyWrites a b
-ends_only wire.ReadFault a b end (is, same) = writes_none a b same
-ends_only wire.Memory a b end (is, same) = writes_none a b same
-ends_only other a b end ends = ends_so_only (denial_of other) a b end ends
 
 -- ---- one of these
 

@@ -57,13 +57,3 @@ stored_responding a b now body (Ok reply.Closed) v ends is = absurd is
 stored_responding a b now body (Ok (reply.Listing lines)) v ends is = absurd ends.answered
 stored_responding a b now body (Ok (reply.Granted goal)) v ends is = absurd is
 stored_responding a b now body answer v ends is = subst (λ (z : Response). IsResponding b z) (sym is) (enters_holds a b now _ answer ends.enters)
-
--- what is responded says what is held
-pub responding_holds : (b : Book) (v : Response) → IsResponding b v → stays_granted v ≡ is_some (held b)
-responding_holds b (response.File content first) responding = sym (ap is_some responding.held_is)
-responding_holds b (response.Lost fault) responding = sym responding
-responding_holds b other responding = sym (ap is_some responding)
-
-pub begun_holds : (b : Book) (v : Begun) → IsBegun b v → is_granted v ≡ is_some (held b)
-begun_holds b (begun.Asked (Ok (reply.Granted goal))) is = sym (ap is_some is.held_is)
-begun_holds b other is = sym (ap is_some is.held_is)
