@@ -15,7 +15,7 @@ use Rattle.nf_http.specs.declared.wire.WireFault.TheVariants as wire
 use Rattle.nf_words.specs.declared.answer.Goal.TheVariants as goal
 use Rattle.nf_words.specs.declared.answer.Reply.TheVariants as reply
 use Rattle.nf_session.specs.Book.{Answer, Book, EndsBody, Waits, event_of_body}
-use Rattle.nf_session.specs.Steps.{Bodies, Cuts, IsResponse, Passes, Scene, Starts, StartsFile, StoresBody, TakesIn, cutting, taken_length}
+use Rattle.nf_session.specs.Steps.{Bodies, Cuts, IsResponse, OnlyReads, Passes, Scene, Starts, StartsFile, StoresBody, TakesIn, cutting, taken_length}
 use Rattle.nf_session.specs.declared.begun.Begun.{Begun}
 use Rattle.nf_session.specs.declared.begun.Begun.TheVariants as begun
 use Rattle.nf_session.specs.declared.response.Response.{Response}
@@ -23,7 +23,7 @@ use Rattle.nf_session.specs.declared.response.Response.TheVariants as response
 use Rattle.nf_checks.specs.Alike.{AreSame, IsAlone, IsCalmAnswer, IsCalmResponse, IsSteady, KnowSame, TellSame}
 use Rattle.nf_checks.proofs.Basics.{Left, left_of, told_moved, told_taken}
 use Rattle.nf_checks.proofs.Books.{enters_same, know_next, know_self, lone_waits}
-use Rattle.nf_checks.proofs.Scenes.{Stays, asks_same, reads_stay, readings_same, same_self, same_stays}
+use Rattle.nf_checks.proofs.Scenes.{asks_same, readings_same, same_reads, same_self}
 
 -- ---- responses
 
@@ -72,18 +72,14 @@ lone_waited a b (inr w) alone = lone_waits a b w alone
 starts_same : {C : Type 0} (a b c d : Scene C) (content : List Piece) (v w : Response)
     → AreSame a c → StartsFile a b content v → StartsFile c d content w → IsCalmResponse v → IsCalmResponse w
     → IsAlone a.book b.book → IsAlone c.book d.book → Similar v w × AreSame b d
-starts_same {C = C} a b c d content v w same p q calm still alone also =
+starts_same a b c d content v w same p q calm still alone also =
     let one : Started a.book b.book content v = started a.book b.book content v p.starts calm in
-    let other : Started c.book d.book content w = started c.book d.book content w q.starts still in (
+    let other : Started c.book d.book content w = started c.book d.book content w q.starts still in
+    let book : KnowSame b.book d.book = know_next a.book b.book c.book d.book same.book
+    (lone_waited a.book b.book one.waits alone) (lone_waited c.book d.book other.waits also) in (
       files_similar content v w one.file other.file,
-      record {
-        input = told_moved a.input b.input c.input d.input same.input (ap (λ (z : Scene C). z.input) p.only) (ap (λ (z : Scene C). z.input) q.only);
-        output = told_moved a.output b.output c.output d.output same.output
-            (ap (λ (z : Scene C). z.output) p.only) (ap (λ (z : Scene C). z.output) q.only);
-        book = know_next a.book b.book c.book d.book same.book
-            (lone_waited a.book b.book one.waits alone) (lone_waited c.book d.book other.waits also);
-        clock = ap (λ (z : Scene C). z.clock) q.only ∙ same.clock ∙ sym (ap (λ (z : Scene C). z.clock) p.only);
-      },
+      same_self (record a { book = b.book }) b (record c { book = d.book }) d
+          (record { input = same.input; output = same.output; book = book; clock = same.clock }) p.only q.only,
     )
 
 -- ---- the body that is stored
@@ -118,19 +114,12 @@ passes_same reads body a b c d (begun.Asked answer) v w steady same p q calm sti
 
 -- ---- the body itself
 
-bodies_stay : {C : Type 0} (a b : Scene C) (n : ℕ) (p : List ℕ) → Bodies a b n p → Stays a b
-bodies_stay {C = C} a b n p x = record {
-  output = ap (λ (z : Scene C). z.output) x.only;
-  book = ap (λ (z : Scene C). z.book) x.only;
-  clock = ap (λ (z : Scene C). z.clock) x.only;
-}
-
 pub bodies_same : {C : Type 0} (a b c d : Scene C) (n : ℕ) (p q : List ℕ)
     → AreSame a c → Bodies a b n p → Bodies c d n q → (p ≡ q) × AreSame b d
-bodies_same a b c d n p q same x y =
-    let taken : (p ≡ q) × TellSame b.input d.input =
-    told_taken a.input b.input c.input d.input n p q same.input x.taken y.taken in
-    (taken.0, same_stays a b c d same (bodies_stay a b n p x) (bodies_stay c d n q y) taken.1)
+bodies_same a b c d n p q s x y =
+    let taken : (p ≡ q) × TellSame b.input d.input = told_taken a.input b.input c.input d.input n p q s.input x.taken y.taken in
+    (taken.0, same_self (record a { input = b.input }) b (record c { input = d.input }) d
+    (record { input = taken.1; output = s.output; book = s.book; clock = s.clock }) x.only y.only)
 
 pub takes_same : {C : Type 0} (reads : C → ℕ → C → Type 0) (head : Head) (a b c d : Scene C) (x : Begun)
     (v w : Response)
@@ -148,7 +137,7 @@ takes_same {C = C} reads head a b c d x v w steady same (m, p, bodies1, passes1)
 -- a body that neither a fault of reading nor want of memory cut, was cut by the end of the input
 pub record IsCut {C : Type 0} (a b : Scene C) (n : ℕ) (fault : WireFault) : Type 0 where
   pub fault_is : fault ≡ wire.Truncated
-  pub stays : Stays a b
+  pub only : OnlyReads a b
   pub cut : CutsRead a.input b.input n wire.Truncated
 
 cut_read : (a b : Option (List ℕ)) (n : ℕ) (fault : WireFault) → CutsRead a b n fault → IsOfBytes (Err fault)
@@ -171,7 +160,7 @@ pub cut_of : {C : Type 0} (a b : Scene C) (x : Begun) (n : ℕ) (fault : WireFau
     → Cuts (cutting x) a b n fault → IsOfBytes (Err fault) → IsCut a b n fault
 cut_of a b x n fault cuts calm =
     let cut : (fault ≡ wire.Truncated) × CutsRead a.input b.input n wire.Truncated = cut_by x a.input b.input n fault cuts.cut calm in
-    record { fault_is = cut.0; stays = reads_stay a b cuts.only; cut = cut.1 }
+    record { fault_is = cut.0; only = cuts.only; cut = cut.1 }
 
 -- nothing is left
 nothing_left : (a b : Option (List ℕ)) (xs : List ℕ) (n : ℕ) → a ≡ Some xs → CutsRead a b n wire.Truncated → b ≡ Some []
@@ -181,7 +170,7 @@ nothing_left a b xs n e cut =
 
 pub cuts_same : {C : Type 0} (a b c d : Scene C) (n : ℕ) (x y : WireFault)
     → AreSame a c → IsCut a b n x → IsCut c d n y → AreSame b d
-cuts_same a b c d n x y same p q = same_stays a b c d same p.stays q.stays
+cuts_same a b c d n x y same p q = same_reads a b c d same p.only q.only
     ([], nothing_left a.input b.input same.input.0 n same.input.1 p.cut, nothing_left c.input d.input same.input.0 n same.input.2 q.cut)
 
 -- a body that is there whole isn't cut

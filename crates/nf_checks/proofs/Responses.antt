@@ -27,7 +27,7 @@ use Rattle.nf_checks.specs.Alike.{AreSame, Clash, IsAlone, IsCalmEnd, IsCalmEnde
 use Rattle.nf_checks.proofs.Basics.{told_appended, told_more, told_moved}
 use Rattle.nf_checks.proofs.Bodies.{Similar, equal, files}
 use Rattle.nf_checks.proofs.Books.{know_next, lone_waits}
-use Rattle.nf_checks.proofs.Scenes.{wrote_same}
+use Rattle.nf_checks.proofs.Scenes.{same_self, wrote_same}
 
 -- ---- the bytes of pieces
 
@@ -96,17 +96,18 @@ pieces_same : {C : Type 0} (a b c d : Scene C) (close : Bool) (content : List Pi
     (first other : Option (Vec ℕ Global)) (xs ys : List (List ℕ))
     → AreSame a c → WritesPieces close content first a b xs → WritesPieces close content other c d ys → xs ≡ ys
     → IsAlone a.book b.book → IsAlone c.book d.book → AreSame b d
-pieces_same {C = C} a b c d close content first other xs ys same p q e alone also =
+pieces_same a b c d close content first other xs ys s p q e alone also =
     let bytes : Appends c.output d.output (file_front close content xs) =
     subst (λ z. Appends c.output d.output (file_front close content z)) (sym e) q.bytes_are in
-    record {
-      input = told_moved a.input b.input c.input d.input same.input
-          (ap (λ (z : Scene C). z.input) p.pieces.only) (ap (λ (z : Scene C). z.input) q.pieces.only);
-      output = told_appended a.output b.output c.output d.output (file_front close content xs) same.output p.bytes_are bytes;
-      book = know_next a.book b.book c.book d.book same.book
+    same_self (record a { book = b.book; output = b.output; write_faults = b.write_faults }) b
+    (record c { book = d.book; output = d.output; write_faults = d.write_faults }) d
+    (record {
+      input = s.input;
+      output = told_appended a.output b.output c.output d.output (file_front close content xs) s.output p.bytes_are bytes;
+      book = know_next a.book b.book c.book d.book s.book
           (lone_waits a.book b.book p.pieces.waits alone) (lone_waits c.book d.book q.pieces.waits also);
-      clock = ap (λ (z : Scene C). z.clock) q.pieces.only ∙ same.clock ∙ sym (ap (λ (z : Scene C). z.clock) p.pieces.only);
-    }
+      clock = s.clock;
+    }) p.pieces.only q.pieces.only
 
 -- a file that is sent whole
 abbrev Whole : {C : Type 0} → Bool → List Piece → Option (Vec ℕ Global) → Scene C → Scene C → Type 0

@@ -36,26 +36,10 @@ same_back a c s = record {
 }
 
 -- nothing but the input was touched
-pub record Stays {C : Type 0} (a b : Scene C) : Type 0 where
-  pub output : b.output ≡ a.output
-  pub book : b.book ≡ a.book
-  pub clock : b.clock ≡ a.clock
-
-pub reads_stay : {C : Type 0} (a b : Scene C) → OnlyReads a b → Stays a b
-reads_stay {C = C} a b e = record {
-  output = ap (λ (z : Scene C). z.output) e;
-  book = ap (λ (z : Scene C). z.book) e;
-  clock = ap (λ (z : Scene C). z.clock) e;
-}
-
-pub same_stays : {C : Type 0} (a b c d : Scene C) → AreSame a c → Stays a b → Stays c d → TellSame b.input d.input
-    → AreSame b d
-same_stays a b c d s p q input = record {
-  input = input;
-  output = told_moved a.output b.output c.output d.output s.output p.output q.output;
-  book = know_next a.book b.book c.book d.book s.book (know_self a.book b.book p.book) (know_self c.book d.book q.book);
-  clock = q.clock ∙ s.clock ∙ sym p.clock;
-}
+pub same_reads : {C : Type 0} (a b c d : Scene C) → AreSame a c → OnlyReads a b → OnlyReads c d → TellSame b.input d.input → AreSame b d
+same_reads a b c d s p q input = same_self (record a { input = b.input; read_faults = b.read_faults }) b
+    (record c { input = d.input; read_faults = d.read_faults }) d
+    (record { input = input; output = s.output; book = s.book; clock = s.clock }) p q
 
 -- ---- heads
 
@@ -79,19 +63,19 @@ heads_same a b c d x y s p q calm still =
     let other : IsNext (Some s.input.0) d.input y = subst (λ z. IsNext z d.input y) s.input.2 q.next in
     let same : (x ≡ y) × (b.input ≡ d.input) = one_answer_and_rest s.input.0 b.input d.input x y one other calm still in
     let left : Left b.input = told_next s.input.0 b.input x one calm in
-    (same.0, same_stays a b c d s (reads_stay a b p.only) (reads_stay c d q.only) (left.0, left.1, sym same.1 ∙ left.1))
+    (same.0, same_reads a b c d s p.only q.only (left.0, left.1, sym same.1 ∙ left.1))
 
 -- ---- writing
 
 pub wrote_same : {C : Type 0} (a b c d : Scene C) (bytes : List ℕ)
     → AreSame a c → Wrote a b bytes → Wrote c d bytes → AreSame b d
-wrote_same {C = C} a b c d bytes s p q = record {
-  input = told_moved a.input b.input c.input d.input s.input (ap (λ (z : Scene C). z.input) p.only) (ap (λ (z : Scene C). z.input) q.only);
-  output = told_appended a.output b.output c.output d.output bytes s.output p.bytes_are q.bytes_are;
-  book = know_next a.book b.book c.book d.book s.book
-      (know_self a.book b.book (ap (λ (z : Scene C). z.book) p.only)) (know_self c.book d.book (ap (λ (z : Scene C). z.book) q.only));
-  clock = ap (λ (z : Scene C). z.clock) q.only ∙ s.clock ∙ sym (ap (λ (z : Scene C). z.clock) p.only);
-}
+wrote_same a b c d bytes s p q = same_self (record a { output = b.output }) b (record c { output = d.output }) d
+    (record {
+      input = s.input;
+      output = told_appended a.output b.output c.output d.output bytes s.output p.bytes_are q.bytes_are;
+      book = s.book;
+      clock = s.clock;
+    }) p.only q.only
 
 -- ---- asking
 
@@ -104,12 +88,8 @@ readings_same reads a b c d now also steady s p q =
 
 pub asks_same : {C : Type 0} (a b c d : Scene C)
     → AreSame a c → OnlyAsks a b → OnlyAsks c d → KnowSame b.book d.book → b.clock ≡ d.clock → AreSame b d
-asks_same {C = C} a b c d s p q book clock = record {
-  input = told_moved a.input b.input c.input d.input s.input (ap (λ (z : Scene C). z.input) p) (ap (λ (z : Scene C). z.input) q);
-  output = told_moved a.output b.output c.output d.output s.output (ap (λ (z : Scene C). z.output) p) (ap (λ (z : Scene C). z.output) q);
-  book = book;
-  clock = sym clock;
-}
+asks_same a b c d s p q book clock = same_self (record a { book = b.book; clock = b.clock }) b (record c { book = d.book; clock = d.clock }) d
+    (record { input = s.input; output = s.output; book = book; clock = sym clock }) p q
 
 unasked : (head : Head) (refusal : Denial) → IsUnasked head refusal → IsCalmDenial refusal
     → request_of head ≡ Err refusal

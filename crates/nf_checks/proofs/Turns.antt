@@ -22,7 +22,7 @@ use Rattle.nf_checks.specs.Alike.{AreSame, Clash, IsAlone, IsCalmBegun, IsCalmEn
 use Rattle.nf_checks.proofs.Bodies.{IsCut, Similar, cut_of, cuts_same, takes_same, never_cut}
 use Rattle.nf_checks.proofs.Goes.{Goes, alone_first, alone_then, clash_on, goes_of, goes_on}
 use Rattle.nf_checks.proofs.Responses.{IsDenied, IsWritten, denied_of, ends_similar, how_similar, stays_similar, untold, writes_same, written_of}
-use Rattle.nf_checks.proofs.Scenes.{closes_same, heads_same, judges_same, reads_stay, same_back, same_self, wrote_same}
+use Rattle.nf_checks.proofs.Scenes.{closes_same, heads_same, judges_same, same_back, same_self, wrote_same}
 
 -- ---- what a calm turn is
 
@@ -290,12 +290,12 @@ pub turns_same : {C : Type 0} (reads : C → ℕ → C → Type 0) (last : Bool)
     (one : Turn reads last a b end) (other : Turn reads last c d also) → IsSteady reads → AreSame a c
     → IsCalmTurn reads last a b end one → IsCalmTurn reads last c d also other → IsCalmEnd end → IsCalmEnd also
     → IsAlone a.book b.book → IsAlone c.book d.book → EndsSame b d end also ⊎ Clash b d
-turns_same reads last a b c d end also one other steady same calm still well good alone lone =
+turns_same {C} reads last a b c d end also one other steady same calm still well good alone lone =
     let p = calm_of reads last a b end one calm well in
     let q = calm_of reads last c d also other still good in
     let heads : (p.found ≡ q.found) × AreSame p.read q.read =
     heads_same a p.read c q.read p.found q.found same p.heads q.heads p.bytes q.bytes in
     follow_same reads last p.found p.read b q.read d end also steady heads.1 p.follows
     (subst (λ z. Follows reads last z q.read d also) (sym heads.0) q.follows)
-    (subst (λ z. IsAlone z b.book) (sym (reads_stay a p.read p.heads.only).book) alone)
-    (subst (λ z. IsAlone z d.book) (sym (reads_stay c q.read q.heads.only).book) lone)
+    (subst (λ z. IsAlone z b.book) (sym (ap (λ (z : Scene C). z.book) p.heads.only)) alone)
+    (subst (λ z. IsAlone z d.book) (sym (ap (λ (z : Scene C). z.book) q.heads.only)) lone)
