@@ -29,7 +29,7 @@ use Rattle.nf_session.proofs.Calm.{goes_first, heads_go, invites_go, judges_go}
 use Rattle.nf_session.proofs.Causes.{answers_go, turn_goes}
 use Rattle.nf_session.proofs.Moving.{same_moves}
 use Rattle.nf_promises.proofs.Growing.{only_within}
-use Rattle.nf_promises.proofs.Marks.{done_mark, ends_not_done, invited_mark, is_done, made_mark, one_written, responds_stored}
+use Rattle.nf_promises.proofs.Marks.{Other, done_mark, ends_other, invited_mark, other_not_done, is_done, made_mark, one_written, responds_stored}
 use Rattle.nf_promises.proofs.Puts.{BeginsPut, put_begun}
 use Rattle.nf_promises.proofs.Returning.{appends_by, cut_not_written, put_then_get, takes_output}
 use Rattle.nf_promises.proofs.Touches.{closes_only, input_of, judges_only, output_of, passes_only, stored_only}
@@ -172,8 +172,9 @@ cuts_not_done : {C : Type 0} (reads : C → ℕ → C → Type 0) (head : Head) 
 cuts_not_done {C} reads head begun n b end w cuts told wrote done =
     let front : cuts.cut.output ≡ n.output = ap (λ (y : Scene C). y.output) cuts.takes.only in
     let closed = output_of cuts.sent b (closes_only reads ending.Gone (is_granted begun) cuts.sent b cuts.closes) in
-    ends_not_done cuts.fault cuts.cut cuts.sent w cuts.by cuts.responds (subst (λ (o : Option (List ℕ)). IsSome o) (sym front) told)
-    (appends_by cuts.cut.output cuts.sent.output n.output b.output w (sym front) closed wrote) done
+    other_not_done n.output b.output w
+    (subst (λ (o : Option (List ℕ)). Other o b.output) front (subst (λ (o : Option (List ℕ)). Other cuts.cut.output o) (sym closed)
+    (ends_other cuts.fault cuts.cut cuts.sent cuts.by cuts.responds))) told wrote done
 
 -- one that couldn't be told wrote less than the invitation
 stopped_waits : {C : Type 0} (head : Head) (begun : Begun) (a b : Scene C) (by : Ended) → Invites {T = Unit {0}} head begun a b (Err by)
@@ -215,8 +216,8 @@ turn_puts reads last caller spot h body left a b end answer prints input told wr
     absurd (none_is_no_head a b h (put_of caller spot (length body)) (body ++ left) prints input heads)
 turn_puts {C} reads last caller spot h body left a b end answer prints input told wrote done only (inr (inl (m, why, by, heads, ends, is))) =
     let front : m.output ≡ a.output = ap (λ (y : Scene C). y.output) heads.only in
-    absurd (ends_not_done why m b (invitation (head_of h) ++ answer) by ends (subst (λ (o : Option (List ℕ)). IsSome o) (sym front) told)
-    (appends_by m.output b.output a.output b.output (invitation (head_of h) ++ answer) (sym front) refl wrote) (told_done (head_of h) answer done))
+    absurd (other_not_done a.output b.output (invitation (head_of h) ++ answer)
+    (subst (λ (o : Option (List ℕ)). Other o b.output) front (ends_other why m b by ends)) told wrote (told_done (head_of h) answer done))
 turn_puts {C} reads last caller spot h body left a b end answer prints input told wrote done only (inr (inr (k, head, heads, (m, begun, judges, meets)))) =
     here meets
   where

@@ -97,12 +97,12 @@ module _ {C : Type 0} (reads : C → ℕ → C → Type 0) (last : Bool) (head :
       way = way_of head (begun.Asked (Ok (reply.Granted (goal.Store who key size))))
 
       says : (answer : Answer) → IsOfBody answer → IsResponse answer v → SaysEnd head (last || closes_session head) answer a b
-      says (Ok reply.Made) of is =
-          word_written (invitation head) (last || closes_session head) last way reply.Made v a k s b (close_is last (closes_session head)) fronts is writes
-      says (Ok reply.Done) of is =
-          word_written (invitation head) (last || closes_session head) last way reply.Done v a k s b (close_is last (closes_session head)) fronts is writes
-      says (Ok other) never is = absurd never
       says (Err refusal) of is = refusal_written (invitation head) last way refusal v a k s b fronts is writes
+      says (Ok reply.Closed) never is = absurd never
+      says (Ok (reply.Granted goal)) never is = absurd never
+      says (Ok (reply.Listing lines)) never is = absurd never
+      says (Ok word) of is =
+          word_written (invitation head) (last || closes_session head) last way word v a k s b (close_is last (closes_session head)) fronts is writes
 
       here : (answer ≡ Err denial.Memory) ⊎ IsAnswerOf a.book b.book (event_of_body body) answer
           → IsWanting head a b end ⊎ SaysStored head (last || closes_session head) size a b
@@ -118,15 +118,6 @@ module _ {C : Type 0} (reads : C → ℕ → C → Type 0) (last : Bool) (head :
       → Fronts (invited_bytes head (begun.Asked answer)) k s a b → TakesBody a.input b.input (taken_length head (begun.Asked answer)) body
       → Passes reads body x k (begun.Asked answer) v → Writes {T = Unit {0}} (manner_of last (way_of head (begun.Asked answer)) v) v k s (Ok tt)
       → IsWanting head a b end ⊎ Says head (last || closes_session head) answer a b
-  answer_said (Ok reply.Made) v end x k s body before taken sent fronts takes (is, same) writes =
-      inr (word_written [] (last || closes_session head) last (way_of head (begun.Asked (Ok reply.Made))) reply.Made v a k s b
-      (close_is last (closes_session head)) fronts is writes)
-  answer_said (Ok reply.Done) v end x k s body before taken sent fronts takes (is, same) writes =
-      inr (word_written [] (last || closes_session head) last (way_of head (begun.Asked (Ok reply.Done))) reply.Done v a k s b
-      (close_is last (closes_session head)) fronts is writes)
-  answer_said (Ok (reply.Listing lines)) v end x k s body before taken sent fronts takes (is, same) writes =
-      inr (word_written [] (last || closes_session head) last (way_of head (begun.Asked (Ok (reply.Listing lines)))) (reply.Listing lines) v a k s b
-      (close_is last (closes_session head)) fronts is writes)
   answer_said (Ok reply.Closed) v end x k s body before taken sent fronts takes (never, same) writes = absurd never
   answer_said (Ok (reply.Granted (goal.Serve content))) v end x k s body before taken sent fronts takes starts writes =
       file_said content v end x k s before sent fronts starts writes
@@ -134,6 +125,9 @@ module _ {C : Type 0} (reads : C → ℕ → C → Type 0) (last : Bool) (head :
       body_said who key size body v end x k s before taken fronts takes stores writes
   answer_said (Err refusal) v end x k s body before taken sent fronts takes (is, same) writes =
       inr (refusal_written [] last (way_of head (begun.Asked (Err refusal))) refusal v a k s b fronts is writes)
+  answer_said (Ok word) v end x k s body before taken sent fronts takes passes writes =
+      inr (word_written [] (last || closes_session head) last (way_of head (begun.Asked (Ok word))) word v a k s b
+      (close_is last (closes_session head)) fronts passes.0 writes)
 
   -- it found the run full, or was met
   begun_met : (r : Request) (u : Begun) (v : Response) (end : Option Ended) (n x k s : Scene C) (body : List ℕ) → request_of head ≡ Ok r

@@ -191,14 +191,18 @@ starts_lost a b next body why (Some id) is (waits, fails) = (id, is, waits.lasts
 
 -- ---- what is written
 
--- the same, of two scenes with a book before them
-abbrev pub Shown : {C : Type 0} → Bool → Bool → List ℕ → Book → Scene C → Scene C → Type 0
-Shown close unsent body k a b =
-    ((bytes : List ℕ) × AreOfBody k.told body bytes × Appends a.output b.output (file_head close (length body) ++ bytes))
+-- over a store that tells so, where such a failure is one
+abbrev pub ShownOf : {C : Type 0} → Bool → Bool → List ℕ → Option Blobs → Type 0 → Scene C → Scene C → Type 0
+ShownOf close unsent body told fails a b =
+    ((bytes : List ℕ) × AreOfBody told body bytes × Appends a.output b.output (file_head close (length body) ++ bytes))
     ⊎ Appends a.output b.output (refusal_reply (plainly close) denial.Memory)
     ⊎ Appends a.output b.output (refusal_reply (plainly (close || unsent)) denial.Memory)
-    ⊎ (Appends a.output b.output (refusal_reply (plainly close) denial.Store) × FailsStore k a.book)
-    ⊎ ShowsDamage k.told close a b
+    ⊎ (Appends a.output b.output (refusal_reply (plainly close) denial.Store) × fails)
+    ⊎ ShowsDamage told close a b
+
+-- the same, of two scenes with a book before them
+abbrev pub Shown : {C : Type 0} → Bool → Bool → List ℕ → Book → Scene C → Scene C → Type 0
+Shown close unsent body k a b = ShownOf close unsent body k.told (FailsStore k a.book) a b
 
 says_is : (last closes : Bool) → (last || is_some (end_of_close closes)) ≡ (last || closes)
 says_is last true = refl

@@ -24,7 +24,7 @@ use Rattle.nf_session.proofs.Calm.{closes_go, goes_first, goes_then, invites_go,
 use Rattle.nf_session.proofs.Causes.{answers_go, turn_goes}
 use Rattle.nf_session.proofs.Moving.{same_moves}
 use Rattle.nf_session.proofs.Inviting.{stops_sends}
-use Rattle.nf_promises.proofs.Gets.{Shown, begun_shown, get_not_invited}
+use Rattle.nf_promises.proofs.Gets.{ShownOf, begun_shown, get_not_invited}
 use Rattle.nf_promises.proofs.Growing.{heads_same, only_within}
 use Rattle.nf_promises.proofs.Puts.{IsKept, put_is_kept}
 use Rattle.nf_promises.proofs.Touches.{closes_only, judges_only, output_of, passes_only}
@@ -86,35 +86,24 @@ damage_by : {C : Type 0} (told : Option Blobs) (close : Bool) (k a b c : Scene C
 damage_by None close k a b c front end (damage, is) = (damage, appends_by k.output c.output a.output b.output _ front end is)
 damage_by (Some shelf) close k a b c front end never = never
 
-shown_later : {C : Type 0} (close unsent : Bool) (body : List ℕ) (k a b c : Scene C) → a.output ≡ k.output → b.output ≡ c.output
-    → a.book.strikes ≤ c.book.strikes → Shown close unsent body k.book a b → ShowsFile close unsent body k c
-shown_later close unsent body k a b c front end later (inl (bytes, are, is)) =
+shown_by : {C : Type 0} (close unsent : Bool) (body : List ℕ) (told : Option Blobs) (fails more : Type 0) (k a b c : Scene C) → a.output ≡ k.output
+    → b.output ≡ c.output → (fails → more) → ShownOf close unsent body told fails a b → ShownOf close unsent body told more k c
+shown_by close unsent body told fails more k a b c front end still (inl (bytes, are, is)) =
     inl (bytes, are, appends_by k.output c.output a.output b.output _ front end is)
-shown_later close unsent body k a b c front end later (inr (inl is)) = inr (inl (appends_by k.output c.output a.output b.output _ front end is))
-shown_later close unsent body k a b c front end later (inr (inr (inl is))) =
+shown_by close unsent body told fails more k a b c front end still (inr (inl is)) = inr (inl (appends_by k.output c.output a.output b.output _ front end is))
+shown_by close unsent body told fails more k a b c front end still (inr (inr (inl is))) =
     inr (inr (inl (appends_by k.output c.output a.output b.output _ front end is)))
-shown_later close unsent body k a b c front end later (inr (inr (inr (inl (is, fails))))) =
-    let still : FailsStore k.book c.book = omega (arith, later, fails) in
-    inr (inr (inr (inl (appends_by k.output c.output a.output b.output _ front end is, still))))
-shown_later close unsent body k a b c front end later (inr (inr (inr (inr damage)))) =
-    inr (inr (inr (inr (damage_by k.book.told close k a b c front end damage))))
+shown_by close unsent body told fails more k a b c front end still (inr (inr (inr (inl (is, failed))))) =
+    inr (inr (inr (inl (appends_by k.output c.output a.output b.output _ front end is, still failed))))
+shown_by close unsent body told fails more k a b c front end still (inr (inr (inr (inr damage)))) =
+    inr (inr (inr (inr (damage_by told close k a b c front end damage))))
 
 -- nor does taking a head write anything
 pub front_shown : {C : Type 0} (close unsent : Bool) (body : List ℕ) (k a c : Scene C) → a.output ≡ k.output → a.book ≡ k.book
     → ShowsFile close unsent body a c → ShowsFile close unsent body k c
-front_shown close unsent body k a c front book (inl (bytes, are, is)) =
-    inl (
-      bytes,
-      subst (λ (x : Book). AreOfBody x.told body bytes) book are,
-      appends_by k.output c.output a.output c.output _ front refl is,
-    )
-front_shown close unsent body k a c front book (inr (inl is)) = inr (inl (appends_by k.output c.output a.output c.output _ front refl is))
-front_shown close unsent body k a c front book (inr (inr (inl is))) =
-    inr (inr (inl (appends_by k.output c.output a.output c.output _ front refl is)))
-front_shown close unsent body k a c front book (inr (inr (inr (inl (is, fails))))) =
-    inr (inr (inr (inl (appends_by k.output c.output a.output c.output _ front refl is, subst (λ (x : Book). FailsStore x c.book) book fails))))
-front_shown close unsent body k a c front book (inr (inr (inr (inr damage)))) =
-    inr (inr (inr (inr (subst (λ (x : Book). ShowsDamage x.told close k c) book (damage_by a.book.told close k a c c front refl damage)))))
+front_shown close unsent body k a c front book shown =
+    subst (λ (x : Book). ShownOf close unsent body x.told (FailsStore x c.book) k c) book
+    (shown_by close unsent body a.book.told (FailsStore a.book c.book) (FailsStore a.book c.book) k a c c front refl (λ fails. fails) shown)
 
 -- over a store that tells, it is the body
 pub told_shown : {C : Type 0} (close unsent : Bool) (body : List ℕ) (shelf : Blobs) (a b : Scene C) → a.book.told ≡ Some shelf
@@ -146,7 +135,8 @@ answers_shown {C} reads last head caller spot body begun k m b end asked judges 
     let later : answers.taken.book.strikes ≤ b.book.strikes =
     (goes_then (writes_go (manner_of last (way_of head begun) v) v answers.taken answers.sent wrote.1)
     (closes_go reads (how_of v answers.result) (stays_granted v) answers.sent b answers.closes)).book.onward.lasts.strikes in
-    shown_later (last || closes_session head) (waits head) body k answers.taken answers.sent b front (sym closed) later shown
+    shown_by (last || closes_session head) (waits head) body k.book.told (FailsStore k.book answers.taken.book) (FailsStore k.book b.book)
+    k answers.taken answers.sent b front (sym closed) (λ fails. omega (arith, later, fails)) shown
 
 pub meets_shown : {C : Type 0} (reads : C → ℕ → C → Type 0) (last : Bool) (head : Head) (caller : Caller) (spot : Spot) (body : List ℕ)
     (k b : Scene C) (end : Option Ended) → Meets reads last head k b end → request_of head ≡ Ok (get_of caller spot)
