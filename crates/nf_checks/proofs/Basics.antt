@@ -7,9 +7,6 @@ use Rattle.nf_http.specs.Bodies.{TakesBody}
 use Rattle.nf_http.proofs.Wholes.{one_body}
 use Rattle.nf_checks.specs.Alike.{TellSame}
 
-pub told_moved : (a b c d : Option (List ℕ)) → TellSame a c → b ≡ a → d ≡ c → TellSame b d
-told_moved a b c d (bytes, e, f) p q = (bytes, p ∙ e, q ∙ f)
-
 pub told_more : (xs bytes : List ℕ) (b : Option (List ℕ)) → Appends (Some xs) b bytes → b ≡ Some (xs ++ bytes)
 told_more xs bytes None x = absurd x
 told_more xs bytes (Some ys) x = ap (λ z. Some z) x

@@ -21,7 +21,7 @@ use Rattle.nf_session.specs.declared.begun.Begun.TheVariants as begun
 use Rattle.nf_session.specs.declared.response.Response.{Response}
 use Rattle.nf_session.specs.declared.response.Response.TheVariants as response
 use Rattle.nf_checks.specs.Alike.{AreSame, IsAlone, IsCalmAnswer, IsCalmResponse, IsSteady, KnowSame, TellSame}
-use Rattle.nf_checks.proofs.Basics.{Left, left_of, told_moved, told_taken}
+use Rattle.nf_checks.proofs.Basics.{Left, left_of, told_taken}
 use Rattle.nf_checks.proofs.Books.{enters_same, know_next, know_self, lone_waits}
 use Rattle.nf_checks.proofs.Scenes.{asks_same, readings_same, same_reads, same_self}
 

@@ -24,7 +24,7 @@ use Rattle.nf_session.specs.declared.ended.Ended.TheVariants as ended
 use Rattle.nf_session.specs.declared.response.Response.{Response}
 use Rattle.nf_session.specs.declared.response.Response.TheVariants as response
 use Rattle.nf_checks.specs.Alike.{AreSame, Clash, IsAlone, IsCalmEnd, IsCalmEnded}
-use Rattle.nf_checks.proofs.Basics.{told_appended, told_more, told_moved}
+use Rattle.nf_checks.proofs.Basics.{told_appended, told_more}
 use Rattle.nf_checks.proofs.Bodies.{Similar, equal, files}
 use Rattle.nf_checks.proofs.Books.{know_next, lone_waits}
 use Rattle.nf_checks.proofs.Scenes.{same_self, wrote_same}
@@ -35,19 +35,20 @@ decided : (x y : List ℕ) (t : Bool) → bytes_eq x y ≡ t → (x ≡ y) ⊎ (
 decided x y true e = inl ((bytes_eq-Decides x y).0 e)
 decided x y false e = inr (λ same. cc (e, (bytes_eq-Decides x y).1 same))
 
--- bytes that were given are the same up to a piece of which they differ
-record Differ (b d : Book) (xs ys : List (List ℕ)) : Type 0 where
+-- a piece of which different bytes were given
+record Differing (b d : Book) : Type 0 where
   pub piece : Piece
   pub one : List ℕ
   pub other : List ℕ
   pub given : IsPiece b piece one
   pub also : IsPiece d piece other
   pub differ : one ≢ other
-  pub front : List ℕ
-  pub rest : List ℕ
-  pub more : List ℕ
-  pub wrote : concat xs ≡ front ++ one ++ rest
-  pub wrote_also : concat ys ≡ front ++ other ++ more
+
+-- bytes that were given are the same up to one
+abbrev Differ : Book → Book → List (List ℕ) → List (List ℕ) → Type 0
+Differ b d xs ys =
+    (p : Differing b d) × (front : List ℕ) × (rest : List ℕ) × (more : List ℕ)
+    × (concat xs ≡ front ++ p.one ++ rest) × (concat ys ≡ front ++ p.other ++ more)
 
 in_front : (x front one rest : List ℕ) → x ++ (front ++ one ++ rest) ≡ (x ++ front) ++ one ++ rest
 in_front x front one rest = simp append_assoc
@@ -63,32 +64,22 @@ given_same b d (piece ∷ content) (x ∷ xs) (y ∷ ys) p q n =
   where
     both : (x ≡ y) ⊎ (x ≢ y) → (xs ≡ ys) ⊎ Differ b d xs ys → (x ∷ xs ≡ y ∷ ys) ⊎ Differ b d (x ∷ xs) (y ∷ ys)
     both (inl here) (inl there) = inl (λ i. here i ∷ there i)
-    both (inl here) (inr f) = inr (record {
-      piece = f.piece;
-      one = f.one;
-      other = f.other;
-      given = f.given;
-      also = f.also;
-      differ = f.differ;
-      front = x ++ f.front;
-      rest = f.rest;
-      more = f.more;
-      wrote = ap (λ z. x ++ z) f.wrote ∙ in_front x f.front f.one f.rest;
-      wrote_also = (λ i. sym here i ++ f.wrote_also i) ∙ in_front x f.front f.other f.more;
-    })
-    both (inr differ) there = inr (record {
-      piece = piece;
-      one = x;
-      other = y;
-      given = p.0;
-      also = q.0;
-      differ = differ;
-      front = [];
-      rest = concat xs;
-      more = concat ys;
-      wrote = refl;
-      wrote_also = refl;
-    })
+    both (inl here) (inr (p, front, rest, more, wrote, also)) = inr (
+      p,
+      x ++ front,
+      rest,
+      more,
+      ap (λ z. x ++ z) wrote ∙ in_front x front p.one rest,
+      (λ i. sym here i ++ also i) ∙ in_front x front p.other more,
+    )
+    both (inr differ) there = inr (
+      record { piece = piece; one = x; other = y; given = p.0; also = q.0; differ = differ },
+      [],
+      concat xs,
+      concat ys,
+      refl,
+      refl,
+    )
 
 -- ---- files
 
@@ -131,18 +122,18 @@ files_clash : {C : Type 0} (a b c d : Scene C) (close : Bool) (content : List Pi
     → AreSame a c → WritesPieces close content first a b xs → WritesPieces close content other c d ys
     → Differ b.book d.book xs ys
     → Clash b d
-files_clash a b c d close content first other xs ys same p q f = record {
+files_clash a b c d close content first other xs ys same p q (f, front, rest, more, wrote, also) = record {
   piece = f.piece;
   one = f.one;
   other = f.other;
   given = f.given;
   also = f.also;
   differ = f.differ;
-  front = same.output.0 ++ (file_head close (size_of content) ++ f.front);
-  rest = f.rest;
-  more = f.more;
-  wrote = file_written a.output b.output close content xs same.output.0 f.front f.one f.rest same.output.1 p.bytes_are f.wrote;
-  wrote_also = file_written c.output d.output close content ys same.output.0 f.front f.other f.more same.output.2 q.bytes_are f.wrote_also;
+  front = same.output.0 ++ (file_head close (size_of content) ++ front);
+  rest = rest;
+  more = more;
+  wrote = file_written a.output b.output close content xs same.output.0 front f.one rest same.output.1 p.bytes_are wrote;
+  wrote_also = file_written c.output d.output close content ys same.output.0 front f.other more same.output.2 q.bytes_are also;
 }
 
 files_same : {C : Type 0} (a b c d : Scene C) (close : Bool) (content : List Piece)

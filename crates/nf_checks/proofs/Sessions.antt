@@ -14,13 +14,17 @@ use Rattle.nf_checks.proofs.Goes.{Goes, alone_first, alone_then, clash_back, cla
 use Rattle.nf_checks.proofs.Scenes.{same_back}
 use Rattle.nf_checks.proofs.Turns.{EndsSame, turns_same}
 
+-- a turn that is the session's last
+record Last {C : Type 0} (reads : C → ℕ → C → Type 0) (last : Bool) (a b : Scene C) (end : Option Ended) : Type 0 where
+  pub turn : Turn reads last a b end
+  pub calm : IsCalmTurn reads last a b end turn
+  pub well : IsCalmEnd end
+
 -- the last turn of a session of n messages, and those before it
 record Rest {C : Type 0} (reads : C → ℕ → C → Type 0) (n : ℕ) (a : Scene C) (scenes : List (Scene C)) (m b : Scene C) (end : Option Ended) : Type 0 where
   pub through : Through reads a scenes m
   pub turns : AreCalmTurns reads a scenes m through
-  pub turn : Turn reads (n == 9999) m b end
-  pub calm : IsCalmTurn reads (n == 9999) m b end turn
-  pub end_is : IsCalmEnd end
+  pub last : Last reads (n == 9999) m b end
   pub few : n ≤ 9999
   pub full : end ≡ None → n ≡ 9999
   pub alone : IsAlone a.book b.book
@@ -37,7 +41,7 @@ next_goes : {C : Type 0} (reads : C → ℕ → C → Type 0) (n : ℕ) (a next 
     (m b : Scene C) (end : Option Ended)
     → Rest reads n a (next ∷ scenes) m b end → Goes next b
 next_goes reads n a next scenes m b end p =
-    goes_of (goes_then (through_goes reads next scenes m p.through.1) (turn_goes reads (n == 9999) m b end p.turn))
+    goes_of (goes_then (through_goes reads next scenes m p.through.1) (turn_goes reads (n == 9999) m b end p.last.turn))
 
 -- what follows the first turn
 next_of : {C : Type 0} (reads : C → ℕ → C → Type 0) (n : ℕ) (a next : Scene C) (scenes : List (Scene C)) (m b : Scene C)
@@ -46,9 +50,7 @@ next_of : {C : Type 0} (reads : C → ℕ → C → Type 0) (n : ℕ) (a next : 
 next_of reads n a next scenes m b end p = record {
   through = p.through.1;
   turns = p.turns.1;
-  turn = p.turn;
-  calm = p.calm;
-  end_is = p.end_is;
+  last = p.last;
   few = p.few;
   full = p.full;
   alone = alone_then (goes_of (turn_goes reads false a next None p.through.0)) (next_goes reads n a next scenes m b end p) p.alone;
@@ -60,29 +62,22 @@ first_alone : {C : Type 0} (reads : C → ℕ → C → Type 0) (n : ℕ) (a nex
 first_alone reads n a next scenes m b end p =
     alone_first (goes_of (turn_goes reads false a next None p.through.0)) (next_goes reads n a next scenes m b end p) p.alone
 
--- a turn that is the session's last
-record Last {C : Type 0} (reads : C → ℕ → C → Type 0) (last : Bool) (a b : Scene C) (end : Option Ended) : Type 0 where
-  pub turn : Turn reads last a b end
-  pub calm : IsCalmTurn reads last a b end turn
-
 last_of : {C : Type 0} (reads : C → ℕ → C → Type 0) (n : ℕ) (a m b : Scene C) (end : Option Ended)
     → Rest reads n a [] m b end → Last reads (n == 9999) a b end
-last_of reads n a m b end p =
-    let last : Last reads (n == 9999) m b end = record { turn = p.turn; calm = p.calm } in
-    subst (λ z. Last reads (n == 9999) z b end) (sym p.through) last
+last_of reads n a m b end p = subst (λ z. Last reads (n == 9999) z b end) (sym p.through) p.last
 
 lasts_same : {C : Type 0} (reads : C → ℕ → C → Type 0) (last : Bool) (a b c d : Scene C) (end also : Option Ended)
-    → IsSteady reads → AreSame a c → Last reads last a b end → Last reads last c d also → IsCalmEnd end → IsCalmEnd also
+    → IsSteady reads → AreSame a c → Last reads last a b end → Last reads last c d also
     → IsAlone a.book b.book → IsAlone c.book d.book → EndsSame b d end also ⊎ Clash b d
-lasts_same reads last a b c d end also steady same p q well good alone lone =
-    turns_same reads last a b c d end also p.turn q.turn steady same p.calm q.calm well good alone lone
+lasts_same reads last a b c d end also steady same p q alone lone =
+    turns_same reads last a b c d end also p.turn q.turn steady same p.calm q.calm p.well q.well alone lone
 
 -- no session goes on where the other ended
 longer : {C : Type 0} (reads : C → ℕ → C → Type 0) (n : ℕ) (a m b : Scene C) (c next d : Scene C) (end : Option Ended)
     (turn : Turn reads false c next None) → IsSteady reads → AreSame a c → Rest reads n a [] m b end → n < 9999
     → IsCalmTurn reads false c next None turn → IsAlone c.book next.book → Clash b next
 longer reads n a m b c next d end turn steady same p less calm lone =
-    end_of (lasts_same reads false a b c next end None steady same last (record { turn = turn; calm = calm }) p.end_is tt p.alone lone)
+    end_of (lasts_same reads false a b c next end None steady same last (record { turn = turn; calm = calm; well = tt }) p.alone lone)
   where
     early : (n == 9999) ≡ false
     early = ne_eqb n 9999 (λ e. absurd (omega arith))
@@ -110,7 +105,7 @@ rests_same reads k n also_n a c [] [] m b l d end also steady same p q e f =
     let last : Last reads (n == 9999) c d also =
     subst (λ z. Last reads (z == 9999) c d also) count (last_of reads also_n c l d also q) in
     alike_of b d end also
-    (lasts_same reads (n == 9999) a b c d end also steady same (last_of reads n a m b end p) last p.end_is q.end_is p.alone q.alone)
+    (lasts_same reads (n == 9999) a b c d end also steady same (last_of reads n a m b end p) last p.alone q.alone)
 rests_same reads k n also_n a c [] (next ∷ others) m b l d end also steady same p q e f =
     inr (clash_on b b next d (goes_of (same_goes b b 0 refl)) (next_goes reads also_n c next others l d also q)
     (longer reads n a m b c next d end q.through.0 steady same p (omega (arith, q.few)) q.turns.0
@@ -132,9 +127,7 @@ rest_of : {C : Type 0} (reads : C → ℕ → C → Type 0) (a b : Scene C) (end
 rest_of reads a b end session calm = record {
   through = session.through;
   turns = calm.turns;
-  turn = session.turn;
-  calm = calm.turn;
-  end_is = calm.end_is;
+  last = record { turn = session.turn; calm = calm.turn; well = calm.end_is };
   few = session.few;
   full = session.full;
   alone = calm.alone;
