@@ -32,7 +32,7 @@ use Rattle.nf_session.specs.declared.response.Response.{Response}
 use Rattle.nf_session.specs.declared.response.Response.TheVariants as response
 use Rattle.nf_session.proofs.Calm.{Calm, bodies_go, calm_of, calm_then, closes_go, goes_then, heads_go, invites_go, judges_go, passes_go, writes_go}
 use Rattle.nf_session.proofs.Inviting.{invited_bytes, invites_wrote}
-use Rattle.nf_session.proofs.Lasting.{piece_lasts}
+use Rattle.nf_session.proofs.Sendings.{given_still}
 use Rattle.nf_promises.proofs.Full.{answers_full}
 use Rattle.nf_promises.proofs.Gets.{starts_file}
 use Rattle.nf_promises.proofs.Placing.{begin_known, step_known}
@@ -42,13 +42,6 @@ use Rattle.nf_promises.proofs.Unfailing.{piece_wanting, responds_whole, short_wh
 use Rattle.nf_promises.proofs.Wording.{writes_input, Fronts, close_is, refusal_written, word_written}
 use Rattle.nf_promises.specs.Complete.{Completes, IsAnswerOf, IsMet, IsUnrisen, IsWanting, NothingFails, Says, SaysEnd, SaysFile, SaysStored, StaysWhole}
 use Rattle.nf_promises.specs.Kept.{invitation}
-
--- ---- pieces
-
-given_later : (a b : Book) (content : List Piece) (given : List (List ℕ)) → Lasts a b → AreGiven a content given → AreGiven b content given
-given_later a b content [] lasts are = tt
-given_later a b [] (bytes ∷ given) lasts never = never
-given_later a b (piece ∷ content) (bytes ∷ given) lasts (is, are) = (piece_lasts a b piece bytes lasts is, given_later a b content given lasts are)
 
 module _ {C : Type 0} (reads : C → ℕ → C → Type 0) (last : Bool) (head : Head) (a b : Scene C) (nothing : NothingFails a b)
     (whole : StaysWhole a.book b.book) where
@@ -62,7 +55,7 @@ module _ {C : Type 0} (reads : C → ℕ → C → Type 0) (last : Bool) (head :
       inr (record {
         given = given;
         are_given =
-            given_later s.book b.book content given behind.onward.lasts
+            given_still s.book b.book content given behind.onward.lasts
             (subst (λ (c : List Piece). AreGiven s.book c given) is writes.pieces.are_given);
         all = all ∙ ap (λ (c : List Piece). length c) is;
         bytes =

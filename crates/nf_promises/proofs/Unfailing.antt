@@ -43,10 +43,10 @@ says_whole a b bytes ended.WriteFault risen part = absurd (risen part.cause)
 says_whole a b bytes other risen never = absurd never
 
 -- how bytes that are no message end it then
-abbrev pub IsRefused : Ended → Type 0
-IsRefused by = (by ≡ ended.Memory) ⊎ (by ≡ ended.BadMessage)
+abbrev pub IsRefused : Option Ended → Type 0
+IsRefused end = (end ≡ Some ended.Memory) ⊎ (end ≡ Some ended.BadMessage)
 
-so_whole : {C : Type 0} (refusal : Denial) (a b : Scene C) (by : Ended) → (Rose a.write_faults b.write_faults → ⊥) → EndsSo refusal a b by → IsRefused by
+so_whole : {C : Type 0} (refusal : Denial) (a b : Scene C) (by : Ended) → (Rose a.write_faults b.write_faults → ⊥) → EndsSo refusal a b by → IsRefused (Some by)
 so_whole refusal a b ended.BadMessage risen wrote = inr refl
 so_whole refusal a b ended.WriteFault risen part = absurd (risen part.cause)
 so_whole refusal a b ended.Memory risen same = inl refl
@@ -106,8 +106,8 @@ module _ {C : Type 0} (a b : Scene C) (nothing : NothingFails a b) (whole : Stay
   responds_whole last way v x y (Err by) before behind writes = inl (ap (λ (e : Ended). Some e) (writes_whole (manner_of last way v) v x y by before behind writes))
 
   pub cut_whole : (T : Type 0) (x m y : Scene C) (why : WireFault) (by : Ended) → Calm a x → Calm y b → OnlyReads x m
-      → HasReadCause {T = T} x.read_faults m.read_faults (Err why) → EndsBy why m y by → IsRefused by
-  cut_whole T x m y wire.Memory by before behind only cause (is, same) = inl is
+      → HasReadCause {T = T} x.read_faults m.read_faults (Err why) → EndsBy why m y by → IsRefused (Some by)
+  cut_whole T x m y wire.Memory by before behind only cause (is, same) = inl (ap (λ (e : Ended). Some e) is)
   cut_whole T x m y wire.ReadFault by before behind only cause (is, same) =
       absurd (not_unread x y before behind (ap (λ (s : Scene C). s.read_faults) same ∙ cause))
   cut_whole T x m y other by before behind only cause ends =
@@ -122,14 +122,11 @@ module _ {C : Type 0} (a b : Scene C) (nothing : NothingFails a b) (whole : Stay
       stops.ends ∙ ap (λ (e : Ended). Some e) (says_whole x stops.sent continue_reply stops.by (not_risen x stops.sent before behind) says)
 
   pub short_whole : (reads : C → ℕ → C → Type 0) (head : Head) (u : Begun) (x : Scene C) (end : Option Ended) → Calm a x
-      → CutsShort reads head u x b end → (end ≡ Some ended.Memory) ⊎ (end ≡ Some ended.BadMessage)
+      → CutsShort reads head u x b end → IsRefused end
   short_whole reads head u x end before cuts =
-      here (cut_whole ℕ x cuts.cut cuts.sent cuts.fault cuts.by before (calm_of (closes_go reads ending.Gone _ cuts.sent b cuts.closes))
+      subst (λ (e : Option Ended). IsRefused e) (sym cuts.ends)
+      (cut_whole ℕ x cuts.cut cuts.sent cuts.fault cuts.by before (calm_of (closes_go reads ending.Gone _ cuts.sent b cuts.closes))
       cuts.takes.only cuts.takes.cause cuts.responds)
-    where
-      here : IsRefused cuts.by → (end ≡ Some ended.Memory) ⊎ (end ≡ Some ended.BadMessage)
-      here (inl is) = inl (cuts.ends ∙ ap (λ (e : Ended). Some e) is)
-      here (inr is) = inr (cuts.ends ∙ ap (λ (e : Ended). Some e) is)
 
 -- ---- how a session ends
 
@@ -163,7 +160,7 @@ module _ {C : Type 0} (reads : C → ℕ → C → Type 0) (a b : Scene C) (noth
       here (inl is) = well_by end _ (answers.ends ∙ is) tt
       here (inr (is, writes)) = well_by end _ (answers.ends ∙ is) (response_well (way_of head u).closes answers.response)
 
-  refused_well : (end : Option Ended) → (end ≡ Some ended.Memory) ⊎ (end ≡ Some ended.BadMessage) → IsWell end
+  refused_well : (end : Option Ended) → IsRefused end → IsWell end
   refused_well end (inl is) = well_by end _ is tt
   refused_well end (inr is) = well_by end _ is tt
 
@@ -180,11 +177,8 @@ module _ {C : Type 0} (reads : C → ℕ → C → Type 0) (a b : Scene C) (noth
   turn_well : (last : Bool) (x : Scene C) (end : Option Ended) → Calm a x → Turn reads last x b end → IsWell end
   turn_well last x end before (inl (heads, is)) = well_by end _ is tt
   turn_well last x end before (inr (inl (m, why, by, heads, ends, is))) =
-      here (cut_whole a b nothing whole (Option Head) x m b why by before (calm_of (same_goes b b 0 refl)) heads.only heads.cause ends)
-    where
-      here : IsRefused by → IsWell end
-      here (inl memory) = well_by end _ (is ∙ ap (λ (e : Ended). Some e) memory) tt
-      here (inr bad) = well_by end _ (is ∙ ap (λ (e : Ended). Some e) bad) tt
+      refused_well end (subst (λ (e : Option Ended). IsRefused e) (sym is)
+      (cut_whole a b nothing whole (Option Head) x m b why by before (calm_of (same_goes b b 0 refl)) heads.only heads.cause ends))
   turn_well last x end before (inr (inr (m, head, heads, meets))) =
       meets_well last head m end (calm_then a x m before (calm_of (heads_go x m 0 (Some head) heads))) meets
 

@@ -13,7 +13,7 @@ use Rattle.nf_outside.specs.Causes.{Rose}
 use Rattle.nf_base.specs.Content.{size_of}
 use Rattle.nf_base.specs.declared.content.Piece.{Piece}
 use Rattle.nf_dav.specs.Reply.{file_head}
-use Rattle.nf_session.specs.Book.{Book, FailsPiece, IsPiece, Waits, held}
+use Rattle.nf_session.specs.Book.{Book, FailsPiece, IsPiece, Lasts, Waits, held}
 use Rattle.nf_session.specs.Files.{AreGiven, IsStarted, Lacks, SendsFile, SendsPiece, SendsPieces, TakesPiece, WritesPieces, file_front, taken_first}
 use Rattle.nf_session.specs.Steps.{Scene, Says, Sends, Wrote, WrotePart}
 use Rattle.nf_session.specs.declared.backend.PieceFault.{PieceFault}
@@ -25,20 +25,18 @@ use Rattle.nf_session.proofs.Turns.{sends_failed}
 
 -- ---- pieces that were given
 
-given_still : (a b : Book) (content : List Piece) (given : List (List ℕ)) → Waits a b → AreGiven a content given → AreGiven b content given
-given_still a b content [] waits are = tt
-given_still a b [] (bytes ∷ given) waits are = absurd are
-given_still a b (piece ∷ content) (bytes ∷ given) waits are =
-    (piece_lasts a b piece bytes waits.lasts are.0, given_still a b content given waits are.1)
+pub given_still : (a b : Book) (content : List Piece) (given : List (List ℕ)) → Lasts a b → AreGiven a content given → AreGiven b content given
+given_still a b content [] lasts are = tt
+given_still a b [] (bytes ∷ given) lasts are = absurd are
+given_still a b (piece ∷ content) (bytes ∷ given) lasts are =
+    (piece_lasts a b piece bytes lasts are.0, given_still a b content given lasts are.1)
 
 given_more : (b : Book) (content : List Piece) (given : List (List ℕ)) (piece : Piece) (bytes : List ℕ) → AreGiven b content given
     → slice_get content (length given) ≡ Some piece → IsPiece b piece bytes → AreGiven b content (given ++ bytes ∷ [])
 given_more b [] [] piece bytes are at is = absurd (cc)
 given_more b (first ∷ content) [] piece bytes are at is =
-    (subst (λ (z : Piece). IsPiece b z bytes) (sym (same first piece at)) is, tt)
-  where
-    same : (x y : Piece) → ◌≡◌ {A = Option Piece} (Some x) (Some y) → x ≡ y
-    same x y e = cc
+    let there : ◌≡◌ {A = Option Piece} (Some first) (Some piece) = at in
+    let same : piece ≡ first = cc in (subst (λ (z : Piece). IsPiece b z bytes) same is, tt)
 given_more b [] (other ∷ given) piece bytes are at is = absurd are
 given_more b (first ∷ content) (other ∷ given) piece bytes are at is = (are.0, given_more b content given piece bytes are.1 at is)
 
@@ -177,7 +175,7 @@ module _ {C : Type 0} (close : Bool) (content : List Piece) (first : Option (Vec
   pieces_then a m b given sends only waits = record {
     only = sends_then a m b sends.only only;
     waits = waits_then a.book m.book b.book sends.waits waits;
-    are_given = given_still m.book b.book content given waits sends.are_given;
+    are_given = given_still m.book b.book content given waits.lasts sends.are_given;
     first_is = sends.first_is;
   }
 
