@@ -23,6 +23,7 @@ use Rattle.nf_session.specs.declared.ended.Ended.{Ended}
 use Rattle.nf_session.specs.declared.ended.Ended.TheVariants as ended
 use Rattle.nf_session.specs.declared.response.Response.{Response}
 use Rattle.nf_session.specs.declared.response.Response.TheVariants as response
+use Rattle.nf_session.proofs.Causes.{broken, is_whole}
 use Rattle.nf_checks.specs.Alike.{AreSame, Clash, IsAlone, IsCalmEnd, IsCalmEnded}
 use Rattle.nf_checks.proofs.Basics.{told_appended, told_more}
 use Rattle.nf_checks.proofs.Bodies.{Similar, equal, files}
@@ -167,23 +168,11 @@ writes_same a b c d manner v w (files content one two e f) same p q alone also =
 -- ---- how the response ends the session
 
 -- a response that isn't written whole ends it otherwise
-unsaid : {C : Type 0} (a b : Scene C) (bytes : List ℕ) (by : Ended)
-    → Says {T = Unit {0}} a b bytes (Err by) → IsCalmEnded by → ⊥
-unsaid a b bytes ended.WriteFault p calm = calm
-unsaid a b bytes ended.Memory p calm = calm
-unsaid a b bytes other p calm = p
-
-unsent : {C : Type 0} (a b : Scene C) (close : Bool) (content : List Piece) (first : Option (Vec ℕ Global)) (by : Ended)
-    → SendsFile {T = Unit {0}} close content first a b (Err by) → IsCalmEnded by → ⊥
-unsent a b close content first (ended.Cut fault) p calm = calm
-unsent a b close content first ended.WriteFault p calm = calm
-unsent a b close content first ended.Memory p calm = calm
-unsent a b close content first other p calm = p
-
-unwritten : {C : Type 0} (a b : Scene C) (manner : Manner) (v : Response) (by : Ended)
-    → Writes {T = Unit {0}} manner v a b (Err by) → IsCalmEnded by → ⊥
-unwritten a b manner (response.File content first) by p calm = unsent a b manner.close content first by p calm
-unwritten a b manner other by p calm = unsaid a b _ by p calm
+calm_whole : (end : Option Ended) → IsCalmEnd end → is_whole end ≡ true
+calm_whole (Some (ended.Cut fault)) calm = absurd calm
+calm_whole (Some ended.WriteFault) calm = absurd calm
+calm_whole (Some ended.Memory) calm = absurd calm
+calm_whole other calm = refl
 
 -- whoever is invited is told
 pub untold : {C : Type 0} (a b : Scene C) (bytes : List ℕ) (by : Ended)
@@ -202,7 +191,8 @@ pub written_of : {C : Type 0} (last : Bool) (way : Way) (v : Response) (a b : Sc
     (result : Result (Option Ended) Ended) (end : Option Ended)
     → Responds last way v a b result → end ≡ end_by result → IsCalmEnd end → IsWritten last way v a b result end
 written_of last way v a b (Ok e) end p is calm = record { whole = ap (λ z. Ok z) (sym is); end_is = is ∙ p.0; written = p.1 }
-written_of last way v a b (Err by) end p is calm = absurd (unwritten a b (manner_of last way v) v by p (subst (λ z. IsCalmEnd z) is calm))
+written_of last way v a b (Err by) end p is calm =
+    absurd (broken (Unit {0}) (manner_of last way v) v a b by p (calm_whole (Some by) (subst (λ z. IsCalmEnd z) is calm)))
 
 pub ends_similar : (closes : Bool) (v w : Response) → Similar v w → end_of closes v ≡ end_of closes w
 ends_similar closes v w (equal e) = sym (ap (end_of closes) e)

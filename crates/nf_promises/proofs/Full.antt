@@ -23,7 +23,8 @@ use Rattle.nf_session.specs.declared.ended.Ended.TheVariants as ended
 use Rattle.nf_session.specs.declared.response.Response.{Response}
 use Rattle.nf_session.specs.declared.response.Response.TheVariants as response
 use Rattle.nf_session.proofs.Inviting.{invites_wrote, stops_sends}
-use Rattle.nf_session.proofs.Causes.{session_goes}
+use Rattle.nf_session.proofs.Turns.{sends_failed}
+use Rattle.nf_session.proofs.Causes.{is_whole, session_goes, whole_by}
 use Rattle.nf_promises.proofs.Refusals.{end_not_full, request_not_full}
 use Rattle.nf_promises.proofs.Tickets.{few_tickets}
 use Rattle.nf_promises.proofs.Touches.{book_of, says_only}
@@ -44,18 +45,11 @@ response_full : (closes : Bool) (v : Response) → end_of closes v ≡ Some ende
 response_full closes (response.Denied refusal) is = ap response.Denied (denial_full closes refusal is)
 response_full closes other is = absurd (close_not_full closes is)
 
--- no writing does
-writes_not_full : {C : Type 0} (manner : Manner) (v : Response) (a b : Scene C) → Writes {T = Unit {0}} manner v a b (Err ended.RunFull) → ⊥
-writes_not_full manner (response.File content first) a b never = never
-writes_not_full manner other a b never = never
-
+-- and no writing does
 responds_full : {C : Type 0} (last : Bool) (way : Way) (v : Response) (a b : Scene C) (result : Result (Option Ended) Ended)
     → Responds last way v a b result → end_by result ≡ Some ended.RunFull → v ≡ response.Denied denial.RunFull
-responds_full last way v a b (Ok end) (ends, writes) is = response_full way.closes v (sym ends ∙ is)
-responds_full last way v a b (Err by) writes is =
-    let same : by ≡ ended.RunFull = cc in
-    absurd (writes_not_full (manner_of last way v) v a b
-    (subst (λ (e : Ended). Writes {T = Unit {0}} (manner_of last way v) v a b (Err e)) same writes))
+responds_full last way v a b result responds is =
+    response_full way.closes v (sym (whole_by last way v a b result responds (ap is_whole is)).0 ∙ is)
 
 -- nor do bytes that are no message
 ends_not_full : {C : Type 0} (fault : WireFault) (a b : Scene C) → EndsBy fault a b ended.RunFull → ⊥
@@ -141,9 +135,9 @@ cuts_not_full {C} reads head begun a b cuts =
 stops_not_full : {C : Type 0} (reads : C → ℕ → C → Type 0) (head : Head) (begun : Begun) (a b : Scene C)
     → StopsShort reads head begun a b (Some ended.RunFull) → ⊥
 stops_not_full {C} reads head begun a b stops =
-    let same : stops.by ≡ ended.RunFull = cc in
-    subst (λ (e : Ended). Sends {T = Unit {0}} a stops.sent continue_reply (Err e)) same
-    (stops_sends head begun a stops.sent (Unit {0}) stops.by stops.invites)
+    let by = sends_failed (Unit {0}) a stops.sent continue_reply stops.by (stops_sends head begun a stops.sent (Unit {0}) stops.by stops.invites) in
+    let same : stops.by ≡ ended.WriteFault = by.0 in
+    cc
 
 turn_full : {C : Type 0} (reads : C → ℕ → C → Type 0) (last : Bool) (a b : Scene C) → Turn reads last a b (Some ended.RunFull)
     → most_entries < entries_wanted b.book

@@ -1,5 +1,5 @@
 -- What is put is what is got.
-use Rattle.std.proofs.Common.{ℕ, ◌≡◌, ◌||◌, ◌≤◌, ◌⊎◌, ◌++◌, length, Bool, false, List, Option, None, Some, Result, Ok, Err, inl, inr, refl, sym, ap, subst, ◌∙◌, arith}
+use Rattle.std.proofs.Common.{ℕ, ◌≡◌, ◌||◌, ◌≤◌, ◌⊎◌, ◌++◌, length, Bool, true, false, List, Option, None, Some, Result, Ok, Err, inl, inr, refl, sym, ap, subst, ◌∙◌, arith}
 use Rattle.std.specs.Prelude.{IsOk, MatchBool}
 use Rattle.std.specs.Io.KnownBytes.{Appends}
 use Rattle.nf_defs.specs.Blobs.{Blobs}
@@ -21,7 +21,7 @@ use Rattle.nf_session.specs.declared.ended.Ended.TheVariants as ended
 use Rattle.nf_session.specs.declared.response.Response.{Response}
 use Rattle.nf_session.specs.declared.response.Response.TheVariants as response
 use Rattle.nf_session.proofs.Calm.{closes_go, goes_first, goes_then, invites_go, judges_go, writes_go}
-use Rattle.nf_session.proofs.Causes.{answers_go, turn_goes}
+use Rattle.nf_session.proofs.Causes.{answers_go, is_whole, turn_goes, whole_by}
 use Rattle.nf_session.proofs.Moving.{same_moves}
 use Rattle.nf_session.proofs.Inviting.{stops_sends}
 use Rattle.nf_promises.proofs.Gets.{ShownOf, begun_shown, get_not_invited}
@@ -37,23 +37,18 @@ takes_output {C} reads head a b begun v (m, body, bodies, passes) =
 
 -- ---- what was written whole
 
-writes_not_closed : {C : Type 0} (manner : Manner) (v : Response) (a b : Scene C) → Writes {T = Unit {0}} manner v a b (Err ended.Closed) → ⊥
-writes_not_closed manner (response.File content first) a b never = never
-writes_not_closed manner other a b never = never
+is_written : (end : Option Ended) → IsWritten end → is_whole end ≡ true
+is_written None written = refl
+is_written (Some ended.Closed) written = refl
+is_written (Some other) written = absurd written
 
 -- how it was written
-abbrev WroteWhole : {C : Type 0} → Bool → Way → Response → Scene C → Scene C → Type 0
-WroteWhole last way v a b = IsWritten (end_of way.closes v) × Writes {T = Unit {0}} (manner_of last way v) v a b (Ok tt)
-
-wrote_by : {C : Type 0} (last : Bool) (way : Way) (v : Response) (a b : Scene C) (by : Ended)
-    → Writes {T = Unit {0}} (manner_of last way v) v a b (Err by) → IsWritten (Some by) → WroteWhole last way v a b
-wrote_by last way v a b ended.Closed writes written = absurd (writes_not_closed (manner_of last way v) v a b writes)
-wrote_by last way v a b other writes written = absurd written
-
 wrote_whole : {C : Type 0} (last : Bool) (way : Way) (v : Response) (a b : Scene C) (result : Result (Option Ended) Ended)
-    → Responds last way v a b result → IsWritten (end_by result) → WroteWhole last way v a b
-wrote_whole last way v a b (Ok end) (is, writes) written = (subst (λ (e : Option Ended). IsWritten e) is written, writes)
-wrote_whole last way v a b (Err by) writes written = wrote_by last way v a b by writes written
+    → Responds last way v a b result → IsWritten (end_by result)
+    → IsWritten (end_of way.closes v) × Writes {T = Unit {0}} (manner_of last way v) v a b (Ok tt)
+wrote_whole last way v a b result responds written =
+    let whole = whole_by last way v a b result responds (is_written (end_by result) written) in
+    (subst (λ (e : Option Ended). IsWritten e) whole.0 written, whole.1)
 
 ends_not_closed : {C : Type 0} (fault : WireFault) (a b : Scene C) → EndsBy fault a b ended.Closed → ⊥
 ends_not_closed wire.ReadFault a b (is, same) = cc

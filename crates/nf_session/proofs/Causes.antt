@@ -109,6 +109,28 @@ responds_go last way v a b (Ok end) (is, writes) =
     ends_as end (end_of way.closes v) is (goes_to _ (end_is_none way.closes v) (writes_go (manner_of last way v) v a b writes))
 responds_go last way v a b (Err by) writes = fault_goes (Unit {0}) (manner_of last way v) v a b by writes
 
+-- the ends that keep a response from being written
+abbrev pub is_whole : Option Ended → Bool
+is_whole (Some ended.Memory) = false
+is_whole (Some ended.WriteFault) = false
+is_whole (Some (ended.Cut why)) = false
+is_whole other = true
+
+pub broken : {C : Type 0} (T : Type 0) (manner : Manner) (v : Response) (a b : Scene C) (by : Ended) → Writes {T = T} manner v a b (Err by)
+    → is_whole (Some by) ≡ true → ⊥
+broken T manner v a b ended.Memory writes whole = cc
+broken T manner v a b ended.WriteFault writes whole = cc
+broken T manner v a b (ended.Cut why) writes whole = cc
+broken T manner (response.File content first) a b other never whole = never
+broken T manner v a b other never whole = never
+
+-- no other does
+pub whole_by : {C : Type 0} (last : Bool) (way : Way) (v : Response) (a b : Scene C) (result : Result (Option Ended) Ended)
+    → Responds last way v a b result → is_whole (end_by result) ≡ true
+    → (end_by result ≡ end_of way.closes v) × Writes {T = Unit {0}} (manner_of last way v) v a b (Ok tt)
+whole_by last way v a b (Ok end) responds whole = responds
+whole_by last way v a b (Err by) responds whole = absurd (broken (Unit {0}) (manner_of last way v) v a b by responds whole)
+
 -- ---- no message
 
 so_goes : {C : Type 0} (d : Denial) (a b : Scene C) (by : Ended) → EndsSo d a b by → Goes a b 0 0 (Some by)

@@ -13,7 +13,7 @@ use Rattle.nf_session.specs.declared.response.Response.{Response}
 use Rattle.nf_session.specs.declared.response.Response.TheVariants as response
 use Rattle.nf_session.specs.declared.ended.Ended.{Ended}
 use Rattle.nf_session.specs.declared.ended.Ended.TheVariants as ended
-use Rattle.nf_session.proofs.Causes.{end_is_none, is_fault}
+use Rattle.nf_session.proofs.Causes.{end_is_none, is_fault, is_whole, whole_by}
 use Rattle.nf_session.proofs.Inviting.{stops_sends}
 
 end_no_read : (closes : Bool) (v : Response) → end_of closes v ≡ Some ended.ReadFault → ⊥
@@ -22,16 +22,10 @@ end_no_read closes v e = let none : is_fault (Some ended.ReadFault) ≡ false = 
 read_by : (by : Ended) → ◌≡◌ {A = Option Ended} (Some ended.ReadFault) (Some by) → by ≡ ended.ReadFault
 read_by by e = cc
 
-writes_no_read : {C : Type 0} (T : Type 0) (manner : Manner) (v : Response) (a b : Scene C) → Writes {T = T} manner v a b (Err ended.ReadFault) → ⊥
-writes_no_read T manner (response.File content first) a b writes = writes
-writes_no_read T manner other a b writes = writes
-
 answered_no_read : {C : Type 0} (last : Bool) (way : Way) (v : Response) (a b : Scene C) (result : Result (Option Ended) Ended)
     → Responds last way v a b result → Some ended.ReadFault ≡ end_by result → ⊥
-answered_no_read last way v a b (Ok end) responds e = end_no_read way.closes v (sym responds.0 ∙ sym e)
-answered_no_read last way v a b (Err by) responds e =
-    writes_no_read (Unit {0}) (manner_of last way v) v a b
-    (subst (λ (z : Ended). Writes {T = Unit {0}} (manner_of last way v) v a b (Err z)) (read_by by e) responds)
+answered_no_read last way v a b result responds e =
+    end_no_read way.closes v (sym (whole_by last way v a b result responds (sym (ap is_whole e))).0 ∙ sym e)
 
 ends_read : {C : Type 0} (a b : Scene C) (fault : WireFault) → EndsBy fault a b ended.ReadFault → (fault ≡ wire.ReadFault) × (b ≡ a)
 ends_read a b wire.ReadFault ends = (refl, ends.1)
