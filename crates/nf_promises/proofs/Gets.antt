@@ -36,8 +36,7 @@ use Rattle.nf_words.specs.declared.request.Words.{Words}
 use Rattle.nf_defs.specs.Tables.{Tables}
 use Rattle.nf_defs.specs.Blobs.{Blobs}
 use Rattle.nf_laws.specs.Wholes.{IsThere}
-use Rattle.nf_session.specs.Book.{Answer, Begins, Book, Enters, FailsPiece, Lasts, TellsDamage, TellsPiece, TellsStill, is_unmade, next_blob_of, state_of}
-use Rattle.nf_session.specs.Book.{Passes as Unchanged}
+use Rattle.nf_session.specs.Book.{Answer, Begins, Book, Enters, FailsPiece, Lasts, TellsDamage, TellsPiece, TellsStill, is_unmade, next_blob_of, state_of, Passes as Unchanged}
 use Rattle.nf_session.proofs.Moving.{begins_move}
 use Rattle.nf_session.proofs.Lasting.{lasts_same, lasts_then}
 use Rattle.nf_session.specs.Files.{AreGiven, SendsFile, file_front}
@@ -49,12 +48,19 @@ use Rattle.nf_session.specs.declared.begun.Begun.{Begun}
 use Rattle.nf_session.specs.declared.begun.Begun.TheVariants as begun
 use Rattle.nf_session.specs.declared.response.Response.{Response}
 use Rattle.nf_session.specs.declared.response.Response.TheVariants as response
-use Rattle.nf_promises.proofs.Alone.{entered, none_of}
-use Rattle.nf_promises.proofs.Plain.{IsPlain, asked_plain}
+use Rattle.nf_promises.proofs.Growing.{entered, none_of}
 use Rattle.nf_promises.proofs.Putting.{content_of_body}
 use Rattle.nf_promises.proofs.Puts.{IsKept, Keeps}
 use Rattle.nf_promises.proofs.Touches.{starts_other}
 use Rattle.nf_promises.specs.Kept.{AreOfBody, FailsStore, IsWritten, OnlyOwn, ShowsDamage, get_of, plainly, waits}
+use Rattle.nf_dav.proofs.Asked.{asked_no_head, asked_no_ocs}
+
+pub record IsPlain (way : Way) : Type 0 where
+  pub ocs : way.ocs ≡ false
+  pub head_only : way.head_only ≡ false
+
+pub asked_plain : (head : Head) (begun : Begun) (request : Request) → request_of head ≡ Ok request → IsPlain (way_of head begun)
+asked_plain head begun request asked = record { ocs = asked_no_ocs head request asked; head_only = asked_no_head head request asked }
 
 -- ---- what its Begin is answered
 
