@@ -146,14 +146,10 @@ cut_read a b n wire.Truncated cut calm = (refl, cut)
 cut_read a b n wire.ReadFault cut calm = absurd calm
 cut_read a b n fault cut calm = absurd cut
 
-cut_body : (a b : Option (List ℕ)) (n : ℕ) (fault : WireFault) → CutsBody a b n fault → IsOfBytes (Err fault)
-    → (fault ≡ wire.Truncated) × CutsRead a b n wire.Truncated
-cut_body a b n wire.Memory cut calm = absurd calm
-cut_body a b n fault cut calm = cut_read a b n fault cut calm
-
 cut_by : (x : Begun) (a b : Option (List ℕ)) (n : ℕ) (fault : WireFault) → cutting x a b n fault → IsOfBytes (Err fault)
     → (fault ≡ wire.Truncated) × CutsRead a b n wire.Truncated
-cut_by (begun.Asked (Ok (reply.Granted (goal.Store who key size)))) a b n fault cut calm = cut_body a b n fault cut calm
+cut_by (begun.Asked (Ok (reply.Granted (goal.Store who key size)))) a b n wire.Memory cut calm = absurd calm
+cut_by (begun.Asked (Ok (reply.Granted (goal.Store who key size)))) a b n fault cut calm = cut_read a b n fault cut calm
 cut_by other a b n fault cut calm = cut_read a b n fault cut calm
 
 pub cut_of : {C : Type 0} (a b : Scene C) (x : Begun) (n : ℕ) (fault : WireFault)

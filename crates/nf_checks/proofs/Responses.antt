@@ -220,19 +220,12 @@ pub record IsDenied {C : Type 0} (fault : WireFault) (a b : Scene C) (by : Ended
   pub bytes : IsOfBytes (Err fault)
   pub wrote : Wrote a b (refusal_reply last_manner (denial_of fault))
 
-ends_so : {C : Type 0} (refusal : Denial) (a b : Scene C) (by : Ended) → EndsSo refusal a b by → IsCalmEnded by
-    → (by ≡ ended.BadMessage) × Wrote a b (refusal_reply last_manner refusal)
-ends_so refusal a b ended.BadMessage p calm = (refl, p)
-ends_so refusal a b ended.WriteFault p calm = absurd calm
-ends_so refusal a b ended.Memory p calm = absurd calm
-ends_so refusal a b by p calm = absurd p
-
 told_so : {C : Type 0} (fault : WireFault) (a b : Scene C) (by : Ended) → IsOfBytes (Err fault)
-    → EndsSo (denial_of fault) a b by
-    → IsCalmEnded by → IsDenied fault a b by
-told_so fault a b by bytes p calm =
-    let so : (by ≡ ended.BadMessage) × Wrote a b (refusal_reply last_manner (denial_of fault)) = ends_so (denial_of fault) a b by p calm in
-    record { end_is = so.0; bytes = bytes; wrote = so.1 }
+    → EndsSo (denial_of fault) a b by → IsCalmEnded by → IsDenied fault a b by
+told_so fault a b ended.BadMessage bytes p calm = record { end_is = refl; bytes = bytes; wrote = p }
+told_so fault a b ended.WriteFault bytes p calm = absurd calm
+told_so fault a b ended.Memory bytes p calm = absurd calm
+told_so fault a b by bytes p calm = absurd p
 
 pub denied_of : {C : Type 0} (fault : WireFault) (a b : Scene C) (by : Ended) → EndsBy fault a b by → IsCalmEnded by
     → IsDenied fault a b by

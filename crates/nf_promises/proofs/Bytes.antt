@@ -47,20 +47,16 @@ next_is a m h request left result prints input heads of =
 
 none_is_no_head : {C : Type 0} (a m : Scene C) (h : RequestHead) (request : Request) (left : List ℕ)
     → Prints h request → a.input ≡ Some (print_request h ++ left) → Heads a m (Ok None) → ⊥
-none_is_no_head a m h request left prints input heads = never (head_of h) (next_is a m h request left (Ok None) prints input heads tt).0
-  where
-    never : (head : Head) → ◌≡◌ {A = Result (Option Head) WireFault} (Ok None) (Ok (Some head)) → ⊥
-    never head is = cc
+none_is_no_head a m h request left prints input heads =
+    let never : ◌≡◌ {A = Result (Option Head) WireFault} (Ok None) (Ok (Some (head_of h))) = (next_is a m h request left (Ok None) prints input heads tt).0 in cc
 
 pub head_is : {C : Type 0} (a m : Scene C) (h : RequestHead) (request : Request) (left : List ℕ) (head : Head)
     → Prints h request → a.input ≡ Some (print_request h ++ left) → Heads a m (Ok (Some head))
     → (head ≡ head_of h) × (m.input ≡ Some left)
 head_is a m h request left head prints input heads =
     let next = next_is a m h request left (Ok (Some head)) prints input heads tt in
-    (same (head_of h) next.0, next.1)
-  where
-    same : (other : Head) → ◌≡◌ {A = Result (Option Head) WireFault} (Ok (Some head)) (Ok (Some other)) → head ≡ other
-    same other is = cc
+    let is : ◌≡◌ {A = Result (Option Head) WireFault} (Ok (Some head)) (Ok (Some (head_of h))) = next.0 in
+    let same : head ≡ head_of h = cc in (same, next.1)
 
 -- ---- the turn of the PUT
 

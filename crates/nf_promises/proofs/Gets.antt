@@ -142,10 +142,8 @@ piece_of_body : (b : Book) (before : State) (told : Option Blobs) (id : ℕ) (bo
     → blob_for before.tables.meta.next_blob (length body) ≡ Some id
     → IfSome told (TellsPiece b (piece_of id body) bytes) → IfSome told (Keeps b before body) → AreOfBody told body bytes
 piece_of_body b before None id body bytes size digest is piece keeps = (size, digest)
-piece_of_body b before (Some shelf) id body bytes size digest is piece keeps = same bytes body (sym piece.there ∙ (keeps id is).1)
-  where
-    same : (x y : List ℕ) → ◌≡◌ {A = Option (List ℕ)} (Some x) (Some y) → x ≡ y
-    same x y e = cc
+piece_of_body b before (Some shelf) id body bytes size digest is piece keeps =
+    let same : ◌≡◌ {A = Option (List ℕ)} (Some bytes) (Some body) = sym piece.there ∙ (keeps id is).1 in cc
 
 empty_for : (next : ℕ) (body : List ℕ) → blob_for next (length body) ≡ None → body ≡ []
 empty_for next body is = here (length body == 0) refl is
@@ -367,11 +365,7 @@ pub begun_shown : {C : Type 0} (reads : C → ℕ → C → Type 0) (last : Bool
     → IsKept k.book caller spot body → OnlyOwn k.book m.book
     → TakesIn reads head m a begun (Ok v) → IsWritten (end_of (way_of head begun).closes v)
     → Writes {T = Unit {0}} (manner_of last (way_of head begun) v) v a b (Ok tt) → Shown (last || closes_session head) (waits head) body k.book a b
-begun_shown reads last head caller spot body (begun.Unasked refusal) k m a b v asked (inl other, same) kept only takes written writes =
-    absurd (never refusal (sym asked ∙ other))
-  where
-    never : (refusal : Denial) → ◌≡◌ {A = Result Request Denial} (Ok (get_of caller spot)) (Err refusal) → ⊥
-    never refusal is = cc
+begun_shown reads last head caller spot body (begun.Unasked refusal) k m a b v asked (inl other, same) kept only takes written writes = absurd (cc)
 begun_shown reads last head caller spot body (begun.Unasked refusal) k m a b v asked (inr memory, same) kept only (x, other, bodies, passes) written writes =
     denied_shown last (closes_session head) (waits head) (way_of head (begun.Unasked refusal)) (asked_plain head (begun.Unasked refusal) _ asked)
     body k.book a b v refl (passes.0 ∙ ap response.Denied memory) writes

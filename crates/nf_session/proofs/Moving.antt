@@ -114,11 +114,9 @@ struck_by other = 0
 marked_by : (m : Mark) (answer : Answer) → (answer ≡ Err denial.Store → m ≡ mark.Store) → (m ≡ mark.Store → answer ≡ Err denial.Store)
     → ones (is_failed answer) ≡ struck_by m
 marked_by mark.Store answer marked back = ap (λ (z : Answer). ones (is_failed z)) (back refl)
-marked_by other answer marked back = unmarked (is_failed answer) (λ is. never (marked (is_store answer is)))
+marked_by other answer marked back =
+    unmarked (is_failed answer) (λ is. let never : other ≡ mark.Store = marked (is_store answer is) in cc)
   where
-    never : other ≡ mark.Store → ⊥
-    never e = cc
-
     unmarked : (failed : Bool) → (failed ≡ true → ⊥) → ones failed ≡ struck_by other
     unmarked true not = absurd (not refl)
     unmarked false not = refl

@@ -105,9 +105,6 @@ took_sends a b p =
     let faults : b.write_faults ≡ a.write_faults = ap (λ (z : Scene _). z.write_faults) p in
     cc
 
-same_waits : {C : Type 0} (a b : Scene C) → b.book ≡ a.book → Waits a.book b.book
-same_waits a b is = waits_same a.book b.book is
-
 -- ---- bytes that are written in two parts
 
 part_before : {C : Type 0} (a b : Scene C) (bytes more : List ℕ) → WrotePart a b bytes → WrotePart a b (bytes ++ more)
@@ -196,7 +193,7 @@ module _ {C : Type 0} (close : Bool) (content : List Piece) (first : Option (Vec
       → SendsPieces content first a b (taken_first first)
   pieces_first a b started only same = record {
     only = only;
-    waits = same_waits a b same;
+    waits = waits_same a.book b.book same;
     are_given = subst (λ (z : Book). AreGiven z content (taken_first first)) (sym same) started.given;
     first_is = ([], sym (append-nil (taken_first first)));
   }
@@ -254,7 +251,7 @@ module _ {C : Type 0} (close : Bool) (content : List Piece) (first : Option (Vec
     record {
       pieces =
           pieces_then a t b (given ++ piece.items ∷ []) (took_more a m t given n piece count so_far.pieces takes)
-          (wrote_sends t b wrote.only) (same_waits t b (ap (λ (z : Scene C). z.book) wrote.only));
+          (wrote_sends t b wrote.only) (waits_same t.book b.book (ap (λ (z : Scene C). z.book) wrote.only));
       bytes_are =
           subst (λ (z : List ℕ). Appends a.output b.output z) (sym (front_more close content given piece.items))
           (Appends-trans a.output m.output b.output _ piece.items so_far.bytes_are
@@ -286,7 +283,7 @@ module _ {C : Type 0} (close : Bool) (content : List Piece) (first : Option (Vec
   piece_failed T a m b n ended.WriteFault (given, count, so_far, unstruck) (t, piece, takes, part) =
       breaks_off a b (given ++ piece.items ∷ [])
       (pieces_then a t b (given ++ piece.items ∷ []) (took_more a m t given n piece count so_far.pieces takes)
-      (part_sends t b part.only) (same_waits t b (ap (λ (z : Scene C). z.book) part.only)))
+      (part_sends t b part.only) (waits_same t.book b.book (ap (λ (z : Scene C). z.book) part.only)))
       (subst (λ (z : List ℕ). IsFront a.output b.output z) (sym (front_more close content given piece.items))
       (front_behind a.output m.output b.output _ piece.items so_far.bytes_are
       (subst (λ (z : Option (List ℕ)). IsFront z b.output piece.items) (ap (λ (z : Scene C). z.output) takes.only)
