@@ -44,40 +44,22 @@ calm_answer (Err refusal) v p calm = subst (λ z. IsCalmResponse z) p calm
 -- ---- the first piece of a file
 
 -- a file is begun with that content, and the book waited at most
-abbrev IsFileOf : List Piece → Response → Type 0
-IsFileOf content (response.File same first) = same ≡ content
-IsFileOf content other = ⊥
-
-files_similar : (content : List Piece) (v w : Response) → IsFileOf content v → IsFileOf content w → Similar v w
-files_similar content (response.File one first) (response.File other also) p q =
-    files content first also (ap (λ z. response.File z first) p) (ap (λ z. response.File z also) q)
-files_similar content (response.File one first) other p q = absurd q
-files_similar content one other p q = absurd p
-
-record Started (a b : Book) (content : List Piece) (v : Response) : Type 0 where
-  pub file : IsFileOf content v
-  pub waits : (b ≡ a) ⊎ Waits a b
-
-started : (a b : Book) (content : List Piece) (v : Response) → Starts a b content v → IsCalmResponse v
-    → Started a b content v
-started a b [] (response.File content None) s calm = record { file = s.0; waits = inl s.1 }
-started a b (piece ∷ pieces) (response.File content (Some first)) s calm = record { file = s.0; waits = inr s.1 }
-started a b (piece ∷ pieces) (response.Lost fault) s calm = absurd calm
-started a b content other s calm = absurd s
-
-lone_waited : (a b : Book) → (b ≡ a) ⊎ Waits a b → IsAlone a b → KnowSame a b
-lone_waited a b (inl e) alone = know_self a b e
-lone_waited a b (inr w) alone = lone_waits a b w alone
+started : (a b : Book) (content : List Piece) (v : Response) → Starts a b content v → IsCalmResponse v → IsAlone a b
+    → KnowSame a b × (first : Option (Vec ℕ Global)) × (v ≡ response.File content first)
+started a b [] (response.File content None) s calm alone = (know_self a b s.1, None, ap (λ z. response.File z None) s.0)
+started a b (piece ∷ pieces) (response.File content (Some first)) s calm alone =
+    (lone_waits a b s.1 alone, Some first, ap (λ z. response.File z (Some first)) s.0)
+started a b (piece ∷ pieces) (response.Lost fault) s calm alone = absurd calm
+started a b content other s calm alone = absurd s
 
 starts_same : {C : Type 0} (a b c d : Scene C) (content : List Piece) (v w : Response)
     → AreSame a c → StartsFile a b content v → StartsFile c d content w → IsCalmResponse v → IsCalmResponse w
     → IsAlone a.book b.book → IsAlone c.book d.book → Similar v w × AreSame b d
 starts_same a b c d content v w same p q calm still alone also =
-    let one : Started a.book b.book content v = started a.book b.book content v p.starts calm in
-    let other : Started c.book d.book content w = started c.book d.book content w q.starts still in
-    let book : KnowSame b.book d.book = know_next a.book b.book c.book d.book same.book
-    (lone_waited a.book b.book one.waits alone) (lone_waited c.book d.book other.waits also) in (
-      files_similar content v w one.file other.file,
+    let one = started a.book b.book content v p.starts calm alone in
+    let other = started c.book d.book content w q.starts still also in
+    let book : KnowSame b.book d.book = know_next a.book b.book c.book d.book same.book one.0 other.0 in (
+      files content one.1 other.1 one.2 other.2,
       same_self (record a { book = b.book }) b (record c { book = d.book }) d
           (record { input = same.input; output = same.output; book = book; clock = same.clock }) p.only q.only,
     )

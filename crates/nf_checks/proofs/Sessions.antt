@@ -12,7 +12,7 @@ use Rattle.nf_session.proofs.Causes.{through_goes, turn_goes}
 use Rattle.nf_checks.specs.Alike.{AreCalmTurns, AreSame, Clash, IsAlone, IsCalmEnd, IsCalmTurn, IsSteady, IsUndisturbed, SessionsEndAlike, StoresAgree, ToldSessionsEndAlike}
 use Rattle.nf_checks.proofs.Goes.{Goes, alone_first, alone_then, clash_back, clash_on, goes_of, no_clash}
 use Rattle.nf_checks.proofs.Scenes.{same_back}
-use Rattle.nf_checks.proofs.Turns.{EndsSame, turns_same}
+use Rattle.nf_checks.proofs.Turns.{Alike, turns_same}
 
 -- a turn that is the session's last
 record Last {C : Type 0} (reads : C → ℕ → C → Type 0) (last : Bool) (a b : Scene C) (end : Option Ended) : Type 0 where
@@ -28,14 +28,6 @@ record Rest {C : Type 0} (reads : C → ℕ → C → Type 0) (n : ℕ) (a : Sce
   pub few : n ≤ 9999
   pub full : end ≡ None → n ≡ 9999
   pub alone : IsAlone a.book b.book
-
-abbrev Alike : {C : Type 0} → Scene C → Scene C → Option Ended → Option Ended → Type 0
-Alike b d end also = ((also ≡ end) × AreSame b d) ⊎ Clash b d
-
-alike_of : {C : Type 0} (b d : Scene C) (end also : Option Ended) → EndsSame b d end also ⊎ Clash b d
-    → Alike b d end also
-alike_of b d end also (inl same) = inl (same.end_is, same.scene)
-alike_of b d end also (inr clash) = inr clash
 
 next_goes : {C : Type 0} (reads : C → ℕ → C → Type 0) (n : ℕ) (a next : Scene C) (scenes : List (Scene C))
     (m b : Scene C) (end : Option Ended)
@@ -68,7 +60,7 @@ last_of reads n a m b end p = subst (λ z. Last reads (n == 9999) z b end) (sym 
 
 lasts_same : {C : Type 0} (reads : C → ℕ → C → Type 0) (last : Bool) (a b c d : Scene C) (end also : Option Ended)
     → IsSteady reads → AreSame a c → Last reads last a b end → Last reads last c d also
-    → IsAlone a.book b.book → IsAlone c.book d.book → EndsSame b d end also ⊎ Clash b d
+    → IsAlone a.book b.book → IsAlone c.book d.book → Alike b d end also
 lasts_same reads last a b c d end also steady same p q alone lone =
     turns_same reads last a b c d end also p.turn q.turn steady same p.calm q.calm p.well q.well alone lone
 
@@ -85,14 +77,14 @@ longer reads n a m b c next d end turn steady same p less calm lone =
     last : Last reads false a b end
     last = subst (λ z. Last reads z a b end) early (last_of reads n a m b end p)
 
-    end_of : EndsSame b next end None ⊎ Clash b next → Clash b next
-    end_of (inl ended) = let full : n ≡ 9999 = p.full (sym ended.end_is) in absurd (omega arith)
+    end_of : Alike b next end None → Clash b next
+    end_of (inl ended) = let full : n ≡ 9999 = p.full (sym ended.0) in absurd (omega arith)
     end_of (inr clash) = clash
 
 -- from turns that went on, to what follows
 after_turns : {C : Type 0} (a c b d : Scene C) (end also : Option Ended) → Goes a b → Goes c d
-    → EndsSame a c None None ⊎ Clash a c → (AreSame a c → Alike b d end also) → Alike b d end also
-after_turns a c b d end also g h (inl ends) then = then ends.scene
+    → Alike a c None None → (AreSame a c → Alike b d end also) → Alike b d end also
+after_turns a c b d end also g h (inl ends) then = then ends.1
 after_turns a c b d end also g h (inr clash) then = inr (clash_on a b c d g h clash)
 
 -- after k turns
@@ -104,8 +96,7 @@ rests_same reads k n also_n a c [] [] m b l d end also steady same p q e f =
     let count : also_n ≡ n = omega arith in
     let last : Last reads (n == 9999) c d also =
     subst (λ z. Last reads (z == 9999) c d also) count (last_of reads also_n c l d also q) in
-    alike_of b d end also
-    (lasts_same reads (n == 9999) a b c d end also steady same (last_of reads n a m b end p) last p.alone q.alone)
+    lasts_same reads (n == 9999) a b c d end also steady same (last_of reads n a m b end p) last p.alone q.alone
 rests_same reads k n also_n a c [] (next ∷ others) m b l d end also steady same p q e f =
     inr (clash_on b b next d (goes_of (same_goes b b 0 refl)) (next_goes reads also_n c next others l d also q)
     (longer reads n a m b c next d end q.through.0 steady same p (omega (arith, q.few)) q.turns.0

@@ -90,10 +90,9 @@ cut_short_of reads head begun a b end p well =
 
 -- ---- both become the same
 
--- two turns end in the same way, in scenes that are the same
-pub record EndsSame {C : Type 0} (b d : Scene C) (end also : Option Ended) : Type 0 where
-  pub end_is : also ≡ end
-  pub scene : AreSame b d
+-- two turns end in the same way, in scenes that are the same; or pieces clash
+abbrev pub Alike : {C : Type 0} → Scene C → Scene C → Option Ended → Option Ended → Type 0
+Alike b d end also = ((also ≡ end) × AreSame b d) ⊎ Clash b d
 
 -- no other's entry came in any part of a message
 record AnswersAlone {C : Type 0} (a m n b : Scene C) : Type 0 where
@@ -119,7 +118,7 @@ answers_same : {C : Type 0} (reads : C → ℕ → C → Type 0) (last : Bool) (
     (end also : Option Ended)
     → IsSteady reads → AreSame a c → IsAnswered reads last head begun a b end
     → IsAnswered reads last head begun c d also
-    → IsAlone a.book b.book → IsAlone c.book d.book → EndsSame b d end also ⊎ Clash b d
+    → IsAlone a.book b.book → IsAlone c.book d.book → Alike b d end also
 answers_same reads last head begun a b c d end also steady same p q alone lone =
     wrote (writes_same p.taken p.sent q.taken q.sent manner p.response q.response taken.0 taken.1 p.written written one.sent other.sent)
   where
@@ -149,27 +148,24 @@ answers_same reads last head begun a b c d end also steady same p q alone lone =
     closes = subst (λ z. Closes reads z (stays_granted p.response) q.sent d) (sym (how_similar p.response q.response end also taken.0))
         (subst (λ z. Closes reads (how_of {T = Option Ended} q.response (Ok also)) z q.sent d) (sym (stays_similar p.response q.response taken.0)) q.closes)
 
-    wrote : AreSame p.sent q.sent ⊎ Clash p.sent q.sent → EndsSame b d end also ⊎ Clash b d
+    wrote : AreSame p.sent q.sent ⊎ Clash p.sent q.sent → Alike b d end also
     wrote (inr clash) = inr (clash_on p.sent b q.sent d one.goes other.goes clash)
-    wrote (inl sent) = inl (record {
-      end_is = q.end_is ∙ sym by_response ∙ sym p.end_is;
-      scene = closes_same reads (how_of {T = Option Ended} p.response (Ok end)) (stays_granted p.response) p.sent b q.sent d steady sent p.closes closes
-          one.closed other.closed;
-    })
+    wrote (inl sent) = inl (
+      q.end_is ∙ sym by_response ∙ sym p.end_is,
+      closes_same reads (how_of {T = Option Ended} p.response (Ok end)) (stays_granted p.response) p.sent b q.sent d steady sent p.closes closes
+          one.closed other.closed,
+    )
 
 cut_shorts_same : {C : Type 0} (reads : C → ℕ → C → Type 0) (head : Head) (begun : Begun) (a b c d : Scene C)
     (end also : Option Ended)
     → IsSteady reads → AreSame a c → IsCutShort reads head begun a b end → IsCutShort reads head begun c d also
-    → IsAlone a.book b.book → IsAlone c.book d.book → EndsSame b d end also
+    → IsAlone a.book b.book → IsAlone c.book d.book → (also ≡ end) × AreSame b d
 cut_shorts_same reads head begun a b c d end also steady same p q alone lone =
     let left : AreSame p.left q.left = cuts_same a p.left c q.left (taken_length head begun) p.fault q.fault same p.cut q.cut in
     let sent : AreSame p.sent q.sent = wrote_same p.left p.sent q.left q.sent (refusal_reply last_manner denial.BadMessage) left p.wrote q.wrote in
-    record {
-      end_is = q.end_is ∙ sym p.end_is;
-      scene = closes_same reads ending.Gone (is_granted begun) p.sent b q.sent d steady sent p.closes q.closes
-          (alone_then p.goes (goes_of (closes_go reads ending.Gone (is_granted begun) p.sent b p.closes)) alone)
-          (alone_then q.goes (goes_of (closes_go reads ending.Gone (is_granted begun) q.sent d q.closes)) lone);
-    }
+    (q.end_is ∙ sym p.end_is, closes_same reads ending.Gone (is_granted begun) p.sent b q.sent d steady sent p.closes q.closes
+    (alone_then p.goes (goes_of (closes_go reads ending.Gone (is_granted begun) p.sent b p.closes)) alone)
+    (alone_then q.goes (goes_of (closes_go reads ending.Gone (is_granted begun) q.sent d q.closes)) lone))
 
 -- a body that one of them took whole isn't cut in the other
 never_both : {C : Type 0} (reads : C → ℕ → C → Type 0) (last : Bool) (head : Head) (begun : Begun) (a b c d : Scene C)
@@ -181,7 +177,7 @@ never_both reads last head begun a b c d end also same p q =
 become_same : {C : Type 0} (reads : C → ℕ → C → Type 0) (last : Bool) (head : Head) (begun : Begun) (a b c d : Scene C)
     (end also : Option Ended)
     → IsSteady reads → AreSame a c → Becomes reads last head begun a b end → Becomes reads last head begun c d also
-    → IsAlone a.book b.book → IsAlone c.book d.book → EndsSame b d end also ⊎ Clash b d
+    → IsAlone a.book b.book → IsAlone c.book d.book → Alike b d end also
 become_same reads last head begun a b c d end also steady same (inl p) (inl q) alone lone =
     answers_same reads last head begun a b c d end also steady same p q alone lone
 become_same reads last head begun a b c d end also steady same (inr p) (inr q) alone lone =
@@ -262,7 +258,7 @@ met_alone reads last head a b end p alone =
 
 mets_same : {C : Type 0} (reads : C → ℕ → C → Type 0) (last : Bool) (head : Head) (a b c d : Scene C) (end also : Option Ended)
     → IsSteady reads → AreSame a c → IsMet reads last head a b end → IsMet reads last head c d also
-    → IsAlone a.book b.book → IsAlone c.book d.book → EndsSame b d end also ⊎ Clash b d
+    → IsAlone a.book b.book → IsAlone c.book d.book → Alike b d end also
 mets_same reads last head a b c d end also steady same p q alone lone =
     let one = met_alone reads last head a b end p alone in
     let other = met_alone reads last head c d also q lone in
@@ -276,20 +272,20 @@ mets_same reads last head a b c d end also steady same p q alone lone =
 
 follow_same : {C : Type 0} (reads : C → ℕ → C → Type 0) (last : Bool) (x : Result (Option Head) WireFault) (a b c d : Scene C) (end also : Option Ended)
     → IsSteady reads → AreSame a c → Follows reads last x a b end → Follows reads last x c d also
-    → IsAlone a.book b.book → IsAlone c.book d.book → EndsSame b d end also ⊎ Clash b d
+    → IsAlone a.book b.book → IsAlone c.book d.book → Alike b d end also
 follow_same reads last (Ok None) a b c d end also steady same p q alone lone =
-    inl (record { end_is = q.1 ∙ sym p.1; scene = same_self a b c d same p.0 q.0 })
+    inl (q.1 ∙ sym p.1, same_self a b c d same p.0 q.0)
 follow_same reads last (Ok (Some head)) a b c d end also steady same p q alone lone =
     mets_same reads last head a b c d end also steady same p q alone lone
 follow_same reads last (Err fault) a b c d end also steady same p q alone lone =
-    inl (record { end_is = q.1 ∙ sym p.1; scene = wrote_same a b c d (refusal_reply last_manner (denial_of fault)) same p.0 q.0 })
+    inl (q.1 ∙ sym p.1, wrote_same a b c d (refusal_reply last_manner (denial_of fault)) same p.0 q.0)
 
 -- ---- for sessions
 
 pub turns_same : {C : Type 0} (reads : C → ℕ → C → Type 0) (last : Bool) (a b c d : Scene C) (end also : Option Ended)
     (one : Turn reads last a b end) (other : Turn reads last c d also) → IsSteady reads → AreSame a c
     → IsCalmTurn reads last a b end one → IsCalmTurn reads last c d also other → IsCalmEnd end → IsCalmEnd also
-    → IsAlone a.book b.book → IsAlone c.book d.book → EndsSame b d end also ⊎ Clash b d
+    → IsAlone a.book b.book → IsAlone c.book d.book → Alike b d end also
 turns_same {C} reads last a b c d end also one other steady same calm still well good alone lone =
     let p = calm_of reads last a b end one calm well in
     let q = calm_of reads last c d also other still good in
