@@ -11,8 +11,7 @@ pub told_more : (xs bytes : List ℕ) (b : Option (List ℕ)) → Appends (Some 
 told_more xs bytes None x = absurd x
 told_more xs bytes (Some ys) x = ap (λ z. Some z) x
 
-pub told_appended : (a b c d : Option (List ℕ)) (bytes : List ℕ)
-    → TellSame a c → Appends a b bytes → Appends c d bytes → TellSame b d
+pub told_appended : (a b c d : Option (List ℕ)) (bytes : List ℕ) → TellSame a c → Appends a b bytes → Appends c d bytes → TellSame b d
 told_appended a b c d bytes (xs, e, f) x y = (
   xs ++ bytes,
   told_more xs bytes b (subst (λ z. Appends z b bytes) e x),

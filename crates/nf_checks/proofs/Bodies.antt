@@ -67,8 +67,7 @@ starts_same a b c d content v w same p q calm still alone also =
 -- ---- the body that is stored
 
 stores_same : {C : Type 0} (reads : C → ℕ → C → Type 0) (body : List ℕ) (a b c d : Scene C) (v w : Response)
-    → IsSteady reads → AreSame a c → StoresBody reads body a b v → StoresBody reads body c d w → IsCalmResponse v
-    → IsCalmResponse w
+    → IsSteady reads → AreSame a c → StoresBody reads body a b v → StoresBody reads body c d w → IsCalmResponse v → IsCalmResponse w
     → IsAlone a.book b.book → IsAlone c.book d.book → Similar v w × AreSame b d
 stores_same reads body a b c d v w steady same (now1, x, read1, ends1, is1, only1) (now2, y, read2, ends2, is2, only2) calm still alone also =
     let read : (now1 ≡ now2) × (b.clock ≡ d.clock) = readings_same reads a b c d now1 now2 steady same read1 read2 in
@@ -80,10 +79,8 @@ stores_same reads body a b c d v w steady same (now1, x, read1, ends1, is1, only
 
 -- ---- what the body makes of what was begun
 
-pub passes_same : {C : Type 0} (reads : C → ℕ → C → Type 0) (body : List ℕ) (a b c d : Scene C) (x : Begun)
-    (v w : Response)
-    → IsSteady reads → AreSame a c → Passes reads body a b x v → Passes reads body c d x w → IsCalmResponse v
-    → IsCalmResponse w
+pub passes_same : {C : Type 0} (reads : C → ℕ → C → Type 0) (body : List ℕ) (a b c d : Scene C) (x : Begun) (v w : Response)
+    → IsSteady reads → AreSame a c → Passes reads body a b x v → Passes reads body c d x w → IsCalmResponse v → IsCalmResponse w
     → IsAlone a.book b.book → IsAlone c.book d.book → Similar v w × AreSame b d
 passes_same reads body a b c d (begun.Unasked refusal) v w steady same p q calm still alone also =
     (equal (q.0 ∙ sym p.0), same_self a b c d same p.1 q.1)
@@ -99,12 +96,13 @@ passes_same reads body a b c d (begun.Asked answer) v w steady same p q calm sti
 pub bodies_same : {C : Type 0} (a b c d : Scene C) (n : ℕ) (p q : List ℕ)
     → AreSame a c → Bodies a b n p → Bodies c d n q → (p ≡ q) × AreSame b d
 bodies_same a b c d n p q s x y =
-    let taken : (p ≡ q) × TellSame b.input d.input = told_taken a.input b.input c.input d.input n p q s.input x.taken y.taken in
-    (taken.0, same_self (record a { input = b.input }) b (record c { input = d.input }) d
-    (record { input = taken.1; output = s.output; book = s.book; clock = s.clock }) x.only y.only)
+    let taken : (p ≡ q) × TellSame b.input d.input = told_taken a.input b.input c.input d.input n p q s.input x.taken y.taken in (
+      taken.0,
+      same_self (record a { input = b.input }) b (record c { input = d.input }) d
+          (record { input = taken.1; output = s.output; book = s.book; clock = s.clock }) x.only y.only,
+    )
 
-pub takes_same : {C : Type 0} (reads : C → ℕ → C → Type 0) (head : Head) (a b c d : Scene C) (x : Begun)
-    (v w : Response)
+pub takes_same : {C : Type 0} (reads : C → ℕ → C → Type 0) (head : Head) (a b c d : Scene C) (x : Begun) (v w : Response)
     → IsSteady reads → AreSame a c → TakesIn reads head a b x (Ok v) → TakesIn reads head c d x (Ok w)
     → IsCalmResponse v → IsCalmResponse w → IsAlone a.book b.book → IsAlone c.book d.book → Similar v w × AreSame b d
 takes_same {C = C} reads head a b c d x v w steady same (m, p, bodies1, passes1) (n, q, bodies2, passes2) calm still alone also =
@@ -146,8 +144,7 @@ nothing_left a b xs n e cut =
     let left : Left b = left_of a b xs cut.0.0 e cut.0.2 in
     left.1 ∙ ap (λ z. Some z) (subst (λ z. IsAtEnd z) left.1 cut.1)
 
-pub cuts_same : {C : Type 0} (a b c d : Scene C) (n : ℕ) (x y : WireFault)
-    → AreSame a c → IsCut a b n x → IsCut c d n y → AreSame b d
+pub cuts_same : {C : Type 0} (a b c d : Scene C) (n : ℕ) (x y : WireFault) → AreSame a c → IsCut a b n x → IsCut c d n y → AreSame b d
 cuts_same a b c d n x y same p q = same_reads a b c d same p.only q.only
     ([], nothing_left a.input b.input same.input.0 n same.input.1 p.cut, nothing_left c.input d.input same.input.0 n same.input.2 q.cut)
 

@@ -49,8 +49,7 @@ lone_waits a b w alone =
       own = w.own;
     }
 
-lone_enters : (a b : Book) (now : ℕ) (event : Event) (answer : Answer) (e : Enters a b now event answer)
-    → IsAlone a b → e.others ≡ []
+lone_enters : (a b : Book) (now : ℕ) (event : Event) (answer : Answer) (e : Enters a b now event answer) → IsAlone a b → e.others ≡ []
 lone_enters a b now event answer e alone = no_entries e.others
     (omega (
       arith,
@@ -68,8 +67,7 @@ mark_is s e mark.Answered calm = refl
 mark_is s e mark.Store calm = absurd calm
 mark_is s e mark.Memory calm = absurd calm
 
-answered : (a b : Book) (now : ℕ) (event : Event) (x : Answer) (p : Enters a b now event x)
-    → IsCalmAnswer x → p.entry.mark ≡ mark.Answered
+answered : (a b : Book) (now : ℕ) (event : Event) (x : Answer) (p : Enters a b now event x) → IsCalmAnswer x → p.entry.mark ≡ mark.Answered
 answered a b now event x p calm = mark_is (state_after a p.others) p.entry p.entry.mark (subst (λ z. IsCalmAnswer z) p.answer_is calm)
 
 pub enters_same : (a b c d : Book) (now : ℕ) (event : Event) (x y : Answer)
@@ -109,8 +107,7 @@ fate a b now words request (Err refusal) begins calm = made begins.entry
 
 -- an entry that is made had room
 no_room : (a b c d : Book) (now : ℕ) (words : Words) (request : Request) (y : Answer)
-    → KnowSame a c → Waits a b → most_entries < entries_wanted b → Enters c d now (Begin words request) y
-    → IsAlone a b → IsAlone c d → ⊥
+    → KnowSame a c → Waits a b → most_entries < entries_wanted b → Enters c d now (Begin words request) y → IsAlone a b → IsAlone c d → ⊥
 no_room a b c d now words request y k waits full q alone also =
     let stays : KnowSame a b = lone_waits a b waits alone in
     let none : [] ≡ q.others = sym (lone_enters c d now (Begin words request) y q also) in

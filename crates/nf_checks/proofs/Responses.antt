@@ -105,12 +105,10 @@ pieces_same a b c d close content first other xs ys s p q e alone also =
 abbrev Whole : {C : Type 0} → Bool → List Piece → Option (Vec ℕ Global) → Scene C → Scene C → Type 0
 Whole close content first a b = SendsFile {T = Unit {0}} close content first a b (Ok tt)
 
-ahead : (out head front one rest : List ℕ)
-    → out ++ (head ++ (front ++ one ++ rest)) ≡ (out ++ (head ++ front)) ++ one ++ rest
+ahead : (out head front one rest : List ℕ) → out ++ (head ++ (front ++ one ++ rest)) ≡ (out ++ (head ++ front)) ++ one ++ rest
 ahead out head front one rest = simp append_assoc
 
-file_written : (a b : Option (List ℕ)) (close : Bool) (content : List Piece) (given : List (List ℕ))
-    (out front one rest : List ℕ)
+file_written : (a b : Option (List ℕ)) (close : Bool) (content : List Piece) (given : List (List ℕ)) (out front one rest : List ℕ)
     → a ≡ Some out → Appends a b (file_front close content given) → concat given ≡ front ++ one ++ rest
     → b ≡ Some ((out ++ (file_head close (size_of content) ++ front)) ++ one ++ rest)
 file_written a b close content given out front one rest e x is =
@@ -120,8 +118,7 @@ file_written a b close content given out front one rest e x is =
 
 files_clash : {C : Type 0} (a b c d : Scene C) (close : Bool) (content : List Piece)
     (first other : Option (Vec ℕ Global)) (xs ys : List (List ℕ))
-    → AreSame a c → WritesPieces close content first a b xs → WritesPieces close content other c d ys
-    → Differ b.book d.book xs ys
+    → AreSame a c → WritesPieces close content first a b xs → WritesPieces close content other c d ys → Differ b.book d.book xs ys
     → Clash b d
 files_clash a b c d close content first other xs ys same p q (f, front, rest, more, wrote, also) = record {
   piece = f.piece;
@@ -137,8 +134,7 @@ files_clash a b c d close content first other xs ys same p q (f, front, rest, mo
   wrote_also = file_written c.output d.output close content ys same.output.0 front f.other more same.output.2 q.bytes_are also;
 }
 
-files_same : {C : Type 0} (a b c d : Scene C) (close : Bool) (content : List Piece)
-    (first other : Option (Vec ℕ Global))
+files_same : {C : Type 0} (a b c d : Scene C) (close : Bool) (content : List Piece) (first other : Option (Vec ℕ Global))
     → AreSame a c → Whole close content first a b → Whole close content other c d
     → IsAlone a.book b.book → IsAlone c.book d.book → AreSame b d ⊎ Clash b d
 files_same a b c d close content first other same (xs, p, n, calm) (ys, q, m, still) alone also =
@@ -175,8 +171,7 @@ calm_whole (Some ended.Memory) calm = absurd calm
 calm_whole other calm = refl
 
 -- whoever is invited is told
-pub untold : {C : Type 0} (a b : Scene C) (bytes : List ℕ) (by : Ended)
-    → Sends {T = Unit {0}} a b bytes (Err by) → IsCalmEnded by → ⊥
+pub untold : {C : Type 0} (a b : Scene C) (bytes : List ℕ) (by : Ended) → Sends {T = Unit {0}} a b bytes (Err by) → IsCalmEnded by → ⊥
 untold a b bytes ended.WriteFault sends calm = calm
 untold a b bytes by sends calm = sends
 
@@ -227,8 +222,7 @@ told_so fault a b ended.WriteFault bytes p calm = absurd calm
 told_so fault a b ended.Memory bytes p calm = absurd calm
 told_so fault a b by bytes p calm = absurd p
 
-pub denied_of : {C : Type 0} (fault : WireFault) (a b : Scene C) (by : Ended) → EndsBy fault a b by → IsCalmEnded by
-    → IsDenied fault a b by
+pub denied_of : {C : Type 0} (fault : WireFault) (a b : Scene C) (by : Ended) → EndsBy fault a b by → IsCalmEnded by → IsDenied fault a b by
 denied_of wire.ReadFault a b by p calm = absurd (subst (λ z. IsCalmEnded z) p.0 calm)
 denied_of wire.Memory a b by p calm = absurd (subst (λ z. IsCalmEnded z) p.0 calm)
 denied_of other a b by p calm = told_so other a b by tt p calm

@@ -48,8 +48,7 @@ told_kept xs None k = absurd k
 told_kept xs (Some ys) k = (ys, refl)
 
 -- the stream tells still
-told_next : (xs : List ℕ) (b : Option (List ℕ)) (x : Result (Option Head) WireFault) → IsNext (Some xs) b x
-    → IsOfBytes x → Left b
+told_next : (xs : List ℕ) (b : Option (List ℕ)) (x : Result (Option Head) WireFault) → IsNext (Some xs) b x → IsOfBytes x → Left b
 told_next xs b (Ok None) next calm = told_kept xs b next.1
 told_next xs b (Ok (Some head)) (h, _, taken) calm = left_of (Some xs) b xs (print_request h) refl taken.3
 told_next xs b (Err wire.ReadFault) next calm = absurd calm
@@ -67,8 +66,7 @@ heads_same a b c d x y s p q calm still =
 
 -- ---- writing
 
-pub wrote_same : {C : Type 0} (a b c d : Scene C) (bytes : List ℕ)
-    → AreSame a c → Wrote a b bytes → Wrote c d bytes → AreSame b d
+pub wrote_same : {C : Type 0} (a b c d : Scene C) (bytes : List ℕ) → AreSame a c → Wrote a b bytes → Wrote c d bytes → AreSame b d
 wrote_same a b c d bytes s p q = same_self (record a { output = b.output }) b (record c { output = d.output }) d
     (record {
       input = s.input;
@@ -81,8 +79,7 @@ wrote_same a b c d bytes s p q = same_self (record a { output = b.output }) b (r
 
 -- readings of clocks that are the same
 pub readings_same : {C : Type 0} (reads : C → ℕ → C → Type 0) (a b c d : Scene C) (now also : ℕ)
-    → IsSteady reads → AreSame a c → reads a.clock now b.clock → reads c.clock also d.clock
-    → (now ≡ also) × (b.clock ≡ d.clock)
+    → IsSteady reads → AreSame a c → reads a.clock now b.clock → reads c.clock also d.clock → (now ≡ also) × (b.clock ≡ d.clock)
 readings_same reads a b c d now also steady s p q =
     steady a.clock now also b.clock d.clock p (subst (λ z. reads z also d.clock) s.clock q)
 
@@ -91,8 +88,7 @@ pub asks_same : {C : Type 0} (a b c d : Scene C)
 asks_same a b c d s p q book clock = same_self (record a { book = b.book; clock = b.clock }) b (record c { book = d.book; clock = d.clock }) d
     (record { input = s.input; output = s.output; book = book; clock = sym clock }) p q
 
-unasked : (head : Head) (refusal : Denial) → IsUnasked head refusal → IsCalmDenial refusal
-    → request_of head ≡ Err refusal
+unasked : (head : Head) (refusal : Denial) → IsUnasked head refusal → IsCalmDenial refusal → request_of head ≡ Err refusal
 unasked head refusal (inl is) calm = is
 unasked head refusal (inr is) calm = absurd (subst (λ z. IsCalmDenial z) is calm)
 
@@ -123,8 +119,7 @@ judges_same reads head a b c d (begun.Asked x) (begun.Asked y) steady same
 -- ---- the End of what brings no body
 
 ends_same : (a b c d : Book) (now : ℕ) (how : Ending) → KnowSame a c → Ends a b now how (Ok reply.Closed)
-    → Ends c d now how (Ok reply.Closed)
-    → IsAlone a b → IsAlone c d → KnowSame b d
+    → Ends c d now how (Ok reply.Closed) → IsAlone a b → IsAlone c d → KnowSame b d
 ends_same a b c d now (ending.Body bytes) k p q alone also = absurd p.answered
 ends_same a b c d now other k p q alone also =
     (enters_same a b c d now _ (Ok reply.Closed) (Ok reply.Closed) k p.enters q.enters alone also tt tt).1

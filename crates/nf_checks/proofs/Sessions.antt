@@ -30,15 +30,13 @@ record Rest {C : Type 0} (reads : C → ℕ → C → Type 0) (n : ℕ) (a : Sce
   pub alone : IsAlone a.book b.book
 
 next_goes : {C : Type 0} (reads : C → ℕ → C → Type 0) (n : ℕ) (a next : Scene C) (scenes : List (Scene C))
-    (m b : Scene C) (end : Option Ended)
-    → Rest reads n a (next ∷ scenes) m b end → Goes next b
+    (m b : Scene C) (end : Option Ended) → Rest reads n a (next ∷ scenes) m b end → Goes next b
 next_goes reads n a next scenes m b end p =
     goes_of (goes_then (through_goes reads next scenes m p.through.1) (turn_goes reads (n == 9999) m b end p.last.turn))
 
 -- what follows the first turn
 next_of : {C : Type 0} (reads : C → ℕ → C → Type 0) (n : ℕ) (a next : Scene C) (scenes : List (Scene C)) (m b : Scene C)
-    (end : Option Ended)
-    → Rest reads n a (next ∷ scenes) m b end → Rest reads n next scenes m b end
+    (end : Option Ended) → Rest reads n a (next ∷ scenes) m b end → Rest reads n next scenes m b end
 next_of reads n a next scenes m b end p = record {
   through = p.through.1;
   turns = p.turns.1;
@@ -49,8 +47,7 @@ next_of reads n a next scenes m b end p = record {
 }
 
 first_alone : {C : Type 0} (reads : C → ℕ → C → Type 0) (n : ℕ) (a next : Scene C) (scenes : List (Scene C))
-    (m b : Scene C) (end : Option Ended)
-    → Rest reads n a (next ∷ scenes) m b end → IsAlone a.book next.book
+    (m b : Scene C) (end : Option Ended) → Rest reads n a (next ∷ scenes) m b end → IsAlone a.book next.book
 first_alone reads n a next scenes m b end p =
     alone_first (goes_of (turn_goes reads false a next None p.through.0)) (next_goes reads n a next scenes m b end p) p.alone
 
@@ -88,8 +85,7 @@ after_turns a c b d end also g h (inl ends) then = then ends.1
 after_turns a c b d end also g h (inr clash) then = inr (clash_on a b c d g h clash)
 
 -- after k turns
-rests_same : {C : Type 0} (reads : C → ℕ → C → Type 0) (k n also_n : ℕ) (a c : Scene C) (scenes others : List (Scene C))
-    (m b l d : Scene C)
+rests_same : {C : Type 0} (reads : C → ℕ → C → Type 0) (k n also_n : ℕ) (a c : Scene C) (scenes others : List (Scene C)) (m b l d : Scene C)
     (end also : Option Ended) → IsSteady reads → AreSame a c → Rest reads n a scenes m b end → Rest reads also_n c others l d also
     → n ≡ k + length scenes → also_n ≡ k + length others → Alike b d end also
 rests_same reads k n also_n a c [] [] m b l d end also steady same p q e f =
@@ -112,8 +108,7 @@ rests_same reads k n also_n a c (next ∷ scenes) (other ∷ others) m b l d end
     (λ same_next. rests_same reads (k + 1) n also_n next other scenes others m b l d end also steady same_next
     (next_of reads n a next scenes m b end p) (next_of reads also_n c other others l d also q) (omega arith) (omega arith))
 
-rest_of : {C : Type 0} (reads : C → ℕ → C → Type 0) (a b : Scene C) (end : Option Ended)
-    (session : Session reads a b end)
+rest_of : {C : Type 0} (reads : C → ℕ → C → Type 0) (a b : Scene C) (end : Option Ended) (session : Session reads a b end)
     → IsUndisturbed reads a b end session → Rest reads (length session.scenes) a session.scenes session.before b end
 rest_of reads a b end session calm = record {
   through = session.through;

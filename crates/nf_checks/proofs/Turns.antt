@@ -54,8 +54,7 @@ abbrev Becomes : {C : Type 0} (reads : C → ℕ → C → Type 0) (last : Bool)
     (end : Option Ended) → Type 0
 Becomes reads last head begun a b end = IsAnswered reads last head begun a b end ⊎ IsCutShort reads head begun a b end
 
-answered_of : {C : Type 0} (reads : C → ℕ → C → Type 0) (last : Bool) (head : Head) (begun : Begun) (a b : Scene C)
-    (end : Option Ended)
+answered_of : {C : Type 0} (reads : C → ℕ → C → Type 0) (last : Bool) (head : Head) (begun : Begun) (a b : Scene C) (end : Option Ended)
     (p : Answers reads last head begun a b end) → IsCalmResponse p.response → IsCalmEnd end → IsAnswered reads last head begun a b end
 answered_of reads last head begun a b end p calm well =
     let w : IsWritten last (way_of head begun) p.response p.taken p.sent p.result end =
@@ -71,8 +70,7 @@ answered_of reads last head begun a b end p calm well =
       end_is = w.end_is;
     }
 
-cut_short_of : {C : Type 0} (reads : C → ℕ → C → Type 0) (head : Head) (begun : Begun) (a b : Scene C)
-    (end : Option Ended)
+cut_short_of : {C : Type 0} (reads : C → ℕ → C → Type 0) (head : Head) (begun : Begun) (a b : Scene C) (end : Option Ended)
     → CutsShort reads head begun a b end → IsCalmEnd end → IsCutShort reads head begun a b end
 cut_short_of reads head begun a b end p well =
     let d : IsDenied p.fault p.cut p.sent p.by = denied_of p.fault p.cut p.sent p.by p.responds (subst (λ z. IsCalmEnd z) p.ends well) in
@@ -115,10 +113,8 @@ answers_alone reads last head begun a b end p alone =
     }
 
 answers_same : {C : Type 0} (reads : C → ℕ → C → Type 0) (last : Bool) (head : Head) (begun : Begun) (a b c d : Scene C)
-    (end also : Option Ended)
-    → IsSteady reads → AreSame a c → IsAnswered reads last head begun a b end
-    → IsAnswered reads last head begun c d also
-    → IsAlone a.book b.book → IsAlone c.book d.book → Alike b d end also
+    (end also : Option Ended) → IsSteady reads → AreSame a c → IsAnswered reads last head begun a b end
+    → IsAnswered reads last head begun c d also → IsAlone a.book b.book → IsAlone c.book d.book → Alike b d end also
 answers_same reads last head begun a b c d end also steady same p q alone lone =
     wrote (writes_same p.taken p.sent q.taken q.sent manner p.response q.response taken.0 taken.1 p.written written one.sent other.sent)
   where
@@ -156,21 +152,21 @@ answers_same reads last head begun a b c d end also steady same p q alone lone =
           one.closed other.closed,
     )
 
-cut_shorts_same : {C : Type 0} (reads : C → ℕ → C → Type 0) (head : Head) (begun : Begun) (a b c d : Scene C)
-    (end also : Option Ended)
+cut_shorts_same : {C : Type 0} (reads : C → ℕ → C → Type 0) (head : Head) (begun : Begun) (a b c d : Scene C) (end also : Option Ended)
     → IsSteady reads → AreSame a c → IsCutShort reads head begun a b end → IsCutShort reads head begun c d also
     → IsAlone a.book b.book → IsAlone c.book d.book → (also ≡ end) × AreSame b d
 cut_shorts_same reads head begun a b c d end also steady same p q alone lone =
     let left : AreSame p.left q.left = cuts_same a p.left c q.left (taken_length head begun) p.fault q.fault same p.cut q.cut in
-    let sent : AreSame p.sent q.sent = wrote_same p.left p.sent q.left q.sent (refusal_reply last_manner denial.BadMessage) left p.wrote q.wrote in
-    (q.end_is ∙ sym p.end_is, closes_same reads ending.Gone (is_granted begun) p.sent b q.sent d steady sent p.closes q.closes
-    (alone_then p.goes (goes_of (closes_go reads ending.Gone (is_granted begun) p.sent b p.closes)) alone)
-    (alone_then q.goes (goes_of (closes_go reads ending.Gone (is_granted begun) q.sent d q.closes)) lone))
+    let sent : AreSame p.sent q.sent = wrote_same p.left p.sent q.left q.sent (refusal_reply last_manner denial.BadMessage) left p.wrote q.wrote in (
+      q.end_is ∙ sym p.end_is,
+      closes_same reads ending.Gone (is_granted begun) p.sent b q.sent d steady sent p.closes q.closes
+          (alone_then p.goes (goes_of (closes_go reads ending.Gone (is_granted begun) p.sent b p.closes)) alone)
+          (alone_then q.goes (goes_of (closes_go reads ending.Gone (is_granted begun) q.sent d q.closes)) lone),
+    )
 
 -- a body that one of them took whole isn't cut in the other
 never_both : {C : Type 0} (reads : C → ℕ → C → Type 0) (last : Bool) (head : Head) (begun : Begun) (a b c d : Scene C)
-    (end also : Option Ended)
-    → AreSame a c → IsAnswered reads last head begun a b end → IsCutShort reads head begun c d also → ⊥
+    (end also : Option Ended) → AreSame a c → IsAnswered reads last head begun a b end → IsCutShort reads head begun c d also → ⊥
 never_both reads last head begun a b c d end also same p q =
     never_cut a p.takes.0 c q.left (taken_length head begun) p.takes.1 q.fault same p.takes.2 q.cut
 
@@ -232,8 +228,7 @@ calm_met reads last a m n told b end head begun heads judges invites calm become
   };
 }
 
-calm_of : {C : Type 0} (reads : C → ℕ → C → Type 0) (last : Bool) (a b : Scene C) (end : Option Ended)
-    (turn : Turn reads last a b end)
+calm_of : {C : Type 0} (reads : C → ℕ → C → Type 0) (last : Bool) (a b : Scene C) (end : Option Ended) (turn : Turn reads last a b end)
     → IsCalmTurn reads last a b end turn → IsCalmEnd end → IsCalm reads last a b end
 calm_of reads last a b end (inl over) calm well = record { read = b; found = Ok None; heads = over.0; bytes = tt; follows = (refl, over.1) }
 calm_of reads last a b end (inr (inl (m, fault, by, heads, ends, is))) calm well =

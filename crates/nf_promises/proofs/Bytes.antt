@@ -51,8 +51,7 @@ none_is_no_head a m h request left prints input heads =
     let never : ◌≡◌ {A = Result (Option Head) WireFault} (Ok None) (Ok (Some (head_of h))) = (next_is a m h request left (Ok None) prints input heads tt).0 in cc
 
 pub head_is : {C : Type 0} (a m : Scene C) (h : RequestHead) (request : Request) (left : List ℕ) (head : Head)
-    → Prints h request → a.input ≡ Some (print_request h ++ left) → Heads a m (Ok (Some head))
-    → (head ≡ head_of h) × (m.input ≡ Some left)
+    → Prints h request → a.input ≡ Some (print_request h ++ left) → Heads a m (Ok (Some head)) → (head ≡ head_of h) × (m.input ≡ Some left)
 head_is a m h request left head prints input heads =
     let next = next_is a m h request left (Ok (Some head)) prints input heads tt in
     let is : ◌≡◌ {A = Result (Option Head) WireFault} (Ok (Some head)) (Ok (Some (head_of h))) = next.0 in
@@ -206,8 +205,7 @@ stops_not_done {C} reads head begun k m b end answer judges stops told wrote =
 turn_puts : {C : Type 0} (reads : C → ℕ → C → Type 0) (last : Bool) (caller : Caller) (spot : Spot) (h : RequestHead) (body left : List ℕ)
     (a b : Scene C) (end : Option Ended) (answer : List ℕ) → Prints h (put_of caller spot (length body))
     → a.input ≡ Some (print_request h ++ (body ++ left)) → IsSome a.output → Appends a.output b.output (invitation (head_of h) ++ answer)
-    → is_done answer ≡ true
-    → OnlyOwn a.book b.book → Turn reads last a b end → PutsAndLeaves reads last caller spot body left a b end
+    → is_done answer ≡ true → OnlyOwn a.book b.book → Turn reads last a b end → PutsAndLeaves reads last caller spot body left a b end
 turn_puts reads last caller spot h body left a b end answer prints input told wrote done only (inl (heads, is)) =
     absurd (none_is_no_head a b h (put_of caller spot (length body)) (body ++ left) prints input heads)
 turn_puts {C} reads last caller spot h body left a b end answer prints input told wrote done only (inr (inl (m, why, by, heads, ends, is))) =
@@ -230,8 +228,7 @@ turn_puts {C} reads last caller spot h body left a b end answer prints input tol
     written = appends_by k.output b.output a.output b.output (invitation head ++ answer) (sym front) refl
         (subst (λ (z : Head). Appends a.output b.output (invitation z ++ answer)) (sym at.0) wrote)
 
-    here : StopsShort reads head begun m b end
-        ⊎ ((n : Scene C) × Invites {T = Unit {0}} head begun m n (Ok tt)
+    here : StopsShort reads head begun m b end ⊎ ((n : Scene C) × Invites {T = Unit {0}} head begun m n (Ok tt)
         × (Answers reads last head begun n b end ⊎ CutsShort reads head begun n b end))
         → PutsAndLeaves reads last caller spot body left a b end
     here (inl stops) = absurd (stops_not_done reads head begun k m b end answer judges stops tells written)

@@ -122,8 +122,7 @@ put_size s seat now words caller spot n who key size is =
     stored_size (seeker.User (asker_of call)) (last_name spot) n (found call spot) who key size
     (call_passes call (allowed.Put who key size) decides).1
 
-last_is : (front : List (List ℕ)) (last : List ℕ)
-    → unwrap_or (slice_get (front ++ last ∷ []) (length (front ++ last ∷ []) - 1)) [] ≡ last
+last_is : (front : List (List ℕ)) (last : List ℕ) → unwrap_or (slice_get (front ++ last ∷ []) (length (front ++ last ∷ []) - 1)) [] ≡ last
 last_is front last =
     let names : List (List ℕ) = front ++ last ∷ [] in
     let at : length names - 1 ≡ length front = omega (arith, length-append front (last ∷ [])) in

@@ -102,8 +102,7 @@ front_shown close unsent body k a c front book shown =
 
 -- over a store that tells, it is the body
 pub told_shown : {C : Type 0} (close unsent : Bool) (body : List ℕ) (shelf : Blobs) (a b : Scene C) → a.book.told ≡ Some shelf
-    → ShowsFile close unsent body a b
-    → Appends a.output b.output (file_head close (length body) ++ body)
+    → ShowsFile close unsent body a b → Appends a.output b.output (file_head close (length body) ++ body)
     ⊎ Appends a.output b.output (refusal_reply (plainly close) denial.Memory)
     ⊎ Appends a.output b.output (refusal_reply (plainly (close || unsent)) denial.Memory)
     ⊎ (Appends a.output b.output (refusal_reply (plainly close) denial.Store) × FailsStore a.book b.book)

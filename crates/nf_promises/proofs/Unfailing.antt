@@ -154,8 +154,7 @@ module _ {C : Type 0} (reads : C → ℕ → C → Type 0) (a b : Scene C) (noth
       let behind = calm_of (closes_go reads (how_of v answers.result) (stays_granted v) answers.sent b answers.closes) in
       here (responds_whole a b nothing whole last (way_of head u) v answers.taken answers.sent answers.result taken behind answers.responds)
     where
-      here : (end_by answers.result ≡ Some ended.Memory)
-          ⊎ ((end_by answers.result ≡ end_of (way_of head u).closes answers.response)
+      here : (end_by answers.result ≡ Some ended.Memory) ⊎ ((end_by answers.result ≡ end_of (way_of head u).closes answers.response)
           × Writes {T = Unit {0}} (manner_of last (way_of head u) answers.response) answers.response answers.taken answers.sent (Ok tt)) → IsWell end
       here (inl is) = well_by end _ (answers.ends ∙ is) tt
       here (inr (is, writes)) = well_by end _ (answers.ends ∙ is) (response_well (way_of head u).closes answers.response)

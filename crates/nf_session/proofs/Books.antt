@@ -80,8 +80,7 @@ held_from seat n s [] before is legal = is
 held_from seat n s (e ∷ es) before is legal =
     here (e.seat == seat) refl (λ before is. held_from seat (n + 1) (after s e) es before is legal.1)
   where
-    here : (own : Bool) → (e.seat == seat) ≡ own
-        → ((before : Option Goal) → before ≡ goal_in (after s e) seat
+    here : (own : Bool) → (e.seat == seat) ≡ own → ((before : Option Goal) → before ≡ goal_in (after s e) seat
         → held_after before (own_from seat (after s e) es) ≡ goal_in (replay (after s e) es) seat)
         → held_after before (if own then (e, answer_at s e e.mark) ∷ own_from seat (after s e) es else own_from seat (after s e) es)
         ≡ goal_in (replay (after s e) es) seat

@@ -58,8 +58,7 @@ module _ {C : Type 0} (reads : C → ℕ → C → Type 0) (last : Bool) (head :
     (judged : Judges reads head a m begun) (invites : Invites {T = Unit {0}} head begun m n (Ok tt)) where
   pub meets_answered : (closes : Bool) (v : Response) (written : Result (Option Ended) Ended) (granted : Bool) (how : Ending)
       (end : Option Ended) → TakesIn reads head n t begun (Ok v) → closes ≡ (closes_session head || is_unsent head begun)
-      → Responds last (way_by closes head) v t s written
-      → how ≡ how_of v written → granted ≡ stays_granted v → Closes reads how granted s b
+      → Responds last (way_by closes head) v t s written → how ≡ how_of v written → granted ≡ stays_granted v → Closes reads how granted s b
       → end ≡ end_by written → Meets reads last head a b end
   meets_answered closes v written granted how end takes closes_is responds how_is granted_is closed end_is = (
     m,
@@ -82,8 +81,7 @@ module _ {C : Type 0} (reads : C → ℕ → C → Type 0) (last : Bool) (head :
     ),
   )
 
-  pub meets_cut : (fault : WireFault) (by : Ended) (granted : Bool)
-      → TakesIn reads head n t begun (Err fault) → EndsBy fault t s by
+  pub meets_cut : (fault : WireFault) (by : Ended) (granted : Bool) → TakesIn reads head n t begun (Err fault) → EndsBy fault t s by
       → granted ≡ is_granted begun → Closes reads ending.Gone granted s b → Meets reads last head a b (Some by)
   meets_cut fault by granted takes responds granted_is closed = (
     m,
