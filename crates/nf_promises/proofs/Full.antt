@@ -100,10 +100,8 @@ found_same reads body a b (begun.Asked answer) v is passes =
 
 refusal_same : {C : Type 0} (last : Bool) (way : Way) (refusal : Denial) (a b : Scene C) (result : Result (Option Ended) Ended)
     → Responds last way (response.Denied refusal) a b result → b.book ≡ a.book
-refusal_same last way refusal a b (Ok end) (is, says) =
-    book_of a b (says_only {T = Unit {0}} a b (refusal_reply (manner_of last way (response.Denied refusal)) refusal) (Ok tt) says)
-refusal_same last way refusal a b (Err by) says =
-    book_of a b (says_only {T = Unit {0}} a b (refusal_reply (manner_of last way (response.Denied refusal)) refusal) (Err by) says)
+refusal_same last way refusal a b (Ok end) (is, says) = ap (λ (x : Scene _). x.book) says.only
+refusal_same last way refusal a b (Err by) says = book_of a b (says_only {T = Unit {0}} a b _ (Err by) says)
 
 -- ---- a turn
 

@@ -10,5 +10,4 @@ pub mod Returning
 pub mod Marks
 pub mod Bytes
 pub mod Unfailing
-pub mod Placing
 pub mod Completing

@@ -148,17 +148,14 @@ put_begun reads head (begun.Asked (Ok (reply.Granted (goal.Store who key size)))
     let same : n ≡ size = put_size (state_of a.book) e.seat e.moment no_words caller spot n who key size
     (ok_answer (state_of a.book) e (Begin no_words (put_of caller spot n)) (reply.Granted (goal.Store who key size)) begin.event_is begin.answer_is).1 in
     record { who = who; key = key; is = ap (λ (l : ℕ). begun.Asked (Ok (reply.Granted (goal.Store who key l)))) (sym same) }
-put_begun reads head (begun.Asked (Ok reply.Made)) v a m x b body caller spot n asked (r, now, is, read, begins, only) passes says one =
-    absurd (begins_put a.book m.book now caller spot n reply.Made one
-    (asked_enters a.book m.book now head caller spot n r (Ok reply.Made) asked is begins.entry))
-put_begun reads head (begun.Asked (Ok reply.Done)) v a m x b body caller spot n asked (r, now, is, read, begins, only) passes says one =
-    absurd (begins_put a.book m.book now caller spot n reply.Done one
-    (asked_enters a.book m.book now head caller spot n r (Ok reply.Done) asked is begins.entry))
 put_begun reads head (begun.Asked (Ok reply.Closed)) v a m x b body caller spot n asked judges passes says one = absurd passes.0
 put_begun reads head (begun.Asked (Ok (reply.Listing lines))) v a m x b body caller spot n asked judges passes says one =
     absurd (subst (λ (w : Response). SaysStored w) passes.0 says)
 put_begun reads head (begun.Asked (Err refusal)) v a m x b body caller spot n asked judges passes says one =
     absurd (not_stored v refusal passes.0 says)
+put_begun reads head (begun.Asked (Ok word)) v a m x b body caller spot n asked (r, now, is, read, begins, only) passes says one =
+    absurd (begins_put a.book m.book now caller spot n word one
+    (asked_enters a.book m.book now head caller spot n r (Ok word) asked is begins.entry))
 
 kept_stored : {C : Type 0} (reads : C → ℕ → C → Type 0) (head : Head) (who : Seeker) (key : LockKey) (v : Response) (a m n x b : Scene C) (body : List ℕ)
     (caller : Caller) (spot : Spot) (size : ℕ) → request_of head ≡ Ok (put_of caller spot size)

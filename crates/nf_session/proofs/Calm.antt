@@ -63,7 +63,7 @@ module _ {C : Type 0} {a m b : Scene C} {n k : ℕ} {end : Option Ended} where
 -- ---- what was touched
 
 -- nothing was written
-pub quietly_goes : {C : Type 0} (a b : Scene C) (most pieces : ℕ) (end : Option Ended) → Moves a.book b.book most pieces → b.output ≡ a.output
+quietly_goes : {C : Type 0} (a b : Scene C) (most pieces : ℕ) (end : Option Ended) → Moves a.book b.book most pieces → b.output ≡ a.output
     → CountsFault end a.read_faults b.read_faults a.write_faults b.write_faults → Goes a b most pieces end
 quietly_goes a b most pieces end book output counts = record {
   book = book;
@@ -72,15 +72,18 @@ quietly_goes a b most pieces end book output counts = record {
   counts = counts;
 }
 
+-- nor does an end fail in a scene that is like this one
+quiet : {C : Type 0} (a b x : Scene C) (most pieces : ℕ) → b ≡ x → x.output ≡ a.output → x.read_faults ≡ a.read_faults → x.write_faults ≡ a.write_faults
+    → Moves a.book b.book most pieces → Goes a b most pieces None
+quiet {C} a b x most pieces only output read write moves =
+    quietly_goes a b most pieces None moves (ap (λ (s : Scene C). s.output) only ∙ output)
+    (ap (λ (s : Scene C). s.read_faults) only ∙ read, ap (λ (s : Scene C). s.write_faults) only ∙ write)
+
 pub same_goes : {C : Type 0} (a b : Scene C) (most : ℕ) → b ≡ a → Goes a b most 0 None
-same_goes {C} a b most same =
-    quietly_goes a b most 0 None (same_moves a.book b.book most (ap (λ (x : Scene C). x.book) same)) (ap (λ (x : Scene C). x.output) same)
-    (ap (λ (x : Scene C). x.read_faults) same, ap (λ (x : Scene C). x.write_faults) same)
+same_goes {C} a b most same = quiet a b _ most 0 same refl refl refl (same_moves a.book b.book most (ap (λ (x : Scene C). x.book) same))
 
 asks_go : {C : Type 0} (a b : Scene C) (most pieces : ℕ) → OnlyAsks a b → Moves a.book b.book most pieces → Goes a b most pieces None
-asks_go {C} a b most pieces only moves =
-    quietly_goes a b most pieces None moves (ap (λ (x : Scene C). x.output) only)
-    (ap (λ (x : Scene C). x.read_faults) only, ap (λ (x : Scene C). x.write_faults) only)
+asks_go a b most pieces only moves = quiet a b _ most pieces only refl refl refl moves
 
 pub reads_go : {C : Type 0} (a b : Scene C) (most : ℕ) (end : Option Ended) → OnlyReads a b
     → CountsFault end a.read_faults b.read_faults a.write_faults b.write_faults → Goes a b most 0 end
@@ -110,9 +113,7 @@ pub invites_go : {C : Type 0} (head : Head) (v : Begun) (a b : Scene C) → Invi
 invites_go head v a b invites = wrote_goes a b _ (invites_wrote head v a b (Unit {0}) tt invites)
 
 pub bodies_go : {C : Type 0} (a b : Scene C) (n : ℕ) (body : List ℕ) → Bodies a b n body → Goes a b 0 0 None
-bodies_go {C} a b n body bodies =
-    quietly_goes a b 0 0 None (same_moves a.book b.book 0 (ap (λ (x : Scene C). x.book) bodies.only)) (ap (λ (x : Scene C). x.output) bodies.only)
-    (ap (λ (x : Scene C). x.read_faults) bodies.only, ap (λ (x : Scene C). x.write_faults) bodies.only)
+bodies_go {C} a b n body bodies = quiet a b _ 0 0 bodies.only refl refl refl (same_moves a.book b.book 0 (ap (λ (x : Scene C). x.book) bodies.only))
 
 -- an answer that isn't of a file has no piece
 plain_response : (answer : Answer) (v : Response) → IsResponse answer v → failed_first v ≡ 0
@@ -126,9 +127,8 @@ plain_goes a b answer v is goes = subst (λ (z : ℕ). Goes a b 1 z None) (sym (
 pub passes_go : {C : Type 0} (reads : C → ℕ → C → Type 0) (body : List ℕ) (a b : Scene C) (u : Begun) (v : Response)
     → Passes reads body a b u v → Goes a b 1 (failed_first v) None
 passes_go reads body a b (begun.Unasked refusal) v (is, same) = plain_goes a b (Err refusal) v is (same_goes a b 1 same)
-passes_go {C} reads body a b (begun.Asked (Ok (reply.Granted (goal.Serve content)))) v starts =
-    quietly_goes a b 1 _ None (starts_move a.book b.book 1 content v starts.starts) (ap (λ (x : Scene C). x.output) starts.only)
-    (ap (λ (x : Scene C). x.read_faults) starts.only, ap (λ (x : Scene C). x.write_faults) starts.only)
+passes_go reads body a b (begun.Asked (Ok (reply.Granted (goal.Serve content)))) v starts =
+    quiet a b _ 1 _ starts.only refl refl refl (starts_move a.book b.book 1 content v starts.starts)
 passes_go reads body a b (begun.Asked (Ok (reply.Granted (goal.Store who key length)))) v (now, answer, read, ends, is, only) =
     plain_goes a b answer v is (asks_go a b 1 0 only (enters_move a.book b.book now _ answer ends.enters))
 passes_go reads body a b (begun.Asked answer) v passes = plain_goes a b answer v passes.0 (same_goes a b 1 passes.1)
