@@ -11,6 +11,7 @@ use Rattle.nf_words.specs.declared.history.Mark.TheVariants as mark
 use Rattle.nf_words.specs.declared.request.Request.{Request}
 use Rattle.nf_words.specs.declared.request.Words.{Words}
 use Rattle.nf_session.specs.Book.{Answer, Begins, Book, Enters, Waits, entries_wanted, state_after, state_of}
+use Rattle.nf_session.proofs.Moving.{no_others, none_of}
 use Rattle.nf_checks.specs.Alike.{IsAlone, IsCalmAnswer, KnowSame}
 
 -- ---- one book
@@ -34,31 +35,15 @@ know_next a b c d k p q = record {
 
 -- ---- alone
 
-no_entries : (others : List Entry) → length others ≤ 0 → others ≡ []
-no_entries [] n = refl
-no_entries (e ∷ es) n = absurd (omega arith)
-
 pub lone_waits : (a b : Book) → Waits a b → IsAlone a b → KnowSame a b
 lone_waits a b w alone =
-    let none : w.known.0 ≡ [] = no_entries w.known.0
-    (omega (arith, ap length w.own, ap length w.known.1, length-append a.known w.known.0)) in
+    let none : w.known.0 ≡ [] = none_of w.known.0 (omega (arith, alone, ap length w.own, ap length w.known.1, length-append a.known w.known.0)) in
     record {
       opening = w.lasts.opening;
       seat = w.lasts.seat;
       known = w.known.1 ∙ ap (λ z. a.known ++ z) none ∙ append-nil a.known;
       own = w.own;
     }
-
-lone_enters : (a b : Book) (now : ℕ) (event : Event) (answer : Answer) (e : Enters a b now event answer) → IsAlone a b → e.others ≡ []
-lone_enters a b now event answer e alone = no_entries e.others
-    (omega (
-      arith,
-      ap length e.own,
-      ap length e.known,
-      length-append a.own ((e.entry, answer) ∷ []),
-      length-append (a.known ++ e.others) (e.entry ∷ []),
-      length-append a.known e.others,
-    ))
 
 -- ---- an entry
 
@@ -74,22 +59,21 @@ pub enters_same : (a b c d : Book) (now : ℕ) (event : Event) (x y : Answer)
     → KnowSame a c → Enters a b now event x → Enters c d now event y → IsAlone a b → IsAlone c d
     → IsCalmAnswer x → IsCalmAnswer y → (y ≡ x) × KnowSame b d
 enters_same a b c d now event x y k p q alone also calm still =
-    let none : q.others ≡ p.others = lone_enters c d now event y q also ∙ sym (lone_enters a b now event x p alone) in
+    let none : q.others ≡ p.others = no_others c d now event y q also ∙ sym (no_others a b now event x p alone) in
     let state : state_after c q.others ≡ state_after a p.others = λ i. replay (opened (k.opening i)) (k.known i ++ none i) in
     let seat : q.entry.seat ≡ p.entry.seat = q.seat_is ∙ k.seat ∙ sym p.seat_is in
     let moment : q.entry.moment ≡ p.entry.moment = q.moment_is ∙ (λ i. max (state i).seen now) ∙ sym p.moment_is in
     let event_is : q.entry.event ≡ p.entry.event = q.event_is ∙ sym p.event_is in
     let mark_same : q.entry.mark ≡ p.entry.mark = answered c d now event y q still ∙ sym (answered a b now event x p calm) in
     let entry : q.entry ≡ p.entry = λ i. record { seat = seat i; moment = moment i; event = event_is i; mark = mark_same i } in
-    let answer : y ≡ x = q.answer_is ∙ (λ i. answer_at (state i) (entry i) (entry i).mark) ∙ sym p.answer_is in (
-      answer,
-      record {
-        opening = q.lasts.opening ∙ k.opening ∙ sym p.lasts.opening;
-        seat = q.lasts.seat ∙ k.seat ∙ sym p.lasts.seat;
-        known = q.known ∙ (λ i. (k.known i ++ none i) ++ entry i ∷ []) ∙ sym p.known;
-        own = q.own ∙ (λ i. k.own i ++ (entry i, answer i) ∷ []) ∙ sym p.own;
-      },
-    )
+    let answer : y ≡ x = q.answer_is ∙ (λ i. answer_at (state i) (entry i) (entry i).mark) ∙ sym p.answer_is in
+    let same : KnowSame b d = record {
+      opening = q.lasts.opening ∙ k.opening ∙ sym p.lasts.opening;
+      seat = q.lasts.seat ∙ k.seat ∙ sym p.lasts.seat;
+      known = q.known ∙ (λ i. (k.known i ++ none i) ++ entry i ∷ []) ∙ sym p.known;
+      own = q.own ∙ (λ i. k.own i ++ (entry i, answer i) ∷ []) ∙ sym p.own;
+    } in
+    (answer, same)
 
 -- ---- the Begin
 
@@ -110,7 +94,7 @@ no_room : (a b c d : Book) (now : ℕ) (words : Words) (request : Request) (y : 
     → KnowSame a c → Waits a b → most_entries < entries_wanted b → Enters c d now (Begin words request) y → IsAlone a b → IsAlone c d → ⊥
 no_room a b c d now words request y k waits full q alone also =
     let stays : KnowSame a b = lone_waits a b waits alone in
-    let none : [] ≡ q.others = sym (lone_enters c d now (Begin words request) y q also) in
+    let none : [] ≡ q.others = sym (no_others c d now (Begin words request) y q also) in
     let open_is : b.opening ≡ c.opening = stays.opening ∙ sym k.opening in
     let known_is : b.known ≡ c.known ++ q.others =
     stays.known ∙ sym k.known ∙ sym (append-nil c.known) ∙ ap (λ z. c.known ++ z) none in

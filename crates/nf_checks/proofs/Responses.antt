@@ -65,22 +65,13 @@ given_same b d (piece ∷ content) (x ∷ xs) (y ∷ ys) p q n =
   where
     both : (x ≡ y) ⊎ (x ≢ y) → (xs ≡ ys) ⊎ Differ b d xs ys → (x ∷ xs ≡ y ∷ ys) ⊎ Differ b d (x ∷ xs) (y ∷ ys)
     both (inl here) (inl there) = inl (λ i. here i ∷ there i)
-    both (inl here) (inr (p, front, rest, more, wrote, also)) = inr (
-      p,
-      x ++ front,
-      rest,
-      more,
-      ap (λ z. x ++ z) wrote ∙ in_front x front p.one rest,
-      (λ i. sym here i ++ also i) ∙ in_front x front p.other more,
-    )
-    both (inr differ) there = inr (
-      record { piece = piece; one = x; other = y; given = p.0; also = q.0; differ = differ },
-      [],
-      concat xs,
-      concat ys,
-      refl,
-      refl,
-    )
+    both (inl here) (inr (p, front, rest, more, wrote, also)) =
+        let one : x ++ concat xs ≡ (x ++ front) ++ p.one ++ rest = ap (λ z. x ++ z) wrote ∙ in_front x front p.one rest in
+        let other : y ++ concat ys ≡ (x ++ front) ++ p.other ++ more = (λ i. sym here i ++ also i) ∙ in_front x front p.other more in
+        inr (p, x ++ front, rest, more, one, other)
+    both (inr differ) there =
+        let first : Differing b d = record { piece = piece; one = x; other = y; given = p.0; also = q.0; differ = differ } in
+        inr (first, [], concat xs, concat ys, refl, refl)
 
 -- ---- files
 

@@ -37,7 +37,7 @@ use Rattle.nf_defs.specs.Tables.{Tables}
 use Rattle.nf_defs.specs.Blobs.{Blobs}
 use Rattle.nf_laws.specs.Wholes.{IsThere}
 use Rattle.nf_session.specs.Book.{Answer, Begins, Book, Enters, FailsPiece, Lasts, TellsDamage, TellsPiece, TellsStill, is_unmade, next_blob_of, state_of, Passes as Unchanged}
-use Rattle.nf_session.proofs.Moving.{begins_move}
+use Rattle.nf_session.proofs.Moving.{begins_move, none_of}
 use Rattle.nf_session.proofs.Lasting.{lasts_same, lasts_then}
 use Rattle.nf_session.specs.Files.{AreGiven, SendsFile, file_front}
 use Rattle.nf_session.specs.Steps.{Judges, Scene, Starts, StartsFile, TakesIn, is_invited, is_unsent, no_words}
@@ -48,7 +48,7 @@ use Rattle.nf_session.specs.declared.begun.Begun.{Begun}
 use Rattle.nf_session.specs.declared.begun.Begun.TheVariants as begun
 use Rattle.nf_session.specs.declared.response.Response.{Response}
 use Rattle.nf_session.specs.declared.response.Response.TheVariants as response
-use Rattle.nf_promises.proofs.Growing.{entered, none_of}
+use Rattle.nf_promises.proofs.Growing.{entered}
 use Rattle.nf_promises.proofs.Putting.{content_of_body}
 use Rattle.nf_promises.proofs.Puts.{IsKept, Keeps}
 use Rattle.nf_promises.proofs.Touches.{starts_other}

@@ -4,7 +4,7 @@ use Rattle.nf_http.specs.Head.{Head}
 use Rattle.nf_http.specs.declared.wire.WireFault.{WireFault}
 use Rattle.nf_session.specs.Book.{Book, Answer, Enters, state_after, state_of}
 use Rattle.nf_session.specs.Steps.{Heads, Scene}
-use Rattle.nf_session.proofs.Moving.{Moves}
+use Rattle.nf_session.proofs.Moving.{Moves, no_others}
 use Rattle.nf_promises.specs.Kept.{OnlyOwn}
 use Rattle.std.proofs.lemmas.List.{append-nil}
 use Rattle.nf_words.proofs.Histories.{replay_more}
@@ -20,16 +20,6 @@ heads_same {C} a b result heads = ap (λ (x : Scene C). x.book) heads.only
 -- where no other's entry came between two books, none did between two others on the way
 pub only_within : {a x y c : Book} {n m k p q r : ℕ} → Moves a x n p → Moves x y m q → Moves y c k r → OnlyOwn a c → OnlyOwn x y
 only_within first middle last only = omega (arith, first.known, middle.known, last.known, only)
-
-pub none_of : {X : Type 0} (xs : List X) → length xs ≡ 0 → xs ≡ []
-none_of [] none = refl
-none_of (x ∷ xs) none = absurd (omega (arith, none))
-
-pub no_others : (a b : Book) (now : ℕ) (event : Event) (answer : Answer) (enters : Enters a b now event answer) → OnlyOwn a b → enters.others ≡ []
-no_others a b now event answer enters only =
-    let own : length b.own ≡ length a.own + 1 = simp length-append at (ap length enters.own) in
-    let known : length b.known ≡ length a.known + length enters.others + 1 = simp length-append at (ap length enters.known) in
-    none_of enters.others (omega (arith, only))
 
 pub same_state : (a : Book) (others : List Entry) → others ≡ [] → state_after a others ≡ state_of a
 same_state a others none =

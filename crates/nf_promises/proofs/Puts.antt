@@ -33,7 +33,8 @@ use Rattle.nf_session.specs.declared.response.Response.TheVariants as response
 use Rattle.nf_session.proofs.Inviting.{invites_wrote}
 use Rattle.nf_session.proofs.Calm.{closes_go, goes_first, goes_last, goes_then, heads_go, invites_go, judges_go, takes_go}
 use Rattle.nf_session.proofs.Causes.{responds_go}
-use Rattle.nf_promises.proofs.Growing.{entered, heads_same, no_others, only_within, same_state}
+use Rattle.nf_session.proofs.Moving.{no_others}
+use Rattle.nf_promises.proofs.Growing.{entered, heads_same, only_within, same_state}
 use Rattle.nf_promises.proofs.Putting.{IsOfPut, content_of_body, ok_answer, put_is_got, put_replies, put_size}
 use Rattle.nf_promises.proofs.Touches.{StartsOther, book_of, starts_other, stored_only}
 use Rattle.nf_promises.specs.Kept.{OnlyOwn, Puts, SaysStored, get_of, put_of}

@@ -101,6 +101,18 @@ module _ {a m b : Book} {n k p q : ℕ} where
 
 -- ---- an entry
 
+pub none_of : {X : Type 0} (xs : List X) → length xs ≡ 0 → xs ≡ []
+none_of [] none = refl
+none_of (x ∷ xs) none = absurd (omega (arith, none))
+
+-- as many entries came as are the seat's own: no other's did
+pub no_others : (a b : Book) (now : ℕ) (event : Event) (answer : Answer) (enters : Enters a b now event answer)
+    → length b.known + length a.own ≡ length a.known + length b.own → enters.others ≡ []
+no_others a b now event answer enters only =
+    let own : length b.own ≡ length a.own + 1 = simp length-append at (ap length enters.own) in
+    let known : length b.known ≡ length a.known + length enters.others + 1 = simp length-append at (ap length enters.known) in
+    none_of enters.others (omega (arith, only))
+
 is_store : (answer : Answer) → is_failed answer ≡ true → answer ≡ Err denial.Store
 is_store (Err denial.Store) failed = refl
 is_store other failed = absurd (cc)
