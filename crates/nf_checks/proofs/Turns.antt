@@ -29,26 +29,17 @@ use Rattle.nf_checks.proofs.Scenes.{closes_same, heads_same, judges_same, same_b
 -- the message was answered
 record IsAnswered {C : Type 0} (reads : C → ℕ → C → Type 0) (last : Bool) (head : Head) (begun : Begun) (a b : Scene C)
     (end : Option Ended) : Type 0 where
-  pub taken : Scene C
-  pub sent : Scene C
-  pub response : Response
-  pub takes : TakesIn reads head a taken begun (Ok response)
-  pub calm : IsCalmResponse response
-  pub written : Writes {T = Unit {0}} (manner_of last (way_of head begun) response) response taken sent (Ok tt)
-  pub closes : Closes reads (how_of {T = Option Ended} response (Ok end)) (stays_granted response) sent b
-  pub end_is : end ≡ end_of (way_of head begun).closes response
+  pub made : Answers reads last head begun a b end
+  pub calm : IsCalmResponse made.response
+  pub whole : IsWritten last (way_of head begun) made.response made.taken made.sent made.result end
 
 -- or its body was cut
 record IsCutShort {C : Type 0} (reads : C → ℕ → C → Type 0) (head : Head) (begun : Begun) (a b : Scene C)
     (end : Option Ended) : Type 0 where
-  pub left : Scene C
-  pub sent : Scene C
-  pub fault : WireFault
-  pub cut : IsCut a left (taken_length head begun) fault
-  pub wrote : Wrote left sent (refusal_reply last_manner denial.BadMessage)
-  pub closes : Closes reads ending.Gone (is_granted begun) sent b
+  pub made : CutsShort reads head begun a b end
+  pub cut : IsCut a made.cut (taken_length head begun) made.fault
+  pub wrote : Wrote made.cut made.sent (refusal_reply last_manner denial.BadMessage)
   pub end_is : end ≡ Some ended.BadMessage
-  pub goes : Goes a sent
 
 abbrev Becomes : {C : Type 0} (reads : C → ℕ → C → Type 0) (last : Bool) (head : Head) (begun : Begun) (a b : Scene C)
     (end : Option Ended) → Type 0
@@ -56,19 +47,11 @@ Becomes reads last head begun a b end = IsAnswered reads last head begun a b end
 
 answered_of : {C : Type 0} (reads : C → ℕ → C → Type 0) (last : Bool) (head : Head) (begun : Begun) (a b : Scene C) (end : Option Ended)
     (p : Answers reads last head begun a b end) → IsCalmResponse p.response → IsCalmEnd end → IsAnswered reads last head begun a b end
-answered_of reads last head begun a b end p calm well =
-    let w : IsWritten last (way_of head begun) p.response p.taken p.sent p.result end =
-    written_of last (way_of head begun) p.response p.taken p.sent p.result end p.responds p.ends well in
-    record {
-      taken = p.taken;
-      sent = p.sent;
-      response = p.response;
-      takes = p.takes;
-      calm = calm;
-      written = w.written;
-      closes = subst (λ z. Closes reads (how_of {T = Option Ended} p.response z) (stays_granted p.response) p.sent b) w.whole p.closes;
-      end_is = w.end_is;
-    }
+answered_of reads last head begun a b end p calm well = record {
+  made = p;
+  calm = calm;
+  whole = written_of last (way_of head begun) p.response p.taken p.sent p.result end p.responds p.ends well;
+}
 
 cut_short_of : {C : Type 0} (reads : C → ℕ → C → Type 0) (head : Head) (begun : Begun) (a b : Scene C) (end : Option Ended)
     → CutsShort reads head begun a b end → IsCalmEnd end → IsCutShort reads head begun a b end
@@ -76,14 +59,10 @@ cut_short_of reads head begun a b end p well =
     let d : IsDenied p.fault p.cut p.sent p.by = denied_of p.fault p.cut p.sent p.by p.responds (subst (λ z. IsCalmEnd z) p.ends well) in
     let cut : IsCut a p.cut (taken_length head begun) p.fault = cut_of a p.cut begun (taken_length head begun) p.fault p.takes d.bytes in
     record {
-      left = p.cut;
-      sent = p.sent;
-      fault = p.fault;
+      made = p;
       cut = cut;
       wrote = subst (λ z. Wrote p.cut p.sent (refusal_reply last_manner (denial_of z))) cut.fault_is d.wrote;
-      closes = p.closes;
       end_is = p.ends ∙ ap (λ z. Some z) d.end_is;
-      goes = goes_of (refused_goes ℕ a p.cut p.sent p.fault p.by p.takes.only p.takes.cause p.responds);
     }
 
 -- ---- both become the same
@@ -100,11 +79,11 @@ record AnswersAlone {C : Type 0} (a m n b : Scene C) : Type 0 where
   pub goes : Goes n b
 
 answers_alone : {C : Type 0} (reads : C → ℕ → C → Type 0) (last : Bool) (head : Head) (begun : Begun) (a b : Scene C) (end : Option Ended)
-    (p : IsAnswered reads last head begun a b end) → IsAlone a.book b.book → AnswersAlone a p.taken p.sent b
+    (p : IsAnswered reads last head begun a b end) → IsAlone a.book b.book → AnswersAlone a p.made.taken p.made.sent b
 answers_alone reads last head begun a b end p alone =
-    let take = goes_of (takes_go reads head a p.taken begun p.response p.takes) in
-    let write = goes_of (writes_go (manner_of last (way_of head begun) p.response) p.response p.taken p.sent p.written) in
-    let close = goes_of (closes_go reads (how_of {T = Option Ended} p.response (Ok end)) (stays_granted p.response) p.sent b p.closes) in
+    let take = goes_of (takes_go reads head a p.made.taken begun p.made.response p.made.takes) in
+    let write = goes_of (writes_go (manner_of last (way_of head begun) p.made.response) p.made.response p.made.taken p.made.sent p.whole.written) in
+    let close = goes_of (closes_go reads (how_of p.made.response p.made.result) (stays_granted p.made.response) p.made.sent b p.made.closes) in
     record {
       taken = alone_first take (goes_on write close) alone;
       sent = alone_first write close (alone_then take (goes_on write close) alone);
@@ -116,59 +95,68 @@ answers_same : {C : Type 0} (reads : C → ℕ → C → Type 0) (last : Bool) (
     (end also : Option Ended) → IsSteady reads → AreSame a c → IsAnswered reads last head begun a b end
     → IsAnswered reads last head begun c d also → IsAlone a.book b.book → IsAlone c.book d.book → Alike b d end also
 answers_same reads last head begun a b c d end also steady same p q alone lone =
-    wrote (writes_same p.taken p.sent q.taken q.sent manner p.response q.response taken.0 taken.1 p.written written one.sent other.sent)
+    wrote (writes_same p.made.taken p.made.sent q.made.taken q.made.sent manner p.made.response q.made.response taken.0 taken.1 p.whole.written written one.sent other.sent)
   where
-    one : AnswersAlone a p.taken p.sent b
+    one : AnswersAlone a p.made.taken p.made.sent b
     one = answers_alone reads last head begun a b end p alone
 
-    other : AnswersAlone c q.taken q.sent d
+    other : AnswersAlone c q.made.taken q.made.sent d
     other = answers_alone reads last head begun c d also q lone
 
-    taken : Similar p.response q.response × AreSame p.taken q.taken
-    taken = takes_same reads head a p.taken c q.taken begun p.response q.response steady same p.takes q.takes p.calm q.calm one.taken other.taken
+    taken : Similar p.made.response q.made.response × AreSame p.made.taken q.made.taken
+    taken = takes_same reads head a p.made.taken c q.made.taken begun p.made.response q.made.response steady same p.made.takes q.made.takes p.calm q.calm one.taken other.taken
 
     way : Way
     way = way_of head begun
 
     manner : Manner
-    manner = manner_of last way p.response
+    manner = manner_of last way p.made.response
 
-    by_response : end_of way.closes p.response ≡ end_of way.closes q.response
-    by_response = ends_similar way.closes p.response q.response taken.0
+    by_response : end_of way.closes p.made.response ≡ end_of way.closes q.made.response
+    by_response = ends_similar way.closes p.made.response q.made.response taken.0
 
-    written : Writes {T = Unit {0}} manner q.response q.taken q.sent (Ok tt)
-    written = subst (λ (z : Option Ended). Writes {T = Unit {0}} (record { close = last || is_some z; ocs = way.ocs; head_only = way.head_only }) q.response q.taken q.sent (Ok tt))
-        (sym by_response) q.written
+    written : Writes {T = Unit {0}} manner q.made.response q.made.taken q.made.sent (Ok tt)
+    written = subst (λ (z : Option Ended). Writes {T = Unit {0}} (record { close = last || is_some z; ocs = way.ocs; head_only = way.head_only }) q.made.response q.made.taken q.made.sent (Ok tt))
+        (sym by_response) q.whole.written
 
-    closes : Closes reads (how_of {T = Option Ended} p.response (Ok end)) (stays_granted p.response) q.sent d
-    closes = subst (λ z. Closes reads z (stays_granted p.response) q.sent d) (sym (how_similar p.response q.response end also taken.0))
-        (subst (λ z. Closes reads (how_of {T = Option Ended} q.response (Ok also)) z q.sent d) (sym (stays_similar p.response q.response taken.0)) q.closes)
+    how : how_of p.made.response p.made.result ≡ how_of q.made.response q.made.result
+    how = ap (how_of {T = Option Ended} p.made.response) p.whole.whole ∙ how_similar p.made.response q.made.response end also taken.0
+        ∙ sym (ap (how_of {T = Option Ended} q.made.response) q.whole.whole)
 
-    wrote : AreSame p.sent q.sent ⊎ Clash p.sent q.sent → Alike b d end also
-    wrote (inr clash) = inr (clash_on p.sent b q.sent d one.goes other.goes clash)
+    closes : Closes reads (how_of p.made.response p.made.result) (stays_granted p.made.response) q.made.sent d
+    closes = subst (λ z. Closes reads z (stays_granted p.made.response) q.made.sent d) (sym how)
+        (subst (λ z. Closes reads (how_of q.made.response q.made.result) z q.made.sent d) (sym (stays_similar p.made.response q.made.response taken.0)) q.made.closes)
+
+    wrote : AreSame p.made.sent q.made.sent ⊎ Clash p.made.sent q.made.sent → Alike b d end also
+    wrote (inr clash) = inr (clash_on p.made.sent b q.made.sent d one.goes other.goes clash)
     wrote (inl sent) = inl (
-      q.end_is ∙ sym by_response ∙ sym p.end_is,
-      closes_same reads (how_of {T = Option Ended} p.response (Ok end)) (stays_granted p.response) p.sent b q.sent d steady sent p.closes closes
+      q.whole.end_is ∙ sym by_response ∙ sym p.whole.end_is,
+      closes_same reads (how_of p.made.response p.made.result) (stays_granted p.made.response) p.made.sent b q.made.sent d steady sent p.made.closes closes
           one.closed other.closed,
     )
+
+cut_alone : {C : Type 0} (reads : C → ℕ → C → Type 0) (head : Head) (begun : Begun) (a b : Scene C) (end : Option Ended)
+    (p : CutsShort reads head begun a b end) → IsAlone a.book b.book → IsAlone p.sent.book b.book
+cut_alone reads head begun a b end p alone =
+    alone_then (goes_of (refused_goes ℕ a p.cut p.sent p.fault p.by p.takes.only p.takes.cause p.responds))
+    (goes_of (closes_go reads ending.Gone (is_granted begun) p.sent b p.closes)) alone
 
 cut_shorts_same : {C : Type 0} (reads : C → ℕ → C → Type 0) (head : Head) (begun : Begun) (a b c d : Scene C) (end also : Option Ended)
     → IsSteady reads → AreSame a c → IsCutShort reads head begun a b end → IsCutShort reads head begun c d also
     → IsAlone a.book b.book → IsAlone c.book d.book → (also ≡ end) × AreSame b d
 cut_shorts_same reads head begun a b c d end also steady same p q alone lone =
-    let left : AreSame p.left q.left = cuts_same a p.left c q.left (taken_length head begun) p.fault q.fault same p.cut q.cut in
-    let sent : AreSame p.sent q.sent = wrote_same p.left p.sent q.left q.sent (refusal_reply last_manner denial.BadMessage) left p.wrote q.wrote in (
-      q.end_is ∙ sym p.end_is,
-      closes_same reads ending.Gone (is_granted begun) p.sent b q.sent d steady sent p.closes q.closes
-          (alone_then p.goes (goes_of (closes_go reads ending.Gone (is_granted begun) p.sent b p.closes)) alone)
-          (alone_then q.goes (goes_of (closes_go reads ending.Gone (is_granted begun) q.sent d q.closes)) lone),
-    )
+    let left : AreSame p.made.cut q.made.cut =
+    cuts_same a p.made.cut c q.made.cut (taken_length head begun) p.made.fault q.made.fault same p.cut q.cut in
+    let sent : AreSame p.made.sent q.made.sent =
+    wrote_same p.made.cut p.made.sent q.made.cut q.made.sent (refusal_reply last_manner denial.BadMessage) left p.wrote q.wrote in
+    (q.end_is ∙ sym p.end_is, closes_same reads ending.Gone (is_granted begun) p.made.sent b q.made.sent d steady sent p.made.closes q.made.closes
+    (cut_alone reads head begun a b end p.made alone) (cut_alone reads head begun c d also q.made lone))
 
 -- a body that one of them took whole isn't cut in the other
 never_both : {C : Type 0} (reads : C → ℕ → C → Type 0) (last : Bool) (head : Head) (begun : Begun) (a b c d : Scene C)
     (end also : Option Ended) → AreSame a c → IsAnswered reads last head begun a b end → IsCutShort reads head begun c d also → ⊥
 never_both reads last head begun a b c d end also same p q =
-    never_cut a p.takes.0 c q.left (taken_length head begun) p.takes.1 q.fault same p.takes.2 q.cut
+    never_cut a p.made.takes.0 c q.made.cut (taken_length head begun) p.made.takes.1 q.made.fault same p.made.takes.2 q.cut
 
 become_same : {C : Type 0} (reads : C → ℕ → C → Type 0) (last : Bool) (head : Head) (begun : Begun) (a b c d : Scene C)
     (end also : Option Ended)
