@@ -22,7 +22,7 @@ use Rattle.nf_session.specs.declared.backend.PieceFault.TheVariants as fault
 use Rattle.nf_session.specs.declared.ended.Ended.TheVariants as ended
 use Rattle.nf_session.specs.declared.response.Response.{Response}
 use Rattle.nf_session.specs.declared.response.Response.TheVariants as response
-use Rattle.nf_session.proofs.Lasting.{lasts_then, waits_same}
+use Rattle.nf_session.proofs.Lasting.{Later, known_then, lasts_then, waits_same}
 
 -- ---- so many strikes
 
@@ -48,15 +48,12 @@ ones failed = if failed then 1 else 0
 -- what every call keeps, and what is known stays known
 pub record Onward (a b : Book) : Type 0 where
   pub lasts : Lasts a b
-  pub known : (more : List Entry) × (b.known ≡ a.known ++ more)
+  pub known : Later a.known b.known
 
 pub onward_then : (a m b : Book) → Onward a m → Onward m b → Onward a b
 onward_then a m b p q = record {
   lasts = lasts_then a m b p.lasts q.lasts;
-  known = (
-    p.known.0 ++ q.known.0,
-    q.known.1 ∙ ap (λ (z : List Entry). z ++ q.known.0) p.known.1 ∙ append_assoc a.known p.known.0 q.known.0,
-  );
+  known = known_then a.known m.known b.known p.known q.known;
 }
 
 -- so many entries of the seat's own came at most, which are among those that are known, and were counted with so many pieces

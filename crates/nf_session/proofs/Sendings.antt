@@ -220,16 +220,13 @@ module _ {C : Type 0} (close : Bool) (content : List Piece) (first : Option (Vec
 
   pub front_sent : (a b : Scene C) → IsStarted a.book content first → Wrote a b (file_front close content (taken_first first))
       → SentSome a b 1
-  front_sent a b started wrote = (
-    taken_first first,
-    started.count,
-    record {
-      pieces = pieces_first a b started (wrote_sends a b wrote.only) (ap (λ (z : Scene C). z.book) wrote.only);
-      bytes_are = wrote.bytes_are;
-      no_fault = ap (λ (z : Scene C). z.write_faults) wrote.only;
-    },
-    ap (λ (z : Scene C). z.book.strikes) wrote.only,
-  )
+  front_sent a b started wrote =
+      let writes : WritesPieces close content first a b (taken_first first) = record {
+        pieces = pieces_first a b started (wrote_sends a b wrote.only) (ap (λ (z : Scene C). z.book) wrote.only);
+        bytes_are = wrote.bytes_are;
+        no_fault = ap (λ (z : Scene C). z.write_faults) wrote.only;
+      } in
+      (taken_first first, started.count, writes, ap (λ (z : Scene C). z.book.strikes) wrote.only)
 
   -- ---- the pieces behind
 
