@@ -1,12 +1,12 @@
 -- Bodies that are taken in two scenes that are the same, and what they make of what was begun.
-use Rattle.std.proofs.Common.{◌≡◌, ◌⊎◌, ℕ, List, [], ◌∷◌, refl, sym, ◌∙◌, ap, subst, inl, inr, Ok, Err}
+use Rattle.std.proofs.Common.{◌≡◌, ℕ, List, [], ◌∷◌, refl, sym, ◌∙◌, ap, subst, Ok, Err}
 use Rattle.std.specs.Io.KnownBytes.{IsAtEnd}
 use Rattle.std.specs.declared.option.Option.{Option}
 use Rattle.std.specs.declared.option.Option.TheVariants.{None, Some}
 use Rattle.std.specs.Prelude.{Vec}
 use Rattle.std.specs.declared.alloc.Global.{Global}
 use Rattle.nf_base.specs.declared.content.Piece.{Piece}
-use Rattle.nf_http.specs.Bodies.{CutsBody, CutsRead, TakesBody}
+use Rattle.nf_http.specs.Bodies.{CutsRead, TakesBody}
 use Rattle.nf_http.proofs.Wholes.{whole_or_cut}
 use Rattle.nf_http.specs.Head.{Head}
 use Rattle.nf_http.specs.Next.{IsOfBytes}
@@ -14,7 +14,7 @@ use Rattle.nf_http.specs.declared.wire.WireFault.{WireFault}
 use Rattle.nf_http.specs.declared.wire.WireFault.TheVariants as wire
 use Rattle.nf_words.specs.declared.answer.Goal.TheVariants as goal
 use Rattle.nf_words.specs.declared.answer.Reply.TheVariants as reply
-use Rattle.nf_session.specs.Book.{Answer, Book, EndsBody, Waits, event_of_body}
+use Rattle.nf_session.specs.Book.{Answer, Book, EndsBody, event_of_body}
 use Rattle.nf_session.specs.Steps.{Bodies, Cuts, IsResponse, OnlyReads, Passes, Scene, Starts, StartsFile, StoresBody, TakesIn, cutting, taken_length}
 use Rattle.nf_session.specs.declared.begun.Begun.{Begun}
 use Rattle.nf_session.specs.declared.begun.Begun.TheVariants as begun

@@ -1,5 +1,5 @@
 -- What two books know after the same calls.
-use Rattle.std.proofs.Common.{◌≡◌, ℕ, ◌+◌, ◌<◌, ◌≤◌, List, [], ◌∷◌, ◌++◌, refl, sym, ◌∙◌, ap, subst, arith, length, max, Ok, Err, append-nil, length-append}
+use Rattle.std.proofs.Common.{◌≡◌, ℕ, ◌+◌, ◌<◌, ◌≤◌, [], ◌∷◌, ◌++◌, refl, sym, ◌∙◌, ap, subst, arith, length, max, Ok, Err, append-nil, length-append}
 use Rattle.nf_words.specs.History.{LeavesRoom, answer_at, most_entries, replay}
 use Rattle.nf_words.specs.State.{State, opened}
 use Rattle.nf_words.specs.declared.answer.Denial.TheVariants as denial

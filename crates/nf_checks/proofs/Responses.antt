@@ -12,12 +12,11 @@ use Rattle.nf_base.specs.declared.content.Piece.{Piece}
 use Rattle.nf_http.specs.declared.wire.WireFault.{WireFault}
 use Rattle.nf_http.specs.declared.wire.WireFault.TheVariants as wire
 use Rattle.nf_http.specs.Next.{IsOfBytes}
-use Rattle.nf_words.specs.declared.answer.Denial.{Denial}
 use Rattle.nf_dav.specs.Reply.{file_head, last_manner, refusal_reply}
 use Rattle.nf_dav.specs.declared.replies.Manner.{Manner}
 use Rattle.nf_session.specs.Book.{Book, IsPiece}
 use Rattle.nf_session.specs.Files.{AreGiven, SendsFile, WritesPieces, file_front}
-use Rattle.nf_session.specs.Steps.{EndsBy, EndsSo, Says, Scene, Sends, Wrote, denial_of}
+use Rattle.nf_session.specs.Steps.{EndsBy, EndsSo, Scene, Sends, Wrote, denial_of}
 use Rattle.nf_session.specs.Turn.{Responds, Way, Writes, end_by, end_of, how_of, manner_of, stays_granted}
 use Rattle.nf_session.specs.declared.ended.Ended.{Ended}
 use Rattle.nf_session.specs.declared.ended.Ended.TheVariants as ended

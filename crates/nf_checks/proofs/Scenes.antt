@@ -20,7 +20,7 @@ use Rattle.nf_session.specs.declared.begun.Begun.{Begun}
 use Rattle.nf_session.specs.declared.begun.Begun.TheVariants as begun
 use Rattle.nf_checks.specs.Alike.{AreSame, IsAlone, IsCalmBegun, IsCalmDenial, IsSteady, KnowSame, TellSame}
 use Rattle.nf_checks.proofs.Basics.{Left, left_of, told_appended}
-use Rattle.nf_checks.proofs.Books.{begins_same, enters_same, know_next, know_self}
+use Rattle.nf_checks.proofs.Books.{begins_same, enters_same}
 
 -- ---- scenes that stay
 

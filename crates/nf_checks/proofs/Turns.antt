@@ -8,13 +8,12 @@ use Rattle.nf_http.specs.declared.wire.WireFault.{WireFault}
 use Rattle.nf_words.specs.declared.answer.Denial.TheVariants as denial
 use Rattle.nf_dav.specs.Reply.{continue_reply, last_manner, refusal_reply}
 use Rattle.nf_dav.specs.declared.replies.Manner.{Manner}
-use Rattle.nf_session.specs.Steps.{Closes, Heads, Invites, Judges, Scene, TakesIn, Wrote, denial_of, is_granted, taken_length}
+use Rattle.nf_session.specs.Steps.{Closes, Heads, Invites, Judges, Scene, Wrote, denial_of, is_granted, taken_length}
 use Rattle.nf_session.specs.Turn.{Answers, CutsShort, Turn, Way, Writes, end_of, how_of, manner_of, stays_granted, way_of}
 use Rattle.nf_session.specs.declared.backend.Ending.TheVariants as ending
 use Rattle.nf_session.specs.declared.begun.Begun.{Begun}
 use Rattle.nf_session.specs.declared.ended.Ended.{Ended}
 use Rattle.nf_session.specs.declared.ended.Ended.TheVariants as ended
-use Rattle.nf_session.specs.declared.response.Response.{Response}
 use Rattle.nf_session.proofs.Calm.{closes_go, judges_go, takes_go, writes_go, wrote_goes}
 use Rattle.nf_session.proofs.Causes.{answers_go, refused_goes, short_goes}
 use Rattle.nf_session.proofs.Inviting.{invited_bytes, invites_wrote, stops_sends}
@@ -148,9 +147,11 @@ cut_shorts_same reads head begun a b c d end also steady same p q alone lone =
     let left : AreSame p.made.cut q.made.cut =
     cuts_same a p.made.cut c q.made.cut (taken_length head begun) p.made.fault q.made.fault same p.cut q.cut in
     let sent : AreSame p.made.sent q.made.sent =
-    wrote_same p.made.cut p.made.sent q.made.cut q.made.sent (refusal_reply last_manner denial.BadMessage) left p.wrote q.wrote in
-    (q.end_is ∙ sym p.end_is, closes_same reads ending.Gone (is_granted begun) p.made.sent b q.made.sent d steady sent p.made.closes q.made.closes
-    (cut_alone reads head begun a b end p.made alone) (cut_alone reads head begun c d also q.made lone))
+    wrote_same p.made.cut p.made.sent q.made.cut q.made.sent (refusal_reply last_manner denial.BadMessage) left p.wrote q.wrote in (
+      q.end_is ∙ sym p.end_is,
+      closes_same reads ending.Gone (is_granted begun) p.made.sent b q.made.sent d steady sent p.made.closes q.made.closes
+          (cut_alone reads head begun a b end p.made alone) (cut_alone reads head begun c d also q.made lone),
+    )
 
 -- a body that one of them took whole isn't cut in the other
 never_both : {C : Type 0} (reads : C → ℕ → C → Type 0) (last : Bool) (head : Head) (begun : Begun) (a b c d : Scene C)

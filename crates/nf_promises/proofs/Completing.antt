@@ -18,7 +18,7 @@ use Rattle.nf_words.specs.declared.answer.LockKey.{LockKey}
 use Rattle.nf_words.specs.declared.answer.Reply.TheVariants as reply
 use Rattle.nf_words.specs.declared.history.Event.TheVariants.{Begin}
 use Rattle.nf_words.specs.declared.request.Request.{Request}
-use Rattle.nf_session.specs.Book.{Answer, Begins, Book, IsOfBody, Lasts, denial_of_piece, event_of_body, Enters, Strikes, is_unmade, state_after, Passes as Unchanged}
+use Rattle.nf_session.specs.Book.{Answer, Begins, Book, IsOfBody, denial_of_piece, event_of_body, Enters, Strikes, is_unmade, state_after, Passes as Unchanged}
 use Rattle.nf_session.specs.Files.{AreGiven}
 use Rattle.nf_session.specs.Steps.{Invites, IsResponse, Judges, Passes, Scene, Starts, StartsFile, StoresBody, no_words, taken_length}
 use Rattle.nf_session.specs.Turn.{Answers, Meets, Way, Writes, end_by, end_of, end_of_close, how_of, manner_of, stays_granted, way_of}

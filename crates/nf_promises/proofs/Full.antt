@@ -1,8 +1,7 @@
 -- A run isn't full for a session that began it.
 use Rattle.std.proofs.Common.{ℕ, ◌+◌, ◌≡◌, ◌<◌, ◌≤◌, ◌==◌, Bool, true, false, List, [], ◌∷◌, length, Option, Some, Result, Ok, Err, inl, inr, refl, ap, subst, sym, ◌∙◌, arith}
 use Rattle.nf_base.specs.declared.content.Piece.{Piece}
-use Rattle.nf_dav.specs.Reply.{continue_reply, refusal_reply}
-use Rattle.nf_dav.specs.declared.replies.Manner.{Manner}
+use Rattle.nf_dav.specs.Reply.{continue_reply}
 use Rattle.nf_http.specs.Head.{Head}
 use Rattle.nf_http.specs.declared.wire.WireFault.{WireFault}
 use Rattle.nf_http.specs.declared.wire.WireFault.TheVariants as wire
@@ -14,8 +13,8 @@ use Rattle.nf_words.specs.declared.answer.Goal.TheVariants as goal
 use Rattle.nf_words.specs.declared.answer.Reply.TheVariants as reply
 use Rattle.nf_session.specs.Book.{Answer, Book, entries_wanted, state_after}
 use Rattle.nf_session.specs.Session.{Session}
-use Rattle.nf_session.specs.Steps.{Closes, EndsBy, Invites, IsResponse, Judges, Passes, Scene, Sends, Starts, TakesIn}
-use Rattle.nf_session.specs.Turn.{Answers, CutsShort, Responds, StopsShort, Turn, Way, Writes, end_by, end_of, end_of_close, end_of_denial, how_of, manner_of, stays_granted, way_of}
+use Rattle.nf_session.specs.Steps.{Closes, EndsBy, Invites, IsResponse, Judges, Passes, Scene, Starts, TakesIn}
+use Rattle.nf_session.specs.Turn.{Answers, CutsShort, Responds, StopsShort, Turn, Way, end_by, end_of, end_of_close, end_of_denial, how_of, stays_granted, way_of}
 use Rattle.nf_session.specs.declared.begun.Begun.{Begun}
 use Rattle.nf_session.specs.declared.begun.Begun.TheVariants as begun
 use Rattle.nf_session.specs.declared.ended.Ended.{Ended}

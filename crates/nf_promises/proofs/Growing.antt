@@ -1,5 +1,5 @@
 -- How a history grows by each step of a turn, and what a seat's own entries make of its state, where no other's came between.
-use Rattle.std.proofs.Common.{ℕ, ◌≡◌, Option, Result, ap, arith, ◌+◌, List, [], ◌∷◌, ◌++◌, length, sym, subst, ◌∙◌, refl, length-append}
+use Rattle.std.proofs.Common.{ℕ, ◌≡◌, Option, Result, ap, arith, List, [], ◌++◌, length, sym, subst, ◌∙◌}
 use Rattle.nf_http.specs.Head.{Head}
 use Rattle.nf_http.specs.declared.wire.WireFault.{WireFault}
 use Rattle.nf_session.specs.Book.{Book, Answer, Enters, state_after, state_of}

@@ -6,7 +6,7 @@ use Rattle.std.specs.List.{concat}
 use Rattle.std.specs.Io.KnownBytes.{Appends}
 use Rattle.std.specs.declared.alloc.Global.{Global}
 use Rattle.std.proofs.lemmas.Bool.{ltb-true, ltb-false}
-use Rattle.std.proofs.lemmas.List.{append-nil, append_cancel_left, get_or-take, length-take}
+use Rattle.std.proofs.lemmas.List.{append_cancel_left, get_or-take, length-take}
 use Rattle.std.proofs.Math.ListN.{get_or-eq_default}
 use Rattle.nf_base.specs.Content.{size_of}
 use Rattle.nf_base.specs.declared.content.Piece.{Piece}

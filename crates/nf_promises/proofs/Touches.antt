@@ -1,15 +1,11 @@
 -- What each step of a turn touches.
 use Rattle.std.proofs.Common.{ℕ, ◌≡◌, Bool, true, false, List, [], ◌∷◌, Option, Result, Ok, Err, refl, sym, ap, subst, ◌∙◌}
-use Rattle.nf_dav.specs.Reply.{continue_reply}
 use Rattle.nf_http.specs.Head.{Head}
-use Rattle.nf_http.specs.declared.wire.WireFault.{WireFault}
-use Rattle.nf_http.specs.declared.wire.WireFault.TheVariants as wire
-use Rattle.nf_words.specs.declared.answer.Denial.{Denial}
 use Rattle.nf_words.specs.declared.answer.Goal.TheVariants as goal
 use Rattle.nf_words.specs.declared.answer.Reply.TheVariants as reply
 use Rattle.nf_base.specs.declared.content.Piece.{Piece}
 use Rattle.nf_session.specs.Book.{Book}
-use Rattle.nf_session.specs.Steps.{Closes, EndsBy, EndsSo, Invites, Judges, OnlyAsks, OnlyWrites, Passes, Says, Scene, Starts, denial_of}
+use Rattle.nf_session.specs.Steps.{Closes, Judges, OnlyAsks, OnlyWrites, Passes, Says, Scene, Starts}
 use Rattle.nf_session.specs.Turn.{Responds, Way}
 use Rattle.nf_session.specs.declared.backend.Ending.{Ending}
 use Rattle.nf_session.specs.declared.begun.Begun.{Begun}
@@ -18,8 +14,6 @@ use Rattle.nf_session.specs.declared.ended.Ended.{Ended}
 use Rattle.nf_session.specs.declared.ended.Ended.TheVariants as ended
 use Rattle.nf_session.specs.declared.response.Response.{Response}
 use Rattle.nf_session.specs.declared.response.Response.TheVariants as response
-use Rattle.nf_session.proofs.Inviting.{stops_sends}
-use Rattle.nf_session.proofs.Turns.{sends_says}
 use Rattle.nf_promises.specs.Kept.{SaysStored}
 
 asks_none : {C : Type 0} (a b : Scene C) → b ≡ a → OnlyAsks a b

@@ -1,16 +1,14 @@
 -- What a turn that ends by a fault of reading did.
-use Rattle.std.proofs.Common.{◌≡◌, ℕ, List, refl, sym, ◌∙◌, ap, subst, inl, inr, Result, Ok, Err}
-use Rattle.std.specs.Prelude.{Bool, true, false, Option, Some}
+use Rattle.std.proofs.Common.{◌≡◌, ℕ, refl, sym, ◌∙◌, ap, subst, inl, inr, Result, Err}
+use Rattle.std.specs.Prelude.{Bool, false, Option, Some}
 use Rattle.nf_http.specs.declared.wire.WireFault.{WireFault}
 use Rattle.nf_http.specs.declared.wire.WireFault.TheVariants as wire
 use Rattle.nf_dav.specs.Reply.{continue_reply}
-use Rattle.nf_dav.specs.declared.replies.Manner.{Manner}
 use Rattle.nf_session.specs.Laws.{ReadFaultsStoreNothing}
 use Rattle.nf_session.specs.Steps.{Scene, Heads, Cuts, Closes, EndsBy, Sends, cutting, is_granted, taken_length}
-use Rattle.nf_session.specs.Turn.{Responds, Way, Writes, end_by, end_of, manner_of, way_of}
+use Rattle.nf_session.specs.Turn.{Responds, Way, end_by, end_of, way_of}
 use Rattle.nf_session.specs.declared.backend.Ending.TheVariants as ending
 use Rattle.nf_session.specs.declared.response.Response.{Response}
-use Rattle.nf_session.specs.declared.response.Response.TheVariants as response
 use Rattle.nf_session.specs.declared.ended.Ended.{Ended}
 use Rattle.nf_session.specs.declared.ended.Ended.TheVariants as ended
 use Rattle.nf_session.proofs.Causes.{end_is_none, is_fault, is_whole, whole_by}

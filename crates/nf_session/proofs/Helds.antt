@@ -1,6 +1,6 @@
 -- What a seat holds after a step.
 use Rattle.std.proofs.Common.{◌≡◌, ℕ, List, [], ◌∷◌, ◌++◌, refl, sym, ◌∙◌, ap, subst, Ok, Err}
-use Rattle.std.specs.Prelude.{Bool, true, false, Option, None, is_some, MatchBool}
+use Rattle.std.specs.Prelude.{Bool, true, false, Option, None, MatchBool}
 use Rattle.nf_words.specs.declared.answer.Goal.{Goal}
 use Rattle.nf_words.specs.declared.answer.Reply.TheVariants as reply
 use Rattle.nf_words.specs.declared.history.Entry.{Entry}
@@ -10,14 +10,11 @@ use Rattle.nf_words.specs.declared.request.Request.{Request}
 use Rattle.nf_words.specs.declared.request.Words.{Words}
 use Rattle.nf_session.specs.Book.{Answer, Book, Begins, Ends, EndsBody, Enters, Passes, Waits, granted, held, held_after, is_unmade, is_unmade_by}
 use Rattle.nf_session.specs.Files.{IsResponding}
-use Rattle.nf_session.specs.Steps.{IsBegun, IsClosing, IsResponse, is_granted}
-use Rattle.nf_session.specs.Turn.{stays_granted}
+use Rattle.nf_session.specs.Steps.{IsBegun, IsClosing, IsResponse}
 use Rattle.nf_session.specs.declared.backend.Ending.{Ending}
 use Rattle.nf_session.specs.declared.backend.Ending.TheVariants as ending
-use Rattle.nf_session.specs.declared.begun.Begun.{Begun}
 use Rattle.nf_session.specs.declared.begun.Begun.TheVariants as begun
 use Rattle.nf_session.specs.declared.response.Response.{Response}
-use Rattle.nf_session.specs.declared.response.Response.TheVariants as response
 
 held_push : (before : Option Goal) (own : List (Entry × Answer)) (e : Entry × Answer) → held_after before (own ++ e ∷ []) ≡ granted e.1
 held_push before [] e = refl
