@@ -94,7 +94,8 @@ answers_same : {C : Type 0} (reads : C → ℕ → C → Type 0) (last : Bool) (
     (end also : Option Ended) → IsSteady reads → AreSame a c → IsAnswered reads last head begun a b end
     → IsAnswered reads last head begun c d also → IsAlone a.book b.book → IsAlone c.book d.book → Alike b d end also
 answers_same reads last head begun a b c d end also steady same p q alone lone =
-    wrote (writes_same p.made.taken p.made.sent q.made.taken q.made.sent manner p.made.response q.made.response taken.0 taken.1 p.whole.written written one.sent other.sent)
+    wrote (writes_same p.made.taken p.made.sent q.made.taken q.made.sent manner p.made.response q.made.response taken.0 taken.1
+    p.whole.written written one.sent other.sent)
   where
     one : AnswersAlone a p.made.taken p.made.sent b
     one = answers_alone reads last head begun a b end p alone
@@ -103,7 +104,8 @@ answers_same reads last head begun a b c d end also steady same p q alone lone =
     other = answers_alone reads last head begun c d also q lone
 
     taken : Similar p.made.response q.made.response × AreSame p.made.taken q.made.taken
-    taken = takes_same reads head a p.made.taken c q.made.taken begun p.made.response q.made.response steady same p.made.takes q.made.takes p.calm q.calm one.taken other.taken
+    taken = takes_same reads head a p.made.taken c q.made.taken begun p.made.response q.made.response steady same
+        p.made.takes q.made.takes p.calm q.calm one.taken other.taken
 
     way : Way
     way = way_of head begun
@@ -124,7 +126,8 @@ answers_same reads last head begun a b c d end also steady same p q alone lone =
 
     closes : Closes reads (how_of p.made.response p.made.result) (stays_granted p.made.response) q.made.sent d
     closes = subst (λ z. Closes reads z (stays_granted p.made.response) q.made.sent d) (sym how)
-        (subst (λ z. Closes reads (how_of q.made.response q.made.result) z q.made.sent d) (sym (stays_similar p.made.response q.made.response taken.0)) q.made.closes)
+        (subst (λ z. Closes reads (how_of q.made.response q.made.result) z q.made.sent d)
+        (sym (stays_similar p.made.response q.made.response taken.0)) q.made.closes)
 
     wrote : AreSame p.made.sent q.made.sent ⊎ Clash p.made.sent q.made.sent → Alike b d end also
     wrote (inr clash) = inr (clash_on p.made.sent b q.made.sent d one.goes other.goes clash)

@@ -48,7 +48,8 @@ next_is a m h request left result prints input heads of =
 none_is_no_head : {C : Type 0} (a m : Scene C) (h : RequestHead) (request : Request) (left : List ℕ)
     → Prints h request → a.input ≡ Some (print_request h ++ left) → Heads a m (Ok None) → ⊥
 none_is_no_head a m h request left prints input heads =
-    let never : ◌≡◌ {A = Result (Option Head) WireFault} (Ok None) (Ok (Some (head_of h))) = (next_is a m h request left (Ok None) prints input heads tt).0 in cc
+    let never : ◌≡◌ {A = Result (Option Head) WireFault} (Ok None) (Ok (Some (head_of h))) =
+    (next_is a m h request left (Ok None) prints input heads tt).0 in cc
 
 pub head_is : {C : Type 0} (a m : Scene C) (h : RequestHead) (request : Request) (left : List ℕ) (head : Head)
     → Prints h request → a.input ≡ Some (print_request h ++ left) → Heads a m (Ok (Some head)) → (head ≡ head_of h) × (m.input ≡ Some left)

@@ -83,7 +83,8 @@ shown_by : {C : Type 0} (close unsent : Bool) (body : List ℕ) (told : Option B
     → b.output ≡ c.output → (fails → more) → ShownOf close unsent body told fails a b → ShownOf close unsent body told more k c
 shown_by close unsent body told fails more k a b c front end still (inl (bytes, are, is)) =
     inl (bytes, are, appends_by k.output c.output a.output b.output _ front end is)
-shown_by close unsent body told fails more k a b c front end still (inr (inl is)) = inr (inl (appends_by k.output c.output a.output b.output _ front end is))
+shown_by close unsent body told fails more k a b c front end still (inr (inl is)) =
+    inr (inl (appends_by k.output c.output a.output b.output _ front end is))
 shown_by close unsent body told fails more k a b c front end still (inr (inr (inl is))) =
     inr (inr (inl (appends_by k.output c.output a.output b.output _ front end is)))
 shown_by close unsent body told fails more k a b c front end still (inr (inr (inr (inl (is, failed))))) =

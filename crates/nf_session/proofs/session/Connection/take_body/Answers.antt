@@ -25,19 +25,22 @@ pub returns-in-Asked-Ok-Made-clause-takes : goal.returns-in-Asked-Ok-Made-clause
 returns-in-Asked-Ok-Made-clause-takes g c =
     let w = c.in-Asked-Ok-Made in let s = scene g.S.Ends g.O.Ends g.B.Backend c.skip-in-Asked-Ok-Made.new.self in
     take_skipped g.C.Clock.reads c.args.message.now (scene g.S.Ends g.O.Ends g.B.Backend c.args.self.now) s s c.args.begun _
-    _ c.args.skipped (asked _ _ _ _ w.is w.field-0-is w.field-0-0-is) c.requires.skipped refl c.in_ok-skip-in-Asked-Ok-Made.ensures.ok (λ body. (refl, refl))
+    _ c.args.skipped (asked _ _ _ _ w.is w.field-0-is w.field-0-0-is) c.requires.skipped refl
+    c.in_ok-skip-in-Asked-Ok-Made.ensures.ok (λ body. (refl, refl))
 
 pub returns-in-Asked-Ok-Done-clause-takes : goal.returns-in-Asked-Ok-Done-clause-takes
 returns-in-Asked-Ok-Done-clause-takes g c =
     let w = c.in-Asked-Ok-Done in let s = scene g.S.Ends g.O.Ends g.B.Backend c.skip-in-Asked-Ok-Done.new.self in
     take_skipped g.C.Clock.reads c.args.message.now (scene g.S.Ends g.O.Ends g.B.Backend c.args.self.now) s s c.args.begun _
-    _ c.args.skipped (asked _ _ _ _ w.is w.field-0-is w.field-0-0-is) c.requires.skipped refl c.in_ok-skip-in-Asked-Ok-Done.ensures.ok (λ body. (refl, refl))
+    _ c.args.skipped (asked _ _ _ _ w.is w.field-0-is w.field-0-0-is) c.requires.skipped refl
+    c.in_ok-skip-in-Asked-Ok-Done.ensures.ok (λ body. (refl, refl))
 
 pub returns-in-Asked-Ok-Listing-clause-takes : goal.returns-in-Asked-Ok-Listing-clause-takes
 returns-in-Asked-Ok-Listing-clause-takes g c =
     let w = c.in-Asked-Ok-Listing in let s = scene g.S.Ends g.O.Ends g.B.Backend c.skip-in-Asked-Ok-Listing.new.self in
     take_skipped g.C.Clock.reads c.args.message.now (scene g.S.Ends g.O.Ends g.B.Backend c.args.self.now) s s c.args.begun _
-    _ c.args.skipped (asked _ _ _ _ w.is w.field-0-is w.field-0-0-is) c.requires.skipped refl c.in_ok-skip-in-Asked-Ok-Listing.ensures.ok (λ body. (refl, refl))
+    _ c.args.skipped (asked _ _ _ _ w.is w.field-0-is w.field-0-0-is) c.requires.skipped refl
+    c.in_ok-skip-in-Asked-Ok-Listing.ensures.ok (λ body. (refl, refl))
 
 pub returns-in-Asked-Err-clause-takes : goal.returns-in-Asked-Err-clause-takes
 returns-in-Asked-Err-clause-takes g c =
