@@ -1,5 +1,5 @@
 -- Bytes that are told.
-use Rattle.std.proofs.Common.{◌≡◌, ℕ, List, [], ◌++◌, append-nil, append_assoc, refl, sym, ◌∙◌, ap, subst}
+use Rattle.std.proofs.Common.{◌≡◌, ℕ, List, ◌++◌, refl, sym, ◌∙◌, ap, subst}
 use Rattle.std.specs.Io.KnownBytes.{Appends, Consumes}
 use Rattle.std.specs.declared.option.Option.{Option}
 use Rattle.std.specs.declared.option.Option.TheVariants.{None, Some}
@@ -7,33 +7,16 @@ use Rattle.nf_http.specs.Bodies.{TakesBody}
 use Rattle.nf_http.proofs.Wholes.{one_body}
 use Rattle.nf_checks.specs.Alike.{TellSame}
 
-pub told_moved : (a b c d : Option (List ℕ)) → TellSame a c → b ≡ a → d ≡ c → TellSame b d
-told_moved a b c d (bytes, e, f) p q = (bytes, p ∙ e, q ∙ f)
-
 pub told_more : (xs bytes : List ℕ) (b : Option (List ℕ)) → Appends (Some xs) b bytes → b ≡ Some (xs ++ bytes)
 told_more xs bytes None x = absurd x
 told_more xs bytes (Some ys) x = ap (λ z. Some z) x
 
-pub told_appended : (a b c d : Option (List ℕ)) (bytes : List ℕ)
-    → TellSame a c → Appends a b bytes → Appends c d bytes → TellSame b d
+pub told_appended : (a b c d : Option (List ℕ)) (bytes : List ℕ) → TellSame a c → Appends a b bytes → Appends c d bytes → TellSame b d
 told_appended a b c d bytes (xs, e, f) x y = (
   xs ++ bytes,
   told_more xs bytes b (subst (λ z. Appends z b bytes) e x),
   told_more xs bytes d (subst (λ z. Appends z d bytes) f y),
 )
-
-appends_none : (a : Option (List ℕ)) → Appends a a []
-appends_none None = tt
-appends_none (Some xs) = sym (append-nil xs)
-
-pub appends_self : (a b : Option (List ℕ)) → b ≡ a → Appends a b []
-appends_self a b e = subst (λ z. Appends a z []) (sym e) (appends_none a)
-
-pub appends_on : (a m b : Option (List ℕ)) (p q : List ℕ) → Appends a m p → Appends m b q → Appends a b (p ++ q)
-appends_on None m b p q x y = tt
-appends_on (Some xs) None b p q x y = absurd x
-appends_on (Some xs) (Some ys) None p q x y = absurd y
-appends_on (Some xs) (Some ys) (Some zs) p q x y = y ∙ ap (λ z. z ++ q) x ∙ append_assoc xs p q
 
 -- what is left behind a front
 abbrev pub Left : Option (List ℕ) → Type 0

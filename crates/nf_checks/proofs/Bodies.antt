@@ -1,55 +1,41 @@
 -- Bodies that are taken in two scenes that are the same, and what they make of what was begun.
-use Rattle.std.proofs.Common.{◌≡◌, ◌⊎◌, ℕ, List, [], ◌∷◌, refl, sym, ◌∙◌, ap, subst, inl, inr, Ok, Err}
+use Rattle.std.proofs.Common.{◌≡◌, ℕ, List, [], ◌∷◌, refl, sym, ◌∙◌, ap, subst, Ok, Err}
 use Rattle.std.specs.Io.KnownBytes.{IsAtEnd}
 use Rattle.std.specs.declared.option.Option.{Option}
 use Rattle.std.specs.declared.option.Option.TheVariants.{None, Some}
+use Rattle.std.specs.Prelude.{Vec}
+use Rattle.std.specs.declared.alloc.Global.{Global}
 use Rattle.nf_base.specs.declared.content.Piece.{Piece}
-use Rattle.nf_http.specs.Bodies.{CutsBody, CutsRead, TakesBody}
+use Rattle.nf_http.specs.Bodies.{CutsRead, TakesBody}
 use Rattle.nf_http.proofs.Wholes.{whole_or_cut}
 use Rattle.nf_http.specs.Head.{Head}
 use Rattle.nf_http.specs.Next.{IsOfBytes}
 use Rattle.nf_http.specs.declared.wire.WireFault.{WireFault}
 use Rattle.nf_http.specs.declared.wire.WireFault.TheVariants as wire
-use Rattle.nf_words.specs.declared.answer.Denial.{Denial}
 use Rattle.nf_words.specs.declared.answer.Goal.TheVariants as goal
 use Rattle.nf_words.specs.declared.answer.Reply.TheVariants as reply
-use Rattle.nf_words.specs.declared.listing.ListingLine.{ListingLine}
-use Rattle.nf_session.specs.Book.{Answer, Book, EndsBody, Waits, event_of_body}
-use Rattle.nf_session.specs.Steps.{Bodies, Cuts, IsResponse, Passes, Scene, Starts, StartsFile, StoresBody, TakesIn, cutting, taken_length}
+use Rattle.nf_session.specs.Book.{Answer, Book, EndsBody, event_of_body}
+use Rattle.nf_session.specs.Steps.{Bodies, Cuts, IsResponse, OnlyReads, Passes, Scene, Starts, StartsFile, StoresBody, TakesIn, cutting, taken_length}
 use Rattle.nf_session.specs.declared.begun.Begun.{Begun}
 use Rattle.nf_session.specs.declared.begun.Begun.TheVariants as begun
 use Rattle.nf_session.specs.declared.response.Response.{Response}
 use Rattle.nf_session.specs.declared.response.Response.TheVariants as response
 use Rattle.nf_checks.specs.Alike.{AreSame, IsAlone, IsCalmAnswer, IsCalmResponse, IsSteady, KnowSame, TellSame}
-use Rattle.nf_checks.proofs.Basics.{Left, left_of, told_moved, told_taken}
-use Rattle.nf_checks.proofs.Goes.{Goes, goes_on, goes_quietly, goes_self}
-use Rattle.nf_checks.proofs.Books.{Grows, enters_grow, enters_same, grows_self, know_next, know_self, lone_waits, waits_grow}
-use Rattle.nf_checks.proofs.Scenes.{Stays, asks_same, reads_stay, readings_same, same_self, same_stays, stays_go}
+use Rattle.nf_checks.proofs.Basics.{Left, left_of, told_taken}
+use Rattle.nf_checks.proofs.Books.{enters_same, know_next, know_self, lone_waits}
+use Rattle.nf_checks.proofs.Scenes.{asks_same, readings_same, same_reads, same_self}
 
 -- ---- responses
 
 -- the same response, but for the bytes of a file's first piece
-abbrev pub Similar : Response → Response → Type 0
-Similar (response.Denied one) (response.Denied other) = one ≡ other
-Similar (response.File one first) (response.File other also) = one ≡ other
-Similar response.Made response.Made = Unit {0}
-Similar response.Done response.Done = Unit {0}
-Similar (response.Listing one) (response.Listing other) = one ≡ other
-Similar one other = ⊥
-
-denied : (v w : Response) (r : Denial) → v ≡ response.Denied r → w ≡ response.Denied r → Similar v w
-denied v w r p q = subst (λ z. Similar z w) (sym p) (subst (λ z. Similar (response.Denied r) z) (sym q) refl)
-
-listed : (v w : Response) (lines : List ListingLine) → v ≡ response.Listing lines → w ≡ response.Listing lines → Similar v w
-listed v w lines p q = subst (λ z. Similar z w) (sym p) (subst (λ z. Similar (response.Listing lines) z) (sym q) refl)
+pub data Similar (v w : Response) : Type 0 where
+  equal : w ≡ v → Similar v w
+  files : (content : List Piece) (one other : Option (Vec ℕ Global)) → v ≡ response.File content one → w ≡ response.File content other → Similar v w
 
 similar : (answer : Answer) (v w : Response) → IsResponse answer v → IsResponse answer w → Similar v w
-similar (Ok reply.Made) v w p q = subst (λ z. Similar z w) (sym p) (subst (λ z. Similar response.Made z) (sym q) tt)
-similar (Ok reply.Done) v w p q = subst (λ z. Similar z w) (sym p) (subst (λ z. Similar response.Done z) (sym q) tt)
 similar (Ok reply.Closed) v w p q = absurd p
-similar (Ok (reply.Listing lines)) v w p q = listed v w lines p q
 similar (Ok (reply.Granted goal)) v w p q = absurd p
-similar (Err refusal) v w p q = denied v w refusal p q
+similar answer v w p q = equal (q ∙ sym p)
 
 calm_answer : (answer : Answer) (v : Response) → IsResponse answer v → IsCalmResponse v → IsCalmAnswer answer
 calm_answer (Ok reply) v p calm = tt
@@ -58,56 +44,30 @@ calm_answer (Err refusal) v p calm = subst (λ z. IsCalmResponse z) p calm
 -- ---- the first piece of a file
 
 -- a file is begun with that content, and the book waited at most
-abbrev IsFileOf : List Piece → Response → Type 0
-IsFileOf content (response.File same first) = same ≡ content
-IsFileOf content other = ⊥
-
-files_similar : (content : List Piece) (v w : Response) → IsFileOf content v → IsFileOf content w → Similar v w
-files_similar content (response.File one first) (response.File other also) p q = p ∙ sym q
-files_similar content (response.File one first) other p q = absurd q
-files_similar content one other p q = absurd p
-
-record Started (a b : Book) (content : List Piece) (v : Response) : Type 0 where
-  pub file : IsFileOf content v
-  pub waits : (b ≡ a) ⊎ Waits a b
-
-started : (a b : Book) (content : List Piece) (v : Response) → Starts a b content v → IsCalmResponse v
-    → Started a b content v
-started a b [] (response.File content None) s calm = record { file = s.0; waits = inl s.1 }
-started a b (piece ∷ pieces) (response.File content (Some first)) s calm = record { file = s.0; waits = inr s.1 }
-started a b (piece ∷ pieces) (response.Lost fault) s calm = absurd calm
-started a b content other s calm = absurd s
-
-waited_grows : (a b : Book) → (b ≡ a) ⊎ Waits a b → Grows a b
-waited_grows a b (inl e) = grows_self a b e
-waited_grows a b (inr w) = waits_grow a b w
-
-lone_waited : (a b : Book) → (b ≡ a) ⊎ Waits a b → IsAlone a b → KnowSame a b
-lone_waited a b (inl e) alone = know_self a b e
-lone_waited a b (inr w) alone = lone_waits a b w alone
+started : (a b : Book) (content : List Piece) (v : Response) → Starts a b content v → IsCalmResponse v → IsAlone a b
+    → KnowSame a b × (first : Option (Vec ℕ Global)) × (v ≡ response.File content first)
+started a b [] (response.File content None) s calm alone = (know_self a b s.1, None, ap (λ z. response.File z None) s.0)
+started a b (piece ∷ pieces) (response.File content (Some first)) s calm alone =
+    (lone_waits a b s.1 alone, Some first, ap (λ z. response.File z (Some first)) s.0)
+started a b (piece ∷ pieces) (response.Lost fault) s calm alone = absurd calm
+started a b content other s calm alone = absurd s
 
 starts_same : {C : Type 0} (a b c d : Scene C) (content : List Piece) (v w : Response)
     → AreSame a c → StartsFile a b content v → StartsFile c d content w → IsCalmResponse v → IsCalmResponse w
     → IsAlone a.book b.book → IsAlone c.book d.book → Similar v w × AreSame b d
-starts_same {C = C} a b c d content v w same p q calm still alone also =
-    let one : Started a.book b.book content v = started a.book b.book content v p.starts calm in
-    let other : Started c.book d.book content w = started c.book d.book content w q.starts still in (
-      files_similar content v w one.file other.file,
-      record {
-        input = told_moved a.input b.input c.input d.input same.input (ap (λ (z : Scene C). z.input) p.only) (ap (λ (z : Scene C). z.input) q.only);
-        output = told_moved a.output b.output c.output d.output same.output
-            (ap (λ (z : Scene C). z.output) p.only) (ap (λ (z : Scene C). z.output) q.only);
-        book = know_next a.book b.book c.book d.book same.book
-            (lone_waited a.book b.book one.waits alone) (lone_waited c.book d.book other.waits also);
-        clock = ap (λ (z : Scene C). z.clock) q.only ∙ same.clock ∙ sym (ap (λ (z : Scene C). z.clock) p.only);
-      },
+starts_same a b c d content v w same p q calm still alone also =
+    let one = started a.book b.book content v p.starts calm alone in
+    let other = started c.book d.book content w q.starts still also in
+    let book : KnowSame b.book d.book = know_next a.book b.book c.book d.book same.book one.0 other.0 in (
+      files content one.1 other.1 one.2 other.2,
+      same_self (record a { book = b.book }) b (record c { book = d.book }) d
+          (record { input = same.input; output = same.output; book = book; clock = same.clock }) p.only q.only,
     )
 
 -- ---- the body that is stored
 
 stores_same : {C : Type 0} (reads : C → ℕ → C → Type 0) (body : List ℕ) (a b c d : Scene C) (v w : Response)
-    → IsSteady reads → AreSame a c → StoresBody reads body a b v → StoresBody reads body c d w → IsCalmResponse v
-    → IsCalmResponse w
+    → IsSteady reads → AreSame a c → StoresBody reads body a b v → StoresBody reads body c d w → IsCalmResponse v → IsCalmResponse w
     → IsAlone a.book b.book → IsAlone c.book d.book → Similar v w × AreSame b d
 stores_same reads body a b c d v w steady same (now1, x, read1, ends1, is1, only1) (now2, y, read2, ends2, is2, only2) calm still alone also =
     let read : (now1 ≡ now2) × (b.clock ≡ d.clock) = readings_same reads a b c d now1 now2 steady same read1 read2 in
@@ -119,59 +79,30 @@ stores_same reads body a b c d v w steady same (now1, x, read1, ends1, is1, only
 
 -- ---- what the body makes of what was begun
 
-plain_same : {C : Type 0} (a b c d : Scene C) (answer : Answer) (v w : Response)
-    → AreSame a c → IsResponse answer v × (b ≡ a) → IsResponse answer w × (d ≡ c) → Similar v w × AreSame b d
-plain_same a b c d answer v w same p q = (similar answer v w p.0 q.0, same_self a b c d same p.1 q.1)
-
-pub passes_same : {C : Type 0} (reads : C → ℕ → C → Type 0) (body : List ℕ) (a b c d : Scene C) (x : Begun)
-    (v w : Response)
-    → IsSteady reads → AreSame a c → Passes reads body a b x v → Passes reads body c d x w → IsCalmResponse v
-    → IsCalmResponse w
+pub passes_same : {C : Type 0} (reads : C → ℕ → C → Type 0) (body : List ℕ) (a b c d : Scene C) (x : Begun) (v w : Response)
+    → IsSteady reads → AreSame a c → Passes reads body a b x v → Passes reads body c d x w → IsCalmResponse v → IsCalmResponse w
     → IsAlone a.book b.book → IsAlone c.book d.book → Similar v w × AreSame b d
 passes_same reads body a b c d (begun.Unasked refusal) v w steady same p q calm still alone also =
-    (denied v w refusal p.0 q.0, same_self a b c d same p.1 q.1)
+    (equal (q.0 ∙ sym p.0), same_self a b c d same p.1 q.1)
 passes_same reads body a b c d (begun.Asked (Ok (reply.Granted (goal.Serve content)))) v w steady same p q calm still alone also =
     starts_same a b c d content v w same p q calm still alone also
 passes_same reads body a b c d (begun.Asked (Ok (reply.Granted (goal.Store who key size)))) v w steady same p q calm still alone also =
     stores_same reads body a b c d v w steady same p q calm still alone also
-passes_same reads body a b c d (begun.Asked (Ok reply.Made)) v w steady same p q calm still alone also = plain_same a b c d (Ok reply.Made) v w same p q
-passes_same reads body a b c d (begun.Asked (Ok reply.Done)) v w steady same p q calm still alone also = plain_same a b c d (Ok reply.Done) v w same p q
-passes_same reads body a b c d (begun.Asked (Ok reply.Closed)) v w steady same p q calm still alone also = absurd p.0
-passes_same reads body a b c d (begun.Asked (Ok (reply.Listing lines))) v w steady same p q calm still alone also =
-    plain_same a b c d (Ok (reply.Listing lines)) v w same p q
-passes_same reads body a b c d (begun.Asked (Err refusal)) v w steady same p q calm still alone also = plain_same a b c d (Err refusal) v w same p q
-
-pub passes_go : {C : Type 0} (reads : C → ℕ → C → Type 0) (body : List ℕ) (a b : Scene C) (x : Begun) (v : Response)
-    → Passes reads body a b x v → IsCalmResponse v → Goes a b
-passes_go reads body a b (begun.Unasked refusal) v p calm = goes_self a b p.1
-passes_go {C = C} reads body a b (begun.Asked (Ok (reply.Granted (goal.Serve content)))) v p calm =
-    goes_quietly a b (ap (λ (z : Scene C). z.output) p.only) (waited_grows a.book b.book (started a.book b.book content v p.starts calm).waits)
-passes_go {C = C} reads body a b (begun.Asked (Ok (reply.Granted (goal.Store who key size)))) v (now1, x, read1, ends1, is1, only1) calm =
-    goes_quietly a b (ap (λ (z : Scene C). z.output) only1) (enters_grow a.book b.book now1 (event_of_body body) x ends1.enters)
-passes_go reads body a b (begun.Asked (Ok reply.Made)) v p calm = goes_self a b p.1
-passes_go reads body a b (begun.Asked (Ok reply.Done)) v p calm = goes_self a b p.1
-passes_go reads body a b (begun.Asked (Ok reply.Closed)) v p calm = absurd p.0
-passes_go reads body a b (begun.Asked (Ok (reply.Listing lines))) v p calm = goes_self a b p.1
-passes_go reads body a b (begun.Asked (Err refusal)) v p calm = goes_self a b p.1
+passes_same reads body a b c d (begun.Asked answer) v w steady same p q calm still alone also =
+    (similar answer v w p.0 q.0, same_self a b c d same p.1 q.1)
 
 -- ---- the body itself
 
-bodies_stay : {C : Type 0} (a b : Scene C) (n : ℕ) (p : List ℕ) → Bodies a b n p → Stays a b
-bodies_stay {C = C} a b n p x = record {
-  output = ap (λ (z : Scene C). z.output) x.only;
-  book = ap (λ (z : Scene C). z.book) x.only;
-  clock = ap (λ (z : Scene C). z.clock) x.only;
-}
-
 pub bodies_same : {C : Type 0} (a b c d : Scene C) (n : ℕ) (p q : List ℕ)
     → AreSame a c → Bodies a b n p → Bodies c d n q → (p ≡ q) × AreSame b d
-bodies_same a b c d n p q same x y =
-    let taken : (p ≡ q) × TellSame b.input d.input =
-    told_taken a.input b.input c.input d.input n p q same.input x.taken y.taken in
-    (taken.0, same_stays a b c d same (bodies_stay a b n p x) (bodies_stay c d n q y) taken.1)
+bodies_same a b c d n p q s x y =
+    let taken : (p ≡ q) × TellSame b.input d.input = told_taken a.input b.input c.input d.input n p q s.input x.taken y.taken in (
+      taken.0,
+      same_self (record a { input = b.input }) b (record c { input = d.input }) d
+          (record { input = taken.1; output = s.output; book = s.book; clock = s.clock }) x.only y.only,
+    )
 
-pub takes_same : {C : Type 0} (reads : C → ℕ → C → Type 0) (head : Head) (a b c d : Scene C) (x : Begun)
-    (v w : Response)
+pub takes_same : {C : Type 0} (reads : C → ℕ → C → Type 0) (head : Head) (a b c d : Scene C) (x : Begun) (v w : Response)
     → IsSteady reads → AreSame a c → TakesIn reads head a b x (Ok v) → TakesIn reads head c d x (Ok w)
     → IsCalmResponse v → IsCalmResponse w → IsAlone a.book b.book → IsAlone c.book d.book → Similar v w × AreSame b d
 takes_same {C = C} reads head a b c d x v w steady same (m, p, bodies1, passes1) (n, q, bodies2, passes2) calm still alone also =
@@ -181,17 +112,12 @@ takes_same {C = C} reads head a b c d x v w steady same (m, p, bodies1, passes1)
     (subst (λ z. IsAlone z b.book) (sym (ap (λ (z : Scene C). z.book) bodies1.only)) alone)
     (subst (λ z. IsAlone z d.book) (sym (ap (λ (z : Scene C). z.book) bodies2.only)) also)
 
-pub takes_go : {C : Type 0} (reads : C → ℕ → C → Type 0) (head : Head) (a b : Scene C) (x : Begun) (v : Response)
-    → TakesIn reads head a b x (Ok v) → IsCalmResponse v → Goes a b
-takes_go reads head a b x v (m, p, bodies, passes) calm =
-    goes_on a m b (stays_go a m (bodies_stay a m (taken_length head x) p bodies)) (passes_go reads p m b x v passes calm)
-
 -- ---- a body that is cut
 
 -- a body that neither a fault of reading nor want of memory cut, was cut by the end of the input
 pub record IsCut {C : Type 0} (a b : Scene C) (n : ℕ) (fault : WireFault) : Type 0 where
   pub fault_is : fault ≡ wire.Truncated
-  pub stays : Stays a b
+  pub only : OnlyReads a b
   pub cut : CutsRead a.input b.input n wire.Truncated
 
 cut_read : (a b : Option (List ℕ)) (n : ℕ) (fault : WireFault) → CutsRead a b n fault → IsOfBytes (Err fault)
@@ -200,21 +126,17 @@ cut_read a b n wire.Truncated cut calm = (refl, cut)
 cut_read a b n wire.ReadFault cut calm = absurd calm
 cut_read a b n fault cut calm = absurd cut
 
-cut_body : (a b : Option (List ℕ)) (n : ℕ) (fault : WireFault) → CutsBody a b n fault → IsOfBytes (Err fault)
-    → (fault ≡ wire.Truncated) × CutsRead a b n wire.Truncated
-cut_body a b n wire.Memory cut calm = absurd calm
-cut_body a b n fault cut calm = cut_read a b n fault cut calm
-
 cut_by : (x : Begun) (a b : Option (List ℕ)) (n : ℕ) (fault : WireFault) → cutting x a b n fault → IsOfBytes (Err fault)
     → (fault ≡ wire.Truncated) × CutsRead a b n wire.Truncated
-cut_by (begun.Asked (Ok (reply.Granted (goal.Store who key size)))) a b n fault cut calm = cut_body a b n fault cut calm
+cut_by (begun.Asked (Ok (reply.Granted (goal.Store who key size)))) a b n wire.Memory cut calm = absurd calm
+cut_by (begun.Asked (Ok (reply.Granted (goal.Store who key size)))) a b n fault cut calm = cut_read a b n fault cut calm
 cut_by other a b n fault cut calm = cut_read a b n fault cut calm
 
 pub cut_of : {C : Type 0} (a b : Scene C) (x : Begun) (n : ℕ) (fault : WireFault)
     → Cuts (cutting x) a b n fault → IsOfBytes (Err fault) → IsCut a b n fault
 cut_of a b x n fault cuts calm =
     let cut : (fault ≡ wire.Truncated) × CutsRead a.input b.input n wire.Truncated = cut_by x a.input b.input n fault cuts.cut calm in
-    record { fault_is = cut.0; stays = reads_stay a b cuts.only; cut = cut.1 }
+    record { fault_is = cut.0; only = cuts.only; cut = cut.1 }
 
 -- nothing is left
 nothing_left : (a b : Option (List ℕ)) (xs : List ℕ) (n : ℕ) → a ≡ Some xs → CutsRead a b n wire.Truncated → b ≡ Some []
@@ -222,9 +144,8 @@ nothing_left a b xs n e cut =
     let left : Left b = left_of a b xs cut.0.0 e cut.0.2 in
     left.1 ∙ ap (λ z. Some z) (subst (λ z. IsAtEnd z) left.1 cut.1)
 
-pub cuts_same : {C : Type 0} (a b c d : Scene C) (n : ℕ) (x y : WireFault)
-    → AreSame a c → IsCut a b n x → IsCut c d n y → AreSame b d
-cuts_same a b c d n x y same p q = same_stays a b c d same p.stays q.stays
+pub cuts_same : {C : Type 0} (a b c d : Scene C) (n : ℕ) (x y : WireFault) → AreSame a c → IsCut a b n x → IsCut c d n y → AreSame b d
+cuts_same a b c d n x y same p q = same_reads a b c d same p.only q.only
     ([], nothing_left a.input b.input same.input.0 n same.input.1 p.cut, nothing_left c.input d.input same.input.0 n same.input.2 q.cut)
 
 -- a body that is there whole isn't cut

@@ -1,5 +1,5 @@
 -- What two books know after the same calls.
-use Rattle.std.proofs.Common.{◌≡◌, ℕ, ◌+◌, ◌<◌, ◌≤◌, List, [], ◌∷◌, ◌++◌, refl, sym, ◌∙◌, ap, subst, arith, length, max, Ok, Err, append-nil, length-append}
+use Rattle.std.proofs.Common.{◌≡◌, ℕ, ◌+◌, ◌<◌, ◌≤◌, [], ◌∷◌, ◌++◌, refl, sym, ◌∙◌, ap, subst, arith, length, max, Ok, Err, append-nil, length-append}
 use Rattle.nf_words.specs.History.{LeavesRoom, answer_at, most_entries, replay}
 use Rattle.nf_words.specs.State.{State, opened}
 use Rattle.nf_words.specs.declared.answer.Denial.TheVariants as denial
@@ -10,8 +10,8 @@ use Rattle.nf_words.specs.declared.history.Mark.{Mark}
 use Rattle.nf_words.specs.declared.history.Mark.TheVariants as mark
 use Rattle.nf_words.specs.declared.request.Request.{Request}
 use Rattle.nf_words.specs.declared.request.Words.{Words}
-use Rattle.nf_session.specs.Book.{Answer, Begins, Book, Enters, Lasts, Waits, entries_wanted, state_after, state_of}
-use Rattle.nf_session.proofs.Lasting.{lasts_same, lasts_then}
+use Rattle.nf_session.specs.Book.{Answer, Begins, Book, Enters, Waits, entries_wanted, state_after, state_of}
+use Rattle.nf_session.proofs.Moving.{no_others, none_of}
 use Rattle.nf_checks.specs.Alike.{IsAlone, IsCalmAnswer, KnowSame}
 
 -- ---- one book
@@ -33,70 +33,17 @@ know_next a b c d k p q = record {
   own = q.own ∙ k.own ∙ sym p.own;
 }
 
--- the seat's entries are among those that are known, and what every call keeps is kept
-pub record Grows (a b : Book) : Type 0 where
-  pub counts : length a.known + length b.own ≤ length b.known + length a.own
-  pub lasts : Lasts a b
-
-pub grows_self : (a b : Book) → b ≡ a → Grows a b
-grows_self a b e =
-    let known = ap (λ (z : Book). length z.known) e in
-    let own = ap (λ (z : Book). length z.own) e in
-    record { counts = omega arith; lasts = lasts_same a b e }
-
-pub grows_on : (a m b : Book) → Grows a m → Grows m b → Grows a b
-grows_on a m b p q = record {
-  counts = omega (arith, p.counts, q.counts);
-  lasts = lasts_then a m b p.lasts q.lasts;
-}
-
-pub waits_grow : (a b : Book) → Waits a b → Grows a b
-waits_grow a b w = record {
-  counts = omega (arith, ap length w.own, ap length w.known.1, length-append a.known w.known.0);
-  lasts = w.lasts;
-}
-
-pub enters_grow : (a b : Book) (now : ℕ) (event : Event) (answer : Answer) → Enters a b now event answer → Grows a b
-enters_grow a b now event answer e = record {
-  counts = omega (
-    arith,
-    ap length e.own,
-    ap length e.known,
-    length-append a.own ((e.entry, answer) ∷ []),
-    length-append (a.known ++ e.others) (e.entry ∷ []),
-    length-append a.known e.others,
-  );
-  lasts = e.lasts;
-}
-
 -- ---- alone
-
-no_entries : (others : List Entry) → length others ≤ 0 → others ≡ []
-no_entries [] n = refl
-no_entries (e ∷ es) n = absurd (omega arith)
 
 pub lone_waits : (a b : Book) → Waits a b → IsAlone a b → KnowSame a b
 lone_waits a b w alone =
-    let none : w.known.0 ≡ [] = no_entries w.known.0
-    (omega (arith, ap length w.own, ap length w.known.1, length-append a.known w.known.0)) in
+    let none : w.known.0 ≡ [] = none_of w.known.0 (omega (arith, alone, ap length w.own, ap length w.known.1, length-append a.known w.known.0)) in
     record {
       opening = w.lasts.opening;
       seat = w.lasts.seat;
       known = w.known.1 ∙ ap (λ z. a.known ++ z) none ∙ append-nil a.known;
       own = w.own;
     }
-
-lone_enters : (a b : Book) (now : ℕ) (event : Event) (answer : Answer) (e : Enters a b now event answer)
-    → IsAlone a b → e.others ≡ []
-lone_enters a b now event answer e alone = no_entries e.others
-    (omega (
-      arith,
-      ap length e.own,
-      ap length e.known,
-      length-append a.own ((e.entry, answer) ∷ []),
-      length-append (a.known ++ e.others) (e.entry ∷ []),
-      length-append a.known e.others,
-    ))
 
 -- ---- an entry
 
@@ -105,30 +52,28 @@ mark_is s e mark.Answered calm = refl
 mark_is s e mark.Store calm = absurd calm
 mark_is s e mark.Memory calm = absurd calm
 
-answered : (a b : Book) (now : ℕ) (event : Event) (x : Answer) (p : Enters a b now event x)
-    → IsCalmAnswer x → p.entry.mark ≡ mark.Answered
+answered : (a b : Book) (now : ℕ) (event : Event) (x : Answer) (p : Enters a b now event x) → IsCalmAnswer x → p.entry.mark ≡ mark.Answered
 answered a b now event x p calm = mark_is (state_after a p.others) p.entry p.entry.mark (subst (λ z. IsCalmAnswer z) p.answer_is calm)
 
 pub enters_same : (a b c d : Book) (now : ℕ) (event : Event) (x y : Answer)
     → KnowSame a c → Enters a b now event x → Enters c d now event y → IsAlone a b → IsAlone c d
     → IsCalmAnswer x → IsCalmAnswer y → (y ≡ x) × KnowSame b d
 enters_same a b c d now event x y k p q alone also calm still =
-    let none : q.others ≡ p.others = lone_enters c d now event y q also ∙ sym (lone_enters a b now event x p alone) in
+    let none : q.others ≡ p.others = no_others c d now event y q also ∙ sym (no_others a b now event x p alone) in
     let state : state_after c q.others ≡ state_after a p.others = λ i. replay (opened (k.opening i)) (k.known i ++ none i) in
     let seat : q.entry.seat ≡ p.entry.seat = q.seat_is ∙ k.seat ∙ sym p.seat_is in
     let moment : q.entry.moment ≡ p.entry.moment = q.moment_is ∙ (λ i. max (state i).seen now) ∙ sym p.moment_is in
     let event_is : q.entry.event ≡ p.entry.event = q.event_is ∙ sym p.event_is in
     let mark_same : q.entry.mark ≡ p.entry.mark = answered c d now event y q still ∙ sym (answered a b now event x p calm) in
     let entry : q.entry ≡ p.entry = λ i. record { seat = seat i; moment = moment i; event = event_is i; mark = mark_same i } in
-    let answer : y ≡ x = q.answer_is ∙ (λ i. answer_at (state i) (entry i) (entry i).mark) ∙ sym p.answer_is in (
-      answer,
-      record {
-        opening = q.lasts.opening ∙ k.opening ∙ sym p.lasts.opening;
-        seat = q.lasts.seat ∙ k.seat ∙ sym p.lasts.seat;
-        known = q.known ∙ (λ i. (k.known i ++ none i) ++ entry i ∷ []) ∙ sym p.known;
-        own = q.own ∙ (λ i. k.own i ++ (entry i, answer i) ∷ []) ∙ sym p.own;
-      },
-    )
+    let answer : y ≡ x = q.answer_is ∙ (λ i. answer_at (state i) (entry i) (entry i).mark) ∙ sym p.answer_is in
+    let same : KnowSame b d = record {
+      opening = q.lasts.opening ∙ k.opening ∙ sym p.lasts.opening;
+      seat = q.lasts.seat ∙ k.seat ∙ sym p.lasts.seat;
+      known = q.known ∙ (λ i. (k.known i ++ none i) ++ entry i ∷ []) ∙ sym p.known;
+      own = q.own ∙ (λ i. k.own i ++ (entry i, answer i) ∷ []) ∙ sym p.own;
+    } in
+    (answer, same)
 
 -- ---- the Begin
 
@@ -144,21 +89,12 @@ fate a b now words request (Err denial.RunFull) begins calm = unmade refl begins
 fate a b now words request (Err denial.Memory) begins calm = absurd calm
 fate a b now words request (Err refusal) begins calm = made begins.entry
 
-pub begins_grow : (a b : Book) (now : ℕ) (words : Words) (request : Request) (x : Answer)
-    → Begins a b now words request x → IsCalmAnswer x → Grows a b
-begins_grow a b now words request x begins calm = grows (fate a b now words request x begins calm)
-  where
-    grows : Fate a b now words request x → Grows a b
-    grows (unmade is waits full) = waits_grow a b waits
-    grows (made enters) = enters_grow a b now (Begin words request) x enters
-
 -- an entry that is made had room
 no_room : (a b c d : Book) (now : ℕ) (words : Words) (request : Request) (y : Answer)
-    → KnowSame a c → Waits a b → most_entries < entries_wanted b → Enters c d now (Begin words request) y
-    → IsAlone a b → IsAlone c d → ⊥
+    → KnowSame a c → Waits a b → most_entries < entries_wanted b → Enters c d now (Begin words request) y → IsAlone a b → IsAlone c d → ⊥
 no_room a b c d now words request y k waits full q alone also =
     let stays : KnowSame a b = lone_waits a b waits alone in
-    let none : [] ≡ q.others = sym (lone_enters c d now (Begin words request) y q also) in
+    let none : [] ≡ q.others = sym (no_others c d now (Begin words request) y q also) in
     let open_is : b.opening ≡ c.opening = stays.opening ∙ sym k.opening in
     let known_is : b.known ≡ c.known ++ q.others =
     stays.known ∙ sym k.known ∙ sym (append-nil c.known) ∙ ap (λ z. c.known ++ z) none in

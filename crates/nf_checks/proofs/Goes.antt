@@ -1,42 +1,43 @@
 -- How scenes go on: the book grows, and so does what was written.
-use Rattle.std.proofs.Common.{◌≡◌, ℕ, List, [], ◌++◌, append_assoc, sym, ◌∙◌, ap, subst, arith}
+use Rattle.std.proofs.Common.{◌≡◌, ℕ, ◌+◌, ◌≤◌, List, ◌++◌, append_assoc, sym, ◌∙◌, ap, subst, arith, length}
+use Rattle.std.proofs.KnownBytes.{Appends-trans}
 use Rattle.std.specs.Io.KnownBytes.{Appends}
 use Rattle.std.specs.Option.{IfSome}
 use Rattle.std.specs.declared.option.Option.{Option}
 use Rattle.std.specs.declared.option.Option.TheVariants.{Some}
 use Rattle.nf_defs.specs.Blobs.{blob_at}
-use Rattle.nf_session.specs.Book.{TellsPiece}
+use Rattle.nf_session.specs.Book.{Lasts, TellsPiece}
 use Rattle.nf_session.specs.Steps.{Scene}
-use Rattle.nf_session.proofs.Lasting.{piece_lasts}
+use Rattle.nf_session.specs.declared.ended.Ended.{Ended}
+use Rattle.nf_session.proofs.Calm.{Goes as Step}
+use Rattle.nf_session.proofs.Lasting.{lasts_then, piece_lasts}
 use Rattle.nf_checks.specs.Alike.{Clash, IsAlone, StoresAgree}
-use Rattle.nf_checks.proofs.Basics.{appends_on, appends_self, told_more}
-use Rattle.nf_checks.proofs.Books.{Grows, grows_on, grows_self}
+use Rattle.nf_checks.proofs.Basics.{told_more}
 
+-- the seat's entries are among those that are known, and what every call keeps is kept
 pub record Goes {C : Type 0} (a b : Scene C) : Type 0 where
-  pub book : Grows a.book b.book
+  pub counts : length a.book.known + length b.book.own ≤ length a.book.own + length b.book.known
+  pub lasts : Lasts a.book b.book
   pub bytes : List ℕ
   pub output : Appends a.output b.output bytes
 
--- nothing was written
-pub goes_quietly : {C : Type 0} (a b : Scene C) → b.output ≡ a.output → Grows a.book b.book → Goes a b
-goes_quietly a b e g = record { book = g; bytes = []; output = appends_self a.output b.output e }
+pub goes_of : {C : Type 0} {a b : Scene C} {n p : ℕ} {end : Option Ended} → Step a b n p end → Goes a b
+goes_of s = record { counts = s.book.known; lasts = s.book.onward.lasts; bytes = s.bytes; output = s.output }
 
-pub goes_self : {C : Type 0} (a b : Scene C) → b ≡ a → Goes a b
-goes_self {C = C} a b e =
-    goes_quietly a b (ap (λ (z : Scene C). z.output) e) (grows_self a.book b.book (ap (λ (z : Scene C). z.book) e))
+module _ {C : Type 0} {a m b : Scene C} where
+  pub goes_on : Goes a m → Goes m b → Goes a b
+  goes_on p q = record {
+    counts = omega (arith, p.counts, q.counts);
+    lasts = lasts_then a.book m.book b.book p.lasts q.lasts;
+    bytes = p.bytes ++ q.bytes;
+    output = Appends-trans a.output m.output b.output p.bytes q.bytes p.output q.output;
+  }
 
-pub goes_on : {C : Type 0} (a m b : Scene C) → Goes a m → Goes m b → Goes a b
-goes_on a m b p q = record {
-  book = grows_on a.book m.book b.book p.book q.book;
-  bytes = p.bytes ++ q.bytes;
-  output = appends_on a.output m.output b.output p.bytes q.bytes p.output q.output;
-}
+  pub alone_first : Goes a m → Goes m b → IsAlone a.book b.book → IsAlone a.book m.book
+  alone_first p q alone = omega (arith, p.counts, q.counts, alone)
 
-pub alone_first : {C : Type 0} (a m b : Scene C) → Goes a m → Goes m b → IsAlone a.book b.book → IsAlone a.book m.book
-alone_first a m b p q alone = omega (arith, p.book.counts, q.book.counts, alone)
-
-pub alone_then : {C : Type 0} (a m b : Scene C) → Goes a m → Goes m b → IsAlone a.book b.book → IsAlone m.book b.book
-alone_then a m b p q alone = omega (arith, p.book.counts, q.book.counts, alone)
+  pub alone_then : Goes a m → Goes m b → IsAlone a.book b.book → IsAlone m.book b.book
+  alone_then p q alone = omega (arith, p.counts, q.counts, alone)
 
 -- ---- a clash stays one
 
@@ -50,8 +51,8 @@ clash_on a b c d g h clash = record {
   piece = clash.piece;
   one = clash.one;
   other = clash.other;
-  given = piece_lasts a.book b.book clash.piece clash.one g.book.lasts clash.given;
-  also = piece_lasts c.book d.book clash.piece clash.other h.book.lasts clash.also;
+  given = piece_lasts a.book b.book clash.piece clash.one g.lasts clash.given;
+  also = piece_lasts c.book d.book clash.piece clash.other h.lasts clash.also;
   differ = clash.differ;
   front = clash.front;
   rest = clash.rest ++ g.bytes;

@@ -12,23 +12,22 @@ use Rattle.nf_base.specs.declared.content.Piece.{Piece}
 use Rattle.nf_http.specs.declared.wire.WireFault.{WireFault}
 use Rattle.nf_http.specs.declared.wire.WireFault.TheVariants as wire
 use Rattle.nf_http.specs.Next.{IsOfBytes}
-use Rattle.nf_words.specs.declared.answer.Denial.{Denial}
-use Rattle.nf_dav.specs.Reply.{done_reply, file_head, last_manner, listing_reply, made_reply, refusal_reply}
+use Rattle.nf_dav.specs.Reply.{file_head, last_manner, refusal_reply}
 use Rattle.nf_dav.specs.declared.replies.Manner.{Manner}
-use Rattle.nf_session.specs.Book.{Book, IsPiece, denial_of_piece}
+use Rattle.nf_session.specs.Book.{Book, IsPiece}
 use Rattle.nf_session.specs.Files.{AreGiven, SendsFile, WritesPieces, file_front}
-use Rattle.nf_session.specs.Steps.{EndsBy, EndsSo, Says, Scene, Sends, Wrote, denial_of}
+use Rattle.nf_session.specs.Steps.{EndsBy, EndsSo, Scene, Sends, Wrote, denial_of}
 use Rattle.nf_session.specs.Turn.{Responds, Way, Writes, end_by, end_of, how_of, manner_of, stays_granted}
 use Rattle.nf_session.specs.declared.ended.Ended.{Ended}
 use Rattle.nf_session.specs.declared.ended.Ended.TheVariants as ended
 use Rattle.nf_session.specs.declared.response.Response.{Response}
 use Rattle.nf_session.specs.declared.response.Response.TheVariants as response
+use Rattle.nf_session.proofs.Causes.{broken, is_whole}
 use Rattle.nf_checks.specs.Alike.{AreSame, Clash, IsAlone, IsCalmEnd, IsCalmEnded}
-use Rattle.nf_checks.proofs.Basics.{told_appended, told_more, told_moved}
-use Rattle.nf_checks.proofs.Bodies.{Similar}
-use Rattle.nf_checks.proofs.Goes.{Goes}
-use Rattle.nf_checks.proofs.Books.{know_next, lone_waits, waits_grow}
-use Rattle.nf_checks.proofs.Scenes.{wrote_goes, wrote_same}
+use Rattle.nf_checks.proofs.Basics.{told_appended, told_more}
+use Rattle.nf_checks.proofs.Bodies.{Similar, equal, files}
+use Rattle.nf_checks.proofs.Books.{know_next, lone_waits}
+use Rattle.nf_checks.proofs.Scenes.{same_self, wrote_same}
 
 -- ---- the bytes of pieces
 
@@ -36,19 +35,20 @@ decided : (x y : List ℕ) (t : Bool) → bytes_eq x y ≡ t → (x ≡ y) ⊎ (
 decided x y true e = inl ((bytes_eq-Decides x y).0 e)
 decided x y false e = inr (λ same. cc (e, (bytes_eq-Decides x y).1 same))
 
--- bytes that were given are the same up to a piece of which they differ
-record Differ (b d : Book) (xs ys : List (List ℕ)) : Type 0 where
+-- a piece of which different bytes were given
+record Differing (b d : Book) : Type 0 where
   pub piece : Piece
   pub one : List ℕ
   pub other : List ℕ
   pub given : IsPiece b piece one
   pub also : IsPiece d piece other
   pub differ : one ≢ other
-  pub front : List ℕ
-  pub rest : List ℕ
-  pub more : List ℕ
-  pub wrote : concat xs ≡ front ++ one ++ rest
-  pub wrote_also : concat ys ≡ front ++ other ++ more
+
+-- bytes that were given are the same up to one
+abbrev Differ : Book → Book → List (List ℕ) → List (List ℕ) → Type 0
+Differ b d xs ys =
+    (p : Differing b d) × (front : List ℕ) × (rest : List ℕ) × (more : List ℕ)
+    × (concat xs ≡ front ++ p.one ++ rest) × (concat ys ≡ front ++ p.other ++ more)
 
 in_front : (x front one rest : List ℕ) → x ++ (front ++ one ++ rest) ≡ (x ++ front) ++ one ++ rest
 in_front x front one rest = simp append_assoc
@@ -64,32 +64,13 @@ given_same b d (piece ∷ content) (x ∷ xs) (y ∷ ys) p q n =
   where
     both : (x ≡ y) ⊎ (x ≢ y) → (xs ≡ ys) ⊎ Differ b d xs ys → (x ∷ xs ≡ y ∷ ys) ⊎ Differ b d (x ∷ xs) (y ∷ ys)
     both (inl here) (inl there) = inl (λ i. here i ∷ there i)
-    both (inl here) (inr f) = inr (record {
-      piece = f.piece;
-      one = f.one;
-      other = f.other;
-      given = f.given;
-      also = f.also;
-      differ = f.differ;
-      front = x ++ f.front;
-      rest = f.rest;
-      more = f.more;
-      wrote = ap (λ z. x ++ z) f.wrote ∙ in_front x f.front f.one f.rest;
-      wrote_also = (λ i. sym here i ++ f.wrote_also i) ∙ in_front x f.front f.other f.more;
-    })
-    both (inr differ) there = inr (record {
-      piece = piece;
-      one = x;
-      other = y;
-      given = p.0;
-      also = q.0;
-      differ = differ;
-      front = [];
-      rest = concat xs;
-      more = concat ys;
-      wrote = refl;
-      wrote_also = refl;
-    })
+    both (inl here) (inr (p, front, rest, more, wrote, also)) =
+        let one : x ++ concat xs ≡ (x ++ front) ++ p.one ++ rest = ap (λ z. x ++ z) wrote ∙ in_front x front p.one rest in
+        let other : y ++ concat ys ≡ (x ++ front) ++ p.other ++ more = (λ i. sym here i ++ also i) ∙ in_front x front p.other more in
+        inr (p, x ++ front, rest, more, one, other)
+    both (inr differ) there =
+        let first : Differing b d = record { piece = piece; one = x; other = y; given = p.0; also = q.0; differ = differ } in
+        inr (first, [], concat xs, concat ys, refl, refl)
 
 -- ---- files
 
@@ -97,28 +78,27 @@ pieces_same : {C : Type 0} (a b c d : Scene C) (close : Bool) (content : List Pi
     (first other : Option (Vec ℕ Global)) (xs ys : List (List ℕ))
     → AreSame a c → WritesPieces close content first a b xs → WritesPieces close content other c d ys → xs ≡ ys
     → IsAlone a.book b.book → IsAlone c.book d.book → AreSame b d
-pieces_same {C = C} a b c d close content first other xs ys same p q e alone also =
+pieces_same a b c d close content first other xs ys s p q e alone also =
     let bytes : Appends c.output d.output (file_front close content xs) =
     subst (λ z. Appends c.output d.output (file_front close content z)) (sym e) q.bytes_are in
-    record {
-      input = told_moved a.input b.input c.input d.input same.input
-          (ap (λ (z : Scene C). z.input) p.pieces.only) (ap (λ (z : Scene C). z.input) q.pieces.only);
-      output = told_appended a.output b.output c.output d.output (file_front close content xs) same.output p.bytes_are bytes;
-      book = know_next a.book b.book c.book d.book same.book
+    same_self (record a { book = b.book; output = b.output; write_faults = b.write_faults }) b
+    (record c { book = d.book; output = d.output; write_faults = d.write_faults }) d
+    (record {
+      input = s.input;
+      output = told_appended a.output b.output c.output d.output (file_front close content xs) s.output p.bytes_are bytes;
+      book = know_next a.book b.book c.book d.book s.book
           (lone_waits a.book b.book p.pieces.waits alone) (lone_waits c.book d.book q.pieces.waits also);
-      clock = ap (λ (z : Scene C). z.clock) q.pieces.only ∙ same.clock ∙ sym (ap (λ (z : Scene C). z.clock) p.pieces.only);
-    }
+      clock = s.clock;
+    }) p.pieces.only q.pieces.only
 
 -- a file that is sent whole
 abbrev Whole : {C : Type 0} → Bool → List Piece → Option (Vec ℕ Global) → Scene C → Scene C → Type 0
 Whole close content first a b = SendsFile {T = Unit {0}} close content first a b (Ok tt)
 
-ahead : (out head front one rest : List ℕ)
-    → out ++ (head ++ (front ++ one ++ rest)) ≡ (out ++ (head ++ front)) ++ one ++ rest
+ahead : (out head front one rest : List ℕ) → out ++ (head ++ (front ++ one ++ rest)) ≡ (out ++ (head ++ front)) ++ one ++ rest
 ahead out head front one rest = simp append_assoc
 
-file_written : (a b : Option (List ℕ)) (close : Bool) (content : List Piece) (given : List (List ℕ))
-    (out front one rest : List ℕ)
+file_written : (a b : Option (List ℕ)) (close : Bool) (content : List Piece) (given : List (List ℕ)) (out front one rest : List ℕ)
     → a ≡ Some out → Appends a b (file_front close content given) → concat given ≡ front ++ one ++ rest
     → b ≡ Some ((out ++ (file_head close (size_of content) ++ front)) ++ one ++ rest)
 file_written a b close content given out front one rest e x is =
@@ -128,25 +108,23 @@ file_written a b close content given out front one rest e x is =
 
 files_clash : {C : Type 0} (a b c d : Scene C) (close : Bool) (content : List Piece)
     (first other : Option (Vec ℕ Global)) (xs ys : List (List ℕ))
-    → AreSame a c → WritesPieces close content first a b xs → WritesPieces close content other c d ys
-    → Differ b.book d.book xs ys
+    → AreSame a c → WritesPieces close content first a b xs → WritesPieces close content other c d ys → Differ b.book d.book xs ys
     → Clash b d
-files_clash a b c d close content first other xs ys same p q f = record {
+files_clash a b c d close content first other xs ys same p q (f, front, rest, more, wrote, also) = record {
   piece = f.piece;
   one = f.one;
   other = f.other;
   given = f.given;
   also = f.also;
   differ = f.differ;
-  front = same.output.0 ++ (file_head close (size_of content) ++ f.front);
-  rest = f.rest;
-  more = f.more;
-  wrote = file_written a.output b.output close content xs same.output.0 f.front f.one f.rest same.output.1 p.bytes_are f.wrote;
-  wrote_also = file_written c.output d.output close content ys same.output.0 f.front f.other f.more same.output.2 q.bytes_are f.wrote_also;
+  front = same.output.0 ++ (file_head close (size_of content) ++ front);
+  rest = rest;
+  more = more;
+  wrote = file_written a.output b.output close content xs same.output.0 front f.one rest same.output.1 p.bytes_are wrote;
+  wrote_also = file_written c.output d.output close content ys same.output.0 front f.other more same.output.2 q.bytes_are also;
 }
 
-files_same : {C : Type 0} (a b c d : Scene C) (close : Bool) (content : List Piece)
-    (first other : Option (Vec ℕ Global))
+files_same : {C : Type 0} (a b c d : Scene C) (close : Bool) (content : List Piece) (first other : Option (Vec ℕ Global))
     → AreSame a c → Whole close content first a b → Whole close content other c d
     → IsAlone a.book b.book → IsAlone c.book d.book → AreSame b d ⊎ Clash b d
 files_same a b c d close content first other same (xs, p, n, calm) (ys, q, m, still) alone also =
@@ -158,72 +136,32 @@ files_same a b c d close content first other same (xs, p, n, calm) (ys, q, m, st
 
 -- ---- any response
 
+same_writes : {C : Type 0} (a b c d : Scene C) (manner : Manner) (v : Response)
+    → AreSame a c → Writes {T = Unit {0}} manner v a b (Ok tt) → Writes {T = Unit {0}} manner v c d (Ok tt)
+    → IsAlone a.book b.book → IsAlone c.book d.book → AreSame b d ⊎ Clash b d
+same_writes a b c d manner (response.File content first) same p q alone also = files_same a b c d manner.close content first first same p q alone also
+same_writes a b c d manner other same p q alone also = inl (wrote_same a b c d _ same p q)
+
 pub writes_same : {C : Type 0} (a b c d : Scene C) (manner : Manner) (v w : Response)
     → Similar v w → AreSame a c → Writes {T = Unit {0}} manner v a b (Ok tt) → Writes {T = Unit {0}} manner w c d (Ok tt)
     → IsAlone a.book b.book → IsAlone c.book d.book → AreSame b d ⊎ Clash b d
-writes_same a b c d manner (response.Denied r) (response.Denied s) is same p q alone also =
-    let bytes : Wrote c d (refusal_reply manner r) = subst (λ z. Wrote c d (refusal_reply manner z)) (sym is) q in
-    inl (wrote_same a b c d (refusal_reply manner r) same p bytes)
-writes_same a b c d manner (response.File one first) (response.File two other) is same p q alone also =
-    let file : Whole manner.close one other c d = subst (λ z. Whole manner.close z other c d) (sym is) q in
-    files_same a b c d manner.close one first other same p file alone also
-writes_same a b c d manner response.Made response.Made is same p q alone also = inl (wrote_same a b c d (made_reply manner.close) same p q)
-writes_same a b c d manner response.Done response.Done is same p q alone also = inl (wrote_same a b c d (done_reply manner.close) same p q)
-writes_same a b c d manner (response.Listing one) (response.Listing other) is same p q alone also =
-    let bytes : Wrote c d (listing_reply manner.close one) = subst (λ z. Wrote c d (listing_reply manner.close z)) (sym is) q in
-    inl (wrote_same a b c d (listing_reply manner.close one) same p bytes)
-writes_same a b c d manner one two is same p q alone also = absurd is
-
-pub writes_go : {C : Type 0} (a b : Scene C) (manner : Manner) (v : Response)
-    → Writes {T = Unit {0}} manner v a b (Ok tt) → Goes a b
-writes_go a b manner (response.Denied r) p = wrote_goes a b (refusal_reply manner r) p
-writes_go a b manner (response.Lost fault) p = wrote_goes a b (refusal_reply manner (denial_of_piece fault)) p
-writes_go a b manner (response.File content first) p = record {
-  book = waits_grow a.book b.book p.1.pieces.waits;
-  bytes = file_front manner.close content p.0;
-  output = p.1.bytes_are;
-}
-writes_go a b manner response.Made p = wrote_goes a b (made_reply manner.close) p
-writes_go a b manner response.Done p = wrote_goes a b (done_reply manner.close) p
-writes_go a b manner (response.Listing lines) p = wrote_goes a b (listing_reply manner.close lines) p
+writes_same a b c d manner v w (equal e) same p q alone also =
+    same_writes a b c d manner v same p (subst (λ z. Writes {T = Unit {0}} manner z c d (Ok tt)) e q) alone also
+writes_same a b c d manner v w (files content one two e f) same p q alone also =
+    files_same a b c d manner.close content one two same
+    (subst (λ z. Writes {T = Unit {0}} manner z a b (Ok tt)) e p) (subst (λ z. Writes {T = Unit {0}} manner z c d (Ok tt)) f q) alone also
 
 -- ---- how the response ends the session
 
 -- a response that isn't written whole ends it otherwise
-unsaid : {C : Type 0} (a b : Scene C) (bytes : List ℕ) (by : Ended)
-    → Says {T = Unit {0}} a b bytes (Err by) → IsCalmEnded by → ⊥
-unsaid a b bytes ended.Closed p calm = p
-unsaid a b bytes ended.BadMessage p calm = p
-unsaid a b bytes ended.NotBuilt p calm = p
-unsaid a b bytes ended.RunFull p calm = p
-unsaid a b bytes (ended.Cut fault) p calm = calm
-unsaid a b bytes ended.ReadFault p calm = calm
-unsaid a b bytes ended.WriteFault p calm = calm
-unsaid a b bytes ended.Memory p calm = calm
-
-unsent : {C : Type 0} (a b : Scene C) (close : Bool) (content : List Piece) (first : Option (Vec ℕ Global)) (by : Ended)
-    → SendsFile {T = Unit {0}} close content first a b (Err by) → IsCalmEnded by → ⊥
-unsent a b close content first ended.Closed p calm = p
-unsent a b close content first ended.BadMessage p calm = p
-unsent a b close content first ended.NotBuilt p calm = p
-unsent a b close content first ended.RunFull p calm = p
-unsent a b close content first (ended.Cut fault) p calm = calm
-unsent a b close content first ended.ReadFault p calm = calm
-unsent a b close content first ended.WriteFault p calm = calm
-unsent a b close content first ended.Memory p calm = calm
-
-unwritten : {C : Type 0} (a b : Scene C) (manner : Manner) (v : Response) (by : Ended)
-    → Writes {T = Unit {0}} manner v a b (Err by) → IsCalmEnded by → ⊥
-unwritten a b manner (response.Denied r) by p calm = unsaid a b (refusal_reply manner r) by p calm
-unwritten a b manner (response.Lost fault) by p calm = unsaid a b (refusal_reply manner (denial_of_piece fault)) by p calm
-unwritten a b manner (response.File content first) by p calm = unsent a b manner.close content first by p calm
-unwritten a b manner response.Made by p calm = unsaid a b (made_reply manner.close) by p calm
-unwritten a b manner response.Done by p calm = unsaid a b (done_reply manner.close) by p calm
-unwritten a b manner (response.Listing lines) by p calm = unsaid a b (listing_reply manner.close lines) by p calm
+calm_whole : (end : Option Ended) → IsCalmEnd end → is_whole end ≡ true
+calm_whole (Some (ended.Cut fault)) calm = absurd calm
+calm_whole (Some ended.WriteFault) calm = absurd calm
+calm_whole (Some ended.Memory) calm = absurd calm
+calm_whole other calm = refl
 
 -- whoever is invited is told
-pub untold : {C : Type 0} (a b : Scene C) (bytes : List ℕ) (by : Ended)
-    → Sends {T = Unit {0}} a b bytes (Err by) → IsCalmEnded by → ⊥
+pub untold : {C : Type 0} (a b : Scene C) (bytes : List ℕ) (by : Ended) → Sends {T = Unit {0}} a b bytes (Err by) → IsCalmEnded by → ⊥
 untold a b bytes ended.WriteFault sends calm = calm
 untold a b bytes by sends calm = sends
 
@@ -238,32 +176,26 @@ pub written_of : {C : Type 0} (last : Bool) (way : Way) (v : Response) (a b : Sc
     (result : Result (Option Ended) Ended) (end : Option Ended)
     → Responds last way v a b result → end ≡ end_by result → IsCalmEnd end → IsWritten last way v a b result end
 written_of last way v a b (Ok e) end p is calm = record { whole = ap (λ z. Ok z) (sym is); end_is = is ∙ p.0; written = p.1 }
-written_of last way v a b (Err by) end p is calm = absurd (unwritten a b (manner_of last way v) v by p (subst (λ z. IsCalmEnd z) is calm))
+written_of last way v a b (Err by) end p is calm =
+    absurd (broken (Unit {0}) (manner_of last way v) v a b by p (calm_whole (Some by) (subst (λ z. IsCalmEnd z) is calm)))
 
 pub ends_similar : (closes : Bool) (v w : Response) → Similar v w → end_of closes v ≡ end_of closes w
-ends_similar closes (response.Denied r) (response.Denied s) is = ap (λ z. end_of closes (response.Denied z)) is
-ends_similar closes (response.File one first) (response.File two other) is = refl
-ends_similar closes response.Made response.Made is = refl
-ends_similar closes response.Done response.Done is = refl
-ends_similar closes (response.Listing one) (response.Listing other) is = refl
-ends_similar closes one two is = absurd is
+ends_similar closes v w (equal e) = sym (ap (end_of closes) e)
+ends_similar closes v w (files content one other e f) = ap (end_of closes) e ∙ sym (ap (end_of closes) f)
 
 pub stays_similar : (v w : Response) → Similar v w → stays_granted v ≡ stays_granted w
-stays_similar (response.Denied r) (response.Denied s) is = refl
-stays_similar (response.File one first) (response.File two other) is = refl
-stays_similar response.Made response.Made is = refl
-stays_similar response.Done response.Done is = refl
-stays_similar (response.Listing one) (response.Listing other) is = refl
-stays_similar one two is = absurd is
+stays_similar v w (equal e) = sym (ap stays_granted e)
+stays_similar v w (files content one other e f) = ap stays_granted e ∙ sym (ap stays_granted f)
 
 pub how_similar : (v w : Response) (one two : Option Ended) → Similar v w
     → how_of {T = Option Ended} v (Ok one) ≡ how_of {T = Option Ended} w (Ok two)
-how_similar (response.Denied r) (response.Denied s) one two is = refl
-how_similar (response.File a first) (response.File b other) one two is = refl
-how_similar response.Made response.Made one two is = refl
-how_similar response.Done response.Done one two is = refl
-how_similar (response.Listing a) (response.Listing b) one two is = refl
-how_similar v w one two is = absurd is
+how_similar v w one two (equal e) = whole v one two ∙ sym (ap (λ z. how_of {T = Option Ended} z (Ok two)) e)
+  where
+    whole : (v : Response) (one two : Option Ended) → how_of {T = Option Ended} v (Ok one) ≡ how_of {T = Option Ended} v (Ok two)
+    whole (response.File content first) one two = refl
+    whole other one two = refl
+how_similar v w one two (files content first other e f) =
+    ap (λ z. how_of {T = Option Ended} z (Ok one)) e ∙ sym (ap (λ z. how_of {T = Option Ended} z (Ok two)) f)
 
 -- ---- no message
 
@@ -273,26 +205,14 @@ pub record IsDenied {C : Type 0} (fault : WireFault) (a b : Scene C) (by : Ended
   pub bytes : IsOfBytes (Err fault)
   pub wrote : Wrote a b (refusal_reply last_manner (denial_of fault))
 
-ends_so : {C : Type 0} (refusal : Denial) (a b : Scene C) (by : Ended) → EndsSo refusal a b by → IsCalmEnded by
-    → (by ≡ ended.BadMessage) × Wrote a b (refusal_reply last_manner refusal)
-ends_so refusal a b ended.BadMessage p calm = (refl, p)
-ends_so refusal a b ended.WriteFault p calm = absurd calm
-ends_so refusal a b ended.Memory p calm = absurd calm
-ends_so refusal a b by p calm = absurd p
-
 told_so : {C : Type 0} (fault : WireFault) (a b : Scene C) (by : Ended) → IsOfBytes (Err fault)
-    → EndsSo (denial_of fault) a b by
-    → IsCalmEnded by → IsDenied fault a b by
-told_so fault a b by bytes p calm =
-    let so : (by ≡ ended.BadMessage) × Wrote a b (refusal_reply last_manner (denial_of fault)) = ends_so (denial_of fault) a b by p calm in
-    record { end_is = so.0; bytes = bytes; wrote = so.1 }
+    → EndsSo (denial_of fault) a b by → IsCalmEnded by → IsDenied fault a b by
+told_so fault a b ended.BadMessage bytes p calm = record { end_is = refl; bytes = bytes; wrote = p }
+told_so fault a b ended.WriteFault bytes p calm = absurd calm
+told_so fault a b ended.Memory bytes p calm = absurd calm
+told_so fault a b by bytes p calm = absurd p
 
-pub denied_of : {C : Type 0} (fault : WireFault) (a b : Scene C) (by : Ended) → EndsBy fault a b by → IsCalmEnded by
-    → IsDenied fault a b by
+pub denied_of : {C : Type 0} (fault : WireFault) (a b : Scene C) (by : Ended) → EndsBy fault a b by → IsCalmEnded by → IsDenied fault a b by
 denied_of wire.ReadFault a b by p calm = absurd (subst (λ z. IsCalmEnded z) p.0 calm)
 denied_of wire.Memory a b by p calm = absurd (subst (λ z. IsCalmEnded z) p.0 calm)
-denied_of wire.Bad a b by p calm = told_so wire.Bad a b by tt p calm
-denied_of wire.HeadLong a b by p calm = told_so wire.HeadLong a b by tt p calm
-denied_of wire.Coding a b by p calm = told_so wire.Coding a b by tt p calm
-denied_of (wire.TooLarge n) a b by p calm = told_so (wire.TooLarge n) a b by tt p calm
-denied_of wire.Truncated a b by p calm = told_so wire.Truncated a b by tt p calm
+denied_of other a b by p calm = told_so other a b by tt p calm

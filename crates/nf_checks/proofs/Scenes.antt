@@ -11,8 +11,6 @@ use Rattle.nf_http.specs.declared.wire.WireFault.TheVariants as wire
 use Rattle.nf_http.proofs.Agreement.{one_answer_and_rest}
 use Rattle.nf_words.specs.declared.answer.Denial.{Denial}
 use Rattle.nf_words.specs.declared.answer.Reply.TheVariants as reply
-use Rattle.nf_words.specs.declared.history.Event.TheVariants.{End}
-use Rattle.nf_words.specs.declared.history.Outcome.TheVariants.{Sent, Gone}
 use Rattle.nf_dav.specs.Asked.{request_of}
 use Rattle.nf_session.specs.Book.{Begins, Book, Ends}
 use Rattle.nf_session.specs.Steps.{Closes, Heads, IsUnasked, Judges, OnlyAsks, OnlyReads, Scene, Wrote, no_words}
@@ -21,9 +19,8 @@ use Rattle.nf_session.specs.declared.backend.Ending.TheVariants as ending
 use Rattle.nf_session.specs.declared.begun.Begun.{Begun}
 use Rattle.nf_session.specs.declared.begun.Begun.TheVariants as begun
 use Rattle.nf_checks.specs.Alike.{AreSame, IsAlone, IsCalmBegun, IsCalmDenial, IsSteady, KnowSame, TellSame}
-use Rattle.nf_checks.proofs.Basics.{Left, left_of, told_appended, told_moved}
-use Rattle.nf_checks.proofs.Goes.{Goes, goes_quietly, goes_self}
-use Rattle.nf_checks.proofs.Books.{Grows, begins_grow, begins_same, enters_grow, enters_same, grows_self, know_next, know_self}
+use Rattle.nf_checks.proofs.Basics.{Left, left_of, told_appended}
+use Rattle.nf_checks.proofs.Books.{begins_same, enters_same}
 
 -- ---- scenes that stay
 
@@ -39,29 +36,10 @@ same_back a c s = record {
 }
 
 -- nothing but the input was touched
-pub record Stays {C : Type 0} (a b : Scene C) : Type 0 where
-  pub output : b.output ≡ a.output
-  pub book : b.book ≡ a.book
-  pub clock : b.clock ≡ a.clock
-
-pub reads_stay : {C : Type 0} (a b : Scene C) → OnlyReads a b → Stays a b
-reads_stay {C = C} a b e = record {
-  output = ap (λ (z : Scene C). z.output) e;
-  book = ap (λ (z : Scene C). z.book) e;
-  clock = ap (λ (z : Scene C). z.clock) e;
-}
-
-pub stays_go : {C : Type 0} (a b : Scene C) → Stays a b → Goes a b
-stays_go a b p = goes_quietly a b p.output (grows_self a.book b.book p.book)
-
-pub same_stays : {C : Type 0} (a b c d : Scene C) → AreSame a c → Stays a b → Stays c d → TellSame b.input d.input
-    → AreSame b d
-same_stays a b c d s p q input = record {
-  input = input;
-  output = told_moved a.output b.output c.output d.output s.output p.output q.output;
-  book = know_next a.book b.book c.book d.book s.book (know_self a.book b.book p.book) (know_self c.book d.book q.book);
-  clock = q.clock ∙ s.clock ∙ sym p.clock;
-}
+pub same_reads : {C : Type 0} (a b c d : Scene C) → AreSame a c → OnlyReads a b → OnlyReads c d → TellSame b.input d.input → AreSame b d
+same_reads a b c d s p q input = same_self (record a { input = b.input; read_faults = b.read_faults }) b
+    (record c { input = d.input; read_faults = d.read_faults }) d
+    (record { input = input; output = s.output; book = s.book; clock = s.clock }) p q
 
 -- ---- heads
 
@@ -70,8 +48,7 @@ told_kept xs None k = absurd k
 told_kept xs (Some ys) k = (ys, refl)
 
 -- the stream tells still
-told_next : (xs : List ℕ) (b : Option (List ℕ)) (x : Result (Option Head) WireFault) → IsNext (Some xs) b x
-    → IsOfBytes x → Left b
+told_next : (xs : List ℕ) (b : Option (List ℕ)) (x : Result (Option Head) WireFault) → IsNext (Some xs) b x → IsOfBytes x → Left b
 told_next xs b (Ok None) next calm = told_kept xs b next.1
 told_next xs b (Ok (Some head)) (h, _, taken) calm = left_of (Some xs) b xs (print_request h) refl taken.3
 told_next xs b (Err wire.ReadFault) next calm = absurd calm
@@ -85,47 +62,33 @@ heads_same a b c d x y s p q calm still =
     let other : IsNext (Some s.input.0) d.input y = subst (λ z. IsNext z d.input y) s.input.2 q.next in
     let same : (x ≡ y) × (b.input ≡ d.input) = one_answer_and_rest s.input.0 b.input d.input x y one other calm still in
     let left : Left b.input = told_next s.input.0 b.input x one calm in
-    (same.0, same_stays a b c d s (reads_stay a b p.only) (reads_stay c d q.only) (left.0, left.1, sym same.1 ∙ left.1))
+    (same.0, same_reads a b c d s p.only q.only (left.0, left.1, sym same.1 ∙ left.1))
 
 -- ---- writing
 
-pub wrote_same : {C : Type 0} (a b c d : Scene C) (bytes : List ℕ)
-    → AreSame a c → Wrote a b bytes → Wrote c d bytes → AreSame b d
-wrote_same {C = C} a b c d bytes s p q = record {
-  input = told_moved a.input b.input c.input d.input s.input (ap (λ (z : Scene C). z.input) p.only) (ap (λ (z : Scene C). z.input) q.only);
-  output = told_appended a.output b.output c.output d.output bytes s.output p.bytes_are q.bytes_are;
-  book = know_next a.book b.book c.book d.book s.book
-      (know_self a.book b.book (ap (λ (z : Scene C). z.book) p.only)) (know_self c.book d.book (ap (λ (z : Scene C). z.book) q.only));
-  clock = ap (λ (z : Scene C). z.clock) q.only ∙ s.clock ∙ sym (ap (λ (z : Scene C). z.clock) p.only);
-}
-
-pub wrote_goes : {C : Type 0} (a b : Scene C) (bytes : List ℕ) → Wrote a b bytes → Goes a b
-wrote_goes {C = C} a b bytes p = record {
-  book = grows_self a.book b.book (ap (λ (z : Scene C). z.book) p.only);
-  bytes = bytes;
-  output = p.bytes_are;
-}
+pub wrote_same : {C : Type 0} (a b c d : Scene C) (bytes : List ℕ) → AreSame a c → Wrote a b bytes → Wrote c d bytes → AreSame b d
+wrote_same a b c d bytes s p q = same_self (record a { output = b.output }) b (record c { output = d.output }) d
+    (record {
+      input = s.input;
+      output = told_appended a.output b.output c.output d.output bytes s.output p.bytes_are q.bytes_are;
+      book = s.book;
+      clock = s.clock;
+    }) p.only q.only
 
 -- ---- asking
 
 -- readings of clocks that are the same
 pub readings_same : {C : Type 0} (reads : C → ℕ → C → Type 0) (a b c d : Scene C) (now also : ℕ)
-    → IsSteady reads → AreSame a c → reads a.clock now b.clock → reads c.clock also d.clock
-    → (now ≡ also) × (b.clock ≡ d.clock)
+    → IsSteady reads → AreSame a c → reads a.clock now b.clock → reads c.clock also d.clock → (now ≡ also) × (b.clock ≡ d.clock)
 readings_same reads a b c d now also steady s p q =
     steady a.clock now also b.clock d.clock p (subst (λ z. reads z also d.clock) s.clock q)
 
 pub asks_same : {C : Type 0} (a b c d : Scene C)
     → AreSame a c → OnlyAsks a b → OnlyAsks c d → KnowSame b.book d.book → b.clock ≡ d.clock → AreSame b d
-asks_same {C = C} a b c d s p q book clock = record {
-  input = told_moved a.input b.input c.input d.input s.input (ap (λ (z : Scene C). z.input) p) (ap (λ (z : Scene C). z.input) q);
-  output = told_moved a.output b.output c.output d.output s.output (ap (λ (z : Scene C). z.output) p) (ap (λ (z : Scene C). z.output) q);
-  book = book;
-  clock = sym clock;
-}
+asks_same a b c d s p q book clock = same_self (record a { book = b.book; clock = b.clock }) b (record c { book = d.book; clock = d.clock }) d
+    (record { input = s.input; output = s.output; book = book; clock = sym clock }) p q
 
-unasked : (head : Head) (refusal : Denial) → IsUnasked head refusal → IsCalmDenial refusal
-    → request_of head ≡ Err refusal
+unasked : (head : Head) (refusal : Denial) → IsUnasked head refusal → IsCalmDenial refusal → request_of head ≡ Err refusal
 unasked head refusal (inl is) calm = is
 unasked head refusal (inr is) calm = absurd (subst (λ z. IsCalmDenial z) is calm)
 
@@ -153,27 +116,13 @@ judges_same reads head a b c d (begun.Asked x) (begun.Asked y) steady same
     begins_same a.book b.book c.book d.book now1 no_words r1 x y same.book begins1 begins alone also calm still in
     (ap (λ z. begun.Asked z) asked.0, asks_same a b c d same only1 only2 asked.1 read.1)
 
-pub judges_go : {C : Type 0} (reads : C → ℕ → C → Type 0) (head : Head) (a b : Scene C) (x : Begun)
-    → Judges reads head a b x → IsCalmBegun x → Goes a b
-judges_go reads head a b (begun.Unasked r) p calm = goes_self a b p.1
-judges_go {C = C} reads head a b (begun.Asked x) (r1, now1, is1, read1, begins1, only1) calm =
-    goes_quietly a b (ap (λ (z : Scene C). z.output) only1) (begins_grow a.book b.book now1 no_words r1 x begins1 calm)
-
 -- ---- the End of what brings no body
 
 ends_same : (a b c d : Book) (now : ℕ) (how : Ending) → KnowSame a c → Ends a b now how (Ok reply.Closed)
-    → Ends c d now how (Ok reply.Closed)
-    → IsAlone a b → IsAlone c d → KnowSame b d
-ends_same a b c d now ending.Sent k p q alone also =
-    (enters_same a b c d now (End Sent) (Ok reply.Closed) (Ok reply.Closed) k p.enters q.enters alone also tt tt).1
-ends_same a b c d now ending.Gone k p q alone also =
-    (enters_same a b c d now (End Gone) (Ok reply.Closed) (Ok reply.Closed) k p.enters q.enters alone also tt tt).1
+    → Ends c d now how (Ok reply.Closed) → IsAlone a b → IsAlone c d → KnowSame b d
 ends_same a b c d now (ending.Body bytes) k p q alone also = absurd p.answered
-
-ends_grow : (a b : Book) (now : ℕ) (how : Ending) → Ends a b now how (Ok reply.Closed) → Grows a b
-ends_grow a b now ending.Sent p = enters_grow a b now (End Sent) (Ok reply.Closed) p.enters
-ends_grow a b now ending.Gone p = enters_grow a b now (End Gone) (Ok reply.Closed) p.enters
-ends_grow a b now (ending.Body bytes) p = absurd p.answered
+ends_same a b c d now other k p q alone also =
+    (enters_same a b c d now _ (Ok reply.Closed) (Ok reply.Closed) k p.enters q.enters alone also tt tt).1
 
 pub closes_same : {C : Type 0} (reads : C → ℕ → C → Type 0) (how : Ending) (granted : Bool) (a b c d : Scene C)
     → IsSteady reads → AreSame a c → Closes reads how granted a b → Closes reads how granted c d
@@ -184,9 +133,3 @@ closes_same reads how true a b c d steady same (now1, read1, ends1, only1) (now2
     let ends : Ends c.book d.book now1 how (Ok reply.Closed) =
     subst (λ z. Ends c.book d.book z how (Ok reply.Closed)) (sym read.0) ends2 in
     asks_same a b c d same only1 only2 (ends_same a.book b.book c.book d.book now1 how same.book ends1 ends alone also) read.1
-
-pub closes_go : {C : Type 0} (reads : C → ℕ → C → Type 0) (how : Ending) (granted : Bool) (a b : Scene C)
-    → Closes reads how granted a b → Goes a b
-closes_go reads how false a b p = goes_self a b p
-closes_go {C = C} reads how true a b (now1, read1, ends1, only1) =
-    goes_quietly a b (ap (λ (z : Scene C). z.output) only1) (ends_grow a.book b.book now1 how ends1)

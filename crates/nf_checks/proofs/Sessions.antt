@@ -1,5 +1,5 @@
 -- Two sessions, turn by turn.
-use Rattle.std.proofs.Common.{◌≡◌, ◌⊎◌, ℕ, ◌+◌, ◌<◌, ◌≤◌, ◌==◌, Bool, false, List, [], ◌∷◌, refl, sym, subst, arith, length, inl, inr}
+use Rattle.std.proofs.Common.{◌≡◌, ℕ, ◌+◌, ◌<◌, ◌≤◌, ◌==◌, Bool, false, List, [], ◌∷◌, refl, sym, subst, arith, length, inl, inr}
 use Rattle.std.specs.declared.option.Option.{Option}
 use Rattle.std.specs.declared.option.Option.TheVariants.{None}
 use Rattle.std.proofs.lemmas.Bool.{ne_eqb}
@@ -7,96 +7,66 @@ use Rattle.nf_session.specs.Session.{Session, Through}
 use Rattle.nf_session.specs.Steps.{Scene}
 use Rattle.nf_session.specs.Turn.{Turn}
 use Rattle.nf_session.specs.declared.ended.Ended.{Ended}
+use Rattle.nf_session.proofs.Calm.{goes_then, same_goes}
+use Rattle.nf_session.proofs.Causes.{through_goes, turn_goes}
 use Rattle.nf_checks.specs.Alike.{AreCalmTurns, AreSame, Clash, IsAlone, IsCalmEnd, IsCalmTurn, IsSteady, IsUndisturbed, SessionsEndAlike, StoresAgree, ToldSessionsEndAlike}
-use Rattle.nf_checks.proofs.Goes.{Goes, alone_first, alone_then, clash_back, clash_on, goes_on, goes_self, no_clash}
+use Rattle.nf_checks.proofs.Goes.{Goes, alone_first, alone_then, clash_back, clash_on, goes_of, no_clash}
 use Rattle.nf_checks.proofs.Scenes.{same_back}
-use Rattle.nf_checks.proofs.Turns.{EndsSame, turn_goes, turns_same}
-
--- the last turn of a session of n messages, and those before it
-record Rest {C : Type 0} (reads : C → ℕ → C → Type 0) (n : ℕ) (a : Scene C) (scenes : List (Scene C)) (m b : Scene C) (end : Option Ended) : Type 0 where
-  pub through : Through reads a scenes m
-  pub turns : AreCalmTurns reads a scenes m through
-  pub turn : Turn reads (n == 9999) m b end
-  pub calm : IsCalmTurn reads (n == 9999) m b end turn
-  pub end_is : IsCalmEnd end
-  pub few : n ≤ 9999
-  pub full : end ≡ None → n ≡ 9999
-  pub alone : IsAlone a.book b.book
-
-abbrev Alike : {C : Type 0} → Scene C → Scene C → Option Ended → Option Ended → Type 0
-Alike b d end also = ((also ≡ end) × AreSame b d) ⊎ Clash b d
-
-alike_of : {C : Type 0} (b d : Scene C) (end also : Option Ended) → EndsSame b d end also ⊎ Clash b d
-    → Alike b d end also
-alike_of b d end also (inl same) = inl (same.end_is, same.scene)
-alike_of b d end also (inr clash) = inr clash
-
-through_goes : {C : Type 0} (reads : C → ℕ → C → Type 0) (a : Scene C) (scenes : List (Scene C)) (m : Scene C)
-    (through : Through reads a scenes m) → AreCalmTurns reads a scenes m through → Goes a m
-through_goes reads a [] m through calm = goes_self a m (sym through)
-through_goes reads a (next ∷ scenes) m through calm =
-    goes_on a next m (turn_goes reads false a next None through.0 calm.0 tt)
-    (through_goes reads next scenes m through.1 calm.1)
-
-rest_goes : {C : Type 0} (reads : C → ℕ → C → Type 0) (n : ℕ) (a : Scene C) (scenes : List (Scene C)) (m b : Scene C)
-    (end : Option Ended)
-    → (through : Through reads a scenes m) → AreCalmTurns reads a scenes m through
-    → (turn : Turn reads (n == 9999) m b end)
-    → IsCalmTurn reads (n == 9999) m b end turn → IsCalmEnd end → Goes a b
-rest_goes reads n a scenes m b end through turns turn calm well =
-    goes_on a m b (through_goes reads a scenes m through turns) (turn_goes reads (n == 9999) m b end turn calm well)
-
-next_goes : {C : Type 0} (reads : C → ℕ → C → Type 0) (n : ℕ) (a next : Scene C) (scenes : List (Scene C))
-    (m b : Scene C) (end : Option Ended)
-    → Rest reads n a (next ∷ scenes) m b end → Goes next b
-next_goes reads n a next scenes m b end p = rest_goes reads n next scenes m b end p.through.1 p.turns.1 p.turn p.calm p.end_is
-
--- what follows the first turn
-next_of : {C : Type 0} (reads : C → ℕ → C → Type 0) (n : ℕ) (a next : Scene C) (scenes : List (Scene C)) (m b : Scene C)
-    (end : Option Ended)
-    → Rest reads n a (next ∷ scenes) m b end → Rest reads n next scenes m b end
-next_of reads n a next scenes m b end p = record {
-  through = p.through.1;
-  turns = p.turns.1;
-  turn = p.turn;
-  calm = p.calm;
-  end_is = p.end_is;
-  few = p.few;
-  full = p.full;
-  alone = alone_then a next b (turn_goes reads false a next None p.through.0 p.turns.0 tt)
-      (next_goes reads n a next scenes m b end p) p.alone;
-}
-
-first_alone : {C : Type 0} (reads : C → ℕ → C → Type 0) (n : ℕ) (a next : Scene C) (scenes : List (Scene C))
-    (m b : Scene C) (end : Option Ended)
-    → Rest reads n a (next ∷ scenes) m b end → IsAlone a.book next.book
-first_alone reads n a next scenes m b end p =
-    alone_first a next b (turn_goes reads false a next None p.through.0 p.turns.0 tt)
-    (next_goes reads n a next scenes m b end p) p.alone
+use Rattle.nf_checks.proofs.Turns.{Alike, turns_same}
 
 -- a turn that is the session's last
 record Last {C : Type 0} (reads : C → ℕ → C → Type 0) (last : Bool) (a b : Scene C) (end : Option Ended) : Type 0 where
   pub turn : Turn reads last a b end
   pub calm : IsCalmTurn reads last a b end turn
+  pub well : IsCalmEnd end
+
+-- the last turn of a session of n messages, and those before it
+record Rest {C : Type 0} (reads : C → ℕ → C → Type 0) (n : ℕ) (a : Scene C) (scenes : List (Scene C)) (m b : Scene C) (end : Option Ended) : Type 0 where
+  pub through : Through reads a scenes m
+  pub turns : AreCalmTurns reads a scenes m through
+  pub last : Last reads (n == 9999) m b end
+  pub few : n ≤ 9999
+  pub full : end ≡ None → n ≡ 9999
+  pub alone : IsAlone a.book b.book
+
+next_goes : {C : Type 0} (reads : C → ℕ → C → Type 0) (n : ℕ) (a next : Scene C) (scenes : List (Scene C))
+    (m b : Scene C) (end : Option Ended) → Rest reads n a (next ∷ scenes) m b end → Goes next b
+next_goes reads n a next scenes m b end p =
+    goes_of (goes_then (through_goes reads next scenes m p.through.1) (turn_goes reads (n == 9999) m b end p.last.turn))
+
+-- what follows the first turn
+next_of : {C : Type 0} (reads : C → ℕ → C → Type 0) (n : ℕ) (a next : Scene C) (scenes : List (Scene C)) (m b : Scene C)
+    (end : Option Ended) → Rest reads n a (next ∷ scenes) m b end → Rest reads n next scenes m b end
+next_of reads n a next scenes m b end p = record {
+  through = p.through.1;
+  turns = p.turns.1;
+  last = p.last;
+  few = p.few;
+  full = p.full;
+  alone = alone_then (goes_of (turn_goes reads false a next None p.through.0)) (next_goes reads n a next scenes m b end p) p.alone;
+}
+
+first_alone : {C : Type 0} (reads : C → ℕ → C → Type 0) (n : ℕ) (a next : Scene C) (scenes : List (Scene C))
+    (m b : Scene C) (end : Option Ended) → Rest reads n a (next ∷ scenes) m b end → IsAlone a.book next.book
+first_alone reads n a next scenes m b end p =
+    alone_first (goes_of (turn_goes reads false a next None p.through.0)) (next_goes reads n a next scenes m b end p) p.alone
 
 last_of : {C : Type 0} (reads : C → ℕ → C → Type 0) (n : ℕ) (a m b : Scene C) (end : Option Ended)
     → Rest reads n a [] m b end → Last reads (n == 9999) a b end
-last_of reads n a m b end p =
-    let last : Last reads (n == 9999) m b end = record { turn = p.turn; calm = p.calm } in
-    subst (λ z. Last reads (n == 9999) z b end) (sym p.through) last
+last_of reads n a m b end p = subst (λ z. Last reads (n == 9999) z b end) (sym p.through) p.last
 
 lasts_same : {C : Type 0} (reads : C → ℕ → C → Type 0) (last : Bool) (a b c d : Scene C) (end also : Option Ended)
-    → IsSteady reads → AreSame a c → Last reads last a b end → Last reads last c d also → IsCalmEnd end → IsCalmEnd also
-    → IsAlone a.book b.book → IsAlone c.book d.book → EndsSame b d end also ⊎ Clash b d
-lasts_same reads last a b c d end also steady same p q well good alone lone =
-    turns_same reads last a b c d end also p.turn q.turn steady same p.calm q.calm well good alone lone
+    → IsSteady reads → AreSame a c → Last reads last a b end → Last reads last c d also
+    → IsAlone a.book b.book → IsAlone c.book d.book → Alike b d end also
+lasts_same reads last a b c d end also steady same p q alone lone =
+    turns_same reads last a b c d end also p.turn q.turn steady same p.calm q.calm p.well q.well alone lone
 
 -- no session goes on where the other ended
 longer : {C : Type 0} (reads : C → ℕ → C → Type 0) (n : ℕ) (a m b : Scene C) (c next d : Scene C) (end : Option Ended)
     (turn : Turn reads false c next None) → IsSteady reads → AreSame a c → Rest reads n a [] m b end → n < 9999
     → IsCalmTurn reads false c next None turn → IsAlone c.book next.book → Clash b next
 longer reads n a m b c next d end turn steady same p less calm lone =
-    end_of (lasts_same reads false a b c next end None steady same last (record { turn = turn; calm = calm }) p.end_is tt p.alone lone)
+    end_of (lasts_same reads false a b c next end None steady same last (record { turn = turn; calm = calm; well = tt }) p.alone lone)
   where
     early : (n == 9999) ≡ false
     early = ne_eqb n 9999 (λ e. absurd (omega arith))
@@ -104,33 +74,31 @@ longer reads n a m b c next d end turn steady same p less calm lone =
     last : Last reads false a b end
     last = subst (λ z. Last reads z a b end) early (last_of reads n a m b end p)
 
-    end_of : EndsSame b next end None ⊎ Clash b next → Clash b next
-    end_of (inl ended) = let full : n ≡ 9999 = p.full (sym ended.end_is) in absurd (omega arith)
+    end_of : Alike b next end None → Clash b next
+    end_of (inl ended) = let full : n ≡ 9999 = p.full (sym ended.0) in absurd (omega arith)
     end_of (inr clash) = clash
 
 -- from turns that went on, to what follows
 after_turns : {C : Type 0} (a c b d : Scene C) (end also : Option Ended) → Goes a b → Goes c d
-    → EndsSame a c None None ⊎ Clash a c → (AreSame a c → Alike b d end also) → Alike b d end also
-after_turns a c b d end also g h (inl ends) then = then ends.scene
+    → Alike a c None None → (AreSame a c → Alike b d end also) → Alike b d end also
+after_turns a c b d end also g h (inl ends) then = then ends.1
 after_turns a c b d end also g h (inr clash) then = inr (clash_on a b c d g h clash)
 
 -- after k turns
-rests_same : {C : Type 0} (reads : C → ℕ → C → Type 0) (k n also_n : ℕ) (a c : Scene C) (scenes others : List (Scene C))
-    (m b l d : Scene C)
+rests_same : {C : Type 0} (reads : C → ℕ → C → Type 0) (k n also_n : ℕ) (a c : Scene C) (scenes others : List (Scene C)) (m b l d : Scene C)
     (end also : Option Ended) → IsSteady reads → AreSame a c → Rest reads n a scenes m b end → Rest reads also_n c others l d also
     → n ≡ k + length scenes → also_n ≡ k + length others → Alike b d end also
 rests_same reads k n also_n a c [] [] m b l d end also steady same p q e f =
     let count : also_n ≡ n = omega arith in
     let last : Last reads (n == 9999) c d also =
     subst (λ z. Last reads (z == 9999) c d also) count (last_of reads also_n c l d also q) in
-    alike_of b d end also
-    (lasts_same reads (n == 9999) a b c d end also steady same (last_of reads n a m b end p) last p.end_is q.end_is p.alone q.alone)
+    lasts_same reads (n == 9999) a b c d end also steady same (last_of reads n a m b end p) last p.alone q.alone
 rests_same reads k n also_n a c [] (next ∷ others) m b l d end also steady same p q e f =
-    inr (clash_on b b next d (goes_self b b refl) (next_goes reads also_n c next others l d also q)
+    inr (clash_on b b next d (goes_of (same_goes b b 0 refl)) (next_goes reads also_n c next others l d also q)
     (longer reads n a m b c next d end q.through.0 steady same p (omega (arith, q.few)) q.turns.0
     (first_alone reads also_n c next others l d also q)))
 rests_same reads k n also_n a c (next ∷ scenes) [] m b l d end also steady same p q e f =
-    inr (clash_on next b d d (next_goes reads n a next scenes m b end p) (goes_self d d refl)
+    inr (clash_on next b d d (next_goes reads n a next scenes m b end p) (goes_of (same_goes d d 0 refl))
     (clash_back d next (longer reads also_n c l d a next b also p.through.0 steady (same_back a c same) q
     (omega (arith, p.few)) p.turns.0 (first_alone reads n a next scenes m b end p))))
 rests_same reads k n also_n a c (next ∷ scenes) (other ∷ others) m b l d end also steady same p q e f =
@@ -140,15 +108,12 @@ rests_same reads k n also_n a c (next ∷ scenes) (other ∷ others) m b l d end
     (λ same_next. rests_same reads (k + 1) n also_n next other scenes others m b l d end also steady same_next
     (next_of reads n a next scenes m b end p) (next_of reads also_n c other others l d also q) (omega arith) (omega arith))
 
-rest_of : {C : Type 0} (reads : C → ℕ → C → Type 0) (a b : Scene C) (end : Option Ended)
-    (session : Session reads a b end)
+rest_of : {C : Type 0} (reads : C → ℕ → C → Type 0) (a b : Scene C) (end : Option Ended) (session : Session reads a b end)
     → IsUndisturbed reads a b end session → Rest reads (length session.scenes) a session.scenes session.before b end
 rest_of reads a b end session calm = record {
   through = session.through;
   turns = calm.turns;
-  turn = session.turn;
-  calm = calm.turn;
-  end_is = calm.end_is;
+  last = record { turn = session.turn; calm = calm.turn; well = calm.end_is };
   few = session.few;
   full = session.full;
   alone = calm.alone;

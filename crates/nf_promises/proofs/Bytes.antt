@@ -25,9 +25,11 @@ use Rattle.nf_session.specs.declared.begun.Begun.TheVariants as begun
 use Rattle.nf_session.specs.declared.ended.Ended.{Ended}
 use Rattle.nf_session.specs.declared.ended.Ended.TheVariants as ended
 use Rattle.nf_session.proofs.Inviting.{invited_bytes, invites_wrote, stops_sends}
-use Rattle.nf_promises.proofs.Alone.{only_within}
-use Rattle.nf_promises.proofs.Growing.{answers_grow, grows_none, grows_on, heads_same, invites_grow, judges_grow, turn_grows}
-use Rattle.nf_promises.proofs.Marks.{done_mark, ends_not_done, invited_mark, is_done, made_mark, one_written, responds_stored}
+use Rattle.nf_session.proofs.Calm.{goes_first, heads_go, invites_go, judges_go}
+use Rattle.nf_session.proofs.Causes.{answers_go, turn_goes}
+use Rattle.nf_session.proofs.Moving.{same_moves}
+use Rattle.nf_promises.proofs.Growing.{only_within}
+use Rattle.nf_promises.proofs.Marks.{Other, done_mark, ends_other, invited_mark, other_not_done, is_done, made_mark, one_written, responds_stored}
 use Rattle.nf_promises.proofs.Puts.{BeginsPut, put_begun}
 use Rattle.nf_promises.proofs.Returning.{appends_by, cut_not_written, put_then_get, takes_output}
 use Rattle.nf_promises.proofs.Touches.{closes_only, input_of, judges_only, output_of, passes_only, stored_only}
@@ -45,20 +47,16 @@ next_is a m h request left result prints input heads of =
 
 none_is_no_head : {C : Type 0} (a m : Scene C) (h : RequestHead) (request : Request) (left : List ℕ)
     → Prints h request → a.input ≡ Some (print_request h ++ left) → Heads a m (Ok None) → ⊥
-none_is_no_head a m h request left prints input heads = never (head_of h) (next_is a m h request left (Ok None) prints input heads tt).0
-  where
-    never : (head : Head) → ◌≡◌ {A = Result (Option Head) WireFault} (Ok None) (Ok (Some head)) → ⊥
-    never head is = cc
+none_is_no_head a m h request left prints input heads =
+    let never : ◌≡◌ {A = Result (Option Head) WireFault} (Ok None) (Ok (Some (head_of h))) =
+    (next_is a m h request left (Ok None) prints input heads tt).0 in cc
 
 pub head_is : {C : Type 0} (a m : Scene C) (h : RequestHead) (request : Request) (left : List ℕ) (head : Head)
-    → Prints h request → a.input ≡ Some (print_request h ++ left) → Heads a m (Ok (Some head))
-    → (head ≡ head_of h) × (m.input ≡ Some left)
+    → Prints h request → a.input ≡ Some (print_request h ++ left) → Heads a m (Ok (Some head)) → (head ≡ head_of h) × (m.input ≡ Some left)
 head_is a m h request left head prints input heads =
     let next = next_is a m h request left (Ok (Some head)) prints input heads tt in
-    (same (head_of h) next.0, next.1)
-  where
-    same : (other : Head) → ◌≡◌ {A = Result (Option Head) WireFault} (Ok (Some head)) (Ok (Some other)) → head ≡ other
-    same other is = cc
+    let is : ◌≡◌ {A = Result (Option Head) WireFault} (Ok (Some head)) (Ok (Some (head_of h))) = next.0 in
+    let same : head ≡ head_of h = cc in (same, next.1)
 
 -- ---- the turn of the PUT
 
@@ -170,8 +168,9 @@ cuts_not_done : {C : Type 0} (reads : C → ℕ → C → Type 0) (head : Head) 
 cuts_not_done {C} reads head begun n b end w cuts told wrote done =
     let front : cuts.cut.output ≡ n.output = ap (λ (y : Scene C). y.output) cuts.takes.only in
     let closed = output_of cuts.sent b (closes_only reads ending.Gone (is_granted begun) cuts.sent b cuts.closes) in
-    ends_not_done cuts.fault cuts.cut cuts.sent w cuts.by cuts.responds (subst (λ (o : Option (List ℕ)). IsSome o) (sym front) told)
-    (appends_by cuts.cut.output cuts.sent.output n.output b.output w (sym front) closed wrote) done
+    other_not_done n.output b.output w
+    (subst (λ (o : Option (List ℕ)). Other o b.output) front (subst (λ (o : Option (List ℕ)). Other cuts.cut.output o) (sym closed)
+    (ends_other cuts.fault cuts.cut cuts.sent cuts.by cuts.responds))) told wrote done
 
 -- one that couldn't be told wrote less than the invitation
 stopped_waits : {C : Type 0} (head : Head) (begun : Begun) (a b : Scene C) (by : Ended) → Invites {T = Unit {0}} head begun a b (Err by)
@@ -207,14 +206,13 @@ stops_not_done {C} reads head begun k m b end answer judges stops told wrote =
 turn_puts : {C : Type 0} (reads : C → ℕ → C → Type 0) (last : Bool) (caller : Caller) (spot : Spot) (h : RequestHead) (body left : List ℕ)
     (a b : Scene C) (end : Option Ended) (answer : List ℕ) → Prints h (put_of caller spot (length body))
     → a.input ≡ Some (print_request h ++ (body ++ left)) → IsSome a.output → Appends a.output b.output (invitation (head_of h) ++ answer)
-    → is_done answer ≡ true
-    → OnlyOwn a.book b.book → Turn reads last a b end → PutsAndLeaves reads last caller spot body left a b end
+    → is_done answer ≡ true → OnlyOwn a.book b.book → Turn reads last a b end → PutsAndLeaves reads last caller spot body left a b end
 turn_puts reads last caller spot h body left a b end answer prints input told wrote done only (inl (heads, is)) =
     absurd (none_is_no_head a b h (put_of caller spot (length body)) (body ++ left) prints input heads)
 turn_puts {C} reads last caller spot h body left a b end answer prints input told wrote done only (inr (inl (m, why, by, heads, ends, is))) =
     let front : m.output ≡ a.output = ap (λ (y : Scene C). y.output) heads.only in
-    absurd (ends_not_done why m b (invitation (head_of h) ++ answer) by ends (subst (λ (o : Option (List ℕ)). IsSome o) (sym front) told)
-    (appends_by m.output b.output a.output b.output (invitation (head_of h) ++ answer) (sym front) refl wrote) (told_done (head_of h) answer done))
+    absurd (other_not_done a.output b.output (invitation (head_of h) ++ answer)
+    (subst (λ (o : Option (List ℕ)). Other o b.output) front (ends_other why m b by ends)) told wrote (told_done (head_of h) answer done))
 turn_puts {C} reads last caller spot h body left a b end answer prints input told wrote done only (inr (inr (k, head, heads, (m, begun, judges, meets)))) =
     here meets
   where
@@ -231,15 +229,13 @@ turn_puts {C} reads last caller spot h body left a b end answer prints input tol
     written = appends_by k.output b.output a.output b.output (invitation head ++ answer) (sym front) refl
         (subst (λ (z : Head). Appends a.output b.output (invitation z ++ answer)) (sym at.0) wrote)
 
-    here : StopsShort reads head begun m b end
-        ⊎ ((n : Scene C) × Invites {T = Unit {0}} head begun m n (Ok tt)
+    here : StopsShort reads head begun m b end ⊎ ((n : Scene C) × Invites {T = Unit {0}} head begun m n (Ok tt)
         × (Answers reads last head begun n b end ⊎ CutsShort reads head begun n b end))
         → PutsAndLeaves reads last caller spot body left a b end
     here (inl stops) = absurd (stops_not_done reads head begun k m b end answer judges stops tells written)
     here (inr (n, invites, inl answers)) =
-        let first = grows_none a.book k.book (heads_same a k (Ok (Some head)) heads) in
-        let one : OnlyOwn k.book m.book = only_within a.book k.book m.book b.book 0 1 2 first (judges_grow reads head k m begun judges)
-        (grows_on m.book n.book b.book 0 2 2 (omega arith) (invites_grow head begun m n invites) (answers_grow reads last head begun n b end answers)) only in
+        let one : OnlyOwn k.book m.book = only_within (heads_go a k 0 (Some head) heads).book (judges_go reads head k m begun judges).book
+        (goes_first (invites_go head begun m n invites) (answers_go reads last head begun n b end answers)).book only in
         answers_put reads last caller spot body left head begun a k m n b end answer heads (ap request_of at.0 ∙ prints.asks) at.1 judges invites
         answers tells written done one
     here (inr (n, invites, inr cuts)) =
@@ -273,9 +269,8 @@ put_then_get_of_bytes {C} reads caller spot put get body rest a b c first last e
     let wrote = says_done (head_of put) a b says in
     let parts : print_request put ++ body ++ print_request get ++ rest ≡ print_request put ++ (body ++ (print_request get ++ rest)) =
     append_assoc (print_request put ++ body) (print_request get) rest ∙ append_assoc (print_request put) body (print_request get ++ rest) in
-    let none = grows_none a.book a.book refl in
-    let alone : OnlyOwn a.book b.book = only_within a.book a.book b.book c.book 0 3 3 none (turn_grows reads first a b end turn)
-    (turn_grows reads last b c done later) only in
+    let alone : OnlyOwn a.book b.book = only_within (same_moves a.book a.book 0 refl) (turn_goes reads first a b end turn).book
+    (turn_goes reads last b c done later).book only in
     let one = turn_puts reads first caller spot put body (print_request get ++ rest) a b end wrote.0 puts (input ∙ ap (λ (bytes : List ℕ). Some bytes) parts) told wrote.1 wrote.2 alone turn in
     let two = turn_gets reads last caller spot get rest b c done gets one.1 written later in
     subst (λ (head : Head). ShowsFile (last || closes_session head) (waits head) body b c) two.1

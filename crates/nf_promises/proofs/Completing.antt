@@ -1,12 +1,12 @@
 -- What a message with a request gets while nothing fails.
-use Rattle.std.proofs.Common.{ℕ, ◌≡◌, ◌⊎◌, ◌||◌, Bool, false, List, [], ◌∷◌, ◌++◌, length, Option, Some, Ok, Err, is_some, inl, inr, refl, sym, ap, subst, ◌∙◌}
+use Rattle.std.proofs.Common.{ℕ, ◌≡◌, ◌⊎◌, ◌||◌, Bool, false, List, [], ◌∷◌, ◌++◌, length, Option, Some, Ok, Err, is_some, inl, inr, refl, sym, ap, subst, ◌∙◌, true, append_assoc}
 use Rattle.std.proofs.KnownBytes.{Appends-trans}
 use Rattle.std.specs.List.{concat}
 use Rattle.std.specs.Io.KnownBytes.{Appends}
 use Rattle.nf_base.specs.Content.{size_of}
 use Rattle.nf_base.specs.declared.content.Piece.{Piece}
 use Rattle.nf_dav.specs.Asked.{request_of}
-use Rattle.nf_dav.specs.Reply.{file_head, refusal_reply}
+use Rattle.nf_dav.specs.Reply.{file_head, refusal_reply, done_reply, listing_reply, made_reply}
 use Rattle.nf_dav.specs.declared.replies.Manner.{Manner}
 use Rattle.nf_defs.specs.declared.Seeker.{Seeker}
 use Rattle.nf_http.specs.Bodies.{TakesBody}
@@ -18,7 +18,7 @@ use Rattle.nf_words.specs.declared.answer.LockKey.{LockKey}
 use Rattle.nf_words.specs.declared.answer.Reply.TheVariants as reply
 use Rattle.nf_words.specs.declared.history.Event.TheVariants.{Begin}
 use Rattle.nf_words.specs.declared.request.Request.{Request}
-use Rattle.nf_session.specs.Book.{Answer, Begins, Book, IsOfBody, Lasts, denial_of_piece, event_of_body}
+use Rattle.nf_session.specs.Book.{Answer, Begins, Book, IsOfBody, denial_of_piece, event_of_body, Enters, Strikes, is_unmade, state_after, Passes as Unchanged}
 use Rattle.nf_session.specs.Files.{AreGiven}
 use Rattle.nf_session.specs.Steps.{Invites, IsResponse, Judges, Passes, Scene, Starts, StartsFile, StoresBody, no_words, taken_length}
 use Rattle.nf_session.specs.Turn.{Answers, Meets, Way, Writes, end_by, end_of, end_of_close, how_of, manner_of, stays_granted, way_of}
@@ -30,25 +30,119 @@ use Rattle.nf_session.specs.declared.ended.Ended.{Ended}
 use Rattle.nf_session.specs.declared.ended.Ended.TheVariants as ended
 use Rattle.nf_session.specs.declared.response.Response.{Response}
 use Rattle.nf_session.specs.declared.response.Response.TheVariants as response
-use Rattle.nf_session.proofs.Calm.{Calm, bodies_calm, calm_then, closes_calm, heads_calm, invites_calm, judges_calm, passes_calm, writes_calm}
+use Rattle.nf_session.proofs.Calm.{Calm, bodies_go, calm_of, calm_then, closes_go, goes_then, heads_go, invites_go, judges_go, passes_go, writes_go, same_goes}
 use Rattle.nf_session.proofs.Inviting.{invited_bytes, invites_wrote}
-use Rattle.nf_session.proofs.Lasting.{piece_lasts}
+use Rattle.nf_session.proofs.Sendings.{given_still}
 use Rattle.nf_promises.proofs.Full.{answers_full}
-use Rattle.nf_promises.proofs.Gets.{starts_file, starts_other}
-use Rattle.nf_promises.proofs.Placing.{begin_known, step_known}
+use Rattle.nf_promises.proofs.Gets.{starts_file, unmade_is}
 use Rattle.nf_promises.proofs.Returning.{appends_by, takes_output}
-use Rattle.nf_promises.proofs.Touches.{closes_only, input_of, judges_only, output_of, passes_only}
-use Rattle.nf_promises.proofs.Unfailing.{piece_wanting, responds_whole, short_whole, stop_whole}
-use Rattle.nf_promises.proofs.Wording.{writes_input, Fronts, close_is, refusal_written, word_written}
+use Rattle.nf_promises.proofs.Touches.{closes_only, input_of, judges_only, output_of, passes_only, starts_other}
+use Rattle.nf_promises.proofs.Unfailing.{piece_wanting, responds_whole, short_whole, stop_whole, not_struck}
 use Rattle.nf_promises.specs.Complete.{Completes, IsAnswerOf, IsMet, IsUnrisen, IsWanting, NothingFails, Says, SaysEnd, SaysFile, SaysStored, StaysWhole}
 use Rattle.nf_promises.specs.Kept.{invitation}
+use Rattle.nf_words.specs.declared.answer.Reply.{Reply}
+use Rattle.std.specs.Prelude.{MatchBool}
+use Rattle.nf_words.specs.History.{answer_at, replay}
+use Rattle.nf_words.specs.State.{State, opened}
+use Rattle.nf_words.specs.Step.{answer_to}
+use Rattle.nf_words.specs.declared.history.Entry.{Entry}
+use Rattle.nf_words.specs.declared.history.Event.{Event}
+use Rattle.nf_words.specs.declared.history.Mark.{Mark}
+use Rattle.nf_words.specs.declared.history.Mark.TheVariants as mark
+use Rattle.nf_session.proofs.Moving.{Onward}
 
--- ---- pieces
+answer_known : (a x y b : Book) (now : ℕ) (event : Event) (answer : Answer) → Onward a x → (enters : Enters x y now event answer) → Onward y b
+    → answer ≡ answer_to (state_after x enters.others) enters.entry.seat enters.entry.moment enters.entry.event → IsAnswerOf a b event answer
+answer_known a x y b now event answer before enters behind is =
+    let e = enters.entry in
+    let more = behind.known.0 in
+    let same : x.known ++ enters.others ≡ a.known ++ (before.known.0 ++ enters.others) =
+    ap (λ (z : List Entry). z ++ enters.others) before.known.1 ∙ append_assoc a.known before.known.0 enters.others in
+    let state : state_after x enters.others ≡ state_after a (before.known.0 ++ enters.others) =
+    λ i. replay (opened (before.lasts.opening i)) (same i) in
+    record {
+      others = before.known.0 ++ enters.others;
+      entry = e;
+      more = more;
+      known = behind.known.1 ∙ ap (λ (z : List Entry). z ++ more) enters.known ∙ append_assoc (x.known ++ enters.others) (e ∷ []) more
+          ∙ ap (λ (z : List Entry). z ++ e ∷ more) same;
+      seat_is = enters.seat_is ∙ before.lasts.seat;
+      event_is = enters.event_is;
+      answer_is = is ∙ ap (λ (s : State). answer_to s e.seat e.moment e.event) state;
+    }
 
-given_later : (a b : Book) (content : List Piece) (given : List (List ℕ)) → Lasts a b → AreGiven a content given → AreGiven b content given
-given_later a b content [] lasts are = tt
-given_later a b [] (bytes ∷ given) lasts never = never
-given_later a b (piece ∷ content) (bytes ∷ given) lasts (is, are) = (piece_lasts a b piece bytes lasts is, given_later a b content given lasts are)
+module _ {C : Type 0} (a b : Scene C) (nothing : NothingFails a b)
+    (whole : StaysWhole a.book b.book) where
+  pub step_known : (x y : Scene C) (now : ℕ) (event : Event) (answer : Answer) → Calm a x → Calm y b → Enters x.book y.book now event answer
+      → (answer ≡ Err denial.Memory) ⊎ IsAnswerOf a.book b.book event answer
+  step_known x y now event answer before behind enters = here enters.entry.mark enters.strikes enters.answer_is
+    where
+      here : (m : Mark) → Strikes m x.book.strikes y.book.strikes → answer ≡ answer_at (state_after x.book enters.others) enters.entry m
+          → (answer ≡ Err denial.Memory) ⊎ IsAnswerOf a.book b.book event answer
+      here mark.Answered strikes is = inr (answer_known a.book x.book y.book b.book now event answer before.onward enters behind.onward is)
+      here mark.Store struck is = absurd (not_struck a b nothing whole x y before behind struck)
+      here mark.Memory strikes is = inl is
+
+  pub begin_known : (y : Scene C) (now : ℕ) (r : Request) (answer : Answer) → Calm y b → Begins a.book y.book now no_words r answer
+      → (answer ≡ Err denial.RunFull) ⊎ (answer ≡ Err denial.Memory) ⊎ IsAnswerOf a.book b.book (Begin no_words r) answer
+  begin_known y now r answer behind begins = here (is_unmade answer) refl begins.entry
+    where
+      made : (answer ≡ Err denial.RunFull) ⊎ (answer ≡ Err denial.Memory)
+          → (answer ≡ Err denial.RunFull) ⊎ (answer ≡ Err denial.Memory) ⊎ IsAnswerOf a.book b.book (Begin no_words r) answer
+      made (inl full) = inl full
+      made (inr memory) = inr (inl memory)
+
+      here : (unmade : Bool) → is_unmade answer ≡ unmade
+          → MatchBool unmade (Unchanged a.book y.book) (Enters a.book y.book now (Begin no_words r) answer)
+          → (answer ≡ Err denial.RunFull) ⊎ (answer ≡ Err denial.Memory) ⊎ IsAnswerOf a.book b.book (Begin no_words r) answer
+      here true is passes = made (unmade_is answer is)
+      here false is enters = inr (step_known a y now (Begin no_words r) answer (calm_of (same_goes a a 0 refl)) behind enters)
+
+pub close_is : (last closes : Bool) → (last || is_some (end_of_close (closes || false))) ≡ (last || closes)
+close_is true closes = refl
+close_is false true = refl
+close_is false false = refl
+
+-- what is written of an answer that grants nothing, behind these bytes
+abbrev pub SaysWord : {C : Type 0} → List ℕ → Bool → Reply → Scene C → Scene C → Type 0
+SaysWord front close reply.Made a b = Appends a.output b.output (front ++ made_reply close)
+SaysWord front close reply.Done a b = Appends a.output b.output (front ++ done_reply close)
+SaysWord front close (reply.Listing lines) a b = Appends a.output b.output (front ++ listing_reply close lines)
+SaysWord front close reply.Closed a b = ⊥
+SaysWord front close (reply.Granted goal) a b = ⊥
+
+-- what was written between two scenes, behind these bytes, is what was between two others
+abbrev pub Fronts : {C : Type 0} → List ℕ → Scene C → Scene C → Scene C → Scene C → Type 0
+Fronts front x y a b = (bytes : List ℕ) → Appends x.output y.output bytes → Appends a.output b.output (front ++ bytes)
+
+pub word_written : {C : Type 0} (front : List ℕ) (close last : Bool) (way : Way) (answered : Reply) (v : Response) (a x y b : Scene C)
+    → (last || is_some (end_of_close way.closes)) ≡ close → Fronts front x y a b → IsResponse (Ok answered) v
+    → Writes {T = Unit {0}} (manner_of last way v) v x y (Ok tt) → SaysWord front close answered a b
+word_written {C} front close last way answered v a x y b closes fronts is writes = here answered is
+  where
+    so : (w : Response) → v ≡ w → Writes {T = Unit {0}} (manner_of last way w) w x y (Ok tt)
+    so w is = subst (λ (w : Response). Writes {T = Unit {0}} (manner_of last way w) w x y (Ok tt)) is writes
+
+    here : (answered : Reply) → IsResponse (Ok answered) v → SaysWord front close answered a b
+    here reply.Made is = subst (λ (c : Bool). Appends a.output b.output (front ++ made_reply c)) closes (fronts _ (so response.Made is).bytes_are)
+    here reply.Done is = subst (λ (c : Bool). Appends a.output b.output (front ++ done_reply c)) closes (fronts _ (so response.Done is).bytes_are)
+    here (reply.Listing lines) is =
+        subst (λ (c : Bool). Appends a.output b.output (front ++ listing_reply c lines)) closes (fronts _ (so (response.Listing lines) is).bytes_are)
+    here reply.Closed never = absurd never
+    here (reply.Granted goal) never = absurd never
+
+pub refusal_written : {C : Type 0} (front : List ℕ) (last : Bool) (way : Way) (refusal : Denial) (v : Response) (a x y b : Scene C)
+    → Fronts front x y a b → v ≡ response.Denied refusal → Writes {T = Unit {0}} (manner_of last way v) v x y (Ok tt)
+    → (manner : Manner) × Appends a.output b.output (front ++ refusal_reply manner refusal)
+refusal_written front last way refusal v a x y b fronts is writes = (
+  manner_of last way (response.Denied refusal),
+  fronts _ (subst (λ (w : Response). Writes {T = Unit {0}} (manner_of last way w) w x y (Ok tt)) is writes).bytes_are,
+)
+
+-- writing takes nothing from the input
+pub writes_input : {C : Type 0} (manner : Manner) (v : Response) (a b : Scene C) → Writes {T = Unit {0}} manner v a b (Ok tt) → b.input ≡ a.input
+writes_input {C} manner (response.File content first) a b (given, writes, all, unstruck) = ap (λ (x : Scene C). x.input) writes.pieces.only
+writes_input {C} manner other a b wrote = ap (λ (x : Scene C). x.input) wrote.only
 
 module _ {C : Type 0} (reads : C → ℕ → C → Type 0) (last : Bool) (head : Head) (a b : Scene C) (nothing : NothingFails a b)
     (whole : StaysWhole a.book b.book) where
@@ -62,7 +156,7 @@ module _ {C : Type 0} (reads : C → ℕ → C → Type 0) (last : Bool) (head :
       inr (record {
         given = given;
         are_given =
-            given_later s.book b.book content given behind.onward.lasts
+            given_still s.book b.book content given behind.onward.lasts
             (subst (λ (c : List Piece). AreGiven s.book c given) is writes.pieces.are_given);
         all = all ∙ ap (λ (c : List Piece). length c) is;
         bytes =
@@ -83,7 +177,7 @@ module _ {C : Type 0} (reads : C → ℕ → C → Type 0) (last : Bool) (head :
       lost : (content : List Piece) → Starts x.book k.book content (response.Lost why) → why ≡ fault.Memory
       lost [] never = absurd never
       lost (piece ∷ pieces) (waits, fails) =
-          piece_wanting a b nothing whole x k piece why before (calm_then k s b (writes_calm _ (response.Lost why) k s wrote) behind) waits.lasts fails
+          piece_wanting a b nothing whole x k piece why before (calm_then k s b (calm_of (writes_go _ (response.Lost why) k s wrote)) behind) waits.lasts fails
   file_said content other end x k s before behind fronts starts writes = absurd (starts_other x.book k.book content other starts.starts)
 
   body_said : (who : Seeker) (key : LockKey) (size : ℕ) (body : List ℕ) (v : Response) (end : Option Ended) (x k s : Scene C)
@@ -97,12 +191,12 @@ module _ {C : Type 0} (reads : C → ℕ → C → Type 0) (last : Bool) (head :
       way = way_of head (begun.Asked (Ok (reply.Granted (goal.Store who key size))))
 
       says : (answer : Answer) → IsOfBody answer → IsResponse answer v → SaysEnd head (last || closes_session head) answer a b
-      says (Ok reply.Made) of is =
-          word_written (invitation head) (last || closes_session head) last way reply.Made v a k s b (close_is last (closes_session head)) fronts is writes
-      says (Ok reply.Done) of is =
-          word_written (invitation head) (last || closes_session head) last way reply.Done v a k s b (close_is last (closes_session head)) fronts is writes
-      says (Ok other) never is = absurd never
       says (Err refusal) of is = refusal_written (invitation head) last way refusal v a k s b fronts is writes
+      says (Ok reply.Closed) never is = absurd never
+      says (Ok (reply.Granted goal)) never is = absurd never
+      says (Ok (reply.Listing lines)) never is = absurd never
+      says (Ok word) of is =
+          word_written (invitation head) (last || closes_session head) last way word v a k s b (close_is last (closes_session head)) fronts is writes
 
       here : (answer ≡ Err denial.Memory) ⊎ IsAnswerOf a.book b.book (event_of_body body) answer
           → IsWanting head a b end ⊎ SaysStored head (last || closes_session head) size a b
@@ -118,15 +212,6 @@ module _ {C : Type 0} (reads : C → ℕ → C → Type 0) (last : Bool) (head :
       → Fronts (invited_bytes head (begun.Asked answer)) k s a b → TakesBody a.input b.input (taken_length head (begun.Asked answer)) body
       → Passes reads body x k (begun.Asked answer) v → Writes {T = Unit {0}} (manner_of last (way_of head (begun.Asked answer)) v) v k s (Ok tt)
       → IsWanting head a b end ⊎ Says head (last || closes_session head) answer a b
-  answer_said (Ok reply.Made) v end x k s body before taken sent fronts takes (is, same) writes =
-      inr (word_written [] (last || closes_session head) last (way_of head (begun.Asked (Ok reply.Made))) reply.Made v a k s b
-      (close_is last (closes_session head)) fronts is writes)
-  answer_said (Ok reply.Done) v end x k s body before taken sent fronts takes (is, same) writes =
-      inr (word_written [] (last || closes_session head) last (way_of head (begun.Asked (Ok reply.Done))) reply.Done v a k s b
-      (close_is last (closes_session head)) fronts is writes)
-  answer_said (Ok (reply.Listing lines)) v end x k s body before taken sent fronts takes (is, same) writes =
-      inr (word_written [] (last || closes_session head) last (way_of head (begun.Asked (Ok (reply.Listing lines)))) (reply.Listing lines) v a k s b
-      (close_is last (closes_session head)) fronts is writes)
   answer_said (Ok reply.Closed) v end x k s body before taken sent fronts takes (never, same) writes = absurd never
   answer_said (Ok (reply.Granted (goal.Serve content))) v end x k s body before taken sent fronts takes starts writes =
       file_said content v end x k s before sent fronts starts writes
@@ -134,6 +219,9 @@ module _ {C : Type 0} (reads : C → ℕ → C → Type 0) (last : Bool) (head :
       body_said who key size body v end x k s before taken fronts takes stores writes
   answer_said (Err refusal) v end x k s body before taken sent fronts takes (is, same) writes =
       inr (refusal_written [] last (way_of head (begun.Asked (Err refusal))) refusal v a k s b fronts is writes)
+  answer_said (Ok word) v end x k s body before taken sent fronts takes passes writes =
+      inr (word_written [] (last || closes_session head) last (way_of head (begun.Asked (Ok word))) word v a k s b
+      (close_is last (closes_session head)) fronts passes.0 writes)
 
   -- it found the run full, or was met
   begun_met : (r : Request) (u : Begun) (v : Response) (end : Option Ended) (n x k s : Scene C) (body : List ℕ) → request_of head ≡ Ok r
@@ -184,16 +272,16 @@ module _ {C : Type 0} (reads : C → ℕ → C → Type 0) (last : Bool) (head :
       s = answers.sent
 
       told : Calm n x
-      told = calm_then n t x (invites_calm head u n t invites) (bodies_calm t x (taken_length head u) answers.takes.1 answers.takes.2)
+      told = calm_of (goes_then (invites_go head u n t invites) (bodies_go t x (taken_length head u) answers.takes.1 answers.takes.2))
 
       before : Calm a x
-      before = calm_then a n x (judges_calm reads head a n u judges) told
+      before = calm_then a n x (calm_of (judges_go reads head a n u judges)) told
 
       passed : Calm x k
-      passed = passes_calm reads answers.takes.1 x k u v answers.takes.3
+      passed = calm_of (passes_go reads answers.takes.1 x k u v answers.takes.3)
 
       sent : Calm s b
-      sent = closes_calm reads (how_of v answers.result) (stays_granted v) s b answers.closes
+      sent = calm_of (closes_go reads (how_of v answers.result) (stays_granted v) s b answers.closes)
 
       fronts : Fronts (invited_bytes head u) k s a b
       fronts bytes is =
@@ -225,17 +313,17 @@ module _ {C : Type 0} (reads : C → ℕ → C → Type 0) (last : Bool) (head :
           → IsMet last head r a b end
       here (inl memory) = inl (inl (answers.ends ∙ memory))
       here (inr (is, writes)) =
-          let taken = calm_then k s b (writes_calm (manner_of last (way_of head u) v) v k s writes) sent in
+          let taken = calm_then k s b (calm_of (writes_go (manner_of last (way_of head u) v) v k s writes)) sent in
           met (answers.ends ∙ is) (begun_met r u v end n x k s answers.takes.1 asked judges before (calm_then n x b told (calm_then x k b passed taken)) taken sent
           fronts (takes (writes_input (manner_of last (way_of head u) v) v k s writes)) answers.takes.3 writes)
 
   meets_met : (r : Request) (end : Option Ended) → request_of head ≡ Ok r → Meets reads last head a b end → IsMet last head r a b end
   meets_met r end asked (n, u, judges, inl stops) =
-      inl (inl (stop_whole a b nothing whole reads head u n end (judges_calm reads head a n u judges) stops))
+      inl (inl (stop_whole a b nothing whole reads head u n end (calm_of (judges_go reads head a n u judges)) stops))
   meets_met r end asked (n, u, judges, inr (t, invites, inl answers)) = answers_met r u n t end asked judges invites answers
   meets_met r end asked (n, u, judges, inr (t, invites, inr cuts)) =
       here (short_whole a b nothing whole reads head u t end
-      (calm_then a n t (judges_calm reads head a n u judges) (invites_calm head u n t invites)) cuts)
+      (calm_of (goes_then (judges_go reads head a n u judges) (invites_go head u n t invites))) cuts)
     where
       here : (end ≡ Some ended.Memory) ⊎ (end ≡ Some ended.BadMessage) → IsMet last head r a b end
       here (inl memory) = inl (inl memory)
@@ -244,7 +332,7 @@ module _ {C : Type 0} (reads : C → ℕ → C → Type 0) (last : Bool) (head :
 pub completes : {C : Type 0} (reads : C → ℕ → C → Type 0) → Completes reads
 completes {C} reads last a m b head r end heads asked meets nothing whole =
     let book : m.book ≡ a.book = ap (λ (x : Scene C). x.book) heads.only in
-    let calm = heads_calm a m (Some head) heads in
+    let calm = calm_of (heads_go a m 0 (Some head) heads) in
     meets_met reads last head m b
     (record {
       store = subst (λ (x : Book). IsUnrisen x.strikes b.book.strikes) (sym book) nothing.store;

@@ -1,8 +1,7 @@
 -- A run isn't full for a session that began it.
-use Rattle.std.proofs.Common.{ℕ, suc, ◌+◌, ◌*◌, ◌≡◌, ◌<◌, ◌≤◌, ◌==◌, Bool, true, false, List, [], ◌∷◌, length, Option, Some, Result, Ok, Err, inl, inr, refl, ap, subst, sym, ◌∙◌, arith}
+use Rattle.std.proofs.Common.{ℕ, ◌+◌, ◌≡◌, ◌<◌, ◌≤◌, ◌==◌, Bool, true, false, List, [], ◌∷◌, length, Option, Some, Result, Ok, Err, inl, inr, refl, ap, subst, sym, ◌∙◌, arith}
 use Rattle.nf_base.specs.declared.content.Piece.{Piece}
-use Rattle.nf_dav.specs.Reply.{continue_reply, refusal_reply}
-use Rattle.nf_dav.specs.declared.replies.Manner.{Manner}
+use Rattle.nf_dav.specs.Reply.{continue_reply}
 use Rattle.nf_http.specs.Head.{Head}
 use Rattle.nf_http.specs.declared.wire.WireFault.{WireFault}
 use Rattle.nf_http.specs.declared.wire.WireFault.TheVariants as wire
@@ -13,9 +12,9 @@ use Rattle.nf_words.specs.declared.answer.Denial.TheVariants as denial
 use Rattle.nf_words.specs.declared.answer.Goal.TheVariants as goal
 use Rattle.nf_words.specs.declared.answer.Reply.TheVariants as reply
 use Rattle.nf_session.specs.Book.{Answer, Book, entries_wanted, state_after}
-use Rattle.nf_session.specs.Session.{Session, Through}
-use Rattle.nf_session.specs.Steps.{Closes, EndsBy, Invites, IsResponse, Judges, Passes, Scene, Sends, Starts, TakesIn}
-use Rattle.nf_session.specs.Turn.{Answers, CutsShort, Responds, StopsShort, Turn, Way, Writes, end_by, end_of, end_of_close, end_of_denial, how_of, manner_of, stays_granted, way_of}
+use Rattle.nf_session.specs.Session.{Session}
+use Rattle.nf_session.specs.Steps.{Closes, EndsBy, Invites, IsResponse, Judges, Passes, Scene, Starts, TakesIn}
+use Rattle.nf_session.specs.Turn.{Answers, CutsShort, Responds, StopsShort, Turn, Way, end_by, end_of, end_of_close, end_of_denial, how_of, stays_granted, way_of}
 use Rattle.nf_session.specs.declared.begun.Begun.{Begun}
 use Rattle.nf_session.specs.declared.begun.Begun.TheVariants as begun
 use Rattle.nf_session.specs.declared.ended.Ended.{Ended}
@@ -23,7 +22,8 @@ use Rattle.nf_session.specs.declared.ended.Ended.TheVariants as ended
 use Rattle.nf_session.specs.declared.response.Response.{Response}
 use Rattle.nf_session.specs.declared.response.Response.TheVariants as response
 use Rattle.nf_session.proofs.Inviting.{invites_wrote, stops_sends}
-use Rattle.nf_promises.proofs.Growing.{turn_grows, Grew, grew_none, grows_on}
+use Rattle.nf_session.proofs.Turns.{sends_failed}
+use Rattle.nf_session.proofs.Causes.{is_whole, session_goes, whole_by}
 use Rattle.nf_promises.proofs.Refusals.{end_not_full, request_not_full}
 use Rattle.nf_promises.proofs.Tickets.{few_tickets}
 use Rattle.nf_promises.proofs.Touches.{book_of, says_only}
@@ -42,28 +42,13 @@ denial_full closes other is = absurd (close_not_full closes is)
 
 response_full : (closes : Bool) (v : Response) → end_of closes v ≡ Some ended.RunFull → v ≡ response.Denied denial.RunFull
 response_full closes (response.Denied refusal) is = ap response.Denied (denial_full closes refusal is)
-response_full closes (response.Lost fault) is = absurd (close_not_full closes is)
-response_full closes (response.File content first) is = absurd (close_not_full closes is)
-response_full closes response.Made is = absurd (close_not_full closes is)
-response_full closes response.Done is = absurd (close_not_full closes is)
-response_full closes (response.Listing lines) is = absurd (close_not_full closes is)
+response_full closes other is = absurd (close_not_full closes is)
 
--- no writing does
-writes_not_full : {C : Type 0} (manner : Manner) (v : Response) (a b : Scene C) → Writes {T = Unit {0}} manner v a b (Err ended.RunFull) → ⊥
-writes_not_full manner (response.Denied refusal) a b never = never
-writes_not_full manner (response.Lost fault) a b never = never
-writes_not_full manner (response.File content first) a b never = never
-writes_not_full manner response.Made a b never = never
-writes_not_full manner response.Done a b never = never
-writes_not_full manner (response.Listing lines) a b never = never
-
+-- and no writing does
 responds_full : {C : Type 0} (last : Bool) (way : Way) (v : Response) (a b : Scene C) (result : Result (Option Ended) Ended)
     → Responds last way v a b result → end_by result ≡ Some ended.RunFull → v ≡ response.Denied denial.RunFull
-responds_full last way v a b (Ok end) (ends, writes) is = response_full way.closes v (sym ends ∙ is)
-responds_full last way v a b (Err by) writes is =
-    let same : by ≡ ended.RunFull = cc in
-    absurd (writes_not_full (manner_of last way v) v a b
-    (subst (λ (e : Ended). Writes {T = Unit {0}} (manner_of last way v) v a b (Err e)) same writes))
+responds_full last way v a b result responds is =
+    response_full way.closes v (sym (whole_by last way v a b result responds (ap is_whole is)).0 ∙ is)
 
 -- nor do bytes that are no message
 ends_not_full : {C : Type 0} (fault : WireFault) (a b : Scene C) → EndsBy fault a b ended.RunFull → ⊥
@@ -78,12 +63,10 @@ starts_not_full a b [] never = never
 starts_not_full a b (piece ∷ pieces) never = never
 
 answer_full : (answer : Answer) → IsResponse answer (response.Denied denial.RunFull) → answer ≡ Err denial.RunFull
-answer_full (Ok reply.Made) is = absurd (cc)
-answer_full (Ok reply.Done) is = absurd (cc)
-answer_full (Ok (reply.Listing lines)) is = absurd (cc)
+answer_full (Err refusal) is = cc
 answer_full (Ok reply.Closed) never = absurd never
 answer_full (Ok (reply.Granted goal)) never = absurd never
-answer_full (Err refusal) is = cc
+answer_full other is = absurd (cc)
 
 -- it was refused before its body, or it was asked, and answered so
 abbrev IsFound : Begun → Type 0
@@ -98,11 +81,7 @@ passes_full reads body a b (begun.Asked (Ok (reply.Granted (goal.Serve content))
 passes_full reads body a b (begun.Asked (Ok (reply.Granted (goal.Store who key length)))) (now, answer, read, ends, is, only) =
     let enters = ends.enters in
     absurd (end_not_full (state_after a.book enters.others) enters.entry _ enters.event_is (sym enters.answer_is ∙ answer_full answer is))
-passes_full reads body a b (begun.Asked (Ok reply.Made)) (is, same) = answer_full (Ok reply.Made) is
-passes_full reads body a b (begun.Asked (Ok reply.Done)) (is, same) = answer_full (Ok reply.Done) is
-passes_full reads body a b (begun.Asked (Ok (reply.Listing lines))) (is, same) = answer_full (Ok (reply.Listing lines)) is
-passes_full reads body a b (begun.Asked (Ok reply.Closed)) (is, same) = answer_full (Ok reply.Closed) is
-passes_full reads body a b (begun.Asked (Err refusal)) (is, same) = answer_full (Err refusal) is
+passes_full reads body a b (begun.Asked answer) passes = answer_full answer passes.0
 
 judges_full : {C : Type 0} (reads : C → ℕ → C → Type 0) (head : Head) (a b : Scene C) (begun : Begun)
     → Judges reads head a b begun → IsFound begun → most_entries < entries_wanted b.book
@@ -120,10 +99,8 @@ found_same reads body a b (begun.Asked answer) v is passes =
 
 refusal_same : {C : Type 0} (last : Bool) (way : Way) (refusal : Denial) (a b : Scene C) (result : Result (Option Ended) Ended)
     → Responds last way (response.Denied refusal) a b result → b.book ≡ a.book
-refusal_same last way refusal a b (Ok end) (is, says) =
-    book_of a b (says_only {T = Unit {0}} a b (refusal_reply (manner_of last way (response.Denied refusal)) refusal) (Ok tt) says)
-refusal_same last way refusal a b (Err by) says =
-    book_of a b (says_only {T = Unit {0}} a b (refusal_reply (manner_of last way (response.Denied refusal)) refusal) (Err by) says)
+refusal_same last way refusal a b (Ok end) (is, says) = ap (λ (x : Scene _). x.book) says.only
+refusal_same last way refusal a b (Err by) says = book_of a b (says_only {T = Unit {0}} a b _ (Err by) says)
 
 -- ---- a turn
 
@@ -155,9 +132,9 @@ cuts_not_full {C} reads head begun a b cuts =
 stops_not_full : {C : Type 0} (reads : C → ℕ → C → Type 0) (head : Head) (begun : Begun) (a b : Scene C)
     → StopsShort reads head begun a b (Some ended.RunFull) → ⊥
 stops_not_full {C} reads head begun a b stops =
-    let same : stops.by ≡ ended.RunFull = cc in
-    subst (λ (e : Ended). Sends {T = Unit {0}} a stops.sent continue_reply (Err e)) same
-    (stops_sends head begun a stops.sent (Unit {0}) stops.by stops.invites)
+    let by = sends_failed (Unit {0}) a stops.sent continue_reply stops.by (stops_sends head begun a stops.sent (Unit {0}) stops.by stops.invites) in
+    let same : stops.by ≡ ended.WriteFault = by.0 in
+    cc
 
 turn_full : {C : Type 0} (reads : C → ℕ → C → Type 0) (last : Bool) (a b : Scene C) → Turn reads last a b (Some ended.RunFull)
     → most_entries < entries_wanted b.book
@@ -171,14 +148,6 @@ turn_full reads last a b (inr (inr (m, head, heads, (n, begun, judges, inr (told
 turn_full reads last a b (inr (inr (m, head, heads, (n, begun, judges, inr (told, invites, inr cuts))))) =
     absurd (cuts_not_full reads head begun told b cuts)
 
--- how much some turns make the history grow
-through_grow : {C : Type 0} (reads : C → ℕ → C → Type 0) (a : Scene C) (scenes : List (Scene C)) (b : Scene C)
-    → Through reads a scenes b → Grew a b (3 * length scenes)
-through_grow {C} reads a [] b same = grew_none a b (ap (λ (x : Scene C). x.book) (sym same))
-through_grow reads a (m ∷ scenes) b (turn, more) =
-    grows_on a.book m.book b.book 3 (3 * length scenes) (3 * suc (length scenes)) (omega arith)
-    (turn_grows reads false a m _ turn) (through_grow reads m scenes b more)
-
 -- ---- a session
 
 -- a history of few entries leaves room
@@ -191,9 +160,7 @@ full_is_seen {C} reads a b session = turn_full reads (length session.scenes == 9
 pub never_full : {C : Type 0} (reads : C → ℕ → C → Type 0) → NeverFull reads
 never_full {C} reads a b end session fresh alone is =
     let full = full_is_seen reads a b (subst (λ (e : Option Ended). Session reads a b e) is session) in
-    let through = through_grow reads a session.scenes session.before session.through in
-    let last = turn_grows reads (length session.scenes == 9999) session.before b end session.turn in
-    let whole = grows_on a.book session.before.book b.book (3 * length session.scenes) 3 30000 (omega (arith, session.few)) through last in
+    let whole = (session_goes reads a b end session).book in
     let own : length a.book.own ≡ 0 = ap length fresh.own in
-    let few : length b.book.known ≤ 30000 = omega (arith, whole.own, own, alone) in
+    let few : length b.book.known ≤ 30000 = omega (arith, whole.few, session.few, own, alone) in
     omega (arith, few_wanted b.book 30000 few, full)

@@ -36,9 +36,8 @@ use Rattle.nf_words.specs.declared.request.Words.{Words}
 use Rattle.nf_defs.specs.Tables.{Tables}
 use Rattle.nf_defs.specs.Blobs.{Blobs}
 use Rattle.nf_laws.specs.Wholes.{IsThere}
-use Rattle.nf_session.specs.Book.{Answer, Begins, Book, Enters, FailsPiece, Lasts, TellsDamage, TellsPiece, TellsStill, is_unmade, next_blob_of, state_of}
-use Rattle.nf_session.specs.Book.{Passes as Unchanged}
-use Rattle.nf_session.proofs.Calm.{begins_onward}
+use Rattle.nf_session.specs.Book.{Answer, Begins, Book, Enters, FailsPiece, Lasts, TellsDamage, TellsPiece, TellsStill, is_unmade, next_blob_of, state_of, Passes as Unchanged}
+use Rattle.nf_session.proofs.Moving.{begins_move, none_of}
 use Rattle.nf_session.proofs.Lasting.{lasts_same, lasts_then}
 use Rattle.nf_session.specs.Files.{AreGiven, SendsFile, file_front}
 use Rattle.nf_session.specs.Steps.{Judges, Scene, Starts, StartsFile, TakesIn, is_invited, is_unsent, no_words}
@@ -49,11 +48,19 @@ use Rattle.nf_session.specs.declared.begun.Begun.{Begun}
 use Rattle.nf_session.specs.declared.begun.Begun.TheVariants as begun
 use Rattle.nf_session.specs.declared.response.Response.{Response}
 use Rattle.nf_session.specs.declared.response.Response.TheVariants as response
-use Rattle.nf_promises.proofs.Alone.{entered, none_of}
-use Rattle.nf_promises.proofs.Plain.{IsPlain, asked_plain}
+use Rattle.nf_promises.proofs.Growing.{entered}
 use Rattle.nf_promises.proofs.Putting.{content_of_body}
 use Rattle.nf_promises.proofs.Puts.{IsKept, Keeps}
+use Rattle.nf_promises.proofs.Touches.{starts_other}
 use Rattle.nf_promises.specs.Kept.{AreOfBody, FailsStore, IsWritten, OnlyOwn, ShowsDamage, get_of, plainly, waits}
+use Rattle.nf_dav.proofs.Asked.{asked_no_head, asked_no_ocs}
+
+pub record IsPlain (way : Way) : Type 0 where
+  pub ocs : way.ocs ≡ false
+  pub head_only : way.head_only ≡ false
+
+pub asked_plain : (head : Head) (begun : Begun) (request : Request) → request_of head ≡ Ok request → IsPlain (way_of head begun)
+asked_plain head begun request asked = record { ocs = asked_no_ocs head request asked; head_only = asked_no_head head request asked }
 
 -- ---- what its Begin is answered
 
@@ -61,16 +68,10 @@ use Rattle.nf_promises.specs.Kept.{AreOfBody, FailsStore, IsWritten, OnlyOwn, Sh
 serves_nothing : (t : Tables) (now : ℕ) (d : Result Allowed Denial) (content : List Piece) → answered_by d ≡ Ok (reply.Granted (Serve content))
     → changes_by t now d ≡ []
 serves_nothing t now (Ok (allowed.Get node other)) content is = refl
-serves_nothing t now (Ok (allowed.List listing)) content is = absurd (cc)
-serves_nothing t now (Ok (allowed.Put by key size)) content is = absurd (cc)
-serves_nothing t now (Ok (allowed.StoreNew row blob)) content is = absurd (cc)
-serves_nothing t now (Ok (allowed.StoreOver node other blob)) content is = absurd (cc)
-serves_nothing t now (Ok (allowed.Mkcol row)) content is = absurd (cc)
-serves_nothing t now (Ok (allowed.Delete node)) content is = absurd (cc)
 serves_nothing t now (Ok (allowed.Move transfer name)) content is = absurd (put_grants_nothing transfer.replaced (Serve content) (cc))
 serves_nothing t now (Ok (allowed.Copy rows replaced)) content is = absurd (put_grants_nothing replaced (Serve content) (cc))
-serves_nothing t now (Ok allowed.Close) content is = absurd (cc)
 serves_nothing t now (Err refusal) content is = refl
+serves_nothing t now other content is = absurd (cc)
 
 begin_marked : (s : State) (e : Entry) (words : Words) (request : Request) (content : List Piece) → e.event ≡ Begin words request
     → answer_to s e.seat e.moment (Begin words request) ≡ Ok (reply.Granted (Serve content)) → (m : Mark) → MayBear s e m → m ≡ mark.Answered
@@ -141,10 +142,8 @@ piece_of_body : (b : Book) (before : State) (told : Option Blobs) (id : ℕ) (bo
     → blob_for before.tables.meta.next_blob (length body) ≡ Some id
     → IfSome told (TellsPiece b (piece_of id body) bytes) → IfSome told (Keeps b before body) → AreOfBody told body bytes
 piece_of_body b before None id body bytes size digest is piece keeps = (size, digest)
-piece_of_body b before (Some shelf) id body bytes size digest is piece keeps = same bytes body (sym piece.there ∙ (keeps id is).1)
-  where
-    same : (x y : List ℕ) → ◌≡◌ {A = Option (List ℕ)} (Some x) (Some y) → x ≡ y
-    same x y e = cc
+piece_of_body b before (Some shelf) id body bytes size digest is piece keeps =
+    let same : ◌≡◌ {A = Option (List ℕ)} (Some bytes) (Some body) = sym piece.there ∙ (keeps id is).1 in cc
 
 empty_for : (next : ℕ) (body : List ℕ) → blob_for next (length body) ≡ None → body ≡ []
 empty_for next body is = here (length body == 0) refl is
@@ -194,36 +193,20 @@ starts_lost : (a b : Book) (next : ℕ) (body : List ℕ) (why : PieceFault) (o 
 starts_lost a b next body why None is never = absurd never
 starts_lost a b next body why (Some id) is (waits, fails) = (id, is, waits.lasts, fails)
 
-abbrev pub StartsOther : Response → Type 0
-StartsOther (response.File content first) = Unit {0}
-StartsOther (response.Lost fault) = Unit {0}
-StartsOther (response.Denied refusal) = ⊥
-StartsOther response.Made = ⊥
-StartsOther response.Done = ⊥
-StartsOther (response.Listing lines) = ⊥
-
-pub starts_other : (a b : Book) (content : List Piece) (v : Response) → Starts a b content v → StartsOther v
-starts_other a b content (response.File other first) starts = tt
-starts_other a b content (response.Lost fault) starts = tt
-starts_other a b [] (response.Denied refusal) never = never
-starts_other a b (piece ∷ pieces) (response.Denied refusal) never = never
-starts_other a b [] response.Made never = never
-starts_other a b (piece ∷ pieces) response.Made never = never
-starts_other a b [] response.Done never = never
-starts_other a b (piece ∷ pieces) response.Done never = never
-starts_other a b [] (response.Listing lines) never = never
-starts_other a b (piece ∷ pieces) (response.Listing lines) never = never
-
 -- ---- what is written
+
+-- over a store that tells so, where such a failure is one
+abbrev pub ShownOf : {C : Type 0} → Bool → Bool → List ℕ → Option Blobs → Type 0 → Scene C → Scene C → Type 0
+ShownOf close unsent body told fails a b =
+    ((bytes : List ℕ) × AreOfBody told body bytes × Appends a.output b.output (file_head close (length body) ++ bytes))
+    ⊎ Appends a.output b.output (refusal_reply (plainly close) denial.Memory)
+    ⊎ Appends a.output b.output (refusal_reply (plainly (close || unsent)) denial.Memory)
+    ⊎ (Appends a.output b.output (refusal_reply (plainly close) denial.Store) × fails)
+    ⊎ ShowsDamage told close a b
 
 -- the same, of two scenes with a book before them
 abbrev pub Shown : {C : Type 0} → Bool → Bool → List ℕ → Book → Scene C → Scene C → Type 0
-Shown close unsent body k a b =
-    ((bytes : List ℕ) × AreOfBody k.told body bytes × Appends a.output b.output (file_head close (length body) ++ bytes))
-    ⊎ Appends a.output b.output (refusal_reply (plainly close) denial.Memory)
-    ⊎ Appends a.output b.output (refusal_reply (plainly (close || unsent)) denial.Memory)
-    ⊎ (Appends a.output b.output (refusal_reply (plainly close) denial.Store) × FailsStore k a.book)
-    ⊎ ShowsDamage k.told close a b
+Shown close unsent body k a b = ShownOf close unsent body k.told (FailsStore k a.book) a b
 
 says_is : (last closes : Bool) → (last || is_some (end_of_close closes)) ≡ (last || closes)
 says_is last true = refl
@@ -298,14 +281,8 @@ served_shown last way plain unsent caller spot body k x a b (response.Lost why) 
     let lost = starts_lost x.book a.book kept.before.tables.meta.next_blob body why
     (blob_for kept.before.tables.meta.next_blob (length body)) refl starts.starts in
     lost_shown last way plain unsent body kept.before k x a b lost.0 why before (lasts_then k x.book a.book before lost.2) kept.bytes lost.1 lost.3 writes
-served_shown last way plain unsent caller spot body k x a b (response.Denied refusal) kept before starts writes =
-    absurd (starts_other x.book a.book (content_of_body kept.before body) (response.Denied refusal) starts.starts)
-served_shown last way plain unsent caller spot body k x a b response.Made kept before starts writes =
-    absurd (starts_other x.book a.book (content_of_body kept.before body) response.Made starts.starts)
-served_shown last way plain unsent caller spot body k x a b response.Done kept before starts writes =
-    absurd (starts_other x.book a.book (content_of_body kept.before body) response.Done starts.starts)
-served_shown last way plain unsent caller spot body k x a b (response.Listing lines) kept before starts writes =
-    absurd (starts_other x.book a.book (content_of_body kept.before body) (response.Listing lines) starts.starts)
+served_shown last way plain unsent caller spot body k x a b other kept before starts writes =
+    absurd (starts_other x.book a.book (content_of_body kept.before body) other starts.starts)
 
 -- ---- the turn
 
@@ -388,11 +365,7 @@ pub begun_shown : {C : Type 0} (reads : C → ℕ → C → Type 0) (last : Bool
     → IsKept k.book caller spot body → OnlyOwn k.book m.book
     → TakesIn reads head m a begun (Ok v) → IsWritten (end_of (way_of head begun).closes v)
     → Writes {T = Unit {0}} (manner_of last (way_of head begun) v) v a b (Ok tt) → Shown (last || closes_session head) (waits head) body k.book a b
-begun_shown reads last head caller spot body (begun.Unasked refusal) k m a b v asked (inl other, same) kept only takes written writes =
-    absurd (never refusal (sym asked ∙ other))
-  where
-    never : (refusal : Denial) → ◌≡◌ {A = Result Request Denial} (Ok (get_of caller spot)) (Err refusal) → ⊥
-    never refusal is = cc
+begun_shown reads last head caller spot body (begun.Unasked refusal) k m a b v asked (inl other, same) kept only takes written writes = absurd (cc)
 begun_shown reads last head caller spot body (begun.Unasked refusal) k m a b v asked (inr memory, same) kept only (x, other, bodies, passes) written writes =
     denied_shown last (closes_session head) (waits head) (way_of head (begun.Unasked refusal)) (asked_plain head (begun.Unasked refusal) _ asked)
     body k.book a b v refl (passes.0 ∙ ap response.Denied memory) writes
@@ -401,4 +374,4 @@ begun_shown {C} reads last head caller spot body (begun.Asked answer) k m a b v 
     let get : Begins k.book m.book now no_words (get_of caller spot) answer =
     subst (λ (q : Request). Begins k.book m.book now no_words q answer) same begins in
     answered_shown reads last head caller spot body k.book m a b v answer kept (asked_plain head (begun.Asked answer) _ asked) (get_answered k.book m.book now caller spot body answer kept alone get)
-    (begins_onward k.book m.book now no_words (get_of caller spot) answer get).lasts takes written writes
+    (begins_move k.book m.book now no_words (get_of caller spot) answer get).onward.lasts takes written writes

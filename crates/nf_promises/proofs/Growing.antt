@@ -1,208 +1,52 @@
--- How a history grows by each step of a turn.
-use Rattle.std.proofs.Common.{ℕ, ◌+◌, ◌≡◌, ◌≤◌, Bool, true, false, List, [], ◌∷◌, length, Option, None, Some, Result, Ok, Err, inl, inr, ap, arith, length-append}
-use Rattle.std.specs.Prelude.{MatchBool, Vec}
-use Rattle.nf_base.specs.declared.content.Piece.{Piece}
+-- How a history grows by each step of a turn, and what a seat's own entries make of its state, where no other's came between.
+use Rattle.std.proofs.Common.{ℕ, ◌≡◌, Option, Result, ap, arith, List, [], ◌++◌, length, sym, subst, ◌∙◌}
 use Rattle.nf_http.specs.Head.{Head}
 use Rattle.nf_http.specs.declared.wire.WireFault.{WireFault}
-use Rattle.nf_words.specs.declared.answer.Goal.TheVariants as goal
-use Rattle.nf_words.specs.declared.answer.Reply.TheVariants as reply
+use Rattle.nf_session.specs.Book.{Book, Answer, Enters, state_after, state_of}
+use Rattle.nf_session.specs.Steps.{Heads, Scene}
+use Rattle.nf_session.proofs.Moving.{Moves, no_others}
+use Rattle.nf_promises.specs.Kept.{OnlyOwn}
+use Rattle.std.proofs.lemmas.List.{append-nil}
+use Rattle.nf_words.proofs.Histories.{replay_more}
+use Rattle.nf_words.specs.History.{MayCome, after, answer_at, replay}
+use Rattle.nf_words.specs.State.{State, opened}
+use Rattle.nf_words.specs.declared.history.Entry.{Entry}
 use Rattle.nf_words.specs.declared.history.Event.{Event}
-use Rattle.nf_words.specs.declared.history.Event.TheVariants.{Begin, End}
-use Rattle.nf_words.specs.declared.history.Outcome.TheVariants.{Sent, Gone}
-use Rattle.nf_words.specs.declared.request.Request.{Request}
-use Rattle.nf_words.specs.declared.request.Words.{Words}
-use Rattle.std.specs.declared.alloc.Global.{Global}
-use Rattle.nf_dav.specs.Reply.{done_reply, listing_reply, made_reply, refusal_reply}
-use Rattle.nf_dav.specs.declared.replies.Manner.{Manner}
-use Rattle.nf_session.specs.Book.{Answer, Begins, Book, Ends, Enters, Waits, denial_of_piece, event_of_body, is_unmade}
-use Rattle.nf_session.specs.Book.{Passes as Unchanged}
-use Rattle.nf_session.specs.Files.{SendsFile}
-use Rattle.nf_session.specs.Steps.{Closes, Heads, Invites, Judges, Passes, Scene, Starts, TakesIn, is_granted, no_words}
-use Rattle.nf_session.specs.Turn.{Answers, CutsShort, Meets, Responds, StopsShort, Turn, Way, Writes, how_of, manner_of, stays_granted, way_of}
-use Rattle.nf_session.specs.declared.backend.Ending.{Ending}
-use Rattle.nf_session.specs.declared.backend.Ending.TheVariants as ending
-use Rattle.nf_session.specs.declared.begun.Begun.{Begun}
-use Rattle.nf_session.specs.declared.begun.Begun.TheVariants as begun
-use Rattle.nf_session.specs.declared.ended.Ended.{Ended}
-use Rattle.nf_session.specs.declared.ended.Ended.TheVariants as ended
-use Rattle.nf_session.specs.declared.response.Response.{Response}
-use Rattle.nf_session.specs.declared.response.Response.TheVariants as response
-use Rattle.nf_session.proofs.Inviting.{invites_wrote}
-use Rattle.nf_promises.proofs.Touches.{book_of, ends_only, says_only, stops_only}
-
--- so many own entries came at most, and no fewer entries than own ones
-pub record Grows (a b : Book) (most : ℕ) : Type 0 where
-  pub opening : b.opening ≡ a.opening
-  pub own : length b.own ≤ length a.own + most
-  pub known : length a.known + length b.own ≤ length a.own + length b.known
-
--- ---- books
-
-pub grows_none : (a b : Book) → b ≡ a → Grows a b 0
-grows_none a b same =
-    let own : length b.own ≡ length a.own = ap (λ (x : Book). length x.own) same in
-    let known : length b.known ≡ length a.known = ap (λ (x : Book). length x.known) same in
-    record { opening = ap (λ (x : Book). x.opening) same; own = omega arith; known = omega arith }
-
-pub grows_on : (a b c : Book) (n m most : ℕ) → n + m ≤ most → Grows a b n → Grows b c m → Grows a c most
-grows_on a b c n m most few first second = record {
-  opening = cc;
-  own = omega arith;
-  known = omega arith;
-}
-
-pub grows_waits : (a b : Book) → Waits a b → Grows a b 0
-grows_waits a b waits =
-    let own : length b.own ≡ length a.own = ap length waits.own in
-    let known : length b.known ≡ length a.known + length waits.known.0 =
-    simp length-append at (ap length waits.known.1) in
-    record { opening = waits.lasts.opening; own = omega arith; known = omega arith }
-
-pub grows_enters : (a b : Book) (now : ℕ) (event : Event) (answer : Answer) → Enters a b now event answer → Grows a b 1
-grows_enters a b now event answer enters =
-    let own : length b.own ≡ length a.own + 1 = simp length-append at (ap length enters.own) in
-    let known : length b.known ≡ length a.known + length enters.others + 1 =
-    simp length-append at (ap length enters.known) in
-    record { opening = enters.lasts.opening; own = omega arith; known = omega arith }
-
-pub grows_more : (a b : Book) (n most : ℕ) → n ≤ most → Grows a b n → Grows a b most
-grows_more a b n most few grows = record { opening = grows.opening; own = omega arith; known = grows.known }
-
-pub grows_begins : (a b : Book) (now : ℕ) (words : Words) (request : Request) (answer : Answer)
-    → Begins a b now words request answer → Grows a b 1
-grows_begins a b now words request answer begins = here (is_unmade answer) begins.entry
-  where
-    here : (unmade : Bool) → MatchBool unmade (Unchanged a b) (Enters a b now (Begin words request) answer) → Grows a b 1
-    here true passes = grows_more a b 0 1 (omega arith) (grows_waits a b passes.waits)
-    here false enters = grows_enters a b now (Begin words request) answer enters
-
-pub grows_ends : (a b : Book) (now : ℕ) (how : Ending) (answer : Answer) → Ends a b now how answer → Grows a b 1
-grows_ends a b now ending.Sent answer ends = grows_enters a b now (End Sent) answer ends.enters
-grows_ends a b now ending.Gone answer ends = grows_enters a b now (End Gone) answer ends.enters
-grows_ends a b now (ending.Body bytes) answer ends = grows_enters a b now (event_of_body bytes.items) answer ends.enters
-
-grows_starts : (a b : Book) (content : List Piece) (v : Response) → Starts a b content v → Grows a b 0
-grows_starts a b [] (response.File content None) (is, same) = grows_none a b same
-grows_starts a b (piece ∷ pieces) (response.File content (Some first)) (is, waits, given, calm) = grows_waits a b waits
-grows_starts a b (piece ∷ pieces) (response.Lost fault) (waits, fails) = grows_waits a b waits
-grows_starts a b content other never = absurd never
-
--- ---- scenes
-
--- what the books of two scenes are
-abbrev pub Grew : {C : Type 0} → Scene C → Scene C → ℕ → Type 0
-Grew a b most = Grows a.book b.book most
-
-pub grew_none : {C : Type 0} (a b : Scene C) → b.book ≡ a.book → Grew a b 0
-grew_none a b same = grows_none a.book b.book same
-
-still : {C : Type 0} (a b : Scene C) → b ≡ a → Grew a b 1
-still {C} a b same = grows_more a.book b.book 0 1 (omega arith) (grows_none a.book b.book (ap (λ (x : Scene C). x.book) same))
+use Rattle.nf_base.specs.declared.rows.Row.{Row}
 
 pub heads_same : {C : Type 0} (a b : Scene C) (result : Result (Option Head) WireFault) → Heads a b result → b.book ≡ a.book
 heads_same {C} a b result heads = ap (λ (x : Scene C). x.book) heads.only
 
-pub judges_grow : {C : Type 0} (reads : C → ℕ → C → Type 0) (head : Head) (a b : Scene C) (v : Begun) → Judges reads head a b v → Grew a b 1
-judges_grow {C} reads head a b (begun.Unasked refusal) (is, same) =
-    grows_more a.book b.book 0 1 (omega arith) (grows_none a.book b.book (ap (λ (x : Scene C). x.book) same))
-judges_grow reads head a b (begun.Asked answer) (r, now, asked, read, begins, only) =
-    grows_begins a.book b.book now no_words r answer begins
+-- where no other's entry came between two books, none did between two others on the way
+pub only_within : {a x y c : Book} {n m k p q r : ℕ} → Moves a x n p → Moves x y m q → Moves y c k r → OnlyOwn a c → OnlyOwn x y
+only_within first middle last only = omega (arith, first.known, middle.known, last.known, only)
 
-passes_grow : {C : Type 0} (reads : C → ℕ → C → Type 0) (body : List ℕ) (a b : Scene C) (begun : Begun) (v : Response)
-    → Passes reads body a b begun v → Grew a b 1
-passes_grow {C} reads body a b (begun.Unasked refusal) v (is, same) = still a b same
-passes_grow reads body a b (begun.Asked (Ok (reply.Granted (goal.Serve content)))) v starts =
-    grows_more a.book b.book 0 1 (omega arith) (grows_starts a.book b.book content v starts.starts)
-passes_grow reads body a b (begun.Asked (Ok (reply.Granted (goal.Store who key length)))) v (now, answer, read, ends, is, only) =
-    grows_enters a.book b.book now (event_of_body body) answer ends.enters
-passes_grow reads body a b (begun.Asked (Ok reply.Made)) v (is, same) = still a b same
-passes_grow reads body a b (begun.Asked (Ok reply.Done)) v (is, same) = still a b same
-passes_grow reads body a b (begun.Asked (Ok (reply.Listing lines))) v (is, same) = still a b same
-passes_grow reads body a b (begun.Asked (Ok reply.Closed)) v (is, same) = still a b same
-passes_grow reads body a b (begun.Asked (Err refusal)) v (is, same) = still a b same
+pub same_state : (a : Book) (others : List Entry) → others ≡ [] → state_after a others ≡ state_of a
+same_state a others none =
+    ap (λ (es : List Entry). replay (opened a.opening) (a.known ++ es)) none ∙ ap (replay (opened a.opening)) (append-nil a.known)
 
-pub takes_grow : {C : Type 0} (reads : C → ℕ → C → Type 0) (head : Head) (a b : Scene C) (begun : Begun) (result : Result Response WireFault)
-    → TakesIn reads head a b begun result → Grew a b 1
-takes_grow {C} reads head a b begun (Ok v) (m, body, bodies, passes) =
-    grows_on a.book m.book b.book 0 1 1 (omega arith)
-    (grows_none a.book m.book (ap (λ (x : Scene C). x.book) bodies.only)) (passes_grow reads body m b begun v passes)
-takes_grow {C} reads head a b begun (Err fault) cuts =
-    grows_more a.book b.book 0 1 (omega arith) (grows_none a.book b.book (ap (λ (x : Scene C). x.book) cuts.only))
+-- ---- an entry of the seat's own that follows
 
-sends_grow : {C T : Type 0} (close : Bool) (content : List Piece) (first : Option (Vec ℕ Global)) (a b : Scene C) (result : Result T Ended)
-    → SendsFile close content first a b result → Grew a b 0
-sends_grow close content first a b (Ok sent) (given, writes, all, calm) = grows_waits a.book b.book writes.pieces.waits
-sends_grow close content first a b (Err (ended.Cut why)) (given, writes, lacks, other) = grows_waits a.book b.book writes.pieces.waits
-sends_grow {C} close content first a b (Err ended.Memory) (inl same) = grows_none a.book b.book (ap (λ (x : Scene C). x.book) same)
-sends_grow close content first a b (Err ended.Memory) (inr (given, writes, lacks)) = grows_waits a.book b.book writes.pieces.waits
-sends_grow close content first a b (Err ended.WriteFault) (given, breaks) = grows_waits a.book b.book breaks.pieces.waits
-sends_grow close content first a b (Err other) never = absurd never
+pub record Entered (a b : Book) (entry : Entry) (event : Event) (answer : Answer) : Type 0 where
+  pub event_is : entry.event ≡ event
+  pub seat_is : entry.seat ≡ a.seat
+  pub count : ℕ
+  pub may : MayCome count (state_of a) entry
+  pub answer_is : answer_at (state_of a) entry entry.mark ≡ answer
+  pub state : state_of b ≡ after (state_of a) entry
 
-writes_grow : {C T : Type 0} (manner : Manner) (v : Response) (a b : Scene C) (result : Result T Ended) → Writes manner v a b result → Grew a b 0
-writes_grow manner (response.Denied refusal) a b result says = grew_none a b (book_of a b (says_only a b (refusal_reply manner refusal) result says))
-writes_grow manner (response.Lost fault) a b result says =
-    grew_none a b (book_of a b (says_only a b (refusal_reply manner (denial_of_piece fault)) result says))
-writes_grow manner (response.File content first) a b result sends = sends_grow manner.close content first a b result sends
-writes_grow manner response.Made a b result says = grew_none a b (book_of a b (says_only a b (made_reply manner.close) result says))
-writes_grow manner response.Done a b result says = grew_none a b (book_of a b (says_only a b (done_reply manner.close) result says))
-writes_grow manner (response.Listing lines) a b result says = grew_none a b (book_of a b (says_only a b (listing_reply manner.close lines) result says))
-
-pub responds_grow : {C : Type 0} (last : Bool) (way : Way) (v : Response) (a b : Scene C) (result : Result (Option Ended) Ended)
-    → Responds last way v a b result → Grew a b 0
-responds_grow last way v a b (Ok end) (is, writes) = writes_grow {T = Unit {0}} (manner_of last way v) v a b (Ok tt) writes
-responds_grow last way v a b (Err by) writes = writes_grow {T = Unit {0}} (manner_of last way v) v a b (Err by) writes
-
-pub closes_grow : {C : Type 0} (reads : C → ℕ → C → Type 0) (how : Ending) (granted : Bool) (a b : Scene C) → Closes reads how granted a b → Grew a b 1
-closes_grow reads how true a b (now, read, ends, only) = grows_ends a.book b.book now how (Ok reply.Closed) ends
-closes_grow reads how false a b same = still a b same
-
--- ---- turns
-
-pub answers_grow : {C : Type 0} (reads : C → ℕ → C → Type 0) (last : Bool) (head : Head) (begun : Begun) (a b : Scene C) (end : Option Ended)
-    → Answers reads last head begun a b end → Grew a b 2
-answers_grow reads last head begun a b end answers =
-    grows_on a.book answers.taken.book b.book 1 1 2 (omega arith) (takes_grow reads head a answers.taken begun (Ok answers.response) answers.takes)
-    (grows_on answers.taken.book answers.sent.book b.book 0 1 1 (omega arith)
-    (responds_grow last (way_of head begun) answers.response answers.taken answers.sent answers.result answers.responds)
-    (closes_grow reads (how_of answers.response answers.result) (stays_granted answers.response) answers.sent b answers.closes))
-
-cuts_grow : {C : Type 0} (reads : C → ℕ → C → Type 0) (head : Head) (begun : Begun) (a b : Scene C) (end : Option Ended)
-    → CutsShort reads head begun a b end → Grew a b 2
-cuts_grow reads head begun a b end cuts =
-    grows_on a.book cuts.cut.book b.book 1 1 2 (omega arith) (takes_grow reads head a cuts.cut begun (Err cuts.fault) cuts.takes)
-    (grows_on cuts.cut.book cuts.sent.book b.book 0 1 1 (omega arith)
-    (grew_none cuts.cut cuts.sent (book_of cuts.cut cuts.sent (ends_only cuts.fault cuts.cut cuts.sent cuts.by cuts.responds)))
-    (closes_grow reads ending.Gone (is_granted begun) cuts.sent b cuts.closes))
-
--- telling someone to send a body
-pub invites_grow : {C : Type 0} (head : Head) (begun : Begun) (a b : Scene C) → Invites {T = Unit {0}} head begun a b (Ok tt) → Grew a b 0
-invites_grow {C} head begun a b invites =
-    grew_none a b (ap (λ (x : Scene C). x.book) (invites_wrote head begun a b (Unit {0}) tt invites).only)
-
-stops_grow : {C : Type 0} (reads : C → ℕ → C → Type 0) (head : Head) (begun : Begun) (a b : Scene C) (end : Option Ended)
-    → StopsShort reads head begun a b end → Grew a b 2
-stops_grow reads head begun a b end stops =
-    grows_on a.book stops.sent.book b.book 0 1 2 (omega arith)
-    (grew_none a stops.sent (book_of a stops.sent (stops_only head begun a stops.sent stops.by stops.invites)))
-    (closes_grow reads ending.Gone (is_granted begun) stops.sent b stops.closes)
-
-pub meets_grow : {C : Type 0} (reads : C → ℕ → C → Type 0) (last : Bool) (head : Head) (a b : Scene C) (end : Option Ended)
-    → Meets reads last head a b end → Grew a b 3
-meets_grow reads last head a b end (m, begun, judges, inl stops) =
-    grows_on a.book m.book b.book 1 2 3 (omega arith) (judges_grow reads head a m begun judges) (stops_grow reads head begun m b end stops)
-meets_grow reads last head a b end (m, begun, judges, inr (n, invites, inl answers)) =
-    grows_on a.book m.book b.book 1 2 3 (omega arith) (judges_grow reads head a m begun judges)
-    (grows_on m.book n.book b.book 0 2 2 (omega arith) (invites_grow head begun m n invites) (answers_grow reads last head begun n b end answers))
-meets_grow reads last head a b end (m, begun, judges, inr (n, invites, inr cuts)) =
-    grows_on a.book m.book b.book 1 2 3 (omega arith) (judges_grow reads head a m begun judges)
-    (grows_on m.book n.book b.book 0 2 2 (omega arith) (invites_grow head begun m n invites) (cuts_grow reads head begun n b end cuts))
-
-pub turn_grows : {C : Type 0} (reads : C → ℕ → C → Type 0) (last : Bool) (a b : Scene C) (end : Option Ended) → Turn reads last a b end → Grew a b 3
-turn_grows reads last a b end (inl (heads, is)) =
-    grows_more a.book b.book 0 3 (omega arith) (grows_none a.book b.book (heads_same a b (Ok None) heads))
-turn_grows reads last a b end (inr (inl (m, why, by, heads, ends, is))) =
-    grows_on a.book m.book b.book 0 0 3 (omega arith) (grows_none a.book m.book (heads_same a m (Err why) heads))
-    (grew_none m b (book_of m b (ends_only why m b by ends)))
-turn_grows reads last a b end (inr (inr (m, head, heads, meets))) =
-    grows_on a.book m.book b.book 0 3 3 (omega arith) (grows_none a.book m.book (heads_same a m (Ok (Some head)) heads))
-    (meets_grow reads last head m b end meets)
+pub entered : (a b : Book) (now : ℕ) (event : Event) (answer : Answer) (enters : Enters a b now event answer) → OnlyOwn a b
+    → Entered a b enters.entry event answer
+entered a b now event answer enters only =
+    let same : state_after a enters.others ≡ state_of a = same_state a enters.others (no_others a b now event answer enters only) in
+    record {
+      event_is = enters.event_is;
+      seat_is = enters.seat_is;
+      count = length (a.known ++ enters.others);
+      may = subst (λ (s : State). MayCome (length (a.known ++ enters.others)) s enters.entry) same enters.may_come;
+      answer_is = ap (λ (s : State). answer_at s enters.entry enters.entry.mark) (sym same) ∙ sym enters.answer_is;
+      state = ap (λ (rows : List Row). replay (opened rows) b.known) enters.lasts.opening
+          ∙ ap (replay (opened a.opening)) enters.known
+          ∙ replay_more (opened a.opening) (a.known ++ enters.others) enters.entry
+          ∙ ap (λ (s : State). after s enters.entry) same;
+    }

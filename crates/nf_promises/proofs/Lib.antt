@@ -3,15 +3,11 @@ pub mod Refusals
 pub mod Tickets
 pub mod Growing
 pub mod Full
-pub mod Alone
 pub mod Putting
 pub mod Puts
-pub mod Plain
 pub mod Gets
 pub mod Returning
 pub mod Marks
 pub mod Bytes
 pub mod Unfailing
-pub mod Placing
-pub mod Wording
 pub mod Completing

@@ -1,11 +1,12 @@
 -- The bytes of an answer tell whether it says that something was made or done.
-use Rattle.std.proofs.Common.{ℕ, ◌==◌, ◌≡◌, ◌&&◌, ◌||◌, ◌<◌, ◌≤◌, nat_lt, Bool, true, false, List, [], ◌++◌, length, take, get_or, codes, Option, None, Some, Result, Ok, Err, inl, inr, refl, sym, ap, subst, ◌∙◌, arith}
+use Rattle.std.proofs.Common.{ℕ, ◌==◌, ◌≡◌, ◌&&◌, ◌||◌, ◌<◌, ◌≤◌, ◌⊎◌, nat_lt, Bool, true, false, List, [], ◌++◌, length, take, get_or, codes, Option, None, Some, Result, Ok, Err, inl, inr, refl, sym, ap, subst, ◌∙◌, arith}
+use Rattle.std.proofs.KnownBytes.{Appends-nil}
 use Rattle.std.specs.Prelude.{if◌then◌else◌, IsSome, Vec}
 use Rattle.std.specs.List.{concat}
 use Rattle.std.specs.Io.KnownBytes.{Appends}
 use Rattle.std.specs.declared.alloc.Global.{Global}
 use Rattle.std.proofs.lemmas.Bool.{ltb-true, ltb-false}
-use Rattle.std.proofs.lemmas.List.{append-nil, append_cancel_left, get_or-take, length-take}
+use Rattle.std.proofs.lemmas.List.{append_cancel_left, get_or-take, length-take}
 use Rattle.std.proofs.Math.ListN.{get_or-eq_default}
 use Rattle.nf_base.specs.Content.{size_of}
 use Rattle.nf_base.specs.declared.content.Piece.{Piece}
@@ -97,87 +98,72 @@ one_written None new x y told is also = absurd (cc)
 one_written (Some xs) None x y told is also = absurd is
 one_written (Some xs) (Some ys) x y told is also = append_cancel_left xs x y (sym is ∙ also)
 
-not_done : (old new : Option (List ℕ)) (x w : List ℕ) → IsSome old → Appends old new x → is_done x ≡ false → Appends old new w
-    → is_done w ≡ true → ⊥
-not_done old new x w told is other also done =
+-- and no such answer
+abbrev pub Other : Option (List ℕ) → Option (List ℕ) → Type 0
+Other old new = (bytes : List ℕ) × Appends old new bytes × (is_done bytes ≡ false)
+
+pub other_not_done : (old new : Option (List ℕ)) (w : List ℕ) → Other old new → IsSome old → Appends old new w → is_done w ≡ true → ⊥
+other_not_done old new w (x, is, other) told also done =
     let same : x ≡ w = one_written old new x w told is also in
-    differ (sym other ∙ ap is_done same ∙ done)
-  where
-    differ : false ≡ true → ⊥
-    differ e = cc
+    let never : false ≡ true = sym other ∙ ap is_done same ∙ done in cc
 
-nothing : (old : Option (List ℕ)) → Appends old old []
-nothing None = tt
-nothing (Some xs) = sym (append-nil xs)
-
--- nothing is no such answer
-pub same_not_done : (old new : Option (List ℕ)) (w : List ℕ) → new ≡ old → IsSome old → Appends old new w → is_done w ≡ true → ⊥
-same_not_done old new w same told is done =
-    not_done old new [] w told (subst (λ (o : Option (List ℕ)). Appends old o []) (sym same) (nothing old)) refl is done
+-- nothing is none
+same_other : {C : Type 0} (a b : Scene C) → b ≡ a → Other a.output b.output
+same_other {C} a b same = subst (λ (x : Scene C). Other a.output x.output) (sym same) ([], Appends-nil a.output, refl)
 
 -- ---- the answers
 
-says_not_done : {C : Type 0} (a b : Scene C) (bytes w : List ℕ) (result : Result (Unit {0}) Ended) → is_done bytes ≡ false
-    → Says a b bytes result → IsSome a.output → Appends a.output b.output w → is_done w ≡ true → ⊥
-says_not_done a b bytes w (Ok sent) other wrote told is done = not_done a.output b.output bytes w told wrote.bytes_are other is done
-says_not_done {C} a b bytes w (Err ended.Memory) other same told is done =
-    same_not_done a.output b.output w (ap (λ (x : Scene C). x.output) same) told is done
-says_not_done a b bytes w (Err ended.WriteFault) other part told is done =
-    not_done a.output b.output (take part.count bytes) w told part.bytes_are (take_mark part.count bytes other) is done
-says_not_done a b bytes w (Err by) other never told is done = absurd never
+says_other : {C : Type 0} (a b : Scene C) (bytes : List ℕ) (result : Result (Unit {0}) Ended) → is_done bytes ≡ false
+    → Says a b bytes result → Other a.output b.output
+says_other a b bytes (Ok sent) other wrote = (bytes, wrote.bytes_are, other)
+says_other a b bytes (Err ended.Memory) other same = same_other a b same
+says_other a b bytes (Err ended.WriteFault) other part = (take part.count bytes, part.bytes_are, take_mark part.count bytes other)
+says_other a b bytes (Err by) other never = absurd never
 
-sends_not_done : {C : Type 0} (close : Bool) (content : List Piece) (first : Option (Vec ℕ Global)) (a b : Scene C) (w : List ℕ)
-    (result : Result (Unit {0}) Ended) → SendsFile close content first a b result → IsSome a.output → Appends a.output b.output w
-    → is_done w ≡ true → ⊥
-sends_not_done close content first a b w (Ok sent) (given, writes, count, calm) told is done =
-    not_done a.output b.output (file_front close content given) w told writes.bytes_are (file_mark close (size_of content) (concat given)) is done
-sends_not_done close content first a b w (Err (ended.Cut why)) (given, writes, lacks, other) told is done =
-    not_done a.output b.output (file_front close content given) w told writes.bytes_are (file_mark close (size_of content) (concat given)) is done
-sends_not_done {C} close content first a b w (Err ended.Memory) (inl same) told is done =
-    same_not_done a.output b.output w (ap (λ (x : Scene C). x.output) same) told is done
-sends_not_done close content first a b w (Err ended.Memory) (inr (given, writes, lacks)) told is done =
-    not_done a.output b.output (file_front close content given) w told writes.bytes_are (file_mark close (size_of content) (concat given)) is done
-sends_not_done close content first a b w (Err ended.WriteFault) (given, breaks) told is done =
-    let front : List ℕ = file_front close content given in
-    not_done a.output b.output (take breaks.count front) w told breaks.bytes_are
-    (take_mark breaks.count front (file_mark close (size_of content) (concat given))) is done
-sends_not_done close content first a b w (Err by) never told is done = absurd never
+front_mark : (close : Bool) (content : List Piece) (given : List (List ℕ)) → is_done (file_front close content given) ≡ false
+front_mark close content given = file_mark close (size_of content) (concat given)
 
-writes_stored : {C : Type 0} (manner : Manner) (v : Response) (a b : Scene C) (w : List ℕ) (result : Result (Unit {0}) Ended)
-    → Writes {T = Unit {0}} manner v a b result → IsSome a.output → Appends a.output b.output w → is_done w ≡ true → SaysStored v
-writes_stored manner response.Made a b w result writes told is done = tt
-writes_stored manner response.Done a b w result writes told is done = tt
-writes_stored manner (response.Listing lines) a b w result says told is done =
-    says_not_done a b (listing_reply manner.close lines) w result (listing_mark manner.close lines) says told is done
-writes_stored manner (response.Denied refusal) a b w result says told is done =
-    says_not_done a b (refusal_reply manner refusal) w result (refusal_mark manner refusal) says told is done
-writes_stored manner (response.Lost why) a b w result says told is done =
-    says_not_done a b (refusal_reply manner (denial_of_piece why)) w result (refusal_mark manner (denial_of_piece why)) says told is done
-writes_stored manner (response.File content first) a b w result sends told is done =
-    sends_not_done manner.close content first a b w result sends told is done
+sends_other : {C : Type 0} (close : Bool) (content : List Piece) (first : Option (Vec ℕ Global)) (a b : Scene C) (result : Result (Unit {0}) Ended)
+    → SendsFile close content first a b result → Other a.output b.output
+sends_other close content first a b (Ok sent) (given, writes, count, calm) = (_, writes.bytes_are, front_mark close content given)
+sends_other close content first a b (Err (ended.Cut why)) (given, writes, lacks, other) = (_, writes.bytes_are, front_mark close content given)
+sends_other close content first a b (Err ended.Memory) (inl same) = same_other a b same
+sends_other close content first a b (Err ended.Memory) (inr (given, writes, lacks)) = (_, writes.bytes_are, front_mark close content given)
+sends_other close content first a b (Err ended.WriteFault) (given, breaks) =
+    (_, breaks.bytes_are, take_mark breaks.count (file_front close content given) (front_mark close content given))
+sends_other close content first a b (Err by) never = absurd never
+
+writes_said : {C : Type 0} (manner : Manner) (v : Response) (a b : Scene C) (result : Result (Unit {0}) Ended)
+    → Writes {T = Unit {0}} manner v a b result → SaysStored v ⊎ Other a.output b.output
+writes_said manner response.Made a b result writes = inl tt
+writes_said manner response.Done a b result writes = inl tt
+writes_said manner (response.Listing lines) a b result says = inr (says_other a b _ result (listing_mark manner.close lines) says)
+writes_said manner (response.Denied refusal) a b result says = inr (says_other a b _ result (refusal_mark manner refusal) says)
+writes_said manner (response.Lost why) a b result says = inr (says_other a b _ result (refusal_mark manner (denial_of_piece why)) says)
+writes_said manner (response.File content first) a b result sends = inr (sends_other manner.close content first a b result sends)
 
 -- the response whose bytes say so does
 pub responds_stored : {C : Type 0} (last : Bool) (way : Way) (v : Response) (a b : Scene C) (w : List ℕ) (result : Result (Option Ended) Ended)
     → Responds last way v a b result → IsSome a.output → Appends a.output b.output w → is_done w ≡ true → SaysStored v
-responds_stored last way v a b w (Ok end) (is, writes) told wrote done = writes_stored (manner_of last way v) v a b w (Ok tt) writes told wrote done
-responds_stored last way v a b w (Err by) writes told wrote done = writes_stored (manner_of last way v) v a b w (Err by) writes told wrote done
+responds_stored last way v a b w result responds told wrote done = stored (said result responds)
+  where
+    said : (result : Result (Option Ended) Ended) → Responds last way v a b result → SaysStored v ⊎ Other a.output b.output
+    said (Ok end) (is, writes) = writes_said (manner_of last way v) v a b (Ok tt) writes
+    said (Err by) writes = writes_said (manner_of last way v) v a b (Err by) writes
+
+    stored : SaysStored v ⊎ Other a.output b.output → SaysStored v
+    stored (inl says) = says
+    stored (inr other) = absurd (other_not_done a.output b.output w other told wrote done)
 
 -- and bytes that are no message are answered otherwise
-ends_so_not_done : {C : Type 0} (refusal : Denial) (a b : Scene C) (w : List ℕ) (by : Ended) → EndsSo refusal a b by
-    → IsSome a.output → Appends a.output b.output w → is_done w ≡ true → ⊥
-ends_so_not_done refusal a b w ended.BadMessage wrote told is done =
-    not_done a.output b.output (refusal_reply last_manner refusal) w told wrote.bytes_are (refusal_mark last_manner refusal) is done
-ends_so_not_done refusal a b w ended.WriteFault part told is done =
-    not_done a.output b.output (take part.count (refusal_reply last_manner refusal)) w told part.bytes_are
-    (take_mark part.count (refusal_reply last_manner refusal) (refusal_mark last_manner refusal)) is done
-ends_so_not_done {C} refusal a b w ended.Memory same told is done =
-    same_not_done a.output b.output w (ap (λ (x : Scene C). x.output) same) told is done
-ends_so_not_done refusal a b w other never told is done = absurd never
+so_other : {C : Type 0} (refusal : Denial) (a b : Scene C) (by : Ended) → EndsSo refusal a b by → Other a.output b.output
+so_other refusal a b ended.BadMessage wrote = (_, wrote.bytes_are, refusal_mark last_manner refusal)
+so_other refusal a b ended.WriteFault part =
+    (_, part.bytes_are, take_mark part.count (refusal_reply last_manner refusal) (refusal_mark last_manner refusal))
+so_other refusal a b ended.Memory same = same_other a b same
+so_other refusal a b other never = absurd never
 
-pub ends_not_done : {C : Type 0} (why : WireFault) (a b : Scene C) (w : List ℕ) (by : Ended) → EndsBy why a b by
-    → IsSome a.output → Appends a.output b.output w → is_done w ≡ true → ⊥
-ends_not_done {C} wire.ReadFault a b w by (is, same) told wrote done =
-    same_not_done a.output b.output w (ap (λ (x : Scene C). x.output) same) told wrote done
-ends_not_done {C} wire.Memory a b w by (is, same) told wrote done =
-    same_not_done a.output b.output w (ap (λ (x : Scene C). x.output) same) told wrote done
-ends_not_done other a b w by ends told wrote done = ends_so_not_done (denial_of other) a b w by ends told wrote done
+pub ends_other : {C : Type 0} (why : WireFault) (a b : Scene C) (by : Ended) → EndsBy why a b by → Other a.output b.output
+ends_other wire.ReadFault a b by (is, same) = same_other a b same
+ends_other wire.Memory a b by (is, same) = same_other a b same
+ends_other other a b by ends = so_other (denial_of other) a b by ends

@@ -1,5 +1,5 @@
 -- What a turn that took a PUT, and said that it stored it, leaves in the seat's book.
-use Rattle.std.proofs.Common.{ℕ, ◌<◌, ◌≡◌, Bool, List, [], ◌∷◌, length, Option, None, Some, Result, Ok, Err, refl, sym, ap, subst, ◌∙◌, arith}
+use Rattle.std.proofs.Common.{ℕ, ◌<◌, ◌≡◌, Bool, List, length, Option, None, Some, Result, Ok, Err, refl, sym, ap, subst, ◌∙◌}
 use Rattle.std.specs.Prelude.{IfSome, IsOk, OnOk}
 use Rattle.nf_base.specs.declared.content.Piece.{Piece}
 use Rattle.nf_dav.specs.Asked.{request_of}
@@ -31,10 +31,12 @@ use Rattle.nf_session.specs.declared.ended.Ended.{Ended}
 use Rattle.nf_session.specs.declared.response.Response.{Response}
 use Rattle.nf_session.specs.declared.response.Response.TheVariants as response
 use Rattle.nf_session.proofs.Inviting.{invites_wrote}
-use Rattle.nf_promises.proofs.Alone.{entered, no_others, only_within, same_state}
-use Rattle.nf_promises.proofs.Growing.{closes_grow, grows_none, grows_on, heads_same, judges_grow, responds_grow, takes_grow}
+use Rattle.nf_session.proofs.Calm.{closes_go, goes_first, goes_last, goes_then, heads_go, invites_go, judges_go, takes_go}
+use Rattle.nf_session.proofs.Causes.{responds_go}
+use Rattle.nf_session.proofs.Moving.{no_others}
+use Rattle.nf_promises.proofs.Growing.{entered, heads_same, only_within, same_state}
 use Rattle.nf_promises.proofs.Putting.{IsOfPut, content_of_body, ok_answer, put_is_got, put_replies, put_size}
-use Rattle.nf_promises.proofs.Touches.{book_of, stored_only}
+use Rattle.nf_promises.proofs.Touches.{StartsOther, book_of, starts_other, stored_only}
 use Rattle.nf_promises.specs.Kept.{OnlyOwn, Puts, SaysStored, get_of, put_of}
 use Rattle.nf_words.specs.declared.answer.Goal.TheVariants.{Serve}
 
@@ -98,14 +100,12 @@ not_stored : (v : Response) (refusal : Denial) → v ≡ response.Denied refusal
 not_stored v refusal is says = subst (λ (x : Response). SaysStored x) is says
 
 starts_not_stored : (a b : Book) (content : List Piece) (v : Response) → Starts a b content v → SaysStored v → ⊥
-starts_not_stored a b [] response.Made never says = never
-starts_not_stored a b (piece ∷ pieces) response.Made never says = never
-starts_not_stored a b [] response.Done never says = never
-starts_not_stored a b (piece ∷ pieces) response.Done never says = never
-starts_not_stored a b content (response.Denied refusal) never says = says
-starts_not_stored a b content (response.Listing lines) never says = says
-starts_not_stored a b content (response.Lost fault) never says = says
-starts_not_stored a b content (response.File other first) never says = says
+starts_not_stored a b content v starts says = here v (starts_other a b content v starts) says
+  where
+    here : (v : Response) → StartsOther v → SaysStored v → ⊥
+    here (response.File other first) starts says = says
+    here (response.Lost fault) starts says = says
+    here other never says = absurd never
 
 stored_ok : (answer : Answer) (v : Response) → IsResponse answer v → SaysStored v → IsOk answer
 stored_ok (Ok r) v is says = refl
@@ -149,17 +149,14 @@ put_begun reads head (begun.Asked (Ok (reply.Granted (goal.Store who key size)))
     let same : n ≡ size = put_size (state_of a.book) e.seat e.moment no_words caller spot n who key size
     (ok_answer (state_of a.book) e (Begin no_words (put_of caller spot n)) (reply.Granted (goal.Store who key size)) begin.event_is begin.answer_is).1 in
     record { who = who; key = key; is = ap (λ (l : ℕ). begun.Asked (Ok (reply.Granted (goal.Store who key l)))) (sym same) }
-put_begun reads head (begun.Asked (Ok reply.Made)) v a m x b body caller spot n asked (r, now, is, read, begins, only) passes says one =
-    absurd (begins_put a.book m.book now caller spot n reply.Made one
-    (asked_enters a.book m.book now head caller spot n r (Ok reply.Made) asked is begins.entry))
-put_begun reads head (begun.Asked (Ok reply.Done)) v a m x b body caller spot n asked (r, now, is, read, begins, only) passes says one =
-    absurd (begins_put a.book m.book now caller spot n reply.Done one
-    (asked_enters a.book m.book now head caller spot n r (Ok reply.Done) asked is begins.entry))
 put_begun reads head (begun.Asked (Ok reply.Closed)) v a m x b body caller spot n asked judges passes says one = absurd passes.0
 put_begun reads head (begun.Asked (Ok (reply.Listing lines))) v a m x b body caller spot n asked judges passes says one =
     absurd (subst (λ (w : Response). SaysStored w) passes.0 says)
 put_begun reads head (begun.Asked (Err refusal)) v a m x b body caller spot n asked judges passes says one =
     absurd (not_stored v refusal passes.0 says)
+put_begun reads head (begun.Asked (Ok word)) v a m x b body caller spot n asked (r, now, is, read, begins, only) passes says one =
+    absurd (begins_put a.book m.book now caller spot n word one
+    (asked_enters a.book m.book now head caller spot n r (Ok word) asked is begins.entry))
 
 kept_stored : {C : Type 0} (reads : C → ℕ → C → Type 0) (head : Head) (who : Seeker) (key : LockKey) (v : Response) (a m n x b : Scene C) (body : List ℕ)
     (caller : Caller) (spot : Spot) (size : ℕ) → request_of head ≡ Ok (put_of caller spot size)
@@ -190,10 +187,7 @@ closes_book : {C : Type 0} (reads : C → ℕ → C → Type 0) (v : Response) (
     → Closes reads (how_of v result) (stays_granted v) a b → b.book ≡ a.book
 closes_book {C} reads response.Made a b result says same = ap (λ (x : Scene C). x.book) same
 closes_book {C} reads response.Done a b result says same = ap (λ (x : Scene C). x.book) same
-closes_book reads (response.Denied refusal) a b result says same = absurd says
-closes_book reads (response.Listing lines) a b result says same = absurd says
-closes_book reads (response.Lost fault) a b result says same = absurd says
-closes_book reads (response.File content first) a b result says same = absurd says
+closes_book reads other a b result says same = absurd says
 
 pub put_is_kept : {C : Type 0} (reads : C → ℕ → C → Type 0) (last : Bool) (caller : Caller) (spot : Spot) (body : List ℕ) (a b : Scene C)
     (end : Option Ended) → Puts reads last caller spot body a b end
@@ -202,22 +196,16 @@ put_is_kept reads last caller spot body a b end put sound only =
     let answers = put.answers in
     let v = answers.response in
     let same : put.behind.book ≡ a.book = heads_same a put.behind (Ok (Some put.head)) put.heads in
-    let none = grows_none put.behind.book put.behind.book refl in
-    let first = judges_grow reads put.head put.behind put.judged put.begun put.judges in
+    let heads = heads_go a put.behind 0 (Some put.head) put.heads in
+    let first = judges_go reads put.head put.behind put.judged put.begun put.judges in
     let told : put.invited.book ≡ put.judged.book = ap (λ (x : Scene _). x.book)
     (invites_wrote put.head put.begun put.judged put.invited (Unit {0}) tt put.invites).only in
-    let second = grows_on put.judged.book put.invited.book answers.taken.book 0 1 1 (omega arith) (grows_none put.judged.book put.invited.book told)
-    (takes_grow reads put.head put.invited answers.taken put.begun (Ok v) answers.takes) in
-    let third = grows_on answers.taken.book answers.sent.book b.book 0 1 1 (omega arith)
-    (responds_grow last (way_of put.head put.begun) v answers.taken answers.sent answers.result answers.responds)
-    (closes_grow reads (how_of v answers.result) (stays_granted v) answers.sent b answers.closes) in
-    let behind : OnlyOwn put.behind.book b.book = subst (λ (k : Book). OnlyOwn k b.book) (sym same) only in
-    let rest = grows_on put.judged.book answers.taken.book b.book 1 1 2 (omega arith) second third in
-    let front = grows_on put.behind.book put.behind.book put.judged.book 0 1 1 (omega arith) none first in
-    let one : OnlyOwn put.behind.book put.judged.book =
-    only_within put.behind.book put.behind.book put.judged.book b.book 0 1 2 none first rest behind in
-    let two : OnlyOwn put.judged.book answers.taken.book =
-    only_within put.behind.book put.judged.book answers.taken.book b.book 1 1 1 front second third behind in
+    let second = goes_first (invites_go put.head put.begun put.judged put.invited put.invites)
+    (takes_go reads put.head put.invited answers.taken put.begun v answers.takes) in
+    let third = goes_last (responds_go last (way_of put.head put.begun) v answers.taken answers.sent answers.result answers.responds)
+    (closes_go reads (how_of v answers.result) (stays_granted v) answers.sent b answers.closes) in
+    let one : OnlyOwn put.behind.book put.judged.book = only_within heads.book first.book (goes_then second third).book only in
+    let two : OnlyOwn put.judged.book answers.taken.book = only_within (goes_first heads first).book second.book third.book only in
     let kept = kept_taken reads put.head put.begun v put.behind put.judged put.invited answers.takes.0 answers.taken answers.takes.1
     caller spot (length body) put.asked put.judges told answers.takes.2 answers.takes.3
     put.stored (subst (λ (k : Book). IsSound (state_of k)) (sym same) sound) one two in

@@ -1,5 +1,5 @@
 -- What a PUT that was stored makes of the state, and of a GET of its path behind it.
-use Rattle.std.proofs.Common.{ℕ, ◌-◌, ◌≡◌, false, List, [], ◌∷◌, ◌++◌, length, Option, None, Some, Result, Ok, Err, is_some, slice_get, unwrap_or, get_or, if◌then◌else◌, refl, sym, ap, subst, ◌∙◌, arith, length-append}
+use Rattle.std.proofs.Common.{ℕ, ◌-◌, ◌≡◌, false, List, [], ◌∷◌, ◌++◌, length, Option, None, Some, Result, Ok, is_some, slice_get, unwrap_or, get_or, if◌then◌else◌, refl, sym, ap, subst, ◌∙◌, arith, length-append}
 use Rattle.std.specs.Prelude.{IsOk, bytes_eq}
 use Rattle.std.specs.List.{list_all}
 use Rattle.std.specs.Option.{option_and_then, option_map_or}
@@ -77,17 +77,10 @@ ok_answer s e event r event_is is =
 
 put_only : (d : Result Allowed Denial) (who : Seeker) (key : LockKey) (size : ℕ) → answered_by d ≡ Ok (Granted (Store who key size))
     → d ≡ Ok (allowed.Put who key size)
-put_only (Ok (allowed.Get node content)) who key size is = absurd (cc)
-put_only (Ok (allowed.List listing)) who key size is = absurd (cc)
 put_only (Ok (allowed.Put by at length)) who key size is = cc
-put_only (Ok (allowed.StoreNew row blob)) who key size is = absurd (cc)
-put_only (Ok (allowed.StoreOver node content blob)) who key size is = absurd (cc)
-put_only (Ok (allowed.Mkcol row)) who key size is = absurd (cc)
-put_only (Ok (allowed.Delete node)) who key size is = absurd (cc)
 put_only (Ok (allowed.Move transfer name)) who key size is = absurd (put_grants_nothing transfer.replaced (Store who key size) (cc))
 put_only (Ok (allowed.Copy rows replaced)) who key size is = absurd (put_grants_nothing replaced (Store who key size) (cc))
-put_only (Ok allowed.Close) who key size is = absurd (cc)
-put_only (Err refusal) who key size is = absurd (cc)
+put_only other who key size is = absurd (cc)
 
 -- the answers of a PUT's Begin, but for refusals
 abbrev pub IsOfPut : Reply → Type 0
@@ -129,8 +122,7 @@ put_size s seat now words caller spot n who key size is =
     stored_size (seeker.User (asker_of call)) (last_name spot) n (found call spot) who key size
     (call_passes call (allowed.Put who key size) decides).1
 
-last_is : (front : List (List ℕ)) (last : List ℕ)
-    → unwrap_or (slice_get (front ++ last ∷ []) (length (front ++ last ∷ []) - 1)) [] ≡ last
+last_is : (front : List (List ℕ)) (last : List ℕ) → unwrap_or (slice_get (front ++ last ∷ []) (length (front ++ last ∷ []) - 1)) [] ≡ last
 last_is front last =
     let names : List (List ℕ) = front ++ last ∷ [] in
     let at : length names - 1 ≡ length front = omega (arith, length-append front (last ∷ [])) in

@@ -39,17 +39,13 @@ request_not_full head is = false≢true (unasked_refusal head denial.RunFull is)
 
 -- ---- an End
 
+found_not_full : (a : Bool) → (if a then None else Some denial.NotFound) ≡ Some denial.RunFull → ⊥
+found_not_full true is = cc
+found_not_full false is = cc
+
 lost_not_full : (t : Tables) (key : LockKey) → key_lost t key ≡ Some denial.RunFull → ⊥
-lost_not_full t (Node node) is = here (is_file t.nodes node) is
-  where
-    here : (a : Bool) → (if a then None else Some denial.NotFound) ≡ Some denial.RunFull → ⊥
-    here true is = cc
-    here false is = cc
-lost_not_full t (Slot folder name) is = here (is_folder t.nodes folder && is_none (child_of t.nodes folder name)) is
-  where
-    here : (a : Bool) → (if a then None else Some denial.NotFound) ≡ Some denial.RunFull → ⊥
-    here true is = cc
-    here false is = cc
+lost_not_full t (Node node) is = found_not_full (is_file t.nodes node) is
+lost_not_full t (Slot folder name) is = found_not_full (is_folder t.nodes folder && is_none (child_of t.nodes folder name)) is
 
 limit_not_full : (o : Option Limit) → option_map denial.Limit o ≡ Some denial.RunFull → ⊥
 limit_not_full None is = cc

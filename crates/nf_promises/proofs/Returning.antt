@@ -1,11 +1,10 @@
 -- What is put is what is got.
-use Rattle.std.proofs.Common.{ℕ, ◌≡◌, ◌||◌, ◌≤◌, ◌⊎◌, ◌++◌, length, Bool, false, List, Option, None, Some, Result, Ok, Err, inl, inr, refl, sym, ap, subst, ◌∙◌, arith}
+use Rattle.std.proofs.Common.{ℕ, ◌≡◌, ◌||◌, ◌≤◌, ◌⊎◌, ◌++◌, length, Bool, true, false, List, Option, None, Some, Result, Ok, Err, inl, inr, refl, sym, ap, subst, ◌∙◌, arith}
 use Rattle.std.specs.Prelude.{IsOk, MatchBool}
 use Rattle.std.specs.Io.KnownBytes.{Appends}
 use Rattle.nf_defs.specs.Blobs.{Blobs}
 use Rattle.nf_dav.specs.Asked.{request_of}
 use Rattle.nf_dav.specs.Reply.{continue_reply, file_head, refusal_reply}
-use Rattle.nf_dav.specs.declared.replies.Manner.{Manner}
 use Rattle.nf_http.specs.Head.{Head, closes_session}
 use Rattle.nf_http.specs.declared.wire.WireFault.{WireFault}
 use Rattle.nf_http.specs.declared.wire.WireFault.TheVariants as wire
@@ -19,12 +18,12 @@ use Rattle.nf_session.specs.declared.begun.Begun.{Begun}
 use Rattle.nf_session.specs.declared.ended.Ended.{Ended}
 use Rattle.nf_session.specs.declared.ended.Ended.TheVariants as ended
 use Rattle.nf_session.specs.declared.response.Response.{Response}
-use Rattle.nf_session.specs.declared.response.Response.TheVariants as response
-use Rattle.nf_session.proofs.Calm.{closes_calm, writes_calm}
+use Rattle.nf_session.proofs.Calm.{closes_go, goes_first, goes_then, invites_go, judges_go, writes_go}
+use Rattle.nf_session.proofs.Causes.{answers_go, is_whole, turn_goes, whole_by}
+use Rattle.nf_session.proofs.Moving.{same_moves}
 use Rattle.nf_session.proofs.Inviting.{stops_sends}
-use Rattle.nf_promises.proofs.Alone.{only_within}
-use Rattle.nf_promises.proofs.Gets.{Shown, begun_shown, get_not_invited}
-use Rattle.nf_promises.proofs.Growing.{answers_grow, grows_none, grows_on, heads_same, invites_grow, judges_grow, meets_grow}
+use Rattle.nf_promises.proofs.Gets.{ShownOf, begun_shown, get_not_invited}
+use Rattle.nf_promises.proofs.Growing.{heads_same, only_within}
 use Rattle.nf_promises.proofs.Puts.{IsKept, put_is_kept}
 use Rattle.nf_promises.proofs.Touches.{closes_only, judges_only, output_of, passes_only}
 use Rattle.nf_promises.specs.Kept.{AreOfBody, FailsStore, IsWritten, OnlyOwn, PutThenGet, ShowsDamage, ShowsFile, get_of, plainly, waits}
@@ -36,27 +35,18 @@ takes_output {C} reads head a b begun v (m, body, bodies, passes) =
 
 -- ---- what was written whole
 
-writes_not_closed : {C : Type 0} (manner : Manner) (v : Response) (a b : Scene C) → Writes {T = Unit {0}} manner v a b (Err ended.Closed) → ⊥
-writes_not_closed manner (response.Denied refusal) a b never = never
-writes_not_closed manner (response.Lost fault) a b never = never
-writes_not_closed manner (response.File content first) a b never = never
-writes_not_closed manner response.Made a b never = never
-writes_not_closed manner response.Done a b never = never
-writes_not_closed manner (response.Listing lines) a b never = never
+is_written : (end : Option Ended) → IsWritten end → is_whole end ≡ true
+is_written None written = refl
+is_written (Some ended.Closed) written = refl
+is_written (Some other) written = absurd written
 
 -- how it was written
-abbrev WroteWhole : {C : Type 0} → Bool → Way → Response → Scene C → Scene C → Type 0
-WroteWhole last way v a b = IsWritten (end_of way.closes v) × Writes {T = Unit {0}} (manner_of last way v) v a b (Ok tt)
-
-wrote_by : {C : Type 0} (last : Bool) (way : Way) (v : Response) (a b : Scene C) (by : Ended)
-    → Writes {T = Unit {0}} (manner_of last way v) v a b (Err by) → IsWritten (Some by) → WroteWhole last way v a b
-wrote_by last way v a b ended.Closed writes written = absurd (writes_not_closed (manner_of last way v) v a b writes)
-wrote_by last way v a b other writes written = absurd written
-
 wrote_whole : {C : Type 0} (last : Bool) (way : Way) (v : Response) (a b : Scene C) (result : Result (Option Ended) Ended)
-    → Responds last way v a b result → IsWritten (end_by result) → WroteWhole last way v a b
-wrote_whole last way v a b (Ok end) (is, writes) written = (subst (λ (e : Option Ended). IsWritten e) is written, writes)
-wrote_whole last way v a b (Err by) writes written = wrote_by last way v a b by writes written
+    → Responds last way v a b result → IsWritten (end_by result)
+    → IsWritten (end_of way.closes v) × Writes {T = Unit {0}} (manner_of last way v) v a b (Ok tt)
+wrote_whole last way v a b result responds written =
+    let whole = whole_by last way v a b result responds (is_written (end_by result) written) in
+    (subst (λ (e : Option Ended). IsWritten e) whole.0 written, whole.1)
 
 ends_not_closed : {C : Type 0} (fault : WireFault) (a b : Scene C) → EndsBy fault a b ended.Closed → ⊥
 ends_not_closed wire.ReadFault a b (is, same) = cc
@@ -89,40 +79,29 @@ damage_by : {C : Type 0} (told : Option Blobs) (close : Bool) (k a b c : Scene C
 damage_by None close k a b c front end (damage, is) = (damage, appends_by k.output c.output a.output b.output _ front end is)
 damage_by (Some shelf) close k a b c front end never = never
 
-shown_later : {C : Type 0} (close unsent : Bool) (body : List ℕ) (k a b c : Scene C) → a.output ≡ k.output → b.output ≡ c.output
-    → a.book.strikes ≤ c.book.strikes → Shown close unsent body k.book a b → ShowsFile close unsent body k c
-shown_later close unsent body k a b c front end later (inl (bytes, are, is)) =
+shown_by : {C : Type 0} (close unsent : Bool) (body : List ℕ) (told : Option Blobs) (fails more : Type 0) (k a b c : Scene C) → a.output ≡ k.output
+    → b.output ≡ c.output → (fails → more) → ShownOf close unsent body told fails a b → ShownOf close unsent body told more k c
+shown_by close unsent body told fails more k a b c front end still (inl (bytes, are, is)) =
     inl (bytes, are, appends_by k.output c.output a.output b.output _ front end is)
-shown_later close unsent body k a b c front end later (inr (inl is)) = inr (inl (appends_by k.output c.output a.output b.output _ front end is))
-shown_later close unsent body k a b c front end later (inr (inr (inl is))) =
+shown_by close unsent body told fails more k a b c front end still (inr (inl is)) =
+    inr (inl (appends_by k.output c.output a.output b.output _ front end is))
+shown_by close unsent body told fails more k a b c front end still (inr (inr (inl is))) =
     inr (inr (inl (appends_by k.output c.output a.output b.output _ front end is)))
-shown_later close unsent body k a b c front end later (inr (inr (inr (inl (is, fails))))) =
-    let still : FailsStore k.book c.book = omega (arith, later, fails) in
-    inr (inr (inr (inl (appends_by k.output c.output a.output b.output _ front end is, still))))
-shown_later close unsent body k a b c front end later (inr (inr (inr (inr damage)))) =
-    inr (inr (inr (inr (damage_by k.book.told close k a b c front end damage))))
+shown_by close unsent body told fails more k a b c front end still (inr (inr (inr (inl (is, failed))))) =
+    inr (inr (inr (inl (appends_by k.output c.output a.output b.output _ front end is, still failed))))
+shown_by close unsent body told fails more k a b c front end still (inr (inr (inr (inr damage)))) =
+    inr (inr (inr (inr (damage_by told close k a b c front end damage))))
 
 -- nor does taking a head write anything
 pub front_shown : {C : Type 0} (close unsent : Bool) (body : List ℕ) (k a c : Scene C) → a.output ≡ k.output → a.book ≡ k.book
     → ShowsFile close unsent body a c → ShowsFile close unsent body k c
-front_shown close unsent body k a c front book (inl (bytes, are, is)) =
-    inl (
-      bytes,
-      subst (λ (x : Book). AreOfBody x.told body bytes) book are,
-      appends_by k.output c.output a.output c.output _ front refl is,
-    )
-front_shown close unsent body k a c front book (inr (inl is)) = inr (inl (appends_by k.output c.output a.output c.output _ front refl is))
-front_shown close unsent body k a c front book (inr (inr (inl is))) =
-    inr (inr (inl (appends_by k.output c.output a.output c.output _ front refl is)))
-front_shown close unsent body k a c front book (inr (inr (inr (inl (is, fails))))) =
-    inr (inr (inr (inl (appends_by k.output c.output a.output c.output _ front refl is, subst (λ (x : Book). FailsStore x c.book) book fails))))
-front_shown close unsent body k a c front book (inr (inr (inr (inr damage)))) =
-    inr (inr (inr (inr (subst (λ (x : Book). ShowsDamage x.told close k c) book (damage_by a.book.told close k a c c front refl damage)))))
+front_shown close unsent body k a c front book shown =
+    subst (λ (x : Book). ShownOf close unsent body x.told (FailsStore x c.book) k c) book
+    (shown_by close unsent body a.book.told (FailsStore a.book c.book) (FailsStore a.book c.book) k a c c front refl (λ fails. fails) shown)
 
 -- over a store that tells, it is the body
 pub told_shown : {C : Type 0} (close unsent : Bool) (body : List ℕ) (shelf : Blobs) (a b : Scene C) → a.book.told ≡ Some shelf
-    → ShowsFile close unsent body a b
-    → Appends a.output b.output (file_head close (length body) ++ body)
+    → ShowsFile close unsent body a b → Appends a.output b.output (file_head close (length body) ++ body)
     ⊎ Appends a.output b.output (refusal_reply (plainly close) denial.Memory)
     ⊎ Appends a.output b.output (refusal_reply (plainly (close || unsent)) denial.Memory)
     ⊎ (Appends a.output b.output (refusal_reply (plainly close) denial.Store) × FailsStore a.book b.book)
@@ -147,12 +126,10 @@ answers_shown {C} reads last head caller spot body begun k m b end asked judges 
     let front : answers.taken.output ≡ k.output = takes_output reads head m answers.taken begun v answers.takes ∙ output_of k m (judges_only reads head k m begun judges) in
     let closed = output_of answers.sent b (closes_only reads (how_of v answers.result) (stays_granted v) answers.sent b answers.closes) in
     let later : answers.taken.book.strikes ≤ b.book.strikes =
-    omega (
-      arith,
-      (writes_calm (manner_of last (way_of head begun) v) v answers.taken answers.sent wrote.1).onward.lasts.strikes,
-      (closes_calm reads (how_of v answers.result) (stays_granted v) answers.sent b answers.closes).onward.lasts.strikes,
-    ) in
-    shown_later (last || closes_session head) (waits head) body k answers.taken answers.sent b front (sym closed) later shown
+    (goes_then (writes_go (manner_of last (way_of head begun) v) v answers.taken answers.sent wrote.1)
+    (closes_go reads (how_of v answers.result) (stays_granted v) answers.sent b answers.closes)).book.onward.lasts.strikes in
+    shown_by (last || closes_session head) (waits head) body k.book.told (FailsStore k.book answers.taken.book) (FailsStore k.book b.book)
+    k answers.taken answers.sent b front (sym closed) (λ fails. omega (arith, later, fails)) shown
 
 pub meets_shown : {C : Type 0} (reads : C → ℕ → C → Type 0) (last : Bool) (head : Head) (caller : Caller) (spot : Spot) (body : List ℕ)
     (k b : Scene C) (end : Option Ended) → Meets reads last head k b end → request_of head ≡ Ok (get_of caller spot)
@@ -162,8 +139,8 @@ meets_shown reads last head caller spot body k b end (m, begun, judges, inl stop
     (subst (λ (e : Option Ended). IsWritten e) stops.ends written))
 meets_shown {C} reads last head caller spot body k b end (m, begun, judges, inr (n, invites, inl answers)) asked kept only written =
     let one : OnlyOwn k.book m.book =
-    only_within k.book k.book m.book b.book 0 1 2 (grows_none k.book k.book refl) (judges_grow reads head k m begun judges)
-    (grows_on m.book n.book b.book 0 2 2 (omega arith) (invites_grow head begun m n invites) (answers_grow reads last head begun n b end answers)) only in
+    only_within (same_moves k.book k.book 0 refl) (judges_go reads head k m begun judges).book
+    (goes_first (invites_go head begun m n invites) (answers_go reads last head begun n b end answers)).book only in
     let same : n ≡ m = quiet head begun m n (get_not_invited reads head caller spot body begun k m asked judges kept one) invites in
     answers_shown reads last head caller spot body begun k m b end asked judges kept one
     (subst (λ (x : Scene C). Answers reads last head begun x b end) same answers) written
@@ -173,14 +150,11 @@ meets_shown reads last head caller spot body k b end (m, begun, judges, inr (n, 
 pub put_then_get : {C : Type 0} (reads : C → ℕ → C → Type 0) → PutThenGet reads
 put_then_get {C} reads caller spot body a b c first last end done put get sound only written =
     let same : get.behind.book ≡ b.book = heads_same b get.behind (Ok (Some get.head)) get.heads in
-    let none = grows_none a.book a.book refl in
-    let heads = grows_none a.book put.behind.book (heads_same a put.behind (Ok (Some put.head)) put.heads) in
-    let one = grows_on a.book put.behind.book b.book 0 3 3 (omega arith) heads
-    (meets_grow reads first put.head put.behind b end (put.judged, put.begun, put.judges, inr (put.invited, put.invites, inl put.answers))) in
-    let two = grows_on b.book get.behind.book c.book 0 3 3 (omega arith) (grows_none b.book get.behind.book same)
-    (meets_grow reads last get.head get.behind c done get.meets) in
-    let kept = put_is_kept reads first caller spot body a b end put sound (only_within a.book a.book b.book c.book 0 3 3 none one two only) in
-    let rest : OnlyOwn b.book c.book = only_within a.book b.book c.book c.book 3 3 0 one two (grows_none c.book c.book refl) only in
+    let one = turn_goes reads first a b end
+    (inr (inr (put.behind, put.head, put.heads, (put.judged, put.begun, put.judges, inr (put.invited, put.invites, inl put.answers))))) in
+    let two = turn_goes reads last b c done (inr (inr (get.behind, get.head, get.heads, get.meets))) in
+    let kept = put_is_kept reads first caller spot body a b end put sound (only_within (same_moves a.book a.book 0 refl) one.book two.book only) in
+    let rest : OnlyOwn b.book c.book = only_within one.book two.book (same_moves c.book c.book 0 refl) only in
     let shown = meets_shown reads last get.head caller spot body get.behind c done get.meets get.asked
     (subst (λ (k : Book). IsKept k caller spot body) (sym same) kept) (subst (λ (k : Book). OnlyOwn k c.book) (sym same) rest) written in
     front_shown (last || closes_session get.head) (waits get.head) body b get.behind c

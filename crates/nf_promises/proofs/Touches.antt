@@ -1,14 +1,12 @@
 -- What each step of a turn touches.
-use Rattle.std.proofs.Common.{ℕ, ◌≡◌, Bool, true, false, List, Option, Result, Ok, Err, refl, sym, ap, subst, ◌∙◌}
-use Rattle.nf_dav.specs.Reply.{continue_reply, done_reply, made_reply}
+use Rattle.std.proofs.Common.{ℕ, ◌≡◌, Bool, true, false, List, [], ◌∷◌, Option, Result, Ok, Err, refl, sym, ap, subst, ◌∙◌}
 use Rattle.nf_http.specs.Head.{Head}
-use Rattle.nf_http.specs.declared.wire.WireFault.{WireFault}
-use Rattle.nf_http.specs.declared.wire.WireFault.TheVariants as wire
-use Rattle.nf_words.specs.declared.answer.Denial.{Denial}
 use Rattle.nf_words.specs.declared.answer.Goal.TheVariants as goal
 use Rattle.nf_words.specs.declared.answer.Reply.TheVariants as reply
-use Rattle.nf_session.specs.Steps.{Closes, EndsBy, EndsSo, Invites, Judges, OnlyAsks, OnlyWrites, Passes, Says, Scene, denial_of}
-use Rattle.nf_session.specs.Turn.{Responds, Way, says_close}
+use Rattle.nf_base.specs.declared.content.Piece.{Piece}
+use Rattle.nf_session.specs.Book.{Book}
+use Rattle.nf_session.specs.Steps.{Closes, Judges, OnlyAsks, OnlyWrites, Passes, Says, Scene, Starts}
+use Rattle.nf_session.specs.Turn.{Responds, Way}
 use Rattle.nf_session.specs.declared.backend.Ending.{Ending}
 use Rattle.nf_session.specs.declared.begun.Begun.{Begun}
 use Rattle.nf_session.specs.declared.begun.Begun.TheVariants as begun
@@ -16,8 +14,6 @@ use Rattle.nf_session.specs.declared.ended.Ended.{Ended}
 use Rattle.nf_session.specs.declared.ended.Ended.TheVariants as ended
 use Rattle.nf_session.specs.declared.response.Response.{Response}
 use Rattle.nf_session.specs.declared.response.Response.TheVariants as response
-use Rattle.nf_session.proofs.Inviting.{stops_sends}
-use Rattle.nf_session.proofs.Turns.{sends_says}
 use Rattle.nf_promises.specs.Kept.{SaysStored}
 
 asks_none : {C : Type 0} (a b : Scene C) → b ≡ a → OnlyAsks a b
@@ -44,16 +40,26 @@ pub passes_only : {C : Type 0} (reads : C → ℕ → C → Type 0) (body : List
 passes_only reads body a b (begun.Unasked refusal) v (is, same) = asks_none a b same
 passes_only reads body a b (begun.Asked (Ok (reply.Granted (goal.Serve content)))) v starts = asks_book a b starts.only
 passes_only reads body a b (begun.Asked (Ok (reply.Granted (goal.Store who key length)))) v (now, answer, read, ends, is, only) = only
-passes_only reads body a b (begun.Asked (Ok reply.Made)) v (is, same) = asks_none a b same
-passes_only reads body a b (begun.Asked (Ok reply.Done)) v (is, same) = asks_none a b same
-passes_only reads body a b (begun.Asked (Ok (reply.Listing lines))) v (is, same) = asks_none a b same
-passes_only reads body a b (begun.Asked (Ok reply.Closed)) v (is, same) = asks_none a b same
-passes_only reads body a b (begun.Asked (Err refusal)) v (is, same) = asks_none a b same
+passes_only reads body a b (begun.Asked other) v passes = asks_none a b passes.1
 
 pub closes_only : {C : Type 0} (reads : C → ℕ → C → Type 0) (how : Ending) (granted : Bool) (a b : Scene C) → Closes reads how granted a b
     → OnlyAsks a b
 closes_only reads how true a b (now, read, ends, only) = only
 closes_only reads how false a b same = asks_none a b same
+
+-- ---- the first piece
+
+-- what a file's first piece isn't responded by
+abbrev pub StartsOther : Response → Type 0
+StartsOther (response.File content first) = Unit {0}
+StartsOther (response.Lost fault) = Unit {0}
+StartsOther other = ⊥
+
+pub starts_other : (a b : Book) (content : List Piece) (v : Response) → Starts a b content v → StartsOther v
+starts_other a b content (response.File other first) starts = tt
+starts_other a b content (response.Lost fault) starts = tt
+starts_other a b [] other never = never
+starts_other a b (piece ∷ pieces) other never = never
 
 -- ---- the output alone
 
@@ -63,38 +69,13 @@ says_only a b bytes (Err ended.Memory) same = writes_none a b same
 says_only a b bytes (Err ended.WriteFault) part = part.only
 says_only a b bytes (Err other) never = absurd never
 
--- whoever is invited couldn't be told
-pub stops_only : {C : Type 0} (head : Head) (begun : Begun) (a b : Scene C) (by : Ended) → Invites {T = Unit {0}} head begun a b (Err by)
-    → OnlyWrites a b
-stops_only head begun a b by invites =
-    says_only {T = Unit {0}} a b continue_reply (Err by)
-    (sends_says {T = Unit {0}} a b continue_reply (Err by) (stops_sends head begun a b (Unit {0}) by invites))
-
 pub stored_only : {C : Type 0} (last : Bool) (way : Way) (v : Response) (a b : Scene C) (result : Result (Option Ended) Ended) → SaysStored v
     → Responds last way v a b result → OnlyWrites a b
-stored_only last way response.Made a b (Ok end) says (is, wrote) =
-    says_only {T = Unit {0}} a b (made_reply (says_close last way response.Made)) (Ok tt) wrote
-stored_only last way response.Made a b (Err by) says wrote =
-    says_only {T = Unit {0}} a b (made_reply (says_close last way response.Made)) (Err by) wrote
-stored_only last way response.Done a b (Ok end) says (is, wrote) =
-    says_only {T = Unit {0}} a b (done_reply (says_close last way response.Done)) (Ok tt) wrote
-stored_only last way response.Done a b (Err by) says wrote =
-    says_only {T = Unit {0}} a b (done_reply (says_close last way response.Done)) (Err by) wrote
-stored_only last way (response.Denied refusal) a b result says responds = absurd says
-stored_only last way (response.Listing lines) a b result says responds = absurd says
-stored_only last way (response.Lost why) a b result says responds = absurd says
-stored_only last way (response.File content first) a b result says responds = absurd says
-
-ends_so_only : {C : Type 0} (refusal : Denial) (a b : Scene C) (end : Ended) → EndsSo refusal a b end → OnlyWrites a b
-ends_so_only refusal a b ended.BadMessage wrote = writes_all a b wrote.only
-ends_so_only refusal a b ended.WriteFault part = part.only
-ends_so_only refusal a b ended.Memory same = writes_none a b same
-ends_so_only refusal a b other never = absurd never
-
-pub ends_only : {C : Type 0} (fault : WireFault) (a b : Scene C) (end : Ended) → EndsBy fault a b end → OnlyWrites a b
-ends_only wire.ReadFault a b end (is, same) = writes_none a b same
-ends_only wire.Memory a b end (is, same) = writes_none a b same
-ends_only other a b end ends = ends_so_only (denial_of other) a b end ends
+stored_only last way response.Made a b (Ok end) says (is, wrote) = writes_all a b wrote.only
+stored_only last way response.Made a b (Err by) says wrote = says_only {T = Unit {0}} a b _ (Err by) wrote
+stored_only last way response.Done a b (Ok end) says (is, wrote) = writes_all a b wrote.only
+stored_only last way response.Done a b (Err by) says wrote = says_only {T = Unit {0}} a b _ (Err by) wrote
+stored_only last way other a b result says responds = absurd says
 
 -- ---- one of these
 

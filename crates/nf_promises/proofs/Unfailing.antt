@@ -26,8 +26,8 @@ use Rattle.nf_session.specs.declared.ended.Ended.{Ended}
 use Rattle.nf_session.specs.declared.ended.Ended.TheVariants as ended
 use Rattle.nf_session.specs.declared.response.Response.{Response}
 use Rattle.nf_session.specs.declared.response.Response.TheVariants as response
-use Rattle.nf_session.proofs.Calm.{Calm, calm_same, calm_then, closes_calm, heads_calm, invites_calm, judges_calm, taken_calm}
-use Rattle.nf_session.proofs.Causes.{through_calm}
+use Rattle.nf_session.proofs.Calm.{Calm, calm_of, calm_then, closes_go, goes_then, heads_go, invites_go, judges_go, same_goes, takes_go}
+use Rattle.nf_session.proofs.Causes.{through_goes}
 use Rattle.nf_session.proofs.Inviting.{stops_sends}
 use Rattle.nf_session.proofs.Lasting.{lasts_then}
 use Rattle.nf_session.proofs.Turns.{sends_says}
@@ -43,10 +43,10 @@ says_whole a b bytes ended.WriteFault risen part = absurd (risen part.cause)
 says_whole a b bytes other risen never = absurd never
 
 -- how bytes that are no message end it then
-abbrev pub IsRefused : Ended → Type 0
-IsRefused by = (by ≡ ended.Memory) ⊎ (by ≡ ended.BadMessage)
+abbrev pub IsRefused : Option Ended → Type 0
+IsRefused end = (end ≡ Some ended.Memory) ⊎ (end ≡ Some ended.BadMessage)
 
-so_whole : {C : Type 0} (refusal : Denial) (a b : Scene C) (by : Ended) → (Rose a.write_faults b.write_faults → ⊥) → EndsSo refusal a b by → IsRefused by
+so_whole : {C : Type 0} (refusal : Denial) (a b : Scene C) (by : Ended) → (Rose a.write_faults b.write_faults → ⊥) → EndsSo refusal a b by → IsRefused (Some by)
 so_whole refusal a b ended.BadMessage risen wrote = inr refl
 so_whole refusal a b ended.WriteFault risen part = absurd (risen part.cause)
 so_whole refusal a b ended.Memory risen same = inl refl
@@ -95,12 +95,8 @@ module _ {C : Type 0} (a b : Scene C) (nothing : NothingFails a b) (whole : Stay
 
   writes_whole : (manner : Manner) (v : Response) (x y : Scene C) (by : Ended) → Calm a x → Calm y b
       → Writes {T = Unit {0}} manner v x y (Err by) → by ≡ ended.Memory
-  writes_whole manner (response.Denied refusal) x y by before behind says = says_whole x y _ by (not_risen x y before behind) says
-  writes_whole manner (response.Lost why) x y by before behind says = says_whole x y _ by (not_risen x y before behind) says
   writes_whole manner (response.File content first) x y by before behind sends = sends_whole manner.close content first x y by before behind sends
-  writes_whole manner response.Made x y by before behind says = says_whole x y _ by (not_risen x y before behind) says
-  writes_whole manner response.Done x y by before behind says = says_whole x y _ by (not_risen x y before behind) says
-  writes_whole manner (response.Listing lines) x y by before behind says = says_whole x y _ by (not_risen x y before behind) says
+  writes_whole manner other x y by before behind says = says_whole x y _ by (not_risen x y before behind) says
 
   -- it was written, or there was no memory for it
   pub responds_whole : (last : Bool) (way : Way) (v : Response) (x y : Scene C) (result : Result (Option Ended) Ended) → Calm a x → Calm y b
@@ -110,8 +106,8 @@ module _ {C : Type 0} (a b : Scene C) (nothing : NothingFails a b) (whole : Stay
   responds_whole last way v x y (Err by) before behind writes = inl (ap (λ (e : Ended). Some e) (writes_whole (manner_of last way v) v x y by before behind writes))
 
   pub cut_whole : (T : Type 0) (x m y : Scene C) (why : WireFault) (by : Ended) → Calm a x → Calm y b → OnlyReads x m
-      → HasReadCause {T = T} x.read_faults m.read_faults (Err why) → EndsBy why m y by → IsRefused by
-  cut_whole T x m y wire.Memory by before behind only cause (is, same) = inl is
+      → HasReadCause {T = T} x.read_faults m.read_faults (Err why) → EndsBy why m y by → IsRefused (Some by)
+  cut_whole T x m y wire.Memory by before behind only cause (is, same) = inl (ap (λ (e : Ended). Some e) is)
   cut_whole T x m y wire.ReadFault by before behind only cause (is, same) =
       absurd (not_unread x y before behind (ap (λ (s : Scene C). s.read_faults) same ∙ cause))
   cut_whole T x m y other by before behind only cause ends =
@@ -121,19 +117,16 @@ module _ {C : Type 0} (a b : Scene C) (nothing : NothingFails a b) (whole : Stay
   pub stop_whole : (reads : C → ℕ → C → Type 0) (head : Head) (u : Begun) (x : Scene C) (end : Option Ended) → Calm a x
       → StopsShort reads head u x b end → end ≡ Some ended.Memory
   stop_whole reads head u x end before stops =
-      let behind = closes_calm reads ending.Gone _ stops.sent b stops.closes in
+      let behind = calm_of (closes_go reads ending.Gone _ stops.sent b stops.closes) in
       let says = sends_says {T = Unit {0}} x stops.sent continue_reply (Err stops.by) (stops_sends head u x stops.sent (Unit {0}) stops.by stops.invites) in
       stops.ends ∙ ap (λ (e : Ended). Some e) (says_whole x stops.sent continue_reply stops.by (not_risen x stops.sent before behind) says)
 
   pub short_whole : (reads : C → ℕ → C → Type 0) (head : Head) (u : Begun) (x : Scene C) (end : Option Ended) → Calm a x
-      → CutsShort reads head u x b end → (end ≡ Some ended.Memory) ⊎ (end ≡ Some ended.BadMessage)
+      → CutsShort reads head u x b end → IsRefused end
   short_whole reads head u x end before cuts =
-      here (cut_whole ℕ x cuts.cut cuts.sent cuts.fault cuts.by before (closes_calm reads ending.Gone _ cuts.sent b cuts.closes)
+      subst (λ (e : Option Ended). IsRefused e) (sym cuts.ends)
+      (cut_whole ℕ x cuts.cut cuts.sent cuts.fault cuts.by before (calm_of (closes_go reads ending.Gone _ cuts.sent b cuts.closes))
       cuts.takes.only cuts.takes.cause cuts.responds)
-    where
-      here : IsRefused cuts.by → (end ≡ Some ended.Memory) ⊎ (end ≡ Some ended.BadMessage)
-      here (inl is) = inl (cuts.ends ∙ ap (λ (e : Ended). Some e) is)
-      here (inr is) = inr (cuts.ends ∙ ap (λ (e : Ended). Some e) is)
 
 -- ---- how a session ends
 
@@ -148,11 +141,7 @@ denial_well closes other = close_well closes
 
 response_well : (closes : Bool) (v : Response) → IsWell (end_of closes v)
 response_well closes (response.Denied refusal) = denial_well closes refusal
-response_well closes (response.Lost why) = close_well closes
-response_well closes (response.File content first) = close_well closes
-response_well closes response.Made = close_well closes
-response_well closes response.Done = close_well closes
-response_well closes (response.Listing lines) = close_well closes
+response_well closes other = close_well closes
 
 well_by : (end good : Option Ended) → end ≡ good → IsWell good → IsWell end
 well_by end good is well = subst (λ (e : Option Ended). IsWell e) (sym is) well
@@ -161,42 +150,38 @@ module _ {C : Type 0} (reads : C → ℕ → C → Type 0) (a b : Scene C) (noth
   answers_well : (last : Bool) (head : Head) (u : Begun) (x : Scene C) (end : Option Ended) → Calm a x → Answers reads last head u x b end → IsWell end
   answers_well last head u x end before answers =
       let v = answers.response in
-      let taken = calm_then a x answers.taken before (taken_calm reads head x answers.taken u v answers.takes) in
-      let behind = closes_calm reads (how_of v answers.result) (stays_granted v) answers.sent b answers.closes in
+      let taken = calm_then a x answers.taken before (calm_of (takes_go reads head x answers.taken u v answers.takes)) in
+      let behind = calm_of (closes_go reads (how_of v answers.result) (stays_granted v) answers.sent b answers.closes) in
       here (responds_whole a b nothing whole last (way_of head u) v answers.taken answers.sent answers.result taken behind answers.responds)
     where
-      here : (end_by answers.result ≡ Some ended.Memory)
-          ⊎ ((end_by answers.result ≡ end_of (way_of head u).closes answers.response)
+      here : (end_by answers.result ≡ Some ended.Memory) ⊎ ((end_by answers.result ≡ end_of (way_of head u).closes answers.response)
           × Writes {T = Unit {0}} (manner_of last (way_of head u) answers.response) answers.response answers.taken answers.sent (Ok tt)) → IsWell end
       here (inl is) = well_by end _ (answers.ends ∙ is) tt
       here (inr (is, writes)) = well_by end _ (answers.ends ∙ is) (response_well (way_of head u).closes answers.response)
 
-  refused_well : (end : Option Ended) → (end ≡ Some ended.Memory) ⊎ (end ≡ Some ended.BadMessage) → IsWell end
+  refused_well : (end : Option Ended) → IsRefused end → IsWell end
   refused_well end (inl is) = well_by end _ is tt
   refused_well end (inr is) = well_by end _ is tt
 
   meets_well : (last : Bool) (head : Head) (x : Scene C) (end : Option Ended) → Calm a x → Meets reads last head x b end → IsWell end
   meets_well last head x end before (n, u, judges, inl stops) =
-      well_by end _ (stop_whole a b nothing whole reads head u n end (calm_then a x n before (judges_calm reads head x n u judges)) stops) tt
+      well_by end _ (stop_whole a b nothing whole reads head u n end (calm_then a x n before (calm_of (judges_go reads head x n u judges))) stops) tt
   meets_well last head x end before (n, u, judges, inr (t, invites, inl answers)) =
       answers_well last head u t end
-      (calm_then a x t before (calm_then x n t (judges_calm reads head x n u judges) (invites_calm head u n t invites))) answers
+      (calm_then a x t before (calm_of (goes_then (judges_go reads head x n u judges) (invites_go head u n t invites)))) answers
   meets_well last head x end before (n, u, judges, inr (t, invites, inr cuts)) =
       refused_well end (short_whole a b nothing whole reads head u t end
-      (calm_then a x t before (calm_then x n t (judges_calm reads head x n u judges) (invites_calm head u n t invites))) cuts)
+      (calm_then a x t before (calm_of (goes_then (judges_go reads head x n u judges) (invites_go head u n t invites)))) cuts)
 
   turn_well : (last : Bool) (x : Scene C) (end : Option Ended) → Calm a x → Turn reads last x b end → IsWell end
   turn_well last x end before (inl (heads, is)) = well_by end _ is tt
   turn_well last x end before (inr (inl (m, why, by, heads, ends, is))) =
-      here (cut_whole a b nothing whole (Option Head) x m b why by before (calm_same b b refl) heads.only heads.cause ends)
-    where
-      here : IsRefused by → IsWell end
-      here (inl memory) = well_by end _ (is ∙ ap (λ (e : Ended). Some e) memory) tt
-      here (inr bad) = well_by end _ (is ∙ ap (λ (e : Ended). Some e) bad) tt
+      refused_well end (subst (λ (e : Option Ended). IsRefused e) (sym is)
+      (cut_whole a b nothing whole (Option Head) x m b why by before (calm_of (same_goes b b 0 refl)) heads.only heads.cause ends))
   turn_well last x end before (inr (inr (m, head, heads, meets))) =
-      meets_well last head m end (calm_then a x m before (heads_calm x m (Some head) heads)) meets
+      meets_well last head m end (calm_then a x m before (calm_of (heads_go x m 0 (Some head) heads))) meets
 
 pub ends_well : {C : Type 0} (reads : C → ℕ → C → Type 0) → EndsWell reads
 ends_well reads a b end session nothing whole =
     turn_well reads a b nothing whole (length session.scenes == 9999) session.before end
-    (through_calm reads a session.scenes session.before session.through) session.turn
+    (calm_of (through_goes reads a session.scenes session.before session.through)) session.turn

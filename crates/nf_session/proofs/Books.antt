@@ -1,5 +1,5 @@
 -- Books that are one legal history: what is held is the ticket's goal.
-use Rattle.std.proofs.Common.{◌≡◌, ℕ, ◌+◌, List, [], ◌∷◌, ◌++◌, refl, sym, ◌∙◌, ap, subst, Ok, Err}
+use Rattle.std.proofs.Common.{◌≡◌, ℕ, ◌+◌, List, [], ◌∷◌, ◌++◌, refl, sym, ◌∙◌, ap, subst, Ok}
 use Rattle.std.proofs.lemmas.Bool.{eqb-true, eqb-false}
 use Rattle.std.specs.Prelude.{Bool, true, false, ◌==◌, if◌then◌else◌, Option, None, Some, IsNone, find, option_map}
 use Rattle.nf_words.specs.State.{State, opened, ticket_of}
@@ -41,11 +41,7 @@ none_of (Some ticket) none = absurd (cc)
 
 plain_none : (answer : Answer) → IsPlain answer → granted answer ≡ None
 plain_none (Ok (reply.Granted goal)) plain = absurd (plain goal refl)
-plain_none (Ok reply.Made) plain = refl
-plain_none (Ok reply.Done) plain = refl
-plain_none (Ok reply.Closed) plain = refl
-plain_none (Ok (reply.Listing lines)) plain = refl
-plain_none (Err refusal) plain = refl
+plain_none other plain = refl
 
 begin_holds : (s : State) (seat now : ℕ) (words : Words) (request : Request) → IsNone (ticket_of s seat) → (answer : Answer)
     → answer_to s seat now (Begin words request) ≡ answer → granted answer ≡ goal_in (step s seat now (Begin words request)) seat
@@ -60,11 +56,7 @@ begin_holds s seat now words request none answer is = here answer is
         → granted answer ≡ goal_in (step s seat now (Begin words request)) seat
     here (Ok (reply.Granted goal)) is =
         sym (ap (option_map (λ (t : Ticket). t.goal)) (granted_step s seat now (Begin words request) goal none is))
-    here (Ok reply.Made) is = keeps (λ goal granted. cc)
-    here (Ok reply.Done) is = keeps (λ goal granted. cc)
-    here (Ok reply.Closed) is = keeps (λ goal granted. cc)
-    here (Ok (reply.Listing lines)) is = keeps (λ goal granted. cc)
-    here (Err refusal) is = keeps (λ goal granted. cc)
+    here other is = keeps (λ goal granted. cc)
 
 step_holds : (s : State) (seat now : ℕ) (event : Event) → MayAsk s seat event
     → granted (answer_to s seat now event) ≡ goal_in (step s seat now event) seat
@@ -88,8 +80,7 @@ held_from seat n s [] before is legal = is
 held_from seat n s (e ∷ es) before is legal =
     here (e.seat == seat) refl (λ before is. held_from seat (n + 1) (after s e) es before is legal.1)
   where
-    here : (own : Bool) → (e.seat == seat) ≡ own
-        → ((before : Option Goal) → before ≡ goal_in (after s e) seat
+    here : (own : Bool) → (e.seat == seat) ≡ own → ((before : Option Goal) → before ≡ goal_in (after s e) seat
         → held_after before (own_from seat (after s e) es) ≡ goal_in (replay (after s e) es) seat)
         → held_after before (if own then (e, answer_at s e e.mark) ∷ own_from seat (after s e) es else own_from seat (after s e) es)
         ≡ goal_in (replay (after s e) es) seat

@@ -1,82 +1,172 @@
--- Steps at which no end fails: what the seat knows goes on, and no count of faults rises.
-use Rattle.std.proofs.Common.{◌≡◌, ℕ, List, [], ◌∷◌, ◌++◌, ◌∙◌, ap, append_assoc, Ok, Err}
-use Rattle.std.specs.Prelude.{Bool, true, false, Option, None, Some, MatchBool, Vec}
+-- How scenes go on by each step: what the seat knows goes on, the output grows, and a fault of an end is counted where it is named.
+-- Here are the steps at which no end fails.
+use Rattle.std.proofs.Common.{◌≡◌, ℕ, ◌+◌, List, [], ◌++◌, sym, ◌∙◌, ap, subst, inl, refl, arith, Ok, Err}
+use Rattle.std.proofs.KnownBytes.{Appends-nil, Appends-trans}
+use Rattle.std.specs.Io.KnownBytes.{Appends}
+use Rattle.std.specs.Prelude.{Bool, true, false, Option, None, Vec}
 use Rattle.std.specs.declared.alloc.Global.{Global}
 use Rattle.nf_base.specs.declared.content.Piece.{Piece}
 use Rattle.nf_dav.specs.declared.replies.Manner.{Manner}
 use Rattle.nf_http.specs.Head.{Head}
 use Rattle.nf_words.specs.declared.answer.Goal.TheVariants as goal
 use Rattle.nf_words.specs.declared.answer.Reply.TheVariants as reply
-use Rattle.nf_words.specs.declared.history.Entry.{Entry}
-use Rattle.nf_words.specs.declared.history.Event.{Event}
-use Rattle.nf_words.specs.declared.request.Request.{Request}
-use Rattle.nf_words.specs.declared.request.Words.{Words}
-use Rattle.nf_session.specs.Book.{Answer, Begins, Book, Ends, Enters, Lasts, Waits, is_unmade}
-use Rattle.nf_session.specs.Book.{Passes as Unchanged}
-use Rattle.nf_session.specs.Files.{WritesPieces}
-use Rattle.nf_session.specs.Steps.{Bodies, Closes, Heads, Invites, Judges, OnlyAsks, OnlyReads, Passes, Scene, Starts, TakesIn, Wrote, taken_length}
+use Rattle.nf_session.specs.Book.{Answer}
+use Rattle.nf_session.specs.Files.{WritesPieces, file_front}
+use Rattle.nf_session.specs.Laws.{CountsFault, failed_first}
+use Rattle.nf_session.specs.Steps.{Bodies, Closes, Heads, Invites, IsResponse, Judges, OnlyAsks, OnlyReads, Passes, Scene, TakesIn, Wrote, taken_length}
 use Rattle.nf_session.specs.Turn.{Writes}
 use Rattle.nf_session.specs.declared.backend.Ending.{Ending}
-use Rattle.nf_session.specs.declared.backend.Ending.TheVariants as ending
 use Rattle.nf_session.specs.declared.begun.Begun.{Begun}
 use Rattle.nf_session.specs.declared.begun.Begun.TheVariants as begun
+use Rattle.nf_session.specs.declared.ended.Ended.{Ended}
 use Rattle.nf_session.specs.declared.response.Response.{Response}
 use Rattle.nf_session.specs.declared.response.Response.TheVariants as response
 use Rattle.nf_session.proofs.Inviting.{invites_wrote}
-use Rattle.nf_session.proofs.Lasting.{lasts_then, waits_same}
+use Rattle.nf_session.proofs.Moving.{Moves, Onward, Rises, begins_move, ends_move, enters_move, moves_then, onward_then, same_moves, starts_move, waits_move}
 
--- ---- books
+-- by so many entries of the seat's own at most, and so many pieces at which the store failed, to that end
+pub record Goes {C : Type 0} (a b : Scene C) (most pieces : ℕ) (end : Option Ended) : Type 0 where
+  pub book : Moves a.book b.book most pieces
+  pub bytes : List ℕ
+  pub output : Appends a.output b.output bytes
+  pub counts : CountsFault end a.read_faults b.read_faults a.write_faults b.write_faults
 
--- what every call keeps, and what is known stays known
-pub record Onward (a b : Book) : Type 0 where
-  pub lasts : Lasts a b
-  pub known : (more : List Entry) × (b.known ≡ a.known ++ more)
+module _ {C : Type 0} {a m b : Scene C} {n k : ℕ} {end : Option Ended} where
+  pub goes_then : {p q : ℕ} → Goes a m n p None → Goes m b k q end → Goes a b (n + k) (p + q) end
+  goes_then x y = record {
+    book = moves_then x.book y.book;
+    bytes = x.bytes ++ y.bytes;
+    output = Appends-trans a.output m.output b.output x.bytes y.bytes x.output y.output;
+    counts = subst (λ (z : ℕ). CountsFault end z b.read_faults a.write_faults b.write_faults) x.counts.0
+        (subst (λ (z : ℕ). CountsFault end m.read_faults b.read_faults z b.write_faults) x.counts.1 y.counts);
+  }
 
-pub waits_onward : (a b : Book) → Waits a b → Onward a b
-waits_onward a b waits = record { lasts = waits.lasts; known = waits.known }
+  -- a step before, or behind, that pays for no piece
+  pub goes_first : {q : ℕ} → Goes a m n 0 None → Goes m b k q end → Goes a b (n + k) q end
+  goes_first {q} x y = subst (λ (z : ℕ). Goes a b (n + k) z end) (zero q) (goes_then x y)
+    where
+      zero : (q : ℕ) → 0 + q ≡ q
+      zero q = omega arith
 
-pub same_onward : (a b : Book) → b ≡ a → Onward a b
-same_onward a b same = waits_onward a b (waits_same a b same)
+  pub goes_last : {p : ℕ} → Goes a m n p end → Goes m b k 0 None → Goes a b (n + k) p end
+  goes_last {p} x y = record {
+    book = subst (λ (z : ℕ). Moves a.book b.book (n + k) z) (zero p) (moves_then x.book y.book);
+    bytes = x.bytes ++ y.bytes;
+    output = Appends-trans a.output m.output b.output x.bytes y.bytes x.output y.output;
+    counts = subst (λ (z : ℕ). CountsFault end a.read_faults z a.write_faults b.write_faults) (sym y.counts.0)
+        (subst (λ (z : ℕ). CountsFault end a.read_faults m.read_faults a.write_faults z) (sym y.counts.1) x.counts);
+  }
+    where
+      zero : (p : ℕ) → p + 0 ≡ p
+      zero p = omega arith
 
-pub onward_then : (a m b : Book) → Onward a m → Onward m b → Onward a b
-onward_then a m b p q = record {
-  lasts = lasts_then a m b p.lasts q.lasts;
-  known = (
-    p.known.0 ++ q.known.0,
-    q.known.1 ∙ ap (λ (z : List Entry). z ++ q.known.0) p.known.1 ∙ append_assoc a.known p.known.0 q.known.0,
-  );
+-- ---- what was touched
+
+-- nothing was written
+quietly_goes : {C : Type 0} (a b : Scene C) (most pieces : ℕ) (end : Option Ended) → Moves a.book b.book most pieces → b.output ≡ a.output
+    → CountsFault end a.read_faults b.read_faults a.write_faults b.write_faults → Goes a b most pieces end
+quietly_goes a b most pieces end book output counts = record {
+  book = book;
+  bytes = [];
+  output = subst (λ (z : Option (List ℕ)). Appends a.output z []) (sym output) (Appends-nil a.output);
+  counts = counts;
 }
 
-enters_onward : (a b : Book) (now : ℕ) (event : Event) (answer : Answer) → Enters a b now event answer → Onward a b
-enters_onward a b now event answer enters = record {
-  lasts = enters.lasts;
-  known = (enters.others ++ enters.entry ∷ [], enters.known ∙ append_assoc a.known enters.others (enters.entry ∷ []));
+-- nor does an end fail in a scene that is like this one
+quiet : {C : Type 0} (a b x : Scene C) (most pieces : ℕ) → b ≡ x → x.output ≡ a.output → x.read_faults ≡ a.read_faults → x.write_faults ≡ a.write_faults
+    → Moves a.book b.book most pieces → Goes a b most pieces None
+quiet {C} a b x most pieces only output read write moves =
+    quietly_goes a b most pieces None moves (ap (λ (s : Scene C). s.output) only ∙ output)
+    (ap (λ (s : Scene C). s.read_faults) only ∙ read, ap (λ (s : Scene C). s.write_faults) only ∙ write)
+
+pub same_goes : {C : Type 0} (a b : Scene C) (most : ℕ) → b ≡ a → Goes a b most 0 None
+same_goes {C} a b most same = quiet a b _ most 0 same refl refl refl (same_moves a.book b.book most (ap (λ (x : Scene C). x.book) same))
+
+asks_go : {C : Type 0} (a b : Scene C) (most pieces : ℕ) → OnlyAsks a b → Moves a.book b.book most pieces → Goes a b most pieces None
+asks_go a b most pieces only moves = quiet a b _ most pieces only refl refl refl moves
+
+pub reads_go : {C : Type 0} (a b : Scene C) (most : ℕ) (end : Option Ended) → OnlyReads a b
+    → CountsFault end a.read_faults b.read_faults a.write_faults b.write_faults → Goes a b most 0 end
+reads_go {C} a b most end only counts =
+    quietly_goes a b most 0 end (same_moves a.book b.book most (ap (λ (x : Scene C). x.book) only)) (ap (λ (x : Scene C). x.output) only) counts
+
+pub wrote_goes : {C : Type 0} (a b : Scene C) (bytes : List ℕ) → Wrote a b bytes → Goes a b 0 0 None
+wrote_goes {C} a b bytes wrote = record {
+  book = same_moves a.book b.book 0 (ap (λ (x : Scene C). x.book) wrote.only);
+  bytes = bytes;
+  output = wrote.bytes_are;
+  counts = (ap (λ (x : Scene C). x.read_faults) wrote.only, ap (λ (x : Scene C). x.write_faults) wrote.only);
 }
 
-pub begins_onward : (a b : Book) (now : ℕ) (words : Words) (r : Request) (answer : Answer) → Begins a b now words r answer → Onward a b
-begins_onward a b now words r answer begins = here (is_unmade answer) _ begins.entry
-  where
-    here : (unmade : Bool) (event : Event) → MatchBool unmade (Unchanged a b) (Enters a b now event answer) → Onward a b
-    here true event passes = waits_onward a b passes.waits
-    here false event enters = enters_onward a b now event answer enters
+-- ---- the steps
 
-ends_onward : (a b : Book) (now : ℕ) (how : Ending) (answer : Answer) → Ends a b now how answer → Onward a b
-ends_onward a b now ending.Sent answer ends = enters_onward a b now _ answer ends.enters
-ends_onward a b now ending.Gone answer ends = enters_onward a b now _ answer ends.enters
-ends_onward a b now (ending.Body bytes) answer ends = enters_onward a b now _ answer ends.enters
+pub heads_go : {C : Type 0} (a b : Scene C) (most : ℕ) (found : Option Head) → Heads a b (Ok found) → Goes a b most 0 None
+heads_go {C} a b most found heads = reads_go a b most None heads.only (heads.cause, ap (λ (x : Scene C). x.write_faults) heads.only)
 
-starts_onward : (a b : Book) (content : List Piece) (v : Response) → Starts a b content v → Onward a b
-starts_onward a b [] (response.File content None) (is, same) = same_onward a b same
-starts_onward a b (piece ∷ pieces) (response.File content (Some first)) (is, waits, given, calm) = waits_onward a b waits
-starts_onward a b (piece ∷ pieces) (response.Lost fault) (waits, fails) = waits_onward a b waits
-starts_onward a b content other never = absurd never
+pub judges_go : {C : Type 0} (reads : C → ℕ → C → Type 0) (head : Head) (a b : Scene C) (v : Begun) → Judges reads head a b v → Goes a b 1 0 None
+judges_go reads head a b (begun.Unasked refusal) (is, same) = same_goes a b 1 same
+judges_go reads head a b (begun.Asked answer) (r, now, asked, read, begins, only) =
+    asks_go a b 1 0 only (begins_move a.book b.book now _ r answer begins)
 
--- ---- scenes
+-- nobody waited to be told, or was told
+pub invites_go : {C : Type 0} (head : Head) (v : Begun) (a b : Scene C) → Invites {T = Unit {0}} head v a b (Ok tt) → Goes a b 0 0 None
+invites_go head v a b invites = wrote_goes a b _ (invites_wrote head v a b (Unit {0}) tt invites)
+
+pub bodies_go : {C : Type 0} (a b : Scene C) (n : ℕ) (body : List ℕ) → Bodies a b n body → Goes a b 0 0 None
+bodies_go {C} a b n body bodies = quiet a b _ 0 0 bodies.only refl refl refl (same_moves a.book b.book 0 (ap (λ (x : Scene C). x.book) bodies.only))
+
+-- an answer that isn't of a file has no piece
+plain_response : (answer : Answer) (v : Response) → IsResponse answer v → failed_first v ≡ 0
+plain_response (Ok reply.Closed) v is = absurd is
+plain_response (Ok (reply.Granted goal)) v is = absurd is
+plain_response other v is = ap failed_first is
+
+plain_goes : {C : Type 0} (a b : Scene C) (answer : Answer) (v : Response) → IsResponse answer v → Goes a b 1 0 None → Goes a b 1 (failed_first v) None
+plain_goes a b answer v is goes = subst (λ (z : ℕ). Goes a b 1 z None) (sym (plain_response answer v is)) goes
+
+pub passes_go : {C : Type 0} (reads : C → ℕ → C → Type 0) (body : List ℕ) (a b : Scene C) (u : Begun) (v : Response)
+    → Passes reads body a b u v → Goes a b 1 (failed_first v) None
+passes_go reads body a b (begun.Unasked refusal) v (is, same) = plain_goes a b (Err refusal) v is (same_goes a b 1 same)
+passes_go reads body a b (begun.Asked (Ok (reply.Granted (goal.Serve content)))) v starts =
+    quiet a b _ 1 _ starts.only refl refl refl (starts_move a.book b.book 1 content v starts.starts)
+passes_go reads body a b (begun.Asked (Ok (reply.Granted (goal.Store who key length)))) v (now, answer, read, ends, is, only) =
+    plain_goes a b answer v is (asks_go a b 1 0 only (enters_move a.book b.book now _ answer ends.enters))
+passes_go reads body a b (begun.Asked answer) v passes = plain_goes a b answer v passes.0 (same_goes a b 1 passes.1)
+
+pub takes_go : {C : Type 0} (reads : C → ℕ → C → Type 0) (head : Head) (a b : Scene C) (u : Begun) (v : Response)
+    → TakesIn reads head a b u (Ok v) → Goes a b 1 (failed_first v) None
+takes_go reads head a b u v (m, body, bodies, passes) =
+    goes_first (bodies_go a m (taken_length head u) body bodies) (passes_go reads body m b u v passes)
+
+pub pieces_go : {C : Type 0} (close : Bool) (content : List Piece) (first : Option (Vec ℕ Global)) (a b : Scene C) (given : List (List ℕ)) (pieces : ℕ)
+    → WritesPieces close content first a b given → Rises a.book.strikes pieces b.book.strikes → Goes a b 0 pieces None
+pieces_go {C} close content first a b given pieces writes rises = record {
+  book = waits_move a.book b.book 0 pieces writes.pieces.waits rises;
+  bytes = file_front close content given;
+  output = writes.bytes_are;
+  counts = (ap (λ (x : Scene C). x.read_faults) writes.pieces.only, writes.no_fault);
+}
+
+-- a response that is written whole
+pub writes_go : {C : Type 0} (manner : Manner) (v : Response) (a b : Scene C) → Writes {T = Unit {0}} manner v a b (Ok tt) → Goes a b 0 0 None
+writes_go manner (response.File content first) a b (given, writes, all, unstruck) =
+    pieces_go manner.close content first a b given 0 writes (inl (refl, unstruck))
+writes_go manner other a b wrote = wrote_goes a b _ wrote
+
+pub closes_go : {C : Type 0} (reads : C → ℕ → C → Type 0) (how : Ending) (granted : Bool) (a b : Scene C) → Closes reads how granted a b
+    → Goes a b 1 0 None
+closes_go reads how true a b (now, read, ends, only) = asks_go a b 1 0 only (ends_move a.book b.book now how _ ends)
+closes_go reads how false a b same = same_goes a b 1 same
+
+-- ---- what is known goes on, and no count of faults rises
 
 pub record Calm {C : Type 0} (a b : Scene C) : Type 0 where
   pub onward : Onward a.book b.book
   pub read : b.read_faults ≡ a.read_faults
   pub write : b.write_faults ≡ a.write_faults
+
+pub calm_of : {C : Type 0} {a b : Scene C} {most pieces : ℕ} → Goes a b most pieces None → Calm a b
+calm_of goes = record { onward = goes.book.onward; read = goes.counts.0; write = goes.counts.1 }
 
 pub calm_then : {C : Type 0} (a m b : Scene C) → Calm a m → Calm m b → Calm a b
 calm_then a m b p q = record {
@@ -84,88 +174,3 @@ calm_then a m b p q = record {
   read = q.read ∙ p.read;
   write = q.write ∙ p.write;
 }
-
--- the book is the same
-still_calm : {C : Type 0} (a b : Scene C) → b.book ≡ a.book → b.read_faults ≡ a.read_faults → b.write_faults ≡ a.write_faults → Calm a b
-still_calm a b book read write = record { onward = same_onward a.book b.book book; read = read; write = write }
-
-pub calm_same : {C : Type 0} (a b : Scene C) → b ≡ a → Calm a b
-calm_same {C} a b same =
-    still_calm a b (ap (λ (x : Scene C). x.book) same) (ap (λ (x : Scene C). x.read_faults) same) (ap (λ (x : Scene C). x.write_faults) same)
-
-asks_calm : {C : Type 0} (a b : Scene C) → OnlyAsks a b → Onward a.book b.book → Calm a b
-asks_calm {C} a b only onward = record {
-  onward = onward;
-  read = ap (λ (x : Scene C). x.read_faults) only;
-  write = ap (λ (x : Scene C). x.write_faults) only;
-}
-
-pub reads_calm : {C : Type 0} (a b : Scene C) → OnlyReads a b → b.read_faults ≡ a.read_faults → Calm a b
-reads_calm {C} a b only read = still_calm a b (ap (λ (x : Scene C). x.book) only) read (ap (λ (x : Scene C). x.write_faults) only)
-
-pub wrote_calm : {C : Type 0} (a b : Scene C) (bytes : List ℕ) → Wrote a b bytes → Calm a b
-wrote_calm {C} a b bytes wrote =
-    still_calm a b (ap (λ (x : Scene C). x.book) wrote.only) (ap (λ (x : Scene C). x.read_faults) wrote.only)
-    (ap (λ (x : Scene C). x.write_faults) wrote.only)
-
--- ---- the steps
-
-pub heads_calm : {C : Type 0} (a b : Scene C) (found : Option Head) → Heads a b (Ok found) → Calm a b
-heads_calm a b found heads = reads_calm a b heads.only heads.cause
-
-pub judges_calm : {C : Type 0} (reads : C → ℕ → C → Type 0) (head : Head) (a b : Scene C) (v : Begun) → Judges reads head a b v → Calm a b
-judges_calm reads head a b (begun.Unasked refusal) (is, same) = calm_same a b same
-judges_calm reads head a b (begun.Asked answer) (r, now, asked, read, begins, only) =
-    asks_calm a b only (begins_onward a.book b.book now _ r answer begins)
-
--- nobody waited to be told, or was told
-pub invites_calm : {C : Type 0} (head : Head) (v : Begun) (a b : Scene C) → Invites {T = Unit {0}} head v a b (Ok tt) → Calm a b
-invites_calm head v a b invites = wrote_calm a b _ (invites_wrote head v a b (Unit {0}) tt invites)
-
-pub bodies_calm : {C : Type 0} (a b : Scene C) (n : ℕ) (body : List ℕ) → Bodies a b n body → Calm a b
-bodies_calm {C} a b n body bodies =
-    still_calm a b (ap (λ (x : Scene C). x.book) bodies.only) (ap (λ (x : Scene C). x.read_faults) bodies.only)
-    (ap (λ (x : Scene C). x.write_faults) bodies.only)
-
-pub passes_calm : {C : Type 0} (reads : C → ℕ → C → Type 0) (body : List ℕ) (a b : Scene C) (u : Begun) (v : Response)
-    → Passes reads body a b u v → Calm a b
-passes_calm reads body a b (begun.Unasked refusal) v (is, same) = calm_same a b same
-passes_calm {C} reads body a b (begun.Asked (Ok (reply.Granted (goal.Serve content)))) v starts = record {
-  onward = starts_onward a.book b.book content v starts.starts;
-  read = ap (λ (x : Scene C). x.read_faults) starts.only;
-  write = ap (λ (x : Scene C). x.write_faults) starts.only;
-}
-passes_calm reads body a b (begun.Asked (Ok (reply.Granted (goal.Store who key length)))) v (now, answer, read, ends, is, only) =
-    asks_calm a b only (enters_onward a.book b.book now _ answer ends.enters)
-passes_calm reads body a b (begun.Asked (Ok reply.Made)) v (is, same) = calm_same a b same
-passes_calm reads body a b (begun.Asked (Ok reply.Done)) v (is, same) = calm_same a b same
-passes_calm reads body a b (begun.Asked (Ok (reply.Listing lines))) v (is, same) = calm_same a b same
-passes_calm reads body a b (begun.Asked (Ok reply.Closed)) v (is, same) = calm_same a b same
-passes_calm reads body a b (begun.Asked (Err refusal)) v (is, same) = calm_same a b same
-
-pub taken_calm : {C : Type 0} (reads : C → ℕ → C → Type 0) (head : Head) (a b : Scene C) (u : Begun) (v : Response)
-    → TakesIn reads head a b u (Ok v) → Calm a b
-taken_calm reads head a b u v (m, body, bodies, passes) =
-    calm_then a m b (bodies_calm a m (taken_length head u) body bodies) (passes_calm reads body m b u v passes)
-
-pub pieces_calm : {C : Type 0} (close : Bool) (content : List Piece) (first : Option (Vec ℕ Global)) (a b : Scene C) (given : List (List ℕ))
-    → WritesPieces close content first a b given → Calm a b
-pieces_calm {C} close content first a b given writes = record {
-  onward = waits_onward a.book b.book writes.pieces.waits;
-  read = ap (λ (x : Scene C). x.read_faults) writes.pieces.only;
-  write = writes.no_fault;
-}
-
--- a response that is written whole
-pub writes_calm : {C : Type 0} (manner : Manner) (v : Response) (a b : Scene C) → Writes {T = Unit {0}} manner v a b (Ok tt) → Calm a b
-writes_calm manner (response.Denied refusal) a b wrote = wrote_calm a b _ wrote
-writes_calm manner (response.Lost fault) a b wrote = wrote_calm a b _ wrote
-writes_calm manner (response.File content first) a b (given, writes, all, unstruck) = pieces_calm manner.close content first a b given writes
-writes_calm manner response.Made a b wrote = wrote_calm a b _ wrote
-writes_calm manner response.Done a b wrote = wrote_calm a b _ wrote
-writes_calm manner (response.Listing lines) a b wrote = wrote_calm a b _ wrote
-
-pub closes_calm : {C : Type 0} (reads : C → ℕ → C → Type 0) (how : Ending) (granted : Bool) (a b : Scene C) → Closes reads how granted a b
-    → Calm a b
-closes_calm reads how true a b (now, read, ends, only) = asks_calm a b only (ends_onward a.book b.book now how _ ends)
-closes_calm reads how false a b same = calm_same a b same

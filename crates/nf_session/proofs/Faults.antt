@@ -1,72 +1,44 @@
 -- What a turn that ends by a fault of reading did.
-use Rattle.std.proofs.Common.{◌≡◌, ℕ, List, refl, sym, ◌∙◌, ap, subst, inl, inr, Result, Ok, Err}
-use Rattle.std.specs.Prelude.{Bool, true, false, Option, Some}
+use Rattle.std.proofs.Common.{◌≡◌, ℕ, refl, sym, ◌∙◌, ap, subst, inl, inr, Result, Err}
+use Rattle.std.specs.Prelude.{Bool, false, Option, Some}
 use Rattle.nf_http.specs.declared.wire.WireFault.{WireFault}
 use Rattle.nf_http.specs.declared.wire.WireFault.TheVariants as wire
 use Rattle.nf_dav.specs.Reply.{continue_reply}
-use Rattle.nf_dav.specs.declared.replies.Manner.{Manner}
 use Rattle.nf_session.specs.Laws.{ReadFaultsStoreNothing}
 use Rattle.nf_session.specs.Steps.{Scene, Heads, Cuts, Closes, EndsBy, Sends, cutting, is_granted, taken_length}
-use Rattle.nf_session.specs.Turn.{Responds, Way, Writes, end_by, end_of, manner_of, way_of}
+use Rattle.nf_session.specs.Turn.{Responds, Way, end_by, end_of, way_of}
 use Rattle.nf_session.specs.declared.backend.Ending.TheVariants as ending
 use Rattle.nf_session.specs.declared.response.Response.{Response}
-use Rattle.nf_session.specs.declared.response.Response.TheVariants as response
 use Rattle.nf_session.specs.declared.ended.Ended.{Ended}
 use Rattle.nf_session.specs.declared.ended.Ended.TheVariants as ended
-use Rattle.nf_session.proofs.Causes.{end_is_none, is_fault}
+use Rattle.nf_session.proofs.Causes.{end_is_none, is_fault, is_whole, whole_by}
 use Rattle.nf_session.proofs.Inviting.{stops_sends}
 
 end_no_read : (closes : Bool) (v : Response) → end_of closes v ≡ Some ended.ReadFault → ⊥
-end_no_read closes v e = never (sym (end_is_none closes v) ∙ ap is_fault e)
-  where
-    never : false ≡ true → ⊥
-    never e = cc
-
-writes_no_read : {C : Type 0} (T : Type 0) (manner : Manner) (v : Response) (a b : Scene C) → Writes {T = T} manner v a b (Err ended.ReadFault) → ⊥
-writes_no_read T manner (response.Denied d) a b writes = writes
-writes_no_read T manner response.Made a b writes = writes
-writes_no_read T manner response.Done a b writes = writes
-writes_no_read T manner (response.Listing lines) a b writes = writes
-writes_no_read T manner (response.Lost fault) a b writes = writes
-writes_no_read T manner (response.File content first) a b writes = writes
-
-answered_no_read : {C : Type 0} (last : Bool) (way : Way) (v : Response) (a b : Scene C) (result : Result (Option Ended) Ended)
-    → Responds last way v a b result → Some ended.ReadFault ≡ end_by result → ⊥
-answered_no_read last way v a b (Ok end) responds e = end_no_read way.closes v (sym responds.0 ∙ sym e)
-answered_no_read last way v a b (Err by) responds e =
-    writes_no_read (Unit {0}) (manner_of last way v) v a b
-    (subst (λ (z : Ended). Writes {T = Unit {0}} (manner_of last way v) v a b (Err z)) (same by e) responds)
-  where
-    same : (z : Ended) → ◌≡◌ {A = Option Ended} (Some ended.ReadFault) (Some z) → z ≡ ended.ReadFault
-    same z e = cc
-
-stopped_no_read : {C : Type 0} (T : Type 0) (a b : Scene C) (bytes : List ℕ) → Sends {T = T} a b bytes (Err ended.ReadFault) → ⊥
-stopped_no_read T a b bytes sends = sends
-
-ends_read : {C : Type 0} (a b : Scene C) (fault : WireFault) → EndsBy fault a b ended.ReadFault → (fault ≡ wire.ReadFault) × (b ≡ a)
-ends_read a b wire.ReadFault ends = (refl, ends.1)
-ends_read a b wire.Memory ends = absurd (never ends.0)
-  where
-    never : ended.ReadFault ≡ ended.Memory → ⊥
-    never e = cc
-ends_read a b other ends = absurd ends
+end_no_read closes v e = let none : is_fault (Some ended.ReadFault) ≡ false = sym (ap is_fault e) ∙ end_is_none closes v in cc
 
 read_by : (by : Ended) → ◌≡◌ {A = Option Ended} (Some ended.ReadFault) (Some by) → by ≡ ended.ReadFault
 read_by by e = cc
 
+answered_no_read : {C : Type 0} (last : Bool) (way : Way) (v : Response) (a b : Scene C) (result : Result (Option Ended) Ended)
+    → Responds last way v a b result → Some ended.ReadFault ≡ end_by result → ⊥
+answered_no_read last way v a b result responds e =
+    end_no_read way.closes v (sym (whole_by last way v a b result responds (sym (ap is_whole e))).0 ∙ sym e)
+
+ends_read : {C : Type 0} (a b : Scene C) (fault : WireFault) → EndsBy fault a b ended.ReadFault → (fault ≡ wire.ReadFault) × (b ≡ a)
+ends_read a b wire.ReadFault ends = (refl, ends.1)
+ends_read a b wire.Memory ends = let never : ended.ReadFault ≡ ended.Memory = ends.0 in cc
+ends_read a b other ends = absurd ends
+
 -- no head was taken; or less than its body was
 pub read_fault : {C : Type 0} (reads : C → ℕ → C → Type 0) → ReadFaultsStoreNothing reads
-read_fault reads last a b (inl ends) = absurd (never ends.1)
-  where
-    never : ◌≡◌ {A = Option Ended} (Some ended.ReadFault) (Some ended.Closed) → ⊥
-    never e = cc
+read_fault reads last a b (inl ends) = let never : ◌≡◌ {A = Option Ended} (Some ended.ReadFault) (Some ended.Closed) = ends.1 in absurd (cc)
 read_fault reads last a b (inr (inl (m, fault, by, heads, ends, is))) =
     let by_read = ends_read m b fault (subst (λ (z : Ended). EndsBy fault m b z) (read_by by is) ends) in
     inl (subst (λ (z : Scene _). Heads a z (Err wire.ReadFault)) (sym by_read.1) (subst (λ (z : WireFault). Heads a m (Err z)) by_read.0 heads))
 read_fault reads last a b (inr (inr (m, head, heads, (opened, begun, judged, inl stops)))) =
-    absurd (stopped_no_read (Unit {0}) opened stops.sent continue_reply
-    (subst (λ (z : Ended). Sends {T = Unit {0}} opened stops.sent continue_reply (Err z)) (read_by stops.by stops.ends)
-    (stops_sends head begun opened stops.sent (Unit {0}) stops.by stops.invites)))
+    absurd (subst (λ (z : Ended). Sends {T = Unit {0}} opened stops.sent continue_reply (Err z)) (read_by stops.by stops.ends)
+    (stops_sends head begun opened stops.sent (Unit {0}) stops.by stops.invites))
 read_fault reads last a b (inr (inr (m, head, heads, (opened, begun, judged, inr (told, invites, inl answers))))) =
     absurd (answered_no_read last (way_of head begun) answers.response answers.taken answers.sent answers.result answers.responds answers.ends)
 read_fault reads last a b (inr (inr (m, head, heads, (opened, begun, judged, inr (told, invites, inr cut))))) =

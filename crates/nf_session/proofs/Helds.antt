@@ -1,6 +1,6 @@
 -- What a seat holds after a step.
 use Rattle.std.proofs.Common.{◌≡◌, ℕ, List, [], ◌∷◌, ◌++◌, refl, sym, ◌∙◌, ap, subst, Ok, Err}
-use Rattle.std.specs.Prelude.{Bool, true, false, Option, None, is_some, MatchBool}
+use Rattle.std.specs.Prelude.{Bool, true, false, Option, None, MatchBool}
 use Rattle.nf_words.specs.declared.answer.Goal.{Goal}
 use Rattle.nf_words.specs.declared.answer.Reply.TheVariants as reply
 use Rattle.nf_words.specs.declared.history.Entry.{Entry}
@@ -10,14 +10,11 @@ use Rattle.nf_words.specs.declared.request.Request.{Request}
 use Rattle.nf_words.specs.declared.request.Words.{Words}
 use Rattle.nf_session.specs.Book.{Answer, Book, Begins, Ends, EndsBody, Enters, Passes, Waits, granted, held, held_after, is_unmade, is_unmade_by}
 use Rattle.nf_session.specs.Files.{IsResponding}
-use Rattle.nf_session.specs.Steps.{IsBegun, IsClosing, IsResponse, is_granted}
-use Rattle.nf_session.specs.Turn.{stays_granted}
+use Rattle.nf_session.specs.Steps.{IsBegun, IsClosing, IsResponse}
 use Rattle.nf_session.specs.declared.backend.Ending.{Ending}
 use Rattle.nf_session.specs.declared.backend.Ending.TheVariants as ending
-use Rattle.nf_session.specs.declared.begun.Begun.{Begun}
 use Rattle.nf_session.specs.declared.begun.Begun.TheVariants as begun
 use Rattle.nf_session.specs.declared.response.Response.{Response}
-use Rattle.nf_session.specs.declared.response.Response.TheVariants as response
 
 held_push : (before : Option Goal) (own : List (Entry × Answer)) (e : Entry × Answer) → held_after before (own ++ e ∷ []) ≡ granted e.1
 held_push before [] e = refl
@@ -48,36 +45,12 @@ begins_begun a b now words r answer idle begins = record {
 }
 
 pub ends_idle : (a b : Book) (now : ℕ) (how : Ending) (answer : Answer) → IsClosing how → Ends a b now how answer → held b ≡ None
-ends_idle a b now ending.Sent answer closing ends = enters_holds a b now _ answer ends.enters ∙ ap granted ends.answered
-ends_idle a b now ending.Gone answer closing ends = enters_holds a b now _ answer ends.enters ∙ ap granted ends.answered
 ends_idle a b now (ending.Body bytes) answer closing ends = absurd closing
+ends_idle a b now other answer closing ends = enters_holds a b now _ answer ends.enters ∙ ap granted ends.answered
 
 pub stored_responding : (a b : Book) (now : ℕ) (body : List ℕ) (answer : Answer) (v : Response) → EndsBody a b now body answer
     → IsResponse answer v → IsResponding b v
-stored_responding a b now body (Ok reply.Made) v ends is =
-    subst (λ (z : Response). IsResponding b z) (sym is) (enters_holds a b now _ (Ok reply.Made) ends.enters)
-stored_responding a b now body (Ok reply.Done) v ends is =
-    subst (λ (z : Response). IsResponding b z) (sym is) (enters_holds a b now _ (Ok reply.Done) ends.enters)
 stored_responding a b now body (Ok reply.Closed) v ends is = absurd is
 stored_responding a b now body (Ok (reply.Listing lines)) v ends is = absurd ends.answered
 stored_responding a b now body (Ok (reply.Granted goal)) v ends is = absurd is
-stored_responding a b now body (Err refusal) v ends is =
-    subst (λ (z : Response). IsResponding b z) (sym is) (enters_holds a b now _ (Err refusal) ends.enters)
-
--- what is responded says what is held
-pub responding_holds : (b : Book) (v : Response) → IsResponding b v → stays_granted v ≡ is_some (held b)
-responding_holds b (response.File content first) responding = sym (ap is_some responding.held_is)
-responding_holds b (response.Lost fault) responding = sym responding
-responding_holds b (response.Denied refusal) responding = sym (ap is_some responding)
-responding_holds b response.Made responding = sym (ap is_some responding)
-responding_holds b response.Done responding = sym (ap is_some responding)
-responding_holds b (response.Listing lines) responding = sym (ap is_some responding)
-
-pub begun_holds : (b : Book) (v : Begun) → IsBegun b v → is_granted v ≡ is_some (held b)
-begun_holds b (begun.Unasked refusal) is = sym (ap is_some is.held_is)
-begun_holds b (begun.Asked (Ok (reply.Granted goal))) is = sym (ap is_some is.held_is)
-begun_holds b (begun.Asked (Ok reply.Made)) is = sym (ap is_some is.held_is)
-begun_holds b (begun.Asked (Ok reply.Done)) is = sym (ap is_some is.held_is)
-begun_holds b (begun.Asked (Ok reply.Closed)) is = sym (ap is_some is.held_is)
-begun_holds b (begun.Asked (Ok (reply.Listing lines))) is = sym (ap is_some is.held_is)
-begun_holds b (begun.Asked (Err refusal)) is = sym (ap is_some is.held_is)
+stored_responding a b now body answer v ends is = subst (λ (z : Response). IsResponding b z) (sym is) (enters_holds a b now _ answer ends.enters)

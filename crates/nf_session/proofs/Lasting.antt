@@ -67,12 +67,15 @@ waits_refl a = record { lasts = lasts_refl a; own = refl; known = ([], sym (appe
 pub waits_same : (a b : Book) → b ≡ a → Waits a b
 waits_same a b same = subst (λ (z : Book). Waits a z) (sym same) (waits_refl a)
 
+abbrev pub Later : List Entry → List Entry → Type 0
+Later old new = (more : List Entry) × (new ≡ old ++ more)
+
+pub known_then : (a m b : List Entry) → Later a m → Later m b → Later a b
+known_then a m b (x, p) (y, q) = (x ++ y, q ∙ ap (λ (z : List Entry). z ++ y) p ∙ append_assoc a x y)
+
 pub waits_then : (a m b : Book) → Waits a m → Waits m b → Waits a b
 waits_then a m b p q = record {
   lasts = lasts_then a m b p.lasts q.lasts;
   own = q.own ∙ p.own;
-  known = (
-    p.known.0 ++ q.known.0,
-    q.known.1 ∙ ap (λ (z : List Entry). z ++ q.known.0) p.known.1 ∙ append_assoc a.known p.known.0 q.known.0,
-  );
+  known = known_then a.known m.known b.known p.known q.known;
 }

@@ -5,6 +5,7 @@ pub mod Takes
 pub mod Inviting
 pub mod Turns
 pub mod Sendings
+pub mod Moving
 pub mod Calm
 pub mod Causes
 pub mod Faults

@@ -13,7 +13,7 @@ use Rattle.nf_outside.specs.Causes.{Rose}
 use Rattle.nf_base.specs.Content.{size_of}
 use Rattle.nf_base.specs.declared.content.Piece.{Piece}
 use Rattle.nf_dav.specs.Reply.{file_head}
-use Rattle.nf_session.specs.Book.{Book, FailsPiece, IsPiece, Waits, held}
+use Rattle.nf_session.specs.Book.{Book, FailsPiece, IsPiece, Lasts, Waits, held}
 use Rattle.nf_session.specs.Files.{AreGiven, IsStarted, Lacks, SendsFile, SendsPiece, SendsPieces, TakesPiece, WritesPieces, file_front, taken_first}
 use Rattle.nf_session.specs.Steps.{Scene, Says, Sends, Wrote, WrotePart}
 use Rattle.nf_session.specs.declared.backend.PieceFault.{PieceFault}
@@ -25,20 +25,18 @@ use Rattle.nf_session.proofs.Turns.{sends_failed}
 
 -- ---- pieces that were given
 
-given_still : (a b : Book) (content : List Piece) (given : List (List ℕ)) → Waits a b → AreGiven a content given → AreGiven b content given
-given_still a b content [] waits are = tt
-given_still a b [] (bytes ∷ given) waits are = absurd are
-given_still a b (piece ∷ content) (bytes ∷ given) waits are =
-    (piece_lasts a b piece bytes waits.lasts are.0, given_still a b content given waits are.1)
+pub given_still : (a b : Book) (content : List Piece) (given : List (List ℕ)) → Lasts a b → AreGiven a content given → AreGiven b content given
+given_still a b content [] lasts are = tt
+given_still a b [] (bytes ∷ given) lasts are = absurd are
+given_still a b (piece ∷ content) (bytes ∷ given) lasts are =
+    (piece_lasts a b piece bytes lasts are.0, given_still a b content given lasts are.1)
 
 given_more : (b : Book) (content : List Piece) (given : List (List ℕ)) (piece : Piece) (bytes : List ℕ) → AreGiven b content given
     → slice_get content (length given) ≡ Some piece → IsPiece b piece bytes → AreGiven b content (given ++ bytes ∷ [])
 given_more b [] [] piece bytes are at is = absurd (cc)
 given_more b (first ∷ content) [] piece bytes are at is =
-    (subst (λ (z : Piece). IsPiece b z bytes) (sym (same first piece at)) is, tt)
-  where
-    same : (x y : Piece) → ◌≡◌ {A = Option Piece} (Some x) (Some y) → x ≡ y
-    same x y e = cc
+    let there : ◌≡◌ {A = Option Piece} (Some first) (Some piece) = at in
+    let same : piece ≡ first = cc in (subst (λ (z : Piece). IsPiece b z bytes) same is, tt)
 given_more b [] (other ∷ given) piece bytes are at is = absurd are
 given_more b (first ∷ content) (other ∷ given) piece bytes are at is = (are.0, given_more b content given piece bytes are.1 at is)
 
@@ -107,9 +105,6 @@ took_sends a b p =
     let faults : b.write_faults ≡ a.write_faults = ap (λ (z : Scene _). z.write_faults) p in
     cc
 
-same_waits : {C : Type 0} (a b : Scene C) → b.book ≡ a.book → Waits a.book b.book
-same_waits a b is = waits_same a.book b.book is
-
 -- ---- bytes that are written in two parts
 
 part_before : {C : Type 0} (a b : Scene C) (bytes more : List ℕ) → WrotePart a b bytes → WrotePart a b (bytes ++ more)
@@ -177,7 +172,7 @@ module _ {C : Type 0} (close : Bool) (content : List Piece) (first : Option (Vec
   pieces_then a m b given sends only waits = record {
     only = sends_then a m b sends.only only;
     waits = waits_then a.book m.book b.book sends.waits waits;
-    are_given = given_still m.book b.book content given waits sends.are_given;
+    are_given = given_still m.book b.book content given waits.lasts sends.are_given;
     first_is = sends.first_is;
   }
 
@@ -198,7 +193,7 @@ module _ {C : Type 0} (close : Bool) (content : List Piece) (first : Option (Vec
       → SendsPieces content first a b (taken_first first)
   pieces_first a b started only same = record {
     only = only;
-    waits = same_waits a b same;
+    waits = waits_same a.book b.book same;
     are_given = subst (λ (z : Book). AreGiven z content (taken_first first)) (sym same) started.given;
     first_is = ([], sym (append-nil (taken_first first)));
   }
@@ -225,16 +220,13 @@ module _ {C : Type 0} (close : Bool) (content : List Piece) (first : Option (Vec
 
   pub front_sent : (a b : Scene C) → IsStarted a.book content first → Wrote a b (file_front close content (taken_first first))
       → SentSome a b 1
-  front_sent a b started wrote = (
-    taken_first first,
-    started.count,
-    record {
-      pieces = pieces_first a b started (wrote_sends a b wrote.only) (ap (λ (z : Scene C). z.book) wrote.only);
-      bytes_are = wrote.bytes_are;
-      no_fault = ap (λ (z : Scene C). z.write_faults) wrote.only;
-    },
-    ap (λ (z : Scene C). z.book.strikes) wrote.only,
-  )
+  front_sent a b started wrote =
+      let writes : WritesPieces close content first a b (taken_first first) = record {
+        pieces = pieces_first a b started (wrote_sends a b wrote.only) (ap (λ (z : Scene C). z.book) wrote.only);
+        bytes_are = wrote.bytes_are;
+        no_fault = ap (λ (z : Scene C). z.write_faults) wrote.only;
+      } in
+      (taken_first first, started.count, writes, ap (λ (z : Scene C). z.book.strikes) wrote.only)
 
   -- ---- the pieces behind
 
@@ -256,7 +248,7 @@ module _ {C : Type 0} (close : Bool) (content : List Piece) (first : Option (Vec
     record {
       pieces =
           pieces_then a t b (given ++ piece.items ∷ []) (took_more a m t given n piece count so_far.pieces takes)
-          (wrote_sends t b wrote.only) (same_waits t b (ap (λ (z : Scene C). z.book) wrote.only));
+          (wrote_sends t b wrote.only) (waits_same t.book b.book (ap (λ (z : Scene C). z.book) wrote.only));
       bytes_are =
           subst (λ (z : List ℕ). Appends a.output b.output z) (sym (front_more close content given piece.items))
           (Appends-trans a.output m.output b.output _ piece.items so_far.bytes_are
@@ -288,7 +280,7 @@ module _ {C : Type 0} (close : Bool) (content : List Piece) (first : Option (Vec
   piece_failed T a m b n ended.WriteFault (given, count, so_far, unstruck) (t, piece, takes, part) =
       breaks_off a b (given ++ piece.items ∷ [])
       (pieces_then a t b (given ++ piece.items ∷ []) (took_more a m t given n piece count so_far.pieces takes)
-      (part_sends t b part.only) (same_waits t b (ap (λ (z : Scene C). z.book) part.only)))
+      (part_sends t b part.only) (waits_same t.book b.book (ap (λ (z : Scene C). z.book) part.only)))
       (subst (λ (z : List ℕ). IsFront a.output b.output z) (sym (front_more close content given piece.items))
       (front_behind a.output m.output b.output _ piece.items so_far.bytes_are
       (subst (λ (z : Option (List ℕ)). IsFront z b.output piece.items) (ap (λ (z : Scene C). z.output) takes.only)

@@ -6,7 +6,7 @@ use Rattle.nf_http.specs.Head.{Head, closes_session}
 use Rattle.nf_http.specs.declared.wire.WireFault.{WireFault}
 use Rattle.nf_session.specs.Session.{Session, Through}
 use Rattle.nf_session.specs.Steps.{Scene, Heads, Invites, Judges, TakesIn, Closes, EndsBy, Says, Sends, WrotePart, is_granted, is_unsent}
-use Rattle.nf_session.specs.Turn.{Meets, Responds, Turn, end_by, how_of, stays_granted, way_by}
+use Rattle.nf_session.specs.Turn.{Answers, CutsShort, Meets, Responds, StopsShort, Turn, end_by, how_of, stays_granted, way_by}
 use Rattle.nf_session.specs.declared.backend.Ending.{Ending}
 use Rattle.nf_session.specs.declared.backend.Ending.TheVariants as ending
 use Rattle.nf_session.specs.declared.begun.Begun.{Begun}
@@ -41,34 +41,24 @@ says_so {C} {T} a b items want (Err e) result is sends none =
 pub meets_stopped : {C : Type 0} (reads : C → ℕ → C → Type 0) (last : Bool) (head : Head) (a m n b : Scene C) (begun : Begun)
     (by : Ended) (granted : Bool) → Judges reads head a m begun → Invites {T = Unit {0}} head begun m n (Err by)
     → granted ≡ is_granted begun → Closes reads ending.Gone granted n b → Meets reads last head a b (Some by)
-meets_stopped reads last head a m n b begun by granted judged invites granted_is closed = (
-  m,
-  begun,
-  judged,
-  inl (record {
-    sent = n;
-    by = by;
-    invites = invites;
-    closes = subst (λ (z : Bool). Closes reads ending.Gone z n b) granted_is closed;
-    ends = refl;
-  }),
-)
+meets_stopped reads last head a m n b begun by granted judged invites granted_is closed =
+    let stops : StopsShort reads head begun m b (Some by) = record {
+      sent = n;
+      by = by;
+      invites = invites;
+      closes = subst (λ (z : Bool). Closes reads ending.Gone z n b) granted_is closed;
+      ends = refl;
+    } in
+    (m, begun, judged, inl stops)
 
 module _ {C : Type 0} (reads : C → ℕ → C → Type 0) (last : Bool) (head : Head) (a m n t s b : Scene C) (begun : Begun)
     (judged : Judges reads head a m begun) (invites : Invites {T = Unit {0}} head begun m n (Ok tt)) where
   pub meets_answered : (closes : Bool) (v : Response) (written : Result (Option Ended) Ended) (granted : Bool) (how : Ending)
       (end : Option Ended) → TakesIn reads head n t begun (Ok v) → closes ≡ (closes_session head || is_unsent head begun)
-      → Responds last (way_by closes head) v t s written
-      → how ≡ how_of v written → granted ≡ stays_granted v → Closes reads how granted s b
+      → Responds last (way_by closes head) v t s written → how ≡ how_of v written → granted ≡ stays_granted v → Closes reads how granted s b
       → end ≡ end_by written → Meets reads last head a b end
-  meets_answered closes v written granted how end takes closes_is responds how_is granted_is closed end_is = (
-    m,
-    begun,
-    judged,
-    inr (
-      n,
-      invites,
-      inl (record {
+  meets_answered closes v written granted how end takes closes_is responds how_is granted_is closed end_is =
+      let answers : Answers reads last head begun n b end = record {
         taken = t;
         sent = s;
         response = v;
@@ -78,21 +68,13 @@ module _ {C : Type 0} (reads : C → ℕ → C → Type 0) (last : Bool) (head :
         closes = subst (λ (z : Bool). Closes reads (how_of v written) z s b) granted_is
             (subst (λ (z : Ending). Closes reads z granted s b) how_is closed);
         ends = end_is;
-      }),
-    ),
-  )
+      } in
+      (m, begun, judged, inr (n, invites, inl answers))
 
-  pub meets_cut : (fault : WireFault) (by : Ended) (granted : Bool)
-      → TakesIn reads head n t begun (Err fault) → EndsBy fault t s by
+  pub meets_cut : (fault : WireFault) (by : Ended) (granted : Bool) → TakesIn reads head n t begun (Err fault) → EndsBy fault t s by
       → granted ≡ is_granted begun → Closes reads ending.Gone granted s b → Meets reads last head a b (Some by)
-  meets_cut fault by granted takes responds granted_is closed = (
-    m,
-    begun,
-    judged,
-    inr (
-      n,
-      invites,
-      inr (record {
+  meets_cut fault by granted takes responds granted_is closed =
+      let cuts : CutsShort reads head begun n b (Some by) = record {
         cut = t;
         sent = s;
         fault = fault;
@@ -101,9 +83,8 @@ module _ {C : Type 0} (reads : C → ℕ → C → Type 0) (last : Bool) (head :
         responds = responds;
         closes = subst (λ (z : Bool). Closes reads ending.Gone z s b) granted_is closed;
         ends = refl;
-      }),
-    ),
-  )
+      } in
+      (m, begun, judged, inr (n, invites, inr cuts))
 
 pub turn_met : {C : Type 0} (reads : C → ℕ → C → Type 0) (last : Bool) (a m b : Scene C) (head : Head) (found : Option Head) (end : Option Ended)
     → found ≡ Some head → Heads a m (Ok found) → Meets reads last head m b end → Turn reads last a b end
