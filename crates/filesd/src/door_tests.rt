@@ -1,6 +1,6 @@
 //! What no case of the suite can say of a server: its threads, doors that fail, and a run that becomes full.
 
-ghost use Rattle.std.specs.Prelude.{None};
+ghost use Rattle.std.specs.Prelude.{◌<◌, length, None};
 
 use crate::running::{Finished, run};
 use crate::status::{RowsFault, Status};
@@ -43,6 +43,7 @@ where
     D: Door + Drop + Send,
     D::Source: Send,
     D::Sink: Send,
+    requires workers { length workers.old < 64 }
 {
     let words = words_of(alloc, words)?;
     let none = Vec::new(alloc);
@@ -79,6 +80,12 @@ fn link(alloc: Global, bytes: Vec<u8>) -> MemLink {
         source: MemSource::new(bytes, Vec::new(alloc), Vec::new(alloc)),
         sink: MemSink::new(alloc, Vec::new(alloc)),
     }
+}
+
+/// What a worker's door has in the end.
+fn door_of<D: Drop, C: Drop>(worker: Worker<D, C>) -> D {
+    let Worker { door, clock: _ } = worker;
+    door
 }
 
 /// A keeper with the demonstration rows.
@@ -118,7 +125,8 @@ fn a_door_fails_at_its_second_call(rt: HostRuntime) -> Result<(), Fail> {
         let finished = run_with(&rt, alloc, words, demo_keeper(&rt, alloc)?, &mut workers)?;
         assert!(rt; finished.status == status);
         let [worker] = workers;
-        let served = worker.door.served();
+        let door = door_of(worker);
+        let served = door.served();
         assert_eq!(rt; served.len(), 1);
         assert_eq!(rt; served[0].sink.bytes(), HELLO.as_bytes());
     }
@@ -149,7 +157,8 @@ fn a_run_becomes_full(rt: HostRuntime) -> Result<(), Fail> {
     )?;
     assert!(rt; finished.status == Status::RunFull);
     let [worker] = workers;
-    let served = worker.door.served();
+    let door = door_of(worker);
+    let served = door.served();
     assert_eq!(rt; served.len(), 27);
     // The last answer of a link that had all 10,000 says that it is the last.
     for one in &served[..26] {
@@ -300,9 +309,13 @@ fn workers_run_beside_each_other(rt: HostRuntime) -> Result<(), Fail> {
     )?;
     assert!(rt; finished.status == Status::Done);
     let [first, second] = workers;
-    let put = first.door.served()[0].sink.sink.bytes();
-    assert!(rt; put.starts_with(b"HTTP/1.1 201 Created\r\n"));
-    assert_eq!(rt; second.door.served()[0].sink.sink.bytes(), HELLO.as_bytes());
+    let (first, second) = (door_of(first), door_of(second));
+    let (put, got) = (first.served(), second.served());
+    assert_eq!(rt; put.len(), 1);
+    assert_eq!(rt; got.len(), 1);
+    let answer = put[0].sink.sink.bytes();
+    assert!(rt; answer.starts_with(b"HTTP/1.1 201 Created\r\n"));
+    assert_eq!(rt; got[0].sink.sink.bytes(), HELLO.as_bytes());
     Ok(())
 }
 
