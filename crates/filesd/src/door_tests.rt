@@ -82,12 +82,6 @@ fn link(alloc: Global, bytes: Vec<u8>) -> MemLink {
     }
 }
 
-/// What a worker's door has in the end.
-fn door_of<D: Drop, C: Drop>(worker: Worker<D, C>) -> D {
-    let Worker { door, clock: _ } = worker;
-    door
-}
-
 /// A keeper with the demonstration rows.
 fn demo_keeper<R: Threads + Wait + Sync>(rt: &R, alloc: Global) -> Result<MemKeeper, Fail> {
     let mut nobody: [MemWorker; 0] = [];
@@ -124,8 +118,7 @@ fn a_door_fails_at_its_second_call(rt: HostRuntime) -> Result<(), Fail> {
         let mut workers = [mem_worker(alloc, links, vec![in alloc; 2]?)?];
         let finished = run_with(&rt, alloc, words, demo_keeper(&rt, alloc)?, &mut workers)?;
         assert!(rt; finished.status == status);
-        let [worker] = workers;
-        let door = door_of(worker);
+        let door = &workers[0].door;
         let served = door.served();
         assert_eq!(rt; served.len(), 1);
         assert_eq!(rt; served[0].sink.bytes(), HELLO.as_bytes());
@@ -156,8 +149,7 @@ fn a_run_becomes_full(rt: HostRuntime) -> Result<(), Fail> {
         &mut workers,
     )?;
     assert!(rt; finished.status == Status::RunFull);
-    let [worker] = workers;
-    let door = door_of(worker);
+    let door = &workers[0].door;
     let served = door.served();
     assert_eq!(rt; served.len(), 27);
     // The last answer of a link that had all 10,000 says that it is the last.
@@ -308,8 +300,7 @@ fn workers_run_beside_each_other(rt: HostRuntime) -> Result<(), Fail> {
         &mut workers,
     )?;
     assert!(rt; finished.status == Status::Done);
-    let [first, second] = workers;
-    let (first, second) = (door_of(first), door_of(second));
+    let (first, second) = (&workers[0].door, &workers[1].door);
     let (put, got) = (first.served(), second.served());
     assert_eq!(rt; put.len(), 1);
     assert_eq!(rt; got.len(), 1);
