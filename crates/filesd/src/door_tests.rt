@@ -153,7 +153,7 @@ fn a_run_becomes_full(rt: HostRuntime) -> Result<(), Fail> {
     let served = door.served();
     assert_eq!(rt; served.len(), 27);
     // The last answer of a link that had all 10,000 says that it is the last.
-    for one in &served[..26] {
+    for one in served.iter().take(26) {
         assert!(rt; one.source.left().is_empty());
     }
     Ok(())

@@ -14,7 +14,7 @@ pub type SocketWorker = Worker<TcpDoor<TcpListener>, RealClock<HostRuntime>>;
 const WORKERS: u64 = 4;
 
 /// The most threads that may serve.
-const MOST_WORKERS: u64 = 63;
+pub const MOST_WORKERS: usize = 63;
 
 /// How many seconds a read or a write waits, if FILESD_TIMEOUT doesn't say it.
 const TIMEOUT: u64 = 30;
@@ -57,7 +57,7 @@ fn listen(rt: &HostRuntime, address: &str) -> Result<Vec<SocketWorker>, Status> 
     };
     let limit = Duration::from_secs(number(rt, "FILESD_TIMEOUT", TIMEOUT, MOST_TIMEOUT));
     let mut workers = Vec::new(rt.alloc());
-    for _ in 0..number(rt, "FILESD_WORKERS", WORKERS, MOST_WORKERS) {
+    for _ in 0..number(rt, "FILESD_WORKERS", WORKERS, MOST_WORKERS as u64) {
         let clock: Result<_, _> = rt.clone();
         let (Ok(listener), Ok(clock)) = (listener.try_clone(), clock) else {
             return Err(Status::DoorFault);

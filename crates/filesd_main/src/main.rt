@@ -1,10 +1,10 @@
 //! The file server's program.
 #![tactic(auto)]
 
-use crate::listening::workers;
+use crate::file::FileKeeper;
+use crate::listening::{MOST_WORKERS, workers};
 use filesd::{Finished, Status, run};
 use nf_keeper::{Keeper, MemKeeper};
-use nf_keeper_sql::SqlKeeper;
 use nf_outside::{Input, Output, RealClock};
 use sqlite::{Connection, Error, ErrorCode};
 use std::env::{self, VarError};
@@ -12,13 +12,32 @@ use std::process::ExitCode;
 use std::sync::Wait;
 use std::thread::Threads;
 
+mod file;
 mod listening;
 #[cfg(test)]
 mod tests;
 
-/// Serves standard input and output by the words, and says on standard error how it ended, if not well.
+/// Serves by the words, and says on standard error how it ended, if not well. The keeper is the file that FILESD_STORE names, or else one
+/// in memory.
 fn main(rt: HostRuntime) -> ExitCode {
-    let status = serve(&rt, &rt);
+    let status = match store(&rt) {
+        Ok(Some(path)) => match Connection::open(&rt, path.as_str()) {
+            Ok(connection) => {
+                let finished = serve(&rt, &rt, FileKeeper::over(rt.alloc(), connection));
+                // Whatever was answered is in the log already, from which the next opening takes it.
+                if let Err(error) = finished.keeper.close() {
+                    let _ = eprintln!(rt; "filesd: the store's log can't be copied back: {error}");
+                }
+                finished.status
+            }
+            Err(error) => status_of(&rt, error),
+        },
+        Ok(None) => match MemKeeper::new(rt.alloc(), &[]) {
+            Ok(keeper) => serve(&rt, &rt, keeper).status,
+            Err(_) => Status::Memory,
+        },
+        Err(status) => status,
+    };
     if status != Status::Done {
         let word = status.word();
         let _ = eprintln!(rt; "filesd: {word}");
@@ -26,44 +45,31 @@ fn main(rt: HostRuntime) -> ExitCode {
     ExitCode::from(status.code())
 }
 
-/// Over the file that FILESD_STORE names, or else over a keeper in memory. `turns` is the same runtime, as what may wait for turns.
-fn serve<W: Threads + Wait + Sync>(rt: &HostRuntime, turns: &W) -> Status {
+/// The path that FILESD_STORE names, if it names one.
+fn store(rt: &HostRuntime) -> Result<Option<String>, Status> {
     match env::var(rt, "FILESD_STORE") {
-        Ok(path) => serve_file(rt, turns, &path),
-        Err(VarError::NotPresent) => serve_memory(rt, turns),
+        Ok(path) => Ok(Some(path)),
+        Err(VarError::NotPresent) => Ok(None),
         Err(VarError::NotUnicode) => {
             let _ = eprintln!(rt; "filesd: the path of the store is no text");
+            Err(Status::StoreFault)
+        }
+        Err(VarError::OutOfMemory) => Err(Status::Memory),
+    }
+}
+
+fn status_of(rt: &HostRuntime, error: Error) -> Status {
+    match error {
+        Error::SqliteFailure(ErrorCode::OutOfMemory) => Status::Memory,
+        error => {
+            let _ = eprintln!(rt; "filesd: the store can't be opened: {error}");
             Status::StoreFault
         }
-        Err(VarError::OutOfMemory) => Status::Memory,
     }
 }
 
-fn serve_memory<W: Threads + Wait + Sync>(rt: &HostRuntime, turns: &W) -> Status {
-    match MemKeeper::new(rt.alloc(), &[]) {
-        Ok(keeper) => serve_over(rt, turns, keeper).status,
-        Err(_) => Status::Memory,
-    }
-}
-
-fn serve_file<W: Threads + Wait + Sync>(rt: &HostRuntime, turns: &W, path: &str) -> Status {
-    let connection = match Connection::open(rt, path) {
-        Ok(connection) => connection,
-        Err(Error::SqliteFailure(ErrorCode::OutOfMemory)) => return Status::Memory,
-        Err(error) => {
-            let _ = eprintln!(rt; "filesd: the store can't be opened: {error}");
-            return Status::StoreFault;
-        }
-    };
-    let finished = serve_over(rt, turns, SqlKeeper::over(rt.alloc(), connection));
-    // Whatever was answered is in the log already, from which the next opening takes it.
-    if let Err(error) = finished.keeper.into_connection().close() {
-        let _ = eprintln!(rt; "filesd: the store's log can't be copied back: {error}");
-    }
-    finished.status
-}
-
-fn serve_over<W: Threads + Wait + Sync, K: Keeper + Drop + Send>(
+/// What the words ask for, over a keeper. `turns` is the same runtime, as what may wait for turns and start threads.
+fn serve<W: Threads + Wait + Sync, K: Keeper + Drop + Send>(
     rt: &HostRuntime,
     turns: &W,
     keeper: K,
@@ -76,6 +82,7 @@ fn serve_over<W: Threads + Wait + Sync, K: Keeper + Drop + Send>(
         Ok(workers) => workers,
         Err(status) => return unopened(status, keeper),
     };
+    let count = workers.len().min(MOST_WORKERS);
     run(
         turns,
         rt.alloc(),
@@ -84,7 +91,7 @@ fn serve_over<W: Threads + Wait + Sync, K: Keeper + Drop + Send>(
         &mut Output::new(rt.stdout()),
         keeper,
         &mut RealClock::new(clock),
-        &mut workers,
+        &mut workers[..count],
     )
 }
 

@@ -1,0 +1,49 @@
+//! The keeper in a file.
+
+use nf_base::{BlobId, Changes};
+use nf_keeper::{KeepFault, Keeper, NewBlob, RawRows};
+use nf_keeper_sql::SqlKeeper;
+use sqlite::{Connection, Error, File, FileStore};
+use std::alloc::Global;
+
+/// The keeper in a file. It has a type of its own so that the proofs of what is given one don't take its store's type apart.
+#[derive(Drop)]
+pub struct FileKeeper {
+    inner: SqlKeeper<FileStore<File>>,
+}
+
+impl FileKeeper {
+    pub fn over(alloc: Global, connection: Connection<FileStore<File>>) -> FileKeeper {
+        FileKeeper {
+            inner: SqlKeeper::over(alloc, connection),
+        }
+    }
+
+    /// Copies the log back into the file.
+    pub fn close(self) -> Result<(), Error> {
+        let FileKeeper { inner } = self;
+        inner.into_connection().close()
+    }
+}
+
+impl Keeper for FileKeeper {
+    ghost told = { λ keeper. ⟦<SqlKeeper<FileStore<File>> as Keeper>⟧.told keeper.inner };
+
+    ghost faults = { λ keeper. ⟦<SqlKeeper<FileStore<File>> as Keeper>⟧.faults keeper.inner };
+
+    fn load(&mut self) -> Result<RawRows, KeepFault> {
+        self.inner.load()
+    }
+
+    fn apply(&mut self, changes: &Changes, blob: Option<&NewBlob<'_>>) -> Result<(), KeepFault> {
+        self.inner.apply(changes, blob)
+    }
+
+    fn blob(&mut self, id: BlobId) -> Result<Option<Vec<u8>>, KeepFault> {
+        self.inner.blob(id)
+    }
+
+    fn sweep(&mut self, keep: &[BlobId]) -> Result<(), KeepFault> {
+        self.inner.sweep(keep)
+    }
+}
