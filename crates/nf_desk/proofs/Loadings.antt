@@ -273,8 +273,9 @@ unread_fault opening keeper raws fault.Memory may told rising is = tt
 unread_fault opening keeper raws fault.Found may told rising is = absurd is
 unread_fault opening keeper raws fault.Missing may told rising is = absurd is
 
-pub unbuilt_fault : (opening : Opening) (keeper : Option Told) (raws : List Raw) (all : List Row) (why : SiteFault) → MayHaveRows opening
-    → AreTold keeper raws → AreRisingRaws raws → AreSpelled raws all → IsFaultOf all why → IsFault opening keeper (of_site why)
-unbuilt_fault opening keeper raws all (judged.Broken broken) may told rising spelled is =
-    (may, (raws, record { told = told; rising = rising }, record { rows = all; spelled = spelled; first = is }))
-unbuilt_fault opening keeper raws all judged.Memory may told rising spelled is = tt
+pub unbuilt_fault : (opening : Opening) (keeper : Option Told) (raws : List Raw) (all : List Row) (why : SiteFault) → raws ≢ []
+    → MayHaveRows opening → AreTold keeper raws → AreRisingRaws raws → AreSpelled raws all → IsFaultOf all why
+    → IsFault opening keeper (of_site why)
+unbuilt_fault opening keeper raws all (judged.Broken broken) some may told rising spelled is =
+    (may, (raws, record { told = told; rising = rising }, record { some = some; rows = all; spelled = spelled; first = is }))
+unbuilt_fault opening keeper raws all judged.Memory some may told rising spelled is = tt

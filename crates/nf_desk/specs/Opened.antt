@@ -78,8 +78,9 @@ pub record Opens (opening : Opening) (before after : Option Told) (site : site.K
 
 -- ---- a desk that isn't
 
--- the first rule that the loaded rows break
+-- some rows were loaded, and that is the first rule that they break
 pub record IsBroken (raws : List Raw) (broken : Rattle.nf_rules.specs.Rules.Broken) : Type 0 where
+  pub some : raws ≢ []
   pub rows : List Row
   pub spelled : AreSpelled raws rows
   pub first : first_broken rules rows ≡ Some broken

@@ -41,6 +41,8 @@ returns-in_err-build-in-Either-clause-err g c =
     let p = err_from_is_err_and c.from_residual-in_err-build-in-Either.result c.from_residual-in_err-build-in-Either.ensures.1 in
     rw (p.1, p.2)
     (unbuilt_fault c.args.opening (g.K.Keeper.told c.args.keeper.now) c.in_ok-raws.raws c.in_ok-rows-in-Either.rows
-    c.in_err-build-in-Either.field-0.0 (may_have c.args.opening c.in-Either.is) c.in_ok-raws.ensures.rows c.in_ok-raws.ensures.rising
+    c.in_err-build-in-Either.field-0.0
+    (are_some c.in_ok-raws.raws c.rows.result.now c.is_empty.result c.is_empty.ensures c.rows.ensures c.if-is_empty.false)
+    (may_have c.args.opening c.in-Either.is) c.in_ok-raws.ensures.rows c.in_ok-raws.ensures.rising
     (subst (λ (raws : List Raw). AreSpelled raws c.in_ok-rows-in-Either.rows) c.rows-in-Either.ensures c.in_ok-rows-in-Either.ensures)
     c.in_err-build-in-Either.ensures)
