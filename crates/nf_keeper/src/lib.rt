@@ -2,7 +2,6 @@
 #![tactic(auto)]
 
 mod blobs;
-mod calls;
 mod keeper;
 mod memory;
 mod raws;

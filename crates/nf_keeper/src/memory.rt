@@ -2,17 +2,18 @@
 
 ghost use Rattle.std.specs.Prelude.{◌≡◌, [], All, IfOk, OnOk, OnErr, Some, option_map, option_copied};
 ghost use Rattle.nf_defs.specs.Blobs.{put_blob};
+ghost use Rattle.nf_outside.specs.Calls.{IsNextCall, first_calls};
 ghost use Rattle.nf_told.specs.Told.{AreRisingRaws, FitsChange};
 ghost use Rattle.nf_keeper.specs.Keeping.{AreTold, Counts, IsTold, applied, swept};
-ghost use Rattle.nf_keeper.specs.Memory.{FailsAsListed, IsNextCall, first_calls, put_raws};
+ghost use Rattle.nf_keeper.specs.Memory.{FailsAsListed, put_raws};
 ghost use Rattle.nf_keeper.specs.Views.{bytes_in, stored_in};
 
 use crate::blobs::{Blob, BlobList, bytes_of, copy_of, drop_others, keep, put_bytes};
-use crate::calls::CallCount;
 use crate::keeper::{KeepFault, Keeper, NewBlob};
 use crate::raws::RawRows;
 use crate::spelled::{KeptRow, copy_rows, make_all, rising_of, spell_all};
 use nf_base::{BlobId, Changes};
+use nf_outside::CallCount;
 use std::alloc::{AllocError, Global};
 use std::marker::Model;
 
@@ -101,7 +102,7 @@ impl Keeper for MemKeeper {
         ensures next { IsNextCall self.old.calls self.new.calls }
         ensures fails { FailsAsListed self.new.calls result }
     {
-        if self.calls.next_fails() {
+        if self.calls.next().is_err() {
             return Err(KeepFault::Failed);
         }
         Ok(copy_rows(self.alloc, &self.rows)?)
@@ -116,7 +117,7 @@ impl Keeper for MemKeeper {
         ensures next { IsNextCall self.old.calls self.new.calls }
         ensures fails { FailsAsListed self.new.calls result }
     {
-        if self.calls.next_fails() {
+        if self.calls.next().is_err() {
             return Err(KeepFault::Failed);
         }
         let spelled = spell_all(self.alloc, changes.as_slice())?;
@@ -136,7 +137,7 @@ impl Keeper for MemKeeper {
         ensures next { IsNextCall self.old.calls self.new.calls }
         ensures fails { FailsAsListed self.new.calls result }
     {
-        if self.calls.next_fails() {
+        if self.calls.next().is_err() {
             return Err(KeepFault::Failed);
         }
         Ok(bytes_of(self.alloc, &self.blobs, id)?)
@@ -150,7 +151,7 @@ impl Keeper for MemKeeper {
         ensures next { IsNextCall self.old.calls self.new.calls }
         ensures fails { FailsAsListed self.new.calls result }
     {
-        if self.calls.next_fails() {
+        if self.calls.next().is_err() {
             return Err(KeepFault::Failed);
         }
         drop_others(&mut self.blobs, keep);

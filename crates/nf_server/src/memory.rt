@@ -1,12 +1,14 @@
 //! A door in memory.
 
-ghost use Rattle.std.specs.Prelude.{◌≡◌, ◌+◌, ◌≤◌, ◌<◌, [], length, vec_capacity, vec_len, IfOk, Some, is_ok};
+ghost use Rattle.std.specs.Prelude.{◌≡◌, ◌+◌, ◌≤◌, ◌<◌, [], vec_capacity, vec_len, IfOk, IfSome, Some, is_ok, not};
 ghost use Rattle.std.specs.Vec.Iter.{into_iter_items, into_iter_len};
-ghost use Rattle.nf_server.specs.Doors.{behind};
+ghost use Rattle.nf_outside.specs.Calls.{IsNextCall, first_calls, is_failing};
+ghost use Rattle.nf_outside.specs.Causes.{HasCause};
+ghost use Rattle.nf_server.specs.Doors.{GivesLink, behind};
 
 use crate::door::Door;
 use crate::link::Link;
-use nf_outside::{Failed, Sink, Source};
+use nf_outside::{CallCount, Failed, Sink, Source};
 use std::alloc::{AllocError, Global};
 use std::vec::IntoIter;
 
@@ -15,9 +17,7 @@ use std::vec::IntoIter;
 pub struct MemDoor<S: Drop, O: Drop> {
     coming: IntoIter<Link<S, O>, Global>,
     served: Vec<Link<S, O>>,
-    failing: Vec<u64>,
-    made: u64,
-    faults: u64,
+    calls: CallCount,
     ghost room: { vec_len served + into_iter_len coming ≤ vec_capacity served },
 }
 
@@ -30,16 +30,14 @@ impl<S: Drop, O: Drop> MemDoor<S, O> {
     ) -> Result<MemDoor<S, O>, AllocError>
         ensures coming { IfOk result (λ door. into_iter_items door.coming ≡ links.items) }
         ensures served { IfOk result (λ door. door.served.items ≡ []) }
-        ensures calls { IfOk result (λ door. (door.failing ≡ failing) × (door.made ≡ 0) × (door.faults ≡ 0)) }
+        ensures calls { IfOk result (λ door. door.calls ≡ first_calls failing.items) }
     {
         let mut served = Vec::new(alloc);
         served.reserve(links.len())?;
         Ok(MemDoor {
             coming: links.into_iter(),
             served,
-            failing,
-            made: 0,
-            faults: 0,
+            calls: CallCount::new(failing),
         })
     }
 
@@ -60,16 +58,20 @@ impl<S: Source + Drop, O: Sink + Drop> Door for MemDoor<S, O> {
 
     ghost served = { λ door. Some door.served.items };
 
-    ghost faults = { λ door. door.faults };
+    ghost faults = { λ door. door.calls.faults };
 
     ghost has_room = { λ door. vec_len door.served + into_iter_len door.coming < vec_capacity door.served };
 
-    fn next(&mut self) -> Result<Option<Link<S, O>>, Failed> {
-        self.made = self.made.saturating_add(1);
-        if self.failing.as_slice().contains(&self.made) {
-            self.faults = self.faults.saturating_add(1);
-            return Err(Failed);
-        }
+    /// Fails where it is listed as a call that fails, and only there.
+    fn next(&mut self) -> Result<Option<Link<S, O>>, Failed>
+        ensures gives { GivesLink (⟦<MemDoor<S, O> as Door>⟧.coming self.old) (⟦<MemDoor<S, O> as Door>⟧.coming self.new) result }
+        ensures cause { HasCause (⟦<MemDoor<S, O> as Door>⟧.faults self.old) (⟦<MemDoor<S, O> as Door>⟧.faults self.new) result }
+        ensures served { ⟦<MemDoor<S, O> as Door>⟧.served self.new ≡ ⟦<MemDoor<S, O> as Door>⟧.served self.old }
+        ensures room { IfOk result (λ given. IfSome given (λ _. ⟦<MemDoor<S, O> as Door>⟧.has_room self.new)) }
+        ensures next { IsNextCall self.old.calls self.new.calls }
+        ensures fails { is_ok result ≡ not (is_failing self.new.calls) }
+    {
+        self.calls.next()?;
         Ok(self.coming.next())
     }
 
