@@ -44,7 +44,7 @@ use Rattle.nf_site.specs.Demo.{demo_rows, hello}
 use Rattle.nf_site.specs.Held.{Held}
 use Rattle.nf_told.specs.Told.{Told}
 use Rattle.filesd.specs.OneFile.{IsFileOf, ServesOneFile, fresh_book}
-use Rattle.filesd.specs.Opening.{IsUnopened, WhyUnopened, told_opened}
+use Rattle.filesd.specs.Opening.{IsUnopened, WhyUnopened, over_any, told_opened}
 use Rattle.filesd.specs.Outside.{Outside}
 use Rattle.filesd.specs.Seat.{AreOwn, book_of}
 use Rattle.filesd.specs.Session.{Runs, first_book, scene_of, status_of}
@@ -283,8 +283,8 @@ closed_one reads told faults a b input before output session left first last fre
     (through_shown reads caller spot h body shelf a session.scenes session.before b prints (left ∙ ap (λ (bytes : List ℕ). Some bytes) is)
     tells kept only session.through session.turn)
 
-unopened_not_done : {C : Type 0} (a b : Outside C) (status : Status) → IsUnopened a b status → status ≡ exit.Done → ⊥
-unopened_not_done a b status unopened is = subst (λ (z : Status). WhyUnopened a.told a.faults b.faults z) is unopened.why
+unopened_not_done : {C : Type 0} (a b : Outside C) (status : Status) → IsUnopened over_any a b status → status ≡ exit.Done → ⊥
+unopened_not_done a b status unopened is = subst (λ (z : Status). WhyUnopened over_any a.told a.faults b.faults z) is unopened.why
 
 -- a run over such an input
 pub serves_one : {C : Type 0} (reads : C → ℕ → C → Type 0) (a b : Outside C) (status : Status) (site : Option Held)

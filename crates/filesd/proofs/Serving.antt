@@ -21,7 +21,7 @@ use Rattle.nf_site.specs.Kept.{Kept, opened_over}
 use Rattle.nf_told.specs.Told.{Told}
 use Rattle.nf_words.specs.State.{opened}
 use Rattle.nf_words.specs.declared.history.Entry.{Entry}
-use Rattle.filesd.specs.Opening.{IsUnopened, WhyUnopened, demo_blob, told_opened}
+use Rattle.filesd.specs.Opening.{IsUnopened, WhyUnopened, demo_blob, over_any, told_opened}
 use Rattle.filesd.specs.Opening as opening
 use Rattle.filesd.specs.Outside.{Outside}
 use Rattle.filesd.specs.Seat.{AreOwn, book_of, seat}
@@ -82,9 +82,9 @@ module _ {C : Type 0} (reads : C → ℕ → C → Type 0) (a b : Outside C) (st
 
 -- ---- faults of the ends
 
-unopened_by : {C : Type 0} (a b : Outside C) (status wanted : Status) → IsUnopened a b status → status ≡ wanted
-    → WhyUnopened a.told a.faults b.faults wanted
-unopened_by a b status wanted unopened is = subst (λ (z : Status). WhyUnopened a.told a.faults b.faults z) is unopened.why
+unopened_by : {C : Type 0} (a b : Outside C) (status wanted : Status) → IsUnopened over_any a b status → status ≡ wanted
+    → WhyUnopened over_any a.told a.faults b.faults wanted
+unopened_by a b status wanted unopened is = subst (λ (z : Status). WhyUnopened over_any a.told a.faults b.faults z) is unopened.why
 
 pub runs_read : {C : Type 0} (reads : C → ℕ → C → Type 0) (a b : Outside C) (status : Status) (site : Option Held) → Runs reads a b status site
     → status ≡ exit.ReadFault → Rose a.read_faults b.read_faults

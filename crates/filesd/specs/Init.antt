@@ -7,7 +7,7 @@ use Rattle.nf_desk.specs.Opening.{IsLoaded}
 use Rattle.nf_outside.specs.Causes.{Rose}
 use Rattle.nf_site.specs.Held.{Held}
 use Rattle.nf_site.specs.Kept.{opened_over}
-use Rattle.filesd.specs.Opening.{IsUnopened, told_first}
+use Rattle.filesd.specs.Opening.{IsUnopened, over_none, told_first}
 use Rattle.filesd.specs.Outside.{Outside}
 use Rattle.filesd.specs.declared.status.Status.{Status}
 use Rattle.filesd.specs.declared.status.Status.TheVariants as exit
@@ -39,5 +39,5 @@ pub record Begins {C : Type 0} (rows : List Row) (a b : Outside C) (status : Sta
   pub clock : b.clock ≡ a.clock
 
 abbrev pub Inits : {C : Type 0} → List Row → Outside C → Outside C → Status → Option Held → Type 0
-Inits rows a b status None = IsUnopened a b status
+Inits rows a b status None = IsUnopened over_none a b status
 Inits rows a b status (Some site) = Begins rows a b status site

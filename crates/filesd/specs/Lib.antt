@@ -7,3 +7,4 @@ pub mod Session
 pub mod Init
 pub mod Reopening
 pub mod OneFile
+pub mod Ending

@@ -1,14 +1,16 @@
 -- What a run is opened over, or why it isn't.
-use Rattle.std.specs.Prelude.{◌≡◌, ◌≢◌, ℕ, List, [], ◌∷◌, map, Option, Some, option_map}
+use Rattle.std.specs.Prelude.{◌≡◌, ℕ, List, [], ◌∷◌, map, Option, None, Some, option_map}
 use Rattle.nf_base.specs.declared.changes.Change.TheVariants.{Put}
 use Rattle.nf_base.specs.declared.rows.Row.{Row}
-use Rattle.nf_desk.specs.Opening.{AreSpelled, IsLoaded, IsUnread}
+use Rattle.nf_desk.specs.Opened.{IsFault}
+use Rattle.nf_desk.specs.declared.first.First.{First}
 use Rattle.nf_desk.specs.declared.first.OpenFault.{OpenFault}
 use Rattle.nf_desk.specs.declared.first.OpenFault.TheVariants as fault
+use Rattle.nf_desk.specs.declared.first.Opening.{Opening}
+use Rattle.nf_desk.specs.declared.first.Opening.TheVariants.{Fresh, Either}
 use Rattle.nf_keeper.specs.Keeping.{Stored, applied}
 use Rattle.nf_outside.specs.Causes.{Rose}
 use Rattle.nf_rows.specs.Spelling.{Raw}
-use Rattle.nf_rules.specs.Rules.{first_broken, rules}
 use Rattle.nf_site.specs.Demo.{demo_rows, hello}
 use Rattle.nf_told.specs.Told.{Told}
 use Rattle.filesd.specs.Outside.{Outside, Untouched}
@@ -30,13 +32,22 @@ abbrev pub told_opened : List Raw → Option Told → Option Told
 told_opened [] told = told_first demo_rows demo_blob told
 told_opened (raw ∷ raws) told = told
 
--- rows that were loaded, and that no site is opened over
-abbrev pub IsBad : List Raw → RowsFault → Type 0
-IsBad raws (rows.Unread index why) = IsUnread raws index why
-IsBad raws (rows.Broken index rule) =
-    (all : List Row) × AreSpelled raws all × (first_broken rules all ≡ Some (record { rule = rule; index = index }))
-IsBad raws rows.Found = raws ≢ []
-IsBad raws rows.Missing = ⊥
+-- a run of `batch` is opened over any rows, and one of `init` where there are none
+abbrev pub no_rows : First
+no_rows = record { rows = []; blob = None }
+
+abbrev pub over_any : Opening
+over_any = Either no_rows
+
+abbrev pub over_none : Opening
+over_none = Fresh no_rows
+
+-- no site is opened over what the keeper has
+abbrev pub IsBad : Opening → Option Told → RowsFault → Type 0
+IsBad opening told (rows.Unread index why) = IsFault opening told (fault.Unread index why)
+IsBad opening told (rows.Broken index rule) = IsFault opening told (fault.Broken (record { rule = rule; index = index }))
+IsBad opening told rows.Found = IsFault opening told fault.Found
+IsBad opening told rows.Missing = IsFault opening told fault.Missing
 
 -- the status of an opening that failed
 abbrev pub status_of_fault : OpenFault → Status
@@ -48,13 +59,13 @@ status_of_fault fault.Found = exit.BadRows rows.Found
 status_of_fault fault.Missing = exit.BadRows rows.Missing
 
 -- the keeper failed; or there was no memory; or what it has is bad
-abbrev pub WhyUnopened : Option Told → ℕ → ℕ → Status → Type 0
-WhyUnopened told before now exit.StoreFault = Rose before now
-WhyUnopened told before now exit.Memory = now ≡ before
-WhyUnopened told before now (exit.BadRows why) = (now ≡ before) × ((raws : List Raw) × IsLoaded told raws × IsBad raws why)
-WhyUnopened told before now other = ⊥
+abbrev pub WhyUnopened : Opening → Option Told → ℕ → ℕ → Status → Type 0
+WhyUnopened opening told before now exit.StoreFault = Rose before now
+WhyUnopened opening told before now exit.Memory = now ≡ before
+WhyUnopened opening told before now (exit.BadRows why) = (now ≡ before) × IsBad opening told why
+WhyUnopened opening told before now other = ⊥
 
 -- no site was opened, and nothing was done
-pub record IsUnopened {C : Type 0} (a b : Outside C) (status : Status) : Type 0 where
+pub record IsUnopened {C : Type 0} (opening : Opening) (a b : Outside C) (status : Status) : Type 0 where
   pub untouched : Untouched a b
-  pub why : WhyUnopened a.told a.faults b.faults status
+  pub why : WhyUnopened opening a.told a.faults b.faults status

@@ -15,7 +15,7 @@ use Rattle.nf_site.specs.Demo.{demo_rows}
 use Rattle.nf_site.specs.Held.{Held}
 use Rattle.nf_site.specs.Kept.{opened_over}
 use Rattle.nf_told.specs.Told.{Told}
-use Rattle.filesd.specs.Opening.{IsUnopened, told_opened}
+use Rattle.filesd.specs.Opening.{IsUnopened, over_any, told_opened}
 use Rattle.filesd.specs.Outside.{Outside}
 use Rattle.filesd.specs.Seat.{book_of}
 use Rattle.filesd.specs.declared.status.Status.{Status}
@@ -65,7 +65,7 @@ pub record Serves {C : Type 0} (reads : C → ℕ → C → Type 0) (a b : Outsi
 
 -- a whole run
 abbrev pub Runs : {C : Type 0} → (C → ℕ → C → Type 0) → Outside C → Outside C → Status → Option Held → Type 0
-Runs reads a b status None = IsUnopened a b status
+Runs reads a b status None = IsUnopened over_any a b status
 Runs reads a b status (Some site) = Serves reads a b status site
 
 -- nothing was done: no site, nothing taken, written or read, and the keeper wasn't asked

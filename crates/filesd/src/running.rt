@@ -11,6 +11,7 @@ ghost use Rattle.nf_outside.specs.Causes.{Rose};
 ghost use Rattle.nf_rules.specs.Rules.{most_quota};
 ghost use Rattle.nf_turn.specs.Book.{IsFresh};
 ghost use Rattle.filesd.specs.Doors.{OneRose, RunsDoors};
+ghost use Rattle.filesd.specs.Ending.{BatchEndsWell, InitEndsWell, ServeEndsWell};
 ghost use Rattle.filesd.specs.Init.{Inits, IsSomeDigest};
 ghost use Rattle.filesd.specs.OneFile.{ServesOneFile};
 ghost use Rattle.filesd.specs.Outside.{outlet, outside};
@@ -99,6 +100,16 @@ where
     // But for a `serve`, all entries are those of the one seat.
     ensures alone { (IsSomeServe (map string_bytes words.now) → ⊥) → IfSome result.site (λ site. AreOwn site.kept.history) }
     ensures room { IsBatch (map string_bytes words.now) → result.status ≢ exit.RunFull }
+
+    // Where nothing of the outside fails, over a store that is as the words ask.
+    ensures batch_well { IsBatch (map string_bytes words.now) → BatchEndsWell
+        (outside S.Ends O.Ends K.Keeper input.old output.old keeper clock.old)
+        (outside S.Ends O.Ends K.Keeper input.new output.new result.keeper clock.new) result.status }
+    ensures init_well { (name token : List ℕ) (quota : ℕ) → IsInit (map string_bytes words.now) name token quota → InitEndsWell
+        (outside S.Ends O.Ends K.Keeper input.old output.old keeper clock.old)
+        (outside S.Ends O.Ends K.Keeper input.new output.new result.keeper clock.new) result.status }
+    ensures serve_well { IsSomeServe (map string_bytes words.now)
+        → ServeEndsWell D.Door (K.told keeper) (K.faults keeper) (K.faults result.keeper) workers.old workers.new result.status }
 
     // One GET of a file, said without the session.
     ensures one_file { IsBatch (map string_bytes words.now) → ServesOneFile

@@ -4,32 +4,35 @@ use nf_base::{BlobId, Changes};
 use nf_keeper::{KeepFault, Keeper, NewBlob, RawRows};
 use nf_keeper_sql::SqlKeeper;
 use sqlite::{Connection, Error, File, FileStore};
-use std::alloc::Global;
+use std::alloc::{AllocError, Global};
 
-/// The keeper in a file. It has a type of its own so that the proofs of what is given one don't take its store's type apart.
+/// The keeper in a file. It has a type of its own so that the proofs of what is given one don't take its store's type apart; and it
+/// lies on the heap, since it is handed from thread to thread with each turn, and is large.
 #[derive(Drop)]
 pub struct FileKeeper {
-    inner: SqlKeeper<FileStore<File>>,
+    inner: Box<SqlKeeper<FileStore<File>>>,
 }
 
 impl FileKeeper {
-    pub fn over(alloc: Global, connection: Connection<FileStore<File>>) -> FileKeeper {
-        FileKeeper {
-            inner: SqlKeeper::over(alloc, connection),
-        }
+    pub fn over(
+        alloc: Global,
+        connection: Connection<FileStore<File>>,
+    ) -> Result<FileKeeper, AllocError> {
+        let inner = Box::new(alloc, SqlKeeper::over(alloc, connection))?;
+        Ok(FileKeeper { inner })
     }
 
     /// Copies the log back into the file.
     pub fn close(self) -> Result<(), Error> {
         let FileKeeper { inner } = self;
-        inner.into_connection().close()
+        Box::into_inner(inner).into_connection().close()
     }
 }
 
 impl Keeper for FileKeeper {
-    ghost told = { λ keeper. ⟦<SqlKeeper<FileStore<File>> as Keeper>⟧.told keeper.inner };
+    ghost told = { λ keeper. ⟦<SqlKeeper<FileStore<File>> as Keeper>⟧.told keeper.inner.value };
 
-    ghost faults = { λ keeper. ⟦<SqlKeeper<FileStore<File>> as Keeper>⟧.faults keeper.inner };
+    ghost faults = { λ keeper. ⟦<SqlKeeper<FileStore<File>> as Keeper>⟧.faults keeper.inner.value };
 
     fn load(&mut self) -> Result<RawRows, KeepFault> {
         self.inner.load()

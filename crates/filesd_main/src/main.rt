@@ -22,14 +22,10 @@ mod tests;
 fn main(rt: HostRuntime) -> ExitCode {
     let status = match store(&rt) {
         Ok(Some(path)) => match Connection::open(&rt, path.as_str()) {
-            Ok(connection) => {
-                let finished = serve(&rt, &rt, FileKeeper::over(rt.alloc(), connection));
-                // Whatever was answered is in the log already, from which the next opening takes it.
-                if let Err(error) = finished.keeper.close() {
-                    let _ = eprintln!(rt; "filesd: the store's log can't be copied back: {error}");
-                }
-                finished.status
-            }
+            Ok(connection) => match FileKeeper::over(rt.alloc(), connection) {
+                Ok(keeper) => serve_file(&rt, &rt, keeper),
+                Err(_) => Status::Memory,
+            },
             Err(error) => status_of(&rt, error),
         },
         Ok(None) => match MemKeeper::new(rt.alloc(), &[]) {
@@ -43,6 +39,16 @@ fn main(rt: HostRuntime) -> ExitCode {
         let _ = eprintln!(rt; "filesd: {word}");
     }
     ExitCode::from(status.code())
+}
+
+/// The same over a file, whose log is copied back at the end.
+fn serve_file<W: Threads + Wait + Sync>(rt: &HostRuntime, turns: &W, keeper: FileKeeper) -> Status {
+    let finished = serve(rt, turns, keeper);
+    // Whatever was answered is in the log already, from which the next opening takes it.
+    if let Err(error) = finished.keeper.close() {
+        let _ = eprintln!(rt; "filesd: the store's log can't be copied back: {error}");
+    }
+    finished.status
 }
 
 /// The path that FILESD_STORE names, if it names one.

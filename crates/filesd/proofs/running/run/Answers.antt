@@ -13,6 +13,7 @@ use Rattle.filesd.specs.Init.{Inits}
 use Rattle.filesd.specs.Outside.{outlet}
 use Rattle.filesd.specs.declared.status.Status.{Status}
 use Rattle.filesd.proofs.Beginning.{inits_beside, rows_are}
+use Rattle.filesd.proofs.Ending.{batch_well, init_well, serve_well}
 use Rattle.filesd.proofs.Working.{Says, runs_say}
 use Rattle.filesd.proofs.OneFile.{serves_one}
 use Rattle.filesd.proofs.Serving.{runs_read, runs_write}
@@ -30,6 +31,10 @@ pub returns-in-Ok-Some-Batch-clause-write : goal.returns-in-Ok-Some-Batch-clause
 returns-in-Ok-Some-Batch-clause-write g c =
     runs_write g.C.Clock.reads _ _ c.batch.result.status c.batch.result.site c.batch.ensures.runs
 
+pub returns-in-Ok-Some-Batch-clause-batch_well : goal.returns-in-Ok-Some-Batch-clause-batch_well
+returns-in-Ok-Some-Batch-clause-batch_well g c = λ batch.
+    batch_well g.C.Clock.reads _ _ c.batch.result.status c.batch.result.site c.batch.ensures.runs c.batch.ensures.room
+
 pub returns-in-Ok-Some-Init-clause-init : goal.returns-in-Ok-Some-Init-clause-init
 returns-in-Ok-Some-Init-clause-init g c = λ name token quota is.
     let init = c.in-Ok-Some-Init.init in
@@ -46,6 +51,17 @@ returns-in-Ok-Some-Init-clause-init g c = λ name token quota is.
     (outlet g.O.Ends g.K.Keeper c.args.output.now c.args.keeper)
     (outlet g.O.Ends g.K.Keeper c.initialize.new.output c.initialize.result.keeper)
     c.initialize.result.status c.initialize.result.site) rows c.initialize.ensures.inits)
+
+pub returns-in-Ok-Some-Init-clause-init_well : goal.returns-in-Ok-Some-Init-clause-init_well
+returns-in-Ok-Some-Init-clause-init_well g c = λ name token quota is.
+    init_well (init_rows name token quota) _ _ c.initialize.result.status c.initialize.result.site
+    (returns-in-Ok-Some-Init-clause-init g c name token quota is)
+
+pub returns-in-Ok-Some-Serve-clause-serve_well : goal.returns-in-Ok-Some-Serve-clause-serve_well
+returns-in-Ok-Some-Serve-clause-serve_well g c = λ is.
+    serve_well g.K.Keeper g.D.Source.Ends g.D.Sink.Ends g.W.Clock.reads g.D.Door c.args.keeper c.serve_doors.result.keeper
+    c.args.workers.now c.serve_doors.new.workers c.serve_doors.result.status c.serve_doors.result.site c.in-Ok-Some-Serve.connections
+    c.serve_doors.ensures.runs
 
 pub returns-in-Ok-Some-Serve-clause-serve : goal.returns-in-Ok-Some-Serve-clause-serve
 returns-in-Ok-Some-Serve-clause-serve g c = λ n is.
