@@ -136,7 +136,8 @@ class Tree:
                 return path
 
     def step(self, chance, weights, body):
-        """A step by chance, of a method with such weights. `body` gives the one of a PUT. What would make the folder too large is a DELETE."""
+        """A step by chance, of a method with such weights. `body` gives the one of a PUT. Instead of what would make the folder too
+        large it is a DELETE."""
         [method], path = chance.choices(list(weights), weights.values()), self.path(chance)
         step = Step(method, path)
         if method == "GET" and chance.random() < 0.3:
