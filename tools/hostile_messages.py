@@ -1,5 +1,10 @@
 """The messages that tools/try-hostile sends, each with the statuses that answer it."""
-from serving import FILES, TOKEN
+import random
+import re
+import socket
+import struct
+
+from serving import FILES, TOKEN, check, known
 
 HEAD = f"\r\nHost: x\r\n{TOKEN}\r\n".encode()
 GET = f"GET {FILES}hello.txt HTTP/1.1".encode() + HEAD
@@ -71,3 +76,54 @@ WRONG = [
     ("two Hosts", GET + b"Host: y\r\n", "400", "200: it is answered as any (RFC 9112, 3.2)"),
     ("HTTP/1.2", GET.replace(b"/1.1", b"/1.2"), "200", "400: not taken for HTTP/1.1 (RFC 9110, 2.5)"),
 ]
+
+
+def connect(server, timeout=10):
+    return socket.create_connection(("127.0.0.1", server.port), timeout=timeout)
+
+
+def talk(server, data, ends=False, timeout=1.0):
+    """Sends the bytes, and gives the statuses of the answers and whether the server closed the connection."""
+    got, is_closed = b"", True
+    with connect(server, timeout) as one:
+        try:
+            one.sendall(data)
+            if ends:
+                one.shutdown(socket.SHUT_WR)
+            while chunk := one.recv(65536):
+                got += chunk
+        except TimeoutError:
+            is_closed = False
+        except OSError:
+            pass
+    return [int(code) for code in re.findall(rb"HTTP/1\.1 (\d{3}) ", got)], is_closed
+
+
+def messages(server, limit):
+    for what, head, code in REFUSED:
+        seen = talk(server, head + b"\r\n" + HIDDEN)
+        check(f"{what}: {code}, closed, and nothing behind it is answered", seen == ([code], True), seen)
+    for what, head, code in INSIDE:
+        seen = talk(server, head + HIDDEN + GET + b"\r\n")
+        check(f"{what} that holds a request: {code}, and 200 to the one behind it", seen == ([code, 200], False), seen)
+    check("none of the hidden requests was done", server.ask("GET", "smuggled")[0] == 404 and server.ask("GET", "victim")[1] == HIDDEN)
+    part = PUT.replace(b"victim", b"cut") + b"Content-Length: 100\r\n\r\n" + b"x" * 50
+    seen = talk(server, part, ends=True)
+    check("a body shorter than said, then the end: 400, closed", seen == ([400], True), seen)
+    with connect(server) as one:
+        one.sendall(part)
+    with connect(server) as one:
+        one.sendall(part)
+        one.setsockopt(socket.SOL_SOCKET, socket.SO_LINGER, struct.pack("ii", 1, 0))
+    seen = talk(server, part, timeout=limit + 3)
+    check(f"a body shorter than said, then silence: no answer, closed within {limit + 3} s", seen == ([], True), seen)
+    check("of four such bodies nothing was stored", server.ask("GET", "cut")[0] == 404)
+    seen = talk(server, PUT + b"Content-Length: 3\r\n\r\nhello " + HIDDEN)
+    check("a body longer than said: 204, then 400 to what follows, closed", seen == ([204, 400], True), seen)
+    chance, kinds = random.Random(1), {}
+    for _ in range(300):
+        seen = talk(server, chance.randbytes(chance.randrange(1, 10_000)), ends=True, timeout=5)
+        kinds[str(seen)] = kinds.get(str(seen), 0) + 1
+    check(f"300 times random bytes and the end, {kinds}: each 400 or 431, and closed", set(kinds) <= {"([400], True)", "([431], True)"})
+    for what, head, right, wrong in WRONG:
+        known(what, right, " ".join(map(str, talk(server, head + b"\r\n")[0])), wrong)

@@ -9,17 +9,19 @@ ROOT = os.path.dirname(os.path.dirname(os.path.realpath(__file__)))
 PROGRAM = sys.argv[1] if len(sys.argv) > 1 else os.path.join(ROOT, "release/filesd")
 FILES = "/remote.php/dav/files/alice/"
 TOKEN = "Authorization: Bearer alice-1"
+# What a client may meet instead of an answer.
+FAULTS = (OSError, http.client.HTTPException)
 counts = {}
 
 
 class Server:
     """A server over the demonstration rows, on a port of loopback that the system chose."""
 
-    def __init__(self, folder, workers=4, timeout=5):
+    def __init__(self, folder, workers=4, timeout=5, words=("--connections", "1000000")):
         env = {**os.environ, "FILESD_STORE": os.path.join(folder, "club.db"), "FILESD_LISTEN": "127.0.0.1:0",
                "FILESD_WORKERS": str(workers), "FILESD_TIMEOUT": str(timeout)}
         subprocess.run([PROGRAM, "batch"], stdin=subprocess.DEVNULL, env=env, check=True)
-        self.process = subprocess.Popen([PROGRAM, "serve", "--connections", "1000000"], stderr=subprocess.PIPE, env=env, text=True)
+        self.process = subprocess.Popen([PROGRAM, "serve", *words], stderr=subprocess.PIPE, env=env, text=True)
         line = self.process.stderr.readline()
         found = re.search(r"listening on 127\.0\.0\.1:(\d+)", line)
         if not found:
