@@ -82,7 +82,7 @@ def connect(server, timeout=10):
     return socket.create_connection(("127.0.0.1", server.port), timeout=timeout)
 
 
-def talk(server, data, ends=False, timeout=1.0):
+def talk(server, data, ends=False, timeout=1.5):
     """Sends the bytes, and gives the statuses of the answers and whether the server closed the connection."""
     got, is_closed = b"", True
     with connect(server, timeout) as one:
