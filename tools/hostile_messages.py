@@ -4,7 +4,7 @@ import re
 import socket
 import struct
 
-from serving import FILES, TOKEN, check, known
+from trying import FILES, TOKEN, check, known
 
 HEAD = f"\r\nHost: x\r\n{TOKEN}\r\n".encode()
 GET = f"GET {FILES}hello.txt HTTP/1.1".encode() + HEAD
