@@ -27,8 +27,9 @@ use Rattle.nf_promises.specs.Complete.{IsUnrisen, StaysWhole}
 use Rattle.nf_promises.specs.Complete as session
 use Rattle.nf_rows.proofs.Whole.{one_row, read_again}
 use Rattle.nf_rows.specs.Faults.{reading}
-use Rattle.nf_rows.specs.Spelling.{Fits, Raw, spelling_of}
+use Rattle.nf_rows.specs.Spelling.{Fits, Raw, spelling_of, values_of}
 use Rattle.nf_rows.specs.declared.fault.RowFault.{RowFault}
+use Rattle.nf_rows.specs.declared.parts.TheConstants.{FORMAT}
 use Rattle.nf_rules.specs.Rules.{AreUnbroken, Broken}
 use Rattle.nf_server.specs.declared.door.Door.{Ghosts as DoorOf}
 use Rattle.nf_server.specs.declared.workers.Worked.{Worked}
@@ -51,7 +52,7 @@ use Rattle.filesd.specs.Outside.{Outside}
 use Rattle.filesd.specs.Seat.{book_of}
 use Rattle.filesd.specs.Session.{Runs, first_book, scene_of, status_of}
 use Rattle.filesd.specs.declared.status.RowsFault.{RowsFault}
-use Rattle.filesd.specs.declared.status.RowsFault.TheVariants as rows
+use Rattle.filesd.specs.declared.status.RowsFault.TheVariants as bad
 use Rattle.filesd.specs.declared.status.Status.{Status}
 use Rattle.filesd.specs.declared.status.Status.TheVariants as exit
 use Rattle.filesd.proofs.Working.{Says, runs_say}
@@ -76,7 +77,7 @@ are_read [] (suc k) raw why fit at is = absurd (cc)
 are_read (row ∷ rows) zero raw why fit at is =
     let same : spelling_of row ≡ raw = same_Some (spelling_of row) raw at in
     let read = read_again row (All-head Fits row rows fit) in
-    let well = subst (λ (r : Raw). reading r.kind r.key r.body ≡ Ok _) same read in
+    let well = subst (λ (r : Raw). reading r.kind r.key r.body ≡ Ok (values_of FORMAT row)) same read in
     cc
 are_read (row ∷ rows) (suc k) raw why fit at is = are_read rows k raw why (All-tail Fits row rows fit) at is
 
@@ -111,10 +112,10 @@ module _ (told : Option Told) (fits : IsEmptyStore told ⊎ IsSafeStore told) wh
           cc
 
   not_bad : (why : RowsFault) → IsBad over_any told why → ⊥
-  not_bad (rows.Unread index why) (may, raws, loaded, is) = not_unread raws index why loaded is
-  not_bad (rows.Broken index rule) (may, raws, loaded, is) = not_broken raws _ loaded is
-  not_bad rows.Found (fresh, is) = fresh
-  not_bad rows.Missing (kept, is) = kept
+  not_bad (bad.Unread index why) (may, (raws, loaded, is)) = not_unread raws index why loaded is
+  not_bad (bad.Broken index rule) (may, (raws, loaded, is)) = not_broken raws (record { rule = rule; index = index }) loaded is
+  not_bad bad.Found (fresh, is) = fresh
+  not_bad bad.Missing (kept, is) = kept
 
 unrisen : (before now : ℕ) → IsUnrisen before now → Rose before now → ⊥
 unrisen before now same rose = omega (arith, same.0, same.1, rose)
@@ -151,28 +152,30 @@ demo_safe blobs =
     let none : All (IsThere stored) [] = All-nil (IsThere stored) in
     let one = All-cons (IsThere stored) (record { blob = 1; size = 6; digest = sha256 hello }) [] (hello_there blobs) none in
     has_safe demo_rows stored (each_has stored demo_rows
-    (tt, tt, tt, tt, tt, tt, tt, tt, tt, tt, none, none, none, one, tt))
+    (tt, (tt, (tt, (tt, (tt, (tt, (tt, (tt, (tt, (tt, (none, (none, (none, (one, tt)))))))))))))))
 
 -- what a run begins with is safe
 opened_safe : (told : Option Told) (raws : List Raw) (rows : List Row) → IsEmptyStore told ⊎ IsSafeStore told → IsLoaded told raws
-    → OpensTo demo_rows raws rows → (shelf : Blobs) × (blobs_in (told_opened raws told) ≡ Some shelf) × IsSafe rows shelf
+    → OpensTo demo_rows raws rows → (shelf : Blobs) × ((blobs_in (told_opened raws told) ≡ Some shelf) × IsSafe rows shelf)
 opened_safe told raws rows fits loaded opens = begun fits
   where
     over : (it : Told) (raws : List Raw) → told ≡ Some it → OpensTo demo_rows raws rows → (raws ≢ [] → IsSafe rows it.blobs)
-        → (shelf : Blobs) × (blobs_in (told_opened raws told) ≡ Some shelf) × IsSafe rows shelf
+        → (shelf : Blobs) × ((blobs_in (told_opened raws told) ≡ Some shelf) × IsSafe rows shelf)
     over it [] tells is safe = (
       put_blob it.blobs 1 hello,
-      ap (λ (t : Option Told). blobs_in (told_opened [] t)) tells,
-      subst (λ (these : List Row). IsSafe these (put_blob it.blobs 1 hello)) (sym is) (demo_safe it.blobs),
+      (
+        ap (λ (t : Option Told). blobs_in (told_opened [] t)) tells,
+        subst (λ (these : List Row). IsSafe these (put_blob it.blobs 1 hello)) (sym is) (demo_safe it.blobs),
+      ),
     )
-    over it (raw ∷ raws) tells is safe = (it.blobs, ap (λ (t : Option Told). blobs_in t) tells, safe (λ none. cc))
+    over it (raw ∷ raws) tells is safe = (it.blobs, (ap (λ (t : Option Told). blobs_in t) tells, safe (λ none. cc)))
 
     spelled_so : (good : IsSafeStore told) (raws : List Raw) → raws ≡ good.it.rows → OpensTo demo_rows raws rows → raws ≢ [] → good.rows ≡ rows
     spelled_so good [] same is some = absurd (some refl)
     spelled_so good (raw ∷ raws) same is some =
         same_rows good.rows rows good.spelled.fit is.fit (good.spelled.spelled ∙ sym same ∙ sym is.spelled)
 
-    begun : IsEmptyStore told ⊎ IsSafeStore told → (shelf : Blobs) × (blobs_in (told_opened raws told) ≡ Some shelf) × IsSafe rows shelf
+    begun : IsEmptyStore told ⊎ IsSafeStore told → (shelf : Blobs) × ((blobs_in (told_opened raws told) ≡ Some shelf) × IsSafe rows shelf)
     begun (inl (it, tells, none)) = over it raws tells opens (λ some. absurd (some (loaded_is told it raws tells loaded ∙ none)))
     begun (inr good) = over good.it raws good.tells opens (λ some.
         subst (λ (these : List Row). IsSafe these good.it.blobs)
@@ -181,7 +184,7 @@ opened_safe told raws rows fits loaded opens = begun fits
 -- and stays whole
 stays_whole : (a b : Book) (shelf : Blobs) → AreUnbroken a.opening → a.known ≡ [] → a.told ≡ Some shelf → IsSafe a.opening shelf → StaysWhole a b
 stays_whole a b shelf unbroken none tells safe = record {
-  tells = subst (λ (o : Option Blobs). IsSome o) (sym tells) tt;
+  tells = subst (λ (o : Option Blobs). IsSome o) (sym tells) refl;
   whole = λ x now piece before behind told damaged.
       let here : IsDamaged a.opening now piece = subst (λ (opening : List Row). IsDamaged opening now piece) before.opening damaged in
       let first : next_blob_of a ≡ first_blob_of a.opening = ap (λ (es : List Entry). (replay (opened a.opening) es).tables.meta.next_blob) none in
@@ -207,7 +210,7 @@ pub batch_well : {C : Type 0} (reads : C → ℕ → C → Type 0) (a b : Outsid
     → Runs reads a b status site → status ≢ exit.RunFull → BatchEndsWell a b status
 batch_well reads a b status None unopened room = λ fits nothing. unopened_well a b status fits nothing.keeper unopened.why
 batch_well {C} reads a b status (Some site) serves room = λ fits nothing.
-    let begun = opened_safe a.told serves.raws serves.rows fits serves.loaded serves.opens in
+    let begun : (shelf : Blobs) × ((blobs_in (told_opened serves.raws a.told) ≡ Some shelf) × IsSafe serves.rows shelf) = opened_safe a.told serves.raws serves.rows fits serves.loaded serves.opens in
     let first = first_book serves.rows (told_opened serves.raws a.told) a.faults in
     let whole : StaysWhole first (book_of site.kept b.told b.faults) =
     stays_whole first (book_of site.kept b.told b.faults) begun.0 serves.unbroken refl begun.1.0 begun.1.1 in
@@ -218,16 +221,17 @@ batch_well {C} reads a b status (Some site) serves room = λ fits nothing.
 
 pub init_well : {C : Type 0} (rows : List Row) (a b : Outside C) (status : Status) (site : Option Held) → Inits rows a b status site
     → InitEndsWell a b status
-init_well rows a b status None unopened = λ (it, tells, none) nothing. here status unopened.why nothing
+init_well rows a b status None unopened = λ empty nothing. here empty status unopened.why nothing
   where
-    here : (s : Status) → WhyUnopened over_none a.told a.faults b.faults s → NothingFails a b → (s ≡ exit.Done) ⊎ (s ≡ exit.Memory)
-    here exit.StoreFault rose nothing = absurd (unrisen a.faults b.faults nothing.keeper rose)
-    here exit.Memory is nothing = inr refl
-    here (exit.BadRows (rows.Unread index why)) (same, may, is) nothing = absurd may
-    here (exit.BadRows (rows.Broken index rule)) (same, may, is) nothing = absurd may
-    here (exit.BadRows rows.Found) (same, fresh, raws, loaded, some) nothing = absurd (some (loaded_is a.told it raws tells loaded ∙ none))
-    here (exit.BadRows rows.Missing) (same, kept, is) nothing = absurd kept
-    here other never nothing = absurd never
+    here : IsEmptyStore a.told → (s : Status) → WhyUnopened over_none a.told a.faults b.faults s → NothingFails a b
+        → (s ≡ exit.Done) ⊎ (s ≡ exit.Memory)
+    here empty exit.StoreFault rose nothing = absurd (unrisen a.faults b.faults nothing.keeper rose)
+    here empty exit.Memory is nothing = inr refl
+    here empty (exit.BadRows (bad.Unread index why)) (same, (may, is)) nothing = absurd may
+    here empty (exit.BadRows (bad.Broken index rule)) (same, (may, is)) nothing = absurd may
+    here (it, tells, none) (exit.BadRows bad.Found) (same, (fresh, (raws, loaded, some))) nothing = absurd (some (loaded_is a.told it raws tells loaded ∙ none))
+    here empty (exit.BadRows bad.Missing) (same, (kept, is)) nothing = absurd kept
+    here empty other never nothing = absurd never
 init_well rows a b status (Some site) begins = λ empty nothing. here status begins.writes nothing
   where
     here : (s : Status) → Writes a b s → NothingFails a b → (s ≡ exit.Done) ⊎ (s ≡ exit.Memory)
@@ -243,18 +247,6 @@ module _ {K I A C D : Type 0} (k : KeeperOf K) (i : EndsOf I) (a : EndsOf A) (re
       subst (λ (s : Status). (s ≡ exit.Done) ⊎ (s ≡ exit.RunFull) ⊎ (s ≡ exit.Memory)) (sym shut.status_is)
       (here good unrose shut.fault shut.why shut.counted)
     where
-      here : IsSafeStore (k.told keeper) → IsUnrisen (k.faults keeper) (k.faults left) → (why : OpenFault) → IsFault Kept (k.told keeper) why
-          → CountsFault (k.faults keeper) (k.faults left) why
-          → (status_of_fault why ≡ exit.Done) ⊎ (status_of_fault why ≡ exit.RunFull) ⊎ (status_of_fault why ≡ exit.Memory)
-      here good unrose fault.Failed is counts = absurd (unrisen (k.faults keeper) (k.faults left) unrose counts.0)
-      here good unrose (fault.Unread index why) (may, raws, loaded, is) counts =
-          absurd (not_unread (k.told keeper) (inr good) raws index why loaded is)
-      here good unrose (fault.Broken broken) (may, raws, loaded, is) counts =
-          absurd (not_broken (k.told keeper) (inr good) raws broken loaded is)
-      here good unrose fault.Memory is counts = inr (inr refl)
-      here good unrose fault.Found (fresh, is) counts = absurd fresh
-      here good unrose fault.Missing (kept, raws, loaded, none) counts = absurd (not_none good raws loaded none)
-
       not_none : IsSafeStore (k.told keeper) → (raws : List Raw) → IsLoaded (k.told keeper) raws → raws ≡ [] → ⊥
       not_none good raws loaded none =
           let no_rows : good.rows ≡ [] =
@@ -262,6 +254,18 @@ module _ {K I A C D : Type 0} (k : KeeperOf K) (i : EndsOf I) (a : EndsOf A) (re
           (good.spelled.spelled ∙ sym (loaded_is (k.told keeper) good.it raws good.tells loaded) ∙ none) in
           let broken = good.unbroken in
           cc
+
+      here : IsSafeStore (k.told keeper) → IsUnrisen (k.faults keeper) (k.faults left) → (why : OpenFault) → IsFault Kept (k.told keeper) why
+          → CountsFault (k.faults keeper) (k.faults left) why
+          → (status_of_fault why ≡ exit.Done) ⊎ (status_of_fault why ≡ exit.RunFull) ⊎ (status_of_fault why ≡ exit.Memory)
+      here good unrose fault.Failed is counts = absurd (unrisen (k.faults keeper) (k.faults left) unrose counts.0)
+      here good unrose (fault.Unread index why) (may, (raws, loaded, is)) counts =
+          absurd (not_unread (k.told keeper) (inr good) raws index why loaded is)
+      here good unrose (fault.Broken broken) (may, (raws, loaded, is)) counts =
+          absurd (not_broken (k.told keeper) (inr good) raws broken loaded is)
+      here good unrose fault.Memory is counts = inr (inr refl)
+      here good unrose fault.Found (fresh, is) counts = absurd fresh
+      here good unrose fault.Missing (kept, (raws, loaded, none)) counts = absurd (not_none good raws loaded none)
   serve_status keeper left before after status (Some site) connections serves says = λ good unrose quiet.
       here serves.serves quiet
     where

@@ -1,5 +1,5 @@
 pub mod Counting
-mod Damages
+pub mod Damages
 pub mod Desks
 pub mod Entering
 pub mod Giving
