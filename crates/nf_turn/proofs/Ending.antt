@@ -4,7 +4,7 @@ use mathlib.Core.Logic.{dite}
 use mathlib.Core.Option.{some}
 use native.Mathlib.Decide.{ℕ_discrete}
 use lib.ListN.{get_elem?}
-use Rattle.std.proofs.lemmas.Bool.{eqb-true}
+use Rattle.std.proofs.lemmas.Bool.{eqb-true, or_cases}
 use Rattle.atomic_table.specs.Table.{State}
 use Rattle.nf_turn.specs.Book.{Meanings}
 use Rattle.nf_turn.specs.declared.view.Memory.{Memory}
@@ -16,7 +16,7 @@ use Rattle.nf_turn.specs.Turns.{Line, AreJoined, IsInTurn}
 use Rattle.nf_turn.proofs.Agreed.{agrees}
 use Rattle.nf_turn.proofs.Left.{IsLeft}
 use Rattle.nf_turn.proofs.Looking.{value_at_home}
-use Rattle.nf_turn.proofs.Whole.{one_of, ways}
+use Rattle.nf_turn.proofs.Whole.{ways}
 
 module _ {E O W : Type 0} (book : Meanings E O W) where
   joined_dont_wait : (line : Line W) (id n m : ℕ) (joined : List (ℕ × W)) → AreJoined book line id n joined → is_joined m joined ≡ true → line.waits m ≡ 0
@@ -24,7 +24,7 @@ module _ {E O W : Type 0} (book : Meanings E O W) where
   joined_dont_wait line id n m (seat ∷ seats) h e = ⊎_elim
       (λ (f : (seat.0 == m) ≡ true). ap line.waits (sym (eqb-true seat.0 m f)) ∙ h.3)
       (λ (f : is_joined m seats ≡ true). joined_dont_wait line id n m seats h.7 f)
-      (one_of (seat.0 == m) (is_joined m seats) e)
+      (or_cases (seat.0 == m) (is_joined m seats) e)
 
   module _ (seats : ℕ) (origin : W) where
     -- who has the turn waits, and no number of a whole seat that is idle does

@@ -14,7 +14,7 @@ use Rattle.nf_turn.specs.Agreeing.{Agrees}
 use Rattle.nf_turn.specs.Turns.{home_of, Line, InOrder, IsInTurn}
 use Rattle.nf_turn.specs.Steps.{Place, Looks}
 use Rattle.nf_turn.specs.Views.{memory_in}
-use Rattle.nf_turn.proofs.Numbers.{total_le, same_modulo}
+use Rattle.nf_turn.proofs.Numbers.{total_le}
 use Rattle.nf_turn.proofs.Staying.{LeavesAlone, LeavesJoined, joined_stay, steps, reads, other_number}
 use Rattle.nf_turn.proofs.Agreed.{agrees}
 
@@ -47,8 +47,7 @@ module _ {E O W : Type 0} (book : Meanings E O W) (seats : ℕ) (origin : W) whe
   -- where the word is the turn number that a seat drew, its turn is the one that is served
   is_served : (line : Line W) (n : ℕ) → InOrder book seats origin line → line.waits n ≡ 1 → line.passed_on % 2 ^ 64 ≡ line.turn n % 2 ^ 64 → line.turn n ≡ line.passed_on
   is_served line n h waits same =
-      let b = h.within n (omega arith) in let b₂ = b.2 in let b₃ = b.3 in let count = h.count in let few = h.few.0 in let most = total_le line.waits seats h.once in
-      sym (same_modulo line.passed_on (line.turn n) (omega arith) (omega arith) same)
+      let b = h.within n (omega arith) in let b₂ = b.2 in let b₃ = b.3 in let count = h.count in let few = h.few.0 in let most = total_le line.waits seats h.once in omega arith
 
   -- and then no other seat has the turn
   none_holds : (line : Line W) (n : ℕ) → InOrder book seats origin line → line.waits n ≡ 1 → line.turn n ≡ line.passed_on → line.holder ≢ n → line.holder ≡ 0
