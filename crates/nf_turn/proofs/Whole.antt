@@ -21,10 +21,10 @@ module _ {W : Type 0} where
       (or_cases (is_left k n) (is_joined n k.joined) e)))
       (or_cases (n == k.number) (is_left k n || is_joined n k.joined) h)
 
-  pub has : (k : Numbers W) (n : ℕ) → (n ≡ k.number) ⊎ (IsLeft k n ⊎ (is_joined n k.joined ≡ true)) → has_number k n ≡ true
-  has k n (inl own) = or_left (n == k.number) (is_left k n || is_joined n k.joined) (eq-eqb n k.number own)
-  has k n (inr (inl left)) = or_right (n == k.number) (is_left k n || is_joined n k.joined) (or_left (is_left k n) (is_joined n k.joined) (left_tests k n left))
-  has k n (inr (inr joined)) = or_right (n == k.number) (is_left k n || is_joined n k.joined) (or_right (is_left k n) (is_joined n k.joined) joined)
+  pub has_so : (k : Numbers W) (n : ℕ) → (n ≡ k.number) ⊎ (IsLeft k n ⊎ (is_joined n k.joined ≡ true)) → has_number k n ≡ true
+  has_so k n (inl own) = or_left (n == k.number) (is_left k n || is_joined n k.joined) (eq-eqb n k.number own)
+  has_so k n (inr (inl left)) = or_right (n == k.number) (is_left k n || is_joined n k.joined) (or_left (is_left k n) (is_joined n k.joined) (left_tests k n left))
+  has_so k n (inr (inr joined)) = or_right (n == k.number) (is_left k n || is_joined n k.joined) (or_right (is_left k n) (is_joined n k.joined) joined)
 
   joined_below : (n top m : ℕ) (joined : List (ℕ × W)) → AreApart n top joined → is_joined m joined ≡ true → m ≤ top
   joined_below n top m [] h e = absurd (true≢false (sym e))
@@ -32,7 +32,7 @@ module _ {W : Type 0} where
       (or_cases (seat.0 == m) (is_joined m seats) e)
 
   given_is_had : (k : Numbers W) (n : ℕ) → was_given k n ≡ true → has_number k n ≡ true
-  given_is_had k n h = has k n (⊎_elim (λ (e : (k.number == n) ≡ true). inl (sym (eqb-true k.number n e)))
+  given_is_had k n h = has_so k n (⊎_elim (λ (e : (k.number == n) ≡ true). inl (sym (eqb-true k.number n e)))
       (λ (e : is_joined n k.joined ≡ true). inr (inr e))
       (or_cases (k.number == n) (is_joined n k.joined) h))
 
@@ -41,7 +41,7 @@ module _ {W : Type 0} where
       let given = given_count k sound in let most = count_le (was_given k) sound.top in let top = sound.within.2 in
       let all : count (was_given k) sound.top ≡ sound.top = dite (ℕ_discrete k.left 0) (λ none_left. omega arith) (λ some_left. let left = sound.left (omega arith) in let next = left.0 in let sum = left.1 in omega arith) in
       ⊎_elim
-      (λ (above : sound.top < n). let left = sound.left (omega arith) in let next = left.0 in let sum = left.1 in has k n (inr (inl (omega arith, omega arith))))
+      (λ (above : sound.top < n). let left = sound.left (omega arith) in let next = left.0 in let sum = left.1 in has_so k n (inr (inl (omega arith, omega arith))))
       (λ (below : n ≤ sound.top). given_is_had k n (all_pass (was_given k) sound.top n all low below))
       (cases_lt sound.top n)
 
