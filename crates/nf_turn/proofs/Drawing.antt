@@ -11,7 +11,7 @@ use Rattle.nf_turn.specs.Turns.{Line, InOrder, IsInTurn}
 use Rattle.nf_turn.specs.Steps.{Place, Draws}
 use Rattle.nf_turn.specs.Views.{memory_in}
 use Rattle.nf_turn.proofs.Numbers.{put, put_at, put_here, put_else, put_small, total_put, next_modulo}
-use Rattle.nf_turn.proofs.Staying.{LeavesAlone, LeavesJoined, joined_stay, steps, other_number}
+use Rattle.nf_turn.proofs.Staying.{LeavesAlone, joined_stay, steps, other_number}
 
 module _ {E O W : Type 0} (book : Meanings E O W) (seats : ℕ) (origin : W) where
   abbrev drawing : Line W → ℕ → Line W
@@ -28,9 +28,6 @@ module _ {E O W : Type 0} (book : Meanings E O W) (seats : ℕ) (origin : W) whe
     grew = λ w h. h;
     without = λ m w _ _ h. h;
   }
-
-  leaves_joined : (line : Line W) (n : ℕ) → LeavesJoined book line (drawing line n) n
-  leaves_joined line n = record { numbers = λ m o. (refl, put_else line.waits n 1 m o); fresh = omega arith; without = λ m w _ h. h }
 
   in_order : (line : Line W) (n : ℕ) → InOrder book seats origin line → 0 < n → n < line.fresh → line.waits n ≡ 0 → InOrder book seats origin (drawing line n)
   in_order line n h low given idle =
@@ -71,7 +68,7 @@ module _ {E O W : Type 0} (book : Meanings E O W) (seats : ℕ) (origin : W) whe
         keeps,
         tt,
         steps book seats origin s rule new id 0 ((x + 1) % 2 ^ 64) s.homes (Waiting x k) words rule.home (in_order line n rule.order h.low h.given mine.1) (
-          record { low = h.low; given = h.given; its = h.its; all = h.all; first = h.first; known = h.known; own = h.own; passed = h.passed; told = h.told; left = h.left; joined = joined_stay book line new id n (leaves_joined line n) k.joined h.joined; last = h.last; heard = h.heard; sole = h.sole },
+          record { low = h.low; given = h.given; its = h.its; all = h.all; first = h.first; known = h.known; own = h.own; passed = h.passed; told = h.told; left = h.left; joined = joined_stay book line new id n (λ seat j. (j.0, j.1, j.2, put_else line.waits n 1 seat.0 j.0 ∙ j.3, j.4, j.5)) k.joined h.joined; last = h.last; heard = h.heard; sole = h.sole },
           put_here line.waits n 1,
           found ∙ ap (λ (z : ℕ). z % 2 ^ 64) (sym (put_here line.turn n line.drawn)),
           λ holds. let low = h.low in let waits = (rule.order.served (omega arith)).0 in let none : line.waits line.holder ≡ 0 = ap line.waits holds ∙ mine.1 in omega arith,

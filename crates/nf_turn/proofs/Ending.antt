@@ -25,8 +25,8 @@ module _ {E O W : Type 0} (book : Meanings E O W) where
   joined_dont_wait : (line : Line W) (id n m : ℕ) (joined : List (ℕ × W)) → AreJoined book line id n joined → is_joined m joined ≡ true → line.waits m ≡ 0
   joined_dont_wait line id n m [] h e = absurd (true≢false (sym e))
   joined_dont_wait line id n m (seat ∷ seats) h e = ⊎_elim
-      (λ (f : (seat.0 == m) ≡ true). ap line.waits (sym (eqb-true seat.0 m f)) ∙ h.3)
-      (λ (f : is_joined m seats ≡ true). joined_dont_wait line id n m seats h.7 f)
+      (λ (f : (seat.0 == m) ≡ true). ap line.waits (sym (eqb-true seat.0 m f)) ∙ h.0.3)
+      (λ (f : is_joined m seats ≡ true). joined_dont_wait line id n m seats h.2 f)
       (or_cases (seat.0 == m) (is_joined m seats) e)
 
   module _ (seats : ℕ) (origin : W) where

@@ -1,5 +1,5 @@
 -- Joining a seat into another.
-use Rattle.std.proofs.Common.{◌≡◌, ◌≢◌, ⊎_elim, ℕ, suc, ◌+◌, ◌^◌, ◌<◌, ◌≤◌, length, cond, eqb, List, [], ◌∷◌, ◌++◌, append-nil, length-append, set, refl, sym, ap, ◌∙◌, subst, arith}
+use Rattle.std.proofs.Common.{◌≡◌, ◌≢◌, ⊎_elim, ℕ, suc, ◌+◌, ◌^◌, ◌<◌, ◌≤◌, length, cond, eqb, List, [], ◌∷◌, ◌++◌, length-append, set, refl, sym, ap, ◌∙◌, subst, arith}
 use mathlib.Core.Logic.{dite}
 use mathlib.Core.Option.{some}
 use native.Mathlib.Decide.{ℕ_discrete}
@@ -18,7 +18,7 @@ use Rattle.nf_turn.specs.Steps.{Place, after_join}
 use Rattle.nf_turn.proofs.Numbers.{put, put_at, put_else}
 use Rattle.nf_turn.proofs.Preceding.{Precedes-refl, Precedes-trans, AllPrecede-trans, AllPrecede-append, shorter_precedes}
 use Rattle.nf_turn.proofs.Sounding.{few_numbers}
-use Rattle.nf_turn.proofs.Staying.{LeavesAlone, views_stay, others_stay}
+use Rattle.nf_turn.proofs.Staying.{LeavesAlone, joined_stay, views_stay, others_stay}
 
 abbrev same : ℕ → ℕ
 same n = n
@@ -41,12 +41,12 @@ module _ {E O W : Type 0} (book : Meanings E O W) where
   -- a number of another seat of the table is none of these
   elsewhere : (line : Line W) (m there id n : ℕ) → line.place m ≡ there → there ≢ id → (joined : List (ℕ × W)) → AreJoined book line id n joined → IsOther m joined
   elsewhere line m there id n at apart [] h = tt
-  elsewhere line m there id n at apart (seat ∷ seats) h = ((λ e. apart (sym at ∙ ap line.place e ∙ h.4)), elsewhere line m there id n at apart seats h.7)
+  elsewhere line m there id n at apart (seat ∷ seats) h = ((λ e. apart (sym at ∙ ap line.place e ∙ h.0.4)), elsewhere line m there id n at apart seats h.2)
 
   -- nor is the seat's own number
   own_is_other : (line : Line W) (id n : ℕ) → (joined : List (ℕ × W)) → AreJoined book line id n joined → IsOther n joined
   own_is_other line id n [] h = tt
-  own_is_other line id n (seat ∷ seats) h = ((λ e. h.0 (sym e)), own_is_other line id n seats h.7)
+  own_is_other line id n (seat ∷ seats) h = ((λ e. h.0.0 (sym e)), own_is_other line id n seats h.2)
 
   -- the table's seat `other` is joined into `id`
   abbrev joining : Line W → ℕ → ℕ → Line W
@@ -70,8 +70,8 @@ module _ {E O W : Type 0} (book : Meanings E O W) where
       → AreJoined book line there n joined → AreJoined book (joining line id other) id n' more → AreJoined book (joining line id other) id n' (joined ++ more)
   both_joined line id other there n n' to [] more apart h rest = rest
   both_joined line id other there n n' to (seat ∷ seats) more apart h rest =
-      let is = to seat.0 h.4 in
-      (is.1 h.0, h.1, h.2, h.3, is.0, h.5, IsOther-append seat.0 seats more h.6 (apart seat.0 h.4), both_joined line id other there n n' to seats more apart h.7 rest)
+      let j = h.0 in let is = to seat.0 j.4 in
+      ((is.1 j.0, j.1, j.2, j.3, is.0, j.5), IsOther-append seat.0 seats more h.1 (apart seat.0 j.4), both_joined line id other there n n' to seats more apart h.2 rest)
 
   module _ (seats : ℕ) (origin : W) where
     -- the numbers that are left are with one of the two, and are with the one that stays now
@@ -91,17 +91,11 @@ module _ {E O W : Type 0} (book : Meanings E O W) where
     joined_of_both : (line : Line W) (id other : ℕ) (k q : Memory W) → other ≢ id → line.waits q.number ≡ 0 → IsKnown book seats origin line id k → IsKnown book seats origin line other q
         → AreJoined book (joining line id other) id k.number ((q.number, q.last) ∷ (q.joined ++ k.joined))
     joined_of_both line id other k q apart idle h t = (
-      (λ e. apart (sym t.its ∙ ap line.place e ∙ h.its)),
-      t.low,
-      t.given,
-      idle,
-      put_at same other id (line.place q.number) t.its,
-      t.own,
+      ((λ e. apart (sym t.its ∙ ap line.place e ∙ h.its)), t.low, t.given, idle, put_at same other id (line.place q.number) t.its, t.own),
       IsOther-append q.number q.joined k.joined (own_is_other line other q.number q.joined t.joined) (elsewhere line q.number other id k.number t.its apart k.joined h.joined),
       both_joined line id other other q.number k.number (λ m at. (put_at same other id (line.place m) at, λ _ e. apart (sym at ∙ ap line.place e ∙ h.its))) q.joined k.joined
           (λ m at. elsewhere line m other id k.number at apart k.joined h.joined) t.joined
-          (subst (λ (l : List (ℕ × W)). AreJoined book (joining line id other) id k.number l) (append-nil k.joined)
-          (both_joined line id other id k.number k.number (λ m at. (put_else same other id (line.place m) (λ e. apart (sym e ∙ at)) ∙ at, λ z. z)) k.joined [] (λ _ _. tt) h.joined tt)),
+          (joined_stay book line (joining line id other) id k.number (λ seat j. (j.0, j.1, j.2, j.3, put_else same other id (line.place seat.0) (λ e. apart (sym e ∙ j.4)) ∙ j.4, j.5)) k.joined h.joined),
     )
 
     known_of_both : (line : Line W) (id other : ℕ) (k q : Memory W) → other ≢ id → line.waits q.number ≡ 0 → IsKnown book seats origin line id k → IsKnown book seats origin line other q

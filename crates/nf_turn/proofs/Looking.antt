@@ -15,7 +15,7 @@ use Rattle.nf_turn.specs.Turns.{home_of, Line, InOrder, IsInTurn}
 use Rattle.nf_turn.specs.Steps.{Place, Looks}
 use Rattle.nf_turn.specs.Views.{memory_in}
 use Rattle.nf_turn.proofs.Numbers.{total_le}
-use Rattle.nf_turn.proofs.Staying.{LeavesAlone, LeavesJoined, joined_stay, steps, reads, other_number}
+use Rattle.nf_turn.proofs.Staying.{LeavesAlone, joined_stay, steps, reads, other_number}
 use Rattle.nf_turn.proofs.Agreed.{agrees}
 
 abbrev turn_in : {W : Type 0} → Place W → ℕ
@@ -37,9 +37,6 @@ module _ {E O W : Type 0} (book : Meanings E O W) (seats : ℕ) (origin : W) whe
     grew = λ w h. h;
     without = λ m w _ _ h. h;
   }
-
-  leaves_joined : (line : Line W) (n : ℕ) → LeavesJoined book line (holding line n) n
-  leaves_joined line n = record { numbers = λ m o. (refl, refl); fresh = omega arith; without = λ m w _ h. h }
 
   in_order : (line : Line W) (n : ℕ) → InOrder book seats origin line → 0 < line.waits n → line.turn n ≡ line.passed_on → InOrder book seats origin (holding line n)
   in_order line n h waits first = record { few = h.few; count = h.count; once = h.once; within = h.within; apart = h.apart; served = λ _. (waits, first); unused = h.unused }
@@ -75,7 +72,7 @@ module _ {E O W : Type 0} (book : Meanings E O W) (seats : ℕ) (origin : W) whe
       let new = holding line n in
       let home : set s.homes 0 none ≡ home_of n line.value = ap (λ hs. set hs 0 none) (rule.home ∙ ap (λ (z : ℕ). home_of z line.value) free) ∙ empty_home n line.value h.low in (
         steps book seats origin s rule new id 1 (get_or s.words 1 0) (set s.homes 0 none) (Holding line.value k) (set-get_or s.words 1 0 ∙ rule.words) home (in_order line n rule.order (omega arith) first) (
-          record { low = h.low; given = h.given; its = h.its; all = h.all; first = h.first; known = h.known; own = h.own; passed = h.passed; told = h.told; left = h.left; joined = joined_stay book line new id n (leaves_joined line n) k.joined h.joined; last = h.last; heard = h.heard; sole = h.sole },
+          record { low = h.low; given = h.given; its = h.its; all = h.all; first = h.first; known = h.known; own = h.own; passed = h.passed; told = h.told; left = h.left; joined = joined_stay book line new id n (λ _ j. j) k.joined h.joined; last = h.last; heard = h.heard; sole = h.sole },
           refl,
           refl,
         ) (leaves_others line id n h.its free),

@@ -12,7 +12,7 @@ use Rattle.nf_turn.specs.Views.{memory_in}
 use Rattle.nf_turn.proofs.Numbers.{put, put_at, put_here, put_else, put_small, total_put, next_modulo}
 use Rattle.nf_turn.proofs.Growing.{Grows-refl, Grows-AddsAlone, GrowsWithout-refl, GrowsWithout-AddsAlone}
 use Rattle.nf_turn.proofs.Preceding.{Precedes-refl, grown_precedes, AllPrecede-trans}
-use Rattle.nf_turn.proofs.Staying.{LeavesAlone, LeavesJoined, grew_stays, joined_stay, steps, other_number}
+use Rattle.nf_turn.proofs.Staying.{LeavesAlone, grew_stays, joined_stay, steps, other_number}
 
 abbrev value_out : {W : Type 0} → W → Place W → W
 value_out value (view, []) = value
@@ -33,13 +33,6 @@ module _ {E O W : Type 0} (book : Meanings E O W) (seats : ℕ) (origin : W) whe
     sole = λ m low' below at alone. absurd (other_number line id j n m its other at (omega arith));
     grew = λ w h. Grows-AddsAlone book n w line.value value h added;
     without = λ m w _ at h. GrowsWithout-AddsAlone book m n w line.value value (other_number line id j n m its other at) h added;
-  }
-
-  leaves_joined : (line : Line W) (n : ℕ) (value : W) → AddsAlone book n line.value value → LeavesJoined book line (passing line n value) n
-  leaves_joined line n value added = record {
-    numbers = λ m o. (refl, put_else line.waits n 0 m o);
-    fresh = omega arith;
-    without = λ m w o h. GrowsWithout-AddsAlone book m n w line.value value o h added;
   }
 
   in_order : (line : Line W) (n : ℕ) (value : W) → InOrder book seats origin line → 0 < n → n < line.fresh → line.holder ≡ n → AddsAlone book n line.value value → InOrder book seats origin (passing line n value)
@@ -81,7 +74,7 @@ module _ {E O W : Type 0} (book : Meanings E O W) (seats : ℕ) (origin : W) whe
         passed = (Grows-refl book value, grew_stays book line.value value more k.passed h.passed);
         told = grew_stays book line.value value more k.told h.told;
         left = h.left;
-        joined = joined_stay book line (passing line n value) id n (leaves_joined line n value added) k.joined h.joined;
+        joined = joined_stay book line (passing line n value) id n (λ seat j. (j.0, j.1, j.2, put_else line.waits n 0 seat.0 j.0 ∙ j.3, j.4, GrowsWithout-AddsAlone book seat.0 n seat.1 line.value value j.0 j.5 added)) k.joined h.joined;
         last = Precedes-refl book value;
         heard = AllPrecede-trans book k.heard k.known value h.heard (grown_precedes book k.known value (more k.known h.known));
         sole = λ _. (refl, refl);

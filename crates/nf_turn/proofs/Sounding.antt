@@ -20,7 +20,7 @@ use Rattle.nf_turn.proofs.Staying.{reads}
 module _ {E O W : Type 0} (book : Meanings E O W) (seats : ℕ) (origin : W) where
   apart : (line : Line W) (id n : ℕ) (joined : List (ℕ × W)) → 0 < line.fresh → AreJoined book line id n joined → AreApart n (line.fresh - 1) joined
   apart line id n [] low h = tt
-  apart line id n (seat ∷ others) low h = let below = h.2 in (h.0, h.1, omega arith, h.6, apart line id n others low h.7)
+  apart line id n (seat ∷ others) low h = let j = h.0 in let below = j.2 in (j.0, j.1, omega arith, h.1, apart line id n others low h.2)
 
   pub is_sound : (line : Line W) (id : ℕ) (k : Memory W) → InOrder book seats origin line → IsKnown book seats origin line id k → AreSound (numbers_of k)
   is_sound line id k order h = let few = order.few in let few₀ = few.0 in let few₁ = few.1 in let few₂ = few.2 in let all = h.all in let given = h.given in record {

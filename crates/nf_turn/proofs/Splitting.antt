@@ -15,7 +15,7 @@ use Rattle.nf_turn.specs.Steps.{after_split, split_off}
 use Rattle.nf_turn.proofs.Numbers.{put, put_here, put_else}
 use Rattle.nf_turn.proofs.Preceding.{fresh_precedes}
 use Rattle.nf_turn.proofs.Shelves.{grew_append}
-use Rattle.nf_turn.proofs.Staying.{LeavesAlone, views_stay, others_stay}
+use Rattle.nf_turn.proofs.Staying.{LeavesAlone, joined_stay, views_stay, others_stay}
 
 at_end : {V : Type 0} (views : List V) (a b : V) (j : ℕ) → get_elem? (views ++ a ∷ []) j ≡ some b → (get_elem? views j ≡ some b) ⊎ ((j ≡ length views) × (a ≡ b))
 at_end [] a b zero e = inr (refl, some-injective a b e)
@@ -51,12 +51,6 @@ module _ {E O W : Type 0} (book : Meanings E O W) (seats : ℕ) (origin : W) whe
     unused = λ m out. h.unused m (⊎_elim (λ (z : m ≡ 0). inl z) (λ (z : line.fresh + 1 ≤ m). inr (omega arith)) out);
   }
 
-  joined_stay : (line : Line W) (id added n : ℕ) → (joined : List (ℕ × W)) → AreJoined book line id n joined → AreJoined book (splitting line added) id n joined
-  joined_stay line id added n [] h = tt
-  joined_stay line id added n (seat ∷ seats) h =
-      let below = h.2 in
-      (h.0, h.1, omega arith, h.3, put_else line.place line.fresh added seat.0 (λ e. omega arith) ∙ h.4, h.5, h.6, joined_stay line id added n seats h.7)
-
   kept : (line : Line W) (id added : ℕ) (k : Memory W) → 0 < k.left → IsKnown book seats origin line id k → IsKnown book seats origin (splitting line added) id (having_split k)
   kept line id added k some_left h = let low = h.low in let given = h.given in let has = h.left some_left in let fresh = has.1 in let sum = has.2 in record {
     low = low;
@@ -69,7 +63,7 @@ module _ {E O W : Type 0} (book : Meanings E O W) (seats : ℕ) (origin : W) whe
     passed = h.passed;
     told = h.told;
     left = λ _. (has.0, omega arith, omega arith);
-    joined = joined_stay line id added k.number k.joined h.joined;
+    joined = joined_stay book line (splitting line added) id k.number (λ seat j. let below = j.2 in (j.0, j.1, omega arith, j.3, put_else line.place line.fresh added seat.0 (λ e. omega arith) ∙ j.4, j.5)) k.joined h.joined;
     last = h.last;
     heard = h.heard;
     sole = λ alone. absurd (omega arith);

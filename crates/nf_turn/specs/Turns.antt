@@ -43,10 +43,13 @@ module _ {E O W : Type 0} (book : Meanings E O W) where
   GrewFrom value [] = Unit {0}
   GrewFrom value (old ∷ olds) = Grows book old value × GrewFrom value olds
 
-  -- each number that was joined into the seat with the number n is another one, doesn't wait, is of the same seat of the table, and nothing was done under it since
+  -- the number was joined into the seat with the number n: it is another one, doesn't wait, is of the same seat of the table, and nothing was done under it since
+  abbrev pub IsJoined : Line W → ℕ → ℕ → ℕ × W → Type 0
+  IsJoined line id n seat = (seat.0 ≢ n) × (0 < seat.0) × (seat.0 < line.fresh) × (line.waits seat.0 ≡ 0) × (line.place seat.0 ≡ id) × GrowsWithout book seat.0 seat.1 line.value
+
   abbrev pub AreJoined : Line W → ℕ → ℕ → List (ℕ × W) → Type 0
   AreJoined line id n [] = Unit {0}
-  AreJoined line id n (seat ∷ seats) = (seat.0 ≢ n) × (0 < seat.0) × (seat.0 < line.fresh) × (line.waits seat.0 ≡ 0) × (line.place seat.0 ≡ id) × GrowsWithout book seat.0 seat.1 line.value × IsOther seat.0 seats × AreJoined line id n seats
+  AreJoined line id n (seat ∷ seats) = IsJoined line id n seat × IsOther seat.0 seats × AreJoined line id n seats
 
 -- what a seat of the table knows is so
 pub record IsKnown {E O W : Type 0} (book : Meanings E O W) (seats : ℕ) (origin : W) (line : Line W) (id : ℕ) (k : Memory W) : Type 0 where
