@@ -10,7 +10,7 @@ use Rattle.nf_turn.specs.declared.view.Memory.{Memory}
 use Rattle.nf_turn.specs.declared.view.View.{View}
 use Rattle.nf_turn.specs.declared.view.View.TheVariants.{Idle}
 use Rattle.nf_turn.specs.Memory.{having_split, split_from}
-use Rattle.nf_turn.specs.Turns.{Line, AreJoined, IsKnown, Knows, InOrder, IsInTurn}
+use Rattle.nf_turn.specs.Turns.{Line, IsKnown, Knows, InOrder, IsInTurn}
 use Rattle.nf_turn.specs.Steps.{after_split, split_off}
 use Rattle.nf_turn.proofs.Numbers.{put, put_here, put_else}
 use Rattle.nf_turn.proofs.Preceding.{fresh_precedes}

@@ -1,5 +1,5 @@
 -- Whether a seat has all numbers.
-use Rattle.std.proofs.Common.{◌≡◌, ◌⊎◌, ⊎_elim, inl, inr, ℕ, ◌+◌, ◌-◌, ◌<◌, ◌≤◌, true, true≢false, ◌||◌, ◌↔◌, ◌==◌, List, [], ◌∷◌, length, sym, arith}
+use Rattle.std.proofs.Common.{◌≡◌, ◌⊎◌, ⊎_elim, inl, inr, ℕ, ◌+◌, ◌<◌, ◌≤◌, true, true≢false, ◌||◌, ◌↔◌, ◌==◌, List, [], ◌∷◌, length, sym, arith}
 use mathlib.Core.Logic.{dite}
 use Rattle.std.proofs.Math.Logic.{∥∥₁_elim}
 use mathlib.Core.Bool.{Bool-set}

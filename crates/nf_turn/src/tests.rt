@@ -100,10 +100,7 @@ fn four_threads_lose_no_turn(rt: HostRuntime) {
 
 #[test]
 fn turn_numbers_go_on_from_zero(rt: HostRuntime) {
-    assert_eq!(rt;
-        turns_of(&rt, rt.alloc(), 2, u64::MAX - 99, 200),
-        Some(400)
-    );
+    assert_eq!(rt; turns_of(&rt, rt.alloc(), 2, u64::MAX - 99, 200), Some(400));
 }
 
 /// The seats that took turns, in that order.

@@ -1,10 +1,10 @@
-use Rattle.std.proofs.Common.{rules, ◌≡◌, ◌+◌, ◌^◌, ◌<◌, ◌==◌, if◌then◌else◌, [], length, sym, ap, ◌∙◌, subst, arith}
+use Rattle.std.proofs.Common.{rules, ◌≡◌, ◌+◌, ◌^◌, ◌<◌, ◌==◌, if◌then◌else◌, [], sym, ap, ◌∙◌, subst, arith}
 use Rattle.nf_turn.specs.declared.seat.Seat.{Seat}
 use Rattle.nf_turn.specs.declared.view.Memory.{Memory}
 use Rattle.nf_turn.specs.declared.view.View.TheVariants.{Idle}
 use Rattle.nf_turn.specs.Agreeing.{HasHeard}
 use Rattle.nf_turn.specs.Memory.{having_joined, longer}
-use Rattle.nf_turn.specs.Numbers.{Numbers, numbers_of, AreSound}
+use Rattle.nf_turn.specs.Numbers.{numbers_of, AreSound}
 use Rattle.nf_turn.specs.Seats.{memory}
 use Rattle.nf_turn.specs.Steps.{Place}
 use Rattle.nf_turn.specs.Views.{numbers_in, memory_in}

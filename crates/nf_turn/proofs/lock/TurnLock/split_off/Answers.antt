@@ -1,9 +1,9 @@
-use Rattle.std.proofs.Common.{rules, ◌≡◌, ◌+◌, ◌-◌, ◌<◌, [], length, sym, ap, ◌∙◌, subst, arith}
+use Rattle.std.proofs.Common.{rules, ◌≡◌, ◌<◌, [], sym, ap, ◌∙◌, subst, arith}
 use Rattle.std.proofs.Math.Logic.{∥∥₁_map}
 use Rattle.nf_turn.specs.declared.view.Memory.{Memory}
 use Rattle.nf_turn.specs.Agreeing.{HasHeard}
-use Rattle.nf_turn.specs.Memory.{having_split, split_from}
-use Rattle.nf_turn.specs.Numbers.{Numbers, numbers_of, AreSound}
+use Rattle.nf_turn.specs.Memory.{split_from}
+use Rattle.nf_turn.specs.Numbers.{Numbers}
 use Rattle.nf_turn.specs.Seats.{memory}
 use Rattle.nf_turn.specs.Steps.{Place, after_split, split_off}
 use Rattle.nf_turn.specs.Views.{numbers_in, memory_in}
