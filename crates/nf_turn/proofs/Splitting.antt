@@ -1,5 +1,5 @@
 -- Splitting a seat off.
-use Rattle.std.proofs.Common.{◌≡◌, ◌≢◌, ◌⊎◌, ⊎_elim, inl, inr, ℕ, zero, suc, ◌+◌, ◌<◌, ◌≤◌, List, [], ◌∷◌, ◌++◌, length, set, length-set, refl, sym, ap, ◌∙◌, subst, arith}
+use Rattle.std.proofs.Common.{rules, ◌≡◌, ◌≢◌, ◌⊎◌, ⊎_elim, inl, inr, ℕ, zero, suc, ◌+◌, ◌<◌, ◌≤◌, List, [], ◌∷◌, ◌++◌, length, set, length-set, refl, sym, ap, ◌∙◌, subst, arith}
 use mathlib.Core.Logic.{dite}
 use mathlib.Core.Option.{some, some-ne-none, some-injective}
 use native.Mathlib.Decide.{ℕ_discrete}
@@ -52,22 +52,11 @@ module _ {E O W : Type 0} (book : Meanings E O W) (seats : ℕ) (origin : W) whe
   }
 
   kept : (line : Line W) (id added : ℕ) (k : Memory W) → 0 < k.left → IsKnown book seats origin line id k → IsKnown book seats origin (splitting line added) id (having_split k)
-  kept line id added k some_left h = let low = h.low in let given = h.given in let has = h.left some_left in let fresh = has.1 in let sum = has.2 in record {
-    low = low;
-    given = omega arith;
-    its = put_else line.place line.fresh added k.number (λ e. omega arith) ∙ h.its;
-    all = h.all;
-    first = h.first;
-    known = h.known;
-    own = h.own;
-    passed = h.passed;
-    told = h.told;
-    left = λ _. (has.0, omega arith, omega arith);
-    joined = joined_stay book line (splitting line added) id k.number (λ seat j. let below = j.2 in (j.0, j.1, omega arith, j.3, put_else line.place line.fresh added seat.0 (λ e. omega arith) ∙ j.4, j.5)) k.joined h.joined;
-    last = h.last;
-    heard = h.heard;
-    sole = λ alone. absurd (omega arith);
-  }
+  kept line id added k some_left h =
+      let given = h.given in let has = h.left some_left in let fresh = has.1 in let sum = has.2 in
+      let its = put_else line.place line.fresh added k.number (λ e. omega arith) ∙ h.its in
+      let joined = joined_stay book line (splitting line added) id k.number (λ seat j. let below = j.2 in (j.0, j.1, omega arith, j.3, put_else line.place line.fresh added seat.0 (λ e. omega arith) ∙ j.4, j.5)) k.joined h.joined in
+      search (rules, its, joined)
 
   given : (line : Line W) (id added : ℕ) (k : Memory W) → 0 < k.left → IsFresh book origin → InOrder book seats origin line → IsKnown book seats origin line id k → IsKnown book seats origin (splitting line added) added (split_from k)
   given line id added k some_left new order h = let fresh : line.fresh ≡ k.next = (h.left some_left).1 in let low = h.low in let below = h.given in record {

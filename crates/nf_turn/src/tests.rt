@@ -179,14 +179,3 @@ fn a_tree_of_seats_becomes_whole(rt: HostRuntime) -> Result<(), Fail> {
     assert_eq!(rt; seats.as_slice(), [1, 2, 3, 2, 3].as_slice());
     Ok(())
 }
-
-fn may_share<T: Sync>(_: &T) {}
-
-fn may_send<T: Send>(_: &T) {}
-
-/// A lock may be shared by threads, and a seat handed to one, where its value may be sent.
-fn crosses_threads<W: Book + Send>(lock: &TurnLock<W>, seat: &Seat<W>) {
-    may_share(lock);
-    may_send(lock);
-    may_send(seat);
-}
