@@ -1,5 +1,5 @@
 -- Drawing a turn number.
-use Rattle.std.proofs.Common.{◌≡◌, ◌≢◌, ℕ, ◌+◌, ◌%◌, ◌^◌, ◌<◌, [], ◌∷◌, set, get_or, refl, sym, ap, ◌∙◌, subst, arith}
+use Rattle.std.proofs.Common.{rules, ◌≡◌, ◌≢◌, ℕ, ◌+◌, ◌%◌, ◌^◌, ◌<◌, [], ◌∷◌, set, get_or, refl, sym, ap, ◌∙◌, subst, arith}
 use mathlib.Core.Logic.{dite}
 use mathlib.Core.Option.{none}
 use native.Mathlib.Decide.{ℕ_discrete}
@@ -18,16 +18,10 @@ module _ {E O W : Type 0} (book : Meanings E O W) (seats : ℕ) (origin : W) whe
   drawing line n = record line { drawn = line.drawn + 1; waits = put line.waits n 1; turn = put line.turn n line.drawn }
 
   leaves_others : (line : Line W) (id n : ℕ) → line.place n ≡ id → (j : ℕ) → j ≢ id → LeavesAlone book line (drawing line n) j
-  leaves_others line id n its j other = record {
-    numbers = λ m _ at. let apart = other_number line id j n m its other at in (at, put_else line.waits n 1 m apart, put_else line.turn n line.drawn m apart);
-    fresh = omega arith;
-    gives = λ h. (h, refl);
-    free = λ m _ _ _ h. h;
-    holds = λ m _ _ _ h. (h, refl);
-    sole = λ m _ _ _ _. refl;
-    grew = λ w h. h;
-    without = λ m w _ _ h. h;
-  }
+  leaves_others line id n its j other =
+      let waits = λ (m : ℕ) (at : line.place m ≡ j). put_else line.waits n 1 m (other_number line id j n m its other at) in
+      let turn = λ (m : ℕ) (at : line.place m ≡ j). put_else line.turn n line.drawn m (other_number line id j n m its other at) in
+      search (rules, waits, turn)
 
   in_order : (line : Line W) (n : ℕ) → InOrder book seats origin line → 0 < n → n < line.fresh → line.waits n ≡ 0 → InOrder book seats origin (drawing line n)
   in_order line n h low given idle =

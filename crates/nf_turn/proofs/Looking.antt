@@ -1,5 +1,5 @@
 -- Looking at the number that is served.
-use Rattle.std.proofs.Common.{◌≡◌, ◌≢◌, ℕ, zero, suc, ◌%◌, ◌^◌, ◌<◌, [], ◌∷◌, set, get_or, Option, Some, refl, sym, ap, ◌∙◌, subst, arith}
+use Rattle.std.proofs.Common.{rules, ◌≡◌, ◌≢◌, ℕ, zero, suc, ◌%◌, ◌^◌, ◌<◌, [], ◌∷◌, set, get_or, Option, Some, refl, sym, ap, ◌∙◌, subst, arith}
 use mathlib.Core.Logic.{dite}
 use mathlib.Core.Option.{none, some}
 use native.Mathlib.Decide.{ℕ_discrete}
@@ -27,16 +27,9 @@ module _ {E O W : Type 0} (book : Meanings E O W) (seats : ℕ) (origin : W) whe
   holding line n = record line { holder = n }
 
   leaves_others : (line : Line W) (id n : ℕ) → line.place n ≡ id → line.holder ≡ 0 → (j : ℕ) → j ≢ id → LeavesAlone book line (holding line n) j
-  leaves_others line id n its none_holds j other = record {
-    numbers = λ m _ at. (at, refl, refl);
-    fresh = omega arith;
-    gives = λ h. (h, refl);
-    free = λ m _ _ at _ e. other_number line id j n m its other at (sym e);
-    holds = λ m low _ _ e. absurd (omega arith);
-    sole = λ m _ _ _ _. refl;
-    grew = λ w h. h;
-    without = λ m w _ _ h. h;
-  }
+  leaves_others line id n its none_holds j other =
+      let free = λ (m : ℕ) (at : line.place m ≡ j) (e : n ≡ m). other_number line id j n m its other at (sym e) in
+      search (rules, free)
 
   in_order : (line : Line W) (n : ℕ) → InOrder book seats origin line → 0 < line.waits n → line.turn n ≡ line.passed_on → InOrder book seats origin (holding line n)
   in_order line n h waits first = record { few = h.few; count = h.count; once = h.once; within = h.within; apart = h.apart; served = λ _. (waits, first); unused = h.unused }

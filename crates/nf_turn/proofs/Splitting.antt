@@ -41,15 +41,10 @@ module _ {E O W : Type 0} (book : Meanings E O W) (seats : ℕ) (origin : W) whe
   }
 
   in_order : (line : Line W) (added : ℕ) → InOrder book seats origin line → line.fresh < seats + 1 → InOrder book seats origin (splitting line added)
-  in_order line added h room = record {
-    few = (h.few.0, omega arith, omega arith);
-    count = h.count;
-    once = h.once;
-    within = λ m waits. let b = h.within m waits in let b₁ = b.1 in (b.0, omega arith, b.2, b.3);
-    apart = h.apart;
-    served = h.served;
-    unused = λ m out. h.unused m (⊎_elim (λ (z : m ≡ 0). inl z) (λ (z : line.fresh + 1 ≤ m). inr (omega arith)) out);
-  }
+  in_order line added h room =
+      let unused = λ (m : ℕ) (out : (m ≡ 0) ⊎ (line.fresh + 1 ≤ m)). h.unused m (⊎_elim (λ (z : m ≡ 0). inl z) (λ (z : line.fresh + 1 ≤ m). inr (omega arith)) out) in
+      let few = h.few in
+      search (rules, h.within, unused)
 
   kept : (line : Line W) (id added : ℕ) (k : Memory W) → 0 < k.left → IsKnown book seats origin line id k → IsKnown book seats origin (splitting line added) id (having_split k)
   kept line id added k some_left h =
@@ -59,22 +54,13 @@ module _ {E O W : Type 0} (book : Meanings E O W) (seats : ℕ) (origin : W) whe
       search (rules, its, joined)
 
   given : (line : Line W) (id added : ℕ) (k : Memory W) → 0 < k.left → IsFresh book origin → InOrder book seats origin line → IsKnown book seats origin line id k → IsKnown book seats origin (splitting line added) added (split_from k)
-  given line id added k some_left new order h = let fresh : line.fresh ≡ k.next = (h.left some_left).1 in let low = h.low in let below = h.given in record {
-    low = (let few = order.few.1 in omega arith);
-    given = omega arith;
-    its = ap (put line.place line.fresh added) (sym fresh) ∙ put_here line.place line.fresh added;
-    all = h.all;
-    first = h.first;
-    known = h.known;
-    own = subst (λ (z : W). GrowsWithout book k.next z line.value) (sym h.first) (order.unused k.next (inr (omega arith)));
-    passed = tt;
-    told = grew_append book line.value k.passed k.told h.passed h.told;
-    left = λ none_left. absurd (omega arith);
-    joined = tt;
-    last = fresh_precedes book k.first k.known (subst (λ (w : W). IsFresh book w) (sym h.first) new);
-    heard = tt;
-    sole = λ alone. absurd (omega arith);
-  }
+  given line id added k some_left new order h =
+      let fresh : line.fresh ≡ k.next = (h.left some_left).1 in let low = h.low in let below = h.given in let few = order.few in
+      let its = ap (put line.place line.fresh added) (sym fresh) ∙ put_here line.place line.fresh added in
+      let own = subst (λ (z : W). GrowsWithout book k.next z line.value) (sym h.first) (order.unused k.next (inr (omega arith))) in
+      let told = grew_append book line.value k.passed k.told h.passed h.told in
+      let last = fresh_precedes book k.first k.known (subst (λ (w : W). IsFresh book w) (sym h.first) new) in
+      search (rules, its, own, told, last)
 
   splits : (id : ℕ) (k : Memory W) → 0 < k.left → Splits (IsInTurn book seats origin) id (Idle k) (after_split (Idle k)) (split_off (Idle k))
   splits id k some_left s rule at =
