@@ -53,16 +53,10 @@ module _ {E O W : Type 0} (book : Meanings E O W) where
   joining line id other = record line { place = λ m. put same other id (line.place m); giver = put same other id line.giver }
 
   leaves_others : (line : Line W) (id other : ℕ) → (j : ℕ) → j ≢ id → j ≢ other → LeavesAlone book line (joining line id other) j
-  leaves_others line id other j apart apart' = record {
-    numbers = λ m _ at. (put_else same other id (line.place m) (λ e. apart' (sym at ∙ e)) ∙ at, refl, refl);
-    fresh = omega arith;
-    gives = λ h. (h ∙ sym (put_else same other id line.giver (λ e. apart' (h ∙ e))), refl);
-    free = λ m _ _ _ h. h;
-    holds = λ m _ _ _ h. (h, refl);
-    sole = λ m _ _ _ _. refl;
-    grew = λ w h. h;
-    without = λ m w _ _ h. h;
-  }
+  leaves_others line id other j apart apart' =
+      let place = λ (m : ℕ) (at : line.place m ≡ j). put_else same other id (line.place m) (λ e. apart' (sym at ∙ e)) ∙ at in
+      let gives = λ (h : j ≡ line.giver). h ∙ sym (put_else same other id line.giver (λ e. apart' (h ∙ e))) in
+      search (rules, place, gives)
 
   -- those that were joined into the seat `there`, before those that are already with `id`
   both_joined : (line : Line W) (id other there n n' : ℕ) → ((m : ℕ) → line.place m ≡ there → (put same other id (line.place m) ≡ id) × (m ≢ n → m ≢ n'))

@@ -7,15 +7,6 @@ use Rattle.nf_turn.specs.Memory.{of_the_first}
 use Rattle.nf_turn.specs.Numbers.{Numbers, numbers_of, AreApart, AreSound}
 
 module _ {W : Type 0} where
-  pub first_is_sound : (seats : ℕ) (value : W) → (0 < seats) × (seats ≤ 64) → AreSound (numbers_of (of_the_first seats value))
-  first_is_sound seats value few = let low = few.0 in let up = few.1 in record {
-    few = omega arith;
-    top = 1;
-    within = (omega arith, omega arith, low);
-    apart = tt;
-    left = λ some_left. (refl, omega arith);
-  }
-
   apart_below_more : (n top : ℕ) (joined : List (ℕ × W)) → AreApart n top joined → AreApart n (top + 1) joined
   apart_below_more n top [] h = tt
   apart_below_more n top (seat ∷ seats) h = let up = h.2 in (h.0, h.1, omega arith, h.3, apart_below_more n top seats h.4)

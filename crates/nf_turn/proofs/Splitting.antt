@@ -29,16 +29,10 @@ module _ {E O W : Type 0} (book : Meanings E O W) (seats : ℕ) (origin : W) whe
   splitting line added = record line { place = put line.place line.fresh added; fresh = line.fresh + 1 }
 
   leaves_others : (line : Line W) (id added : ℕ) → line.giver ≡ id → (j : ℕ) → j ≢ id → LeavesAlone book line (splitting line added) j
-  leaves_others line id added giver j other = record {
-    numbers = λ m below at. (put_else line.place line.fresh added m (λ e. omega arith) ∙ at, refl, refl);
-    fresh = omega arith;
-    gives = λ h. absurd (other (h ∙ giver));
-    free = λ m _ _ _ h. h;
-    holds = λ m _ _ _ h. (h, refl);
-    sole = λ m _ _ _ _. refl;
-    grew = λ w h. h;
-    without = λ m w _ _ h. h;
-  }
+  leaves_others line id added giver j other =
+      let place = λ (m : ℕ) (below : m < line.fresh) (at : line.place m ≡ j). put_else line.place line.fresh added m (λ e. omega arith) ∙ at in
+      let gives = λ (h : j ≡ line.giver). other (h ∙ giver) in
+      search (rules, place, gives)
 
   in_order : (line : Line W) (added : ℕ) → InOrder book seats origin line → line.fresh < seats + 1 → InOrder book seats origin (splitting line added)
   in_order line added h room =
