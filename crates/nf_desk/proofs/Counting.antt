@@ -8,7 +8,7 @@ use Rattle.std.proofs.lemmas.List.{get_or-set_other, get_or-set_same}
 use Rattle.std.proofs.lemmas.List.Elements.{filter-append}
 use Rattle.std.proofs.lemmas.List.Sums.{sum_by-set, sum_by_more_le}
 use Rattle.nf_session.specs.Book.{Strikes, Struck}
-use Rattle.nf_site.specs.Kept.{entered}
+use Rattle.nf_site.specs.Kept.{Kept, entered}
 use Rattle.nf_told.specs.Told.{Told}
 use Rattle.nf_words.specs.declared.history.Entry.{Entry}
 use Rattle.nf_words.specs.declared.history.Mark.{Mark}
@@ -47,37 +47,44 @@ risen_fits : (before n : ℕ) → before ≤ 2 ^ 64 - 1 → risen before n ≤ 2
 risen_fits before zero fits = fits
 risen_fits before (suc n) fits = omega arith
 
-pub risen_up : (before n more : ℕ) → before ≤ 2 ^ 64 - 1 → OneMore n more → risen before n ≤ risen before more
+risen_up : (before n more : ℕ) → before ≤ 2 ^ 64 - 1 → OneMore n more → risen before n ≤ risen before more
 risen_up before n more fits one = omega (arith, risen_fits before n fits, risen_struck before n more one)
 
 -- ---- the count of all
 
 -- where a failure is counted, the count of the opening fits
-pub start_fits : (a : Shown) (faults : ℕ) → IsCounted a → Struck a.faults faults → a.faults ≤ faults → a.start.faults ≤ 2 ^ 64 - 1
+start_fits : (a : Shown) (faults : ℕ) → IsCounted a → Struck a.faults faults → a.faults ≤ faults → a.start.faults ≤ 2 ^ 64 - 1
 start_fits a faults counted struck rises = here (failures a) counted.is counted.fits
   where
     here : (n : ℕ) → a.faults ≡ risen a.start.faults n → (0 < n → a.start.faults < 2 ^ 64) → a.start.faults ≤ 2 ^ 64 - 1
     here zero is fits = omega (arith, is, struck, rises)
     here (suc n) is fits = let less : a.start.faults < 2 ^ 64 = fits (omega arith) in omega (arith, less)
 
-pub counted_more : (a b : Shown) → IsCounted a → b.start ≡ a.start → OneMore (failures a) (failures b) → Struck a.faults b.faults
-    → a.faults ≤ b.faults → IsCounted b
-counted_more a b counted start one struck rises =
-    let same : b.start.faults ≡ a.start.faults = ap (λ (z : Tale). z.faults) start in
-    record {
-      is = struck ∙ ap (λ (n : ℕ). min (n + 1) (2 ^ 64 - 1)) counted.is
-          ∙ sym (risen_struck a.start.faults (failures a) (failures b) one)
-          ∙ ap (λ (n : ℕ). risen n (failures b)) (sym same);
-      fits = λ some. omega (arith, start_fits a b.faults counted struck rises, same);
-    }
+-- each failure of the keeper is counted still, and the seat's count didn't fall
+pub record GoesOn (seat : ℕ) (a b : Shown) : Type 0 where
+  pub rises : risen a.start.faults (failures_of seat a) ≤ risen a.start.faults (failures_of seat b)
+  pub counted : IsCounted b
 
-pub counted_same : (a b : Shown) → IsCounted a → b.start ≡ a.start → failures b ≡ failures a → b.faults ≡ a.faults → IsCounted b
-counted_same a b counted start same is =
-    let began : b.start.faults ≡ a.start.faults = ap (λ (z : Tale). z.faults) start in
-    record {
-      is = is ∙ counted.is ∙ ap (risen a.start.faults) (sym same) ∙ ap (λ (n : ℕ). risen n (failures b)) (sym began);
-      fits = λ some. omega (arith, counted.fits (omega (arith, same, some)), began);
-    }
+-- where the keeper is called once
+module _ (seat : ℕ) (a : Shown) (site : Kept) (told : Option Told) (faults : ℕ) (strikes : List ℕ) (counted : IsCounted a) where
+  abbrev later : Shown
+  later = record a { site = site; told = told; faults = faults; strikes = strikes }
+
+  pub unfailed : failures later ≡ failures a → failures_of seat later ≡ failures_of seat a → faults ≡ a.faults → GoesOn seat a later
+  unfailed all its same = record {
+    rises = let equal = ap (risen a.start.faults) its in omega (arith, equal);
+    counted = record { is = same ∙ counted.is ∙ ap (risen a.start.faults) (sym all); fits = λ some. counted.fits (omega (arith, all, some)) };
+  }
+
+  pub failed : OneMore (failures a) (failures later) → OneMore (failures_of seat a) (failures_of seat later) → Struck a.faults faults
+      → a.faults ≤ faults → GoesOn seat a later
+  failed all its struck rises = let fits = start_fits a faults counted struck rises in record {
+    rises = risen_up a.start.faults (failures_of seat a) (failures_of seat later) fits its;
+    counted = record {
+      is = struck ∙ ap (λ (n : ℕ). min (n + 1) (2 ^ 64 - 1)) counted.is ∙ sym (risen_struck a.start.faults (failures a) (failures later) all);
+      fits = λ some. omega (arith, fits);
+    };
+  }
 
 -- ---- an entry more
 
@@ -102,42 +109,27 @@ failures_of_more seat a e told faults is =
 -- ---- what the mark of an entry adds
 
 mark_strikes : (m : Mark) (before n more : ℕ) → more ≡ n + failed_mark m → Strikes m (risen before n) (risen before more)
-mark_strikes mark.Answered before n more is = let same : more ≡ n = omega (arith, is) in ap (risen before) same
 mark_strikes mark.Store before n more is = risen_struck before n more (inl is)
-mark_strikes mark.Memory before n more is = let same : more ≡ n = omega (arith, is) in ap (risen before) same
+mark_strikes other before n more is = let same : more ≡ n = omega (arith, is) in ap (risen before) same
 
-risen_same : (before n more : ℕ) → more ≡ n → risen before n ≤ risen before more
-risen_same before n more same = let equal : risen before more ≡ risen before n = ap (risen before) same in omega (arith, equal)
-
-mark_up : (m : Mark) (a : Shown) (faults n more : ℕ) → IsCounted a → Strikes m a.faults faults → a.faults ≤ faults → more ≡ n + failed_mark m
-    → risen a.start.faults n ≤ risen a.start.faults more
-mark_up mark.Answered a faults n more counted strikes rises is = risen_same a.start.faults n more (omega (arith, is))
-mark_up mark.Store a faults n more counted strikes rises is =
-    risen_up a.start.faults n more (start_fits a faults counted strikes rises) (inl is)
-mark_up mark.Memory a faults n more counted strikes rises is = risen_same a.start.faults n more (omega (arith, is))
-
-mark_counted : (m : Mark) (a b : Shown) → IsCounted a → b.start ≡ a.start → failures b ≡ failures a + failed_mark m
-    → Strikes m a.faults b.faults → a.faults ≤ b.faults → IsCounted b
-mark_counted mark.Answered a b counted start is strikes rises = counted_same a b counted start (omega (arith, is)) strikes
-mark_counted mark.Store a b counted start is strikes rises = counted_more a b counted start (inl is) strikes rises
-mark_counted mark.Memory a b counted start is strikes rises = counted_same a b counted start (omega (arith, is)) strikes
+mark_goes : (m : Mark) (seat : ℕ) (a : Shown) (site : Kept) (told : Option Told) (faults : ℕ) → IsCounted a
+    → failures (moved a (standing site told faults)) ≡ failures a + failed_mark m
+    → failures_of seat (moved a (standing site told faults)) ≡ failures_of seat a + failed_mark m
+    → Strikes m a.faults faults → a.faults ≤ faults → GoesOn seat a (moved a (standing site told faults))
+mark_goes mark.Store seat a site told faults counted all its strikes rises =
+    failed seat a site told faults a.strikes counted (inl all) (inl its) strikes rises
+mark_goes other seat a site told faults counted all its strikes rises =
+    unfailed seat a site told faults a.strikes counted (omega (arith, all)) (omega (arith, its)) strikes
 
 -- the strikes of the seat that made it, and of the keeper
-pub record Marks (seat : ℕ) (a b : Shown) (m : Mark) : Type 0 where
-  pub strikes : Strikes m (risen a.start.faults (failures_of seat a)) (risen b.start.faults (failures_of seat b))
-  pub rises : risen a.start.faults (failures_of seat a) ≤ risen b.start.faults (failures_of seat b)
-  pub counted : IsCounted b
-
 pub marks : (seat : ℕ) (a : Shown) (e : Entry) (told : Option Told) (faults : ℕ) → IsCounted a → e.seat ≡ seat → Strikes e.mark a.faults faults
-    → a.faults ≤ faults → Marks seat a (moved a (standing (entered a.site e) told faults)) e.mark
+    → a.faults ≤ faults → let b = moved a (standing (entered a.site e) told faults) in
+    Strikes e.mark (risen a.start.faults (failures_of seat a)) (risen a.start.faults (failures_of seat b)) × GoesOn seat a b
 marks seat a e told faults counted its strikes rises =
-    let b = moved a (standing (entered a.site e) told faults) in
-    let more = failures_of_more seat a e told faults its in
-    record {
-      strikes = mark_strikes e.mark a.start.faults (failures_of seat a) (failures_of seat b) more;
-      rises = mark_up e.mark a faults (failures_of seat a) (failures_of seat b) counted strikes rises more;
-      counted = mark_counted e.mark a b counted refl (failures_more a e told faults) strikes rises;
-    }
+    let more = failures_of_more seat a e told faults its in (
+      mark_strikes e.mark a.start.faults (failures_of seat a) _ more,
+      mark_goes e.mark seat a (entered a.site e) told faults counted (failures_more a e told faults) more strikes rises,
+    )
 
 -- ---- a strike of a seat
 
@@ -181,19 +173,13 @@ strike_at place before count within one = record {
     other zero differ = refl
     other (suc m) differ = get_or-set_other before place m count 0 (λ same. differ (ap suc same))
 
-strike_on : (seat place : ℕ) (before now : List ℕ) → seat ≡ suc place → place < length before
-    → Struck (strikes_of before seat) (strikes_of now seat) → strikes_of before seat ≤ strikes_of now seat
-    → now ≡ set before place (strikes_of now seat) → Strike seat before now
-strike_on seat place before now is within struck rises alone =
-    subst (λ (n : ℕ). Strike n before now) (sym is)
-    (subst (Strike (suc place) before) (sym alone)
-    (strike_at place before (strikes_of now seat) within
-    (subst (λ (n : ℕ). OneMore (strikes_of before n) (strikes_of now seat)) is
-    (struck_one (strikes_of before seat) (strikes_of now seat) (omega (arith, struck, rises)) struck))))
-
 pub strike : (seat : ℕ) (before now : List ℕ) → 0 < seat → seat ≤ length before → StrikesOne seat before now → Strike seat before now
-strike seat before now some within one =
-    strike_on seat (seat - 1) before now (omega (arith, some)) (omega (arith, some, within)) one.struck one.rises one.alone
+strike zero before now some within one = absurd (omega arith)
+strike (suc place) before now some within one =
+    let count = strikes_of now (suc place) in
+    let its : suc place - 1 ≡ place = omega arith in
+    let struck = struck_one (strikes_of before (suc place)) count (omega (arith, one.struck, one.rises)) one.struck in
+    subst (Strike (suc place) before) (ap (λ (at : ℕ). set before at count) (sym its) ∙ sym one.alone) (strike_at place before count (omega arith) struck)
 
 -- so the seat's failures rose by one, and all of them
 pub failures_struck : (a : Shown) (faults : ℕ) (now : List ℕ) (seat : ℕ) → Strike seat a.strikes now

@@ -3,7 +3,7 @@ use Rattle.std.proofs.Common.{◌≡◌, ◌≢◌, ◌⊎◌, inl, inr, ℕ, �
 use Rattle.std.specs.Prelude.{Option, None, Some, option_map, OnOk, MatchBool}
 use Rattle.sha2.specs.Sha256.{sha256}
 use Rattle.std.specs.Option.{IfSome}
-use Rattle.std.proofs.lemmas.Bool.{eqb-true}
+use Rattle.std.proofs.lemmas.Bool.{both_ways, eqb-true}
 use Rattle.std.proofs.lemmas.Option.{none-some, same_Some}
 use Rattle.nf_base.specs.declared.content.TheConstants.{MAX_BODY}
 use Rattle.nf_defs.specs.Tables.{Tables}
@@ -50,7 +50,7 @@ use Rattle.nf_told.specs.Told.{Told}
 use Rattle.nf_desk.specs.Desk.{IsCounted, Shown, blobs_in, book_at}
 use Rattle.nf_desk.specs.Stepping.{Asks, HeldMayEnd, IsEmpty, Makes, Standing, Steps, entry_at, standing}
 use Rattle.nf_desk.proofs.Counting.{moved, standing_in}
-use Rattle.nf_desk.proofs.Entering.{enters, state_again, step_enters, stepped, steps_enter, waits}
+use Rattle.nf_desk.proofs.Entering.{by_step, enters, state_again, step_enters, steps_enter, waits}
 use Rattle.nf_desk.proofs.Tellings.{empty_steps, steps_told, told_after}
 
 -- ---- what the seat holds
@@ -129,10 +129,6 @@ finds_none seat a now words request answer h (inr memory) =
 
 -- ---- a Begin that is made
 
-is_memory : (b : Bool) → b ≡ true → b ≡ false → ⊥
-is_memory true is not = cc
-is_memory false is not = cc
-
 unmade_fails : (refusal : Denial) → is_unmade_by refusal ≡ true → is_failure refusal ≡ true
 unmade_fails denial.RunFull is = refl
 unmade_fails denial.Memory is = refl
@@ -148,17 +144,11 @@ is_made s n now event (Err refusal) is = here (is_unmade_by refusal) refl
 
 put_short : (t : Tables) (now : ℕ) (who : Option ℕ) (act : Allowed) (by : Seeker) (key : LockKey) (size : ℕ) → Known t now who act
     → reply_to act ≡ reply.Granted (Store by key size) → size ≤ MAX_BODY
-put_short t now who (allowed.Get node content) by key size known is = absurd (cc)
-put_short t now who (allowed.List listing) by key size known is = absurd (cc)
 put_short t now who (allowed.Put other lock length) by key size known is =
     let same : length ≡ size = cc in subst (λ (n : ℕ). n ≤ MAX_BODY) same known.short
-put_short t now who (allowed.StoreNew row blob) by key size known is = absurd (cc)
-put_short t now who (allowed.StoreOver node content blob) by key size known is = absurd (cc)
-put_short t now who (allowed.Mkcol row) by key size known is = absurd (cc)
-put_short t now who (allowed.Delete node) by key size known is = absurd (cc)
 put_short t now who (allowed.Move transfer name) by key size known is = absurd (put_grants_nothing transfer.replaced (Store by key size) is)
 put_short t now who (allowed.Copy rows replaced) by key size known is = absurd (put_grants_nothing replaced (Store by key size) is)
-put_short t now who allowed.Close by key size known is = absurd (cc)
+put_short t now who other by key size known is = absurd (cc)
 
 ok_same : (x y : Reply) → ◌≡◌ {A = Answer} (Ok x) (Ok y) → x ≡ y
 ok_same x y is = cc
@@ -173,12 +163,8 @@ of_begin : (seat : ℕ) (s : State) (now : ℕ) (words : Words) (request : Reque
 of_begin seat s now words request (Ok (reply.Granted (Store by key size))) sound asked is =
     granted_short s.tables now (actor_of s seat (Begin words request)) (decision_of s seat now (Begin words request)) by key size
     (λ act done. known_change s seat now (Begin words request) act sound asked done) (sym is)
-of_begin seat s now words request (Ok (reply.Granted (Serve content))) sound asked is = tt
-of_begin seat s now words request (Ok reply.Made) sound asked is = tt
-of_begin seat s now words request (Ok reply.Done) sound asked is = tt
-of_begin seat s now words request (Ok (reply.Listing lines)) sound asked is = tt
 of_begin seat s now words request (Ok reply.Closed) sound asked is = absurd (begins_open s seat now words request (sym is))
-of_begin seat s now words request (Err refusal) sound asked is = tt
+of_begin seat s now words request other sound asked is = tt
 
 -- its answer isn't that of one that isn't made, whatever its mark, and is a Begin's
 record BeginAnswer (answer : Answer) : Type 0 where
@@ -204,10 +190,10 @@ begins_made : (seat : ℕ) (a : Shown) (b : Standing) (now : ℕ) (words : Words
 begins_made seat a b now words request answer h sound counted steps =
     let of = begin_answer seat a.site now words request steps.mark answer sound steps.makes.may_come steps.makes.answered in
     record {
-      entry = match_false _ _ (is_unmade answer) of.made (steps_enter seat a b now (Begin words request) [] answer h sound counted steps);
+      entry = match_false _ _ (is_unmade answer) of.made (steps_enter seat a b now (Begin words request) [] answer steps h sound counted);
       answered = of.answered;
-      full = λ is. absurd (is_memory (is_unmade answer) (ap is_unmade is) of.made);
-      room = λ is. absurd (is_memory (is_unmade answer) (ap is_unmade is) of.made);
+      full = λ is. absurd (both_ways (is_unmade answer) of.made (ap is_unmade is));
+      room = λ is. absurd (both_ways (is_unmade answer) of.made (ap is_unmade is));
     }
 
 pub begins : (seat : ℕ) (a : Shown) (b : Standing) (now : ℕ) (words : Words) (request : Request) (answer : Answer) → IsHistory a.site
@@ -235,8 +221,8 @@ pub ends_empty : (seat : ℕ) (a : Shown) (l : Kept) (now : ℕ) (outcome : Outc
     → IsCounted a → IsEmpty outcome → Makes seat a.site l now (End outcome) mark.Answered answer
     → EndsEmpty (book_at seat a) (book_at seat (record a { site = l })) now outcome answer
 ends_empty seat a l now outcome answer h sound counted empty makes = record {
-  enters = steps_enter seat a (standing l a.told a.faults) now (End outcome) [] answer h sound counted
-      (empty_steps seat a.site l a.told a.faults now outcome answer empty makes);
+  enters = steps_enter seat a (standing l a.told a.faults) now (End outcome) [] answer
+      (empty_steps seat a.site l a.told a.faults now outcome answer empty makes) h sound counted;
   answered = makes.answered ∙ closed_by seat a.site now outcome empty;
 }
 
@@ -275,29 +261,25 @@ body_lists_nothing seat s now body by key size lines has =
 
 of_body : (seat : ℕ) (s : State) (now : ℕ) (body : List ℕ) (by : Seeker) (key : LockKey) (size : ℕ) (answer : Answer)
     → ticket_of s seat ≡ Some (ticket_for seat (Store by key size)) → answer ≡ answer_to s seat now (event_of_body body) → IsOfBody answer
-of_body seat s now body by key size (Ok reply.Made) has is = tt
-of_body seat s now body by key size (Ok reply.Done) has is = tt
 of_body seat s now body by key size (Ok reply.Closed) has is =
     absurd (bodies_open s seat now (sha256 body) (length body) by key size has (sym is))
 of_body seat s now body by key size (Ok (reply.Granted goal)) has is =
     absurd (ends_grant_nothing s seat now (Body (sha256 body) (length body)) goal (sym is))
 of_body seat s now body by key size (Ok (reply.Listing lines)) has is = absurd (body_lists_nothing seat s now body by key size lines has (sym is))
-of_body seat s now body by key size (Err refusal) has is = tt
+of_body seat s now body by key size other has is = tt
 
 marked_of_body : (seat : ℕ) (k : Kept) (now : ℕ) (body : List ℕ) (m : Mark) (answer : Answer)
     → MayAsk k.state seat (event_of_body body) → answer ≡ answer_at k.state (entry_at seat k now (event_of_body body) m) m → IsOfBody answer
 marked_of_body seat k now body mark.Answered answer asked is =
     let has = body_ticket seat k.state body (ticket_of k.state seat) refl asked in
     of_body seat k.state (moment_of k.state now) body has.0 has.1 has.2 answer has.3 is
-marked_of_body seat k now body mark.Store answer asked is = subst IsOfBody (sym is) tt
-marked_of_body seat k now body mark.Memory answer asked is = subst IsOfBody (sym is) tt
+marked_of_body seat k now body unmade answer asked is = subst IsOfBody (sym is) tt
 
 -- an answer that isn't a refusal is of an entry whose step was made
 blob_marked : (s : State) (e : Entry) (m : Mark) (reply : Reply) (id : ℕ) → ◌≡◌ {A = Answer} (Ok reply) (answer_at s e m)
     → blob_to s e.seat e.moment e.event ≡ Some id → blob_under s e m ≡ Some id
 blob_marked s e mark.Answered reply id is stores = stores
-blob_marked s e mark.Store reply id is stores = absurd (cc)
-blob_marked s e mark.Memory reply id is stores = absurd (cc)
+blob_marked s e unmade reply id is stores = absurd (cc)
 
 stored_some : (n : ℕ) (s : State) (e : Entry) (body : List ℕ) (reply : Reply) (before : Option Told) → IsSound s → MayCome n s e
     → ◌≡◌ {A = Answer} (Ok reply) (answer_at s e e.mark) → IfSome (blobs_in (option_map (told_after s e body) before)) (Stores s e body)
@@ -322,19 +304,14 @@ steps_stored seat a b now body answer h sound steps =
     (sym (steps_told seat (standing_in a) b now (event_of_body body) body answer sound steps))
     (stored_at (length a.site.history) a.site.state e body answer a.told sound steps.makes.may_come steps.makes.answered))
 
-ends_entered : (seat : ℕ) (a : Shown) (b : Standing) (now : ℕ) (body : List ℕ) (answer : Answer) → IsHistory a.site → IsSound a.site.state
-    → IsCounted a → (steps : Steps seat (standing_in a) b now (event_of_body body) body answer)
-    → EndsBody (book_at seat a) (book_at seat (stepped seat a b now (event_of_body body) body answer steps)) now body answer
-unfolding enters step_enters
-ends_entered seat a b now body answer h sound counted steps = record {
-  enters = step_enters seat a b now (event_of_body body) body answer h sound counted steps;
-  answered = marked_of_body seat a.site now body steps.mark answer steps.makes.may_come.asked steps.makes.answered;
-  stored = steps_stored seat a b now body answer h sound steps;
-}
-
 pub ends_body : (seat : ℕ) (a : Shown) (b : Standing) (now : ℕ) (body : List ℕ) (answer : Answer) → IsHistory a.site → IsSound a.site.state
     → IsCounted a → Steps seat (standing_in a) b now (event_of_body body) body answer
     → EndsBody (book_at seat a) (book_at seat (moved a b)) now body answer
+unfolding enters step_enters
 ends_body seat a b now body answer h sound counted steps =
-    subst (λ (k : Kept). EndsBody (book_at seat a) (book_at seat (moved a (standing k b.told b.faults))) now body answer) (sym steps.makes.site)
-    (ends_entered seat a b now body answer h sound counted steps)
+    by_step seat a b now (event_of_body body) body answer steps (λ (c : Shown). EndsBody (book_at seat a) (book_at seat c) now body answer)
+    (record {
+      enters = step_enters seat a b now (event_of_body body) body answer steps h sound counted;
+      answered = marked_of_body seat a.site now body steps.mark answer steps.makes.may_come.asked steps.makes.answered;
+      stored = steps_stored seat a b now body answer h sound steps;
+    })

@@ -110,27 +110,24 @@ enters seat k e told later strikes more now event answer h may its is_event mome
           (subst (λ (s : State). MayCome (length k.history) s e) (sym same) may);
     }
 
--- the desk after the entry of a step
-abbrev pub stepped : (seat : ℕ) (a : Shown) (b : Standing) (now : ℕ) (event : Event) (body : List ℕ) (answer : Answer)
-    → Steps seat (standing_in a) b now event body answer → Shown
-stepped seat a b now event body answer steps =
-    moved a (standing (entered a.site (entry_at seat a.site now event steps.mark)) b.told b.faults)
+module _ (seat : ℕ) (a : Shown) (b : Standing) (now : ℕ) (event : Event) (body : List ℕ) (answer : Answer)
+    (steps : Steps seat (standing_in a) b now event body answer) where
+  -- the desk after the entry of the step
+  abbrev pub stepped : Shown
+  stepped = moved a (standing (entered a.site (entry_at seat a.site now event steps.mark)) b.told b.faults)
 
--- a step of the seat is an entry of its own
-unfoldable pub step_enters : (seat : ℕ) (a : Shown) (b : Standing) (now : ℕ) (event : Event) (body : List ℕ) (answer : Answer) → IsHistory a.site
-    → IsSound a.site.state → IsCounted a → (steps : Steps seat (standing_in a) b now event body answer)
-    → Enters (book_at seat a) (book_at seat (stepped seat a b now event body answer steps)) now event answer
-unfolding enters
-step_enters seat a b now event body answer h sound counted steps =
-    let e = entry_at seat a.site now event steps.mark in
-    let c = stepped seat a b now event body answer steps in
-    let is = marks seat a e b.told b.faults counted refl steps.faults steps.rises in
-    enters seat a.site e a.told b.told (book_at seat a).strikes (book_at seat c).strikes now event answer h steps.makes.may_come refl refl refl
-    steps.makes.answered (steps_still seat (standing_in a) b now event body answer sound steps) is.rises is.strikes
+  -- and that is the desk after the step
+  pub by_step : (P : Shown → Type 0) → P stepped → P (moved a b)
+  by_step P = subst (λ (k : Kept). P (moved a (standing k b.told b.faults))) (sym steps.makes.site)
 
-pub steps_enter : (seat : ℕ) (a : Shown) (b : Standing) (now : ℕ) (event : Event) (body : List ℕ) (answer : Answer) → IsHistory a.site
-    → IsSound a.site.state → IsCounted a → Steps seat (standing_in a) b now event body answer
-    → Enters (book_at seat a) (book_at seat (moved a b)) now event answer
-steps_enter seat a b now event body answer h sound counted steps =
-    subst (λ (k : Kept). Enters (book_at seat a) (book_at seat (moved a (standing k b.told b.faults))) now event answer) (sym steps.makes.site)
-    (step_enters seat a b now event body answer h sound counted steps)
+  -- a step of the seat is an entry of its own
+  unfoldable pub step_enters : IsHistory a.site → IsSound a.site.state → IsCounted a
+      → Enters (book_at seat a) (book_at seat stepped) now event answer
+  unfolding enters
+  step_enters h sound counted =
+      let is = marks seat a (entry_at seat a.site now event steps.mark) b.told b.faults counted refl steps.faults steps.rises in
+      enters seat a.site (entry_at seat a.site now event steps.mark) a.told b.told (book_at seat a).strikes (book_at seat stepped).strikes now event answer h
+      steps.makes.may_come refl refl refl steps.makes.answered (steps_still seat (standing_in a) b now event body answer sound steps) is.1.rises is.0
+
+  pub steps_enter : IsHistory a.site → IsSound a.site.state → IsCounted a → Enters (book_at seat a) (book_at seat (moved a b)) now event answer
+  steps_enter h sound counted = by_step (λ (c : Shown). Enters (book_at seat a) (book_at seat c) now event answer) (step_enters h sound counted)

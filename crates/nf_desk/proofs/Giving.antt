@@ -28,9 +28,9 @@ use Rattle.nf_words.specs.declared.answer.Goal.{Goal}
 use Rattle.nf_words.specs.declared.answer.Goal.TheVariants.{Serve}
 use Rattle.nf_words.specs.declared.answer.Measure.{Measure}
 use Rattle.nf_words.specs.declared.history.Ticket.{Ticket}
-use Rattle.nf_desk.specs.Desk.{IsCounted, IsDesk, Shown, TellsSite, blobs_in, book_at, failures_of, first_blob_of}
+use Rattle.nf_desk.specs.Desk.{IsCounted, IsDesk, Shown, TellsSite, blobs_in, book_at, failures, failures_of, first_blob_of}
 use Rattle.nf_desk.specs.Pieces.{IsDamage, IsRead, IsTested, Reads, StrikesBy, StrikesSeat, TellsFound}
-use Rattle.nf_desk.proofs.Counting.{failures_of_struck, risen_struck, risen_up, start_fits, strike}
+use Rattle.nf_desk.proofs.Counting.{GoesOn, failed, failures_of_struck, failures_struck, risen_struck, strike, unfailed}
 use Rattle.nf_desk.proofs.Damages.{damaged_since}
 use Rattle.nf_desk.proofs.Desks.{ticket_is}
 use Rattle.nf_desk.proofs.Entering.{next_again, waits}
@@ -89,14 +89,16 @@ same_strikes : (seat : ℕ) (a : Shown) (faults : ℕ) (strikes : List ℕ) → 
     → (book_at seat (counted_on a faults strikes)).strikes ≡ (book_at seat a).strikes
 same_strikes seat a faults strikes same = ap (λ (z : List ℕ). (book_at seat (counted_on a faults z)).strikes) same
 
-strikes_rise : (seat : ℕ) (a : Shown) (faults : ℕ) (strikes : List ℕ) (result : Result (Option (Vec ℕ Global)) KeepFault)
+pub read_goes : (seat : ℕ) (a : Shown) (faults : ℕ) (strikes : List ℕ) (result : Result (Option (Vec ℕ Global)) KeepFault)
     → HasStrikes seat a → IsCounted a → Counts a.faults faults result → StrikesBy seat a.strikes strikes result
-    → (book_at seat a).strikes ≤ (book_at seat (counted_on a faults strikes)).strikes
-strikes_rise seat a faults strikes (Ok found) has counted counts by = let same = same_strikes seat a faults strikes by in omega (arith, same)
-strikes_rise seat a faults strikes (Err Failed) has counted counts by =
-    risen_up a.start.faults (failures_of seat a) (failures_of seat (counted_on a faults strikes))
-    (start_fits a faults counted counts.0 counts.1) (failures_of_struck a faults strikes seat (strike seat a.strikes strikes has.0 has.1 by))
-strikes_rise seat a faults strikes (Err Memory) has counted counts by = let same = same_strikes seat a faults strikes by in omega (arith, same)
+    → GoesOn seat a (counted_on a faults strikes)
+read_goes seat a faults strikes (Err Failed) has counted counts by =
+    let one = strike seat a.strikes strikes has.0 has.1 by in
+    failed seat a a.site a.told faults strikes counted (failures_struck a faults strikes seat one) (failures_of_struck a faults strikes seat one)
+    counts.0 counts.1
+read_goes seat a faults strikes other has counted counts by =
+    unfailed seat a a.site a.told faults strikes counted (ap (λ (z : List ℕ). failures (counted_on a faults z)) by)
+    (ap (λ (z : List ℕ). failures_of seat (counted_on a faults z)) by) counts
 
 -- what the keeper tells of it, where it found that
 abbrev pub Tells : ℕ → Shown → ℕ → List ℕ → Piece → Option (List ℕ) → Type 0
@@ -114,9 +116,8 @@ is_read seat a faults strikes piece (Err Memory) has tells told by = same_strike
 
 strikes_seat : (seat : ℕ) (strikes more : List ℕ) (result : Result (Option (Vec ℕ Global)) KeepFault) → StrikesBy seat strikes more result
     → StrikesSeat seat strikes more result
-strikes_seat seat strikes more (Ok found) by = by
 strikes_seat seat strikes more (Err Failed) by = by.struck
-strikes_seat seat strikes more (Err Memory) by = by
+strikes_seat seat strikes more other by = by
 
 pub reads : (seat : ℕ) (a : Shown) (faults : ℕ) (strikes : List ℕ) (content : List Piece) (index : ℕ) (piece : Piece)
     (result : Result (Option (Vec ℕ Global)) KeepFault)
@@ -125,7 +126,7 @@ pub reads : (seat : ℕ) (a : Shown) (faults : ℕ) (strikes : List ℕ) (conten
     → Reads seat a (counted_on a faults strikes) content index result
 reads seat a faults strikes content index piece result has h sound desk holds at told counts by = record {
   waits = waits seat a.site a.site a.told a.told (book_at seat a).strikes (book_at seat (counted_on a faults strikes)).strikes refl refl
-      (strikes_rise seat a faults strikes result has desk.counted counts by);
+      (read_goes seat a faults strikes result has desk.counted counts by).rises;
   piece = piece;
   at_index = at;
   read = is_read seat a faults strikes piece result has
@@ -181,8 +182,7 @@ gives_or_fails a b start piece (Ok found) (Ok bytes) read tested = (
 )
 gives_or_fails a b start piece (Ok found) (Err (fault.Damaged damage)) read tested =
     (read.0, tested.differs, IfSome_then b.told read.1 (tells_damage b start piece (bytes_in found) damage tested))
-gives_or_fails a b start piece (Ok found) (Err fault.Store) read tested = absurd tested
-gives_or_fails a b start piece (Ok found) (Err fault.Memory) read tested = absurd tested
+gives_or_fails a b start piece (Ok found) (Err other) read tested = absurd tested
 gives_or_fails a b start piece (Err Failed) result read tested = subst (GivesOrFails a b piece) (sym tested) read
 gives_or_fails a b start piece (Err Memory) result read tested = subst (GivesOrFails a b piece) (sym tested) read
 

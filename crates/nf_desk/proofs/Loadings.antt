@@ -5,7 +5,7 @@ use Rattle.std.specs.List.{All, Contains, list_any}
 use Rattle.std.specs.Option.{IfSome, option_or}
 use Rattle.std.proofs.lemmas.Bool.{cases_lt, false≢true}
 use Rattle.std.proofs.lemmas.List.{get_or_past, get_or-map, get_or-replicate, length-map, length-take-le, map-append, take_more}
-use Rattle.std.proofs.lemmas.List.Elements.{All-push}
+use Rattle.std.proofs.lemmas.List.Elements.{All-contains_itself, All-push}
 use Rattle.std.proofs.lemmas.List.Folds.{Any-from_list_any}
 use Rattle.std.proofs.lemmas.Option.{IfSome_then, none-some, slice_get_read}
 use Rattle.nf_base.specs.declared.changes.Change.TheVariants.{Put}
@@ -20,7 +20,9 @@ use Rattle.nf_opening.specs.Judged.{IsFaultOf}
 use Rattle.nf_opening.specs.declared.fault.SiteFault.{SiteFault}
 use Rattle.nf_opening.specs.declared.fault.SiteFault.TheVariants as judged
 use Rattle.nf_rows.specs.Spelling.{Fits, Raw, spelling_of}
-use Rattle.nf_rules.specs.Rules.{AreUnbroken, Rule, broken_at, first_broken, first_index, is_meta, is_twice, lacks_meta, rules}
+use Rattle.nf_rules.proofs.Among.{meta_has}
+use Rattle.nf_rules.proofs.Firsts.{keep_each}
+use Rattle.nf_rules.specs.Rules.{AreUnbroken, rules}
 use Rattle.nf_site.specs.Held.{Held}
 use Rattle.nf_site.specs.Kept.{Kept, opened_over}
 use Rattle.nf_told.proofs.Follows.{told_again, told_begins}
@@ -59,62 +61,10 @@ count_is raws i rows less before =
 
 pub unread_here : (raws : List Raw) (i : ℕ) (raw : Raw) (rows : List Row) (why : OpenFault) → i < length raws → raw ≡ get_or raws i raw
     → AreSpelled (take i raws) rows → IsUnreadAt raw (length rows) why → AreUnread raws why
-unread_here raws i raw rows fault.Failed less at before is = is
 unread_here raws i raw rows (fault.Unread index why) less at before is =
     subst (λ (n : ℕ). IsUnread raws n why) (sym (is.0 ∙ count_is raws i rows less before))
     (record { before = (rows, before); raw = raw; at_index = slice_get_read raws (length raws) i raw refl less at; unread = is.1 })
-unread_here raws i raw rows (fault.Broken broken) less at before is = is
-unread_here raws i raw rows fault.Memory less at before is = tt
-unread_here raws i raw rows fault.Found less at before is = is
-unread_here raws i raw rows fault.Missing less at before is = is
-
--- ---- rows that break no rule have a meta row
-
-or_none : {X : Type 0} (o p : Option X) → option_or o p ≡ None → (o ≡ None) × (p ≡ None)
-or_none None p is = (refl, is)
-or_none (Some x) p is = absurd (cc)
-
-map_none : {X Y : Type 0} (f : X → Y) (o : Option X) → option_map f o ≡ None → o ≡ None
-map_none f None is = refl
-map_none f (Some x) is = absurd (cc)
-
-rule_kept : (rule : Rule) (others : List Rule) (all : List Row) → first_broken (rule ∷ others) all ≡ None
-    → (broken_at rule all ≡ None) × (first_broken others all ≡ None)
-rule_kept rule others all is =
-    let parts = or_none _ (first_broken others all) is in (map_none _ (broken_at rule all) parts.0, parts.1)
-
-lacks_none : (rule : Rule) (all : List Row) → broken_at rule all ≡ None → rule.lacks all ≡ false
-lacks_none rule all is = here (rule.lacks all) refl (or_none (first_index (rule.breaks all) all) (if rule.lacks all then Some (length all) else None) is).1
-  where
-    here : (a : Bool) → rule.lacks all ≡ a → (if rule.lacks all then Some (length all) else None) ≡ None → a ≡ false
-    here false e is = refl
-    here true e is = absurd (none-some (length all) (sym (simp e at is)))
-
-not_false : (a : Bool) → not a ≡ false → a ≡ true
-not_false true is = refl
-not_false false is = cc
-
-unbroken_meta : (all : List Row) → AreUnbroken all → list_any is_meta all ≡ true
-unbroken_meta all is = not_false (list_any is_meta all) (lacks_none second all (rule_kept second others all (rule_kept first (second ∷ others) all is).1).0)
-  where
-    first : Rule
-    first = get_or rules 0 (record { number = 0; breaks = is_twice; lacks = lacks_meta })
-
-    second : Rule
-    second = get_or rules 1 first
-
-    others : List Rule
-    others = drop 2 rules
-
-meta_of : (row : Row) → is_meta row ≡ true → (meta : MetaRow) × (row ≡ rows.Meta meta)
-meta_of (rows.Meta meta) is = (meta, refl)
-meta_of other is = absurd (cc)
-
-has_meta : (all : List Row) → AreUnbroken all → (meta : MetaRow) × Contains all (rows.Meta meta)
-has_meta all unbroken =
-    let some = Any-from_list_any is_meta all (unbroken_meta all unbroken) in
-    let meta = meta_of some.1 some.4 in
-    (meta.0, subst (Contains all) meta.1 (some.0, some.2, some.3))
+unread_here raws i raw rows other less at before is = is
 
 -- ---- the rows that are told when a desk is opened
 
@@ -140,8 +90,8 @@ first_told first all before told same fit meta =
 loaded_told : (all : List Row) (raws : List Raw) (before : Option Told) → AreTold before raws → AreRisingRaws raws
     → AreSpelled raws all → AreUnbroken all → AreToldRows all before
 loaded_told all raws before told rising spelled unbroken =
-    let meta = has_meta all unbroken in
-    let law = told_again all meta.0 spelled.fit (subst AreRisingRaws (sym spelled.spelled) rising) meta.1 in
+    let there = meta_has (Contains all) all (keep_each rules all unbroken).1.0.1 (All-contains_itself all) in
+    let law = told_again all (tables_of all).meta spelled.fit (subst AreRisingRaws (sym spelled.spelled) rising) there in
     record { fit = law.fit; told = here before told (sym spelled.spelled ∙ law.told) }
   where
     here : (before : Option Told) → AreTold before raws → raws ≡ told_of (tables_of all)
@@ -266,12 +216,9 @@ opens_loaded opening before after (raw ∷ raws) all k some told rising still ma
 
 pub unread_fault : (opening : Opening) (keeper : Option Told) (raws : List Raw) (why : OpenFault) → MayHaveRows opening → AreTold keeper raws
     → AreRisingRaws raws → AreUnread raws why → IsFault opening keeper why
-unread_fault opening keeper raws fault.Failed may told rising is = tt
 unread_fault opening keeper raws (fault.Unread index why) may told rising is = (may, (raws, record { told = told; rising = rising }, is))
-unread_fault opening keeper raws (fault.Broken broken) may told rising is = absurd is
 unread_fault opening keeper raws fault.Memory may told rising is = tt
-unread_fault opening keeper raws fault.Found may told rising is = absurd is
-unread_fault opening keeper raws fault.Missing may told rising is = absurd is
+unread_fault opening keeper raws other may told rising is = absurd is
 
 pub unbuilt_fault : (opening : Opening) (keeper : Option Told) (raws : List Raw) (all : List Row) (why : SiteFault) → raws ≢ []
     → MayHaveRows opening → AreTold keeper raws → AreRisingRaws raws → AreSpelled raws all → IsFaultOf all why

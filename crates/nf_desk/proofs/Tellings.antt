@@ -35,8 +35,7 @@ use Rattle.nf_desk.specs.Stepping.{IsEmpty, Makes, Standing, Steps, Tells, entry
 
 abbrev changes_under : State → Entry → Mark → List Change
 changes_under s e mark.Answered = changes_to s e.seat e.moment e.event
-changes_under s e mark.Store = []
-changes_under s e mark.Memory = []
+changes_under s e unmade = []
 
 -- what is told with some changes, and with some bytes in a blob
 abbrev told_with : List Change → Option ℕ → List ℕ → Told → Told
@@ -119,8 +118,7 @@ told_is : (seat n : ℕ) (s : State) (moment : ℕ) (event : Event) (m : Mark) (
     → now ≡ option_map (told_after s (entry seat moment event m) body) before
 told_is seat n s moment event mark.Answered body before now sound may tells =
     tells.0 ∙ told_by_is (changes_to s seat moment event) (blob_to s seat moment event) body before (no_blob n s seat moment event sound may)
-told_is seat n s moment event mark.Store body before now sound may tells = tells ∙ told_same before body
-told_is seat n s moment event mark.Memory body before now sound may tells = tells ∙ told_same before body
+told_is seat n s moment event unmade body before now sound may tells = tells ∙ told_same before body
 
 pub steps_told : (seat : ℕ) (a b : Standing) (now : ℕ) (event : Event) (body : List ℕ) (answer : Answer) → IsSound a.site.state
     → (steps : Steps seat a b now event body answer)
@@ -139,9 +137,6 @@ record FollowsRows (s : State) (e : Entry) (m : Mark) : Type 0 where
   rows : told_of (after_mark s e m).tables ≡ told_all (told_of s.tables) (changes_under s e m)
   fit : AreFit (after_mark s e m).tables
 
-failed_rows : (s t : State) → t.tables ≡ s.tables → AreFit s.tables → (told_of t.tables ≡ told_of s.tables) × AreFit t.tables
-failed_rows s t same fit = (ap told_of same, subst AreFit (sym same) fit)
-
 rows_follow : (seat n : ℕ) (s : State) (moment : ℕ) (event : Event) (m : Mark) (stored : Option Stored) (before now : Option Told)
     → IsSound s → AreRising s.tables → AreFit s.tables → MayCome n s (entry seat moment event m)
     → Tells m (changes_to s seat moment event) stored before now → FollowsRows s (entry seat moment event m) m
@@ -150,12 +145,9 @@ rows_follow seat n s moment event mark.Answered stored before now sound rising f
     let put = changes_tell.put s seat moment event sound may.asked in
     let next = told_follows s.tables changes rising fit tells.1 (changes_tell.droppable s seat moment event) in
     record { rows = ap told_of (sym put) ∙ next.told; fit = subst AreFit put next.fit }
-rows_follow seat n s moment event mark.Store stored before now sound rising fit may tells =
-    let same = failed_rows s (failed s seat moment event) (failed_tables s seat moment event) fit in
-    record { rows = same.0; fit = same.1 }
-rows_follow seat n s moment event mark.Memory stored before now sound rising fit may tells =
-    let same = failed_rows s (failed s seat moment event) (failed_tables s seat moment event) fit in
-    record { rows = same.0; fit = same.1 }
+rows_follow seat n s moment event unmade stored before now sound rising fit may tells =
+    let same = failed_tables s seat moment event in
+    record { rows = ap told_of same; fit = subst AreFit (sym same) fit }
 
 -- ---- the desk goes on
 

@@ -28,12 +28,12 @@ use Rattle.nf_words.specs.declared.history.Event.{Event}
 use Rattle.nf_words.specs.declared.history.Event.TheVariants.{Begin}
 use Rattle.nf_words.specs.declared.request.Request.{Request}
 use Rattle.nf_words.specs.declared.request.Words.{Words}
-use Rattle.nf_desk.specs.Desk.{IsCounted, IsDesk, Served, Shown, TakesTurn, blobs_in, book_at, failures, first_blob_of, shelf_of, shown, strikes_of}
+use Rattle.nf_desk.specs.Desk.{IsCounted, IsDesk, Served, Shown, TakesTurn, blobs_in, book_at, failures, first_blob_of, most_seats, shelf_of, shown, strikes_of}
 use Rattle.nf_desk.specs.Pieces.{Reads, StrikesBy}
 use Rattle.nf_desk.specs.Stepping.{Asks, Standing, Steps, entry_at, standing}
-use Rattle.nf_desk.proofs.Counting.{counted_more, counted_same, failures_struck, marks, moved, standing_in, strike}
-use Rattle.nf_desk.proofs.Entering.{step_enters, stepped, steps_enter, waits}
-use Rattle.nf_desk.proofs.Giving.{HasStrikes, counted_on, reads}
+use Rattle.nf_desk.proofs.Counting.{marks, moved, standing_in, strike}
+use Rattle.nf_desk.proofs.Entering.{by_step, step_enters, stepped, steps_enter, waits}
+use Rattle.nf_desk.proofs.Giving.{HasStrikes, counted_on, read_goes, reads}
 use Rattle.nf_desk.proofs.Tellings.{steps_true}
 
 -- ---- the blobs of the opening
@@ -54,27 +54,21 @@ since_start seat a b lasts start since =
 
 -- ---- a step
 
-desk_stepped : (seat : ℕ) (a : Shown) (b : Standing) (now : ℕ) (event : Event) (body : List ℕ) (answer : Answer) → IsHistory a.site
-    → IsSound a.site.state → AreRising a.site.state.tables → Brings body event → (steps : Steps seat (standing_in a) b now event body answer)
-    → IsDesk a → IsDesk (stepped seat a b now event body answer steps)
-desk_stepped seat a b now event body answer h sound rising brings steps desk =
+pub steps_desk : (seat : ℕ) (a : Shown) (b : Standing) (now : ℕ) (event : Event) (body : List ℕ) (answer : Answer) → IsHistory a.site
+    → IsSound a.site.state → AreRising a.site.state.tables → Brings body event → Steps seat (standing_in a) b now event body answer
+    → IsDesk a → IsDesk (moved a b)
+steps_desk seat a b now event body answer h sound rising brings steps desk =
     let true_of = steps_true seat (standing_in a) b now event body answer sound rising brings steps desk.fit desk.told in
-    let enters = step_enters seat a b now event body answer h sound desk.counted steps in
-    record {
+    let enters = step_enters seat a b now event body answer steps h sound desk.counted in
+    by_step seat a b now event body answer steps IsDesk
+    (record {
       unbroken = desk.unbroken;
       fit = true_of.fit;
       told = true_of.told;
       since = since_start seat a (stepped seat a b now event body answer steps) enters.lasts refl desk.since;
       seats = desk.seats;
-      counted = (marks seat a (entry_at seat a.site now event steps.mark) b.told b.faults desk.counted refl steps.faults steps.rises).counted;
-    }
-
-pub steps_desk : (seat : ℕ) (a : Shown) (b : Standing) (now : ℕ) (event : Event) (body : List ℕ) (answer : Answer) → IsHistory a.site
-    → IsSound a.site.state → AreRising a.site.state.tables → Brings body event → Steps seat (standing_in a) b now event body answer
-    → IsDesk a → IsDesk (moved a b)
-steps_desk seat a b now event body answer h sound rising brings steps desk =
-    subst (λ (k : Kept). IsDesk (moved a (standing k b.told b.faults))) (sym steps.makes.site)
-    (desk_stepped seat a b now event body answer h sound rising brings steps desk)
+      counted = (marks seat a (entry_at seat a.site now event steps.mark) b.told b.faults desk.counted refl steps.faults steps.rises).1.counted;
+    })
 
 pub asks_desk : (seat : ℕ) (a : Shown) (b : Standing) (now : ℕ) (words : Words) (request : Request) (answer : Answer) → IsHistory a.site
     → IsSound a.site.state → AreRising a.site.state.tables → Asks seat (standing_in a) b now words request answer → IsDesk a → IsDesk (moved a b)
@@ -85,14 +79,11 @@ asks_desk seat a b now words request answer h sound rising (inr none) desk =
 
 -- ---- reading
 
-read_counted : (seat : ℕ) (a : Shown) (faults : ℕ) (strikes : List ℕ) (result : Result (Option (Vec ℕ Global)) KeepFault)
-    → HasStrikes seat a → IsCounted a → Counts a.faults faults result → StrikesBy seat a.strikes strikes result → IsCounted (counted_on a faults strikes)
-read_counted seat a faults strikes (Ok found) has counted counts by =
-    counted_same a (counted_on a faults strikes) counted refl (ap (λ (z : List ℕ). failures (counted_on a faults z)) by) counts
-read_counted seat a faults strikes (Err Failed) has counted counts by =
-    counted_more a (counted_on a faults strikes) counted refl (failures_struck a faults strikes seat (strike seat a.strikes strikes has.0 has.1 by)) counts.0 counts.1
-read_counted seat a faults strikes (Err Memory) has counted counts by =
-    counted_same a (counted_on a faults strikes) counted refl (ap (λ (z : List ℕ). failures (counted_on a faults z)) by) counts
+abbrev pub IsSeatNumber : ℕ → Type 0
+IsSeatNumber seat = (0 < seat) × (seat ≤ most_seats)
+
+has_strikes : (seat : ℕ) (a : Shown) → IsSeatNumber seat → IsDesk a → HasStrikes seat a
+has_strikes seat a is desk = (is.0, omega (arith, is.1, desk.seats))
 
 -- what a call of the keeper does to the strikes of the seats
 pub record StrikesAlone (seat : ℕ) (strikes more : List ℕ) : Type 0 where
@@ -109,22 +100,22 @@ strikes_stay seat strikes more same = record {
 
 strikes_alone : (seat : ℕ) (strikes more : List ℕ) (result : Result (Option (Vec ℕ Global)) KeepFault) → 0 < seat → seat ≤ length strikes
     → StrikesBy seat strikes more result → StrikesAlone seat strikes more
-strikes_alone seat strikes more (Ok found) some within by = strikes_stay seat strikes more by
 strikes_alone seat strikes more (Err Failed) some within by =
     let struck = strike seat strikes more some within by in record { seats = struck.seats; rises = by.rises; others = struck.others }
-strikes_alone seat strikes more (Err Memory) some within by = strikes_stay seat strikes more by
+strikes_alone seat strikes more other some within by = strikes_stay seat strikes more by
 
 pub read_desk : (seat : ℕ) (a : Shown) (faults : ℕ) (strikes : List ℕ) (result : Result (Option (Vec ℕ Global)) KeepFault)
-    → HasStrikes seat a → Counts a.faults faults result → StrikesBy seat a.strikes strikes result → IsDesk a
+    → IsSeatNumber seat → Counts a.faults faults result → StrikesBy seat a.strikes strikes result → IsDesk a
     → IsDesk (counted_on a faults strikes)
-read_desk seat a faults strikes result has counts by desk = record {
-  unbroken = desk.unbroken;
-  fit = desk.fit;
-  told = desk.told;
-  since = desk.since;
-  seats = (strikes_alone seat a.strikes strikes result has.0 has.1 by).seats ∙ desk.seats;
-  counted = read_counted seat a faults strikes result has desk.counted counts by;
-}
+read_desk seat a faults strikes result is counts by desk =
+    let has = has_strikes seat a is desk in record {
+      unbroken = desk.unbroken;
+      fit = desk.fit;
+      told = desk.told;
+      since = desk.since;
+      seats = (strikes_alone seat a.strikes strikes result has.0 has.1 by).seats ∙ desk.seats;
+      counted = (read_goes seat a faults strikes result has desk.counted counts by).counted;
+    }
 
 -- ---- a turn
 
@@ -182,7 +173,7 @@ module _ {K : Type 0} (k : KeeperOf K) (seat : ℕ) (old : Served K) where
       (ap (λ (z : Kept). z.history) steps.makes.site)
       (All-cons (λ (e : Entry). e.seat ≡ seat) _ [] refl (All-nil (λ (e : Entry). e.seat ≡ seat)))
       (strikes_stay seat old.strikes old.strikes refl) refl
-      (steps_enter seat (shown k old) (standing_by site keeper) now event body answer before sound counted steps).lasts
+      (steps_enter seat (shown k old) (standing_by site keeper) now event body answer steps before sound counted).lasts
 
   pub asks_turn : (site : Held) (keeper : K) (now : ℕ) (words : Words) (request : Request) (answer : Answer) → IsHistory old.site.kept
       → IsHistory site.kept → IsSound old.site.kept.state → IsCounted (shown k old)
@@ -197,22 +188,23 @@ module _ {K : Type 0} (k : KeeperOf K) (seat : ℕ) (old : Served K) where
       (subst (λ (z : Standing). Lasts (book_at seat (shown k old)) (book_at seat (moved (shown k old) z))) (sym none.same)
       (stays seat (shown k old)))
 
-  pub read_shown : (keeper : K) (strikes : List ℕ) (content : List Piece) (index : ℕ) (piece : Piece)
+  -- the desk after a piece was read, or not
+  abbrev pub having_read : K → List ℕ → Served K
+  having_read keeper strikes = record old { keeper = keeper; strikes = strikes }
+
+  pub reads_turn : (keeper : K) (strikes : List ℕ) (content : List Piece) (index : ℕ) (piece : Piece)
       (result : Result (Option (Vec ℕ Global)) KeepFault)
-      → HasStrikes seat (shown k old) → IsHistory old.site.kept → IsSound old.site.kept.state → IsDesk (shown k old)
+      → IsSeatNumber seat → IsHistory old.site.kept → IsSound old.site.kept.state → IsDesk (shown k old)
       → held (book_at seat (shown k old)) ≡ Some (Serve content) → slice_get content index ≡ Some piece → k.told keeper ≡ k.told old.keeper
       → IfOk result (λ bytes. IsTold (k.told old.keeper) piece.blob (bytes_in bytes)) → Counts (k.faults old.keeper) (k.faults keeper) result
       → StrikesBy seat old.strikes strikes result
-      → Reads seat (shown k old) (shown k (record old { keeper = keeper; strikes = strikes })) content index result
-  read_shown keeper strikes content index piece result has h sound desk holds at same told counts by =
-      subst (λ (o : Option Told). Reads seat (shown k old) (record (counted_on (shown k old) (k.faults keeper) strikes) { told = o }) content index result)
+      → Reads seat (shown k old) (shown k (having_read keeper strikes)) content index result × TakesTurn k seat old (having_read keeper strikes)
+  reads_turn keeper strikes content index piece result is h sound desk holds at same told counts by =
+      let has = has_strikes seat (shown k old) is desk in
+      let read = subst (λ (o : Option Told). Reads seat (shown k old) (record (counted_on (shown k old) (k.faults keeper) strikes) { told = o }) content index result)
       (sym same)
-      (reads seat (shown k old) (k.faults keeper) strikes content index piece result has h sound desk holds at told counts by)
-
-  pub read_turn : (keeper : K) (strikes : List ℕ) (result : Result (Option (Vec ℕ Global)) KeepFault) → IsHistory old.site.kept
-      → HasStrikes seat (shown k old) → StrikesBy seat old.strikes strikes result
-      → Lasts (book_at seat (shown k old)) (book_at seat (shown k (record old { keeper = keeper; strikes = strikes })))
-      → TakesTurn k seat old (record old { keeper = keeper; strikes = strikes })
-  read_turn keeper strikes result h has by lasts =
-      takes_turn (record old { keeper = keeper; strikes = strikes }) [] h h (sym (append-nil old.site.kept.history))
-      (All-nil (λ (e : Entry). e.seat ≡ seat)) (strikes_alone seat old.strikes strikes result has.0 has.1 by) refl lasts
+      (reads seat (shown k old) (k.faults keeper) strikes content index piece result has h sound desk holds at told counts by) in (
+        read,
+        takes_turn (having_read keeper strikes) [] h h (sym (append-nil old.site.kept.history)) (All-nil (λ (e : Entry). e.seat ≡ seat))
+            (strikes_alone seat old.strikes strikes result has.0 has.1 by) refl read.waits.lasts,
+      )

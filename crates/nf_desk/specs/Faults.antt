@@ -20,7 +20,4 @@ of_site site.Memory = fault.Memory
 -- want of memory is no fault of the row
 abbrev pub unread_by : ℕ → RowFault → OpenFault
 unread_by index row.Memory = fault.Memory
-unread_by index row.Kind = fault.Unread index row.Kind
-unread_by index (row.Short at) = fault.Unread index (row.Short at)
-unread_by index (row.Long at) = fault.Unread index (row.Long at)
-unread_by index (row.Value at) = fault.Unread index (row.Value at)
+unread_by index other = fault.Unread index other

@@ -116,11 +116,8 @@ CountsOpening before now (Err fault) = CountsFault before now fault
 -- rows that break no rule are stored, or the keeper fails, or there is no memory
 abbrev pub IsBegunFault : OpenFault → Type 0
 IsBegunFault fault.Failed = Unit {0}
-IsBegunFault (fault.Unread index why) = ⊥
-IsBegunFault (fault.Broken broken) = ⊥
 IsBegunFault fault.Memory = Unit {0}
-IsBegunFault fault.Found = ⊥
-IsBegunFault fault.Missing = ⊥
+IsBegunFault other = ⊥
 
 -- the row is spelled so
 pub record IsSpelled (raw : Raw) (row : Row) : Type 0 where
@@ -129,21 +126,15 @@ pub record IsSpelled (raw : Raw) (row : Row) : Type 0 where
 
 -- why the row of that index isn't read
 abbrev pub IsUnreadAt : Raw → ℕ → OpenFault → Type 0
-IsUnreadAt raw index fault.Failed = ⊥
 IsUnreadAt raw index (fault.Unread at why) = (at ≡ index) × (reading raw.kind raw.key raw.body ≡ Err why)
-IsUnreadAt raw index (fault.Broken broken) = ⊥
 IsUnreadAt raw index fault.Memory = Unit {0}
-IsUnreadAt raw index fault.Found = ⊥
-IsUnreadAt raw index fault.Missing = ⊥
+IsUnreadAt raw index other = ⊥
 
 -- why some rows aren't read
 abbrev pub AreUnread : List Raw → OpenFault → Type 0
-AreUnread raws fault.Failed = ⊥
 AreUnread raws (fault.Unread index why) = IsUnread raws index why
-AreUnread raws (fault.Broken broken) = ⊥
 AreUnread raws fault.Memory = Unit {0}
-AreUnread raws fault.Found = ⊥
-AreUnread raws fault.Missing = ⊥
+AreUnread raws other = ⊥
 
 -- the rows that are spelled so, or why they aren't read
 abbrev pub ReadsRows : List Raw → Result (List Row) OpenFault → Type 0

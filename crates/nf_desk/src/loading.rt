@@ -80,13 +80,10 @@ fn puts(alloc: Global, rows: &RowList) -> Result<Changes, AllocError>
 fn new_blob(blob: &Option<FirstBlob>) -> Option<NewBlob<'_>>
     ensures { stored_in result ≡ stored_first blob.now }
 {
-    match blob {
-        Some(blob) => Some(NewBlob {
-            id: blob.id,
-            bytes: &blob.bytes,
-        }),
-        None => None,
-    }
+    blob.as_ref().map(|blob| NewBlob {
+        id: blob.id,
+        bytes: &blob.bytes,
+    })
 }
 
 /// The rows that are spelled so, or the first that can't be read.

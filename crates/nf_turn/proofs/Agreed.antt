@@ -19,7 +19,7 @@ module _ {E O W : Type 0} (book : Meanings E O W) where
 
   joined_are_kept : (line : Line W) (id n : ℕ) (joined : List (ℕ × W)) → AreJoined book line id n joined → AllAreKept book line.value joined
   joined_are_kept line id n [] h = tt
-  joined_are_kept line id n (seat ∷ seats) h = (h.5, joined_are_kept line id n seats h.7)
+  joined_are_kept line id n (seat ∷ seats) h = (h.0.5, joined_are_kept line id n seats h.2)
 
   -- the seat has no entry between what it passed on last and what it knows of, nor from there to the value
   no_more_own : (seats : ℕ) (origin : W) (line : Line W) (id : ℕ) (k : Memory W) (h : IsKnown book seats origin line id k) → (entries_of book k.number h.last.0 ≡ []) × (entries_of book k.number h.known.added ≡ [])

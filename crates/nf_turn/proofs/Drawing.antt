@@ -1,5 +1,5 @@
 -- Drawing a turn number.
-use Rattle.std.proofs.Common.{◌≡◌, ◌≢◌, ℕ, ◌+◌, ◌%◌, ◌^◌, ◌<◌, [], ◌∷◌, set, get_or, refl, sym, ap, ◌∙◌, subst, arith}
+use Rattle.std.proofs.Common.{rules, ◌≡◌, ◌≢◌, ℕ, ◌+◌, ◌%◌, ◌^◌, ◌<◌, [], ◌∷◌, set, get_or, refl, sym, ap, ◌∙◌, subst, arith}
 use mathlib.Core.Logic.{dite}
 use mathlib.Core.Option.{none}
 use native.Mathlib.Decide.{ℕ_discrete}
@@ -11,26 +11,17 @@ use Rattle.nf_turn.specs.Turns.{Line, InOrder, IsInTurn}
 use Rattle.nf_turn.specs.Steps.{Place, Draws}
 use Rattle.nf_turn.specs.Views.{memory_in}
 use Rattle.nf_turn.proofs.Numbers.{put, put_at, put_here, put_else, put_small, total_put, next_modulo}
-use Rattle.nf_turn.proofs.Staying.{LeavesAlone, LeavesJoined, joined_stay, steps, other_number}
+use Rattle.nf_turn.proofs.Staying.{LeavesAlone, joined_stay, steps, other_number}
 
 module _ {E O W : Type 0} (book : Meanings E O W) (seats : ℕ) (origin : W) where
   abbrev drawing : Line W → ℕ → Line W
   drawing line n = record line { drawn = line.drawn + 1; waits = put line.waits n 1; turn = put line.turn n line.drawn }
 
   leaves_others : (line : Line W) (id n : ℕ) → line.place n ≡ id → (j : ℕ) → j ≢ id → LeavesAlone book line (drawing line n) j
-  leaves_others line id n its j other = record {
-    numbers = λ m _ at. let apart = other_number line id j n m its other at in (at, put_else line.waits n 1 m apart, put_else line.turn n line.drawn m apart);
-    fresh = omega arith;
-    gives = λ h. (h, refl);
-    free = λ m _ _ _ h. h;
-    holds = λ m _ _ _ h. (h, refl);
-    sole = λ m _ _ _ _. refl;
-    grew = λ w h. h;
-    without = λ m w _ _ h. h;
-  }
-
-  leaves_joined : (line : Line W) (n : ℕ) → LeavesJoined book line (drawing line n) n
-  leaves_joined line n = record { numbers = λ m o. (refl, put_else line.waits n 1 m o); fresh = omega arith; without = λ m w _ h. h }
+  leaves_others line id n its j other =
+      let waits = λ (m : ℕ) (at : line.place m ≡ j). put_else line.waits n 1 m (other_number line id j n m its other at) in
+      let turn = λ (m : ℕ) (at : line.place m ≡ j). put_else line.turn n line.drawn m (other_number line id j n m its other at) in
+      search (rules, waits, turn)
 
   in_order : (line : Line W) (n : ℕ) → InOrder book seats origin line → 0 < n → n < line.fresh → line.waits n ≡ 0 → InOrder book seats origin (drawing line n)
   in_order line n h low given idle =
@@ -65,13 +56,13 @@ module _ {E O W : Type 0} (book : Meanings E O W) (seats : ℕ) (origin : W) whe
       let h = mine.0 in
       let new = drawing line n in
       let found : x ≡ line.drawn % 2 ^ 64 = ap (λ ws. get_or ws 0 0) rule.words in
-      let words : set s.words 0 ((x + 1) % 2 ^ 64) ≡ new.drawn % 2 ^ 64 ∷ new.passed_on % 2 ^ 64 ∷ [] =
-      ap (λ ws. set ws 0 ((get_or ws 0 0 + 1) % 2 ^ 64)) rule.words ∙ ap (λ (z : ℕ). z ∷ line.passed_on % 2 ^ 64 ∷ []) (next_modulo line.drawn) in (
+      let words : set s.words 0 ((x + 1) % 2 ^ 64) ≡ new.drawn % 2 ^ 64 ∷ new.passed_on % 2 ^ 64 ∷ rule.bells =
+      ap (λ ws. set ws 0 ((get_or ws 0 0 + 1) % 2 ^ 64)) rule.words ∙ ap (λ (z : ℕ). z ∷ line.passed_on % 2 ^ 64 ∷ rule.bells) (next_modulo line.drawn) in (
         Waiting x k,
         keeps,
         tt,
         steps book seats origin s rule new id 0 ((x + 1) % 2 ^ 64) s.homes (Waiting x k) words rule.home (in_order line n rule.order h.low h.given mine.1) (
-          record { low = h.low; given = h.given; its = h.its; all = h.all; first = h.first; known = h.known; own = h.own; passed = h.passed; told = h.told; left = h.left; joined = joined_stay book line new id n (leaves_joined line n) k.joined h.joined; last = h.last; heard = h.heard; sole = h.sole },
+          record { low = h.low; given = h.given; its = h.its; all = h.all; first = h.first; known = h.known; own = h.own; passed = h.passed; told = h.told; left = h.left; joined = joined_stay book line new id n (λ seat j. (j.0, j.1, j.2, put_else line.waits n 1 seat.0 j.0 ∙ j.3, j.4, j.5)) k.joined h.joined; last = h.last; heard = h.heard; sole = h.sole },
           put_here line.waits n 1,
           found ∙ ap (λ (z : ℕ). z % 2 ^ 64) (sym (put_here line.turn n line.drawn)),
           λ holds. let low = h.low in let waits = (rule.order.served (omega arith)).0 in let none : line.waits line.holder ≡ 0 = ap line.waits holds ∙ mine.1 in omega arith,

@@ -1,10 +1,10 @@
 -- Joining a seat into another.
-use Rattle.std.proofs.Common.{◌≡◌, ◌≢◌, ⊎_elim, ℕ, suc, ◌+◌, ◌^◌, ◌<◌, ◌≤◌, length, cond, eqb, eq-eqb, ne_eqb, List, [], ◌∷◌, ◌++◌, append-nil, length-append, set, refl, sym, ap, ◌∙◌, subst, arith}
+use Rattle.std.proofs.Common.{rules, ◌≡◌, ◌≢◌, ⊎_elim, ℕ, suc, ◌+◌, ◌^◌, ◌<◌, ◌≤◌, length, cond, eqb, List, [], ◌∷◌, ◌++◌, length-append, set, refl, sym, ap, ◌∙◌, subst, arith}
 use mathlib.Core.Logic.{dite}
 use mathlib.Core.Option.{some}
 use native.Mathlib.Decide.{ℕ_discrete}
 use lib.ListN.{get_elem?}
-use Rattle.std.proofs.lemmas.Bool.{cases_lt, lt-ltb, le-ltb}
+use Rattle.std.proofs.lemmas.Bool.{cases_lt, lt-ltb, le-ltb, eq-eqb, ne_eqb, cond-true, cond-false}
 use Rattle.atomic_table.specs.Table.{Joins}
 use Rattle.atomic_table.proofs.Lists.{at_set}
 use Rattle.nf_turn.specs.Book.{Meanings, Grows, Precedes}
@@ -15,10 +15,13 @@ use Rattle.nf_turn.specs.Memory.{having_joined, longer}
 use Rattle.nf_turn.specs.Turns.{Line, AreJoined, IsKnown, Knows, IsInTurn}
 use Rattle.nf_turn.specs.Numbers.{IsOther, numbers_of, AreSound}
 use Rattle.nf_turn.specs.Steps.{Place, after_join}
-use Rattle.nf_turn.proofs.Numbers.{redirect, redirect_hit, redirect_miss}
+use Rattle.nf_turn.proofs.Numbers.{put, put_at, put_else}
 use Rattle.nf_turn.proofs.Preceding.{Precedes-refl, Precedes-trans, AllPrecede-trans, AllPrecede-append, shorter_precedes}
 use Rattle.nf_turn.proofs.Sounding.{few_numbers}
-use Rattle.nf_turn.proofs.Staying.{LeavesAlone, views_stay, others_stay}
+use Rattle.nf_turn.proofs.Staying.{LeavesAlone, joined_stay, views_stay, others_stay}
+
+abbrev same : ℕ → ℕ
+same n = n
 
 IsOther-append : {W : Type 0} (n : ℕ) (seats more : List (ℕ × W)) → IsOther n seats → IsOther n more → IsOther n (seats ++ more)
 IsOther-append n [] more h h' = h'
@@ -38,67 +41,55 @@ module _ {E O W : Type 0} (book : Meanings E O W) where
   -- a number of another seat of the table is none of these
   elsewhere : (line : Line W) (m there id n : ℕ) → line.place m ≡ there → there ≢ id → (joined : List (ℕ × W)) → AreJoined book line id n joined → IsOther m joined
   elsewhere line m there id n at apart [] h = tt
-  elsewhere line m there id n at apart (seat ∷ seats) h = ((λ e. apart (sym at ∙ ap line.place e ∙ h.4)), elsewhere line m there id n at apart seats h.7)
+  elsewhere line m there id n at apart (seat ∷ seats) h = ((λ e. apart (sym at ∙ ap line.place e ∙ h.0.4)), elsewhere line m there id n at apart seats h.2)
 
   -- nor is the seat's own number
   own_is_other : (line : Line W) (id n : ℕ) → (joined : List (ℕ × W)) → AreJoined book line id n joined → IsOther n joined
   own_is_other line id n [] h = tt
-  own_is_other line id n (seat ∷ seats) h = ((λ e. h.0 (sym e)), own_is_other line id n seats h.7)
+  own_is_other line id n (seat ∷ seats) h = ((λ e. h.0.0 (sym e)), own_is_other line id n seats h.2)
 
   -- the table's seat `other` is joined into `id`
   abbrev joining : Line W → ℕ → ℕ → Line W
-  joining line id other = record line { place = redirect line.place other id; giver = redirect (λ z. z) other id line.giver }
+  joining line id other = record line { place = λ m. put same other id (line.place m); giver = put same other id line.giver }
 
   leaves_others : (line : Line W) (id other : ℕ) → (j : ℕ) → j ≢ id → j ≢ other → LeavesAlone book line (joining line id other) j
-  leaves_others line id other j apart apart' = record {
-    numbers = λ m _ at. (redirect_miss line.place other id m (λ e. apart' (sym at ∙ e)) ∙ at, refl, refl);
-    fresh = omega arith;
-    gives = λ h. (h ∙ sym (redirect_miss (λ z. z) other id line.giver (λ e. apart' (h ∙ e))), refl);
-    free = λ m _ _ _ h. h;
-    holds = λ m _ _ _ h. (h, refl);
-    sole = λ m _ _ _ _. refl;
-    grew = λ w h. h;
-    without = λ m w _ _ h. h;
-  }
+  leaves_others line id other j apart apart' =
+      let place = λ (m : ℕ) (at : line.place m ≡ j). put_else same other id (line.place m) (λ e. apart' (sym at ∙ e)) ∙ at in
+      let gives = λ (h : j ≡ line.giver). h ∙ sym (put_else same other id line.giver (λ e. apart' (h ∙ e))) in
+      search (rules, place, gives)
 
   -- those that were joined into the seat `there`, before those that are already with `id`
-  both_joined : (line : Line W) (id other there n n' : ℕ) → ((m : ℕ) → line.place m ≡ there → (redirect line.place other id m ≡ id) × (m ≢ n → m ≢ n'))
+  both_joined : (line : Line W) (id other there n n' : ℕ) → ((m : ℕ) → line.place m ≡ there → (put same other id (line.place m) ≡ id) × (m ≢ n → m ≢ n'))
       → (joined more : List (ℕ × W)) → ((m : ℕ) → line.place m ≡ there → IsOther m more)
       → AreJoined book line there n joined → AreJoined book (joining line id other) id n' more → AreJoined book (joining line id other) id n' (joined ++ more)
   both_joined line id other there n n' to [] more apart h rest = rest
   both_joined line id other there n n' to (seat ∷ seats) more apart h rest =
-      let is = to seat.0 h.4 in
-      (is.1 h.0, h.1, h.2, h.3, is.0, h.5, IsOther-append seat.0 seats more h.6 (apart seat.0 h.4), both_joined line id other there n n' to seats more apart h.7 rest)
+      let j = h.0 in let is = to seat.0 j.4 in
+      ((is.1 j.0, j.1, j.2, j.3, is.0, j.5), IsOther-append seat.0 seats more h.1 (apart seat.0 j.4), both_joined line id other there n n' to seats more apart h.2 rest)
 
   module _ (seats : ℕ) (origin : W) where
     -- the numbers that are left are with one of the two, and are with the one that stays now
     left_with_both : (line : Line W) (id other : ℕ) (k q : Memory W) → other ≢ id → IsKnown book seats origin line id k → IsKnown book seats origin line other q → 0 < k.left + q.left
-        → (id ≡ redirect (λ z. z) other id line.giver) × (line.fresh ≡ cond (eqb k.left 0) q.next k.next) × (cond (eqb k.left 0) q.next k.next + (k.left + q.left) ≡ seats + 1)
+        → (id ≡ put same other id line.giver) × (line.fresh ≡ cond (eqb k.left 0) q.next k.next) × (cond (eqb k.left 0) q.next k.next + (k.left + q.left) ≡ seats + 1)
     left_with_both line id other k q apart h t some_left = dite (ℕ_discrete k.left 0)
         (λ none_left.
         let has = t.left (omega arith) in let sum = has.2 in
-        let picked : cond (eqb k.left 0) q.next k.next ≡ q.next = ap (λ b. cond b q.next k.next) (eq-eqb k.left 0 none_left) in
-        (sym (redirect_hit (λ z. z) other id line.giver (sym has.0)), has.1 ∙ sym picked, omega arith))
+        let picked = cond-true (eqb k.left 0) q.next k.next (eq-eqb k.left 0 none_left) in
+        (sym (put_at same other id line.giver (sym has.0)), has.1 ∙ sym picked, omega arith))
         (λ mine_left.
         let has = h.left (omega arith) in let sum = has.2 in
-        let picked : cond (eqb k.left 0) q.next k.next ≡ k.next = ap (λ b. cond b q.next k.next) (ne_eqb k.left 0 mine_left) in
+        let picked = cond-false (eqb k.left 0) q.next k.next (ne_eqb k.left 0 mine_left) in
         let none_left : q.left ≡ 0 = dite (ℕ_discrete q.left 0) (λ z. z) (λ z. absurd (apart ((t.left (omega arith)).0 ∙ sym has.0))) in
-        (has.0 ∙ sym (redirect_miss (λ z. z) other id line.giver (λ z. apart (sym z ∙ sym has.0))), has.1 ∙ sym picked, omega arith))
+        (has.0 ∙ sym (put_else same other id line.giver (λ z. apart (sym z ∙ sym has.0))), has.1 ∙ sym picked, omega arith))
 
     joined_of_both : (line : Line W) (id other : ℕ) (k q : Memory W) → other ≢ id → line.waits q.number ≡ 0 → IsKnown book seats origin line id k → IsKnown book seats origin line other q
         → AreJoined book (joining line id other) id k.number ((q.number, q.last) ∷ (q.joined ++ k.joined))
     joined_of_both line id other k q apart idle h t = (
-      (λ e. apart (sym t.its ∙ ap line.place e ∙ h.its)),
-      t.low,
-      t.given,
-      idle,
-      redirect_hit line.place other id q.number t.its,
-      t.own,
+      ((λ e. apart (sym t.its ∙ ap line.place e ∙ h.its)), t.low, t.given, idle, put_at same other id (line.place q.number) t.its, t.own),
       IsOther-append q.number q.joined k.joined (own_is_other line other q.number q.joined t.joined) (elsewhere line q.number other id k.number t.its apart k.joined h.joined),
-      both_joined line id other other q.number k.number (λ m at. (redirect_hit line.place other id m at, λ _ e. apart (sym at ∙ ap line.place e ∙ h.its))) q.joined k.joined
+      both_joined line id other other q.number k.number (λ m at. (put_at same other id (line.place m) at, λ _ e. apart (sym at ∙ ap line.place e ∙ h.its))) q.joined k.joined
           (λ m at. elsewhere line m other id k.number at apart k.joined h.joined) t.joined
-          (subst (λ (l : List (ℕ × W)). AreJoined book (joining line id other) id k.number l) (append-nil k.joined)
-          (both_joined line id other id k.number k.number (λ m at. (redirect_miss line.place other id m (λ e. apart (sym e ∙ at)) ∙ at, λ z. z)) k.joined [] (λ _ _. tt) h.joined tt)),
+          (joined_stay book line (joining line id other) id k.number (λ seat j. (j.0, j.1, j.2, j.3, put_else same other id (line.place seat.0) (λ e. apart (sym e ∙ j.4)) ∙ j.4, j.5)) k.joined h.joined),
     )
 
     known_of_both : (line : Line W) (id other : ℕ) (k q : Memory W) → other ≢ id → line.waits q.number ≡ 0 → IsKnown book seats origin line id k → IsKnown book seats origin line other q
@@ -106,7 +97,7 @@ module _ {E O W : Type 0} (book : Meanings E O W) where
     known_of_both line id other k q apart idle h t = let longest = longer book k.known q.known in let is = longer_is_picked k.known q.known line.value h.known t.known in record {
       low = h.low;
       given = h.given;
-      its = redirect_miss line.place other id k.number (λ e. apart (sym e ∙ h.its)) ∙ h.its;
+      its = put_else same other id (line.place k.number) (λ e. apart (sym e ∙ h.its)) ∙ h.its;
       all = h.all;
       first = h.first;
       known = is.0;
@@ -134,6 +125,7 @@ module _ {E O W : Type 0} (book : Meanings E O W) where
         let known : Knows book seats origin new id both = (known_of_both line id other k q apart theirs.1 mine.0 theirs.0, mine.1) in record {
           fresh = rule.fresh;
           line = new;
+          bells = rule.bells;
           words = rule.words;
           home = rule.home;
           order = record { few = order.few; count = order.count; once = order.once; within = order.within; apart = order.apart; served = order.served; unused = order.unused };

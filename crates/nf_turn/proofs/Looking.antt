@@ -1,5 +1,5 @@
 -- Looking at the number that is served.
-use Rattle.std.proofs.Common.{◌≡◌, ◌≢◌, ℕ, zero, suc, ◌%◌, ◌^◌, ◌<◌, [], ◌∷◌, set, get_or, Option, Some, refl, sym, ap, ◌∙◌, subst, arith}
+use Rattle.std.proofs.Common.{rules, ◌≡◌, ◌≢◌, ℕ, zero, suc, ◌%◌, ◌^◌, ◌<◌, [], ◌∷◌, set, get_or, Option, Some, refl, sym, ap, ◌∙◌, subst, arith}
 use mathlib.Core.Logic.{dite}
 use mathlib.Core.Option.{none, some}
 use native.Mathlib.Decide.{ℕ_discrete}
@@ -14,8 +14,8 @@ use Rattle.nf_turn.specs.Agreeing.{Agrees}
 use Rattle.nf_turn.specs.Turns.{home_of, Line, InOrder, IsInTurn}
 use Rattle.nf_turn.specs.Steps.{Place, Looks}
 use Rattle.nf_turn.specs.Views.{memory_in}
-use Rattle.nf_turn.proofs.Numbers.{total_le, same_modulo}
-use Rattle.nf_turn.proofs.Staying.{LeavesAlone, LeavesJoined, joined_stay, steps, reads, other_number}
+use Rattle.nf_turn.proofs.Numbers.{total_le}
+use Rattle.nf_turn.proofs.Staying.{LeavesAlone, joined_stay, steps, reads, other_number}
 use Rattle.nf_turn.proofs.Agreed.{agrees}
 
 abbrev turn_in : {W : Type 0} → Place W → ℕ
@@ -27,19 +27,9 @@ module _ {E O W : Type 0} (book : Meanings E O W) (seats : ℕ) (origin : W) whe
   holding line n = record line { holder = n }
 
   leaves_others : (line : Line W) (id n : ℕ) → line.place n ≡ id → line.holder ≡ 0 → (j : ℕ) → j ≢ id → LeavesAlone book line (holding line n) j
-  leaves_others line id n its none_holds j other = record {
-    numbers = λ m _ at. (at, refl, refl);
-    fresh = omega arith;
-    gives = λ h. (h, refl);
-    free = λ m _ _ at _ e. other_number line id j n m its other at (sym e);
-    holds = λ m low _ _ e. absurd (omega arith);
-    sole = λ m _ _ _ _. refl;
-    grew = λ w h. h;
-    without = λ m w _ _ h. h;
-  }
-
-  leaves_joined : (line : Line W) (n : ℕ) → LeavesJoined book line (holding line n) n
-  leaves_joined line n = record { numbers = λ m o. (refl, refl); fresh = omega arith; without = λ m w _ h. h }
+  leaves_others line id n its none_holds j other =
+      let free = λ (m : ℕ) (at : line.place m ≡ j) (e : n ≡ m). other_number line id j n m its other at (sym e) in
+      search (rules, free)
 
   in_order : (line : Line W) (n : ℕ) → InOrder book seats origin line → 0 < line.waits n → line.turn n ≡ line.passed_on → InOrder book seats origin (holding line n)
   in_order line n h waits first = record { few = h.few; count = h.count; once = h.once; within = h.within; apart = h.apart; served = λ _. (waits, first); unused = h.unused }
@@ -47,8 +37,7 @@ module _ {E O W : Type 0} (book : Meanings E O W) (seats : ℕ) (origin : W) whe
   -- where the word is the turn number that a seat drew, its turn is the one that is served
   is_served : (line : Line W) (n : ℕ) → InOrder book seats origin line → line.waits n ≡ 1 → line.passed_on % 2 ^ 64 ≡ line.turn n % 2 ^ 64 → line.turn n ≡ line.passed_on
   is_served line n h waits same =
-      let b = h.within n (omega arith) in let b₂ = b.2 in let b₃ = b.3 in let count = h.count in let few = h.few.0 in let most = total_le line.waits seats h.once in
-      sym (same_modulo line.passed_on (line.turn n) (omega arith) (omega arith) same)
+      let b = h.within n (omega arith) in let b₂ = b.2 in let b₃ = b.3 in let count = h.count in let few = h.few.0 in let most = total_le line.waits seats h.once in omega arith
 
   -- and then no other seat has the turn
   none_holds : (line : Line W) (n : ℕ) → InOrder book seats origin line → line.waits n ≡ 1 → line.turn n ≡ line.passed_on → line.holder ≢ n → line.holder ≡ 0
@@ -76,7 +65,7 @@ module _ {E O W : Type 0} (book : Meanings E O W) (seats : ℕ) (origin : W) whe
       let new = holding line n in
       let home : set s.homes 0 none ≡ home_of n line.value = ap (λ hs. set hs 0 none) (rule.home ∙ ap (λ (z : ℕ). home_of z line.value) free) ∙ empty_home n line.value h.low in (
         steps book seats origin s rule new id 1 (get_or s.words 1 0) (set s.homes 0 none) (Holding line.value k) (set-get_or s.words 1 0 ∙ rule.words) home (in_order line n rule.order (omega arith) first) (
-          record { low = h.low; given = h.given; its = h.its; all = h.all; first = h.first; known = h.known; own = h.own; passed = h.passed; told = h.told; left = h.left; joined = joined_stay book line new id n (leaves_joined line n) k.joined h.joined; last = h.last; heard = h.heard; sole = h.sole },
+          record { low = h.low; given = h.given; its = h.its; all = h.all; first = h.first; known = h.known; own = h.own; passed = h.passed; told = h.told; left = h.left; joined = joined_stay book line new id n (λ _ j. j) k.joined h.joined; last = h.last; heard = h.heard; sole = h.sole },
           refl,
           refl,
         ) (leaves_others line id n h.its free),

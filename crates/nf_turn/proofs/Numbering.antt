@@ -1,27 +1,24 @@
 -- The numbers of a seat stay distinct through the calls.
-use Rattle.std.proofs.Common.{ℕ, ◌+◌, ◌^◌, ◌<◌, ◌≤◌, true, ltb, List, [], ◌∷◌, refl, arith}
+use Rattle.std.proofs.Common.{rules, ℕ, ◌+◌, ◌-◌, ◌^◌, ◌<◌, ◌≤◌, true, ltb, List, [], ◌∷◌, refl, arith}
 use mathlib.Core.Bool.{Bool-set}
 use Rattle.std.proofs.Math.Logic.{∥∥₁_elim}
 use Rattle.std.proofs.lemmas.Bool.{ltb-true, lt-ltb}
-use Rattle.nf_turn.specs.declared.view.Memory.{Memory}
-use Rattle.nf_turn.specs.Memory.{of_the_first, having_split, split_from}
+use Rattle.nf_turn.specs.Memory.{of_the_first}
 use Rattle.nf_turn.specs.Numbers.{Numbers, numbers_of, AreApart, AreSound}
 
 module _ {W : Type 0} where
-  pub first_is_sound : (seats : ℕ) (value : W) → (0 < seats) × (seats ≤ 64) → AreSound (numbers_of (of_the_first seats value))
-  first_is_sound seats value few = let low = few.0 in let up = few.1 in record {
-    few = omega arith;
-    top = 1;
-    within = (omega arith, omega arith, low);
-    apart = tt;
-    left = λ some_left. (refl, omega arith);
-  }
-
   apart_below_more : (n top : ℕ) (joined : List (ℕ × W)) → AreApart n top joined → AreApart n (top + 1) joined
   apart_below_more n top [] h = tt
   apart_below_more n top (seat ∷ seats) h = let up = h.2 in (h.0, h.1, omega arith, h.3, apart_below_more n top seats h.4)
 
-  pub kept_is_sound : (k : Memory W) → 0 < k.left → AreSound (numbers_of k) → AreSound (numbers_of (having_split k))
+  -- the numbers of a seat from which another was split off, and of that one
+  abbrev pub after_split : Numbers W → Numbers W
+  after_split k = record k { next = k.next + 1; left = k.left - 1 }
+
+  abbrev pub split_off : Numbers W → Numbers W
+  split_off k = record { seats = k.seats; number = k.next; next = 0; left = 0; joined = [] }
+
+  pub kept_is_sound : (k : Numbers W) → 0 < k.left → AreSound k → AreSound (after_split k)
   kept_is_sound k some_left h = let left = h.left some_left in let next = left.0 in let sum = left.1 in let within = h.within in let w₁ = within.1 in record {
     few = h.few;
     top = h.top + 1;
@@ -30,7 +27,7 @@ module _ {W : Type 0} where
     left = λ _. (omega arith, omega arith);
   }
 
-  pub split_is_sound : (k : Memory W) → 0 < k.left → AreSound (numbers_of k) → AreSound (numbers_of (split_from k))
+  pub split_is_sound : (k : Numbers W) → 0 < k.left → AreSound k → AreSound (split_off k)
   split_is_sound k some_left h = let left = h.left some_left in let next = left.0 in let sum = left.1 in record {
     few = h.few;
     top = k.seats;

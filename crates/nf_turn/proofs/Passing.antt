@@ -1,5 +1,5 @@
 -- Passing the turn on.
-use Rattle.std.proofs.Common.{◌≡◌, ◌≢◌, ⊎_elim, ℕ, zero, suc, ◌+◌, ◌%◌, ◌^◌, ◌<◌, ◌≤◌, [], ◌∷◌, set, get_or, Some, None, refl, sym, ap, ◌∙◌, subst, arith}
+use Rattle.std.proofs.Common.{rules, ◌≡◌, ◌≢◌, ⊎_elim, ℕ, zero, suc, ◌+◌, ◌%◌, ◌^◌, ◌<◌, ◌≤◌, [], ◌∷◌, set, get_or, Some, None, refl, sym, ap, ◌∙◌, subst, arith}
 use mathlib.Core.Option.{none, some}
 use Rattle.atomic_table.specs.Table.{step, gives, Allows}
 use Rattle.nf_turn.specs.Book.{Meanings, AddsAlone, Grows}
@@ -12,7 +12,7 @@ use Rattle.nf_turn.specs.Views.{memory_in}
 use Rattle.nf_turn.proofs.Numbers.{put, put_at, put_here, put_else, put_small, total_put, next_modulo}
 use Rattle.nf_turn.proofs.Growing.{Grows-refl, Grows-AddsAlone, GrowsWithout-refl, GrowsWithout-AddsAlone}
 use Rattle.nf_turn.proofs.Preceding.{Precedes-refl, grown_precedes, AllPrecede-trans}
-use Rattle.nf_turn.proofs.Staying.{LeavesAlone, LeavesJoined, grew_stays, joined_stay, steps, other_number}
+use Rattle.nf_turn.proofs.Staying.{LeavesAlone, grew_stays, joined_stay, steps, other_number}
 
 abbrev value_out : {W : Type 0} → W → Place W → W
 value_out value (view, []) = value
@@ -33,13 +33,6 @@ module _ {E O W : Type 0} (book : Meanings E O W) (seats : ℕ) (origin : W) whe
     sole = λ m low' below at alone. absurd (other_number line id j n m its other at (omega arith));
     grew = λ w h. Grows-AddsAlone book n w line.value value h added;
     without = λ m w _ at h. GrowsWithout-AddsAlone book m n w line.value value (other_number line id j n m its other at) h added;
-  }
-
-  leaves_joined : (line : Line W) (n : ℕ) (value : W) → AddsAlone book n line.value value → LeavesJoined book line (passing line n value) n
-  leaves_joined line n value added = record {
-    numbers = λ m o. (refl, put_else line.waits n 0 m o);
-    fresh = omega arith;
-    without = λ m w o h. GrowsWithout-AddsAlone book m n w line.value value o h added;
   }
 
   in_order : (line : Line W) (n : ℕ) (value : W) → InOrder book seats origin line → 0 < n → n < line.fresh → line.holder ≡ n → AddsAlone book n line.value value → InOrder book seats origin (passing line n value)
@@ -70,22 +63,15 @@ module _ {E O W : Type 0} (book : Meanings E O W) (seats : ℕ) (origin : W) whe
   has_passed : (line : Line W) (id : ℕ) (value : W) (k : Memory W) → IsKnown book seats origin line id k → AddsAlone book k.number line.value value → IsKnown book seats origin (passing line k.number value) id (having_passed value k)
   has_passed line id value k h added =
       let n : ℕ = k.number in
-      let more : (w : W) → Grows book w line.value → Grows book w value = λ w z. Grows-AddsAlone book n w line.value value z added in record {
-        low = h.low;
-        given = h.given;
-        its = h.its;
-        all = h.all;
-        first = h.first;
-        known = Grows-refl book value;
-        own = GrowsWithout-refl book n value;
-        passed = (Grows-refl book value, grew_stays book line.value value more k.passed h.passed);
-        told = grew_stays book line.value value more k.told h.told;
-        left = h.left;
-        joined = joined_stay book line (passing line n value) id n (leaves_joined line n value added) k.joined h.joined;
-        last = Precedes-refl book value;
-        heard = AllPrecede-trans book k.heard k.known value h.heard (grown_precedes book k.known value (more k.known h.known));
-        sole = λ _. (refl, refl);
-      }
+      let more : (w : W) → Grows book w line.value → Grows book w value = λ w z. Grows-AddsAlone book n w line.value value z added in
+      let known = Grows-refl book value in
+      let own = GrowsWithout-refl book n value in
+      let passed = grew_stays book line.value value more k.passed h.passed in
+      let told = grew_stays book line.value value more k.told h.told in
+      let joined = joined_stay book line (passing line n value) id n (λ seat j. (j.0, j.1, j.2, put_else line.waits n 0 seat.0 j.0 ∙ j.3, j.4, GrowsWithout-AddsAlone book seat.0 n seat.1 line.value value j.0 j.5 added)) k.joined h.joined in
+      let last = Precedes-refl book value in
+      let heard = AllPrecede-trans book k.heard k.known value h.heard (grown_precedes book k.known value (more k.known h.known)) in
+      search (rules, known, own, passed, told, joined, last, heard)
 
   passes : (slots id : ℕ) (taken value : W) (k : Memory W) → AddsAlone book k.number taken value
       → Allows (IsInTurn book seats origin) slots id (Holding taken k, (0, Some value) ∷ []) 1 (λ x. (x + 1) % 2 ^ 64) (PassesOn (step slots 1 1 0 none) (Holding taken k, (0, Some value) ∷ []))
@@ -97,8 +83,8 @@ module _ {E O W : Type 0} (book : Meanings E O W) (seats : ℕ) (origin : W) whe
       let h = mine.0 in
       let added' : AddsAlone book n line.value value = subst (λ (z : W). AddsAlone book n z value) mine.2 added in
       let new = passing line n value in
-      let words : set s.words 1 ((x + 1) % 2 ^ 64) ≡ new.drawn % 2 ^ 64 ∷ new.passed_on % 2 ^ 64 ∷ [] =
-      ap (λ ws. set ws 1 ((get_or ws 1 0 + 1) % 2 ^ 64)) rule.words ∙ ap (λ (z : ℕ). line.drawn % 2 ^ 64 ∷ z ∷ []) (next_modulo line.passed_on) in
+      let words : set s.words 1 ((x + 1) % 2 ^ 64) ≡ new.drawn % 2 ^ 64 ∷ new.passed_on % 2 ^ 64 ∷ rule.bells =
+      ap (λ ws. set ws 1 ((get_or ws 1 0 + 1) % 2 ^ 64)) rule.words ∙ ap (λ (z : ℕ). line.drawn % 2 ^ 64 ∷ z ∷ rule.bells) (next_modulo line.passed_on) in
       let home : set s.homes 0 (some (Some value)) ≡ some (Some value) ∷ [] = ap (λ hs. set hs 0 (some (Some value))) rule.home ∙ filled line.holder line.value value in (
         Idle (having_passed value k),
         gives,

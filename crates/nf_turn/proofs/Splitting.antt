@@ -1,5 +1,5 @@
 -- Splitting a seat off.
-use Rattle.std.proofs.Common.{◌≡◌, ◌≢◌, ◌⊎◌, ⊎_elim, inl, inr, ℕ, zero, suc, ◌+◌, ◌<◌, ◌≤◌, List, [], ◌∷◌, ◌++◌, length, set, length-set, refl, sym, ap, ◌∙◌, subst, arith}
+use Rattle.std.proofs.Common.{rules, ◌≡◌, ◌≢◌, ◌⊎◌, ⊎_elim, inl, inr, ℕ, zero, suc, ◌+◌, ◌<◌, ◌≤◌, List, [], ◌∷◌, ◌++◌, length, set, length-set, refl, sym, ap, ◌∙◌, subst, arith}
 use mathlib.Core.Logic.{dite}
 use mathlib.Core.Option.{some, some-ne-none, some-injective}
 use native.Mathlib.Decide.{ℕ_discrete}
@@ -10,12 +10,12 @@ use Rattle.nf_turn.specs.declared.view.Memory.{Memory}
 use Rattle.nf_turn.specs.declared.view.View.{View}
 use Rattle.nf_turn.specs.declared.view.View.TheVariants.{Idle}
 use Rattle.nf_turn.specs.Memory.{having_split, split_from}
-use Rattle.nf_turn.specs.Turns.{Line, AreJoined, IsKnown, Knows, InOrder, IsInTurn}
+use Rattle.nf_turn.specs.Turns.{Line, IsKnown, Knows, InOrder, IsInTurn}
 use Rattle.nf_turn.specs.Steps.{after_split, split_off}
 use Rattle.nf_turn.proofs.Numbers.{put, put_here, put_else}
 use Rattle.nf_turn.proofs.Preceding.{fresh_precedes}
 use Rattle.nf_turn.proofs.Shelves.{grew_append}
-use Rattle.nf_turn.proofs.Staying.{LeavesAlone, views_stay, others_stay}
+use Rattle.nf_turn.proofs.Staying.{LeavesAlone, joined_stay, views_stay, others_stay}
 
 at_end : {V : Type 0} (views : List V) (a b : V) (j : ℕ) → get_elem? (views ++ a ∷ []) j ≡ some b → (get_elem? views j ≡ some b) ⊎ ((j ≡ length views) × (a ≡ b))
 at_end [] a b zero e = inr (refl, some-injective a b e)
@@ -29,69 +29,32 @@ module _ {E O W : Type 0} (book : Meanings E O W) (seats : ℕ) (origin : W) whe
   splitting line added = record line { place = put line.place line.fresh added; fresh = line.fresh + 1 }
 
   leaves_others : (line : Line W) (id added : ℕ) → line.giver ≡ id → (j : ℕ) → j ≢ id → LeavesAlone book line (splitting line added) j
-  leaves_others line id added giver j other = record {
-    numbers = λ m below at. (put_else line.place line.fresh added m (λ e. omega arith) ∙ at, refl, refl);
-    fresh = omega arith;
-    gives = λ h. absurd (other (h ∙ giver));
-    free = λ m _ _ _ h. h;
-    holds = λ m _ _ _ h. (h, refl);
-    sole = λ m _ _ _ _. refl;
-    grew = λ w h. h;
-    without = λ m w _ _ h. h;
-  }
+  leaves_others line id added giver j other =
+      let place = λ (m : ℕ) (below : m < line.fresh) (at : line.place m ≡ j). put_else line.place line.fresh added m (λ e. omega arith) ∙ at in
+      let gives = λ (h : j ≡ line.giver). other (h ∙ giver) in
+      search (rules, place, gives)
 
   in_order : (line : Line W) (added : ℕ) → InOrder book seats origin line → line.fresh < seats + 1 → InOrder book seats origin (splitting line added)
-  in_order line added h room = record {
-    few = (h.few.0, omega arith, omega arith);
-    count = h.count;
-    once = h.once;
-    within = λ m waits. let b = h.within m waits in let b₁ = b.1 in (b.0, omega arith, b.2, b.3);
-    apart = h.apart;
-    served = h.served;
-    unused = λ m out. h.unused m (⊎_elim (λ (z : m ≡ 0). inl z) (λ (z : line.fresh + 1 ≤ m). inr (omega arith)) out);
-  }
-
-  joined_stay : (line : Line W) (id added n : ℕ) → (joined : List (ℕ × W)) → AreJoined book line id n joined → AreJoined book (splitting line added) id n joined
-  joined_stay line id added n [] h = tt
-  joined_stay line id added n (seat ∷ seats) h =
-      let below = h.2 in
-      (h.0, h.1, omega arith, h.3, put_else line.place line.fresh added seat.0 (λ e. omega arith) ∙ h.4, h.5, h.6, joined_stay line id added n seats h.7)
+  in_order line added h room =
+      let unused = λ (m : ℕ) (out : (m ≡ 0) ⊎ (line.fresh + 1 ≤ m)). h.unused m (⊎_elim (λ (z : m ≡ 0). inl z) (λ (z : line.fresh + 1 ≤ m). inr (omega arith)) out) in
+      let few = h.few in
+      search (rules, h.within, unused)
 
   kept : (line : Line W) (id added : ℕ) (k : Memory W) → 0 < k.left → IsKnown book seats origin line id k → IsKnown book seats origin (splitting line added) id (having_split k)
-  kept line id added k some_left h = let low = h.low in let given = h.given in let has = h.left some_left in let fresh = has.1 in let sum = has.2 in record {
-    low = low;
-    given = omega arith;
-    its = put_else line.place line.fresh added k.number (λ e. omega arith) ∙ h.its;
-    all = h.all;
-    first = h.first;
-    known = h.known;
-    own = h.own;
-    passed = h.passed;
-    told = h.told;
-    left = λ _. (has.0, omega arith, omega arith);
-    joined = joined_stay line id added k.number k.joined h.joined;
-    last = h.last;
-    heard = h.heard;
-    sole = λ alone. absurd (omega arith);
-  }
+  kept line id added k some_left h =
+      let given = h.given in let has = h.left some_left in let fresh = has.1 in let sum = has.2 in
+      let its = put_else line.place line.fresh added k.number (λ e. omega arith) ∙ h.its in
+      let joined = joined_stay book line (splitting line added) id k.number (λ seat j. let below = j.2 in (j.0, j.1, omega arith, j.3, put_else line.place line.fresh added seat.0 (λ e. omega arith) ∙ j.4, j.5)) k.joined h.joined in
+      search (rules, its, joined)
 
   given : (line : Line W) (id added : ℕ) (k : Memory W) → 0 < k.left → IsFresh book origin → InOrder book seats origin line → IsKnown book seats origin line id k → IsKnown book seats origin (splitting line added) added (split_from k)
-  given line id added k some_left new order h = let fresh : line.fresh ≡ k.next = (h.left some_left).1 in let low = h.low in let below = h.given in record {
-    low = (let few = order.few.1 in omega arith);
-    given = omega arith;
-    its = ap (put line.place line.fresh added) (sym fresh) ∙ put_here line.place line.fresh added;
-    all = h.all;
-    first = h.first;
-    known = h.known;
-    own = subst (λ (z : W). GrowsWithout book k.next z line.value) (sym h.first) (order.unused k.next (inr (omega arith)));
-    passed = tt;
-    told = grew_append book line.value k.passed k.told h.passed h.told;
-    left = λ none_left. absurd (omega arith);
-    joined = tt;
-    last = fresh_precedes book k.first k.known (subst (λ (w : W). IsFresh book w) (sym h.first) new);
-    heard = tt;
-    sole = λ alone. absurd (omega arith);
-  }
+  given line id added k some_left new order h =
+      let fresh : line.fresh ≡ k.next = (h.left some_left).1 in let low = h.low in let below = h.given in let few = order.few in
+      let its = ap (put line.place line.fresh added) (sym fresh) ∙ put_here line.place line.fresh added in
+      let own = subst (λ (z : W). GrowsWithout book k.next z line.value) (sym h.first) (order.unused k.next (inr (omega arith))) in
+      let told = grew_append book line.value k.passed k.told h.passed h.told in
+      let last = fresh_precedes book k.first k.known (subst (λ (w : W). IsFresh book w) (sym h.first) new) in
+      search (rules, its, own, told, last)
 
   splits : (id : ℕ) (k : Memory W) → 0 < k.left → Splits (IsInTurn book seats origin) id (Idle k) (after_split (Idle k)) (split_off (Idle k))
   splits id k some_left s rule at =
@@ -109,6 +72,7 @@ module _ {E O W : Type 0} (book : Meanings E O W) (seats : ℕ) (origin : W) whe
       let others = λ (j : ℕ) (view : View W) (other : j ≢ id) (there : get_elem? s.views j ≡ some view). others_stay book seats origin line new j (leaves_others line id added (sym has.0) j other) view (rule.views j view there) in record {
         fresh = rule.fresh;
         line = new;
+        bells = rule.bells;
         words = rule.words;
         home = rule.home;
         order = in_order line added rule.order (omega arith);

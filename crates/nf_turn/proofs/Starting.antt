@@ -1,5 +1,5 @@
 -- Making the lock.
-use Rattle.std.proofs.Common.{◌≡◌, ◌≢◌, ℕ, zero, suc, ◌%◌, ◌^◌, ◌<◌, ◌≤◌, [], ◌∷◌, Some, refl, sym, arith}
+use Rattle.std.proofs.Common.{rules, ◌≡◌, ◌≢◌, ℕ, zero, suc, ◌%◌, ◌^◌, ◌<◌, ◌≤◌, List, [], ◌∷◌, Some, refl, sym, arith}
 use mathlib.Core.Option.{some, some-ne-none}
 use lib.ListN.{get_elem?}
 use Rattle.atomic_table.specs.Table.{opening}
@@ -22,40 +22,17 @@ module _ {E O W : Type 0} (book : Meanings E O W) (seats : ℕ) (origin : W) whe
   opening_line turn = record { drawn = turn; passed_on = turn; waits = λ _. 0; turn = λ _. 0; place = λ _. 0; fresh = 2; giver = 0; holder = 0; value = origin }
 
   first_knows : (turn : ℕ) → 0 < seats → Knows book seats origin (opening_line turn) 0 (Idle (of_the_first seats origin))
-  first_knows turn low = (
-    record {
-      low = omega arith;
-      given = omega arith;
-      its = refl;
-      all = refl;
-      first = refl;
-      known = Grows-refl book origin;
-      own = GrowsWithout-refl book 1 origin;
-      passed = tt;
-      told = (Grows-refl book origin, tt);
-      left = λ _. (refl, refl, omega arith);
-      joined = tt;
-      last = Precedes-refl book origin;
-      heard = tt;
-      sole = λ _. (refl, refl);
-    },
-    refl,
-  )
+  first_knows turn low =
+      let grows = Grows-refl book origin in let own = GrowsWithout-refl book 1 origin in let last = Precedes-refl book origin in
+      search (rules, grows, own, last)
 
-  pub starts : (turn : ℕ) → turn < 2 ^ 64 → IsFresh book origin → (0 < seats) × (seats ≤ 64) → IsInTurn book seats origin (opening (turn ∷ turn ∷ []) (Some origin ∷ []) (Idle (of_the_first seats origin)))
-  starts turn fits fresh few = let same : turn ≡ turn % 2 ^ 64 = omega arith in let low = few.0 in let up = few.1 in let first : View W = Idle (of_the_first seats origin) in record {
+  pub starts : (turn : ℕ) (bells : List ℕ) → turn < 2 ^ 64 → IsFresh book origin → (0 < seats) × (seats ≤ 64) → IsInTurn book seats origin (opening (turn ∷ turn ∷ bells) (Some origin ∷ []) (Idle (of_the_first seats origin)))
+  starts turn bells fits fresh few = let same : turn ≡ turn % 2 ^ 64 = omega arith in let low = few.0 in let up = few.1 in let first : View W = Idle (of_the_first seats origin) in record {
     fresh = fresh;
     line = opening_line turn;
-    words = (λ i. same i ∷ same i ∷ []);
+    bells = bells;
+    words = (λ i. same i ∷ same i ∷ bells);
     home = refl;
-    order = record {
-      few = (omega arith, omega arith, omega arith);
-      count = (let none = total_zero seats in omega arith);
-      once = λ _. omega arith;
-      within = λ _ waits. absurd (omega arith);
-      apart = λ _ _ waits. absurd (omega arith);
-      served = λ some_holder. absurd (omega arith);
-      unused = λ n _. GrowsWithout-refl book n origin;
-    };
+    order = (let none = total_zero seats in let unused = λ (n : ℕ). GrowsWithout-refl book n origin in search (rules, none, unused));
     views = views_stay (Knows book seats origin (opening_line turn)) (first ∷ []) 0 first (first_knows turn low) (λ j v other at. absurd (none_beyond first j v other at));
   }

@@ -1,34 +1,15 @@
 -- Whether a seat has all numbers.
-use Rattle.std.proofs.Common.{◌≡◌, ◌⊎◌, ⊎_elim, inl, inr, ℕ, ◌+◌, ◌-◌, ◌<◌, ◌≤◌, Bool, true, false, true≢false, ◌||◌, ◌↔◌, ◌==◌, eq-eqb, List, [], ◌∷◌, length, refl, sym, ◌∙◌, arith}
+use Rattle.std.proofs.Common.{◌≡◌, ◌⊎◌, ⊎_elim, inl, inr, ℕ, ◌+◌, ◌<◌, ◌≤◌, true, true≢false, ◌||◌, ◌↔◌, ◌==◌, List, [], ◌∷◌, length, sym, arith}
 use mathlib.Core.Logic.{dite}
 use Rattle.std.proofs.Math.Logic.{∥∥₁_elim}
 use mathlib.Core.Bool.{Bool-set}
 use native.Mathlib.Nat.{ℕ_set}
 use native.Mathlib.Decide.{ℕ_discrete}
-use Rattle.std.proofs.lemmas.Bool.{eqb-true}
-use Rattle.nf_turn.specs.Numbers.{Numbers, IsWhole, is_left, has_number, is_joined}
+use Rattle.std.proofs.lemmas.Bool.{eqb-true, eq-eqb, or_cases, or_left, or_right, cases_lt}
+use Rattle.nf_turn.specs.Numbers.{Numbers, IsWhole, is_left, has_number, is_joined, AreApart, AreSound}
 use Rattle.nf_turn.proofs.Left.{IsLeft, left_test, left_tests}
-use Rattle.nf_turn.specs.Numbers.{AreApart, AreSound}
-use Rattle.nf_turn.specs.Turns.{total}
-use Rattle.nf_turn.proofs.Numbers.{put, put_at, put_else, put_small, total_put, total_le, total_all}
-use Rattle.nf_turn.proofs.Sounding.{marks, marks_small, marked, not_marked, had, had_count}
-
-pub one_of : (a b : Bool) → (a || b) ≡ true → (a ≡ true) ⊎ (b ≡ true)
-one_of true b h = inl refl
-one_of false b h = inr h
-
-either_is : (a b : Bool) → (a ≡ true) ⊎ (b ≡ true) → (a || b) ≡ true
-either_is true b h = refl
-either_is false b h = ⊎_elim (λ (e : false ≡ true). absurd (true≢false (sym e))) (λ (e : b ≡ true). e) h
-
-is_either : (b : Bool) → (b ≡ true) ⊎ (b ≡ false)
-is_either true = inl refl
-is_either false = inr refl
-
--- where as many as are below a number are marked, each is
-all_marked : (f : ℕ → ℕ) (top n : ℕ) → ((m : ℕ) → f m ≤ 1) → total f top ≡ top → 0 < n → n ≤ top → f n ≡ 1
-all_marked f top n small all low up =
-    let sum = total_put f n 1 top low up in let most = total_le (put f n 1) top (put_small f n 1 (omega arith) small) in let one = small n in omega arith
+use Rattle.nf_turn.proofs.Numbers.{count, count_le, count_all, all_pass}
+use Rattle.nf_turn.proofs.Sounding.{was_given, given_count}
 
 module _ {W : Type 0} where
   -- the three ways to have a number
@@ -37,55 +18,41 @@ module _ {W : Type 0} where
       (λ (e : (is_left k n || is_joined n k.joined) ≡ true). inr (⊎_elim
       (λ (f : is_left k n ≡ true). inl (left_test k n f))
       (λ (f : is_joined n k.joined ≡ true). inr f)
-      (one_of (is_left k n) (is_joined n k.joined) e)))
-      (one_of (n == k.number) (is_left k n || is_joined n k.joined) h)
+      (or_cases (is_left k n) (is_joined n k.joined) e)))
+      (or_cases (n == k.number) (is_left k n || is_joined n k.joined) h)
 
-  has : (k : Numbers W) (n : ℕ) → (n ≡ k.number) ⊎ (IsLeft k n ⊎ (is_joined n k.joined ≡ true)) → has_number k n ≡ true
-  has k n h = either_is (n == k.number) (is_left k n || is_joined n k.joined) (⊎_elim
-      (λ (e : n ≡ k.number). inl (eq-eqb n k.number e))
-      (λ (e : IsLeft k n ⊎ (is_joined n k.joined ≡ true)). inr (either_is (is_left k n) (is_joined n k.joined) (⊎_elim
-      (λ (f : IsLeft k n). inl (left_tests k n f))
-      (λ (f : is_joined n k.joined ≡ true). inr f)
-      e)))
-      h)
+  pub has_so : (k : Numbers W) (n : ℕ) → (n ≡ k.number) ⊎ (IsLeft k n ⊎ (is_joined n k.joined ≡ true)) → has_number k n ≡ true
+  has_so k n (inl own) = or_left (n == k.number) (is_left k n || is_joined n k.joined) (eq-eqb n k.number own)
+  has_so k n (inr (inl left)) = or_right (n == k.number) (is_left k n || is_joined n k.joined) (or_left (is_left k n) (is_joined n k.joined) (left_tests k n left))
+  has_so k n (inr (inr joined)) = or_right (n == k.number) (is_left k n || is_joined n k.joined) (or_right (is_left k n) (is_joined n k.joined) joined)
 
   joined_below : (n top m : ℕ) (joined : List (ℕ × W)) → AreApart n top joined → is_joined m joined ≡ true → m ≤ top
   joined_below n top m [] h e = absurd (true≢false (sym e))
   joined_below n top m (seat ∷ seats) h e = ⊎_elim (λ (f : (seat.0 == m) ≡ true). let same = eqb-true seat.0 m f in let up = h.2 in omega arith) (λ (f : is_joined m seats ≡ true). joined_below n top m seats h.4 f)
-      (one_of (seat.0 == m) (is_joined m seats) e)
+      (or_cases (seat.0 == m) (is_joined m seats) e)
 
-  had_small : (k : Numbers W) (m : ℕ) → had k m ≤ 1
-  had_small k = put_small (marks k.joined) k.number 1 (omega arith) (marks_small k.joined)
+  given_is_had : (k : Numbers W) (n : ℕ) → was_given k n ≡ true → has_number k n ≡ true
+  given_is_had k n h = has_so k n (⊎_elim (λ (e : (k.number == n) ≡ true). inl (sym (eqb-true k.number n e)))
+      (λ (e : is_joined n k.joined ≡ true). inr (inr e))
+      (or_cases (k.number == n) (is_joined n k.joined) h))
 
-  -- a number that is marked is the seat's own or was joined into it
-  had_is : (k : Numbers W) (n : ℕ) → had k n ≡ 1 → (n ≡ k.number) ⊎ (is_joined n k.joined ≡ true)
-  had_is k n h = dite (ℕ_discrete n k.number) (λ e. inl e)
-      (λ o. inr (⊎_elim (λ (e : is_joined n k.joined ≡ true). e)
-      (λ (e : is_joined n k.joined ≡ false). let none = not_marked n k.joined e in let is = put_else (marks k.joined) k.number 1 n o in absurd (omega arith))
-      (is_either (is_joined n k.joined))))
-
-  is_had : (k : Numbers W) (n : ℕ) → (n ≡ k.number) ⊎ (is_joined n k.joined ≡ true) → had k n ≡ 1
-  is_had k n h = dite (ℕ_discrete n k.number) (λ e. put_at (marks k.joined) k.number 1 n e)
-      (λ o. put_else (marks k.joined) k.number 1 n o ∙ marked n k.joined (⊎_elim (λ (e : n ≡ k.number). absurd (o e)) (λ (e : is_joined n k.joined ≡ true). e) h))
-
-  pub whole_by_count : (k : Numbers W) → AreSound k → 1 + k.left + length k.joined ≡ k.seats → IsWhole k
-  whole_by_count k sound count n low up =
-      let total_is = had_count k sound in let most = total_le (had k) sound.top (had_small k) in let top = sound.within.2 in
-      let all : total (had k) sound.top ≡ sound.top = dite (ℕ_discrete k.left 0) (λ none_left. omega arith) (λ some_left. let left = sound.left (omega arith) in let next = left.0 in let sum = left.1 in omega arith) in
-      has k n (dite (ℕ_discrete (sound.top - n) 0)
-      (λ high. dite (ℕ_discrete n sound.top)
-      (λ same. ⊎_elim (λ (e : n ≡ k.number). inl e) (λ (e : is_joined n k.joined ≡ true). inr (inr e)) (had_is k n (all_marked (had k) sound.top n (had_small k) all low (omega arith))))
-      (λ above. let left = sound.left (dite (ℕ_discrete k.left 0) (λ none_left. absurd (omega arith)) (λ some_left. omega arith)) in let next = left.0 in let sum = left.1 in inr (inl (omega arith, omega arith))))
-      (λ below. ⊎_elim (λ (e : n ≡ k.number). inl e) (λ (e : is_joined n k.joined ≡ true). inr (inr e)) (had_is k n (all_marked (had k) sound.top n (had_small k) all low (omega arith)))))
+  whole_by_count : (k : Numbers W) → AreSound k → 1 + k.left + length k.joined ≡ k.seats → IsWhole k
+  whole_by_count k sound sum_is n low up =
+      let given = given_count k sound in let most = count_le (was_given k) sound.top in let top = sound.within.2 in
+      let all : count (was_given k) sound.top ≡ sound.top = dite (ℕ_discrete k.left 0) (λ none_left. omega arith) (λ some_left. let left = sound.left (omega arith) in let next = left.0 in let sum = left.1 in omega arith) in
+      ⊎_elim
+      (λ (above : sound.top < n). let left = sound.left (omega arith) in let next = left.0 in let sum = left.1 in has_so k n (inr (inl (omega arith, omega arith))))
+      (λ (below : n ≤ sound.top). given_is_had k n (all_pass (was_given k) sound.top n all low below))
+      (cases_lt sound.top n)
 
   -- a number that was given isn't left
-  given_is_had : (k : Numbers W) (sound : AreSound k) → IsWhole k → (n : ℕ) → 0 < n → n ≤ sound.top → had k n ≡ 1
-  given_is_had k sound whole n low up = is_had k n (⊎_elim (λ (e : n ≡ k.number). inl e)
-      (λ (e : IsLeft k n ⊎ (is_joined n k.joined ≡ true)). ⊎_elim
+  all_are_given : (k : Numbers W) (sound : AreSound k) → IsWhole k → (n : ℕ) → 0 < n → n ≤ sound.top → was_given k n ≡ true
+  all_are_given k sound whole n low up = ⊎_elim (λ (e : n ≡ k.number). or_left (k.number == n) (is_joined n k.joined) (eq-eqb k.number n (sym e)))
+      (λ (e : IsLeft k n ⊎ (is_joined n k.joined ≡ true)). or_right (k.number == n) (is_joined n k.joined) (⊎_elim
       (λ (f : IsLeft k n). let low' = f.0 in let up' = f.1 in let next = (sound.left (omega arith)).0 in absurd (omega arith))
-      (λ (f : is_joined n k.joined ≡ true). inr f)
-      e)
-      (ways k n (whole n low (let top = sound.within.2 in omega arith))))
+      (λ (f : is_joined n k.joined ≡ true). f)
+      e))
+      (ways k n (whole n low (let top = sound.within.2 in omega arith)))
 
   -- where none is left, the greatest number was given
   none_above : (k : Numbers W) (sound : AreSound k) → IsWhole k → k.left ≡ 0 → sound.top ≡ k.seats
@@ -96,14 +63,14 @@ module _ {W : Type 0} where
       e)
       (ways k k.seats (whole k.seats (omega arith) (omega arith)))
 
-  pub count_of_whole : (k : Numbers W) → AreSound k → IsWhole k → 1 + k.left + length k.joined ≡ k.seats
+  count_of_whole : (k : Numbers W) → AreSound k → IsWhole k → 1 + k.left + length k.joined ≡ k.seats
   count_of_whole k sound whole =
-      let total_is = had_count k sound in
-      let all = total_all (had k) sound.top (given_is_had k sound whole) in
+      let given = given_count k sound in
+      let all = count_all (was_given k) sound.top (all_are_given k sound whole) in
       dite (ℕ_discrete k.left 0) (λ none_left. let top = none_above k sound whole none_left in omega arith) (λ some_left. let left = sound.left (omega arith) in let next = left.0 in let sum = left.1 in omega arith)
 
   pub whole_is_counted : (k : Numbers W) → ∥ AreSound k ∥₁ → (1 + k.left + length k.joined ≡ k.seats) ↔ IsWhole k
   whole_is_counted k sound = (
-    λ count n low up. ∥∥₁_elim sound (Bool-set (has_number k n) true) (λ h. whole_by_count k h count n low up),
+    λ sum n low up. ∥∥₁_elim sound (Bool-set (has_number k n) true) (λ h. whole_by_count k h sum n low up),
     λ whole. ∥∥₁_elim sound (ℕ_set (1 + k.left + length k.joined) k.seats) (λ h. count_of_whole k h whole),
   )

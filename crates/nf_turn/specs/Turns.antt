@@ -1,5 +1,5 @@
 -- The rule of the table.
--- Word 0 is how many turn numbers were drawn, word 1 how many turns were passed on, each modulo 2 ^ 64. Slot 0 has the value.
+-- Word 0 is how many turn numbers were drawn, word 1 how many turns were passed on, each modulo 2 ^ 64. The others are bells, of which nothing is said. Slot 0 has the value.
 use Rattle.std.specs.Prelude.{◌≡◌, ◌≢◌, ◌⊎◌, ℕ, zero, suc, ◌+◌, ◌%◌, ◌^◌, ◌<◌, ◌≤◌, List, [], ◌∷◌, Option, Some}
 use mathlib.Core.Option.{some, none}
 use mathlib.Core.Option as maybe
@@ -43,10 +43,13 @@ module _ {E O W : Type 0} (book : Meanings E O W) where
   GrewFrom value [] = Unit {0}
   GrewFrom value (old ∷ olds) = Grows book old value × GrewFrom value olds
 
-  -- each number that was joined into the seat with the number n is another one, doesn't wait, is of the same seat of the table, and nothing was done under it since
+  -- the number was joined into the seat with the number n: it is another one, doesn't wait, is of the same seat of the table, and nothing was done under it since
+  abbrev pub IsJoined : Line W → ℕ → ℕ → ℕ × W → Type 0
+  IsJoined line id n seat = (seat.0 ≢ n) × (0 < seat.0) × (seat.0 < line.fresh) × (line.waits seat.0 ≡ 0) × (line.place seat.0 ≡ id) × GrowsWithout book seat.0 seat.1 line.value
+
   abbrev pub AreJoined : Line W → ℕ → ℕ → List (ℕ × W) → Type 0
   AreJoined line id n [] = Unit {0}
-  AreJoined line id n (seat ∷ seats) = (seat.0 ≢ n) × (0 < seat.0) × (seat.0 < line.fresh) × (line.waits seat.0 ≡ 0) × (line.place seat.0 ≡ id) × GrowsWithout book seat.0 seat.1 line.value × IsOther seat.0 seats × AreJoined line id n seats
+  AreJoined line id n (seat ∷ seats) = IsJoined line id n seat × IsOther seat.0 seats × AreJoined line id n seats
 
 -- what a seat of the table knows is so
 pub record IsKnown {E O W : Type 0} (book : Meanings E O W) (seats : ℕ) (origin : W) (line : Line W) (id : ℕ) (k : Memory W) : Type 0 where
@@ -88,7 +91,8 @@ pub record InOrder {E O W : Type 0} (book : Meanings E O W) (seats : ℕ) (origi
 pub record IsInTurn {E O W : Type 0} (book : Meanings E O W) (seats : ℕ) (origin : W) (s : State (Option W) (View W)) : Type 0 where
   pub fresh : IsFresh book origin
   pub line : Line W
-  pub words : s.words ≡ line.drawn % 2 ^ 64 ∷ line.passed_on % 2 ^ 64 ∷ []
+  pub bells : List ℕ
+  pub words : s.words ≡ line.drawn % 2 ^ 64 ∷ line.passed_on % 2 ^ 64 ∷ bells
   pub home : s.homes ≡ home_of line.holder line.value
   pub order : InOrder book seats origin line
   pub views : (id : ℕ) (view : View W) → get_elem? s.views id ≡ some view → Knows book seats origin line id view

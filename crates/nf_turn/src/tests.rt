@@ -1,4 +1,5 @@
 //! Turns of several threads, trees of seats, and turn numbers past 2^64.
+ghost use Rattle.std.specs.Prelude.{◌<◌, ◌≤◌};
 ghost use Rattle.std.specs.Thread.{IsSync};
 ghost use Rattle.nf_turn.specs.Seats.{IsIdle, IsSeatOf};
 
@@ -41,72 +42,51 @@ fn count<R: Wait>(rt: &R, lock: &TurnLock<Total>, seat: &mut Seat<Total>, times:
     }
 }
 
-fn count_by_two<R: Threads + Wait + Sync>(
+/// The seat and so many that are split off from it take so many turns each, each in a thread.
+fn count_by<R: Threads + Wait + Sync>(
     rt: &R,
     lock: &TurnLock<Total>,
-    first: &mut Seat<Total>,
-    second: &mut Seat<Total>,
+    seat: &mut Seat<Total>,
+    others: usize,
     times: u32,
 )
-    requires own { IsSeatOf lock.now first.old × IsSeatOf lock.now second.old }
-    requires idle { IsIdle lock.now first.old × IsIdle lock.now second.old }
-    ensures own { IsSeatOf lock.now first.new × IsSeatOf lock.now second.new }
-    ensures idle { IsIdle lock.now first.new × IsIdle lock.now second.new }
+    requires own { IsSeatOf lock.now seat.old }
+    requires idle { IsIdle lock.now seat.old }
+    ensures own { IsSeatOf lock.now seat.new }
+    ensures idle { IsIdle lock.now seat.new }
 {
+    if others == 0 {
+        count(rt, lock, seat, times);
+        return;
+    }
+    let Some(mut other) = lock.split(seat) else {
+        return;
+    };
+    let fewer = others - 1;
+    let mut rest = || -> ()
+        requires { IsSync R.row × IsSeatOf lock.now seat.now × IsIdle lock.now seat.now }
+        ensures { IsSeatOf lock.entry.now seat.exit.now × IsIdle lock.entry.now seat.exit.now }
+    { count_by(rt, lock, seat, fewer, times) };
     let mut one = || -> ()
-        requires { IsSeatOf lock.now first.now × IsIdle lock.now first.now }
-        ensures { IsSeatOf lock.entry.now first.exit.now × IsIdle lock.entry.now first.exit.now }
-    { count(rt, lock, first, times) };
-    let mut other = || -> ()
-        requires { IsSeatOf lock.now second.now × IsIdle lock.now second.now }
-        ensures { IsSeatOf lock.entry.now second.exit.now × IsIdle lock.entry.now second.exit.now }
-    { count(rt, lock, second, times) };
-    join_mut(rt, &mut one, &mut other);
+        requires { IsSeatOf lock.now other × IsIdle lock.now other }
+        ensures { IsSeatOf lock.entry.now other.exit × IsIdle lock.entry.now other.exit }
+    { count(rt, lock, &mut other, times) };
+    join_mut(rt, &mut rest, &mut one);
+    lock.join(seat, other);
 }
 
-fn count_by_four<R: Threads + Wait + Sync>(
+/// The total of so many seats that take so many turns each, where the first turn has this number.
+fn turns_of<R: Threads + Wait + Sync>(
     rt: &R,
-    lock: &TurnLock<Total>,
-    a: &mut Seat<Total>,
-    b: &mut Seat<Total>,
-    c: &mut Seat<Total>,
-    d: &mut Seat<Total>,
+    alloc: Global,
+    seats: usize,
+    turn: u64,
     times: u32,
-)
-    requires own { IsSeatOf lock.now a.old × IsSeatOf lock.now b.old × IsSeatOf lock.now c.old × IsSeatOf lock.now d.old }
-    requires idle { IsIdle lock.now a.old × IsIdle lock.now b.old × IsIdle lock.now c.old × IsIdle lock.now d.old }
-    ensures own { IsSeatOf lock.now a.new × IsSeatOf lock.now b.new × IsSeatOf lock.now c.new × IsSeatOf lock.now d.new }
-    ensures idle { IsIdle lock.now a.new × IsIdle lock.now b.new × IsIdle lock.now c.new × IsIdle lock.now d.new }
+) -> Option<u64>
+    requires { (0 < seats) × (seats ≤ 64) }
 {
-    let mut one = || -> ()
-        requires { IsSync R.row × IsSeatOf lock.now a.now × IsIdle lock.now a.now × IsSeatOf lock.now b.now × IsIdle lock.now b.now }
-        ensures { IsSeatOf lock.entry.now a.exit.now × IsIdle lock.entry.now a.exit.now × IsSeatOf lock.entry.now b.exit.now × IsIdle lock.entry.now b.exit.now }
-    { count_by_two(rt, lock, a, b, times) };
-    let mut other = || -> ()
-        requires { IsSync R.row × IsSeatOf lock.now c.now × IsIdle lock.now c.now × IsSeatOf lock.now d.now × IsIdle lock.now d.now }
-        ensures { IsSeatOf lock.entry.now c.exit.now × IsIdle lock.entry.now c.exit.now × IsSeatOf lock.entry.now d.exit.now × IsIdle lock.entry.now d.exit.now }
-    { count_by_two(rt, lock, c, d, times) };
-    join_mut(rt, &mut one, &mut other);
-}
-
-/// The total of four threads that take so many turns each.
-fn total_of_four<R: Threads + Wait + Sync>(rt: &R, alloc: Global, times: u32) -> Option<u64> {
-    let (lock, mut first) = TurnLock::new(alloc, Total { turns: 0 }, 4).ok()?;
-    let mut second = lock.split(&mut first)?;
-    let mut third = lock.split(&mut first)?;
-    let mut fourth = lock.split(&mut first)?;
-    count_by_four(
-        rt,
-        &lock,
-        &mut first,
-        &mut second,
-        &mut third,
-        &mut fourth,
-        times,
-    );
-    lock.join(&mut third, fourth);
-    lock.join(&mut first, second);
-    lock.join(&mut first, third);
+    let (lock, mut first) = TurnLock::at_turn(alloc, Total { turns: 0 }, seats, turn).ok()?;
+    count_by(rt, &lock, &mut first, seats - 1, times);
     if !first.whole() {
         return None;
     }
@@ -115,32 +95,12 @@ fn total_of_four<R: Threads + Wait + Sync>(rt: &R, alloc: Global, times: u32) ->
 
 #[test]
 fn four_threads_lose_no_turn(rt: HostRuntime) {
-    assert_eq!(rt; total_of_four(&rt, rt.alloc(), 20_000), Some(80_000));
-}
-
-/// The total of two threads that take so many turns each, of which the first has this number.
-fn total_of_two<R: Threads + Wait + Sync>(
-    rt: &R,
-    alloc: Global,
-    turn: u64,
-    times: u32,
-) -> Option<u64> {
-    let (lock, mut first) = TurnLock::at_turn(alloc, Total { turns: 0 }, 2, turn).ok()?;
-    let mut second = lock.split(&mut first)?;
-    count_by_two(rt, &lock, &mut first, &mut second, times);
-    lock.join(&mut second, first);
-    if !second.whole() {
-        return None;
-    }
-    Some(lock.close(second).turns)
+    assert_eq!(rt; turns_of(&rt, rt.alloc(), 4, 0, 20_000), Some(80_000));
 }
 
 #[test]
 fn turn_numbers_go_on_from_zero(rt: HostRuntime) {
-    assert_eq!(rt;
-        total_of_two(&rt, rt.alloc(), u64::MAX - 99, 200),
-        Some(400)
-    );
+    assert_eq!(rt; turns_of(&rt, rt.alloc(), 2, u64::MAX - 99, 200), Some(400));
 }
 
 /// The seats that took turns, in that order.
@@ -218,15 +178,4 @@ fn a_tree_of_seats_becomes_whole(rt: HostRuntime) -> Result<(), Fail> {
     let seats = signed(&rt, rt.alloc())?;
     assert_eq!(rt; seats.as_slice(), [1, 2, 3, 2, 3].as_slice());
     Ok(())
-}
-
-fn may_share<T: Sync>(_: &T) {}
-
-fn may_send<T: Send>(_: &T) {}
-
-/// A lock may be shared by threads, and a seat handed to one, where its value may be sent.
-fn crosses_threads<W: Book + Send>(lock: &TurnLock<W>, seat: &Seat<W>) {
-    may_share(lock);
-    may_send(lock);
-    may_send(seat);
 }

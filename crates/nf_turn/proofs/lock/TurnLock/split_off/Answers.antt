@@ -1,12 +1,13 @@
-use Rattle.std.proofs.Common.{rules, ◌≡◌, ◌+◌, ◌-◌, ◌<◌, [], length, sym, ap, ◌∙◌, subst, arith}
+use Rattle.std.proofs.Common.{rules, ◌≡◌, ◌<◌, [], sym, ap, ◌∙◌, subst, arith}
 use Rattle.std.proofs.Math.Logic.{∥∥₁_map}
 use Rattle.nf_turn.specs.declared.view.Memory.{Memory}
 use Rattle.nf_turn.specs.Agreeing.{HasHeard}
-use Rattle.nf_turn.specs.Memory.{having_split, split_from}
-use Rattle.nf_turn.specs.Numbers.{Numbers, numbers_of, AreSound}
+use Rattle.nf_turn.specs.Memory.{split_from}
+use Rattle.nf_turn.specs.Numbers.{Numbers}
 use Rattle.nf_turn.specs.Seats.{memory}
 use Rattle.nf_turn.specs.Steps.{Place, after_split, split_off}
 use Rattle.nf_turn.specs.Views.{numbers_in, memory_in}
+use Rattle.nf_turn.proofs.Numbering as numbers
 use Rattle.nf_turn.proofs.Numbering.{kept_is_sound, split_is_sound, next_is_small}
 use Rattle.nf_turn.proofs.Sounding.{may_count}
 use Rattle.nf_turn.proofs.Splitting.{may_split}
@@ -31,34 +32,19 @@ overflow_add-seat g c =
 
 pub invariant_of-seat : goal.invariant_of-seat
 invariant_of-seat g c =
-    let seat = c.args.seat.now in let k = memory c.args.self.now seat in
-    let was : numbers_in seat.place.me ≡ numbers_of k = ap numbers_in c.requires.idle in
-    let left : 0 < k.left = subst (λ (m : Numbers g.row.W.Denot). 0 < m.left) was c.requires.left in
-    let now : numbers_in c.split_seat-place.new.seat.me ≡ numbers_of (having_split k) = ap numbers_in (c.split_seat-place.ensures.2 ∙ ap (λ m. (after_split m.0, m.1)) c.requires.idle) in
-    record {
-      seats_is = seat.seats_is ∙ ap (λ m. m.seats) was ∙ sym (ap (λ m. m.seats) now);
-      number_is = seat.number_is ∙ ap (λ m. m.number) was ∙ sym (ap (λ m. m.number) now);
-      next_is = ap (λ n. n + 1) (seat.next_is ∙ ap (λ m. m.next) was) ∙ sym (ap (λ m. m.next) now);
-      left_is = ap (λ n. n - 1) (seat.left_is ∙ ap (λ m. m.left) was) ∙ sym (ap (λ m. m.left) now);
-      joined_is = seat.joined_is ∙ ap (λ m. length m.joined) was ∙ sym (ap (λ m. length m.joined) now);
-      sound = subst (λ (m : Numbers g.row.W.Denot). ∥ AreSound m ∥₁) (sym now) (∥∥₁_map (subst (λ (m : Numbers g.row.W.Denot). ∥ AreSound m ∥₁) was seat.sound) (λ h. kept_is_sound k left h));
-    }
+    let seat = c.args.seat.now in let k = numbers_in seat.place.me in
+    let now : numbers_in c.split_seat-place.new.seat.me ≡ numbers.after_split k =
+    ap numbers_in (c.split_seat-place.ensures.2 ∙ ap (λ m. (after_split m.0, m.1)) c.requires.idle) ∙ ap numbers.after_split (sym (ap numbers_in c.requires.idle)) in
+    let sound = ∥∥₁_map seat.sound (λ h. kept_is_sound k c.requires.left h) in
+    simp now (search (rules, sound))
 
 pub invariant_of-result : goal.invariant_of-result
 invariant_of-result g c =
-    let seat = c.args.seat.now in let k = memory c.args.self.now seat in
-    let was : numbers_in seat.place.me ≡ numbers_of k = ap numbers_in c.requires.idle in
-    let left : 0 < k.left = subst (λ (m : Numbers g.row.W.Denot). 0 < m.left) was c.requires.left in
-    let new = c.split_seat-place.ensures.4 ∙ ap (λ m. (split_off m.0, [])) c.requires.idle in
-    let now : numbers_in c.load.new.seat.me ≡ numbers_of (split_from k) = ap numbers_in (c.load.ensures.2.0 ∙ new) in
-    record {
-      seats_is = seat.seats_is ∙ ap (λ m. m.seats) was ∙ sym (ap (λ m. m.seats) now);
-      number_is = seat.next_is ∙ ap (λ m. m.next) was ∙ sym (ap (λ m. m.number) now);
-      next_is = sym (ap (λ m. m.next) now);
-      left_is = sym (ap (λ m. m.left) now);
-      joined_is = sym (ap (λ m. length m.joined) now);
-      sound = subst (λ (m : Numbers g.row.W.Denot). ∥ AreSound m ∥₁) (sym now) (∥∥₁_map (subst (λ (m : Numbers g.row.W.Denot). ∥ AreSound m ∥₁) was seat.sound) (λ h. split_is_sound k left h));
-    }
+    let seat = c.args.seat.now in let k = numbers_in seat.place.me in
+    let now : numbers_in c.load.new.seat.me ≡ numbers.split_off k =
+    ap numbers_in (c.load.ensures.2.0 ∙ c.split_seat-place.ensures.4 ∙ ap (λ m. (split_off m.0, [])) c.requires.idle) ∙ ap numbers.split_off (sym (ap numbers_in c.requires.idle)) in
+    let sound = ∥∥₁_map seat.sound (λ h. split_is_sound k c.requires.left h) in
+    simp now (search (rules, sound))
 
 pub returns-clause-told : goal.returns-clause-told
 returns-clause-told g c =
