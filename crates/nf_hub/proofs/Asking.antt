@@ -1,6 +1,6 @@
 -- What a call for a piece does beside what it gives.
 use Rattle.std.proofs.Common.{◌≡◌, ℕ, List, sym, ap, ◌∙◌, subst, Result, Ok, Err}
-use Rattle.std.specs.Prelude.{Option, None, Some, Vec, is_some}
+use Rattle.std.specs.Prelude.{Option, None, Some, Vec, is_some, slice_get}
 use Rattle.std.specs.Option.{IfSome}
 use Rattle.std.proofs.lemmas.Option.{IfSome_then, same_Some}
 use Rattle.std.specs.declared.alloc.Global.{Global}
@@ -10,6 +10,7 @@ use Rattle.nf_base.specs.declared.rows.Row.{Row}
 use Rattle.nf_defs.specs.Blobs.{Blobs}
 use Rattle.nf_desk.specs.Desk.{Served, blobs_in, book_at, meanings, shown, strikes_of}
 use Rattle.nf_desk.specs.Pieces.{IsRead, IsTested, Reads, StrikesSeat, TellsFound}
+use Rattle.nf_desk.proofs.Giving.{gives_piece}
 use Rattle.nf_keeper.specs.Views.{bytes_in}
 use Rattle.nf_keeper.specs.declared.keeper.KeepFault.{KeepFault}
 use Rattle.nf_keeper.specs.declared.keeper.KeepFault.TheVariants.{Failed, Memory}
@@ -33,8 +34,7 @@ strikes_piece : (n before : ℕ) (was now : List ℕ) (piece : Piece) (read : Re
     → StrikesPiece before (strikes_of now n) result
 strikes_piece n before was now piece (Ok found) (Ok bytes) same struck tested = ap (λ (l : List ℕ). strikes_of l n) struck ∙ same
 strikes_piece n before was now piece (Ok found) (Err (fault.Damaged damage)) same struck tested = ap (λ (l : List ℕ). strikes_of l n) struck ∙ same
-strikes_piece n before was now piece (Ok found) (Err fault.Store) same struck tested = absurd tested
-strikes_piece n before was now piece (Ok found) (Err fault.Memory) same struck tested = absurd tested
+strikes_piece n before was now piece (Ok found) (Err other) same struck tested = absurd tested
 strikes_piece n before was now piece (Err Failed) result same struck tested =
     subst (λ (r : Result (Vec ℕ Global) PieceFault). StrikesPiece before (strikes_of now n) r) (sym tested)
     (subst (λ (z : ℕ). Struck z (strikes_of now n)) same struck)
@@ -55,13 +55,11 @@ damaged_first b piece found damage (Some shelf) start same tells damaged = tells
 was_damaged : (a b : Book) (start : Option Blobs) (piece : Piece) (read : Result (Option (Vec ℕ Global)) KeepFault)
     (result : Result (Vec ℕ Global) PieceFault) → is_some b.told ≡ is_some start → IsRead a b start piece read → IsTested piece read result
     → GivesOrFails a b piece result → WasDamaged b.opening start piece result
-was_damaged a b start piece read (Ok bytes) same reads tested given = tt
-was_damaged a b start piece read (Err fault.Store) same reads tested given = tt
-was_damaged a b start piece read (Err fault.Memory) same reads tested given = tt
 was_damaged a b start piece (Ok found) (Err (fault.Damaged damage)) same reads tested given =
     damaged_first b piece (bytes_in found) damage b.told start same reads.1 given.2
 was_damaged a b start piece (Err Failed) (Err (fault.Damaged damage)) same reads tested given = absurd (cc)
 was_damaged a b start piece (Err Memory) (Err (fault.Damaged damage)) same reads tested given = absurd (cc)
+was_damaged a b start piece read result same reads tested given = tt
 
 -- ---- a call
 
@@ -104,25 +102,27 @@ module _ {K : Type 0} (k : KeeperOf K) (m : MemoryOf (Served K)) (taken given : 
               (agrees.shelf id old seen);
         })
 
-    pub asks_piece : (result : Result (Vec ℕ Global) PieceFault) → IsTested reads.piece read result → GivesPiece before after content index result
+    pub asks_piece : (piece : Piece) (result : Result (Vec ℕ Global) PieceFault) → slice_get content index ≡ Some piece → IsTested piece read result
         → AsksPiece k m (having_passed given m) content index result
-    asks_piece result tested gives = record {
+    asks_piece piece result at tested = record {
       piece = reads.piece;
       at_index = reads.at_index;
-      strikes = strikes_piece m.number (strikes_in m) taken.strikes given.strikes reads.piece read result agrees.strikes reads.strikes tested;
-      damaged = damaged;
+      strikes = strikes_piece m.number (strikes_in m) taken.strikes given.strikes reads.piece read result agrees.strikes reads.strikes tested_so;
+      damaged =
+          subst (λ (l : List Row). WasDamaged l (blobs_at_start k m) reads.piece result) rows
+          (was_damaged before after (blobs_at_start k m) reads.piece read result same_telling
+          (subst (λ (s : Snapshot K). IsRead before after (blobs_in (k.told s.value)) reads.piece read) start_same reads.read) tested_so given_so);
       shelved = shelves_piece result given_so;
     }
       where
+        tested_so : IsTested reads.piece read result
+        tested_so = subst (λ (z : Piece). IsTested z read result) (same_Some piece reads.piece (sym at ∙ reads.at_index)) tested
+
+        gives : GivesPiece before after content index result
+        gives = gives_piece m.number (shown k taken) (shown k given) content index piece read result reads at tested
+
         given_so : GivesOrFails before after reads.piece result
-        given_so = subst (λ (piece : Piece). GivesOrFails before after piece result)
-            (same_Some gives.piece reads.piece (sym gives.at_index ∙ reads.at_index)) gives.given
+        given_so = subst (λ (z : Piece). GivesOrFails before after z result) (same_Some gives.piece reads.piece (sym gives.at_index ∙ reads.at_index)) gives.given
 
         rows : after.opening ≡ m.first.site.kept.opening
         rows = reads.waits.lasts.opening ∙ ap (λ (o : List Row × Snapshot K). o.0) agrees.opening
-
-        damaged : WasDamaged m.first.site.kept.opening (blobs_at_start k m) reads.piece result
-        damaged =
-            subst (λ (l : List Row). WasDamaged l (blobs_at_start k m) reads.piece result) rows
-            (was_damaged before after (blobs_at_start k m) reads.piece read result same_telling
-            (subst (λ (s : Snapshot K). IsRead before after (blobs_in (k.told s.value)) reads.piece read) start_same reads.read) tested given_so)

@@ -27,12 +27,8 @@ use Rattle.nf_hub.proofs.Telling.{Shows, next_of, seen_now, where_told}
 
 -- it grants nothing
 pub body_grants_none : (answer : Answer) → IsOfBody answer → granted answer ≡ None
-body_grants_none (Ok reply.Made) of = refl
-body_grants_none (Ok reply.Done) of = refl
-body_grants_none (Ok reply.Closed) of = absurd of
 body_grants_none (Ok (reply.Granted goal)) of = absurd of
-body_grants_none (Ok (reply.Listing lines)) of = absurd of
-body_grants_none (Err refusal) of = refl
+body_grants_none other of = refl
 
 module _ {K : Type 0} (k : KeeperOf K) (m : Memory (Served K)) (taken given : Served K) (agrees : Agrees (meanings k) m taken)
     (begun : m.first.start.value ≡ m.first.keeper) where

@@ -2,7 +2,6 @@ mod Owning
 mod Seeing
 mod Following
 mod Knowing
-mod Splitting
 mod Joining
 mod Telling
 mod Asking
@@ -10,5 +9,4 @@ mod Ending
 mod Tickets
 mod Closing
 mod Turning
-mod Holding
 pub mod Sending

@@ -1,5 +1,6 @@
 -- The entries of one seat among those of all.
-use Rattle.std.proofs.Common.{◌≡◌, ℕ, List, [], ◌∷◌, ◌++◌, refl, sym, ap, ◌∙◌}
+use Rattle.std.proofs.Common.{◌≡◌, ℕ, List, [], ◌∷◌, ◌++◌, refl, sym, ap, ◌∙◌, append-nil}
+use Rattle.std.proofs.lemmas.List.{append_cancel_left}
 use Rattle.std.proofs.lemmas.List.Elements.{filter-append}
 use Rattle.std.specs.Prelude.{Bool, true, false, ◌==◌, if◌then◌else◌}
 use Rattle.nf_base.specs.declared.rows.Row.{Row}
@@ -9,15 +10,10 @@ use Rattle.nf_words.specs.History.{after, answer_at}
 use Rattle.nf_words.specs.State.{State, opened}
 use Rattle.nf_words.specs.declared.history.Entry.{Entry}
 
--- what is appended is nothing where the list stays as it was
-no_more : {A : Type 0} (xs ys : List A) → xs ++ ys ≡ xs → ys ≡ []
-no_more [] ys same = same
-no_more (x ∷ xs) ys same = let rest : xs ++ ys ≡ xs = (cc) in no_more xs ys rest
-
 -- where the entries of a seat stay as they were, none of it came
 pub none_came : (n : ℕ) (es more : List Entry) → entries_by n (es ++ more) ≡ entries_by n es → entries_by n more ≡ []
 none_came n es more same =
-    no_more (entries_by n es) (entries_by n more) (sym (filter-append (λ (e : Entry). e.seat == n) es more) ∙ same)
+    append_cancel_left (entries_by n es) (entries_by n more) [] (sym (filter-append (λ (e : Entry). e.seat == n) es more) ∙ same ∙ sym (append-nil (entries_by n es)))
 
 pub none_own : (n : ℕ) (s : State) (es : List Entry) → entries_by n es ≡ [] → own_from n s es ≡ []
 none_own n s [] none = refl

@@ -1,5 +1,5 @@
 -- One turn of a seat of the hub.
-use Rattle.std.proofs.Common.{◌≡◌, ℕ, ◌≤◌, List, sym, ap, ◌∙◌, subst}
+use Rattle.std.proofs.Common.{rules, ◌≡◌, ℕ, ◌≤◌, List, sym, ap, ◌∙◌, subst}
 use Rattle.std.specs.Prelude.{is_none}
 use Rattle.std.specs.declared.snapshot.Snapshot.{Snapshot}
 use Rattle.nf_base.specs.declared.rows.Row.{Row}
@@ -31,31 +31,14 @@ module _ {K : Type 0} (k : KeeperOf K) (hub : HubIn K) (seat : SeatIn K) where
   numbers_are = numbers_known hub.lock.table.shared.key.first.value seat.turns.place.me
 
   pub seat_knows : IsSeat k hub seat → Knows k seat.is_idle (memory_of k hub seat)
-  seat_knows is = record {
-    few = subst (λ (n : Numbers (Served K)). n.seats ≤ most_seats) (sym numbers_are) is.few;
-    opened = is.opened;
-    last = is.last;
-    told = is.told;
-    book_is = is.book_is;
-    flag = is.flag;
-    joined = is.joined;
-  }
+  seat_knows is = let few = subst (λ (n : Numbers (Served K)). n.seats ≤ most_seats) (sym numbers_are) is.few in search (rules, few)
 
   pub knows_seat : IsSeatOf hub.lock seat.turns → IsIdle hub.lock seat.turns → (m : Memory (Served K)) → memory_of k hub seat ≡ m
       → Knows k seat.is_idle m → IsSeat k hub seat
   knows_seat its rests m is known =
       let knows = subst (λ (m : Memory (Served K)). Knows k seat.is_idle m) (sym is) known in
-      record {
-        its = its;
-        rests = rests;
-        few = subst (λ (n : Numbers (Served K)). n.seats ≤ most_seats) numbers_are knows.few;
-        opened = knows.opened;
-        last = knows.last;
-        told = knows.told;
-        book_is = knows.book_is;
-        flag = knows.flag;
-        joined = knows.joined;
-      }
+      let few = subst (λ (n : Numbers (Served K)). n.seats ≤ most_seats) numbers_are knows.few in
+      search (rules, few)
 
 -- the number n is the seat's, and it took the desk in its turn and gave it back so
 pub record TakesIn {K : Type 0} (k : KeeperOf K) (hub : HubIn K) (old new : SeatIn K) (n : ℕ) (taken given : Served K) : Type 0 where
@@ -68,7 +51,7 @@ pub record TakesIn {K : Type 0} (k : KeeperOf K) (hub : HubIn K) (old new : Seat
 
 module _ {K : Type 0} (k : KeeperOf K) (hub : HubIn K) (old : SeatIn K) (n : ℕ) (taken : Served K) (number : n ≡ (numbers old.turns).number)
     (agrees : Agrees (meanings k) (memory_of k hub old) taken) where
-  pub number_known : n ≡ (memory_of k hub old).number
+  number_known : n ≡ (memory_of k hub old).number
   number_known = number ∙ sym (ap (λ (m : Numbers (Served K)). m.number) (numbers_are k hub old))
 
   -- what the seat held before is what it holds of the desk that it takes
@@ -76,12 +59,12 @@ module _ {K : Type 0} (k : KeeperOf K) (hub : HubIn K) (old : SeatIn K) (n : ℕ
   held_taken =
       ap (λ (z : ℕ). held (book_at z (shown k taken))) number_known ∙ held_seen k (memory_of k hub old) taken agrees
 
-module _ {K : Type 0} (k : KeeperOf K) (hub : HubIn K) (old new : SeatIn K) (n : ℕ) (taken given : Served K)
+module _ {K : Type 0} {k : KeeperOf K} {hub : HubIn K} {old new : SeatIn K} {n : ℕ} {taken given : Served K}
     (takes : TakesIn k hub old new n taken given) where
-  abbrev number : n ≡ (memory_of k hub old).number
+  pub number : n ≡ (memory_of k hub old).number
   number = number_known k hub old n taken takes.number takes.agrees
 
-  pub turns : Turns k (memory_of k hub old) taken given
+  turns : Turns k (memory_of k hub old) taken given
   turns = record { agrees = takes.agrees; turn = subst (λ (z : ℕ). TakesTurn k z taken given) number takes.turn }
 
   -- what the seat knows then is the desk as it gave it back

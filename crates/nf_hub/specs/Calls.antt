@@ -96,16 +96,6 @@ abbrev pub GivesGoal : Book → Book → Goal → ℕ → Result (Vec ℕ Global
 GivesGoal a b (Serve content) index result = GivesPiece a b content index result
 GivesGoal a b (Store by key length) index result = ⊥
 
--- in a turn, what was read; the desk as others left it stands in between
-pub record ReadsInTurn {K : Type 0} (k : KeeperOf K) (a b : MemoryOf (Served K)) (content : List Piece) (index : ℕ)
-    (result : Result (Option (Vec ℕ Global)) KeepFault) : Type 0 where
-  pub taken : Served K
-  pub given : Served K
-  pub agrees : Agrees (meanings k) a taken
-  pub passed : b ≡ having_passed given a
-  pub reads : Reads a.number (shown k taken) (shown k given) content index result
-  pub history : IsHistory taken.site.kept
-
 -- ---- the End
 
 -- where the keeper tells, the body is on the shelf, under the number of the blob that the step stores

@@ -5,7 +5,7 @@ ghost use Rattle.sha2.specs.Sha256.{sha256};
 ghost use Rattle.nf_desk.specs.Desk.{meanings, most_seats};
 ghost use Rattle.nf_desk.specs.Opened.{CountsFault, IsFault, MayBegin};
 ghost use Rattle.nf_desk.specs.Stepping.{HeldMayEnd, IsEmpty};
-ghost use Rattle.nf_hub.specs.Calls.{AsksGoal, AsksPiece, GivesGoal, HasPiece, HasTicket, IsBegan, LeavesKeeper, ReadsInTurn, ShelvesBody, ShelvesEnding, answer_of};
+ghost use Rattle.nf_hub.specs.Calls.{AsksGoal, AsksPiece, GivesGoal, HasPiece, HasTicket, IsBegan, LeavesKeeper, ShelvesBody, ShelvesEnding, answer_of};
 ghost use Rattle.nf_hub.specs.Seats.{IsSeat, Starts, book, memory_of, steady};
 ghost use Rattle.nf_hub.specs.Closing.{Closes};
 ghost use Rattle.nf_session.specs.Book.{Begins, EndsBody, EndsEmpty, Ends, GivesPiece, MayEnd, granted, held};
@@ -20,7 +20,7 @@ ghost use Rattle.nf_words.specs.declared.history.Outcome.TheVariants.{Body};
 use crate::seat::{Began, Seat, SeatOf, Ticket};
 use nf_base::{Content, Digest, Moment};
 use nf_desk::{Desk, OpenFault, Opening, Unopened, piece_at, test_piece};
-use nf_keeper::{KeepFault, Keeper};
+use nf_keeper::Keeper;
 use nf_session::{Ending, PieceFault};
 use nf_site::Site;
 use nf_turn::{Book, TurnLock};
@@ -240,30 +240,11 @@ impl<K: Keeper + Drop> Hub<K> {
         ensures gives { GivesPiece (book K.Keeper self.now seat.old) (book K.Keeper self.now seat.new) content.now index result }
         ensures asks { AsksPiece K.Keeper (memory_of K.Keeper self.now seat.old) (memory_of K.Keeper self.now seat.new) content.now index result }
     {
-        let read = self.read(rt, seat, content, index);
-        test_piece(piece_at(content, index), read)
-    }
-
-    fn read<R: Wait>(
-        &self,
-        rt: &R,
-        seat: &mut Seat<K>,
-        content: &Content,
-        index: usize,
-    ) -> Result<Option<Vec<u8>>, KeepFault>
-        requires seat { IsSeat K.Keeper self.now seat.old }
-        requires granted { held (book K.Keeper self.now seat.old) ≡ Some (Serve content.now) }
-        requires index { index < length content.now }
-        ensures seat { IsSeat K.Keeper self.now seat.new }
-        ensures steady { steady (memory_of K.Keeper self.now seat.new) ≡ steady (memory_of K.Keeper self.now seat.old) }
-        ensures ticket { HasTicket (book K.Keeper self.now seat.new) (Serve content.now) }
-        ensures reads { ReadsInTurn K.Keeper (memory_of K.Keeper self.now seat.old) (memory_of K.Keeper self.now seat.new) content.now index result }
-    {
         let number = seat.turns.number();
         let mut desk = self.lock.take(rt, &mut seat.turns);
         let read = desk.read(number, content, index);
         self.lock.give(&mut seat.turns, desk);
-        read
+        test_piece(piece_at(content, index), read)
     }
 
     /// The End of what was granted, in one turn. A body is digested before it.

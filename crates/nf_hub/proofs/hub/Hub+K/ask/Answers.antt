@@ -33,11 +33,11 @@ returns-clause-seat g c =
     let idle = held_taken g.K.Keeper c.args.self.now c.args.seat.now c.number-number.result c.take-desk.result c.number-number.ensures c.take-desk.ensures.value
     ∙ c.requires.idle in
     let begun = begins_begun a b c.args.now c.args.words c.args.request c.begin-answer.result idle c.begin-answer.ensures.begins in
-    seat_after g.K.Keeper c.args.self.now c.args.seat.now _ c.number-number.result c.take-desk.result c.begin-answer.new.self (takes g c) c.requires.seat
+    seat_after (takes g c) c.requires.seat
     (ap not (c.grants.ensures ∙ sym (ap is_some begun.held_is)))
 
 pub returns-clause-begins : goal.returns-clause-begins
 returns-clause-begins g c =
-    over_turn g.K.Keeper c.args.self.now c.args.seat.now _ c.number-number.result c.take-desk.result c.begin-answer.new.self (takes g c)
+    over_turn (takes g c)
     (λ (a b : Book). Begins a b c.args.now c.args.words c.args.request c.begin-answer.result)
     (λ a b first. begins_after a _ b first c.args.now c.args.words c.args.request c.begin-answer.result) c.begin-answer.ensures.begins

@@ -5,7 +5,7 @@ use Rattle.nf_turn.specs.Agreeing.{HasHeard}
 use Rattle.nf_turn.specs.Memory.{having_joined, longer}
 use Rattle.nf_turn.specs.declared.view.Memory.{Memory}
 use Rattle.nf_hub.specs.Seats.{book_in, memory_of}
-use Rattle.nf_hub.proofs.Joining.{joined_knows, joined_none}
+use Rattle.nf_hub.proofs.Joining.{joined_held, joined_knows}
 use Rattle.nf_hub.proofs.Turning.{knows_seat, seat_knows}
 use Rattle.nf_hub.proofs.hub.Hub+K.join.Given.{Over}
 use Rattle.nf_hub.proofs.hub.Hub+K.join.Goals as goal
@@ -25,5 +25,6 @@ pub returns-clause-idle : goal.returns-clause-idle
 returns-clause-idle g c =
     let hub = c.args.self.now in
     ap (λ (m : Memory (Served g.row.K.Denot)). held (book_in g.K.Keeper m)) c.join.ensures.memory
-    ∙ joined_none g.K.Keeper (memory_of g.K.Keeper hub c.args.seat.now) (memory_of g.K.Keeper hub c.args.other) c.args.seat.now.is_idle c.args.other.is_idle
-    (seat_knows g.K.Keeper hub c.args.seat.now c.requires.seat.0) (seat_knows g.K.Keeper hub c.args.other c.requires.seat.1) (told g c) c.requires.idle.0
+    ∙ joined_held g.K.Keeper (memory_of g.K.Keeper hub c.args.seat.now) (memory_of g.K.Keeper hub c.args.other) c.args.seat.now.is_idle c.args.other.is_idle
+    (seat_knows g.K.Keeper hub c.args.seat.now c.requires.seat.0) (seat_knows g.K.Keeper hub c.args.other c.requires.seat.1) (told g c)
+    ∙ c.requires.idle.0

@@ -37,17 +37,13 @@ none_held g c =
     ∙ ap granted ends.answered
 
 pub returns-clause-seat : goal.returns-clause-seat
-returns-clause-seat g c =
-    seat_after g.K.Keeper c.args.self.now c.args.seat.now _ c.number-number.result c.take-desk.result c.finish-answer.new.self (takes g c) c.requires.seat
-    (sym (ap is_none (none_held g c)))
+returns-clause-seat g c = seat_after (takes g c) c.requires.seat (sym (ap is_none (none_held g c)))
 
 pub returns-clause-idle : goal.returns-clause-idle
-returns-clause-idle g c =
-    ap held (book_given g.K.Keeper c.args.self.now c.args.seat.now _ c.number-number.result c.take-desk.result c.finish-answer.new.self (takes g c))
-    ∙ none_held g c
+returns-clause-idle g c = ap held (book_given (takes g c)) ∙ none_held g c
 
 pub returns-clause-ends : goal.returns-clause-ends
 returns-clause-ends g c =
-    over_turn g.K.Keeper c.args.self.now c.args.seat.now _ c.number-number.result c.take-desk.result c.finish-answer.new.self (takes g c)
+    over_turn (takes g c)
     (λ (a b : Book). EndsEmpty a b c.args.now c.args.outcome c.finish-answer.result)
     (λ a b first. ends_empty_after a _ b first c.args.now c.args.outcome c.finish-answer.result) c.finish-answer.ensures.ends

@@ -4,7 +4,7 @@ use Rattle.nf_session.specs.Book.{held}
 use Rattle.nf_turn.specs.Agreeing.{HasHeard}
 use Rattle.nf_turn.specs.declared.view.Memory.{Memory}
 use Rattle.nf_hub.specs.Seats.{book_in, memory_of}
-use Rattle.nf_hub.proofs.Splitting.{split_held, split_knows}
+use Rattle.nf_hub.proofs.Joining.{split_held, split_knows}
 use Rattle.nf_hub.proofs.Turning.{knows_seat, seat_knows}
 use Rattle.nf_hub.proofs.hub.Hub+K.split.Goals as goal
 

@@ -9,7 +9,7 @@ use Rattle.nf_hub.specs.Calls.{ShelvesBody}
 use Rattle.nf_hub.specs.Seats.{memory_of}
 use Rattle.nf_hub.proofs.Ending.{body_grants_none, shelves_body}
 use Rattle.nf_hub.proofs.Following.{ends_body_after}
-use Rattle.nf_hub.proofs.Turning.{TakesIn, book_given, held_taken, number_known, over_turn, seat_after}
+use Rattle.nf_hub.proofs.Turning.{TakesIn, book_given, held_taken, number, over_turn, seat_after}
 use Rattle.nf_hub.proofs.hub.Hub+K.store.Given.{Over}
 use Rattle.nf_hub.proofs.hub.Hub+K.store.Goals as goal
 
@@ -39,18 +39,14 @@ none_held g c =
     ∙ body_grants_none c.store-answer.result ends.answered
 
 pub returns-clause-seat : goal.returns-clause-seat
-returns-clause-seat g c =
-    seat_after g.K.Keeper c.args.self.now c.args.seat.now _ c.number-number.result c.take-desk.result c.store-answer.new.self (takes g c) c.requires.seat
-    (sym (ap is_none (none_held g c)))
+returns-clause-seat g c = seat_after (takes g c) c.requires.seat (sym (ap is_none (none_held g c)))
 
 pub returns-clause-idle : goal.returns-clause-idle
-returns-clause-idle g c =
-    ap held (book_given g.K.Keeper c.args.self.now c.args.seat.now _ c.number-number.result c.take-desk.result c.store-answer.new.self (takes g c))
-    ∙ none_held g c
+returns-clause-idle g c = ap held (book_given (takes g c)) ∙ none_held g c
 
 pub returns-clause-ends : goal.returns-clause-ends
 returns-clause-ends g c =
-    over_turn g.K.Keeper c.args.self.now c.args.seat.now _ c.number-number.result c.take-desk.result c.store-answer.new.self (takes g c)
+    over_turn (takes g c)
     (λ (a b : Book). EndsBody a b c.args.now c.args.body.now c.store-answer.result)
     (λ a b first. ends_body_after a _ b first c.args.now c.args.body.now c.store-answer.result) c.store-answer.ensures.ends
 
@@ -60,8 +56,7 @@ returns-clause-shelved g c =
     let taken = c.take-desk.result in
     let given = c.store-answer.new.self in
     let ends = subst (λ (n : ℕ). EndsBody (book_at n (shown g.K.Keeper taken)) (book_at n (shown g.K.Keeper given)) c.args.now c.args.body.now c.store-answer.result)
-    (number_known g.K.Keeper c.args.self.now c.args.seat.now c.number-number.result taken c.number-number.ensures c.take-desk.ensures.value)
-    c.store-answer.ensures.ends in
+    (number (takes g c)) c.store-answer.ensures.ends in
     subst (λ (z : Memory (Served g.row.K.Denot)). ShelvesBody g.K.Keeper m z c.args.body.now c.store-answer.result) (sym (takes g c).passed)
     (shelves_body g.K.Keeper m taken given c.take-desk.ensures.value c.requires.seat.opened c.args.now c.args.body.now c.store-answer.result
     c.requires.seat.told.opening ends)
