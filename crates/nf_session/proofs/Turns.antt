@@ -86,14 +86,17 @@ module _ {C : Type 0} (reads : C → ℕ → C → Type 0) (last : Bool) (head :
       } in
       (m, begun, judged, inr (n, invites, inr cuts))
 
-pub turn_met : {C : Type 0} (reads : C → ℕ → C → Type 0) (last : Bool) (a m b : Scene C) (head : Head) (found : Option Head) (end : Option Ended)
-    → found ≡ Some head → Heads a m (Ok found) → Meets reads last head m b end → Turn reads last a b end
-turn_met {C} reads last a m b head found end is heads meets =
-    inr (inr (m, head, subst (λ (z : Option Head). Heads a m (Ok z)) is heads, meets))
+pub turn_met : {C : Type 0} (reads : C → ℕ → C → Type 0) (last : Bool) (a m n t b : Scene C) (head : Head) (found : Option Head)
+    (end : Option Ended) → found ≡ Some head → Heads a m (Ok found) → n ≡ m → Meets reads last head n t end → b ≡ t → Turn reads last a b end
+turn_met {C} reads last a m n t b head found end is heads begun meets ended =
+    let to_end = subst (λ (z : Scene C). Meets reads last head n z end) (sym ended) meets in
+    let whole = subst (λ (z : Scene C). Meets reads last head z b end) begun to_end in
+    inr (inr (m, head, subst (λ (z : Option Head). Heads a m (Ok z)) is heads, whole))
 
-pub turn_failed : {C : Type 0} (reads : C → ℕ → C → Type 0) (last : Bool) (a m b : Scene C) (fault : WireFault) (by : Ended)
-    → Heads a m (Err fault) → EndsBy fault m b by → Turn reads last a b (Some by)
-turn_failed reads last a m b fault by heads ends = inr (inl (m, fault, by, heads, ends, refl))
+pub turn_failed : {C : Type 0} (reads : C → ℕ → C → Type 0) (last : Bool) (a m t b : Scene C) (fault : WireFault) (by : Ended)
+    → Heads a m (Err fault) → EndsBy fault m t by → b ≡ t → Turn reads last a b (Some by)
+turn_failed {C} reads last a m t b fault by heads ends ended =
+    inr (inl (m, fault, by, heads, subst (λ (z : Scene C). EndsBy fault m z by) (sym ended) ends, refl))
 
 -- ---- a session
 

@@ -408,6 +408,24 @@ where
         }
     }
 
+    // Tells the output that what is written from here on answers a message.
+    fn begin_answer(&mut self, message: &Message)
+        ensures same { IsSame B.Backend self.old self.new }
+        ensures scene { scene S.Ends O.Ends B.Backend self.new ≡ scene S.Ends O.Ends B.Backend self.old }
+        ensures backend { self.new.backend.now ≡ self.old.backend.now }
+    {
+        self.output.begin_answer(message.method(), message.target());
+    }
+
+    // Tells the output that the answer was written, or broke off.
+    fn end_answer(&mut self)
+        ensures same { IsSame B.Backend self.old self.new }
+        ensures scene { scene S.Ends O.Ends B.Backend self.new ≡ scene S.Ends O.Ends B.Backend self.old }
+        ensures backend { self.new.backend.now ≡ self.old.backend.now }
+    {
+        self.output.end_answer();
+    }
+
     // One turn: the next message and its answer; how the session ends, if it does.
     fn exchange(&mut self, last: bool) -> Option<Ended>
         requires { held (B.book self.old.backend.now) ≡ None }
@@ -418,8 +436,17 @@ where
     {
         match self.next() {
             Ok(None) => Some(Ended::Closed),
-            Ok(Some(message)) => self.answer(&message, last),
-            Err(fault) => Some(self.refuse(fault)),
+            Ok(Some(message)) => {
+                self.begin_answer(&message);
+                let ended = self.answer(&message, last);
+                self.end_answer();
+                ended
+            }
+            Err(fault) => {
+                let ended = self.refuse(fault);
+                self.end_answer();
+                Some(ended)
+            }
         }
     }
 
