@@ -21,7 +21,7 @@ use Rattle.nf_laws.proofs.Copied.{copies_owned}
 use Rattle.nf_laws.proofs.Entries.{after_has}
 use Rattle.nf_laws.proofs.Gone.{row_cleared}
 use Rattle.nf_laws.proofs.Mirrored.{mirrored}
-use Rattle.nf_laws.proofs.Rows.{child_folder, child_owner, folder_there, found_is, inside_folder, stamped_has}
+use Rattle.nf_laws.proofs.Rows.{child_folder, child_owner, folder_there, found_is, inside_folder, stamp}
 use Rattle.nf_laws.proofs.Paths.{IsFor, IsOf, found_leads, path_own}
 use Rattle.nf_laws.specs.Owners.{ChangesOnlyOwn, ChangesOwn, ListsAll, ListsOwn, ServesOwn, nodes_of_others}
 use Rattle.nf_words.proofs.Known.{Known, KnownCopies, KnownNew, KnownPath, KnownTransfer, call_known, call_passes, child_parent, found_passes, target_place}
@@ -310,9 +310,6 @@ is_of_other who row = not (option_map_or (λ user. row.owner == user) who false)
 own_row : (who : Option ℕ) (user : ℕ) (row : NodeRow) → who ≡ Some user → row.owner ≡ user → is_of_other who row ≡ false
 own_row who user row is owner = rw is (ap not (eq-eqb row.owner user owner))
 
-unchanged : (t : Tables) (who : Option ℕ) → ChangesOwn t t who
-unchanged t who = record { others = refl; rest = refl }
-
 new_own : (t : Tables) (now : ℕ) (who : Option ℕ) (user : ℕ) (row : NodeRow) (blob : Option ℕ) → KnownNew t now row blob
     → who ≡ Some user → row.owner ≡ user → nodes_of_others who (t.nodes ++ row ∷ []) ≡ nodes_of_others who t.nodes
 new_own t now who user row blob known is owner =
@@ -435,63 +432,46 @@ copied_others t now who rows replaced sound known =
     ∙ append-nil _
     ∙ ap (λ (replaced : Option ℕ). nodes_of_others who (cleared t.nodes replaced)) known.replaced_is ∙ rest
 
-act_changes : (t : Tables) (now : ℕ) (who : Option ℕ) (act : Allowed) → AreSound t → Known t now who act → ChangesOwn t (changed t now act) who
-act_changes t now who (allowed.Get node content) sound known = unchanged t who
-act_changes t now who (allowed.List listing) sound known = unchanged t who
-act_changes t now who (allowed.Put by key length) sound known = unchanged t who
-act_changes t now who (allowed.StoreNew row blob) sound known =
+-- the nodes of others after an act
+others_kept : (t : Tables) (now : ℕ) (who : Option ℕ) (act : Allowed) → AreSound t → Known t now who act
+    → nodes_of_others who (altered t now act).nodes ≡ nodes_of_others who t.nodes
+others_kept t now who (allowed.StoreNew row blob) sound known =
     let new = known.new in
     let folder = folder_there t.nodes new.folder new.in_folder in
     let owner : row.owner ≡ owner_of t.nodes new.folder = ap (λ (r : NodeRow). r.owner) new.is_new in
-    let same : owner_of t.nodes new.folder ≡ folder.0.owner = ap (λ (o : Option NodeRow). option_map_or (λ row. row.owner) o 0) folder.1 in
-    record {
-      others = new_own t now who known.own.user row blob new known.own.holder (owner ∙ same ∙ known.own.own.owner folder.0 folder.1);
-      rest = refl;
-    }
-act_changes t now who (allowed.StoreOver node content blob) sound known =
-    let act = allowed.StoreOver node content blob in
-    stamped_has (λ (made : Tables). ChangesOwn t made who) t (altered t now act) now (told t now act) (unchanged t who)
-    (record {
-      others = others_over who t.nodes node (filled content now) (λ row. refl)
-          (λ row there. own_row who known.own.user row known.own.holder (known.own.own.owner row there));
-      rest = refl;
-    })
-act_changes t now who (allowed.Mkcol row) sound known =
+    new_own t now who known.own.user row blob new known.own.holder
+    (owner ∙ rw folder.1 (known.own.own.owner folder.0 folder.1))
+others_kept t now who (allowed.StoreOver node content blob) sound known =
+    others_over who t.nodes node (filled content now) (λ row. refl)
+    (λ row there. own_row who known.own.user row known.own.holder (known.own.own.owner row there))
+others_kept t now who (allowed.Mkcol row) sound known =
     let new = known.new in
     let own = path_own t who (Free new.folder) new.folder sound known.path refl in
     let owner : row.owner ≡ owner_of t.nodes new.folder = ap (λ (r : NodeRow). r.owner) new.is_new in
-    let same : owner_of t.nodes new.folder ≡ own.row.owner = ap (λ (o : Option NodeRow). option_map_or (λ row. row.owner) o 0) own.there in
-    record {
-      others = new_own t now who known.path.row.id row None new known.path.caller (owner ∙ same ∙ own.owner);
-      rest = refl;
-    }
-act_changes t now who (allowed.Delete node) sound known =
-    let act = allowed.Delete node in
-    stamped_has (λ (made : Tables). ChangesOwn t made who) t (altered t now act) now (told t now act) (unchanged t who)
-    (record {
-      others = others_left (is_of_other who) (λ row. not (is_under t.nodes row.id node)) t.nodes (under_own t who node sound known.path);
-      rest = refl;
-    })
-act_changes t now who (allowed.Move transfer name) sound known =
-    let act = allowed.Move transfer name in
+    new_own t now who known.path.row.id row None new known.path.caller (owner ∙ rw own.there own.owner)
+others_kept t now who (allowed.Delete node) sound known =
+    others_left (is_of_other who) (λ row. not (is_under t.nodes row.id node)) t.nodes (under_own t who node sound known.path)
+others_kept t now who (allowed.Move transfer name) sound known =
     let own = path_own t who (At transfer.node) transfer.node sound known.source refl in
-    stamped_has (λ (made : Tables). ChangesOwn t made who) t (altered t now act) now (told t now act) (unchanged t who)
-    (record {
-      others = others_over who (cleared t.nodes transfer.replaced) transfer.node (relinked transfer.folder name) (λ row. refl)
-          (λ row there.
-          let same : row ≡ own.row = same_Some row own.row (sym there ∙ row_cleared t.nodes transfer.replaced transfer.node known.apart ∙ own.there) in
-          own_row who known.source.row.id row known.source.caller (ap (λ (r : NodeRow). r.owner) same ∙ own.owner))
-          ∙ cleared_others t who transfer.replaced transfer.folder sound known.target;
-      rest = refl;
-    })
-act_changes t now who (allowed.Copy rows replaced) sound known =
-    let act = allowed.Copy rows replaced in
-    stamped_has (λ (made : Tables). ChangesOwn t made who) t (altered t now act) now (told t now act) (unchanged t who)
-    (record { others = copied_others t now who rows replaced sound known; rest = refl })
-act_changes t now who allowed.Close sound known = unchanged t who
+    others_over who (cleared t.nodes transfer.replaced) transfer.node (relinked transfer.folder name) (λ row. refl)
+    (λ row there.
+    let same : row ≡ own.row = same_Some row own.row (sym there ∙ row_cleared t.nodes transfer.replaced transfer.node known.apart ∙ own.there) in
+    own_row who known.source.row.id row known.source.caller (ap (λ (r : NodeRow). r.owner) same ∙ own.owner))
+    ∙ cleared_others t who transfer.replaced transfer.folder sound known.target
+others_kept t now who (allowed.Copy rows replaced) sound known = copied_others t now who rows replaced sound known
+others_kept t now who act sound known = refl
+
+-- no other row
+rest_kept : (t : Tables) (now : ℕ) (act : Allowed)
+    → altered t now act ≡ record t { meta = (altered t now act).meta; nodes = (altered t now act).nodes }
+rest_kept t now allowed.Close = refl
+rest_kept t now act = refl
 
 pub changes_own : ChangesOnlyOwn
 changes_own n s e sound may =
     let who = actor_of s e.seat e.event in
-    after_has (λ (made : Tables). ChangesOwn s.tables made who) n s e sound may (unchanged s.tables who)
-    (λ act known. act_changes s.tables e.moment who act sound.rows known)
+    after_has (λ (made : Tables). ChangesOwn s.tables made who) n s e sound may (record { others = refl; rest = refl })
+    (λ act known. record {
+      others = others_kept s.tables e.moment who act sound.rows known;
+      rest = ap (λ (t : Tables). stamp t e.moment) (rest_kept s.tables e.moment act);
+    })
