@@ -36,7 +36,7 @@ use Rattle.nf_words.specs.declared.history.Ticket.{Ticket}
 use Rattle.nf_words.proofs.Known.{Known, KnownCopies, found_has, known_change}
 use Rattle.nf_laws.proofs.Bodies.{Decides, IsNext, StoresBody, act_next, altered_next, begin_none, decision_stores, told_blob}
 use Rattle.nf_laws.proofs.Gone.{all_cleared}
-use Rattle.nf_laws.proofs.Owned.{copies_mirror}
+use Rattle.nf_laws.proofs.Mirrored.{mirrored}
 use Rattle.nf_laws.proofs.Rows.{found_is, stamped_has}
 use Rattle.nf_laws.specs.Wholes.{BlobsAreNew, Brings, IsGoalHeld, IsHeld, IsThere, IsWhole, StaysWhole, blob_in, blob_under}
 
@@ -118,7 +118,7 @@ stored_held next opening blobs body blob content in_blob in_content =
 copies_held : (t : Tables) (now : ℕ) (who : Option ℕ) (copies : List NodeRow) (replaced : Option ℕ) (opening : List Row) (blobs : Blobs)
     → AreSound t → KnownCopies t now who copies replaced → All (IsRowHeld opening blobs) t.nodes → All (IsRowHeld opening blobs) copies
 copies_held t now who copies replaced opening blobs sound known kept k d within =
-    let copy = (copies_mirror t now who copies replaced sound known).each k (get_or copies k d) (slice_get-get_or copies k d within) in
+    let copy = (mirrored t now who copies replaced sound known).each k (get_or copies k d) (slice_get-get_or copies k d within) in
     subst (All (IsHeld opening blobs)) (sym copy.content)
     (found_is (IsRowHeld opening blobs) (λ row. row.id == copy.node) t.nodes copy.of kept copy.there).1
 

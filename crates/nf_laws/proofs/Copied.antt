@@ -376,22 +376,9 @@ module _ (t : Tables) (now : ℕ) (who : Option ℕ) (transfer : Transfer) (name
         );
       }
 
--- the moment is stamped, since a copy is told
-stamped_some : (before after : Tables) (now : ℕ) (first : List Change) (rows : List NodeRow) → 0 < length rows
-    → stamped before after now (first ++ map (λ row. Put (kinds.Node row)) rows) ≡ stamp after now
-stamped_some before after now [] [] some = absurd (omega arith)
-stamped_some before after now [] (row ∷ rows) some = refl
-stamped_some before after now (change ∷ changes) rows some = refl
-
 pub copied_sound : (t : Tables) (now : ℕ) (who : Option ℕ) (rows : List NodeRow) (replaced : Option ℕ)
-    → AreSound t → t.meta.last ≤ now → KnownCopies t now who rows replaced → AreSound (changed t now (allowed.Copy rows replaced))
+    → AreSound t → t.meta.last ≤ now → KnownCopies t now who rows replaced → AreSound (stamp (joined t rows replaced) now)
 copied_sound t now who rows replaced sound later copies =
-    let transfer = copies.transfer in
-    let of = path_own t who (At transfer.node) transfer.node sound copies.known.source refl in
-    let mirrors = subst (λ (rows : List NodeRow). Mirrors t now transfer copies.name rows) (sym copies.copies)
-    (mirrored t now transfer copies.name sound (ap is_some of.there)) in
-    let some : 0 < length rows = omega (arith, mirrors.all, (walk_first t.nodes transfer.node).1) in
-    subst (λ (o : Option ℕ). AreSound (changed t now (allowed.Copy rows o))) (sym copies.replaced_is)
-    (subst AreSound (sym (stamped_some t (joined t rows transfer.replaced) now (dropped_for t.nodes transfer.replaced) rows some))
-    (joined_sound t now who transfer copies.name rows mirrors sound later copies.known (walks_take.once t transfer.node sound)
-    copies.nodes copies.pieces))
+    subst (λ (o : Option ℕ). AreSound (stamp (joined t rows o) now)) (sym copies.replaced_is)
+    (joined_sound t now who copies.transfer copies.name rows (mirrored t now who rows replaced sound copies) sound later copies.known
+    (walks_take.once t copies.transfer.node sound) copies.nodes copies.pieces)

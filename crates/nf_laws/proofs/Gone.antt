@@ -126,9 +126,6 @@ root_left t top no_root user root = here (is_under t.nodes user.root top) refl
 pub left_sound : (t : Tables) (top : ℕ) → AreSound t → is_root t.nodes top ≡ false → AreSound (removed t top)
 left_sound t top sound no_root = those_sound t (is_left t.nodes top) sound (folder_left t top sound) (root_left t top no_root)
 
-pub removed_sound : (t : Tables) (now top : ℕ) → AreSound t → t.meta.last ≤ now → is_root t.nodes top ≡ false → AreSound (stamp (removed t top) now)
-removed_sound t now top sound later no_root = stamp_sound (removed t top) now (left_sound t top sound no_root) later
-
 -- ---- the tables without what has to go, if anything has
 
 pub cleared_sound : (t : Tables) (replaced : Option ℕ) → AreSound t → option_map_or (is_root t.nodes) replaced false ≡ false

@@ -213,9 +213,7 @@ are_copied t now who copies replaced sound known =
     of = path_own t who (At known.transfer.node) known.transfer.node sound known.known.source refl
 
     mirrors : Mirrors t now known.transfer known.name copies
-    mirrors =
-        subst (λ (rows : List NodeRow). Mirrors t now known.transfer known.name rows) (sym known.copies)
-        (mirrored t now known.transfer known.name sound (ap is_some of.there))
+    mirrors = mirrored t now who copies replaced sound known
 
     numbered : AreNumbered t.meta.next_node copies
     numbered k copy is = (mirrors.each k copy is).id

@@ -10,7 +10,10 @@ use Rattle.nf_base.specs.declared.rows.Place.TheVariants.{Inside}
 use Rattle.nf_defs.proofs.Walks.{AreRising, IsChildOf, children_are}
 use Rattle.nf_defs.specs.Tables.{Tables}
 use Rattle.nf_defs.specs.Tree.{children_of, node_row, owner_of, walk_of, walk_within}
+use Rattle.nf_defs.specs.declared.Found.TheVariants.{At}
+use Rattle.nf_laws.proofs.Paths.{path_own}
 use Rattle.nf_laws.specs.Transfers.{IsCopyOf, IsPlacedCopy, Mirrors}
+use Rattle.nf_words.proofs.Known.{KnownCopies}
 use Rattle.nf_words.specs.Copies.{copied_row, copies_of_all, copies_to, copies_within, renamed}
 use Rattle.nf_words.specs.Sound.{AreSound}
 use Rattle.nf_words.specs.declared.request.Transfer.{Transfer}
@@ -332,14 +335,12 @@ renamed_mirror t now transfer name copies top =
           placed = placed k c.of copy c.name c.placed;
         }
 
-pub mirrored : (t : Tables) (now : ℕ) (transfer : Transfer) (name : List ℕ) → AreSound t
-    → is_some (node_row t.nodes transfer.node) ≡ true → Mirrors t now transfer name (copies_to t now transfer name)
-mirrored t now transfer name sound there = here (node_row t.nodes transfer.node) refl there
-  where
-    here : (o : Option NodeRow) → node_row t.nodes transfer.node ≡ o → is_some o ≡ true
-        → Mirrors t now transfer name (copies_to t now transfer name)
-    here None e there = absurd (false≢true there)
-    here (Some row) e there =
-        renamed_mirror t now transfer name
-        (copies_within 64 t.nodes (owner_of t.nodes transfer.folder) now t.meta.next_node transfer.folder transfer.node)
-        (top_of_walk t now transfer row sound e)
+pub mirrored : (t : Tables) (now : ℕ) (who : Option ℕ) (rows : List NodeRow) (replaced : Option ℕ) → AreSound t
+    → (known : KnownCopies t now who rows replaced) → Mirrors t now known.transfer known.name rows
+mirrored t now who rows replaced sound known =
+    let transfer = known.transfer in
+    let of = path_own t who (At transfer.node) transfer.node sound known.known.source refl in
+    subst (λ (rows : List NodeRow). Mirrors t now transfer known.name rows) (sym known.copies)
+    (renamed_mirror t now transfer known.name
+    (copies_within 64 t.nodes (owner_of t.nodes transfer.folder) now t.meta.next_node transfer.folder transfer.node)
+    (top_of_walk t now transfer of.row sound of.there))

@@ -321,10 +321,3 @@ transferred_sound t who transfer name sound known =
     let fits = move_fits t who transfer name sound known in
     relinked_sound (record t { nodes = cleared t.nodes transfer.replaced }) transfer.node transfer.folder name fits.0
     (clearing_sound t who transfer name sound known) fits.1
-
-pub moved_sound : (t : Tables) (now : ℕ) (who : Option ℕ) (transfer : Transfer) (name : List ℕ) → AreSound t → t.meta.last ≤ now
-    → KnownTransfer t who transfer name → AreSound (changed t now (allowed.Move transfer name))
-moved_sound t now who transfer name sound later known =
-    let act = allowed.Move transfer name in
-    stamped_has AreSound t (altered t now act) now (told t now act) sound
-    (stamp_sound (transferred t transfer name) now (transferred_sound t who transfer name sound known) later)

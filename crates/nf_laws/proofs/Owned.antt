@@ -71,23 +71,16 @@ then_owners t made replaced keeps node row given there =
 
 -- ---- copies
 
-pub copies_mirror : (t : Tables) (now : ℕ) (who : Option ℕ) (rows : List NodeRow) (replaced : Option ℕ) → AreSound t
-    → (known : KnownCopies t now who rows replaced) → Mirrors t now known.transfer known.name rows
-copies_mirror t now who rows replaced sound known =
-    let of = path_own t who (At known.transfer.node) known.transfer.node sound known.known.source refl in
-    subst (λ (rows : List NodeRow). Mirrors t now known.transfer known.name rows) (sym known.copies)
-    (mirrored t now known.transfer known.name sound (ap is_some of.there))
-
 -- a copy's number wasn't given before
 pub copies_new : (t : Tables) (now : ℕ) (who : Option ℕ) (rows : List NodeRow) (replaced : Option ℕ) → AreSound t
     → KnownCopies t now who rows replaced → All (λ (copy : NodeRow). t.meta.next_node ≤ copy.id) rows
 copies_new t now who rows replaced sound known k d within =
-    (copies_numbered t now known.transfer known.name rows (copies_mirror t now who rows replaced sound known) k d within).0
+    (copies_numbered t now known.transfer known.name rows (mirrored t now who rows replaced sound known) k d within).0
 
 copied_owners : (t : Tables) (now : ℕ) (who : Option ℕ) (rows : List NodeRow) (replaced : Option ℕ) → AreSound t
     → KnownCopies t now who rows replaced → KeepsOwners t (joined t rows replaced)
 copied_owners t now who rows replaced sound known node row given there =
-    let same = old_joined t now known.transfer known.name rows (copies_mirror t now who rows replaced sound known)
+    let same = old_joined t now known.transfer known.name rows (mirrored t now who rows replaced sound known)
     (cleared t.nodes replaced) node given in
     cleared_owners t replaced node row given (sym same ∙ there)
 

@@ -21,6 +21,7 @@ use Rattle.nf_laws.proofs.Copied.{copies_owned}
 use Rattle.nf_laws.proofs.Entries.{after_has}
 use Rattle.nf_laws.proofs.Gone.{row_cleared}
 use Rattle.nf_laws.proofs.Mirrored.{mirrored}
+use Rattle.nf_laws.proofs.Moved.{folder_owner}
 use Rattle.nf_laws.proofs.Rows.{child_folder, child_owner, folder_there, found_is, inside_folder, stamp}
 use Rattle.nf_laws.proofs.Paths.{IsFor, IsOf, found_leads, path_own}
 use Rattle.nf_laws.specs.Owners.{ChangesOnlyOwn, ChangesOwn, ListsAll, ListsOwn, ServesOwn, nodes_of_others}
@@ -384,27 +385,6 @@ cleared_others t who None folder sound path = refl
 cleared_others t who (Some top) folder sound path =
     others_left (is_of_other who) (λ row. not (is_under t.nodes row.id top)) t.nodes (under_own t who top sound path)
 
--- the folder of the new place is of who acts
-pub folder_own : (t : Tables) (who : Option ℕ) (transfer : Transfer) (name : List ℕ) → AreSound t → (known : KnownTransfer t who transfer name)
-    → owner_of t.nodes transfer.folder ≡ known.target.row.id
-folder_own t who transfer name sound known = here transfer.replaced refl
-  where
-    here : (replaced : Option ℕ) → transfer.replaced ≡ replaced → owner_of t.nodes transfer.folder ≡ known.target.row.id
-    here None e =
-        let free : target_place transfer ≡ Free transfer.folder = rw e refl in
-        let own = is_own_at (target_place transfer) transfer.folder known.target (subst (λ (place : Found). IsFor place transfer.folder) (sym free) refl) in
-        ap (λ (o : Option NodeRow). option_map_or (λ row. row.owner) o 0) own.there ∙ own.owner
-      where
-        is_own_at : (place : Found) (node : ℕ) (path : KnownPath t who place) → IsFor place node → IsOf t path.row.id node
-        is_own_at place node path is = path_own t who place node sound path is
-    here (Some top) e =
-        let at : target_place transfer ≡ At top = rw e refl in
-        let own = path_own t who (target_place transfer) top sound known.target (subst (λ (place : Found). IsFor place top) (sym at) refl) in
-        let above : parent_of t.nodes top ≡ Some transfer.folder = child_parent t.nodes transfer.folder name top sound.rising (known.there ∙ e) in
-        let place : folder_of own.row.place ≡ Some transfer.folder = sym (ap (option_and_then (λ row. folder_of row.place)) own.there) ∙ above in
-        let h = (found_is (IsNodeSound t) (λ row. row.id == top) t.nodes own.row sound.nodes own.there).1 in
-        child_owner t own.row own.row.place transfer.folder h.place (inside_folder own.row.place transfer.folder place) ∙ own.owner
-
 abbrev IsOwnedBy : ℕ → NodeRow → Type 0
 IsOwnedBy owner row = row.owner ≡ owner
 
@@ -420,11 +400,8 @@ copied_others : (t : Tables) (now : ℕ) (who : Option ℕ) (rows : List NodeRow
     → nodes_of_others who (cleared t.nodes replaced ++ rows) ≡ nodes_of_others who t.nodes
 copied_others t now who rows replaced sound known =
     let transfer = known.transfer in
-    let own = path_own t who (At transfer.node) transfer.node sound known.known.source refl in
-    let mirrors = mirrored t now transfer known.name sound (ap is_some own.there) in
-    let owned = subst (λ (owner : ℕ). All (IsOwnedBy owner) (copies_to t now transfer known.name))
-    (folder_own t who transfer known.name sound known.known) (copies_owned t now transfer known.name (copies_to t now transfer known.name) mirrors) in
-    let mine = subst (λ (rows : List NodeRow). All (IsOwnedBy known.known.target.row.id) rows) (sym known.copies) owned in
+    let mine = subst (λ (owner : ℕ). All (IsOwnedBy owner) rows) (folder_owner t who transfer known.name sound known.known)
+    (copies_owned t now transfer known.name rows (mirrored t now who rows replaced sound known)) in
     let none = none_of_others who known.known.target.row.id rows known.known.target.caller mine in
     let rest = cleared_others t who transfer.replaced transfer.folder sound known.known.target in
     filter-append (is_of_other who) (cleared t.nodes replaced) rows

@@ -14,7 +14,7 @@ use Rattle.nf_base.specs.declared.rows.Place.TheVariants.{Root, Inside, Trash}
 use Rattle.nf_base.specs.declared.rows.UserRow.{UserRow}
 use Rattle.nf_defs.specs.People.{user_row}
 use Rattle.nf_defs.specs.Tables.{Tables}
-use Rattle.nf_defs.specs.Tree.{climb, folder_of, is_folder, is_folder_kind, is_place_in, node_row, owner_of, parent_of}
+use Rattle.nf_defs.specs.Tree.{climb, content_of, folder_of, is_folder, is_folder_kind, is_place_in, node_row, owner_of, parent_of}
 use Rattle.nf_words.proofs.Known.{IsOfBody, found_has, found_passes}
 use Rattle.nf_words.specs.Changes.{blob_after, stamped}
 use Rattle.nf_words.specs.Sound.{AreCounters, AreSound, HasRoot, IsNodeSound, IsPieceSound, IsPlaceSound, root_of_user}
@@ -26,6 +26,14 @@ pub found_is : {X : Type 0} (P : X → Type 0) (test : X → Bool) (xs : List X)
     → All P xs → find test xs ≡ Some found → (test found ≡ true) × P found
 found_is {X = X} P test xs found all is =
     (found_passes test xs found is, subst (λ (o : Option X). IfSome o P) is (found_has P test xs all))
+
+-- what all pieces of rows have, those of a node have
+pub content_has : (P : Piece → Type 0) (rows : List NodeRow) (node : ℕ) → All (λ (row : NodeRow). All P row.content) rows → All P (content_of rows node)
+content_has P rows node all = here (node_row rows node) (found_has (λ (row : NodeRow). All P row.content) (λ row. row.id == node) rows all)
+  where
+    here : (o : Option NodeRow) → IfSome o (λ (row : NodeRow). All P row.content) → All P (option_map_or (λ row. row.content) o [])
+    here None all = All-nil P
+    here (Some row) all = all
 
 -- ---- look-ups that find nothing
 

@@ -24,7 +24,7 @@ use Rattle.nf_laws.proofs.Climbs.{climb_under}
 use Rattle.nf_laws.proofs.Contents.{content_decides}
 use Rattle.nf_laws.proofs.Gone.{all_cleared, clearing_sound, row_cleared}
 use Rattle.nf_laws.proofs.OneRow.{KeepsId, row_itself}
-use Rattle.nf_laws.proofs.Owned.{copies_mirror}
+use Rattle.nf_laws.proofs.Mirrored.{mirrored}
 use Rattle.nf_laws.proofs.Paths.{child_there, path_own}
 use Rattle.nf_laws.proofs.Puts.{AreNumbered, another, drops_for, drops_under, fewer, put_changed, put_new, puts_new, walk_there}
 use Rattle.nf_laws.specs.Tells.{ChangesTell}
@@ -313,7 +313,7 @@ copies_told t now who copies replaced sound known =
     (All-map (Differs t) (λ row. Put (rows.Node row)) copies
     (λ k d within. new_differs t (get_or copies k d) sound (omega (arith, numbered k d within)))))
     (copies_more t (cleared t.nodes replaced) copies sound numbered
-    (omega (arith, (copies_mirror t now who copies replaced sound known).all, walk_some t.nodes known.transfer.node)))
+    (omega (arith, (mirrored t now who copies replaced sound known).all, walk_some t.nodes known.transfer.node)))
   where
     drops : List Change
     drops = dropped_for t.nodes replaced
@@ -323,7 +323,7 @@ copies_told t now who copies replaced sound known =
 
     numbered : AreNumbered t.meta.next_node copies
     numbered k d within =
-        ((copies_mirror t now who copies replaced sound known).each k (get_or copies k d) (slice_get-get_or copies k d within)).id
+        ((mirrored t now who copies replaced sound known).each k (get_or copies k d) (slice_get-get_or copies k d within)).id
 
 -- ---- each act
 
