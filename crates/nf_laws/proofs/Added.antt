@@ -16,7 +16,7 @@ use Rattle.nf_defs.specs.Tree.{child_of, climb, folder_of, is_folder, is_in, is_
 use Rattle.nf_words.proofs.Known.{KnownNew}
 use Rattle.nf_words.specs.Changes.{created}
 use Rattle.nf_words.specs.Sound.{AreApart, AreSound, HasRoot, IsNodeSound, IsPlaceSound, root_of_user}
-use Rattle.nf_laws.proofs.Rows.{AreKept, blob_up, body_sound, climb_kept, each_fails, finds_none, folder_kept, folder_there, found_is, no_value, node_kept, none_above, root_kept, stamp}
+use Rattle.nf_laws.proofs.Rows.{AreKept, blob_up, body_sound, climb_kept, each_fails, finds_none, folder_kept, folder_there, row_is, no_value, node_kept, none_above, root_kept, stamp}
 use Rattle.nf_laws.proofs.Climbs.{depth_is}
 
 -- ---- the rows with one more
@@ -62,8 +62,7 @@ folder_sound : (t : Tables) (folder : ℕ) → AreSound t → is_folder t.nodes 
     → (row : NodeRow) × (row.id ≡ folder) × (row.owner ≡ owner_of t.nodes folder) × IsNodeSound t row
 folder_sound t folder sound is =
     let h = folder_there t.nodes folder is in
-    let found = found_is (IsNodeSound t) (λ row. row.id == folder) t.nodes h.0 sound.nodes h.1 in
-    (h.0, eqb-true h.0.id folder found.0, sym (ap (λ (o : Option NodeRow). option_map_or (λ row. row.owner) o 0) h.1), found.1)
+    let found = row_is t folder h.0 sound h.1 in (h.0, found.0, rw h.1 refl, found.1)
 
 pub less_than_new : (t : Tables) (now : ℕ) (row : NodeRow) (blob : Option ℕ) → AreSound t → KnownNew t now row blob
     → All (λ (old : NodeRow). old.id < row.id) t.nodes

@@ -33,7 +33,7 @@ use Rattle.nf_laws.proofs.Climbs.{depth_is, node_row_each}
 use Rattle.nf_laws.proofs.Gone.{clearing_sound, climb_cleared, counts_cleared, folder_stays, free_cleared, row_cleared}
 use Rattle.nf_laws.proofs.Mirrored.{mirrored}
 use Rattle.nf_laws.proofs.Paths.{child_there, path_own}
-use Rattle.nf_laws.proofs.Rows.{AreKept, child_folder, climb_kept, finds_none, folder_kept, folder_there, found_is, node_kept, none_above, pieces_kept, root_kept, stamp}
+use Rattle.nf_laws.proofs.Rows.{AreKept, child_folder, climb_kept, finds_none, folder_kept, folder_there, row_is, parent_there, node_kept, none_above, pieces_kept, root_kept, stamp}
 use Rattle.nf_laws.proofs.Upwards.{depth_up, rooted}
 use Rattle.nf_laws.proofs.Walked.{walks_take}
 
@@ -70,10 +70,6 @@ or_none None = refl
 or_none (Some x) = refl
 
 -- ---- nodes that are there
-
-row_sound : (t : Tables) (node : ℕ) (row : NodeRow) → AreSound t → node_row t.nodes node ≡ Some row → (row.id ≡ node) × IsNodeSound t row
-row_sound t node row sound there =
-    let h = found_is (IsNodeSound t) (λ row. row.id == node) t.nodes row sound.nodes there in (eqb-true row.id node h.0, h.1)
 
 -- so many folders up from a node as it is deep is its owner's root
 climbs_depth : (t : Tables) (node : ℕ) (row : NodeRow) → AreSound t → node_row t.nodes node ≡ Some row
@@ -157,11 +153,11 @@ module _ (t : Tables) (now : ℕ) (transfer : Transfer) (name : List ℕ) (rows 
         let above = copy_at p.1 d (omega (arith, p.4)) in
         let walk = walk_of t.nodes transfer.node in
         let same : above.node ≡ p.0 = same_Some above.node p.0 (sym above.at_index ∙ p.3) in
-        let row = folder_there t.nodes p.0 (child_folder t copy.of copy.of.place p.0 (row_sound t copy.node copy.of sound copy.there).1.place p.2) in
-        let is : above.of ≡ row.0 = same_Some above.of row.0 (sym above.there ∙ ap (node_row t.nodes) same ∙ row.1) in
         let node : get_or walk (suc k) 0 ≡ copy.node = get_or_from_slice_get walk (suc k) copy.node 0 copy.at_index in
         let folder : get_or walk p.1 0 ≡ p.0 = get_or_from_slice_get walk p.1 p.0 0 p.3 in
         let up : parent_of t.nodes copy.node ≡ Some p.0 = ap (option_and_then (λ row. folder_of row.place)) copy.there ∙ ap folder_of p.2 in
+        let row = parent_there t copy.node p.0 copy.of sound copy.there up in
+        let is : above.of ≡ row.0 = same_Some above.of row.0 (sym above.there ∙ ap (node_row t.nodes) same ∙ row.1) in
         record {
           at = p.1;
           before = p.4;
@@ -242,7 +238,7 @@ module _ (t : Tables) (now : ℕ) (who : Option ℕ) (transfer : Transfer) (name
       (h.0, h.1 ∙ ap (λ (o : Option NodeRow). option_map_or (λ row. row.owner) o 0) same)
 
   folder_given : transfer.folder < t.meta.next_node
-  folder_given = let h = row_sound t transfer.folder folder_row.0 sound folder_row.1 in omega (arith, h.0, h.1.given)
+  folder_given = let h = row_is t transfer.folder folder_row.0 sound folder_row.1 in omega (arith, h.0, h.1.given)
 
   -- and climbs to the owner's root
   folder_climbs : climb made.nodes (depth t.nodes transfer.folder) transfer.folder ≡ Some (root_of_user t (owner_of t.nodes transfer.folder))
@@ -270,7 +266,7 @@ module _ (t : Tables) (now : ℕ) (who : Option ℕ) (transfer : Transfer) (name
   copies_sound : All (IsNodeSound made) rows
   copies_sound k d within =
       let c = copy k d within in
-      let of = row_sound t c.node c.of sound c.there in
+      let of = row_is t c.node c.of sound c.there in
       let root = root_of_user t (owner_of t.nodes transfer.folder) in
       let climbs = copy_climbs t now transfer name rows mirrors sound made.nodes root d (copy_there d) folder_climbs (suc k) k (omega arith) within in
       let walk = walk_of t.nodes transfer.node in
@@ -309,7 +305,7 @@ module _ (t : Tables) (now : ℕ) (who : Option ℕ) (transfer : Transfer) (name
       let old : NodeRow = get_or left.nodes i d in
       let c = copy_in t now transfer name rows mirrors sound k e also in
       let above = folder_there left.nodes folder (child_folder left old old.place folder (left_sound.nodes i d within).place place) in
-      let h = row_sound left folder above.0 left_sound above.1 in
+      let h = row_is left folder above.0 left_sound above.1 in
       let same : folder ≡ t.meta.next_node + c.at = cc (c.place) in
       absurd (omega (arith, h.0, h.1.given))
 
@@ -331,8 +327,8 @@ module _ (t : Tables) (now : ℕ) (who : Option ℕ) (transfer : Transfer) (name
       let second : folder ≡ t.meta.next_node + q.1 = cc (q.5) in
       let at : p.1 ≡ q.1 = omega (arith, first, second) in
       let in_one : p.0 ≡ q.0 = same_Some p.0 q.0 (sym p.3 ∙ ap (slice_get walk) at ∙ q.3) in
-      let id_a = (row_sound t a.node a.of sound a.there).0 in
-      let id_b = (row_sound t b.node b.of sound b.there).0 in
+      let id_a = (row_is t a.node a.of sound a.there).0 in
+      let id_b = (row_is t b.node b.of sound b.there).0 in
       let child_a = child_there t.nodes p.0 a.of sound.names (ap (node_row t.nodes) id_a ∙ a.there) p.2 in
       let child_b = child_there t.nodes q.0 b.of sound.names (ap (node_row t.nodes) id_b ∙ b.there) q.2 in
       let same : a.of.id ≡ b.of.id =

@@ -18,7 +18,7 @@ use Rattle.nf_laws.proofs.Climbs.{climb_on, climb_under, under_climb}
 use Rattle.nf_laws.proofs.Gone.{all_cleared, row_cleared, row_gone}
 use Rattle.nf_laws.proofs.Mirrored.{mirrored}
 use Rattle.nf_laws.proofs.Paths.{IsOf, path_own}
-use Rattle.nf_laws.proofs.Rows.{finds_none, found_is}
+use Rattle.nf_laws.proofs.Rows.{finds_none, row_is}
 use Rattle.nf_laws.specs.Transfers.{AreCopied, CopiesMirror, Mirrors, is_replaced}
 use Rattle.nf_words.proofs.Known.{KnownCopies, KnownTransfer, child_parent, known_change}
 use Rattle.nf_words.specs.Actors.{actor_of}
@@ -71,8 +71,7 @@ none_given t replaced node sound new =
 
 pub was_given : (t : Tables) (node : ℕ) (row : NodeRow) → AreSound t → node_row t.nodes node ≡ Some row → node < t.meta.next_node
 was_given t node row sound there =
-    let h = found_is (IsNodeSound t) (λ row. row.id == node) t.nodes row sound.nodes there in
-    omega (arith, h.1.given, eqb-true row.id node h.0)
+    let h = row_is t node row sound there in omega (arith, h.0, h.1.given)
 
 -- so were the numbers of what is under a node that is there
 pub under_given : (t : Tables) (top node : ℕ) (row : NodeRow) → AreSound t → node_row t.nodes top ≡ Some row → is_under t.nodes node top ≡ true

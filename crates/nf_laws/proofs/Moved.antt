@@ -24,7 +24,7 @@ use Rattle.nf_laws.proofs.Climbs.{climb_on, depth_is, ends_same, node_row_each, 
 use Rattle.nf_laws.proofs.Gone.{clearing_sound, climb_cleared, folder_stays, free_cleared, kept_cleared, row_cleared}
 use Rattle.nf_laws.proofs.OneRow.{IsEither, each_either, length_with, pieces_with, rising_with, row_itself, row_other, value_with}
 use Rattle.nf_laws.proofs.Paths.{path_own}
-use Rattle.nf_laws.proofs.Rows.{child_owner, folder_there, found_is, inside_folder, none_above, pieces_kept, stamp_sound, stamped_has}
+use Rattle.nf_laws.proofs.Rows.{folder_there, none_above, parent_there, pieces_kept, stamp_sound, stamped_has}
 use Rattle.nf_laws.proofs.Upwards.{IsRooted, climb_few, climbs_is_under, depth_climb, rooted}
 
 -- ---- climbs where a node is put into a folder
@@ -271,10 +271,8 @@ folder_owner t who transfer name sound known = here transfer.replaced known.targ
     here (Some top) path same is =
         let own = path_own t who (At top) top sound path refl in
         let above = child_parent t.nodes transfer.folder name top sound.rising is in
-        let h = found_is (IsNodeSound t) (λ row. row.id == top) t.nodes own.row sound.nodes own.there in
-        let place : folder_of own.row.place ≡ Some transfer.folder =
-        sym (ap (option_and_then (λ row. folder_of row.place)) own.there) ∙ above in
-        child_owner t own.row own.row.place transfer.folder h.1.place (inside_folder own.row.place transfer.folder place) ∙ own.owner ∙ same
+        let folder = parent_there t top transfer.folder own.row sound own.there above in
+        rw folder.1 (folder.3 ∙ own.owner ∙ same)
 
 move_fits : (t : Tables) (who : Option ℕ) (transfer : Transfer) (name : List ℕ) → AreSound t → (known : KnownTransfer t who transfer name)
     → (old : NodeRow)

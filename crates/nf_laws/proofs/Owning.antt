@@ -22,7 +22,7 @@ use Rattle.nf_laws.proofs.Entries.{after_has}
 use Rattle.nf_laws.proofs.Gone.{row_cleared}
 use Rattle.nf_laws.proofs.Mirrored.{mirrored}
 use Rattle.nf_laws.proofs.Moved.{folder_owner}
-use Rattle.nf_laws.proofs.Rows.{child_folder, child_owner, folder_there, found_is, inside_folder, stamp}
+use Rattle.nf_laws.proofs.Rows.{folder_there, found_is, parent_there, row_id, stamp}
 use Rattle.nf_laws.proofs.Paths.{IsFor, IsOf, found_leads, path_own}
 use Rattle.nf_laws.specs.Owners.{ChangesOnlyOwn, ChangesOwn, ListsAll, ListsOwn, ServesOwn, nodes_of_others}
 use Rattle.nf_words.proofs.Known.{Known, KnownCopies, KnownNew, KnownPath, KnownTransfer, call_known, call_passes, child_parent, found_passes, target_place}
@@ -188,7 +188,7 @@ of_caller : (call : Call) (spot : Spot) (node : ℕ) → AreSound call.state.tab
 of_caller call spot node sound path leads =
     let t = call.state.tables in
     let own = path_own t (user_of call) (At node) node sound path refl in
-    let id : own.row.id ≡ node = eqb-true own.row.id node (found_passes (λ (row : NodeRow). row.id == node) t.nodes own.row own.there) in
+    let id = row_id t.nodes node own.row own.there in
     record {
       user = path.row.id;
       caller = path.caller;
@@ -359,14 +359,8 @@ climb_own zero t user node top row sound is of there =
     ap (λ (r : NodeRow). r.owner) (same_Some row of.row (sym there ∙ ap (node_row t.nodes) same ∙ of.there)) ∙ of.owner
 climb_own (suc j) t user node top row sound is of there =
     option_and_then_some (climb t.nodes j) (parent_of t.nodes node) top is (λ parent above is.
-    let place : folder_of row.place ≡ Some parent =
-    sym (ap (option_and_then (λ row. folder_of row.place)) there) ∙ above in
-    let h = (found_is (IsNodeSound t) (λ row. row.id == node) t.nodes row sound.nodes there).1 in
-    let inside = inside_folder row.place parent place in
-    let folder = folder_there t.nodes parent (child_folder t row row.place parent h.place inside) in
-    sym (child_owner t row row.place parent h.place inside)
-    ∙ ap (λ (o : Option NodeRow). option_map_or (λ row. row.owner) o 0) folder.1
-    ∙ climb_own j t user parent top folder.0 sound is of folder.1)
+    let folder = parent_there t node parent row sound there above in
+    sym folder.3 ∙ climb_own j t user parent top folder.0 sound is of folder.1)
 
 -- all under a node of who acts are of who acts
 under_own : (t : Tables) (who : Option ℕ) (top : ℕ) → AreSound t → KnownPath t who (At top)

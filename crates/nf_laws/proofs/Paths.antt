@@ -17,7 +17,7 @@ use Rattle.nf_defs.specs.Tree.{Leads, stays, leads_on, child_of, found_from, is_
 use Rattle.nf_defs.specs.declared.Found.{Found}
 use Rattle.nf_defs.specs.declared.Found.TheVariants.{At, Free, Missing}
 use Rattle.nf_laws.proofs.Climbs.{node_row_each}
-use Rattle.nf_laws.proofs.Rows.{child_owner, found_is}
+use Rattle.nf_laws.proofs.Rows.{child_owner, found_is, row_is}
 use Rattle.nf_laws.specs.Walks.{LeadsNoFurther, LeadsToFree, WalkFollows}
 use Rattle.nf_words.proofs.Known.{KnownPath}
 use Rattle.nf_words.specs.Sound.{AreApart, AreSound, HasRoot, IsNodeSound, IsOwn}
@@ -221,10 +221,9 @@ pub leads_own : (t : Tables) (user from : ℕ) (names : List (List ℕ)) (node :
     → Leads t.nodes from names node → IsOf t user from → IsOf t user node
 leads_own t user _ _ _ sound (stays at) of = of
 leads_own t user _ _ _ sound (leads_on at name names child node folds there place named led) of =
-    let h = found_is (IsNodeSound t) (λ row. row.id == child.id) t.nodes child sound.nodes there in
-    let owner : owner_of t.nodes at ≡ of.row.owner = ap (λ (o : Option NodeRow). option_map_or (λ row. row.owner) o 0) of.there in
-    leads_own t user child.id names node sound led
-    (record { row = child; there = there; owner = sym (child_owner t child child.place at h.1.place place) ∙ owner ∙ of.owner })
+    let h = row_is t child.id child sound there in
+    let owner : of.row.owner ≡ child.owner = rw of.there at (child_owner t child child.place at h.1.place place) in
+    leads_own t user child.id names node sound led (record { row = child; there = there; owner = sym owner ∙ of.owner })
 
 pub root_own : (t : Tables) (row : UserRow) → AreSound t → user_row t.users row.id ≡ Some row → IsOf t row.id row.root
 root_own t row sound there =
@@ -252,8 +251,8 @@ path_own t who (Missing depth) node sound path is = absurd is
 
 pub is_own : (t : Tables) (user node : ℕ) → AreSound t → IsOf t user node → IsOwn t user node
 is_own t user node sound of =
-    let h = found_is (IsNodeSound t) (λ row. row.id == node) t.nodes of.row sound.nodes of.there in
+    let h = row_is t node of.row sound of.there in
     record {
-      given = omega (arith, h.1.given, eqb-true of.row.id node h.0);
+      given = omega (arith, h.0, h.1.given);
       owner = λ row there. ap (λ (r : NodeRow). r.owner) (same_Some row of.row (sym there ∙ of.there)) ∙ of.owner;
     }

@@ -21,7 +21,7 @@ use Rattle.nf_laws.proofs.Contents.{content_decides}
 use Rattle.nf_laws.proofs.Paths.{leads_found}
 use Rattle.nf_laws.proofs.OneRow.{row_itself}
 use Rattle.nf_laws.proofs.Replaced.{kept_replaced}
-use Rattle.nf_laws.proofs.Rows.{AreKept, folder_kept}
+use Rattle.nf_laws.proofs.Rows.{AreKept, folder_kept, row_id}
 use Rattle.nf_laws.proofs.Stays as states
 use Rattle.nf_laws.specs.Reads.{IsStored, LeadsToKey, PathStays, StoredIsRead}
 use Rattle.nf_words.proofs.Known.{Known, KnownNew, found_passes, known_change}
@@ -66,7 +66,7 @@ leads_kept : (before behind : List NodeRow) (from : ℕ) (names : List (List ℕ
 leads_kept before behind _ _ _ kept (stays at) = stays at
 leads_kept before behind _ _ _ kept (leads_on at name names child node folds there place named led) =
     let k = kept child.id child there in
-    let id : k.row.id ≡ child.id = eqb-true k.row.id child.id (found_passes (λ (row : NodeRow). row.id == child.id) behind k.row k.there) in
+    let id : k.row.id ≡ child.id = row_id behind child.id k.row k.there in
     leads_on at name names k.row node (folder_kept before behind at kept folds).0
     (subst (λ (n : ℕ). node_row behind n ≡ Some k.row) (sym id) k.there) (k.place ∙ place) (k.name ∙ named)
     (subst (λ (n : ℕ). Leads behind n names node) (sym id) (leads_kept before behind child.id names node kept led))
@@ -112,7 +112,7 @@ over_file t now node root path content blob old there file led =
     after = replaced t now node content blob
 
     id : old.id ≡ node
-    id = eqb-true old.id node (found_passes (λ (row : NodeRow). row.id == node) t.nodes old there)
+    id = row_id t.nodes node old there
 
     here : (a : Bool) → (content_eq old.content content && old.changed == now) ≡ a
         → HasFile (stamped t after now (if a then [] else Put (rows.Node (filled content now old)) ∷ [])).nodes root path content

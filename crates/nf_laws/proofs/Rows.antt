@@ -27,6 +27,15 @@ pub found_is : {X : Type 0} (P : X → Type 0) (test : X → Bool) (xs : List X)
 found_is {X = X} P test xs found all is =
     (found_passes test xs found is, subst (λ (o : Option X). IfSome o P) is (found_has P test xs all))
 
+-- a node's row has its number
+pub row_id : (rows : List NodeRow) (node : ℕ) (row : NodeRow) → node_row rows node ≡ Some row → row.id ≡ node
+row_id rows node row is = eqb-true row.id node (found_passes (λ row. row.id == node) rows row is)
+
+-- and is sound
+pub row_is : (t : Tables) (node : ℕ) (row : NodeRow) → AreSound t → node_row t.nodes node ≡ Some row → (row.id ≡ node) × IsNodeSound t row
+row_is t node row sound is =
+    (row_id t.nodes node row is, (found_is (IsNodeSound t) (λ row. row.id == node) t.nodes row sound.nodes is).1)
+
 -- what all pieces of rows have, those of a node have
 pub content_has : (P : Piece → Type 0) (rows : List NodeRow) (node : ℕ) → All (λ (row : NodeRow). All P row.content) rows → All P (content_of rows node)
 content_has P rows node all = here (node_row rows node) (found_has (λ (row : NodeRow). All P row.content) (λ row. row.id == node) rows all)
@@ -73,8 +82,7 @@ none_above t user sound = of_user (user_row t.users user) refl
     of_no_user : (o : Option NodeRow) → node_row t.nodes 0 ≡ o → option_and_then (λ row. folder_of row.place) o ≡ None
     of_no_user None e = refl
     of_no_user (Some row) e =
-        let h = found_is (IsNodeSound t) (λ row. row.id == 0) t.nodes row sound.nodes e in
-        absurd (omega (arith, h.1.some, eqb-true row.id 0 h.0))
+        let h = row_is t 0 row sound e in absurd (omega (arith, h.0, h.1.some))
 
     of_user : (o : Option UserRow) → user_row t.users user ≡ o → parent_of t.nodes (option_map_or (λ row. row.root) o 0) ≡ None
     of_user None e = of_no_user (node_row t.nodes 0) refl
@@ -109,6 +117,16 @@ child_owner t row Root folder sound is = absurd (cc)
 child_owner t row (Inside parent) folder sound is =
     let e : parent ≡ folder = cc in subst (λ (n : ℕ). owner_of t.nodes n ≡ row.owner) e sound.1
 child_owner t row Trash folder sound is = absurd sound
+
+-- so what a node that is there is in is a folder of its owner's
+pub parent_there : (t : Tables) (node parent : ℕ) (row : NodeRow) → AreSound t → node_row t.nodes node ≡ Some row
+    → parent_of t.nodes node ≡ Some parent
+    → (folder : NodeRow) × (node_row t.nodes parent ≡ Some folder) × (is_folder_kind folder.kind ≡ true) × (folder.owner ≡ row.owner)
+parent_there t node parent row sound there above =
+    let place = inside_folder row.place parent (rw there at above) in
+    let h = (row_is t node row sound there).1.place in
+    let folder = folder_there t.nodes parent (child_folder t row row.place parent h place) in
+    (folder.0, folder.1, folder.2, rw folder.1 at (child_owner t row row.place parent h place))
 
 -- ---- what stays where each node keeps its owner, place, name and kind
 

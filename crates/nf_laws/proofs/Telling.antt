@@ -27,6 +27,7 @@ use Rattle.nf_laws.proofs.OneRow.{KeepsId, row_itself}
 use Rattle.nf_laws.proofs.Mirrored.{mirrored}
 use Rattle.nf_laws.proofs.Paths.{child_there, path_own}
 use Rattle.nf_laws.proofs.Puts.{AreNumbered, another, drops_for, drops_under, fewer, put_changed, put_new, puts_new, walk_there}
+use Rattle.nf_laws.proofs.Rows.{row_id}
 use Rattle.nf_laws.specs.Tells.{ChangesTell}
 use Rattle.nf_words.proofs.Known.{Known, KnownContent, KnownCopies, KnownGone, KnownNew, KnownPath, KnownTransfer, found_passes, known_change}
 use Rattle.nf_words.specs.Changes.{changed, changes_of, cleared, created, dropped_for, dropped_under, joined, meta_after, new_meta, refilled, replaced, same_meta, stamped, told, transferred, transferred_row, with_meta}
@@ -238,7 +239,7 @@ replaced_differ t who transfer name sound known = here transfer.replaced refl
 relinked_other : (t : Tables) (who : Option ℕ) (transfer : Transfer) (name : List ℕ) (row : NodeRow) → AreSound t
     → KnownTransfer t who transfer name → node_row t.nodes transfer.node ≡ Some row → relinked transfer.folder name row ≢ row
 relinked_other t who transfer name row sound known there = λ same.
-    let id : row.id ≡ transfer.node = eqb-true row.id transfer.node (found_passes (λ row. row.id == transfer.node) t.nodes row there) in
+    let id = row_id t.nodes transfer.node row there in
     let place : row.place ≡ Inside transfer.folder = sym (ap (λ (r : NodeRow). r.place) same) in
     let named : row.name ≡ name = sym (ap (λ (r : NodeRow). r.name) same) in
     let child : child_of t.nodes transfer.folder row.name ≡ Some row.id =

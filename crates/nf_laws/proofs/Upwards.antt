@@ -10,7 +10,7 @@ use Rattle.nf_defs.specs.Tables.{Tables}
 use Rattle.nf_defs.specs.Tree.{climb, depth, folder_of, is_root, is_root_place, is_under, node_row, parent_of}
 use Rattle.nf_words.specs.Sound.{AreSound, IsNodeSound, root_of_user}
 use Rattle.nf_laws.proofs.Climbs.{climb_under, climbs_no_further, depth_is, under_climb}
-use Rattle.nf_laws.proofs.Rows.{found_is, none_above}
+use Rattle.nf_laws.proofs.Rows.{none_above, row_is}
 
 -- a node leads to its owner's root
 pub record IsRooted (t : Tables) (node : ℕ) (row : NodeRow) : Type 0 where
@@ -20,11 +20,11 @@ pub record IsRooted (t : Tables) (node : ℕ) (row : NodeRow) : Type 0 where
 
 pub rooted : (t : Tables) (node : ℕ) (row : NodeRow) → AreSound t → node_row t.nodes node ≡ Some row → IsRooted t node row
 rooted t node row sound there =
-    let h = found_is (IsNodeSound t) (λ row. row.id == node) t.nodes row sound.nodes there in
+    let h = row_is t node row sound there in
     record {
       steps = h.1.steps;
       shallow = h.1.shallow;
-      climbs = subst (λ (n : ℕ). climb t.nodes h.1.steps n ≡ Some (root_of_user t row.owner)) (eqb-true row.id node h.0) h.1.present;
+      climbs = subst (λ (n : ℕ). climb t.nodes h.1.steps n ≡ Some (root_of_user t row.owner)) h.0 h.1.present;
     }
 
 pub climb_few : (j : ℕ) (t : Tables) (node top : ℕ) (row : NodeRow) → AreSound t → node_row t.nodes node ≡ Some row

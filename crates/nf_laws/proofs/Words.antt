@@ -13,7 +13,7 @@ use Rattle.nf_defs.specs.People.{user_row}
 use Rattle.nf_defs.specs.Tables.{Tables}
 use Rattle.nf_defs.specs.Tree.{child_of, climb, folder_of, is_in, is_present, is_under, node_row, parent_of, taken_names}
 use Rattle.nf_laws.proofs.Climbs.{climb_under, climbs_no_further, depth_is, under_climb}
-use Rattle.nf_laws.proofs.Rows.{child_folder, folder_there, found_is, inside_folder, none_above}
+use Rattle.nf_laws.proofs.Rows.{found_is, none_above, parent_there, row_is}
 use Rattle.nf_laws.specs.Tree.{DepthIsClimbed, NamesAreTaken, NodesArePresent, Under, UnderIsDerived, itself, inside}
 use Rattle.nf_words.specs.Sound.{AreSound, IsNodeSound, root_of_user}
 
@@ -42,20 +42,14 @@ under_derived t top sound k d within =
 
 -- ---- present
 
-some_number : (t : Tables) (node : ℕ) (row : NodeRow) → AreSound t → node_row t.nodes node ≡ Some row → 1 ≤ node
-some_number t node row sound there =
-    let h = found_is (IsNodeSound t) (λ row. row.id == node) t.nodes row sound.nodes there in
-    omega (arith, h.1.some, eqb-true row.id node h.0)
-
 -- no climb ends at 0, the number of no node
 climb_ends : (k : ℕ) (t : Tables) (node top : ℕ) → AreSound t → 1 ≤ node → climb t.nodes k node ≡ Some top → 1 ≤ top
 climb_ends zero t node top sound some is = omega (arith, same_Some node top is)
 climb_ends (suc k) t node top sound some is =
     option_and_then_some (climb t.nodes k) (parent_of t.nodes node) top is (λ parent above is.
     option_and_then_some (λ row. folder_of row.place) (node_row t.nodes node) parent above (λ row there place.
-    let h = found_is (IsNodeSound t) (λ row. row.id == node) t.nodes row sound.nodes there in
-    let f = folder_there t.nodes parent (child_folder t row row.place parent h.1.place (inside_folder row.place parent place)) in
-    climb_ends k t parent top sound (some_number t parent f.0 sound f.1) is))
+    let folder = parent_there t node parent row sound there above in
+    let h = row_is t parent folder.0 sound folder.1 in climb_ends k t parent top sound (omega (arith, h.0, h.1.some)) is))
 
 pub nodes_present : NodesArePresent
 nodes_present t sound k d within = here (user_row t.users row.owner) refl h.present
