@@ -188,7 +188,7 @@ module _ (t : Tables) (now : ℕ) (transfer : Transfer) (name : List ℕ) (rows 
 -- ---- the tables with the copies
 
 module _ (t : Tables) (now : ℕ) (who : Option ℕ) (transfer : Transfer) (name : List ℕ) (rows : List NodeRow)
-    (mirrors : Mirrors t now transfer name rows) (sound : AreSound t) (later : t.meta.last ≤ now) (known : KnownTransfer t who transfer name) where
+    (mirrors : Mirrors t now transfer name rows) (sound : AreSound t) (known : KnownTransfer t who transfer name) where
   abbrev left : Tables
   left = record t { nodes = cleared t.nodes transfer.replaced }
 
@@ -341,10 +341,10 @@ module _ (t : Tables) (now : ℕ) (who : Option ℕ) (transfer : Transfer) (name
 
   -- ---- all rows
 
-  joined_sound : AllPairs (λ (a b : ℕ). a ≢ b) (walk_of t.nodes transfer.node)
+  joined_sound : t.meta.last ≤ now → AllPairs (λ (a b : ℕ). a ≢ b) (walk_of t.nodes transfer.node)
       → length t.nodes + length (walk_of t.nodes transfer.node) ≤ 262144
       → piece_count t.nodes + pieces_in t.nodes (walk_of t.nodes transfer.node) ≤ 1048576 → AreSound made
-  joined_sound once few_nodes few_pieces =
+  joined_sound later once few_nodes few_pieces =
       let kept = kept_joined left.nodes rows in
       let counts = counts_cleared t.nodes transfer.replaced in
       record {
@@ -376,5 +376,5 @@ pub copied_sound : (t : Tables) (now : ℕ) (who : Option ℕ) (rows : List Node
     → AreSound t → t.meta.last ≤ now → KnownCopies t now who rows replaced → AreSound (stamp (joined t rows replaced) now)
 copied_sound t now who rows replaced sound later copies =
     subst (λ (o : Option ℕ). AreSound (stamp (joined t rows o) now)) (sym copies.replaced_is)
-    (joined_sound t now who copies.transfer copies.name rows (mirrored t now who rows replaced sound copies) sound later copies.known
+    (joined_sound t now who copies.transfer copies.name rows (mirrored t now who rows replaced sound copies) sound copies.known later
     (walks_take.once t copies.transfer.node sound) copies.nodes copies.pieces)

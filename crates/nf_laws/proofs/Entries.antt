@@ -1,5 +1,5 @@
 -- What a state is after an entry: as before it but for what an event takes, or as an act made it of which its Known is known.
-use Rattle.std.proofs.Common.{ℕ, ◌==◌, ◌≡◌, not, List, Option, None, Some, Result, Ok, Err, refl, subst}
+use Rattle.std.proofs.Common.{ℕ, ◌==◌, ◌≡◌, not, List, Option, None, Some, Result, Ok, Err, refl, ap, subst}
 use Rattle.std.specs.List.{All}
 use Rattle.std.specs.Option.{IfSome}
 use Rattle.std.proofs.lemmas.List.Elements.{All-filter, All-push}
@@ -60,6 +60,13 @@ step_has P s seat now event refused acts = here (decision_of s seat now event) a
     here (Ok act) acts =
         subst (λ (t : Tables). P (changed t now act) (with_goal left.tickets seat (goal_of act)) (Ok act)) (same_tables s seat event) (acts act refl)
     here (Err refusal) acts = subst (λ (t : Tables). P t left.tickets (Err refusal)) (same_tables s seat event) (refused refusal)
+
+-- the tables that an act makes
+pub step_changed : (s : State) (seat now : ℕ) (event : Event) (act : Allowed) → decision_of s seat now event ≡ Ok act
+    → (step s seat now event).tables ≡ changed s.tables now act
+step_changed s seat now event act =
+    step_has (λ t tickets decision. decision ≡ Ok act → t ≡ changed s.tables now act) s seat now event (λ refusal is. absurd (cc))
+    (λ other decides is. let same : other ≡ act = cc in ap (changed s.tables now) same)
 
 -- ---- an entry
 

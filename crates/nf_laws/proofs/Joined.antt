@@ -15,10 +15,12 @@ use Rattle.nf_defs.specs.Tables.{Tables}
 use Rattle.nf_defs.specs.Tree.{child_of, climb, folder_of, is_under, node_row, parent_of}
 use Rattle.nf_defs.specs.declared.Found.TheVariants.{At}
 use Rattle.nf_laws.proofs.Climbs.{climb_on, climb_under, under_climb}
-use Rattle.nf_laws.proofs.Gone.{all_cleared, row_cleared, row_gone}
+use Rattle.nf_laws.proofs.Copied.{copies_there, old_joined}
+use Rattle.nf_laws.proofs.Entries.{step_changed}
+use Rattle.nf_laws.proofs.Gone.{row_cleared, row_gone}
 use Rattle.nf_laws.proofs.Mirrored.{mirrored}
 use Rattle.nf_laws.proofs.Paths.{IsOf, path_own}
-use Rattle.nf_laws.proofs.Rows.{finds_none, row_is}
+use Rattle.nf_laws.proofs.Rows.{row_is, stamped_nodes}
 use Rattle.nf_laws.specs.Transfers.{AreCopied, CopiesMirror, Mirrors, is_replaced}
 use Rattle.nf_words.proofs.Known.{KnownCopies, KnownTransfer, child_parent, known_change}
 use Rattle.nf_words.specs.Actors.{actor_of}
@@ -33,41 +35,7 @@ use Rattle.nf_words.specs.declared.history.Event.{Event}
 use Rattle.nf_words.specs.declared.history.Event.TheVariants.{Begin, End}
 use Rattle.nf_words.specs.declared.request.Transfer.{Transfer}
 
--- ---- rows with one number after the other
-
-abbrev pub AreNumbered : ℕ → List NodeRow → Type 0
-AreNumbered first copies = (k : ℕ) (copy : NodeRow) → slice_get copies k ≡ Some copy → copy.id ≡ first + k
-
--- each is found by its own
-pub numbered_row : (first : ℕ) (copies : List NodeRow) → AreNumbered first copies
-    → (k : ℕ) (copy : NodeRow) → slice_get copies k ≡ Some copy → node_row copies copy.id ≡ Some copy
-numbered_row first [] numbered k copy is = absurd (none-some copy is)
-numbered_row first (x ∷ copies) numbered zero copy is =
-    let e : (x.id == copy.id) ≡ true = eq-eqb x.id copy.id (ap (λ (r : NodeRow). r.id) (same_Some x copy is)) in
-    rw e is
-numbered_row first (x ∷ copies) numbered (suc k) copy is =
-    let low = numbered 0 x refl in
-    let high = numbered (suc k) copy is in
-    let e : (x.id == copy.id) ≡ false = ne_eqb x.id copy.id (λ same. absurd (omega arith)) in
-    rw e (numbered_row (first + 1) copies (λ j other is. let h = numbered (suc j) other is in omega arith) k copy is)
-
--- and none by a lower number
-pub numbered_none : (first : ℕ) (copies : List NodeRow) (node : ℕ) → AreNumbered first copies → node < first → node_row copies node ≡ None
-numbered_none first copies node numbered less =
-    finds_none (λ row. row.id == node) copies (λ k d within.
-    let h = numbered k (get_or copies k d) (slice_get-get_or copies k d within) in
-    ne_eqb (get_or copies k d).id node (λ same. absurd (omega arith)))
-
 -- ---- nodes that are there
-
--- a number that wasn't given yet is no node's
-pub none_given : (t : Tables) (replaced : Option ℕ) (node : ℕ) → AreSound t → t.meta.next_node ≤ node
-    → node_row (cleared t.nodes replaced) node ≡ None
-none_given t replaced node sound new =
-    finds_none (λ row. row.id == node) (cleared t.nodes replaced)
-    (all_cleared (λ (row : NodeRow). (row.id == node) ≡ false) t.nodes replaced (λ k d within.
-    let h = (sound.nodes k d within).given in
-    ne_eqb (get_or t.nodes k d).id node (λ same. absurd (omega arith))))
 
 pub was_given : (t : Tables) (node : ℕ) (row : NodeRow) → AreSound t → node_row t.nodes node ≡ Some row → node < t.meta.next_node
 was_given t node row sound there =
@@ -127,52 +95,7 @@ replaced_given t (Some top) folder name node sound there goes =
     option_and_then_some (λ row. folder_of row.place) (node_row t.nodes top) folder (child_parent t.nodes folder name top sound.rising there)
     (λ row found placed. under_given t top node row sound found goes)
 
--- ---- the rows with the copies
-
-or_none : {X : Type 0} (o : Option X) → option_or o None ≡ o
-or_none None = refl
-or_none (Some x) = refl
-
-module _ (t : Tables) (replaced : Option ℕ) (copies : List NodeRow) (sound : AreSound t) (numbered : AreNumbered t.meta.next_node copies) where
-  pub copy_there : (k : ℕ) (copy : NodeRow) → slice_get copies k ≡ Some copy
-      → node_row (cleared t.nodes replaced ++ copies) copy.id ≡ Some copy
-  copy_there k copy is =
-      find-append (λ row. row.id == copy.id) (cleared t.nodes replaced) copies
-      ∙ ap (λ (o : Option NodeRow). option_or o (node_row copies copy.id))
-      (none_given t replaced copy.id sound (let h = numbered k copy is in omega arith))
-      ∙ numbered_row t.meta.next_node copies numbered k copy is
-
-  -- a number that was given is no copy's
-  old_row : (node : ℕ) → node < t.meta.next_node → node_row (cleared t.nodes replaced ++ copies) node ≡ node_row (cleared t.nodes replaced) node
-  old_row node given =
-      find-append (λ row. row.id == node) (cleared t.nodes replaced) copies
-      ∙ ap (λ (o : Option NodeRow). option_or (node_row (cleared t.nodes replaced) node) o)
-      (numbered_none t.meta.next_node copies node numbered given)
-      ∙ or_none (node_row (cleared t.nodes replaced) node)
-
-  pub other_kept : (node : ℕ) → node < t.meta.next_node → is_replaced t.nodes replaced node ≡ false
-      → node_row (cleared t.nodes replaced ++ copies) node ≡ node_row t.nodes node
-  other_kept node given stays = old_row node given ∙ row_cleared t.nodes replaced node stays
-
-  pub replaced_gone : (node : ℕ) → node < t.meta.next_node → is_replaced t.nodes replaced node ≡ true
-      → node_row (cleared t.nodes replaced ++ copies) node ≡ None
-  replaced_gone node given goes = old_row node given ∙ row_gone t.nodes replaced node goes
-
 -- ---- the step
-
-pub step_changed : (s : State) (seat now : ℕ) (event : Event) (act : Allowed) → decision_of s seat now event ≡ Ok act
-    → (step s seat now event).tables ≡ changed s.tables now act
-step_changed s seat now event act is =
-    ap (λ (d : Result Allowed Denial). (stepped_by s seat now event d).tables) is ∙ ap (λ (t : Tables). changed t now act) (here event)
-  where
-    here : (event : Event) → (without s seat event).tables ≡ s.tables
-    here (Begin words request) = refl
-    here (End outcome) = refl
-
--- where a row differs the nodes are those that the act makes
-stamped_nodes : (t made : Tables) (now : ℕ) (changes : List Change) → 1 ≤ length changes → (stamped t made now changes).nodes ≡ made.nodes
-stamped_nodes t made now [] some = absurd (omega arith)
-stamped_nodes t made now (change ∷ changes) some = refl
 
 copies_told : (t : Tables) (now : ℕ) (transfer : Transfer) (name : List ℕ) (copies : List NodeRow) (replaced : Option ℕ)
     → Mirrors t now transfer name copies
@@ -188,38 +111,47 @@ copies_told t now transfer name copies replaced mirrors =
     ))
 
 are_copied : (t : Tables) (now : ℕ) (who : Option ℕ) (copies : List NodeRow) (replaced : Option ℕ) → AreSound t
-    → KnownCopies t now who copies replaced → AreCopied t (changed t now (allowed.Copy copies replaced)).nodes now copies replaced
+    → KnownCopies t now who copies replaced → AreCopied t (cleared t.nodes replaced ++ copies) now copies replaced
 are_copied t now who copies replaced sound known =
-    subst (λ (nodes : List NodeRow). AreCopied t nodes now copies replaced)
-    (sym (copies_told t now known.transfer known.name copies replaced mirrors)) (record {
-      transfer = known.transfer;
-      name = known.name;
-      replaced_is = known.replaced_is;
+    subst (λ (o : Option ℕ). AreCopied t (cleared t.nodes o ++ copies) now copies o) (sym known.replaced_is) (record {
+      transfer = transfer;
+      name = name;
+      replaced_is = refl;
       mirrors = mirrors;
-      there = copy_there t replaced copies sound numbered;
+      there = copies_there t now who transfer name copies mirrors sound known.known;
       source = λ node under.
-          other_kept t replaced copies sound numbered node
-          (under_given t known.transfer.node node of.row sound of.there under)
-          (subst (λ (o : Option ℕ). is_replaced t.nodes o node ≡ false) (sym known.replaced_is)
-          (source_stays t who known.transfer known.name node sound known.known under));
+          others node (under_given t transfer.node node of.row sound of.there under)
+          (source_stays t who transfer name node sound known.known under);
       gone = λ node goes.
-          replaced_gone t replaced copies sound numbered node
-          (replaced_given t replaced known.transfer.folder known.name node sound (known.known.there ∙ sym known.replaced_is) goes) goes;
-      others = other_kept t replaced copies sound numbered;
+          old_joined t now transfer name copies mirrors (cleared t.nodes transfer.replaced) node
+          (replaced_given t transfer.replaced transfer.folder name node sound known.known.there goes)
+          ∙ row_gone t.nodes transfer.replaced node goes;
+      others = others;
     })
   where
-    of : IsOf t known.known.source.row.id known.transfer.node
-    of = path_own t who (At known.transfer.node) known.transfer.node sound known.known.source refl
+    transfer : Transfer
+    transfer = known.transfer
 
-    mirrors : Mirrors t now known.transfer known.name copies
+    name : List ℕ
+    name = known.name
+
+    of : IsOf t known.known.source.row.id transfer.node
+    of = path_own t who (At transfer.node) transfer.node sound known.known.source refl
+
+    mirrors : Mirrors t now transfer name copies
     mirrors = mirrored t now who copies replaced sound known
 
-    numbered : AreNumbered t.meta.next_node copies
-    numbered k copy is = (mirrors.each k copy is).id
+    others : (node : ℕ) → node < t.meta.next_node → is_replaced t.nodes transfer.replaced node ≡ false
+        → node_row (cleared t.nodes transfer.replaced ++ copies) node ≡ node_row t.nodes node
+    others node given stays =
+        old_joined t now transfer name copies mirrors (cleared t.nodes transfer.replaced) node given
+        ∙ row_cleared t.nodes transfer.replaced node stays
 
 pub copies_mirror_all : CopiesMirror
 copies_mirror_all s seat now event copies replaced sound may is =
-    subst (λ (t : Tables). AreCopied s.tables t.nodes now copies replaced)
-    (sym (step_changed s seat now event (allowed.Copy copies replaced) is))
-    (are_copied s.tables now (actor_of s seat event) copies replaced sound.rows
-    (known_change s seat now event (allowed.Copy copies replaced) sound may is))
+    let known = known_change s seat now event (allowed.Copy copies replaced) sound may is in
+    let nodes = copies_told s.tables now known.transfer known.name copies replaced
+    (mirrored s.tables now (actor_of s seat event) copies replaced sound.rows known) in
+    subst (λ (nodes : List NodeRow). AreCopied s.tables nodes now copies replaced)
+    (sym (ap (λ (t : Tables). t.nodes) (step_changed s seat now event (allowed.Copy copies replaced) is) ∙ nodes))
+    (are_copied s.tables now (actor_of s seat event) copies replaced sound.rows known)

@@ -1,5 +1,5 @@
 -- What a MOVE leaves as it was.
-use Rattle.std.proofs.Common.{ℕ, zero, suc, ◌==◌, ◌≡◌, ◌≢◌, Bool, true, false, not, List, [], ◌∷◌, ◌++◌, Option, None, Some, filter, get_or, map, option_map, refl, sym, ap, subst, ◌∙◌}
+use Rattle.std.proofs.Common.{ℕ, zero, suc, ◌==◌, ◌≡◌, ◌≢◌, Bool, true, false, not, List, [], ◌∷◌, ◌++◌, Option, None, Some, filter, get_or, length, map, option_map, refl, sym, ap, subst, ◌∙◌, ◌≤◌, arith, length-append}
 use Rattle.std.specs.List.{All, flat_map}
 use Rattle.std.specs.Option.{option_and_then}
 use Rattle.std.proofs.lemmas.Bool.{eq-eqb, eqb-true, false≢true, ne_eqb, not-false}
@@ -14,7 +14,9 @@ use Rattle.nf_defs.specs.declared.Found.TheVariants.{At}
 use Rattle.nf_defs.specs.Tree.{by_name, children_of, climb, folder_of, is_in, is_under, node_row, parent_of, relinked, walk_of, walk_within, with_node}
 use Rattle.nf_laws.proofs.Climbs.{climb_under, node_row_each}
 use Rattle.nf_laws.proofs.Gone.{row_cleared, row_gone}
-use Rattle.nf_laws.proofs.Joined.{source_stays, step_changed}
+use Rattle.nf_laws.proofs.Entries.{step_changed}
+use Rattle.nf_laws.proofs.Joined.{source_stays}
+use Rattle.nf_laws.proofs.Rows.{stamped_nodes}
 use Rattle.nf_laws.proofs.OneRow.{row_with}
 use Rattle.nf_laws.proofs.Owning.{others_left}
 use Rattle.nf_laws.proofs.Paths.{path_own}
@@ -159,12 +161,6 @@ moved_rows t who transfer name sound known = record {
     is_gone : (node : ℕ) → is_replaced t.nodes transfer.replaced node ≡ true → node ≢ transfer.node
     is_gone node goes = λ same. false≢true (sym known.apart ∙ ap (is_replaced t.nodes transfer.replaced) (sym same) ∙ goes)
 
--- where something is told, the nodes are those after
-pub nodes_stamped : (before after : Tables) (now : ℕ) (changes : List Change) (change : Change)
-    → (stamped before after now (changes ++ change ∷ [])).nodes ≡ after.nodes
-nodes_stamped before after now [] change = refl
-nodes_stamped before after now (first ∷ changes) change = refl
-
 pub moves_keep : MovesKeep
 moves_keep s seat now event transfer name sound asked decides =
     let t = s.tables in
@@ -172,10 +168,9 @@ moves_keep s seat now event transfer name sound asked decides =
     let act = allowed.Move transfer name in
     let known = known_change s seat now event act sound asked decides in
     let own = path_own t who (At transfer.node) transfer.node sound.rows known.source refl in
-    let told_is : told t now act ≡ dropped_for t.nodes transfer.replaced ++ Put (rows.Node (relinked transfer.folder name own.row)) ∷ [] =
-    ap (λ (row : Option NodeRow). dropped_for t.nodes transfer.replaced ++ transferred_row row transfer name) own.there in
+    let row : length (transferred_row (node_row t.nodes transfer.node) transfer name) ≡ 1 = rw own.there refl in
+    let some : 1 ≤ length (told t now act) =
+    omega (arith, row, length-append (dropped_for t.nodes transfer.replaced) (transferred_row (node_row t.nodes transfer.node) transfer name)) in
     let nodes : (step s seat now event).tables.nodes ≡ nodes_after t transfer name =
-    ap (λ (made : Tables). made.nodes) (step_changed s seat now event act decides)
-    ∙ ap (λ (changes : List Change). (stamped t (altered t now act) now changes).nodes) told_is
-    ∙ nodes_stamped t (altered t now act) now (dropped_for t.nodes transfer.replaced) (Put (rows.Node (relinked transfer.folder name own.row))) in
+    ap (λ (made : Tables). made.nodes) (step_changed s seat now event act decides) ∙ stamped_nodes t (altered t now act) now (told t now act) some in
     subst (λ (after : List NodeRow). IsMoved t.nodes after transfer name) (sym nodes) (moved_rows t who transfer name sound.rows known)

@@ -1,5 +1,5 @@
 -- Rows that may change while each node keeps its owner, place, name and kind.
-use Rattle.std.proofs.Common.{ℕ, suc, zero, ◌==◌, ◌≡◌, ◌≤◌, Bool, true, false, List, [], ◌∷◌, Option, None, Some, find, option_map, refl, sym, ap, subst, ◌∙◌, arith, le_refl}
+use Rattle.std.proofs.Common.{ℕ, suc, zero, ◌==◌, ◌≡◌, ◌≤◌, Bool, true, false, List, [], ◌∷◌, Option, None, Some, find, length, option_map, refl, sym, ap, subst, ◌∙◌, arith, le_refl}
 use Rattle.std.specs.List.{All}
 use Rattle.std.specs.Option.{IfSome, option_and_then, option_map_or}
 use Rattle.std.proofs.lemmas.Bool.{false≢true, eqb-true}
@@ -251,6 +251,11 @@ stamp t now = record t { meta = record t.meta { last = now } }
 pub stamped_has : (P : Tables → Type 0) (t made : Tables) (now : ℕ) (changes : List Change) → P t → P (stamp made now) → P (stamped t made now changes)
 stamped_has P t made now [] same stamps = same
 stamped_has P t made now (change ∷ changes) same stamps = stamps
+
+-- where a row differs the nodes are those of the tables made
+pub stamped_nodes : (t made : Tables) (now : ℕ) (changes : List Change) → 1 ≤ length changes → (stamped t made now changes).nodes ≡ made.nodes
+stamped_nodes t made now [] some = absurd (omega arith)
+stamped_nodes t made now (change ∷ changes) some = refl
 
 -- a later moment changes nothing else
 pub stamp_sound : (t : Tables) (now : ℕ) → AreSound t → t.meta.last ≤ now → AreSound (stamp t now)
