@@ -21,7 +21,7 @@ use Rattle.nf_words.specs.Endings.{blob_for, content_in}
 use Rattle.nf_words.specs.History.{MayAsk, after_mark, failed}
 use Rattle.nf_words.specs.Sound.{AreSound, IsGoalSound, IsNodeSound, IsPieceSound, IsSound}
 use Rattle.nf_words.specs.State.{State, ticket_for, without_ticket}
-use Rattle.nf_words.specs.Step.{blob_by, blob_to, decided, decision_of, step}
+use Rattle.nf_words.specs.Step.{without}
 use Rattle.nf_words.specs.declared.answer.Allowed.{Allowed}
 use Rattle.nf_words.specs.declared.answer.Allowed.TheVariants as allowed
 use Rattle.nf_words.specs.declared.answer.Denial.{Denial}
@@ -34,10 +34,11 @@ use Rattle.nf_words.specs.declared.history.Mark.{Mark}
 use Rattle.nf_words.specs.declared.history.Mark.TheVariants as mark
 use Rattle.nf_words.specs.declared.history.Ticket.{Ticket}
 use Rattle.nf_words.proofs.Known.{Known, KnownCopies, found_has, known_change}
-use Rattle.nf_laws.proofs.Bodies.{Decides, IsNext, StoresBody, act_next, altered_next, begin_none, decision_stores, told_blob}
+use Rattle.nf_laws.proofs.Bodies.{Decides, IsNext, StoresBody, act_next, altered_next, decision_stores, told_blob}
+use Rattle.nf_laws.proofs.Entries.{entry_has, tickets_left, tickets_with}
 use Rattle.nf_laws.proofs.Gone.{all_cleared}
 use Rattle.nf_laws.proofs.Mirrored.{mirrored}
-use Rattle.nf_laws.proofs.Rows.{found_is, stamped_has}
+use Rattle.nf_laws.proofs.Rows.{content_has, found_is, stamped_has}
 use Rattle.nf_laws.specs.Wholes.{BlobsAreNew, Brings, IsGoalHeld, IsHeld, IsThere, IsWhole, StaysWhole, blob_in, blob_under}
 
 -- ---- pieces whose bytes stay
@@ -127,9 +128,6 @@ altered_held : (t : Tables) (now : ℕ) (who : Option ℕ) (act : Allowed) (open
     → AreSound t → Known t now who act
     → All (IsRowHeld opening (with_blob blobs (blob_of act) body)) t.nodes → StoresBody t.meta.next_blob body act
     → All (IsRowHeld opening (with_blob blobs (blob_of act) body)) (altered t now act).nodes
-altered_held t now who (allowed.Get node content) opening blobs body sound known kept stores = kept
-altered_held t now who (allowed.List listing) opening blobs body sound known kept stores = kept
-altered_held t now who (allowed.Put by key size) opening blobs body sound known kept stores = kept
 altered_held t now who (allowed.StoreNew row blob) opening blobs body sound known kept stores =
     All-push (IsRowHeld opening (with_blob blobs blob body)) t.nodes row kept
     (stored_held t.meta.next_blob opening blobs body blob row.content stores.0 stores.1)
@@ -147,7 +145,7 @@ altered_held t now who (allowed.Move transfer name) opening blobs body sound kno
 altered_held t now who (allowed.Copy copies replaced) opening blobs body sound known kept stores =
     All-append (IsRowHeld opening blobs) (cleared t.nodes replaced) copies (all_cleared (IsRowHeld opening blobs) t.nodes replaced kept)
     (copies_held t now who copies replaced opening blobs sound known kept)
-altered_held t now who allowed.Close opening blobs body sound known kept stores = kept
+altered_held t now who act opening blobs body sound known kept stores = kept
 
 changed_held : (t : Tables) (now : ℕ) (who : Option ℕ) (act : Allowed) (opening : List Row) (blobs : Blobs) (body : List ℕ)
     → AreSound t → Known t now who act
@@ -175,93 +173,42 @@ tickets_kept : (t : Tables) (opening : List Row) (blobs more : Blobs) (tickets :
 tickets_kept t opening blobs more tickets keeps sound held = λ k d within.
     goal_kept t opening blobs more (get_or tickets k d).goal keeps (sound k d within) (held k d within)
 
-content_held : (rows : List NodeRow) (opening : List Row) (blobs : Blobs) (node : ℕ) → All (IsRowHeld opening blobs) rows
-    → All (IsHeld opening blobs) (content_of rows node)
-content_held rows opening blobs node all = here (node_row rows node) refl
-  where
-    here : (o : Option NodeRow) → node_row rows node ≡ o → All (IsHeld opening blobs) (option_map_or (λ row. row.content) o [])
-    here None e = All-nil (IsHeld opening blobs)
-    here (Some row) e =
-        subst (λ (o : Option NodeRow). IfSome o (IsRowHeld opening blobs)) e
-        (found_has (IsRowHeld opening blobs) (λ row. row.id == node) rows all)
-
 granted_held : (t : Tables) (now : ℕ) (who : Option ℕ) (act : Allowed) (opening : List Row) (blobs : Blobs) → Known t now who act
     → All (IsRowHeld opening blobs) t.nodes → IfSome (goal_of act) (IsGoalHeld opening blobs)
 granted_held t now who (allowed.Get node content) opening blobs known all =
-    subst (λ (c : List Piece). All (IsHeld opening blobs) c) (sym known.of_node) (content_held t.nodes opening blobs node all)
-granted_held t now who (allowed.List listing) opening blobs known all = tt
-granted_held t now who (allowed.Put by key size) opening blobs known all = tt
-granted_held t now who (allowed.StoreNew row blob) opening blobs known all = tt
-granted_held t now who (allowed.StoreOver node content blob) opening blobs known all = tt
-granted_held t now who (allowed.Mkcol row) opening blobs known all = tt
-granted_held t now who (allowed.Delete node) opening blobs known all = tt
-granted_held t now who (allowed.Move transfer name) opening blobs known all = tt
-granted_held t now who (allowed.Copy copies replaced) opening blobs known all = tt
-granted_held t now who allowed.Close opening blobs known all = tt
-
-tickets_held : (tickets : List Ticket) (seat : ℕ) (goal : Option Goal) (opening : List Row) (blobs : Blobs)
-    → All (HasGoalHeld opening blobs) tickets → IfSome goal (IsGoalHeld opening blobs)
-    → All (HasGoalHeld opening blobs) (with_goal tickets seat goal)
-tickets_held tickets seat None opening blobs all held = all
-tickets_held tickets seat (Some goal) opening blobs all held =
-    All-push (HasGoalHeld opening blobs) tickets (ticket_for seat goal) all held
+    subst (All (IsHeld opening blobs)) (sym known.of_node) (content_has (IsHeld opening blobs) t.nodes node all)
+granted_held t now who act opening blobs known all = tt
 
 -- ---- the state
 
-decided_whole : (s : State) (seat now : ℕ) (who : Option ℕ) (decision : Result Allowed Denial) (opening : List Row) (blobs : Blobs) (body : List ℕ)
-    → AreSound s.tables → All (HasGoalSound s.tables) s.tickets
-    → ((act : Allowed) → decision ≡ Ok act → Known s.tables now who act) → Decides s.tables body decision → IsWhole opening s blobs
-    → IsWhole opening (decided s seat now decision) (with_blob blobs (blob_by decision) body)
-decided_whole s seat now who (Ok act) opening blobs body sound goals known stores whole =
+-- what the nodes and the granted GETs name is held
+abbrev Holds : List Row → Blobs → Tables → List Ticket → Type 0
+Holds opening blobs t tickets = All (IsRowHeld opening blobs) t.nodes × All (HasGoalHeld opening blobs) tickets
+
+-- so blobs are whole after an act
+act_whole : (t : Tables) (tickets : List Ticket) (seat now : ℕ) (who : Option ℕ) (act : Allowed) (opening : List Row) (blobs : Blobs) (body : List ℕ)
+    → AreSound t → All (HasGoalSound t) tickets → Known t now who act → StoresBody t.meta.next_blob body act
+    → Holds opening blobs t tickets → Holds opening (with_blob blobs (blob_of act) body) (changed t now act) (with_goal tickets seat (goal_of act))
+act_whole t tickets seat now who act opening blobs body sound goals known stores whole =
     let more = with_blob blobs (blob_of act) body in
-    let keeps = given_kept s.tables.meta.next_blob blobs (blob_of act) body (act_next s.tables now who act (known act refl)) in
-    let kept = nodes_kept s.tables opening blobs more keeps sound.nodes whole.nodes in
-    record {
-      nodes = changed_held s.tables now who act opening blobs body sound (known act refl) kept stores;
-      tickets = tickets_held s.tickets seat (goal_of act) opening more
-          (tickets_kept s.tables opening blobs more s.tickets keeps goals whole.tickets)
-          (granted_held s.tables now who act opening more (known act refl) kept);
-    }
-decided_whole s seat now who (Err refusal) opening blobs body sound goals known stores whole = whole
-
-ended_whole : (s : State) (seat : ℕ) (opening : List Row) (blobs : Blobs) → IsWhole opening s blobs → IsWhole opening (without_ticket s seat) blobs
-ended_whole s seat opening blobs whole = record {
-  nodes = whole.nodes;
-  tickets = All-filter (λ ticket. not (ticket.seat == seat)) (HasGoalHeld opening blobs) s.tickets whole.tickets;
-}
-
-step_whole : (s : State) (seat now : ℕ) (event : Event) (body : List ℕ) (opening : List Row) (blobs : Blobs)
-    → IsSound s → MayAsk s seat event → Brings body event → IsWhole opening s blobs
-    → IsWhole opening (step s seat now event) (with_blob blobs (blob_to s seat now event) body)
-step_whole s seat now (Begin words request) body opening blobs sound asked brings whole =
-    let event = Begin words request in
-    let h = decided_whole s seat now (actor_of s seat event) (decision_of s seat now event) opening blobs body sound.rows sound.goals
-    (λ act is. known_change s seat now event act sound asked is) (decision_stores s seat now event body brings) whole in
-    record { nodes = h.nodes; tickets = h.tickets }
-step_whole s seat now (End outcome) body opening blobs sound asked brings whole =
-    let event = End outcome in
-    let goals = All-filter (λ ticket. not (ticket.seat == seat)) (HasGoalSound s.tables) s.tickets sound.goals in
-    let h = decided_whole (without_ticket s seat) seat now (actor_of s seat event) (decision_of s seat now event) opening blobs body
-    sound.rows goals (λ act is. known_change s seat now event act sound asked is) (decision_stores s seat now event body brings)
-    (ended_whole s seat opening blobs whole) in
-    record { nodes = h.nodes; tickets = h.tickets }
-
-failed_whole : (s : State) (seat now : ℕ) (event : Event) (opening : List Row) (blobs : Blobs) → IsWhole opening s blobs
-    → IsWhole opening (failed s seat now event) blobs
-failed_whole s seat now (Begin words request) opening blobs whole = record { nodes = whole.nodes; tickets = whole.tickets }
-failed_whole s seat now (End outcome) opening blobs whole =
-    let h = ended_whole s seat opening blobs whole in record { nodes = h.nodes; tickets = h.tickets }
-
-marked_whole : (s : State) (e : Entry) (m : Mark) (body : List ℕ) (opening : List Row) (blobs : Blobs)
-    → IsSound s → MayAsk s e.seat e.event → Brings body e.event → IsWhole opening s blobs
-    → IsWhole opening (after_mark s e m) (with_blob blobs (blob_under s e m) body)
-marked_whole s e mark.Answered body opening blobs sound asked brings whole =
-    step_whole s e.seat e.moment e.event body opening blobs sound asked brings whole
-marked_whole s e mark.Store body opening blobs sound asked brings whole = failed_whole s e.seat e.moment e.event opening blobs whole
-marked_whole s e mark.Memory body opening blobs sound asked brings whole = failed_whole s e.seat e.moment e.event opening blobs whole
+    let keeps = given_kept t.meta.next_blob blobs (blob_of act) body (act_next t now who act known) in
+    let kept = nodes_kept t opening blobs more keeps sound.nodes whole.0 in (
+      changed_held t now who act opening blobs body sound known kept stores,
+      tickets_with (HasGoalHeld opening more) tickets seat (goal_of act) (tickets_kept t opening blobs more tickets keeps goals whole.1)
+          (granted_held t now who act opening more known kept),
+    )
 
 pub stays_whole : StaysWhole
-stays_whole n s e body opening blobs sound may brings whole = marked_whole s e e.mark body opening blobs sound may.asked brings whole
+stays_whole n s e body opening blobs sound may brings whole =
+    let first : Holds opening blobs s.tables (without s e.seat e.event).tickets =
+    (whole.nodes, tickets_left (HasGoalHeld opening blobs) s e.seat e.event whole.tickets) in
+    let goals = tickets_left (HasGoalSound s.tables) s e.seat e.event sound.goals in
+    let h = entry_has (λ t tickets blob. Holds opening (with_blob blobs blob body) t tickets) s e e.mark first
+    (λ act is.
+    act_whole s.tables _ e.seat e.moment _ act opening blobs body sound.rows goals
+    (known_change s e.seat e.moment e.event act sound may.asked is)
+    (subst (Decides s.tables body) is (decision_stores s e.seat e.moment e.event body brings)) first) in
+    record { nodes = h.0; tickets = h.1 }
 
 -- ---- new numbers
 
@@ -281,31 +228,18 @@ changed_new t now who act id sound known is = here (told t now act) refl
     here (change ∷ changes) e =
         let given = altered_next t now act ∙ ap (blob_after t.meta.next_blob) is in (next, omega (arith, next, given))
 
-decided_new : (s : State) (seat now : ℕ) (who : Option ℕ) (decision : Result Allowed Denial) (id : ℕ) → AreSound s.tables
-    → ((act : Allowed) → decision ≡ Ok act → Known s.tables now who act) → blob_by decision ≡ Some id
-    → IsNew s.tables.meta (decided s seat now decision).tables.meta id
-decided_new s seat now who (Ok act) id sound known is = changed_new s.tables now who act id sound (known act refl) is
-decided_new s seat now who (Err refusal) id sound known is = absurd (none-some id is)
-
-step_new : (s : State) (seat now : ℕ) (event : Event) (id : ℕ) → IsSound s → MayAsk s seat event → blob_to s seat now event ≡ Some id
-    → IsNew s.tables.meta (step s seat now event).tables.meta id
-step_new s seat now (Begin words request) id sound asked is = absurd (none-some id (sym (begin_none s seat now words request) ∙ is))
-step_new s seat now (End outcome) id sound asked is =
-    let event = End outcome in
-    decided_new (without_ticket s seat) seat now (actor_of s seat event) (decision_of s seat now event) id sound.rows
-    (λ act done. known_change s seat now event act sound asked done) is
-
-marked_new : (s : State) (e : Entry) (m : Mark) (id : ℕ) → IsSound s → MayAsk s e.seat e.event → blob_under s e m ≡ Some id
+entry_new : (s : State) (e : Entry) (m : Mark) (id : ℕ) → IsSound s → MayAsk s e.seat e.event → blob_under s e m ≡ Some id
     → IsNew s.tables.meta (after_mark s e m).tables.meta id
-marked_new s e mark.Answered id sound asked is = step_new s e.seat e.moment e.event id sound asked is
-marked_new s e mark.Store id sound asked is = absurd (none-some id is)
-marked_new s e mark.Memory id sound asked is = absurd (none-some id is)
+entry_new s e m id sound asked =
+    entry_has (λ t tickets blob. blob ≡ Some id → IsNew s.tables.meta t.meta id) s e m (λ is. absurd (none-some id is))
+    (λ act decides.
+    changed_new s.tables e.moment _ act id sound.rows (known_change s e.seat e.moment e.event act sound asked decides))
 
 pub blobs_are_new : BlobsAreNew
 blobs_are_new = record {
-  next = λ n s e id sound may is. marked_new s e e.mark id sound may.asked is;
+  next = λ n s e id sound may is. entry_new s e e.mark id sound may.asked is;
   same = λ n s e body blobs id sound may given.
       still_at blobs (blob_in s e) body id
-      (λ is. let new = marked_new s e e.mark id sound may.asked is in absurd (omega (arith, new.0, given)));
+      (λ is. let new = entry_new s e e.mark id sound may.asked is in absurd (omega (arith, new.0, given)));
   stored = λ s e body blobs id is. new_at blobs (blob_in s e) body id is;
 }

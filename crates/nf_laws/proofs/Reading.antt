@@ -21,7 +21,7 @@ use Rattle.nf_laws.proofs.Contents.{content_decides}
 use Rattle.nf_laws.proofs.Paths.{leads_found}
 use Rattle.nf_laws.proofs.OneRow.{row_itself}
 use Rattle.nf_laws.proofs.Replaced.{kept_replaced}
-use Rattle.nf_laws.proofs.Rows.{AreKept, folder_kept, row_id}
+use Rattle.nf_laws.proofs.Rows.{AreKept, folder_kept, holds_some, row_id}
 use Rattle.nf_laws.proofs.Stays as states
 use Rattle.nf_laws.specs.Reads.{IsStored, LeadsToKey, PathStays, StoredIsRead}
 use Rattle.nf_words.proofs.Known.{Known, KnownNew, found_passes, known_change}
@@ -153,21 +153,13 @@ new_file t now folder root name front content blob sound known led =
       filled = refl;
     }
 
-file_there : (rows : List NodeRow) (node : ℕ) → option_map_or (λ row. not (is_folder_kind row.kind)) (node_row rows node) false ≡ true
-    → (row : NodeRow) × (node_row rows node ≡ Some row) × (is_folder_kind row.kind ≡ false)
-file_there rows node is = here (node_row rows node) refl is
-  where
-    here : (o : Option NodeRow) → node_row rows node ≡ o → option_map_or (λ row. not (is_folder_kind row.kind)) o false ≡ true
-        → (row : NodeRow) × (node_row rows node ≡ Some row) × (is_folder_kind row.kind ≡ false)
-    here None e is = absurd (false≢true is)
-    here (Some row) e is = (row, e, not-true (is_folder_kind row.kind) is)
-
 stored_file : (t : Tables) (now : ℕ) (who : Option ℕ) (key : LockKey) (digest : List ℕ) (size root : ℕ) (path : List (List ℕ)) → AreSound t
     → Known t now who (stored_at t now key digest size) → LeadsToKey t.nodes root path key
     → HasFile (changed t now (stored_at t now key digest size)).nodes root path (content_in (blob_for t.meta.next_blob size) digest size)
 stored_file t now who (Node node) digest size root path sound known led =
-    let file = file_there t.nodes node known.brought.file in
-    over_file t now node root path (content_in (blob_for t.meta.next_blob size) digest size) (blob_for t.meta.next_blob size) file.0 file.1 file.2 led
+    let file = holds_some (λ row. not (is_folder_kind row.kind)) (node_row t.nodes node) known.brought.file in
+    over_file t now node root path (content_in (blob_for t.meta.next_blob size) digest size) (blob_for t.meta.next_blob size) file.0 file.1
+    (not-true (is_folder_kind file.0.kind) file.2) led
 stored_file t now who (Slot folder name) digest size root path sound known (front, parts, led) =
     let blob = blob_for t.meta.next_blob size in
     let content = content_in blob digest size in

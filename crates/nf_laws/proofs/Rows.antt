@@ -65,15 +65,15 @@ no_value f (Some x) none = absurd (none-some (f x) (sym none))
 
 -- ---- what is there
 
+-- where what is there passes the test, it is there
+pub holds_some : {X : Type 0} (test : X → Bool) (o : Option X) → option_map_or test o false ≡ true → (x : X) × (o ≡ Some x) × (test x ≡ true)
+holds_some test None is = absurd (false≢true is)
+holds_some test (Some x) is = (x, refl, is)
+
 -- the row of a folder
 pub folder_there : (rows : List NodeRow) (node : ℕ) → is_folder rows node ≡ true
     → (row : NodeRow) × (node_row rows node ≡ Some row) × (is_folder_kind row.kind ≡ true)
-folder_there rows node is = here (node_row rows node) refl is
-  where
-    here : (o : Option NodeRow) → node_row rows node ≡ o → option_map_or (λ row. is_folder_kind row.kind) o false ≡ true
-        → (row : NodeRow) × (node_row rows node ≡ Some row) × (is_folder_kind row.kind ≡ true)
-    here None e is = absurd (false≢true is)
-    here (Some row) e is = (row, e, is)
+folder_there rows node is = holds_some (λ row. is_folder_kind row.kind) (node_row rows node) is
 
 -- no folder is above a user's root
 pub none_above : (t : Tables) (user : ℕ) → AreSound t → parent_of t.nodes (root_of_user t user) ≡ None
