@@ -38,6 +38,7 @@ use Rattle.nf_laws.proofs.Bodies.{Decides, IsNext, StoresBody, act_next, altered
 use Rattle.nf_laws.proofs.Entries.{entry_has, tickets_left, tickets_with}
 use Rattle.nf_laws.proofs.Gone.{all_cleared}
 use Rattle.nf_laws.proofs.Mirrored.{mirrored}
+use Rattle.nf_laws.proofs.OneRow.{with_all}
 use Rattle.nf_laws.proofs.Rows.{content_has, found_is, stamped_has}
 use Rattle.nf_laws.specs.Wholes.{BlobsAreNew, Brings, IsGoalHeld, IsHeld, IsThere, IsWhole, StaysWhole, blob_in, blob_under}
 
@@ -95,16 +96,6 @@ brought next opening blobs body = here (length body == 0) refl
         (inl (record { bytes = body; there = put_at blobs next body; size = refl; digest = refl })) (All-nil (IsHeld opening more)))
 
 -- ---- the tables after an act
-
--- what a change keeps
-with_all : (P : NodeRow → Type 0) (old : List NodeRow) (node : ℕ) (change : NodeRow → NodeRow)
-    → ((row : NodeRow) → P row → P (change row)) → All P old → All P (with_node old node change)
-with_all P [] node change keeps h = h
-with_all P (row ∷ old) node change keeps h = here (row.id == node) refl (with_all P old node change keeps (All-tail P row old h))
-  where
-    here : (a : Bool) → (row.id == node) ≡ a → All P (with_node old node change) → All P (with_node (row ∷ old) node change)
-    here true e rest = simp e (All-cons P (change row) old (keeps row (All-head P row old h)) (All-tail P row old h))
-    here false e rest = simp e (All-cons P row (with_node old node change) (All-head P row old h) rest)
 
 -- the content of a body is held with it
 stored_held : (next : ℕ) (opening : List Row) (blobs : Blobs) (body : List ℕ) (blob : Option ℕ) (content : List Piece)

@@ -2,7 +2,7 @@
 use Rattle.std.proofs.Common.{ℕ, zero, suc, ◌==◌, ◌≡◌, ◌≢◌, Bool, true, false, not, List, [], ◌∷◌, ◌++◌, Option, None, Some, filter, get_or, length, map, option_map, refl, sym, ap, subst, ◌∙◌, ◌≤◌, arith, length-append}
 use Rattle.std.specs.List.{All, flat_map}
 use Rattle.std.specs.Option.{option_and_then}
-use Rattle.std.proofs.lemmas.Bool.{eq-eqb, eqb-true, false≢true, ne_eqb, not-false}
+use Rattle.std.proofs.lemmas.Bool.{eq-eqb, false_from_ne_true, false≢true, ne_eqb, not-false}
 use Rattle.std.proofs.lemmas.List.Elements.{All-head, All-tail, All-weaker}
 use Rattle.nf_base.specs.declared.changes.Change.{Change}
 use Rattle.nf_base.specs.declared.changes.Change.TheVariants.{Put}
@@ -17,7 +17,7 @@ use Rattle.nf_laws.proofs.Gone.{row_cleared, row_gone}
 use Rattle.nf_laws.proofs.Entries.{step_changed}
 use Rattle.nf_laws.proofs.Joined.{source_stays}
 use Rattle.nf_laws.proofs.Rows.{stamped_nodes}
-use Rattle.nf_laws.proofs.OneRow.{row_with}
+use Rattle.nf_laws.proofs.OneRow.{filter_with, row_with}
 use Rattle.nf_laws.proofs.Owning.{others_left}
 use Rattle.nf_laws.proofs.Paths.{path_own}
 use Rattle.nf_laws.proofs.Walked.{climb_short, no_ring}
@@ -38,25 +38,18 @@ under_by t j node top sound is = climb_under j t.nodes node top (climb_short t j
 -- it isn't the folder of the new place
 under_differs : (t : Tables) (who : Option ℕ) (transfer : Transfer) (name : List ℕ) (node : ℕ) → KnownTransfer t who transfer name
     → is_under t.nodes node transfer.node ≡ true → (transfer.folder == node) ≡ false
-under_differs t who transfer name node known under = here (transfer.folder == node) refl
-  where
-    here : (a : Bool) → (transfer.folder == node) ≡ a → a ≡ false
-    here true e =
-        let same = eqb-true transfer.folder node e in
-        absurd (false≢true (sym known.outside ∙ ap (λ (n : ℕ). is_under t.nodes n transfer.node) same ∙ under))
-    here false e = refl
+under_differs t who transfer name node known under =
+    ne_eqb transfer.folder node (λ same.
+    false≢true (sym known.outside ∙ ap (λ (n : ℕ). is_under t.nodes n transfer.node) same ∙ under))
 
 -- nor the folder in which the moved node was
 under_apart : (t : Tables) (j node : ℕ) (row : NodeRow) (top : ℕ) → AreSound t → climb t.nodes j node ≡ Some top → node_row t.nodes top ≡ Some row
     → is_in node row ≡ false
-under_apart t j node row top sound under there = here (is_in node row) refl
-  where
-    here : (a : Bool) → is_in node row ≡ a → a ≡ false
-    here false e = refl
-    here true e =
-        let above : parent_of t.nodes top ≡ Some node =
-        ap (option_and_then (λ row. folder_of row.place)) there ∙ ap folder_of (inside_of node row.place e) in
-        absurd (no_ring t j top sound (subst (λ (o : Option ℕ). option_and_then (climb t.nodes j) o ≡ Some top) (sym above) under))
+under_apart t j node row top sound under there =
+    false_from_ne_true (is_in node row) (λ is.
+    let above : parent_of t.nodes top ≡ Some node =
+    ap (option_and_then (λ row. folder_of row.place)) there ∙ ap folder_of (inside_of node row.place is) in
+    no_ring t j top sound (rw above under))
 
 -- ---- the rows in a folder under the moved node
 
@@ -67,37 +60,19 @@ in_cleared t who transfer name j folder sound known under = here transfer.replac
   where
     none_goes : (top : ℕ) → transfer.replaced ≡ Some top
         → All (λ (row : NodeRow). not (is_under t.nodes row.id top) ≡ false → is_in folder row ≡ false) t.nodes
-    none_goes top e k d within goes = of (is_in folder (get_or t.nodes k d)) refl
-      where
-        of : (a : Bool) → is_in folder (get_or t.nodes k d) ≡ a → a ≡ false
-        of false f = refl
-        of true f =
-            let row : NodeRow = get_or t.nodes k d in
-            let above : parent_of t.nodes row.id ≡ Some folder =
-            ap (option_and_then (λ row. folder_of row.place)) (node_row_each t.nodes sound.rising k d within) ∙ ap folder_of (inside_of folder row.place f) in
-            let up : climb t.nodes (suc j) row.id ≡ Some transfer.node = rw above under in
-            let stays = source_stays t who transfer name row.id sound known (under_by t (suc j) row.id transfer.node sound up) in
-            let still : is_under t.nodes row.id top ≡ false = rw e at stays in
-            absurd (false≢true (sym still ∙ not-false (is_under t.nodes row.id top) goes))
+    none_goes top e k d within goes =
+        let row : NodeRow = get_or t.nodes k d in
+        false_from_ne_true (is_in folder row) (λ is.
+        let above : parent_of t.nodes row.id ≡ Some folder =
+        ap (option_and_then (λ row. folder_of row.place)) (node_row_each t.nodes sound.rising k d within) ∙ ap folder_of (inside_of folder row.place is) in
+        let up : climb t.nodes (suc j) row.id ≡ Some transfer.node = rw above under in
+        let stays = source_stays t who transfer name row.id sound known (under_by t (suc j) row.id transfer.node sound up) in
+        let still : is_under t.nodes row.id top ≡ false = rw e at stays in
+        false≢true (sym still ∙ not-false (is_under t.nodes row.id top) goes))
 
     here : (replaced : Option ℕ) → transfer.replaced ≡ replaced → filter (is_in folder) (cleared t.nodes replaced) ≡ filter (is_in folder) t.nodes
     here None e = refl
     here (Some top) e = others_left (is_in folder) (λ row. not (is_under t.nodes row.id top)) t.nodes (none_goes top e)
-
--- and where a row that isn't in it comes for one that isn't
-in_changed : (p : NodeRow → Bool) (rows : List NodeRow) (node : ℕ) (change : NodeRow → NodeRow)
-    → ((row : NodeRow) → node_row rows node ≡ Some row → p row ≡ false) → ((row : NodeRow) → p (change row) ≡ false)
-    → filter p (with_node rows node change) ≡ filter p rows
-in_changed p [] node change old new = refl
-in_changed p (x ∷ rows) node change old new =
-    here (x.id == node) (p x) refl refl old (λ old. in_changed p rows node change old new)
-  where
-    here : (a b : Bool) → (x.id == node) ≡ a → p x ≡ b → ((row : NodeRow) → node_row (x ∷ rows) node ≡ Some row → p row ≡ false)
-        → (((row : NodeRow) → node_row rows node ≡ Some row → p row ≡ false) → filter p (with_node rows node change) ≡ filter p rows)
-        → filter p (with_node (x ∷ rows) node change) ≡ filter p (x ∷ rows)
-    here true b e f old rest = simp (e, old x (simp e), new x)
-    here false true e f old rest = simp (e, f) (ap (λ (rows : List NodeRow). x ∷ rows) (rest (λ row is. old row (simp e is))))
-    here false false e f old rest = simp (e, f) (rest (λ row is. old row (simp e is)))
 
 -- ---- walks
 
@@ -109,10 +84,11 @@ same_children : (t : Tables) (who : Option ℕ) (transfer : Transfer) (name : Li
     → climb t.nodes j folder ≡ Some transfer.node → children_of (nodes_after t transfer name) folder ≡ children_of t.nodes folder
 same_children t who transfer name j folder sound known under =
     ap (λ (rows : List NodeRow). map (λ row. row.id) (by_name rows))
-    (in_changed (is_in folder) (cleared t.nodes transfer.replaced) transfer.node (relinked transfer.folder name)
-    (λ row there. under_apart t j folder row transfer.node sound under
-    (sym (row_cleared t.nodes transfer.replaced transfer.node known.apart) ∙ there))
-    (λ row. under_differs t who transfer name folder known (under_by t j folder transfer.node sound under))
+    (filter_with (is_in folder) (cleared t.nodes transfer.replaced) transfer.node (relinked transfer.folder name)
+    (λ row there. (
+      under_apart t j folder row transfer.node sound under (sym (row_cleared t.nodes transfer.replaced transfer.node known.apart) ∙ there),
+      under_differs t who transfer name folder known (under_by t j folder transfer.node sound under),
+    ))
     ∙ in_cleared t who transfer name j folder sound known under)
 
 flat_map_same : (f g : ℕ → List ℕ) (xs : List ℕ) → All (λ (x : ℕ). f x ≡ g x) xs → flat_map f xs ≡ flat_map g xs

@@ -1,5 +1,5 @@
 -- Rows where that of one node is changed.
-use Rattle.std.proofs.Common.{ℕ, suc, zero, ◌+◌, ◌<◌, ◌==◌, ◌≡◌, ◌⊎◌, ◌≤◌, Bool, true, false, List, [], ◌∷◌, Option, None, Some, option_map, if◌then◌else◌, length, get_or, refl, sym, ap, subst, ◌∙◌, inl, inr, arith}
+use Rattle.std.proofs.Common.{ℕ, suc, zero, ◌+◌, ◌<◌, ◌==◌, ◌≡◌, ◌⊎◌, ◌≤◌, Bool, true, false, List, [], ◌∷◌, Option, None, Some, filter, option_map, if◌then◌else◌, length, get_or, refl, sym, ap, subst, ◌∙◌, inl, inr, arith}
 use Rattle.std.specs.List.{All, AllPairs}
 use Rattle.std.specs.Option.{option_map_or}
 use Rattle.std.proofs.lemmas.Bool.{eq-eqb, eqb-true, false≢true, ne_eqb}
@@ -102,12 +102,34 @@ pieces_with (row ∷ rows) node change more few = here (row.id == node) refl (pi
     here true e rest = simp e (omega (arith, few row, pieces_of (change row) rows, pieces_of row rows))
     here false e rest = simp e (omega (arith, rest, pieces_of row (with_node rows node change), pieces_of row rows))
 
+-- what a change of a row keeps
+pub with_all : (P : NodeRow → Type 0) (rows : List NodeRow) (node : ℕ) (change : NodeRow → NodeRow)
+    → ((row : NodeRow) → P row → P (change row)) → All P rows → All P (with_node rows node change)
+with_all P rows node change keeps all k d within =
+    let old : P (get_or rows k d) = all k d (omega (arith, length_with rows node change)) in
+    elim (each_either rows node change k d) [ | inl e ↦ subst P (sym e) old | inr h ↦ subst P (sym h.1) (keeps _ old) ]
+
+-- the rows that pass a test stay, where neither the old row passes nor the changed one
+pub filter_with : (p : NodeRow → Bool) (rows : List NodeRow) (node : ℕ) (change : NodeRow → NodeRow)
+    → ((row : NodeRow) → node_row rows node ≡ Some row → (p row ≡ false) × (p (change row) ≡ false))
+    → filter p (with_node rows node change) ≡ filter p rows
+filter_with p [] node change fail = refl
+filter_with p (x ∷ rows) node change fail =
+    here (x.id == node) (p x) refl refl fail (λ fail. filter_with p rows node change fail)
+  where
+    here : (a b : Bool) → (x.id == node) ≡ a → p x ≡ b
+        → ((row : NodeRow) → node_row (x ∷ rows) node ≡ Some row → (p row ≡ false) × (p (change row) ≡ false))
+        → (((row : NodeRow) → node_row rows node ≡ Some row → (p row ≡ false) × (p (change row) ≡ false))
+        → filter p (with_node rows node change) ≡ filter p rows)
+        → filter p (with_node (x ∷ rows) node change) ≡ filter p (x ∷ rows)
+    here true b e f fail rest = let both = fail x (simp e) in simp (e, both.0, both.1)
+    here false true e f fail rest = simp (e, f) (ap (λ (rows : List NodeRow). x ∷ rows) (rest (λ row is. fail row (simp e is))))
+    here false false e f fail rest = simp (e, f) (rest (λ row is. fail row (simp e is)))
+
 -- what all numbers of nodes have
 pub numbers_with : (P : ℕ → Type 0) (rows : List NodeRow) (node : ℕ) (change : NodeRow → NodeRow) → KeepsId change
     → All (λ (row : NodeRow). P row.id) rows → All (λ (row : NodeRow). P row.id) (with_node rows node change)
-numbers_with P rows node change keeps all k d within =
-    let same = same_either (λ (r : NodeRow). r.id) rows node change (get_or rows k d) _ keeps (each_either rows node change k d) in
-    subst P (sym same) (all k d (omega (arith, length_with rows node change)))
+numbers_with P rows node change keeps = with_all (λ (row : NodeRow). P row.id) rows node change (λ row h. subst P (sym (keeps row)) h)
 
 pub rising_with : (rows : List NodeRow) (node : ℕ) (change : NodeRow → NodeRow) → KeepsId change
     → AllPairs (λ (a b : NodeRow). a.id < b.id) rows → AllPairs (λ (a b : NodeRow). a.id < b.id) (with_node rows node change)

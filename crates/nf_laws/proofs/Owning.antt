@@ -1,5 +1,5 @@
 -- What is served or changed is its caller's own.
-use Rattle.std.proofs.Common.{ℕ, suc, zero, ◌==◌, ◌≡◌, ◌≢◌, ◌++◌, Bool, true, false, not, if◌then◌else◌, List, [], ◌∷◌, length, Option, None, Some, Result, Ok, Err, filter, map, option_map, get_or, refl, sym, ap, subst, ◌∙◌}
+use Rattle.std.proofs.Common.{ℕ, suc, zero, ◌==◌, ◌≡◌, ◌≢◌, ◌++◌, Bool, true, false, not, if◌then◌else◌, List, [], ◌∷◌, length, Option, None, Some, Result, Ok, Err, filter, map, option_map, get_or, refl, sym, ap, subst, ◌∙◌, inl, inr}
 use Rattle.std.specs.Prelude.{IsSome, is_some}
 use Rattle.std.specs.List.{All, filter_map}
 use Rattle.std.specs.Option.{option_and_then, option_map_or}
@@ -16,12 +16,14 @@ use Rattle.nf_defs.specs.Tables.{Tables}
 use Rattle.nf_defs.specs.Tree.{Leads, by_name, children_of, climb, content_of, filled, folder_of, found_from, is_folder, is_folder_kind, is_in, is_under, node_row, owner_of, parent_of, relinked, with_node}
 use Rattle.nf_defs.specs.declared.Found.{Found}
 use Rattle.nf_defs.specs.declared.Found.TheVariants.{At, Free, Missing}
+use Rattle.nf_laws.proofs.Bodies.{Alters, given_alters}
 use Rattle.nf_laws.proofs.Climbs.{node_row_each, under_climb}
 use Rattle.nf_laws.proofs.Copied.{copies_owned}
 use Rattle.nf_laws.proofs.Entries.{after_has}
 use Rattle.nf_laws.proofs.Gone.{row_cleared}
 use Rattle.nf_laws.proofs.Mirrored.{mirrored}
 use Rattle.nf_laws.proofs.Moved.{folder_owner}
+use Rattle.nf_laws.proofs.OneRow.{filter_with}
 use Rattle.nf_laws.proofs.Rows.{folder_there, found_is, parent_there, row_id, stamp}
 use Rattle.nf_laws.proofs.Paths.{IsFor, IsOf, found_leads, path_own}
 use Rattle.nf_laws.specs.Owners.{ChangesOnlyOwn, ChangesOwn, ListsAll, ListsOwn, ServesOwn, nodes_of_others}
@@ -55,7 +57,7 @@ use Rattle.nf_words.specs.declared.request.Wanted.TheVariants.{Get, Put, Mkcol, 
 same_reply : (x y : Reply) → ◌≡◌ {A = Result Reply Denial} (Ok x) (Ok y) → x ≡ y
 same_reply x y e = cc
 
--- what is put at a place is answered nothing else
+-- what is put at a place is answered neither a grant nor a listing
 grants_none : (replaced : Option ℕ) (goal : Goal) → reply_by replaced ≢ Granted goal
 grants_none None goal = λ is. cc
 grants_none (Some node) goal = λ is. cc
@@ -68,62 +70,17 @@ lists_none (Some node) listing = λ is. cc
 got : (decision : Result Allowed Denial) (content : List Piece) → answered_by decision ≡ Ok (Granted (Serve content))
     → (node : ℕ) × (decision ≡ Ok (allowed.Get node content))
 got (Ok (allowed.Get node other)) content is = (node, cc)
-got (Ok (allowed.List listing)) content is = absurd (cc)
-got (Ok (allowed.Put by key length)) content is = absurd (cc)
-got (Ok (allowed.StoreNew row blob)) content is = absurd (cc)
-got (Ok (allowed.StoreOver node other blob)) content is = absurd (cc)
-got (Ok (allowed.Mkcol row)) content is = absurd (cc)
-got (Ok (allowed.Delete node)) content is = absurd (cc)
 got (Ok (allowed.Move transfer name)) content is = absurd (grants_none transfer.replaced (Serve content) (same_reply _ _ is))
 got (Ok (allowed.Copy rows replaced)) content is = absurd (grants_none replaced (Serve content) (same_reply _ _ is))
-got (Ok allowed.Close) content is = absurd (cc)
-got (Err refusal) content is = absurd (cc)
+got decision content is = absurd (cc)
 
 -- only a GET is answered a listing
 got_listing : (decision : Result Allowed Denial) (listing : List ListingLine) → answered_by decision ≡ Ok (Listing listing)
     → decision ≡ Ok (allowed.List listing)
-got_listing (Ok (allowed.Get node content)) listing is = absurd (cc)
 got_listing (Ok (allowed.List other)) listing is = cc
-got_listing (Ok (allowed.Put by key length)) listing is = absurd (cc)
-got_listing (Ok (allowed.StoreNew row blob)) listing is = absurd (cc)
-got_listing (Ok (allowed.StoreOver node other blob)) listing is = absurd (cc)
-got_listing (Ok (allowed.Mkcol row)) listing is = absurd (cc)
-got_listing (Ok (allowed.Delete node)) listing is = absurd (cc)
 got_listing (Ok (allowed.Move transfer name)) listing is = absurd (lists_none transfer.replaced listing (same_reply _ _ is))
 got_listing (Ok (allowed.Copy rows replaced)) listing is = absurd (lists_none replaced listing (same_reply _ _ is))
-got_listing (Ok allowed.Close) listing is = absurd (cc)
-got_listing (Err refusal) listing is = absurd (cc)
-
--- ---- only a GET shows something
-
-abbrev is_shown : Allowed → Bool
-is_shown (allowed.Get node content) = true
-is_shown (allowed.List listing) = true
-is_shown other = false
-
-no_put : (who : Seeker) (name : List ℕ) (length : ℕ) (place : Option Found) → is_shown (stored who name length place) ≡ false
-no_put who name length None = refl
-no_put who name length (Some (At node)) = refl
-no_put who name length (Some (Free folder)) = refl
-no_put who name length (Some (Missing depth)) = refl
-
-no_folder : (t : Tables) (now : ℕ) (name : List ℕ) (place : Option Found) → is_shown (made_folder t now name place) ≡ false
-no_folder t now name None = refl
-no_folder t now name (Some (At node)) = refl
-no_folder t now name (Some (Free folder)) = refl
-no_folder t now name (Some (Missing depth)) = refl
-
-no_deletion : (node : Option ℕ) → is_shown (deleted node) ≡ false
-no_deletion None = refl
-no_deletion (Some node) = refl
-
-no_move : (name : List ℕ) (transfer : Option Transfer) → is_shown (moved name transfer) ≡ false
-no_move name None = refl
-no_move name (Some transfer) = refl
-
-no_copy : (t : Tables) (now : ℕ) (name : List ℕ) (transfer : Option Transfer) → is_shown (copied t now name transfer) ≡ false
-no_copy t now name None = refl
-no_copy t now name (Some transfer) = refl
+got_listing decision listing is = absurd (cc)
 
 -- a GET gives that of the node at its place
 get_at : (t : Tables) (place : Found) (node : ℕ) (content : List Piece) → served t (node_found place) ≡ allowed.Get node content
@@ -157,21 +114,13 @@ places_for wanted leads = record { source = option_map leads (source_of wanted);
 
 -- what is shown is asked for by a GET, whose place leads there
 asked : (t : Tables) (now user : ℕ) (wanted : Wanted) (leads : Spot → Found) (act : Allowed)
-    → given t now user wanted (places_for wanted leads) ≡ act → is_shown act ≡ true
+    → given t now user wanted (places_for wanted leads) ≡ act → (Alters act → ⊥)
     → (spot : Spot) × (wanted ≡ Get spot) × (served t (node_found (leads spot)) ≡ act)
-asked t now user (Get spot) leads act is shown = (spot, refl, is)
-asked t now user (Put spot length) leads act is shown =
-    absurd (false≢true (sym (no_put (seeker.User user) (last_name spot) length (Some (leads spot))) ∙ ap is_shown is ∙ shown))
-asked t now user (Mkcol spot) leads act is shown =
-    absurd (false≢true (sym (no_folder t now (last_name spot) (Some (leads spot))) ∙ ap is_shown is ∙ shown))
-asked t now user (Delete spot) leads act is shown =
-    absurd (false≢true (sym (no_deletion (node_found (leads spot))) ∙ ap is_shown is ∙ shown))
-asked t now user (Move source target overwrite) leads act is shown =
-    let places = places_for (Move source target overwrite) leads in
-    absurd (false≢true (sym (no_move (last_name target) (transfer_of t.nodes places)) ∙ ap is_shown is ∙ shown))
-asked t now user (Copy source target overwrite) leads act is shown =
-    let places = places_for (Copy source target overwrite) leads in
-    absurd (false≢true (sym (no_copy t now (last_name target) (transfer_of t.nodes places)) ∙ ap is_shown is ∙ shown))
+asked t now user wanted leads act is shown =
+    elim (given_alters t now user wanted (places_for wanted leads)) [
+      | inl get ↦ (get.0, get.1, subst (λ (w : Wanted). given t now user w (places_for w leads) ≡ act) get.1 is)
+      | inr alters ↦ absurd (shown (subst Alters is alters))
+    ]
 
 -- a node of the caller's to which a path leads from the caller's root
 record IsOfCaller (call : Call) (spot : Spot) (node : ℕ) : Type 0 where
@@ -205,7 +154,7 @@ serves_own s seat now words request content sound may is =
     let get = got (call_decision call) content is in
     let act = allowed.Get get.0 content in
     let known = call_known call act sound may get.1 in
-    let spot = asked s.tables now (asker_of call) request.wanted (found call) act (call_passes call act get.1).1 refl in
+    let spot = asked s.tables now (asker_of call) request.wanted (found call) act (call_passes call act get.1).1 (λ alters. alters) in
     let at = get_at s.tables (found call spot.0) get.0 content spot.2 in
     let mine = of_caller call spot.0 get.0 sound.rows known.path at.0 in
     record {
@@ -227,7 +176,7 @@ lists_own s seat now words request listing sound may is =
     let act = allowed.List listing in
     let decides = got_listing (call_decision call) listing is in
     let known = call_known call act sound may decides in
-    let spot = asked s.tables now (asker_of call) request.wanted (found call) act (call_passes call act decides).1 refl in
+    let spot = asked s.tables now (asker_of call) request.wanted (found call) act (call_passes call act decides).1 (λ alters. alters) in
     let at = list_at s.tables (found call spot.0) listing spot.2 in
     let caller : KnownPath s.tables (user_of call) (At known.folder) = known.path in
     let root : root_of call ≡ caller.row.root =
@@ -316,28 +265,6 @@ new_own : (t : Tables) (now : ℕ) (who : Option ℕ) (user : ℕ) (row : NodeRo
 new_own t now who user row blob known is owner =
     filter-append (is_of_other who) t.nodes (row ∷ []) ∙ simp (own_row who user row is owner, append-nil)
 
--- a row that differs is of who acts and keeps its owner, so the rows of others are the same
-others_over : (who : Option ℕ) (rows : List NodeRow) (node : ℕ) (change : NodeRow → NodeRow)
-    → ((row : NodeRow) → (change row).owner ≡ row.owner)
-    → ((row : NodeRow) → node_row rows node ≡ Some row → is_of_other who row ≡ false)
-    → nodes_of_others who (with_node rows node change) ≡ nodes_of_others who rows
-others_over who [] node change keeps own = refl
-others_over who (x ∷ rows) node change keeps own =
-    here (x.id == node) (is_of_other who x) refl refl own (λ own. others_over who rows node change keeps own)
-  where
-    here : (a b : Bool) → (x.id == node) ≡ a → is_of_other who x ≡ b
-        → ((row : NodeRow) → node_row (x ∷ rows) node ≡ Some row → is_of_other who row ≡ false)
-        → (((row : NodeRow) → node_row rows node ≡ Some row → is_of_other who row ≡ false)
-        → nodes_of_others who (with_node rows node change) ≡ nodes_of_others who rows)
-        → nodes_of_others who (with_node (x ∷ rows) node change) ≡ nodes_of_others who (x ∷ rows)
-    here true b e f own rest =
-        let mine : is_of_other who x ≡ false = own x (simp e) in
-        let still : is_of_other who (change x) ≡ false =
-        ap (λ (owner : ℕ). not (option_map_or (λ user. owner == user) who false)) (keeps x) ∙ mine in
-        simp (e, mine, still)
-    here false true e f own rest = simp (e, f) (ap (λ (rows : List NodeRow). x ∷ rows) (rest (λ row is. own row (simp e is))))
-    here false false e f own rest = simp (e, f) (rest (λ row is. own row (simp e is)))
-
 pub others_left : (p q : NodeRow → Bool) (rows : List NodeRow) → All (λ (row : NodeRow). q row ≡ false → p row ≡ false) rows
     → filter p (filter q rows) ≡ filter p rows
 others_left p q [] own = refl
@@ -413,8 +340,8 @@ others_kept t now who (allowed.StoreNew row blob) sound known =
     new_own t now who known.own.user row blob new known.own.holder
     (owner ∙ rw folder.1 (known.own.own.owner folder.0 folder.1))
 others_kept t now who (allowed.StoreOver node content blob) sound known =
-    others_over who t.nodes node (filled content now) (λ row. refl)
-    (λ row there. own_row who known.own.user row known.own.holder (known.own.own.owner row there))
+    filter_with (is_of_other who) t.nodes node (filled content now)
+    (λ row there. let own = own_row who known.own.user row known.own.holder (known.own.own.owner row there) in (own, own))
 others_kept t now who (allowed.Mkcol row) sound known =
     let new = known.new in
     let own = path_own t who (Free new.folder) new.folder sound known.path refl in
@@ -424,10 +351,10 @@ others_kept t now who (allowed.Delete node) sound known =
     others_left (is_of_other who) (λ row. not (is_under t.nodes row.id node)) t.nodes (under_own t who node sound known.path)
 others_kept t now who (allowed.Move transfer name) sound known =
     let own = path_own t who (At transfer.node) transfer.node sound known.source refl in
-    others_over who (cleared t.nodes transfer.replaced) transfer.node (relinked transfer.folder name) (λ row. refl)
+    filter_with (is_of_other who) (cleared t.nodes transfer.replaced) transfer.node (relinked transfer.folder name)
     (λ row there.
     let same : row ≡ own.row = same_Some row own.row (sym there ∙ row_cleared t.nodes transfer.replaced transfer.node known.apart ∙ own.there) in
-    own_row who known.source.row.id row known.source.caller (ap (λ (r : NodeRow). r.owner) same ∙ own.owner))
+    let mine = own_row who known.source.row.id row known.source.caller (ap (λ (r : NodeRow). r.owner) same ∙ own.owner) in (mine, mine))
     ∙ cleared_others t who transfer.replaced transfer.folder sound known.target
 others_kept t now who (allowed.Copy rows replaced) sound known = copied_others t now who rows replaced sound known
 others_kept t now who act sound known = refl
