@@ -6,16 +6,12 @@ use Rattle.std.specs.Option.{option_and_then, option_map_or}
 use Rattle.std.proofs.lemmas.Bool.{false≢true, eqb-true, eq-eqb, ne_eqb, or_cases, or_left, or_right}
 use Rattle.std.proofs.lemmas.Option.{none-some, option_and_then_some, same_Some}
 use Rattle.nf_base.specs.declared.rows.NodeRow.{NodeRow}
+use Rattle.nf_words.proofs.Known as known
 use Rattle.nf_defs.specs.Tree.{node_row, folder_of, parent_of, climb, depth, depth_within, is_under, is_under_within}
 
 -- where the numbers rise, each row is found by its own
 pub node_row_each : (rows : List NodeRow) → AllPairs (λ (a b : NodeRow). a.id < b.id) rows → All (λ (row : NodeRow). node_row rows row.id ≡ Some row) rows
-node_row_each [] rising k d within = absurd (omega arith)
-node_row_each (x ∷ rows) rising zero d within = rw (eq-eqb x.id x.id refl)
-node_row_each (x ∷ rows) rising (suc k) d within =
-    let below : x.id < (get_or rows k d).id = rising 0 (suc k) d (omega arith) within in
-    rw (ne_eqb x.id (get_or rows k d).id (λ e. absurd (omega arith)))
-    (node_row_each rows (λ i j d before within. rising (suc i) (suc j) d (omega arith) (omega arith)) k d (omega arith))
+node_row_each = known.node_row_each
 
 -- each row's node is there
 pub row_there : (rows : List NodeRow) → All (λ (row : NodeRow). is_some (node_row rows row.id) ≡ true) rows

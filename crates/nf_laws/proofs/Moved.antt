@@ -25,7 +25,7 @@ use Rattle.nf_laws.proofs.Gone.{clearing_sound, climb_cleared, folder_stays, fre
 use Rattle.nf_laws.proofs.OneRow.{IsEither, each_either, length_with, pieces_with, rising_with, row_itself, row_other, value_with}
 use Rattle.nf_laws.proofs.Paths.{path_own}
 use Rattle.nf_laws.proofs.Rows.{folder_there, none_above, parent_there, pieces_kept, stamp_sound, stamped_has}
-use Rattle.nf_laws.proofs.Upwards.{IsRooted, climb_few, climbs_is_under, depth_climb, rooted}
+use Rattle.nf_laws.proofs.Upwards.{IsRooted, climb_short, climbs_is_under, depth_climb, never_climbs, rooted}
 
 -- ---- climbs where a node is put into a folder
 
@@ -105,7 +105,7 @@ rooted_moved u node folder name old row sound fits there = here (is_under u.node
       steps = r.steps;
       shallow = r.shallow;
       climbs = climb_outside r.steps u.nodes node folder name row.id
-          (λ j is. both_ways (is_under u.nodes row.id node) e (climbs_is_under j u row.id node row sound there is)) ∙ r.climbs;
+          (never_climbs u row.id node sound e) ∙ r.climbs;
     }
     here true e =
         let c = under_climb u.nodes row.id node e in
@@ -124,8 +124,7 @@ rooted_moved u node folder name old row sound fits there = here (is_under u.node
           climbs =
               climb_on c.0 (suc f.steps) (relinking u.nodes node folder name) row.id node (climb_below c.0 u node folder name row.id sound c.2)
               ∙ ap (option_and_then (climb (relinking u.nodes node folder name) f.steps)) (parent_itself u.nodes node folder name old fits.there)
-              ∙ climb_outside f.steps u.nodes node folder name folder
-              (λ j is. both_ways (is_under u.nodes folder node) fits.outside (climbs_is_under j u folder node top.0 sound top.1 is))
+              ∙ climb_outside f.steps u.nodes node folder name folder (never_climbs u folder node sound fits.outside)
               ∙ f.climbs ∙ ap Some (ap (root_of_user u) owner ∙ same);
         }
 
@@ -302,11 +301,11 @@ move_fits t who transfer name sound known =
         outside = false_from_ne_true (is_under u.nodes folder node) (λ under.
             let c = under_climb u.nodes folder node under in
             both_ways (is_under t.nodes folder node) known.outside
-            (climbs_is_under c.0 t folder node top.0 sound top.1 (sym (climb_cleared t transfer.replaced c.0 folder sound stays) ∙ c.2)));
+            (climbs_is_under c.0 t folder node sound (sym (climb_cleared t transfer.replaced c.0 folder sound stays) ∙ c.2)));
         shallow = λ j below row there is.
             let kept = kept_cleared t.nodes transfer.replaced below row there in
             let climbs : climb t.nodes j below ≡ Some node = sym (climb_cleared t transfer.replaced j below sound kept.0) ∙ is in
-            let few = climb_few j t below node row sound kept.1 climbs in
+            let few = climb_short j t below node sound climbs in
             let among = All-contains (λ (n : ℕ). depth t.nodes n ≤ deepest t.nodes (walk_of t.nodes node)) (walk_of t.nodes node) below
             (deepest_among t.nodes (walk_of t.nodes node)) (climbs_walk j t.nodes node below few climbs) in
             omega (arith, among, deep, depth_climb j t below node sound climbs, known.deep);

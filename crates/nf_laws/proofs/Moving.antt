@@ -20,7 +20,8 @@ use Rattle.nf_laws.proofs.Rows.{stamped_nodes}
 use Rattle.nf_laws.proofs.OneRow.{filter_with, row_with}
 use Rattle.nf_laws.proofs.Owning.{others_left}
 use Rattle.nf_laws.proofs.Paths.{path_own}
-use Rattle.nf_laws.proofs.Walked.{climb_short, no_ring}
+use Rattle.nf_laws.proofs.Upwards.{climbs_is_under}
+use Rattle.nf_laws.proofs.Walked.{no_ring}
 use Rattle.nf_laws.specs.Transfers.{IsMoved, MovesKeep, is_replaced}
 use Rattle.nf_words.proofs.Known.{KnownTransfer, known_change}
 use Rattle.nf_words.specs.Actors.{actor_of}
@@ -29,9 +30,6 @@ use Rattle.nf_words.specs.Sound.{AreSound}
 use Rattle.nf_words.specs.Step.{step}
 use Rattle.nf_words.specs.declared.answer.Allowed.TheVariants as allowed
 use Rattle.nf_words.specs.declared.request.Transfer.{Transfer}
-
-under_by : (t : Tables) (j node top : ℕ) → AreSound t → climb t.nodes j node ≡ Some top → is_under t.nodes node top ≡ true
-under_by t j node top sound is = climb_under j t.nodes node top (climb_short t j node top sound is) is
 
 -- ---- a folder under the moved node
 
@@ -66,7 +64,7 @@ in_cleared t who transfer name j folder sound known under = here transfer.replac
         let above : parent_of t.nodes row.id ≡ Some folder =
         ap (option_and_then (λ row. folder_of row.place)) (node_row_each t.nodes sound.rising k d within) ∙ ap folder_of (inside_of folder row.place is) in
         let up : climb t.nodes (suc j) row.id ≡ Some transfer.node = rw above under in
-        let stays = source_stays t who transfer name row.id sound known (under_by t (suc j) row.id transfer.node sound up) in
+        let stays = source_stays t who transfer name row.id sound known (climbs_is_under (suc j) t row.id transfer.node sound up) in
         let still : is_under t.nodes row.id top ≡ false = rw e at stays in
         false≢true (sym still ∙ not-false (is_under t.nodes row.id top) goes))
 
@@ -87,7 +85,7 @@ same_children t who transfer name j folder sound known under =
     (filter_with (is_in folder) (cleared t.nodes transfer.replaced) transfer.node (relinked transfer.folder name)
     (λ row there. (
       under_apart t j folder row transfer.node sound under (sym (row_cleared t.nodes transfer.replaced transfer.node known.apart) ∙ there),
-      under_differs t who transfer name folder known (under_by t j folder transfer.node sound under),
+      under_differs t who transfer name folder known (climbs_is_under j t folder transfer.node sound under),
     ))
     ∙ in_cleared t who transfer name j folder sound known under)
 

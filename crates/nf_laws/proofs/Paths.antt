@@ -11,6 +11,7 @@ use Rattle.nf_base.specs.declared.rows.NodeRow.{NodeRow}
 use Rattle.nf_base.specs.declared.rows.Place.{Place}
 use Rattle.nf_base.specs.declared.rows.Place.TheVariants.{Root, Inside, Trash}
 use Rattle.nf_base.specs.declared.rows.UserRow.{UserRow}
+use Rattle.nf_defs.proofs.Walks.{AreRising, inside_of}
 use Rattle.nf_defs.specs.People.{user_row}
 use Rattle.nf_defs.specs.Tables.{Tables}
 use Rattle.nf_defs.specs.Tree.{Leads, stays, leads_on, child_of, found_from, is_folder, is_in, is_place_in, node_row, onward, owner_of}
@@ -24,30 +25,25 @@ use Rattle.nf_words.specs.Sound.{AreApart, AreSound, HasRoot, IsNodeSound, IsOwn
 
 -- ---- a folder's child of a name
 
-inside_of : (folder : ℕ) (place : Place) → is_place_in folder place ≡ true → place ≡ Inside folder
-inside_of folder Root is = absurd (false≢true is)
-inside_of folder (Inside parent) is = ap Inside (eqb-true parent folder is)
-inside_of folder Trash is = absurd (false≢true is)
-
 -- the row of a child
-record IsChild (rows : List NodeRow) (folder : ℕ) (name : List ℕ) (node : ℕ) : Type 0 where
-  row : NodeRow
-  id : row.id ≡ node
-  there : node_row rows row.id ≡ Some row
-  place : row.place ≡ Inside folder
-  named : row.name ≡ name
+pub record IsChild (rows : List NodeRow) (folder : ℕ) (name : List ℕ) (node : ℕ) : Type 0 where
+  pub row : NodeRow
+  pub id : row.id ≡ node
+  pub there : node_row rows row.id ≡ Some row
+  pub place : row.place ≡ Inside folder
+  pub named : row.name ≡ name
 
-child_is : (t : Tables) (folder : ℕ) (name : List ℕ) (node : ℕ) → AreSound t → child_of t.nodes folder name ≡ Some node
-    → IsChild t.nodes folder name node
-child_is t folder name node sound is = here (find test t.nodes) refl is
+pub child_is : (rows : List NodeRow) (folder : ℕ) (name : List ℕ) (node : ℕ) → AreRising rows → child_of rows folder name ≡ Some node
+    → IsChild rows folder name node
+child_is rows folder name node rising is = here (find test rows) refl is
   where
     test : NodeRow → Bool
     test row = is_in folder row && bytes_eq row.name name
 
-    here : (o : Option NodeRow) → find test t.nodes ≡ o → option_map (λ row. row.id) o ≡ Some node → IsChild t.nodes folder name node
+    here : (o : Option NodeRow) → find test rows ≡ o → option_map (λ row. row.id) o ≡ Some node → IsChild rows folder name node
     here None e is = absurd (none-some node is)
     here (Some row) e is =
-        let h = found_is (λ (row : NodeRow). node_row t.nodes row.id ≡ Some row) test t.nodes row (node_row_each t.nodes sound.rising) e in
+        let h = found_is (λ (row : NodeRow). node_row rows row.id ≡ Some row) test rows row (node_row_each rows rising) e in
         let passes = and_parts (is_in folder row) (bytes_eq row.name name) h.0 in
         record {
           row = row;
@@ -135,7 +131,7 @@ walk t before from (name ∷ names) sound =
     here true None (n ∷ names) folds is rest =
         (0, omega arith, record { node = from; within = omega arith; led = stays from; stuck = inr (is, omega arith) })
     here true (Some child) names folds is rest =
-        further t before from name names child (found_from t.nodes (before + 1) child names) folds (child_is t from name child sound is) (rest child)
+        further t before from name names child (found_from t.nodes (before + 1) child names) folds (child_is t.nodes from name child sound.rising is) (rest child)
 
 -- a walk goes on from where its first names lead
 walks_on : (t : Tables) (before from : ℕ) (front rest : List (List ℕ)) (node : ℕ) → AreSound t → Leads t.nodes from front node

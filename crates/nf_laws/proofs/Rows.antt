@@ -97,11 +97,6 @@ inside_folder Root parent is = absurd (none-some parent is)
 inside_folder (Inside folder) parent is = ap Inside (same_Some folder parent is)
 inside_folder Trash parent is = absurd (none-some parent is)
 
-pub place_in : (folder : ℕ) (place : Place) → is_place_in folder place ≡ true → place ≡ Inside folder
-place_in folder Root is = absurd (false≢true is)
-place_in folder (Inside parent) is = ap Inside (eqb-true parent folder is)
-place_in folder Trash is = absurd (false≢true is)
-
 -- its folder is there
 pub child_folder : (t : Tables) (row : NodeRow) (place : Place) (folder : ℕ) → IsPlaceSound t row place → place ≡ Inside folder
     → is_folder t.nodes folder ≡ true

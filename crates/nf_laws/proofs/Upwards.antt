@@ -1,7 +1,7 @@
 -- Climbs in sound tables: none from a node that is there takes more than 64 steps, and a folder is one less deep than what is in it.
-use Rattle.std.proofs.Common.{ℕ, suc, zero, ◌+◌, ◌==◌, ◌≡◌, ◌≤◌, Bool, true, false, List, Option, None, Some, refl, sym, ap, subst, ◌∙◌, arith}
+use Rattle.std.proofs.Common.{ℕ, suc, zero, ◌+◌, ◌==◌, ◌≡◌, ◌≢◌, ◌≤◌, Bool, true, false, List, Option, None, Some, refl, sym, ap, subst, ◌∙◌, arith}
 use Rattle.std.specs.Option.{option_and_then, option_map_or}
-use Rattle.std.proofs.lemmas.Bool.{eqb-true}
+use Rattle.std.proofs.lemmas.Bool.{both_ways, false_from_ne_true}
 use Rattle.std.proofs.lemmas.Option.{none-some, option_and_then_some, same_Some}
 use Rattle.nf_base.specs.declared.rows.NodeRow.{NodeRow}
 use Rattle.nf_base.specs.declared.rows.Place.{Place}
@@ -11,6 +11,7 @@ use Rattle.nf_defs.specs.Tree.{climb, depth, folder_of, is_root, is_root_place, 
 use Rattle.nf_words.specs.Sound.{AreSound, IsNodeSound, root_of_user}
 use Rattle.nf_laws.proofs.Climbs.{climb_under, climbs_no_further, depth_is, under_climb}
 use Rattle.nf_laws.proofs.Rows.{none_above, row_is}
+use Rattle.nf_laws.specs.Tree.{NoRings}
 
 -- a node leads to its owner's root
 pub record IsRooted (t : Tables) (node : ℕ) (row : NodeRow) : Type 0 where
@@ -27,20 +28,22 @@ rooted t node row sound there =
       climbs = subst (λ (n : ℕ). climb t.nodes h.1.steps n ≡ Some (root_of_user t row.owner)) h.0 h.1.present;
     }
 
-pub climb_few : (j : ℕ) (t : Tables) (node top : ℕ) (row : NodeRow) → AreSound t → node_row t.nodes node ≡ Some row
-    → climb t.nodes j node ≡ Some top → j ≤ 64
-climb_few j t node top row sound there is =
+-- no climb is longer than 64
+pub climb_short : (j : ℕ) (t : Tables) (node top : ℕ) → AreSound t → climb t.nodes j node ≡ Some top → j ≤ 64
+climb_short zero t node top sound is = omega arith
+climb_short (suc j) t node top sound is =
+    option_and_then_some (climb t.nodes j) (parent_of t.nodes node) top is (λ parent above rest.
+    option_and_then_some (λ row. folder_of row.place) (node_row t.nodes node) parent above (λ row there placed.
     let r = rooted t node row sound there in
-    omega (
-      arith,
-      r.shallow,
-      climbs_no_further r.steps j t.nodes node (root_of_user t row.owner) top (none_above t row.owner sound) r.climbs is,
-    )
+    let few = climbs_no_further r.steps (suc j) t.nodes node (root_of_user t row.owner) top (none_above t row.owner sound) r.climbs is in
+    omega (arith, r.shallow, few)))
 
--- a node that is there is under each that it climbs to
-pub climbs_is_under : (j : ℕ) (t : Tables) (node top : ℕ) (row : NodeRow) → AreSound t → node_row t.nodes node ≡ Some row
-    → climb t.nodes j node ≡ Some top → is_under t.nodes node top ≡ true
-climbs_is_under j t node top row sound there is = climb_under j t.nodes node top (climb_few j t node top row sound there is) is
+-- so a node is under each that it climbs to, and climbs to none that it isn't under
+pub climbs_is_under : (j : ℕ) (t : Tables) (node top : ℕ) → AreSound t → climb t.nodes j node ≡ Some top → is_under t.nodes node top ≡ true
+climbs_is_under j t node top sound is = climb_under j t.nodes node top (climb_short j t node top sound is) is
+
+pub never_climbs : (t : Tables) (node top : ℕ) → AreSound t → is_under t.nodes node top ≡ false → (j : ℕ) → climb t.nodes j node ≢ Some top
+never_climbs t node top sound outside j is = both_ways (is_under t.nodes node top) outside (climbs_is_under j t node top sound is)
 
 -- ---- depths
 
@@ -68,14 +71,11 @@ depth_climb (suc j) t node top sound is =
     omega (arith, depth_up t node parent sound above, depth_climb j t parent top sound is))
 
 -- no folder is under a node that is in it
-pub no_ring : (t : Tables) (node parent : ℕ) → AreSound t → parent_of t.nodes node ≡ Some parent → is_under t.nodes parent node ≡ false
-no_ring t node parent sound above = here (is_under t.nodes parent node) refl
-  where
-    here : (a : Bool) → is_under t.nodes parent node ≡ a → a ≡ false
-    here false e = refl
-    here true e =
-        let c = under_climb t.nodes parent node e in
-        absurd (omega (arith, depth_up t node parent sound above, depth_climb c.0 t parent node sound c.2))
+pub no_rings : NoRings
+no_rings t node parent sound above =
+    false_from_ne_true (is_under t.nodes parent node) (λ under.
+    let c = under_climb t.nodes parent node under in
+    omega (arith, depth_up t node parent sound above, depth_climb c.0 t parent node sound c.2))
 
 -- ---- roots
 

@@ -13,34 +13,16 @@ use Rattle.nf_defs.proofs.Walks.{Contains-from_flat, children_are, climbs_walk, 
 use Rattle.nf_defs.specs.Tables.{Tables}
 use Rattle.nf_defs.specs.Tree.{by_name, children_of, climb, folder_of, is_in, is_under, node_row, parent_of, walk_of, walk_within}
 use Rattle.nf_laws.proofs.Climbs.{climb_on, climb_under, under_climb}
-use Rattle.nf_laws.proofs.Upwards.{climb_few, depth_climb}
+use Rattle.nf_laws.proofs.Upwards.{climb_short, depth_climb}
 use Rattle.nf_laws.proofs.Words.{climbed, derived}
-use Rattle.nf_laws.specs.Tree.{NoRings, WalksTakeAllUnder}
+use Rattle.nf_laws.specs.Tree.{WalksTakeAllUnder}
 use Rattle.nf_words.specs.Sound.{AreSound}
 
 -- ---- climbs of sound tables
 
--- none is longer than 64
-pub climb_short : (t : Tables) (j node top : ℕ) → AreSound t → climb t.nodes j node ≡ Some top → j ≤ 64
-climb_short t zero node top sound is = omega arith
-climb_short t (suc j) node top sound is =
-    option_and_then_some (climb t.nodes j) (parent_of t.nodes node) top is (λ parent above rest.
-    option_and_then_some (λ row. folder_of row.place) (node_row t.nodes node) parent above
-    (λ row there placed. climb_few (suc j) t node top row sound there is))
-
 -- none comes back
 pub no_ring : (t : Tables) (j node : ℕ) → AreSound t → climb t.nodes (suc j) node ≡ Some node → ⊥
 no_ring t j node sound is = absurd (omega (arith, depth_climb (suc j) t node node sound is))
-
--- so no folder is under a node that is in it
-pub no_rings : NoRings
-no_rings t node parent sound above = here (is_under t.nodes parent node) refl
-  where
-    here : (a : Bool) → is_under t.nodes parent node ≡ a → a ≡ false
-    here false e = refl
-    here true e =
-        let c = under_climb t.nodes parent node e in
-        absurd (no_ring t c.0 node sound (subst (λ (o : Option ℕ). option_and_then (climb t.nodes c.0) o ≡ Some node) (sym above) c.2))
 
 -- ---- those under the top
 
@@ -176,7 +158,7 @@ pub walks_take : WalksTakeAllUnder
 walks_take = record {
   those = λ t top node sound. (
     λ h. let c = walk_climbs t.nodes top node sound.rising h in derived c.0 t.nodes top node c.2,
-    λ under. let c = climbed t.nodes top node under in climbs_walk c.0 t.nodes top node (climb_short t c.0 node top sound c.1) c.1,
+    λ under. let c = climbed t.nodes top node under in climbs_walk c.0 t.nodes top node (climb_short c.0 t node top sound c.1) c.1,
   );
   once = walk_distinct;
 }

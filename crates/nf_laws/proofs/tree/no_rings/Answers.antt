@@ -1,4 +1,4 @@
-use Rattle.nf_laws.proofs.Walked.{no_rings}
+use Rattle.nf_laws.proofs.Upwards.{no_rings}
 use Rattle.nf_laws.proofs.tree.no_rings.Goals as goal
 
 pub returns : goal.returns
