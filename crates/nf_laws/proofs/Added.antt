@@ -1,5 +1,5 @@
 -- The tables with a node more are sound.
-use Rattle.std.proofs.Common.{ℕ, suc, ◌==◌, ◌&&◌, ◌≡◌, ◌<◌, ◌≤◌, true, false, List, [], ◌∷◌, ◌++◌, Option, None, Some, length, bytes_eq, refl, sym, ap, subst, ◌∙◌, arith, le_refl, length-append}
+use Rattle.std.proofs.Common.{ℕ, ◌+◌, suc, ◌==◌, ◌&&◌, ◌≡◌, ◌<◌, ◌≤◌, true, false, List, [], ◌∷◌, ◌++◌, Option, None, Some, length, bytes_eq, refl, sym, ap, subst, ◌∙◌, arith, le_refl, length-append}
 use Rattle.std.specs.List.{All}
 use Rattle.std.specs.Option.{option_and_then, option_map_or, option_or}
 use Rattle.std.proofs.lemmas.Bool.{and_from, both_ways, eq-eqb, eqb-true, ne_eqb}
@@ -14,24 +14,12 @@ use Rattle.nf_base.specs.declared.rows.Place.TheVariants.{Inside}
 use Rattle.nf_defs.specs.Tables.{Tables}
 use Rattle.nf_defs.specs.Tree.{child_of, climb, folder_of, is_folder, is_in, is_place_in, node_row, owner_of}
 use Rattle.nf_words.proofs.Known.{KnownNew}
-use Rattle.nf_words.specs.Changes.{created}
+use Rattle.nf_words.specs.Changes.{blob_after, created}
 use Rattle.nf_words.specs.Sound.{AreApart, AreSound, HasRoot, IsNodeSound, IsPlaceSound, root_of_user}
-use Rattle.nf_laws.proofs.Rows.{AreKept, blob_up, body_sound, climb_kept, each_fails, finds_none, folder_kept, folder_there, row_is, no_value, node_kept, none_above, root_kept, stamp}
+use Rattle.nf_laws.proofs.Rows.{counters_up, blob_up, body_sound, climb_kept, each_fails, finds_none, folder_kept, folder_there, kept_joined, row_is, no_value, node_kept, none_above, root_kept, stamp}
 use Rattle.nf_laws.proofs.Climbs.{depth_is}
 
 -- ---- the rows with one more
-
-pub kept_added : (rows : List NodeRow) (row : NodeRow) → AreKept rows (rows ++ row ∷ [])
-kept_added rows row node old is = record {
-  row = old;
-  there =
-      find-append (λ row. row.id == node) rows (row ∷ [])
-      ∙ ap (λ (o : Option NodeRow). option_or o (node_row (row ∷ []) node)) is;
-  owner = refl;
-  place = refl;
-  name = refl;
-  kind = refl;
-}
 
 -- where no row has the new row's number, it is found by it
 pub new_there : (rows : List NodeRow) (row : NodeRow) → All (λ (old : NodeRow). old.id < row.id) rows
@@ -78,7 +66,7 @@ new_sound : (t : Tables) (now : ℕ) (row : NodeRow) (blob : Option ℕ) → Are
 new_sound t now row blob sound known =
     let made = added t now row blob in
     let folder = folder_sound t known.folder sound known.in_folder in
-    let h = folder_kept t.nodes made.nodes known.folder (kept_added t.nodes row) known.in_folder in
+    let h = folder_kept t.nodes made.nodes known.folder (kept_joined t.nodes (row ∷ [])) known.in_folder in
     let id : row.id ≡ t.meta.next_node = ap (λ (r : NodeRow). r.id) known.is_new in
     let owner : row.owner ≡ owner_of t.nodes known.folder = ap (λ (r : NodeRow). r.owner) known.is_new in
     let place : row.place ≡ Inside known.folder = ap (λ (r : NodeRow). r.place) known.is_new in
@@ -100,7 +88,7 @@ new_sound t now row blob sound known =
           ap (option_and_then (climb made.nodes steps))
           (ap (option_and_then (λ row. folder_of row.place)) (new_there t.nodes row (less_than_new t now row blob sound known))
           ∙ ap folder_of place)
-          ∙ climb_kept steps t.nodes made.nodes known.folder (root_of_user t folder.0.owner) (kept_added t.nodes row) climbs
+          ∙ climb_kept steps t.nodes made.nodes known.folder (root_of_user t folder.0.owner) (kept_joined t.nodes (row ∷ [])) climbs
           ∙ ap (λ (user : ℕ). Some (root_of_user t user)) (folder.2 ∙ sym owner);
     }
 
@@ -110,15 +98,10 @@ pub created_sound : (t : Tables) (now : ℕ) (row : NodeRow) (blob : Option ℕ)
     → AreSound (stamp (created t row blob) now)
 created_sound t now row blob sound later known =
     let made = added t now row blob in
-    let kept = kept_added t.nodes row in
+    let kept = kept_joined t.nodes (row ∷ []) in
     record {
-      counters = record {
-        users = sound.counters.users;
-        groups = sound.counters.groups;
-        nodes = omega arith;
-        shares = sound.counters.shares;
-        blobs = omega (arith, sound.counters.blobs, blob_up t.meta.next_blob blob);
-      };
+      counters = counters_up t.meta (t.meta.next_node + 1) (blob_after t.meta.next_blob blob) now sound.counters (omega arith)
+          (blob_up t.meta.next_blob blob);
       rising = all_pairs_push (λ (a b : NodeRow). a.id < b.id) t.nodes row sound.rising (less_than_new t now row blob sound known);
       nodes = All-push (IsNodeSound made) t.nodes row
           (All-weaker (IsNodeSound t) (IsNodeSound made)

@@ -1,5 +1,5 @@
 -- The tables with copies more are sound.
-use Rattle.std.proofs.Common.{ℕ, zero, suc, ◌+◌, ◌==◌, ◌≡◌, ◌≢◌, ◌<◌, ◌≤◌, true, false, List, [], ◌∷◌, ◌++◌, Option, None, Some, get_or, length, map, refl, sym, ap, subst, ◌∙◌, arith, length-append}
+use Rattle.std.proofs.Common.{ℕ, zero, suc, ◌+◌, ◌==◌, ◌≡◌, ◌≢◌, ◌<◌, ◌≤◌, true, false, List, [], ◌∷◌, ◌++◌, Option, None, Some, get_or, length, map, refl, sym, ap, subst, ◌∙◌, arith, le_refl, length-append}
 use Rattle.std.specs.Prelude.{is_some}
 use Rattle.std.specs.List.{All, AllPairs, slice_get, sum_by}
 use Rattle.std.specs.Option.{option_and_then, option_map_or, option_or}
@@ -33,7 +33,7 @@ use Rattle.nf_laws.proofs.Climbs.{depth_is, node_row_each}
 use Rattle.nf_laws.proofs.Gone.{clearing_sound, climb_cleared, counts_cleared, folder_stays, free_cleared, row_cleared}
 use Rattle.nf_laws.proofs.Mirrored.{mirrored}
 use Rattle.nf_laws.proofs.Paths.{child_there, path_own}
-use Rattle.nf_laws.proofs.Rows.{AreKept, child_folder, climb_kept, finds_none, folder_kept, folder_there, row_is, parent_there, node_kept, none_above, pieces_kept, root_kept, stamp}
+use Rattle.nf_laws.proofs.Rows.{counters_up, kept_joined, child_folder, climb_kept, finds_none, folder_kept, folder_there, row_is, parent_there, node_kept, none_above, pieces_kept, root_kept, stamp}
 use Rattle.nf_laws.proofs.Upwards.{depth_up, rooted}
 use Rattle.nf_laws.proofs.Walked.{walks_take}
 
@@ -88,17 +88,6 @@ deepest_of rows nodes k within = max_bounds (deepest rows) (depth rows) refl (λ
 walk_first : (rows : List NodeRow) (top : ℕ) → (get_or (walk_of rows top) 0 0 ≡ top) × (0 < length (walk_of rows top))
 unfolding walk_of walk_within
 walk_first rows top = (refl, omega arith)
-
--- with more rows those before are kept
-pub kept_joined : (rows more : List NodeRow) → AreKept rows (rows ++ more)
-kept_joined rows more node old is = record {
-  row = old;
-  there = find-append (λ row. row.id == node) rows more ∙ ap (λ (o : Option NodeRow). option_or o (node_row more node)) is;
-  owner = refl;
-  place = refl;
-  name = refl;
-  kind = refl;
-}
 
 -- ---- copies
 
@@ -348,13 +337,7 @@ module _ (t : Tables) (now : ℕ) (who : Option ℕ) (transfer : Transfer) (name
       let kept = kept_joined left.nodes rows in
       let counts = counts_cleared t.nodes transfer.replaced in
       record {
-        counters = record {
-          users = sound.counters.users;
-          groups = sound.counters.groups;
-          nodes = omega (arith, sound.counters.nodes);
-          shares = sound.counters.shares;
-          blobs = sound.counters.blobs;
-        };
+        counters = counters_up t.meta (t.meta.next_node + length rows) t.meta.next_blob now sound.counters (omega arith) (le_refl _);
         rising = rising;
         nodes = All-append (IsNodeSound made) left.nodes rows
             (All-weaker (IsNodeSound left) (IsNodeSound made)

@@ -1,5 +1,5 @@
 -- The tables without what is removed are sound.
-use Rattle.std.proofs.Common.{ℕ, suc, ◌==◌, ◌≡◌, ◌<◌, ◌≤◌, ◌&&◌, Bool, true, false, not, bytes_eq, find, option_map, List, [], ◌∷◌, Option, None, Some, get_or, length, refl, sym, ap, subst, ◌∙◌, arith}
+use Rattle.std.proofs.Common.{ℕ, suc, ◌==◌, ◌≡◌, ◌<◌, ◌≤◌, ◌&&◌, Bool, true, false, not, bytes_eq, find, option_map, List, [], ◌∷◌, Option, None, Some, get_or, length, refl, sym, ap, subst, ◌∙◌, arith, le_refl}
 use Rattle.std.specs.List.{All, AllPairs}
 use Rattle.std.specs.Option.{option_and_then, option_map_or}
 use Rattle.std.proofs.lemmas.Bool.{not_from_false, and_parts, both_ways, eqb-true, false_from_ne_true, false≢true, not-true}
@@ -20,7 +20,7 @@ use Rattle.nf_words.specs.Sound.{AreApart, AreSound, HasRoot, IsNodeSound, IsPla
 use Rattle.nf_words.specs.declared.request.Transfer.{Transfer}
 use Rattle.nf_laws.proofs.Climbs.{climb_those, climb_under, climbs_no_further, node_row_each, row_of_those, those, under_climb}
 use Rattle.nf_laws.proofs.Paths.{child_is, child_there}
-use Rattle.nf_laws.proofs.Rows.{found_is, pieces_kept}
+use Rattle.nf_laws.proofs.Rows.{found_is, kept_row, node_still, root_still}
 use Rattle.nf_laws.proofs.Upwards.{inside_no_root, never_climbs, no_rings}
 use Rattle.nf_laws.specs.Transfers.{is_replaced}
 
@@ -45,27 +45,15 @@ place_left t test row closed there passes Trash is h = h
 
 node_left : (t : Tables) (test : ℕ → Bool) (row : NodeRow) → IsClosed t.nodes test → node_row t.nodes row.id ≡ Some row → test row.id ≡ true
     → IsNodeSound t row → IsNodeSound (with_those t test) row
-node_left t test row closed there passes h = record {
-  some = h.some;
-  given = h.given;
-  changed = h.changed;
-  pieces = pieces_kept t (with_those t test) row.content (omega arith) h.pieces;
-  folder = h.folder;
-  place = place_left t test row closed there passes row.place refl h.place;
-  steps = h.steps;
-  shallow = h.shallow;
-  present = climb_those test t.nodes closed h.steps row.id passes ∙ h.present;
-}
+node_left t test row closed there passes h =
+    node_still t (with_those t test) row row.place row.name (le_refl _) (le_refl _) (le_refl _) h
+    (place_left t test row closed there passes row.place refl h.place)
+    (record { steps = h.steps; shallow = h.shallow; climbs = climb_those test t.nodes closed h.steps row.id passes ∙ h.present })
 
 root_stays : (t : Tables) (test : ℕ → Bool) (user : UserRow) → test user.root ≡ true → HasRoot t user → HasRoot (with_those t test) user
-root_stays t test user passes root = record {
-  row = root.row;
-  there = row_of_those test t.nodes user.root passes ∙ root.there;
-  place = root.place;
-  folder = root.folder;
-  owner = root.owner;
-  name = root.name;
-}
+root_stays t test user passes root =
+    root_still t (with_those t test) user root
+    (kept_row (those test t.nodes) user.root root.row (row_of_those test t.nodes user.root passes ∙ root.there))
 
 pub those_sound : (t : Tables) (test : ℕ → Bool) → AreSound t → IsClosed t.nodes test
     → ((user : UserRow) → HasRoot t user → test user.root ≡ true) → AreSound (with_those t test)

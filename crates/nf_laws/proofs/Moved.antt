@@ -24,8 +24,8 @@ use Rattle.nf_laws.proofs.Climbs.{climb_on, depth_is, ends_same, node_row_each, 
 use Rattle.nf_laws.proofs.Gone.{clearing_sound, climb_cleared, folder_stays, free_cleared, kept_cleared, row_cleared}
 use Rattle.nf_laws.proofs.OneRow.{IsEither, each_either, length_with, pieces_with, rising_with, row_itself, row_other, value_with}
 use Rattle.nf_laws.proofs.Paths.{path_own}
-use Rattle.nf_laws.proofs.Rows.{folder_there, none_above, parent_there, pieces_kept, stamp_sound, stamped_has}
-use Rattle.nf_laws.proofs.Upwards.{IsRooted, climb_short, climbs_is_under, depth_climb, never_climbs, rooted}
+use Rattle.nf_laws.proofs.Rows.{IsRooted, folder_there, none_above, kept_row, node_still, parent_there, root_still, stamp_sound, stamped_has}
+use Rattle.nf_laws.proofs.Upwards.{climb_short, climbs_is_under, depth_climb, never_climbs, rooted}
 
 -- ---- climbs where a node is put into a folder
 
@@ -144,18 +144,8 @@ place_moved u node folder name row Trash h = h
 node_moved : (u : Tables) (node folder : ℕ) (name : List ℕ) (old row : NodeRow) → AreSound u → Fits u node folder name old
     → node_row u.nodes row.id ≡ Some row → IsNodeSound u row → IsNodeSound (relink u node folder name) row
 node_moved u node folder name old row sound fits there h =
-    let r = rooted_moved u node folder name old row sound fits there in
-    record {
-      some = h.some;
-      given = h.given;
-      changed = h.changed;
-      pieces = pieces_kept u (relink u node folder name) row.content (le_refl _) h.pieces;
-      folder = h.folder;
-      place = place_moved u node folder name row row.place h.place;
-      steps = r.steps;
-      shallow = r.shallow;
-      present = r.climbs;
-    }
+    node_still u (relink u node folder name) row row.place row.name (le_refl _) (le_refl _) (le_refl _) h
+    (place_moved u node folder name row row.place h.place) (rooted_moved u node folder name old row sound fits there)
 
 -- the row at a place is sound
 either_moved : (u : Tables) (node folder : ℕ) (name : List ℕ) (old before row : NodeRow) → AreSound u → Fits u node folder name old
@@ -164,20 +154,11 @@ either_moved : (u : Tables) (node folder : ℕ) (name : List ℕ) (old before ro
 either_moved u node folder name old before row sound fits there h (inl e) =
     subst (λ (r : NodeRow). IsNodeSound (relink u node folder name) r) (sym e) (node_moved u node folder name old before sound fits there h)
 either_moved u node folder name old before row sound fits there h (inr is) =
-    let kept = node_moved u node folder name old before sound fits there h in
     let same : old.owner ≡ before.owner = ap (λ (r : NodeRow). r.owner) (same_Some old before (sym fits.there ∙ is.0)) in
     subst (λ (r : NodeRow). IsNodeSound (relink u node folder name) r) (sym is.1)
-    (record {
-      some = kept.some;
-      given = kept.given;
-      changed = kept.changed;
-      pieces = kept.pieces;
-      folder = kept.folder;
-      place = folder_moved u node folder name (relinked folder name before) folder (fits.in_folder, fits.owner ∙ same);
-      steps = kept.steps;
-      shallow = kept.shallow;
-      present = kept.present;
-    })
+    (node_still u (relink u node folder name) before (Inside folder) name (le_refl _) (le_refl _) (le_refl _) h
+    (folder_moved u node folder name (relinked folder name before) folder (fits.in_folder, fits.owner ∙ same))
+    (rooted_moved u node folder name old before sound fits there))
 
 -- two rows are apart, where both are from the changed one
 pair_apart : (rows : List NodeRow) (node : ℕ) (change : NodeRow → NodeRow) (a b x y : NodeRow)
@@ -201,14 +182,9 @@ root_moved u node folder name no_root user root =
     ap (λ (o : Option NodeRow). option_map_or (λ row. is_root_place row.place) o false) root.there ∙ ap is_root_place root.place in
     let differs : (user.root == node) ≡ false =
     ne_eqb user.root node (λ same. both_ways (is_root u.nodes node) no_root (subst (λ (n : ℕ). is_root u.nodes n ≡ true) same is)) in
-    record {
-      row = root.row;
-      there = row_other u.nodes node (relinked folder name) (λ row. refl) user.root differs ∙ root.there;
-      place = root.place;
-      folder = root.folder;
-      owner = root.owner;
-      name = root.name;
-    }
+    root_still u (relink u node folder name) user root
+    (kept_row (relinking u.nodes node folder name) user.root root.row
+    (row_other u.nodes node (relinked folder name) (λ row. refl) user.root differs ∙ root.there))
 
 relinked_sound : (u : Tables) (node folder : ℕ) (name : List ℕ) (old : NodeRow) → AreSound u → Fits u node folder name old
     → AreSound (relink u node folder name)

@@ -16,12 +16,12 @@ use Rattle.nf_defs.specs.Tables.{Tables}
 use Rattle.nf_defs.specs.Tree.{Leads, stays, leads_on, content_of, filled, found_from, is_folder, is_folder_kind, node_row}
 use Rattle.nf_defs.specs.declared.Found.{Found}
 use Rattle.nf_defs.specs.declared.Found.TheVariants.{At}
-use Rattle.nf_laws.proofs.Added.{kept_added, less_than_new, new_there}
+use Rattle.nf_laws.proofs.Added.{less_than_new, new_there}
 use Rattle.nf_laws.proofs.Contents.{content_decides}
 use Rattle.nf_laws.proofs.Paths.{leads_found}
 use Rattle.nf_laws.proofs.OneRow.{row_itself}
 use Rattle.nf_laws.proofs.Replaced.{kept_replaced}
-use Rattle.nf_laws.proofs.Rows.{AreKept, folder_kept, holds_some, row_id}
+use Rattle.nf_laws.proofs.Rows.{AreKept, folder_kept, holds_some, kept_joined, row_id}
 use Rattle.nf_laws.proofs.Stays as states
 use Rattle.nf_laws.specs.Reads.{IsStored, LeadsToKey, PathStays, StoredIsRead}
 use Rattle.nf_words.proofs.Known.{Known, KnownNew, found_passes, known_change}
@@ -139,7 +139,7 @@ new_file : (t : Tables) (now folder root : ℕ) (name : List ℕ) (front : List 
 new_file t now folder root name front content blob sound known led =
     let row = new_node t now folder name File content in
     let behind : List NodeRow = t.nodes ++ row ∷ [] in
-    let kept = kept_added t.nodes row in
+    let kept = kept_joined t.nodes (row ∷ []) in
     let there = new_there t.nodes row (less_than_new t now row blob sound known) in
     let place : Inside folder ≡ Inside known.folder = ap (λ (r : NodeRow). r.place) known.is_new in
     let same : known.folder ≡ folder = cc in

@@ -8,10 +8,10 @@ use Rattle.nf_base.specs.declared.rows.NodeRow.{NodeRow}
 use Rattle.nf_defs.specs.Tables.{Tables}
 use Rattle.nf_defs.specs.Tree.{filled, is_folder_kind, node_row, with_node}
 use Rattle.nf_words.proofs.Known.{KnownContent}
-use Rattle.nf_words.specs.Changes.{replaced}
+use Rattle.nf_words.specs.Changes.{blob_after, replaced}
 use Rattle.nf_words.specs.Sound.{AreSound, HasRoot, IsNodeSound}
 use Rattle.nf_laws.proofs.OneRow.{IsEither, each_either, length_with, pieces_with, rising_with, row_with, same_either}
-use Rattle.nf_laws.proofs.Rows.{AreKept, Kept, blob_up, body_sound, node_kept, root_kept, stamp}
+use Rattle.nf_laws.proofs.Rows.{AreKept, Kept, blob_up, body_sound, counters_up, kept_row, node_kept, root_kept, stamp}
 
 -- each node keeps its owner, place, name and kind
 pub kept_replaced : (rows : List NodeRow) (now node : ℕ) (content : List Piece) → AreKept rows (with_node rows node (filled content now))
@@ -30,14 +30,7 @@ kept_replaced rows now node content other old is = here (other == node) refl
       name = refl;
       kind = refl;
     }
-    here false e = record {
-      row = old;
-      there = there ∙ rw (e, is);
-      owner = refl;
-      place = refl;
-      name = refl;
-      kind = refl;
-    }
+    here false e = kept_row (with_node rows node (filled content now)) other old (there ∙ rw (e, is))
 
 abbrev refilled_at : Tables → ℕ → ℕ → List Piece → Option ℕ → Tables
 refilled_at t now node content blob = stamp (replaced t now node content blob) now
@@ -93,13 +86,7 @@ replaced_sound t now node content blob sound later known =
     let name = λ (k : ℕ) (d : NodeRow).
     same_either (λ (r : NodeRow). r.name) t.nodes node change (get_or t.nodes k d) (get_or made.nodes k d) (λ row. refl) (either k d) in
     record {
-      counters = record {
-        users = sound.counters.users;
-        groups = sound.counters.groups;
-        nodes = sound.counters.nodes;
-        shares = sound.counters.shares;
-        blobs = omega (arith, sound.counters.blobs, blob_up t.meta.next_blob blob);
-      };
+      counters = counters_up t.meta t.meta.next_node (blob_after t.meta.next_blob blob) now sound.counters (le_refl _) (blob_up t.meta.next_blob blob);
       rising = rising_with t.nodes node change (λ row. refl) sound.rising;
       nodes = λ k d within. either_sound t now node content blob (get_or t.nodes k d) (get_or made.nodes k d) sound later known
           (sound.nodes k d (omega (arith, counts))) (either k d);

@@ -1,9 +1,10 @@
 -- Rows that may change while each node keeps its owner, place, name and kind.
-use Rattle.std.proofs.Common.{ℕ, suc, zero, ◌==◌, ◌≡◌, ◌≤◌, Bool, true, false, List, [], ◌∷◌, Option, None, Some, find, length, option_map, refl, sym, ap, subst, ◌∙◌, arith, le_refl}
+use Rattle.std.proofs.Common.{ℕ, suc, zero, ◌==◌, ◌≡◌, ◌≤◌, Bool, true, false, List, [], ◌∷◌, ◌++◌, Option, None, Some, find, length, option_map, refl, sym, ap, subst, ◌∙◌, arith, le_refl}
 use Rattle.std.specs.List.{All}
-use Rattle.std.specs.Option.{IfSome, option_and_then, option_map_or}
+use Rattle.std.specs.Option.{IfSome, option_and_then, option_map_or, option_or}
 use Rattle.std.proofs.lemmas.Bool.{false≢true, eqb-true}
 use Rattle.std.proofs.lemmas.List.Elements.{All-cons, All-head, All-nil, All-tail, All-weaker}
+use Rattle.std.proofs.lemmas.List.Folds.{find-append}
 use Rattle.std.proofs.lemmas.Option.{none-some, same_Some}
 use Rattle.nf_base.specs.declared.changes.Change.{Change}
 use Rattle.nf_base.specs.declared.content.Piece.{Piece}
@@ -170,9 +171,15 @@ climb_kept (suc k) rows others node top kept is =
     here (Some parent) e is rest =
         ap (option_and_then (climb others k)) (parent_kept rows others node parent kept e) ∙ rest parent is
 
--- all rows keep these of themselves
-pub kept_same : (rows : List NodeRow) → AreKept rows rows
-kept_same rows node old is = record { row = old; there = is; owner = refl; place = refl; name = refl; kind = refl }
+-- a row that is there as it was
+pub kept_row : (rows : List NodeRow) (node : ℕ) (old : NodeRow) → node_row rows node ≡ Some old → Kept rows node old
+kept_row rows node old is = record { row = old; there = is; owner = refl; place = refl; name = refl; kind = refl }
+
+-- with more rows those before are kept
+pub kept_joined : (rows more : List NodeRow) → AreKept rows (rows ++ more)
+kept_joined rows more node old is =
+    kept_row (rows ++ more) node old
+    (find-append (λ row. row.id == node) rows more ∙ ap (λ (o : Option NodeRow). option_or o (node_row more node)) is)
 
 -- the tables with other rows and counters
 abbrev pub with_nodes : Tables → MetaRow → List NodeRow → Tables
@@ -192,33 +199,65 @@ pieces_kept t made pieces grows =
     All-weaker (IsPieceSound t) (IsPieceSound made)
     (λ piece sound. record { some = sound.some; few = sound.few; first = sound.first; given = omega (arith, sound.given) }) pieces
 
-pub node_kept : (t : Tables) (meta : MetaRow) (others : List NodeRow) (row : NodeRow) → AreKept t.nodes others
-    → t.meta.next_node ≤ meta.next_node → t.meta.next_blob ≤ meta.next_blob → t.meta.last ≤ meta.last
-    → IsNodeSound t row → IsNodeSound (with_nodes t meta others) row
-node_kept t meta others row kept nodes blobs later sound = record {
+-- a node leads to its owner's root
+pub record IsRooted (t : Tables) (node : ℕ) (row : NodeRow) : Type 0 where
+  pub steps : ℕ
+  pub shallow : steps ≤ 64
+  pub climbs : climb t.nodes steps node ≡ Some (root_of_user t row.owner)
+
+-- a sound row stays so in other tables and in another place, where it is rooted in them
+pub node_still : (t made : Tables) (row : NodeRow) (place : Place) (name : List ℕ) → t.meta.next_node ≤ made.meta.next_node
+    → t.meta.next_blob ≤ made.meta.next_blob → t.meta.last ≤ made.meta.last → IsNodeSound t row
+    → IsPlaceSound made (record row { place = place; name = name }) place → IsRooted made row.id row
+    → IsNodeSound made (record row { place = place; name = name })
+node_still t made row place name nodes blobs later sound in_place rooted = record {
   some = sound.some;
   given = omega (arith, sound.given);
   changed = omega (arith, sound.changed);
-  pieces = pieces_kept t (with_nodes t meta others) row.content blobs sound.pieces;
+  pieces = pieces_kept t made row.content blobs sound.pieces;
   folder = sound.folder;
-  place = place_kept t meta others row row.place kept sound.place;
-  steps = sound.steps;
-  shallow = sound.shallow;
-  present = climb_kept sound.steps t.nodes others row.id (root_of_user t row.owner) kept sound.present;
+  place = in_place;
+  steps = rooted.steps;
+  shallow = rooted.shallow;
+  present = rooted.climbs;
+}
+
+pub node_kept : (t : Tables) (meta : MetaRow) (others : List NodeRow) (row : NodeRow) → AreKept t.nodes others
+    → t.meta.next_node ≤ meta.next_node → t.meta.next_blob ≤ meta.next_blob → t.meta.last ≤ meta.last
+    → IsNodeSound t row → IsNodeSound (with_nodes t meta others) row
+node_kept t meta others row kept nodes blobs later sound =
+    node_still t (with_nodes t meta others) row row.place row.name nodes blobs later sound (place_kept t meta others row row.place kept sound.place)
+    (record {
+      steps = sound.steps;
+      shallow = sound.shallow;
+      climbs = climb_kept sound.steps t.nodes others row.id (root_of_user t row.owner) kept sound.present;
+    })
+
+-- so does a root, where it is there
+pub root_still : (t made : Tables) (user : UserRow) (root : HasRoot t user) → Kept made.nodes user.root root.row → HasRoot made user
+root_still t made user root k = record {
+  row = k.row;
+  there = k.there;
+  place = k.place ∙ root.place;
+  folder = ap is_folder_kind k.kind ∙ root.folder;
+  owner = k.owner ∙ root.owner;
+  name = k.name ∙ root.name;
 }
 
 pub root_kept : (t : Tables) (meta : MetaRow) (others : List NodeRow) → AreKept t.nodes others
     → (user : UserRow) → HasRoot t user → HasRoot (with_nodes t meta others) user
-root_kept t meta others kept user root =
-    let k = kept user.root root.row root.there in
-    record {
-      row = k.row;
-      there = k.there;
-      place = k.place ∙ root.place;
-      folder = ap is_folder_kind k.kind ∙ root.folder;
-      owner = k.owner ∙ root.owner;
-      name = k.name ∙ root.name;
-    }
+root_kept t meta others kept user root = root_still t (with_nodes t meta others) user root (kept user.root root.row root.there)
+
+-- no counter falls below 1
+pub counters_up : (meta : MetaRow) (nodes blobs last : ℕ) → AreCounters meta → meta.next_node ≤ nodes → meta.next_blob ≤ blobs
+    → AreCounters (record meta { next_node = nodes; next_blob = blobs; last = last })
+counters_up meta nodes blobs last counters more_nodes more_blobs = record {
+  users = counters.users;
+  groups = counters.groups;
+  nodes = omega (arith, counters.nodes);
+  shares = counters.shares;
+  blobs = omega (arith, counters.blobs);
+}
 
 -- the piece of a body is sound, where its blob's number was given
 pub body_sound : (t : Tables) (meta : MetaRow) (others : List NodeRow) (blob : Option ℕ) (content : List Piece)
@@ -257,18 +296,12 @@ pub stamp_sound : (t : Tables) (now : ℕ) → AreSound t → t.meta.last ≤ no
 stamp_sound t now sound later =
     let made = stamp t now in
     record {
-      counters = record {
-        users = sound.counters.users;
-        groups = sound.counters.groups;
-        nodes = sound.counters.nodes;
-        shares = sound.counters.shares;
-        blobs = sound.counters.blobs;
-      };
+      counters = counters_up t.meta t.meta.next_node t.meta.next_blob now sound.counters (le_refl _) (le_refl _);
       rising = sound.rising;
       nodes = All-weaker (IsNodeSound t) (IsNodeSound made)
-          (λ row. node_kept t made.meta t.nodes row (kept_same t.nodes) (le_refl _) (le_refl _) later) t.nodes sound.nodes;
+          (λ row. node_kept t made.meta t.nodes row (kept_row t.nodes) (le_refl _) (le_refl _) later) t.nodes sound.nodes;
       names = sound.names;
-      roots = All-weaker (HasRoot t) (HasRoot made) (root_kept t made.meta t.nodes (kept_same t.nodes)) t.users sound.roots;
+      roots = All-weaker (HasRoot t) (HasRoot made) (root_kept t made.meta t.nodes (kept_row t.nodes)) t.users sound.roots;
       few_nodes = sound.few_nodes;
       few_pieces = sound.few_pieces;
     }

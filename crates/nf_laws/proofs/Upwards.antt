@@ -10,14 +10,8 @@ use Rattle.nf_defs.specs.Tables.{Tables}
 use Rattle.nf_defs.specs.Tree.{climb, depth, folder_of, is_root, is_root_place, is_under, node_row, parent_of}
 use Rattle.nf_words.specs.Sound.{AreSound, IsNodeSound, root_of_user}
 use Rattle.nf_laws.proofs.Climbs.{climb_under, climbs_no_further, depth_is, under_climb}
-use Rattle.nf_laws.proofs.Rows.{none_above, row_is}
+use Rattle.nf_laws.proofs.Rows.{IsRooted, none_above, row_is}
 use Rattle.nf_laws.specs.Tree.{NoRings}
-
--- a node leads to its owner's root
-pub record IsRooted (t : Tables) (node : ℕ) (row : NodeRow) : Type 0 where
-  pub steps : ℕ
-  pub shallow : steps ≤ 64
-  pub climbs : climb t.nodes steps node ≡ Some (root_of_user t row.owner)
 
 pub rooted : (t : Tables) (node : ℕ) (row : NodeRow) → AreSound t → node_row t.nodes node ≡ Some row → IsRooted t node row
 rooted t node row sound there =
