@@ -1,8 +1,8 @@
 -- The tables with a node more are sound.
 use Rattle.std.proofs.Common.{ℕ, ◌+◌, suc, ◌==◌, ◌&&◌, ◌≡◌, ◌<◌, ◌≤◌, true, false, List, [], ◌∷◌, ◌++◌, Option, None, Some, length, bytes_eq, refl, sym, ap, subst, ◌∙◌, arith, le_refl, length-append}
 use Rattle.std.specs.List.{All}
-use Rattle.std.specs.Option.{option_and_then, option_map_or, option_or}
-use Rattle.std.proofs.lemmas.Bool.{and_from, both_ways, eq-eqb, eqb-true, ne_eqb}
+use Rattle.std.specs.Option.{option_and_then, option_or}
+use Rattle.std.proofs.lemmas.Bool.{and_from, both_ways, eq-eqb, ne_eqb}
 use Rattle.std.proofs.lemmas.List.Elements.{All-push, All-weaker}
 use Rattle.std.proofs.lemmas.List.Folds.{find-append}
 use Rattle.std.proofs.lemmas.List.Quantifiers.{all_pairs_push}

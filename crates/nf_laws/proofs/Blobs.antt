@@ -1,9 +1,9 @@
 -- Whole blobs stay whole, and what is stored has the next number.
-use Rattle.std.proofs.Common.{◌≡◌, ℕ, ◌<◌, ◌==◌, Bool, true, false, not, List, [], ◌∷◌, length, get_or, Result, Ok, Err, inl, inr, refl, sym, ap, subst, ◌∙◌, arith}
+use Rattle.std.proofs.Common.{◌≡◌, ℕ, ◌<◌, ◌==◌, Bool, true, false, List, [], ◌∷◌, length, get_or, inl, inr, refl, sym, ap, subst, ◌∙◌, arith}
 use Rattle.std.specs.Prelude.{Option, None, Some}
 use Rattle.std.specs.List.{All}
-use Rattle.std.specs.Option.{IfSome, option_map_or}
-use Rattle.std.proofs.lemmas.List.Elements.{All-append, All-cons, All-nil, All-push, All-tail, All-head, All-filter}
+use Rattle.std.specs.Option.{IfSome}
+use Rattle.std.proofs.lemmas.List.Elements.{All-append, All-cons, All-nil, All-push}
 use Rattle.std.proofs.lemmas.Option.{none-some, slice_get-get_or}
 use Rattle.sha2.specs.Sha256.{sha256}
 use Rattle.nf_base.specs.declared.changes.Change.{Change}
@@ -14,33 +14,28 @@ use Rattle.nf_base.specs.declared.rows.Row.{Row}
 use Rattle.nf_defs.specs.Blobs.{Blobs, blob_at, put_blob, with_blob}
 use Rattle.nf_defs.specs.Tables.{Tables}
 use Rattle.nf_defs.proofs.Blobs.{new_at, put_at, put_elsewhere, still_at}
-use Rattle.nf_defs.specs.Tree.{content_of, filled, node_row, relinked, with_node}
-use Rattle.nf_words.specs.Actors.{actor_of}
+use Rattle.nf_defs.specs.Tree.{filled, relinked}
 use Rattle.nf_words.specs.Changes.{altered, blob_after, blob_of, changed, cleared, goal_of, stamped, told, with_goal}
 use Rattle.nf_words.specs.Endings.{blob_for, content_in}
-use Rattle.nf_words.specs.History.{MayAsk, after_mark, failed}
+use Rattle.nf_words.specs.History.{MayAsk, after_mark}
 use Rattle.nf_words.specs.Sound.{AreSound, IsGoalSound, IsNodeSound, IsPieceSound, IsSound}
-use Rattle.nf_words.specs.State.{State, ticket_for, without_ticket}
+use Rattle.nf_words.specs.State.{State}
 use Rattle.nf_words.specs.Step.{without}
 use Rattle.nf_words.specs.declared.answer.Allowed.{Allowed}
 use Rattle.nf_words.specs.declared.answer.Allowed.TheVariants as allowed
-use Rattle.nf_words.specs.declared.answer.Denial.{Denial}
 use Rattle.nf_words.specs.declared.answer.Goal.{Goal}
 use Rattle.nf_words.specs.declared.answer.Goal.TheVariants.{Serve, Store}
 use Rattle.nf_words.specs.declared.history.Entry.{Entry}
-use Rattle.nf_words.specs.declared.history.Event.{Event}
-use Rattle.nf_words.specs.declared.history.Event.TheVariants.{Begin, End}
 use Rattle.nf_words.specs.declared.history.Mark.{Mark}
-use Rattle.nf_words.specs.declared.history.Mark.TheVariants as mark
 use Rattle.nf_words.specs.declared.history.Ticket.{Ticket}
-use Rattle.nf_words.proofs.Known.{Known, KnownCopies, found_has, known_change}
+use Rattle.nf_words.proofs.Known.{Known, KnownCopies, known_change}
 use Rattle.nf_laws.proofs.Bodies.{Decides, IsNext, StoresBody, act_next, altered_next, decision_stores, told_blob}
 use Rattle.nf_laws.proofs.Entries.{entry_has, tickets_left, tickets_with}
 use Rattle.nf_laws.proofs.Gone.{all_cleared}
 use Rattle.nf_laws.proofs.Mirrored.{mirrored}
 use Rattle.nf_laws.proofs.OneRow.{with_all}
 use Rattle.nf_laws.proofs.Rows.{content_has, found_is, stamped_has}
-use Rattle.nf_laws.specs.Wholes.{BlobsAreNew, Brings, IsGoalHeld, IsHeld, IsThere, IsWhole, StaysWhole, blob_in, blob_under}
+use Rattle.nf_laws.specs.Wholes.{BlobsAreNew, IsGoalHeld, IsHeld, IsThere, StaysWhole, blob_in, blob_under}
 
 -- ---- pieces whose bytes stay
 

@@ -2,7 +2,7 @@
 use Rattle.std.proofs.Common.{◌≡◌, ℕ, ◌==◌, ◌&&◌, Bool, true, false, not, List, [], ◌∷◌, length, Result, Ok, Err, refl, sym, ap, subst, ◌∙◌, inl, inr, ◌⊎◌, arith}
 use Rattle.std.specs.Prelude.{Option, None, Some, if◌then◌else◌}
 use Rattle.std.specs.List.{All}
-use Rattle.std.specs.Option.{IfSome, option_map_or}
+use Rattle.std.specs.Option.{option_map_or}
 use Rattle.std.proofs.lemmas.Bool.{and_parts, eqb-true, false_from_ne_true, false≢true}
 use Rattle.std.proofs.lemmas.List.Elements.{All-head}
 use Rattle.sha2.specs.Sha256.{sha256}
@@ -16,39 +16,36 @@ use Rattle.nf_defs.specs.Tables.{Tables}
 use Rattle.nf_defs.specs.Tree.{content_of, is_folder, is_folder_kind, node_row}
 use Rattle.nf_defs.specs.Access.{unshared}
 use Rattle.nf_defs.specs.declared.Found.{Found}
-use Rattle.nf_defs.specs.declared.Found.TheVariants.{At, Free, Missing}
+use Rattle.nf_defs.specs.declared.Found.TheVariants.{At, Free}
 use Rattle.nf_defs.specs.declared.Seeker.{Seeker}
 use Rattle.nf_defs.specs.declared.Seeker.TheVariants as seeker
 use Rattle.nf_words.specs.Calls.{asker_of, last_name, places_of}
-use Rattle.nf_words.specs.Changes.{allowed_of, altered, blob_after, blob_of, copied, deleted, given, made_folder, moved, refilled, served, stored, told}
+use Rattle.nf_words.specs.Changes.{allowed_of, altered, blob_after, blob_of, given, made_folder, refilled, served, stored, told}
 use Rattle.nf_words.specs.Copies.{copies_to}
 use Rattle.nf_words.specs.Endings.{blob_for, content_in, end_refusal, ends_goal, ends_ticket, stored_at, unless_refused}
-use Rattle.nf_words.specs.Sound.{AreSound, IsNodeSound, IsPieceSound}
+use Rattle.nf_words.specs.Sound.{AreSound, IsPieceSound}
 use Rattle.nf_words.specs.State.{State, ticket_of}
 use Rattle.nf_words.specs.Listing.{listing_of}
 use Rattle.nf_words.specs.Places.{node_at, transfer_of}
 use Rattle.nf_words.specs.Rules.{refusal_of}
-use Rattle.nf_words.specs.Step.{blob_by, call_of, decision_of}
+use Rattle.nf_words.specs.Step.{call_of, decision_of}
 use Rattle.nf_words.specs.declared.answer.Allowed.{Allowed}
 use Rattle.nf_words.specs.declared.answer.Allowed.TheVariants as allowed
 use Rattle.nf_words.specs.declared.answer.Denial.{Denial}
 use Rattle.nf_words.specs.declared.answer.Goal.{Goal}
-use Rattle.nf_words.specs.declared.answer.Goal.TheVariants.{Serve, Store}
+use Rattle.nf_words.specs.declared.answer.Goal.TheVariants.{Store}
 use Rattle.nf_words.specs.declared.answer.LockKey.{LockKey}
 use Rattle.nf_words.specs.declared.answer.LockKey.TheVariants.{Node, Slot}
 use Rattle.nf_words.specs.declared.history.Event.{Event}
 use Rattle.nf_words.specs.declared.history.Event.TheVariants.{Begin, End}
 use Rattle.nf_words.specs.declared.history.Outcome.{Outcome}
-use Rattle.nf_words.specs.declared.history.Outcome.TheVariants.{Sent, Gone, Body}
+use Rattle.nf_words.specs.declared.history.Outcome.TheVariants.{Body}
 use Rattle.nf_words.specs.declared.history.Ticket.{Ticket}
 use Rattle.nf_words.specs.declared.request.Places.{Places}
-use Rattle.nf_words.specs.declared.request.Request.{Request}
 use Rattle.nf_words.specs.declared.request.Spot.{Spot}
-use Rattle.nf_words.specs.declared.request.Transfer.{Transfer}
-use Rattle.nf_words.specs.declared.request.Words.{Words}
 use Rattle.nf_words.specs.declared.request.Wanted.{Wanted}
 use Rattle.nf_words.specs.declared.request.Wanted.TheVariants as wanted
-use Rattle.nf_words.proofs.Known.{Known, IsOfBody, found_has}
+use Rattle.nf_words.proofs.Known.{Known, IsOfBody}
 use Rattle.nf_laws.proofs.Rows.{holds_some, row_is}
 use Rattle.nf_laws.specs.Wholes.{Brings}
 

@@ -1,19 +1,18 @@
 -- The tables without what is removed are sound.
-use Rattle.std.proofs.Common.{ℕ, suc, ◌==◌, ◌≡◌, ◌<◌, ◌≤◌, ◌&&◌, Bool, true, false, not, bytes_eq, find, option_map, List, [], ◌∷◌, Option, None, Some, get_or, length, refl, sym, ap, subst, ◌∙◌, arith, le_refl}
-use Rattle.std.specs.List.{All, AllPairs}
+use Rattle.std.proofs.Common.{ℕ, suc, ◌==◌, ◌≡◌, ◌<◌, ◌≤◌, Bool, true, false, not, List, Option, None, Some, length, refl, sym, ap, subst, ◌∙◌, arith, le_refl}
+use Rattle.std.specs.List.{All}
 use Rattle.std.specs.Option.{option_and_then, option_map_or}
-use Rattle.std.proofs.lemmas.Bool.{not_from_false, and_parts, both_ways, eqb-true, false_from_ne_true, false≢true, not-true}
-use Rattle.std.proofs.lemmas.List.Elements.{All-cons, All-filter, All-nil, All-weaker, filter_passes}
+use Rattle.std.proofs.lemmas.Bool.{not_from_false, both_ways, eqb-true, false_from_ne_true, false≢true, not-true}
+use Rattle.std.proofs.lemmas.List.Elements.{All-filter, All-weaker, filter_passes}
 use Rattle.std.proofs.lemmas.List.Filters.{length-filter_both, sum_by-filter_both}
 use Rattle.std.proofs.lemmas.List.Kept.{AllPairs-filter}
-use Rattle.std.proofs.lemmas.Option.{none-some, option_and_then_some, same_Some}
-use Rattle.std.proofs.lemmas.Slice.Eq.{bytes_eq-Decides}
+use Rattle.std.proofs.lemmas.Option.{none-some, same_Some}
 use Rattle.nf_base.specs.declared.rows.NodeRow.{NodeRow}
 use Rattle.nf_base.specs.declared.rows.Place.{Place}
 use Rattle.nf_base.specs.declared.rows.Place.TheVariants.{Root, Inside, Trash}
 use Rattle.nf_base.specs.declared.rows.UserRow.{UserRow}
 use Rattle.nf_defs.specs.Tables.{Tables}
-use Rattle.nf_defs.specs.Tree.{child_of, climb, folder_of, is_in, is_root, is_root_place, is_under, node_row, parent_of, piece_count}
+use Rattle.nf_defs.specs.Tree.{child_of, climb, folder_of, is_root, is_root_place, is_under, node_row, parent_of, piece_count}
 use Rattle.nf_words.proofs.Known.{KnownTransfer, child_parent}
 use Rattle.nf_words.specs.Changes.{cleared, removed}
 use Rattle.nf_words.specs.Sound.{AreApart, AreSound, HasRoot, IsNodeSound, IsPlaceSound}

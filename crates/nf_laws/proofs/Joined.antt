@@ -1,12 +1,9 @@
 -- What a COPY leaves: the copies, and all that was there but for what had to go.
-use Rattle.std.proofs.Common.{ℕ, zero, suc, ◌+◌, ◌-◌, ◌==◌, ◌<◌, ◌≤◌, ◌≡◌, true, false, List, [], ◌∷◌, ◌++◌, Option, None, Some, Result, Ok, get_or, length, map, inl, inr, refl, sym, ap, subst, ◌∙◌, arith, length-append}
-use Rattle.std.specs.Prelude.{is_some, slice_get}
-use Rattle.std.specs.Option.{option_map_or, option_or}
-use Rattle.std.proofs.lemmas.Bool.{both_ways, cases_lt, eq-eqb, eqb-true, false_from_ne_true, false≢true, ne_eqb}
+use Rattle.std.proofs.Common.{ℕ, zero, suc, ◌+◌, ◌-◌, ◌<◌, ◌≡◌, true, false, List, ◌++◌, Option, None, Some, map, inl, inr, refl, sym, ap, subst, ◌∙◌, arith, length-append}
+use Rattle.std.specs.Option.{option_map_or}
+use Rattle.std.proofs.lemmas.Bool.{both_ways, cases_lt, false_from_ne_true, false≢true}
 use Rattle.std.proofs.lemmas.List.{length-map}
-use Rattle.std.proofs.lemmas.List.Folds.{find-append}
-use Rattle.std.proofs.lemmas.Option.{none-some, option_and_then_some, same_Some, slice_get-get_or}
-use Rattle.nf_base.specs.declared.changes.Change.{Change}
+use Rattle.std.proofs.lemmas.Option.{option_and_then_some, same_Some}
 use Rattle.nf_base.specs.declared.changes.Change.TheVariants.{Put}
 use Rattle.nf_base.specs.declared.rows.NodeRow.{NodeRow}
 use Rattle.nf_base.specs.declared.rows.Row.TheVariants as rows
@@ -24,15 +21,9 @@ use Rattle.nf_laws.proofs.Rows.{row_is, stamped_nodes}
 use Rattle.nf_laws.specs.Transfers.{AreCopied, CopiesMirror, Mirrors, is_replaced}
 use Rattle.nf_words.proofs.Known.{KnownCopies, KnownTransfer, child_parent, known_change}
 use Rattle.nf_words.specs.Actors.{actor_of}
-use Rattle.nf_words.specs.Changes.{changed, cleared, dropped_for, joined, stamped, told}
-use Rattle.nf_words.specs.Sound.{AreSound, IsNodeSound}
-use Rattle.nf_words.specs.State.{State}
-use Rattle.nf_words.specs.Step.{decision_of, step, stepped_by, without}
-use Rattle.nf_words.specs.declared.answer.Allowed.{Allowed}
+use Rattle.nf_words.specs.Changes.{changed, cleared, dropped_for, joined, told}
+use Rattle.nf_words.specs.Sound.{AreSound}
 use Rattle.nf_words.specs.declared.answer.Allowed.TheVariants as allowed
-use Rattle.nf_words.specs.declared.answer.Denial.{Denial}
-use Rattle.nf_words.specs.declared.history.Event.{Event}
-use Rattle.nf_words.specs.declared.history.Event.TheVariants.{Begin, End}
 use Rattle.nf_words.specs.declared.request.Transfer.{Transfer}
 
 -- ---- nodes that are there

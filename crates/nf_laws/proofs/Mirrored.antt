@@ -1,8 +1,7 @@
 -- A copy mirrors what it is a copy of: the k-th copy is that of the k-th node of the walk.
-use Rattle.std.proofs.Common.{ℕ, zero, suc, ◌+◌, ◌<◌, ◌≡◌, ◌⊎◌, true, List, [], ◌∷◌, ◌++◌, Option, None, Some, length, ⊎_elim, inl, inr, refl, sym, ap, subst, ◌∙◌, arith, length-append}
-use Rattle.std.specs.Prelude.{is_some, slice_get}
+use Rattle.std.proofs.Common.{ℕ, zero, suc, ◌+◌, ◌<◌, ◌≡◌, ◌⊎◌, List, [], ◌∷◌, ◌++◌, Option, Some, length, ⊎_elim, inl, inr, refl, sym, ap, subst, ◌∙◌, arith, length-append}
+use Rattle.std.specs.Prelude.{slice_get}
 use Rattle.std.specs.List.{All, flat_map}
-use Rattle.std.proofs.lemmas.Bool.{false≢true}
 use Rattle.std.proofs.lemmas.List.Elements.{All-head, All-tail}
 use Rattle.std.proofs.lemmas.Option.{none-some, same_Some}
 use Rattle.nf_base.specs.declared.rows.NodeRow.{NodeRow}
@@ -14,7 +13,7 @@ use Rattle.nf_defs.specs.declared.Found.TheVariants.{At}
 use Rattle.nf_laws.proofs.Paths.{path_own}
 use Rattle.nf_laws.specs.Transfers.{IsCopyOf, IsPlacedCopy, Mirrors}
 use Rattle.nf_words.proofs.Known.{KnownCopies}
-use Rattle.nf_words.specs.Copies.{copied_row, copies_of_all, copies_to, copies_within, renamed}
+use Rattle.nf_words.specs.Copies.{copied_row, copies_of_all, copies_within, renamed}
 use Rattle.nf_words.specs.Sound.{AreSound}
 use Rattle.nf_words.specs.declared.request.Transfer.{Transfer}
 

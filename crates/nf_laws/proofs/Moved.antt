@@ -14,17 +14,16 @@ use Rattle.nf_defs.specs.Tables.{Tables}
 use Rattle.nf_defs.specs.declared.Found.TheVariants.{At, Free}
 use Rattle.nf_defs.specs.Tree.{child_of, climb, depth, folder_of, is_folder, is_folder_kind, is_root, is_root_place, is_under, node_row, owner_of, parent_of, relinked, walk_of, with_node}
 use Rattle.nf_words.proofs.Known.{KnownPath, KnownTransfer, child_parent}
-use Rattle.nf_words.specs.Changes.{altered, changed, cleared, told, transferred}
+use Rattle.nf_words.specs.Changes.{cleared, transferred}
 use Rattle.nf_words.specs.Limits.{deepest}
 use Rattle.nf_words.specs.Sound.{AreApart, AreSound, HasRoot, IsNodeSound, IsPlaceSound, root_of_user}
-use Rattle.nf_words.specs.declared.answer.Allowed.TheVariants as allowed
 use Rattle.nf_words.specs.declared.request.Transfer.{Transfer}
 use Rattle.nf_laws.proofs.Added.{new_apart}
 use Rattle.nf_laws.proofs.Climbs.{climb_on, depth_is, ends_same, node_row_each, under_climb}
 use Rattle.nf_laws.proofs.Gone.{clearing_sound, climb_cleared, folder_stays, free_cleared, kept_cleared, row_cleared}
 use Rattle.nf_laws.proofs.OneRow.{IsEither, each_either, length_with, pieces_with, rising_with, row_itself, row_other, value_with}
 use Rattle.nf_laws.proofs.Paths.{path_own}
-use Rattle.nf_laws.proofs.Rows.{IsRooted, folder_there, none_above, kept_row, node_still, parent_there, root_still, stamp_sound, stamped_has}
+use Rattle.nf_laws.proofs.Rows.{IsRooted, folder_there, none_above, kept_row, node_still, parent_there, root_still}
 use Rattle.nf_laws.proofs.Upwards.{climb_short, climbs_is_under, depth_climb, never_climbs, rooted}
 
 -- ---- climbs where a node is put into a folder

@@ -1,18 +1,15 @@
 -- What a MOVE leaves as it was.
-use Rattle.std.proofs.Common.{ℕ, zero, suc, ◌==◌, ◌≡◌, ◌≢◌, Bool, true, false, not, List, [], ◌∷◌, ◌++◌, Option, None, Some, filter, get_or, length, map, option_map, refl, sym, ap, subst, ◌∙◌, ◌≤◌, arith, length-append}
+use Rattle.std.proofs.Common.{ℕ, zero, suc, ◌==◌, ◌≡◌, ◌≢◌, true, false, not, List, [], ◌∷◌, ◌++◌, Option, None, Some, filter, get_or, length, map, option_map, refl, sym, ap, subst, ◌∙◌, ◌≤◌, arith, length-append}
 use Rattle.std.specs.List.{All, flat_map}
 use Rattle.std.specs.Option.{option_and_then}
 use Rattle.std.proofs.lemmas.Bool.{eq-eqb, false_from_ne_true, false≢true, ne_eqb, not-false}
 use Rattle.std.proofs.lemmas.List.Elements.{All-head, All-tail, All-weaker}
-use Rattle.nf_base.specs.declared.changes.Change.{Change}
-use Rattle.nf_base.specs.declared.changes.Change.TheVariants.{Put}
 use Rattle.nf_base.specs.declared.rows.NodeRow.{NodeRow}
-use Rattle.nf_base.specs.declared.rows.Row.TheVariants as rows
 use Rattle.nf_defs.proofs.Walks.{IsChildOf, children_are, inside_of}
 use Rattle.nf_defs.specs.Tables.{Tables}
 use Rattle.nf_defs.specs.declared.Found.TheVariants.{At}
 use Rattle.nf_defs.specs.Tree.{by_name, children_of, climb, folder_of, is_in, is_under, node_row, parent_of, relinked, walk_of, walk_within, with_node}
-use Rattle.nf_laws.proofs.Climbs.{climb_under, node_row_each}
+use Rattle.nf_laws.proofs.Climbs.{node_row_each}
 use Rattle.nf_laws.proofs.Gone.{row_cleared, row_gone}
 use Rattle.nf_laws.proofs.Entries.{step_changed}
 use Rattle.nf_laws.proofs.Joined.{source_stays}
@@ -25,7 +22,7 @@ use Rattle.nf_laws.proofs.Walked.{no_ring}
 use Rattle.nf_laws.specs.Transfers.{IsMoved, MovesKeep, is_replaced}
 use Rattle.nf_words.proofs.Known.{KnownTransfer, known_change}
 use Rattle.nf_words.specs.Actors.{actor_of}
-use Rattle.nf_words.specs.Changes.{altered, cleared, dropped_for, stamped, told, transferred_row}
+use Rattle.nf_words.specs.Changes.{altered, cleared, dropped_for, told, transferred_row}
 use Rattle.nf_words.specs.Sound.{AreSound}
 use Rattle.nf_words.specs.Step.{step}
 use Rattle.nf_words.specs.declared.answer.Allowed.TheVariants as allowed

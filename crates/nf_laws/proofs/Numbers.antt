@@ -12,11 +12,10 @@ use Rattle.nf_laws.proofs.Entries.{after_has}
 use Rattle.nf_laws.proofs.Gone.{all_cleared}
 use Rattle.nf_laws.proofs.OneRow.{numbers_with}
 use Rattle.nf_laws.proofs.Owned.{copies_new}
-use Rattle.nf_laws.proofs.Rows.{stamped_has}
 use Rattle.nf_laws.proofs.Stays.{sound_after}
 use Rattle.nf_laws.specs.Numbers.{NumbersAreNew}
 use Rattle.nf_words.proofs.Known.{Known, KnownNew}
-use Rattle.nf_words.specs.Changes.{altered, changed, cleared, told}
+use Rattle.nf_words.specs.Changes.{altered, cleared}
 use Rattle.nf_words.specs.History.{IsLegalFrom, after, replay}
 use Rattle.nf_words.specs.Sound.{AreSound, IsSound}
 use Rattle.nf_words.specs.State.{State}

@@ -107,7 +107,7 @@ pub with_all : (P : NodeRow → Type 0) (rows : List NodeRow) (node : ℕ) (chan
     → ((row : NodeRow) → P row → P (change row)) → All P rows → All P (with_node rows node change)
 with_all P rows node change keeps all k d within =
     let old : P (get_or rows k d) = all k d (omega (arith, length_with rows node change)) in
-    elim (each_either rows node change k d) [ | inl e ↦ subst P (sym e) old | inr h ↦ subst P (sym h.1) (keeps _ old) ]
+    elim (each_either rows node change k d) [ inl e ↦ subst P (sym e) old | inr h ↦ subst P (sym h.1) (keeps _ old) ]
 
 -- the rows that pass a test stay, where neither the old row passes nor the changed one
 pub filter_with : (p : NodeRow → Bool) (rows : List NodeRow) (node : ℕ) (change : NodeRow → NodeRow)

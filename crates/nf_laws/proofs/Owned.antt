@@ -1,6 +1,5 @@
 -- Who owns a node that is there owned it before.
 use Rattle.std.proofs.Common.{ℕ, ◌==◌, ◌≡◌, ◌<◌, ◌≤◌, Bool, true, false, List, [], ◌∷◌, Option, None, Some, option_map, if◌then◌else◌, refl, sym, ap, subst, ◌∙◌, arith}
-use Rattle.std.specs.Prelude.{is_some}
 use Rattle.std.specs.List.{All}
 use Rattle.std.specs.Option.{option_or}
 use Rattle.std.proofs.lemmas.Bool.{eqb-true}
@@ -8,15 +7,12 @@ use Rattle.std.proofs.lemmas.List.Folds.{find-append}
 use Rattle.std.proofs.lemmas.Option.{none-some, same_Some}
 use Rattle.nf_base.specs.declared.rows.NodeRow.{NodeRow}
 use Rattle.nf_defs.specs.Tables.{Tables}
-use Rattle.nf_defs.specs.declared.Found.TheVariants.{At}
 use Rattle.nf_defs.specs.Tree.{filled, node_row, relinked, with_node}
 use Rattle.nf_laws.proofs.Copied.{copies_numbered, old_joined}
 use Rattle.nf_laws.proofs.Gone.{kept_cleared}
 use Rattle.nf_laws.proofs.Mirrored.{mirrored}
 use Rattle.nf_laws.proofs.OneRow.{KeepsId, row_with}
-use Rattle.nf_laws.proofs.Paths.{path_own}
 use Rattle.nf_laws.proofs.Rows.{stamp, stamped_has}
-use Rattle.nf_laws.specs.Transfers.{Mirrors}
 use Rattle.nf_words.proofs.Known.{Known, KnownCopies, KnownNew}
 use Rattle.nf_words.specs.Changes.{altered, changed, cleared, created, joined, told}
 use Rattle.nf_words.specs.Sound.{AreSound}

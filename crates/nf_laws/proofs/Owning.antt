@@ -1,9 +1,9 @@
 -- What is served or changed is its caller's own.
-use Rattle.std.proofs.Common.{ℕ, suc, zero, ◌==◌, ◌≡◌, ◌≢◌, ◌++◌, Bool, true, false, not, if◌then◌else◌, List, [], ◌∷◌, length, Option, None, Some, Result, Ok, Err, filter, map, option_map, get_or, refl, sym, ap, subst, ◌∙◌, inl, inr}
+use Rattle.std.proofs.Common.{ℕ, suc, zero, ◌==◌, ◌≡◌, ◌≢◌, ◌++◌, Bool, true, false, not, if◌then◌else◌, List, [], ◌∷◌, Option, None, Some, Result, Ok, filter, map, option_map, get_or, refl, sym, ap, subst, ◌∙◌, inl, inr}
 use Rattle.std.specs.Prelude.{IsSome, is_some}
 use Rattle.std.specs.List.{All, filter_map}
 use Rattle.std.specs.Option.{option_and_then, option_map_or}
-use Rattle.std.proofs.lemmas.Bool.{eq-eqb, eqb-true, false≢true, not-false}
+use Rattle.std.proofs.lemmas.Bool.{eq-eqb, eqb-true, not-false}
 use Rattle.std.proofs.lemmas.List.{append-nil}
 use Rattle.std.proofs.lemmas.List.Elements.{All-cons, All-filter, All-head, All-map, All-nil, All-tail, filter-append}
 use Rattle.std.proofs.lemmas.Option.{option_and_then_some, same_Some}
@@ -13,7 +13,7 @@ use Rattle.nf_base.specs.declared.rows.UserRow.{UserRow}
 use Rattle.nf_defs.proofs.ByName.{All-by_name}
 use Rattle.nf_defs.specs.People.{user_row}
 use Rattle.nf_defs.specs.Tables.{Tables}
-use Rattle.nf_defs.specs.Tree.{Leads, by_name, children_of, climb, content_of, filled, folder_of, found_from, is_folder, is_folder_kind, is_in, is_under, node_row, owner_of, parent_of, relinked, with_node}
+use Rattle.nf_defs.specs.Tree.{Leads, by_name, children_of, climb, content_of, filled, found_from, is_folder, is_folder_kind, is_in, is_under, node_row, owner_of, parent_of, relinked}
 use Rattle.nf_defs.specs.declared.Found.{Found}
 use Rattle.nf_defs.specs.declared.Found.TheVariants.{At, Free, Missing}
 use Rattle.nf_laws.proofs.Bodies.{Alters, given_alters}
@@ -25,18 +25,15 @@ use Rattle.nf_laws.proofs.Mirrored.{mirrored}
 use Rattle.nf_laws.proofs.Moved.{folder_owner}
 use Rattle.nf_laws.proofs.OneRow.{filter_with}
 use Rattle.nf_laws.proofs.Rows.{folder_there, found_is, parent_there, row_id, stamp}
-use Rattle.nf_laws.proofs.Paths.{IsFor, IsOf, found_leads, path_own}
+use Rattle.nf_laws.proofs.Paths.{IsOf, found_leads, path_own}
 use Rattle.nf_laws.specs.Owners.{ChangesOnlyOwn, ChangesOwn, ListsAll, ListsOwn, ServesOwn, nodes_of_others}
-use Rattle.nf_words.proofs.Known.{Known, KnownCopies, KnownNew, KnownPath, KnownTransfer, call_known, call_passes, child_parent, found_passes, target_place}
+use Rattle.nf_words.proofs.Known.{Known, KnownCopies, KnownNew, KnownPath, call_known, call_passes}
 use Rattle.nf_words.specs.Actors.{actor_of}
-use Rattle.nf_words.specs.Calls.{Call, asker_of, found, last_name, root_of, source_of, target_of, user_of}
-use Rattle.nf_words.specs.Changes.{altered, changed, cleared, copied, deleted, given, made_folder, moved, reply_by, served, stored, told}
-use Rattle.nf_words.specs.Copies.{copies_to}
+use Rattle.nf_words.specs.Calls.{Call, asker_of, found, root_of, source_of, target_of, user_of}
+use Rattle.nf_words.specs.Changes.{altered, cleared, given, reply_by, served}
 use Rattle.nf_words.specs.Listing.{line_of, listing_of}
-use Rattle.nf_defs.specs.declared.Seeker.{Seeker}
-use Rattle.nf_defs.specs.declared.Seeker.TheVariants as seeker
-use Rattle.nf_words.specs.Places.{node_found, transfer_of}
-use Rattle.nf_words.specs.Sound.{AreSound, IsNodeSound}
+use Rattle.nf_words.specs.Places.{node_found}
+use Rattle.nf_words.specs.Sound.{AreSound}
 use Rattle.nf_words.specs.Step.{answered_by, call_of, call_decision}
 use Rattle.nf_words.specs.declared.answer.Allowed.{Allowed}
 use Rattle.nf_words.specs.declared.answer.Allowed.TheVariants as allowed
@@ -46,11 +43,10 @@ use Rattle.nf_words.specs.declared.answer.Goal.TheVariants.{Serve}
 use Rattle.nf_words.specs.declared.answer.Reply.{Reply}
 use Rattle.nf_words.specs.declared.answer.Reply.TheVariants.{Granted, Listing}
 use Rattle.nf_words.specs.declared.listing.ListingLine.{ListingLine}
-use Rattle.nf_words.specs.declared.request.Transfer.{Transfer}
 use Rattle.nf_words.specs.declared.request.Places.{Places}
 use Rattle.nf_words.specs.declared.request.Spot.{Spot}
 use Rattle.nf_words.specs.declared.request.Wanted.{Wanted}
-use Rattle.nf_words.specs.declared.request.Wanted.TheVariants.{Get, Put, Mkcol, Delete, Move, Copy}
+use Rattle.nf_words.specs.declared.request.Wanted.TheVariants.{Get}
 
 -- ---- what is served
 

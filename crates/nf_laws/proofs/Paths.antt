@@ -1,27 +1,25 @@
 -- Where a path leads: the walk against the derivation, and whose is what it leads to.
 use Rattle.std.proofs.Common.{ℕ, suc, ◌+◌, ◌==◌, ◌≡◌, ◌&&◌, Bool, true, false, List, [], ◌∷◌, Option, None, Some, bytes_eq, find, option_map, if◌then◌else◌, refl, sym, ap, subst, ◌∙◌, ⊎_elim, inl, inr, arith, ◌++◌, ◌⊎◌, ◌<◌, ◌≤◌, drop, get_or, length, take}
 use Rattle.std.specs.List.{AllPairs}
-use Rattle.std.specs.Option.{option_map_or}
-use Rattle.std.proofs.lemmas.Bool.{and_parts, false≢true, eq-eqb, eqb-true}
+use Rattle.std.proofs.lemmas.Bool.{and_parts, eq-eqb}
 use Rattle.std.proofs.Math.Seq.{drop-cons}
 use Rattle.std.proofs.lemmas.List.{append-nil, length-drop, length-take-le, take-append-drop}
 use Rattle.std.proofs.lemmas.Option.{none-some, same_Some}
 use Rattle.std.proofs.lemmas.Slice.Eq.{bytes_eq-Decides}
 use Rattle.nf_base.specs.declared.rows.NodeRow.{NodeRow}
-use Rattle.nf_base.specs.declared.rows.Place.{Place}
-use Rattle.nf_base.specs.declared.rows.Place.TheVariants.{Root, Inside, Trash}
+use Rattle.nf_base.specs.declared.rows.Place.TheVariants.{Inside}
 use Rattle.nf_base.specs.declared.rows.UserRow.{UserRow}
 use Rattle.nf_defs.proofs.Walks.{AreRising, inside_of}
 use Rattle.nf_defs.specs.People.{user_row}
 use Rattle.nf_defs.specs.Tables.{Tables}
-use Rattle.nf_defs.specs.Tree.{Leads, stays, leads_on, child_of, found_from, is_folder, is_in, is_place_in, node_row, onward, owner_of}
+use Rattle.nf_defs.specs.Tree.{Leads, stays, leads_on, child_of, found_from, is_folder, is_in, is_place_in, node_row, onward}
 use Rattle.nf_defs.specs.declared.Found.{Found}
 use Rattle.nf_defs.specs.declared.Found.TheVariants.{At, Free, Missing}
 use Rattle.nf_laws.proofs.Climbs.{node_row_each}
 use Rattle.nf_laws.proofs.Rows.{child_owner, found_is, row_is}
 use Rattle.nf_laws.specs.Walks.{LeadsNoFurther, LeadsToFree, WalkFollows}
 use Rattle.nf_words.proofs.Known.{KnownPath}
-use Rattle.nf_words.specs.Sound.{AreApart, AreSound, HasRoot, IsNodeSound, IsOwn}
+use Rattle.nf_words.specs.Sound.{AreApart, AreSound, HasRoot, IsOwn}
 
 -- ---- a folder's child of a name
 

@@ -3,7 +3,7 @@ use Rattle.std.proofs.Common.{ℕ, suc, ◌+◌, ◌==◌, ◌&&◌, ◌≡◌, 
 use Rattle.std.specs.Prelude.{IsOk}
 use Rattle.std.specs.Option.{option_map_or}
 use Rattle.std.proofs.Math.Seq.{take-length}
-use Rattle.std.proofs.lemmas.Bool.{and_parts, eqb-true, false≢true, not-true}
+use Rattle.std.proofs.lemmas.Bool.{and_parts, false≢true, not-true}
 use Rattle.nf_base.specs.Content.{content_eq}
 use Rattle.nf_base.specs.declared.changes.Change.TheVariants.{Put}
 use Rattle.nf_base.specs.declared.content.Piece.{Piece}
@@ -24,7 +24,7 @@ use Rattle.nf_laws.proofs.Replaced.{kept_replaced}
 use Rattle.nf_laws.proofs.Rows.{AreKept, folder_kept, holds_some, kept_joined, row_id}
 use Rattle.nf_laws.proofs.Stays as states
 use Rattle.nf_laws.specs.Reads.{IsStored, LeadsToKey, PathStays, StoredIsRead}
-use Rattle.nf_words.proofs.Known.{Known, KnownNew, found_passes, known_change}
+use Rattle.nf_words.proofs.Known.{Known, KnownNew, known_change}
 use Rattle.nf_words.proofs.Orders.{none_of}
 use Rattle.nf_words.specs.Actors.{actor_of}
 use Rattle.nf_words.specs.Calls.{Call, asker_of, found, places_of, source_of, target_of}

@@ -1,31 +1,25 @@
 -- A sound state stays sound by each entry that may come.
-use Rattle.std.proofs.Common.{ℕ, ◌+◌, ◌≡◌, ◌≤◌, List, [], ◌∷◌, Option, None, Some, Result, Ok, Err, refl, sym, subst, ◌∙◌, arith, le_refl}
+use Rattle.std.proofs.Common.{ℕ, ◌+◌, ◌≡◌, ◌≤◌, List, [], ◌∷◌, Option, None, refl, sym, subst, ◌∙◌, arith, le_refl}
 use Rattle.std.specs.List.{All}
-use Rattle.std.specs.Option.{IfSome, option_map_or}
-use Rattle.std.proofs.lemmas.List.Elements.{All-filter, All-nil, All-push, All-weaker}
+use Rattle.std.specs.Option.{IfSome}
+use Rattle.std.proofs.lemmas.List.Elements.{All-weaker}
 use Rattle.nf_base.specs.declared.content.Piece.{Piece}
-use Rattle.nf_base.specs.declared.rows.NodeRow.{NodeRow}
 use Rattle.nf_defs.specs.Tables.{Tables}
-use Rattle.nf_defs.specs.Tree.{content_of, node_row}
 use Rattle.nf_defs.specs.declared.Seeker.{Seeker}
 use Rattle.nf_defs.specs.declared.Seeker.TheVariants as seeker
-use Rattle.nf_words.specs.Actors.{actor_of}
 use Rattle.nf_words.specs.Changes.{altered, changed, goal_of, removed, told, transferred, with_goal}
 use Rattle.nf_words.specs.Endings.{place_of}
-use Rattle.nf_words.specs.History.{MayAsk, MayCome, IsLegalFrom, after, after_mark, failed, replay}
-use Rattle.nf_words.specs.Sound.{AreSound, IsGoalSound, IsNodeSound, IsPieceSound, IsSound, MayStoreAt, node_of_key}
+use Rattle.nf_words.specs.History.{MayCome, IsLegalFrom, after, after_mark, replay}
+use Rattle.nf_words.specs.Sound.{AreSound, IsGoalSound, IsPieceSound, IsSound, MayStoreAt, node_of_key}
 use Rattle.nf_words.specs.State.{State}
 use Rattle.nf_words.specs.Step.{without}
 use Rattle.nf_words.specs.declared.answer.Allowed.{Allowed}
 use Rattle.nf_words.specs.declared.answer.Allowed.TheVariants as allowed
-use Rattle.nf_words.specs.declared.answer.Denial.{Denial}
 use Rattle.nf_words.specs.declared.answer.Goal.{Goal}
 use Rattle.nf_words.specs.declared.answer.Goal.TheVariants.{Serve, Store}
 use Rattle.nf_words.specs.declared.answer.LockKey.{LockKey}
 use Rattle.nf_words.specs.declared.answer.LockKey.TheVariants.{Node, Slot}
 use Rattle.nf_words.specs.declared.history.Entry.{Entry}
-use Rattle.nf_words.specs.declared.history.Event.{Event}
-use Rattle.nf_words.specs.declared.history.Event.TheVariants.{Begin, End}
 use Rattle.nf_words.specs.declared.history.Mark.{Mark}
 use Rattle.nf_words.specs.declared.history.Mark.TheVariants as mark
 use Rattle.nf_words.specs.declared.history.Ticket.{Ticket}

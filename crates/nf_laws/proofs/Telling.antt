@@ -29,7 +29,7 @@ use Rattle.nf_laws.proofs.Paths.{child_there, path_own}
 use Rattle.nf_laws.proofs.Puts.{AreNumbered, another, drops_for, drops_under, fewer, put_changed, put_new, puts_new, walk_there}
 use Rattle.nf_laws.proofs.Rows.{row_id}
 use Rattle.nf_laws.specs.Tells.{ChangesTell}
-use Rattle.nf_words.proofs.Known.{Known, KnownContent, KnownCopies, KnownGone, KnownNew, KnownPath, KnownTransfer, found_passes, known_change}
+use Rattle.nf_words.proofs.Known.{Known, KnownContent, KnownCopies, KnownGone, KnownNew, KnownPath, KnownTransfer, known_change}
 use Rattle.nf_words.specs.Changes.{changed, changes_of, cleared, created, dropped_for, dropped_under, joined, meta_after, new_meta, refilled, replaced, same_meta, stamped, told, transferred, transferred_row, with_meta}
 use Rattle.nf_words.specs.History.{MayAsk}
 use Rattle.nf_words.specs.Sound.{AreSound, IsSound}

@@ -1,5 +1,5 @@
 -- Climbs in sound tables: none from a node that is there takes more than 64 steps, and a folder is one less deep than what is in it.
-use Rattle.std.proofs.Common.{ℕ, suc, zero, ◌+◌, ◌==◌, ◌≡◌, ◌≢◌, ◌≤◌, Bool, true, false, List, Option, None, Some, refl, sym, ap, subst, ◌∙◌, arith}
+use Rattle.std.proofs.Common.{ℕ, suc, zero, ◌+◌, ◌≡◌, ◌≢◌, ◌≤◌, true, false, List, Option, None, Some, refl, sym, ap, subst, ◌∙◌, arith}
 use Rattle.std.specs.Option.{option_and_then, option_map_or}
 use Rattle.std.proofs.lemmas.Bool.{both_ways, false_from_ne_true}
 use Rattle.std.proofs.lemmas.Option.{none-some, option_and_then_some, same_Some}
@@ -8,7 +8,7 @@ use Rattle.nf_base.specs.declared.rows.Place.{Place}
 use Rattle.nf_base.specs.declared.rows.Place.TheVariants.{Root, Inside, Trash}
 use Rattle.nf_defs.specs.Tables.{Tables}
 use Rattle.nf_defs.specs.Tree.{climb, depth, folder_of, is_root, is_root_place, is_under, node_row, parent_of}
-use Rattle.nf_words.specs.Sound.{AreSound, IsNodeSound, root_of_user}
+use Rattle.nf_words.specs.Sound.{AreSound, root_of_user}
 use Rattle.nf_laws.proofs.Climbs.{climb_under, climbs_no_further, depth_is, under_climb}
 use Rattle.nf_laws.proofs.Rows.{IsRooted, none_above, row_is}
 use Rattle.nf_laws.specs.Tree.{NoRings}
