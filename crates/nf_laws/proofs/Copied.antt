@@ -79,7 +79,7 @@ deepest_of : (rows : List NodeRow) (nodes : List ℕ) (k : ℕ) → k < length n
 deepest_of rows nodes k within = max_bounds (deepest rows) (depth rows) refl (λ node nodes. refl) nodes k 0 within
 
 -- a walk begins with its top
-walk_first : (rows : List NodeRow) (top : ℕ) → (get_or (walk_of rows top) 0 0 ≡ top) × (0 < length (walk_of rows top))
+pub walk_first : (rows : List NodeRow) (top : ℕ) → (get_or (walk_of rows top) 0 0 ≡ top) × (0 < length (walk_of rows top))
 unfolding walk_of walk_within
 walk_first rows top = (refl, omega arith)
 

@@ -14,7 +14,7 @@ use Rattle.nf_laws.proofs.Mirrored.{mirrored}
 use Rattle.nf_laws.proofs.OneRow.{KeepsId, row_with}
 use Rattle.nf_laws.proofs.Rows.{stamp, stamped_has}
 use Rattle.nf_words.proofs.Known.{Known, KnownCopies, KnownNew}
-use Rattle.nf_words.specs.Changes.{altered, changed, cleared, created, joined, told}
+use Rattle.nf_words.specs.Changes.{altered, changed, cleared, created, joined, replaced, told, transferred}
 use Rattle.nf_words.specs.Sound.{AreSound}
 use Rattle.nf_words.specs.declared.answer.Allowed.{Allowed}
 use Rattle.nf_words.specs.declared.answer.Allowed.TheVariants as allowed
@@ -85,27 +85,18 @@ copied_owners t now who rows replaced sound known node row given there =
 all_owners : (t : Tables) → KeepsOwners t t
 all_owners t node row given there = (row, there, refl)
 
+altered_owners : (t : Tables) (now : ℕ) (who : Option ℕ) (act : Allowed) → AreSound t → Known t now who act → KeepsOwners t (altered t now act)
+altered_owners t now who (allowed.StoreNew row blob) sound known = new_owners t now row blob known.new
+altered_owners t now who (allowed.StoreOver node content blob) sound known =
+    with_owners t (replaced t now node content blob) node (filled content now) (λ row. refl) (λ row. refl) refl
+altered_owners t now who (allowed.Mkcol row) sound known = new_owners t now row None known.new
+altered_owners t now who (allowed.Delete node) sound known = cleared_owners t (Some node)
+altered_owners t now who (allowed.Move transfer name) sound known =
+    then_owners t (transferred t transfer name) transfer.replaced
+    (with_owners (clearing t transfer.replaced) (transferred t transfer name) transfer.node (relinked transfer.folder name) (λ row. refl) (λ row. refl) refl)
+altered_owners t now who (allowed.Copy rows replaced) sound known = copied_owners t now who rows replaced sound known
+altered_owners t now who act sound known = all_owners t
+
 pub owners_kept : (t : Tables) (now : ℕ) (who : Option ℕ) (act : Allowed) → AreSound t → Known t now who act → KeepsOwners t (changed t now act)
-owners_kept t now who (allowed.Get node content) sound known = all_owners t
-owners_kept t now who (allowed.List listing) sound known = all_owners t
-owners_kept t now who (allowed.Put by key length) sound known = all_owners t
-owners_kept t now who (allowed.StoreNew row blob) sound known = new_owners t now row blob known.new
-owners_kept t now who (allowed.StoreOver node content blob) sound known =
-    let act = allowed.StoreOver node content blob in
-    stamped_has (KeepsOwners t) t (altered t now act) now (told t now act) (all_owners t)
-    (with_owners t (stamp (altered t now act) now) node (filled content now) (λ row. refl) (λ row. refl) refl)
-owners_kept t now who (allowed.Mkcol row) sound known = new_owners t now row None known.new
-owners_kept t now who (allowed.Delete node) sound known =
-    let act = allowed.Delete node in
-    stamped_has (KeepsOwners t) t (altered t now act) now (told t now act) (all_owners t) (cleared_owners t (Some node))
-owners_kept t now who (allowed.Move transfer name) sound known =
-    let act = allowed.Move transfer name in
-    let made = stamp (altered t now act) now in
-    stamped_has (KeepsOwners t) t (altered t now act) now (told t now act) (all_owners t)
-    (then_owners t made transfer.replaced
-    (with_owners (clearing t transfer.replaced) made transfer.node (relinked transfer.folder name) (λ row. refl) (λ row. refl) refl))
-owners_kept t now who (allowed.Copy rows replaced) sound known =
-    let act = allowed.Copy rows replaced in
-    stamped_has (KeepsOwners t) t (altered t now act) now (told t now act) (all_owners t)
-    (copied_owners t now who rows replaced sound known)
-owners_kept t now who allowed.Close sound known = all_owners t
+owners_kept t now who act sound known =
+    stamped_has (KeepsOwners t) t (altered t now act) now (told t now act) (all_owners t) (altered_owners t now who act sound known)

@@ -17,15 +17,15 @@ use Rattle.nf_defs.specs.Tree.{Leads, by_name, children_of, climb, content_of, f
 use Rattle.nf_defs.specs.declared.Found.{Found}
 use Rattle.nf_defs.specs.declared.Found.TheVariants.{At, Free, Missing}
 use Rattle.nf_laws.proofs.Bodies.{Alters, given_alters}
-use Rattle.nf_laws.proofs.Climbs.{node_row_each, under_climb}
+use Rattle.nf_laws.proofs.Climbs.{node_row_each, row_there, under_climb}
 use Rattle.nf_laws.proofs.Copied.{copies_owned}
 use Rattle.nf_laws.proofs.Entries.{after_has}
 use Rattle.nf_laws.proofs.Gone.{row_cleared}
 use Rattle.nf_laws.proofs.Mirrored.{mirrored}
 use Rattle.nf_laws.proofs.Moved.{folder_owner}
 use Rattle.nf_laws.proofs.OneRow.{filter_with}
-use Rattle.nf_laws.proofs.Rows.{folder_there, found_is, parent_there, row_id, stamp}
-use Rattle.nf_laws.proofs.Paths.{IsOf, found_leads, path_own}
+use Rattle.nf_laws.proofs.Rows.{folder_there, found_is, parent_there, row_id, some_there, stamp}
+use Rattle.nf_laws.proofs.Paths.{IsOf, found_leads, leads_own, path_own, root_own}
 use Rattle.nf_laws.specs.Owners.{ChangesOnlyOwn, ChangesOwn, ListsAll, ListsOwn, ServesOwn, nodes_of_others}
 use Rattle.nf_words.proofs.Known.{Known, KnownCopies, KnownNew, KnownPath, call_known, call_passes}
 use Rattle.nf_words.specs.Actors.{actor_of}
@@ -128,11 +128,13 @@ record IsOfCaller (call : Call) (spot : Spot) (node : ℕ) : Type 0 where
   led : Leads call.state.tables.nodes (root_of call) spot.path row.id
   own : row.owner ≡ user
 
-of_caller : (call : Call) (spot : Spot) (node : ℕ) → AreSound call.state.tables → KnownPath call.state.tables (user_of call) (At node)
+of_caller : (call : Call) (spot : Spot) (node : ℕ) (place : Found) → AreSound call.state.tables → KnownPath call.state.tables (user_of call) place
     → found call spot ≡ At node → IsOfCaller call spot node
-of_caller call spot node sound path leads =
+of_caller call spot node place sound path leads =
     let t = call.state.tables in
-    let own = path_own t (user_of call) (At node) node sound path refl in
+    let root : root_of call ≡ path.row.root = rw (path.caller, path.there) refl in
+    let led = found_leads t (root_of call) spot.path node sound leads in
+    let own = leads_own t path.row.id (root_of call) spot.path node sound led (rw root (root_own t path.row sound path.there)) in
     let id = row_id t.nodes node own.row own.there in
     record {
       user = path.row.id;
@@ -140,7 +142,7 @@ of_caller call spot node sound path leads =
       row = own.row;
       id = id;
       there = subst (λ (n : ℕ). node_row t.nodes n ≡ Some own.row) (sym id) own.there;
-      led = found_leads t (root_of call) spot.path own.row.id sound (leads ∙ ap At (sym id));
+      led = subst (Leads t.nodes (root_of call) spot.path) (sym id) led;
       own = own.owner;
     }
 
@@ -152,7 +154,7 @@ serves_own s seat now words request content sound may is =
     let known = call_known call act sound may get.1 in
     let spot = asked s.tables now (asker_of call) request.wanted (found call) act (call_passes call act get.1).1 (λ alters. alters) in
     let at = get_at s.tables (found call spot.0) get.0 content spot.2 in
-    let mine = of_caller call spot.0 get.0 sound.rows known.path at.0 in
+    let mine = of_caller call spot.0 get.0 (At get.0) sound.rows known.path at.0 in
     record {
       spot = spot.0;
       asked = spot.1;
@@ -162,8 +164,7 @@ serves_own s seat now words request content sound may is =
       there = mine.there;
       led = mine.led;
       own = mine.own;
-      sent = sym (ap (λ (o : Option NodeRow). option_map_or (λ row. row.content) o []) mine.there)
-          ∙ ap (content_of s.tables.nodes) mine.id ∙ sym at.1;
+      sent = rw mine.there at (ap (content_of s.tables.nodes) mine.id) ∙ sym at.1;
     }
 
 pub lists_own : ListsOwn
@@ -174,18 +175,7 @@ lists_own s seat now words request listing sound may is =
     let known = call_known call act sound may decides in
     let spot = asked s.tables now (asker_of call) request.wanted (found call) act (call_passes call act decides).1 (λ alters. alters) in
     let at = list_at s.tables (found call spot.0) listing spot.2 in
-    let caller : KnownPath s.tables (user_of call) (At known.folder) = known.path in
-    let root : root_of call ≡ caller.row.root =
-    ap (λ (who : Option ℕ). option_map_or (λ row. row.root) (option_and_then (user_row s.tables.users) who) 0) caller.caller
-    ∙ ap (λ (row : Option UserRow). option_map_or (λ row. row.root) row 0) caller.there in
-    let path : KnownPath s.tables (user_of call) (At at.0) = record {
-      row = caller.row;
-      caller = caller.caller;
-      there = caller.there;
-      names = spot.0.path;
-      leads = subst (λ (n : ℕ). found_from s.tables.nodes 0 n spot.0.path ≡ At at.0) root at.1;
-    } in
-    let mine = of_caller call spot.0 at.0 sound.rows path at.1 in
+    let mine = of_caller call spot.0 at.0 (At known.folder) sound.rows known.path at.1 in
     record {
       spot = spot.0;
       asked = spot.1;
@@ -193,8 +183,7 @@ lists_own s seat now words request listing sound may is =
       caller = mine.caller;
       row = mine.row;
       there = mine.there;
-      folder = sym (ap (λ (o : Option NodeRow). option_map_or (λ row. is_folder_kind row.kind) o false) mine.there)
-          ∙ ap (is_folder s.tables.nodes) mine.id ∙ at.2;
+      folder = rw mine.there at (ap (is_folder s.tables.nodes) mine.id) ∙ at.2;
       led = mine.led;
       own = mine.own;
       listed = at.3 ∙ ap (listing_of s.tables) (sym mine.id);
@@ -204,19 +193,11 @@ lists_own s seat now words request listing sound may is =
 
 has_owner : (t : Tables) → All (λ (row : NodeRow). IsSome (user_row t.users row.owner)) t.nodes → (node : ℕ)
     → is_some (node_row t.nodes node) ≡ true → (line : ListingLine) × (option_and_then (line_of t) (node_row t.nodes node) ≡ Some line) × (line.id ≡ node)
-has_owner t owners node there = of_row (node_row t.nodes node) refl there
-  where
-    of_user : (row : NodeRow) (user : Option UserRow) → user_row t.users row.owner ≡ user → IsSome user → row.id ≡ node
-        → (line : ListingLine) × (line_of t row ≡ Some line) × (line.id ≡ node)
-    of_user row None e some id = absurd (cc some)
-    of_user row (Some user) e some id = (_, ap (option_map _) e, id)
-
-    of_row : (o : Option NodeRow) → node_row t.nodes node ≡ o → is_some o ≡ true
-        → (line : ListingLine) × (option_and_then (line_of t) o ≡ Some line) × (line.id ≡ node)
-    of_row None e some = absurd (cc some)
-    of_row (Some row) e some =
-        let h = found_is (λ (row : NodeRow). IsSome (user_row t.users row.owner)) (λ row. row.id == node) t.nodes row owners e in
-        of_user row (user_row t.users row.owner) refl h.1 (eqb-true row.id node h.0)
+has_owner t owners node there =
+    let row = some_there (node_row t.nodes node) there in
+    let some = found_is (λ (row : NodeRow). IsSome (user_row t.users row.owner)) (λ row. row.id == node) t.nodes row.0 owners row.1 in
+    let user = some_there (user_row t.users row.0.owner) some.1 in
+    (_, ap (option_and_then (line_of t)) row.1 ∙ ap (option_map _) user.1, row_id t.nodes node row.0 row.1)
 
 lines_of : (t : Tables) → All (λ (row : NodeRow). IsSome (user_row t.users row.owner)) t.nodes → (nodes : List ℕ)
     → All (λ (node : ℕ). is_some (node_row t.nodes node) ≡ true) nodes
@@ -227,23 +208,11 @@ lines_of t owners (node ∷ nodes) there =
     let rest = lines_of t owners nodes (All-tail (λ (node : ℕ). is_some (node_row t.nodes node) ≡ true) node nodes there) in
     rw h.1 (cc (h.2, rest))
 
--- each row is found by its number
-found_each : (rows others : List NodeRow) → ((node : ℕ) → is_some (node_row others node) ≡ true → is_some (node_row rows node) ≡ true)
-    → All (λ (row : NodeRow). is_some (node_row rows row.id) ≡ true) others
-found_each rows [] among = All-nil (λ (row : NodeRow). is_some (node_row rows row.id) ≡ true)
-found_each rows (x ∷ others) among =
-    All-cons (λ (row : NodeRow). is_some (node_row rows row.id) ≡ true) x others (among x.id (simp (eq-eqb x.id x.id refl)))
-    (found_each rows others (λ node there. among node (here (x.id == node) node refl there)))
-  where
-    here : (a : Bool) (node : ℕ) → (x.id == node) ≡ a → is_some (node_row others node) ≡ true → is_some (node_row (x ∷ others) node) ≡ true
-    here true node e there = simp e
-    here false node e there = simp e there
-
 children_there : (rows : List NodeRow) (folder : ℕ) → All (λ (node : ℕ). is_some (node_row rows node) ≡ true) (children_of rows folder)
 children_there rows folder =
     let found = λ (row : NodeRow). is_some (node_row rows row.id) ≡ true in
     All-map (λ (node : ℕ). is_some (node_row rows node) ≡ true) (λ (row : NodeRow). row.id) (by_name (filter (is_in folder) rows))
-    (All-by_name found (filter (is_in folder) rows) (All-filter (is_in folder) found rows (found_each rows rows (λ node there. there))))
+    (All-by_name found (filter (is_in folder) rows) (All-filter (is_in folder) found rows (row_there rows)))
 
 pub lists_all : ListsAll
 lists_all t folder owners = lines_of t owners (children_of t.nodes folder) (children_there t.nodes folder)

@@ -1,5 +1,6 @@
 -- Rows that may change while each node keeps its owner, place, name and kind.
 use Rattle.std.proofs.Common.{ℕ, suc, zero, ◌==◌, ◌≡◌, ◌≤◌, Bool, true, false, List, [], ◌∷◌, ◌++◌, Option, None, Some, find, length, option_map, refl, sym, ap, subst, ◌∙◌, arith, le_refl}
+use Rattle.std.specs.Prelude.{is_some}
 use Rattle.std.specs.List.{All}
 use Rattle.std.specs.Option.{IfSome, option_and_then, option_map_or, option_or}
 use Rattle.std.proofs.lemmas.Bool.{false≢true, eqb-true}
@@ -65,6 +66,10 @@ no_value f None none = refl
 no_value f (Some x) none = absurd (none-some (f x) (sym none))
 
 -- ---- what is there
+
+pub some_there : {X : Type 0} (o : Option X) → is_some o ≡ true → (x : X) × (o ≡ Some x)
+some_there None is = absurd (false≢true is)
+some_there (Some x) is = (x, refl)
 
 -- where what is there passes the test, it is there
 pub holds_some : {X : Type 0} (test : X → Bool) (o : Option X) → option_map_or test o false ≡ true → (x : X) × (o ≡ Some x) × (test x ≡ true)

@@ -15,6 +15,7 @@ use Rattle.nf_base.specs.declared.content.Piece.{Piece}
 use Rattle.nf_base.specs.declared.rows.MetaRow.{MetaRow}
 use Rattle.nf_base.specs.declared.rows.NodeRow.{NodeRow}
 use Rattle.nf_base.specs.declared.rows.Place.TheVariants.{Inside}
+use Rattle.nf_base.specs.declared.rows.Row.{Row}
 use Rattle.nf_base.specs.declared.rows.Row.TheVariants as rows
 use Rattle.nf_defs.specs.Changes.{IsDroppable, made, put_all}
 use Rattle.nf_defs.specs.Tables.{Tables}
@@ -22,6 +23,8 @@ use Rattle.nf_defs.specs.Tree.{child_of, filled, is_folder_kind, is_under, node_
 use Rattle.nf_defs.specs.declared.Found.TheVariants.{At, Free}
 use Rattle.nf_laws.proofs.Climbs.{climb_under}
 use Rattle.nf_laws.proofs.Contents.{content_decides}
+use Rattle.nf_laws.proofs.Copied.{walk_first}
+use Rattle.nf_laws.proofs.Entries.{step_has}
 use Rattle.nf_laws.proofs.Gone.{all_cleared, clearing_sound, row_cleared}
 use Rattle.nf_laws.proofs.OneRow.{KeepsId, row_itself}
 use Rattle.nf_laws.proofs.Mirrored.{mirrored}
@@ -296,11 +299,6 @@ copies_more t old (copy ∷ copies) sound numbered some = λ same.
     (given (length old) copy (omega (arith, length-append old (copy ∷ copies)))) in
     absurd (omega (arith, first, numbered 0 copy (omega arith)))
 
--- one of them at least
-walk_some : (old : List NodeRow) (top : ℕ) → 1 ≤ length (walk_of old top)
-unfolding walk_of walk_within
-walk_some old top = omega arith
-
 copies_told : (t : Tables) (now : ℕ) (who : Option ℕ) (copies : List NodeRow) (replaced : Option ℕ) → AreSound t
     → KnownCopies t now who copies replaced → TellsAct t now (allowed.Copy copies replaced)
 copies_told t now who copies replaced sound known =
@@ -314,7 +312,7 @@ copies_told t now who copies replaced sound known =
     (All-map (Differs t) (λ row. Put (rows.Node row)) copies
     (λ k d within. new_differs t (get_or copies k d) sound (omega (arith, numbered k d within)))))
     (copies_more t (cleared t.nodes replaced) copies sound numbered
-    (omega (arith, (mirrored t now who copies replaced sound known).all, walk_some t.nodes known.transfer.node)))
+    (omega (arith, (mirrored t now who copies replaced sound known).all, (walk_first t.nodes known.transfer.node).1)))
   where
     drops : List Change
     drops = dropped_for t.nodes replaced
@@ -329,88 +327,58 @@ copies_told t now who copies replaced sound known =
 -- ---- each act
 
 act_told : (t : Tables) (now : ℕ) (who : Option ℕ) (act : Allowed) → AreSound t → Known t now who act → TellsAct t now act
-act_told t now who (allowed.Get node content) sound known = nothing_told t
-act_told t now who (allowed.List listing) sound known = nothing_told t
-act_told t now who (allowed.Put by key length) sound known = nothing_told t
 act_told t now who (allowed.StoreNew row blob) sound known = new_told t now row blob sound known.new
 act_told t now who (allowed.StoreOver node content blob) sound known = over_told t now node content blob sound known.brought
 act_told t now who (allowed.Mkcol row) sound known = new_told t now row None sound known.new
 act_told t now who (allowed.Delete node) sound known = gone_told t now who node sound known
 act_told t now who (allowed.Move transfer name) sound known = moved_told t now who transfer name sound known
 act_told t now who (allowed.Copy copies replaced) sound known = copies_told t now who copies replaced sound known
-act_told t now who allowed.Close sound known = nothing_told t
+act_told t now who act sound known = nothing_told t
 
 -- ---- each step
 
-decided_told : (s : State) (seat now : ℕ) (decision : Result Allowed Denial)
-    → ((act : Allowed) → decision ≡ Ok act → TellsAct s.tables now act)
-    → Tell s.tables (decided s seat now decision).tables (changes_by s.tables now decision)
-decided_told s seat now (Ok act) tells = tells act refl
-decided_told s seat now (Err refusal) tells = nothing_told s.tables
-
 step_told : (s : State) (seat now : ℕ) (event : Event) → IsSound s → MayAsk s seat event
     → Tell s.tables (step s seat now event).tables (changes_to s seat now event)
-step_told s seat now (Begin words request) sound asked =
-    let event = Begin words request in
-    decided_told s seat now (decision_of s seat now event)
-    (λ act is. act_told s.tables now _ act sound.rows (known_change s seat now event act sound asked is))
-step_told s seat now (End outcome) sound asked =
-    let event = End outcome in
-    decided_told (without s seat event) seat now (decision_of s seat now event)
+step_told s seat now event sound asked =
+    step_has (λ t tickets decision. Tell s.tables t (changes_by s.tables now decision)) s seat now event (λ refusal. nothing_told s.tables)
     (λ act is. act_told s.tables now _ act sound.rows (known_change s seat now event act sound asked is))
 
 -- ---- the meta row is never dropped
 
-meta_droppable : (old meta : MetaRow) → All IsDroppable (new_meta old meta)
-meta_droppable old meta = here (same_meta old meta)
-  where
-    here : (a : Bool) → All IsDroppable (if a then [] else Put (rows.Meta meta) ∷ [])
-    here true = All-nil IsDroppable
-    here false = All-cons IsDroppable (Put (rows.Meta meta)) [] tt (All-nil IsDroppable)
+put_droppable : (same : Bool) (row : Row) → All IsDroppable (if same then [] else Put row ∷ [])
+put_droppable true row = All-nil IsDroppable
+put_droppable false row = All-cons IsDroppable (Put row) [] tt (All-nil IsDroppable)
 
 refilled_droppable : (o : Option NodeRow) (now : ℕ) (content : List Piece) → All IsDroppable (refilled o now content)
 refilled_droppable None now content = All-nil IsDroppable
-refilled_droppable (Some row) now content = here (content_eq row.content content && row.changed == now)
-  where
-    new : Change
-    new = Put (rows.Node (filled content now row))
-
-    here : (a : Bool) → All IsDroppable (if a then [] else new ∷ [])
-    here true = All-nil IsDroppable
-    here false = All-cons IsDroppable new [] tt (All-nil IsDroppable)
-
-under_droppable : (nodes : List NodeRow) (top : ℕ) → All IsDroppable (dropped_under nodes top)
-under_droppable nodes top = All-map IsDroppable (λ node. Drop (keys.Node node)) (walk_of nodes top) (λ k d within is. cc)
+refilled_droppable (Some row) now content =
+    put_droppable (content_eq row.content content && row.changed == now) (rows.Node (filled content now row))
 
 replaced_droppable : (nodes : List NodeRow) (replaced : Option ℕ) → All IsDroppable (dropped_for nodes replaced)
 replaced_droppable nodes None = All-nil IsDroppable
-replaced_droppable nodes (Some top) = under_droppable nodes top
+replaced_droppable nodes (Some top) = All-map IsDroppable (λ node. Drop (keys.Node node)) (walk_of nodes top) (λ k d within is. cc)
 
 row_droppable : (o : Option NodeRow) (transfer : Transfer) (name : List ℕ) → All IsDroppable (transferred_row o transfer name)
 row_droppable None transfer name = All-nil IsDroppable
-row_droppable (Some row) transfer name =
-    All-cons IsDroppable (Put (rows.Node (relinked transfer.folder name row))) [] tt (All-nil IsDroppable)
+row_droppable (Some row) transfer name = put_droppable false (rows.Node (relinked transfer.folder name row))
 
 told_droppable : (t : Tables) (now : ℕ) (act : Allowed) → All IsDroppable (told t now act)
-told_droppable t now (allowed.Get node content) = All-nil IsDroppable
-told_droppable t now (allowed.List listing) = All-nil IsDroppable
-told_droppable t now (allowed.Put by key length) = All-nil IsDroppable
-told_droppable t now (allowed.StoreNew row blob) = All-cons IsDroppable (Put (rows.Node row)) [] tt (All-nil IsDroppable)
+told_droppable t now (allowed.StoreNew row blob) = put_droppable false (rows.Node row)
 told_droppable t now (allowed.StoreOver node content blob) = refilled_droppable (node_row t.nodes node) now content
-told_droppable t now (allowed.Mkcol row) = All-cons IsDroppable (Put (rows.Node row)) [] tt (All-nil IsDroppable)
-told_droppable t now (allowed.Delete node) = under_droppable t.nodes node
+told_droppable t now (allowed.Mkcol row) = put_droppable false (rows.Node row)
+told_droppable t now (allowed.Delete node) = replaced_droppable t.nodes (Some node)
 told_droppable t now (allowed.Move transfer name) =
     All-append IsDroppable (dropped_for t.nodes transfer.replaced) (transferred_row (node_row t.nodes transfer.node) transfer name)
     (replaced_droppable t.nodes transfer.replaced) (row_droppable (node_row t.nodes transfer.node) transfer name)
 told_droppable t now (allowed.Copy copies replaced) =
     All-append IsDroppable (dropped_for t.nodes replaced) (map (λ row. Put (rows.Node row)) copies) (replaced_droppable t.nodes replaced)
     (All-map IsDroppable (λ row. Put (rows.Node row)) copies (λ k d within. tt))
-told_droppable t now allowed.Close = All-nil IsDroppable
+told_droppable t now act = All-nil IsDroppable
 
 with_meta_droppable : (old meta : MetaRow) (changes : List Change) → All IsDroppable changes → All IsDroppable (with_meta old meta changes)
 with_meta_droppable old meta [] all = all
 with_meta_droppable old meta (change ∷ changes) all =
-    All-append IsDroppable (change ∷ changes) (new_meta old meta) all (meta_droppable old meta)
+    All-append IsDroppable (change ∷ changes) (new_meta old meta) all (put_droppable (same_meta old meta) (rows.Meta meta))
 
 decided_droppable : (t : Tables) (now : ℕ) (decision : Result Allowed Denial) → All IsDroppable (changes_by t now decision)
 decided_droppable t now (Ok act) = with_meta_droppable t.meta (meta_after t now act) (told t now act) (told_droppable t now act)
