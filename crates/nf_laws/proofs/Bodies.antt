@@ -46,7 +46,8 @@ use Rattle.nf_words.specs.declared.request.Spot.{Spot}
 use Rattle.nf_words.specs.declared.request.Wanted.{Wanted}
 use Rattle.nf_words.specs.declared.request.Wanted.TheVariants as wanted
 use Rattle.nf_words.proofs.Known.{Known, IsOfBody}
-use Rattle.nf_laws.proofs.Rows.{holds_some, row_is}
+use Rattle.nf_laws.proofs.Climbs.{holds_some}
+use Rattle.nf_laws.proofs.Rows.{row_is}
 use Rattle.nf_laws.specs.Wholes.{Brings}
 
 -- ---- a blob that is stored has the next number

@@ -19,7 +19,7 @@ use Rattle.nf_words.specs.Limits.{deepest}
 use Rattle.nf_words.specs.Sound.{AreApart, AreSound, HasRoot, IsNodeSound, IsPlaceSound, root_of_user}
 use Rattle.nf_words.specs.declared.request.Transfer.{Transfer}
 use Rattle.nf_laws.proofs.Added.{new_apart}
-use Rattle.nf_laws.proofs.Climbs.{climb_on, depth_is, ends_same, node_row_each, under_climb}
+use Rattle.nf_laws.proofs.Climbs.{climb_same, climb_on, depth_is, ends_same, node_row_each, under_climb}
 use Rattle.nf_laws.proofs.Gone.{clearing_sound, climb_cleared, folder_stays, free_cleared, kept_cleared, row_cleared}
 use Rattle.nf_laws.proofs.OneRow.{IsEither, each_either, length_with, pieces_with, rising_with, row_itself, row_other, value_with}
 use Rattle.nf_laws.proofs.Paths.{path_own}
@@ -46,34 +46,19 @@ parent_other rows node folder name other differs =
 -- what doesn't climb to the node climbs as before
 pub climb_outside : (k : ℕ) (rows : List NodeRow) (node folder : ℕ) (name : List ℕ) (other : ℕ) → ((j : ℕ) → climb rows j other ≢ Some node)
     → climb (relinking rows node folder name) k other ≡ climb rows k other
-climb_outside zero rows node folder name other apart = refl
-climb_outside (suc k) rows node folder name other apart =
-    here (parent_of rows other) refl (λ parent apart. climb_outside k rows node folder name parent apart)
-  where
-    made : List NodeRow
-    made = relinking rows node folder name
-
-    same : parent_of made other ≡ parent_of rows other
-    same = parent_other rows node folder name other (λ is. apart 0 (ap Some is))
-
-    here : (o : Option ℕ) → parent_of rows other ≡ o
-        → ((parent : ℕ) → ((j : ℕ) → climb rows j parent ≢ Some node) → climb made k parent ≡ climb rows k parent)
-        → climb made (suc k) other ≡ climb rows (suc k) other
-    here None e rest = ap (option_and_then (climb made k)) (same ∙ e) ∙ sym (ap (option_and_then (climb rows k)) e)
-    here (Some parent) e rest =
-        ap (option_and_then (climb made k)) (same ∙ e)
-        ∙ rest parent (λ j is. apart (suc j) (ap (option_and_then (climb rows j)) e ∙ is))
-        ∙ sym (ap (option_and_then (climb rows k)) e)
+climb_outside k rows node folder name other apart =
+    climb_same rows (relinking rows node folder name) (λ k other. (j : ℕ) → climb rows j other ≢ Some node)
+    (λ k other parent apart above j is. apart (suc j) (rw above is))
+    (λ k other apart. parent_other rows node folder name other (λ is. apart 0 (ap Some is))) k other apart
 
 -- what is under the node climbs to it as before
 pub climb_below : (j : ℕ) (u : Tables) (node folder : ℕ) (name : List ℕ) (other : ℕ) → AreSound u → climb u.nodes j other ≡ Some node
     → climb (relinking u.nodes node folder name) j other ≡ Some node
-climb_below zero u node folder name other sound is = is
-climb_below (suc j) u node folder name other sound whole =
-    option_and_then_some (climb u.nodes j) (parent_of u.nodes other) node whole (λ parent above is.
-    let same = parent_other u.nodes node folder name other
-    (λ (itself : other ≡ node). absurd (omega (arith, depth_climb (suc j) u other node sound whole, ap (depth u.nodes) itself))) in
-    ap (option_and_then (climb (relinking u.nodes node folder name) j)) (same ∙ above) ∙ climb_below j u node folder name parent sound is)
+climb_below j u node folder name other sound is =
+    climb_same u.nodes (relinking u.nodes node folder name) (λ j other. climb u.nodes j other ≡ Some node)
+    (λ j other parent is above. rw above at is)
+    (λ j other is. parent_other u.nodes node folder name other
+    (λ itself. omega (arith, depth_climb (suc j) u other node sound is, ap (depth u.nodes) itself))) j other is ∙ is
 
 -- ---- a node in another folder
 

@@ -17,14 +17,14 @@ use Rattle.nf_defs.specs.Tree.{Leads, by_name, children_of, climb, content_of, f
 use Rattle.nf_defs.specs.declared.Found.{Found}
 use Rattle.nf_defs.specs.declared.Found.TheVariants.{At, Free, Missing}
 use Rattle.nf_laws.proofs.Bodies.{Alters, given_alters}
-use Rattle.nf_laws.proofs.Climbs.{node_row_each, row_there, under_climb}
+use Rattle.nf_laws.proofs.Climbs.{node_row_each, row_there, under_climb, some_there}
 use Rattle.nf_laws.proofs.Copied.{copies_owned}
 use Rattle.nf_laws.proofs.Entries.{after_has}
 use Rattle.nf_laws.proofs.Gone.{row_cleared}
 use Rattle.nf_laws.proofs.Mirrored.{mirrored}
 use Rattle.nf_laws.proofs.Moved.{folder_owner}
 use Rattle.nf_laws.proofs.OneRow.{filter_with}
-use Rattle.nf_laws.proofs.Rows.{folder_there, found_is, parent_there, row_id, some_there, stamp}
+use Rattle.nf_laws.proofs.Rows.{folder_there, found_is, parent_there, row_id, stamp}
 use Rattle.nf_laws.proofs.Paths.{IsOf, found_leads, leads_own, path_own, root_own}
 use Rattle.nf_laws.specs.Owners.{ChangesOnlyOwn, ChangesOwn, ListsAll, ListsOwn, ServesOwn, nodes_of_others}
 use Rattle.nf_words.proofs.Known.{Known, KnownCopies, KnownNew, KnownPath, call_known, call_passes}

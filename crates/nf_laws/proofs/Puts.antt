@@ -22,7 +22,7 @@ use Rattle.nf_defs.specs.Keys.{node_key}
 use Rattle.nf_defs.specs.Puts.{by_order, dropped, key_cmp, put}
 use Rattle.nf_defs.specs.Tables.{Tables}
 use Rattle.nf_defs.specs.Tree.{climb, folder_of, is_under, node_row, parent_of, walk_of, with_node, without_under}
-use Rattle.nf_laws.proofs.Climbs.{those, under_climb}
+use Rattle.nf_laws.proofs.Climbs.{some_there, those, under_climb}
 use Rattle.nf_laws.proofs.Rows.{found_is}
 use Rattle.nf_laws.proofs.Walked.{walk_among}
 use Rattle.nf_words.specs.Changes.{cleared, dropped_for, dropped_under}
@@ -148,14 +148,11 @@ drops_for t (Some top) rest sound = drops_under t top rest sound
 
 -- where a node is gone that was there
 pub fewer : (test : ℕ → Bool) (old : List NodeRow) (node : ℕ) → is_some (node_row old node) ≡ true → test node ≡ false → those test old ≢ old
-fewer test old node there fails = λ same. here (node_row old node) refl there same
-  where
-    here : (o : Option NodeRow) → node_row old node ≡ o → is_some o ≡ true → those test old ≡ old → ⊥
-    here None e there same = false≢true there
-    here (Some row) e there same =
-        let h = found_is (λ (row : NodeRow). test row.id ≡ true) (λ row. row.id == node) (those test old) row
-        (filter_passes (λ row. test row.id) old) (ap (λ (all : List NodeRow). node_row all node) same ∙ e) in
-        both_ways (test node) fails (subst (λ (n : ℕ). test n ≡ true) (eqb-true row.id node h.0) h.1)
+fewer test old node there fails = λ same.
+    let row = some_there (node_row old node) there in
+    let h = found_is (λ (row : NodeRow). test row.id ≡ true) (λ row. row.id == node) (those test old) row.0
+    (filter_passes (λ row. test row.id) old) (ap (λ (all : List NodeRow). node_row all node) same ∙ row.1) in
+    both_ways (test node) fails (subst (λ (n : ℕ). test n ≡ true) (eqb-true row.0.id node h.0) h.1)
 
 -- where a node's row is another
 pub another : (old made : List NodeRow) (node : ℕ) (row new : NodeRow) → node_row old node ≡ Some row → node_row made node ≡ Some new

@@ -6,7 +6,7 @@ use Rattle.std.specs.Option.{IfSome, option_and_then, option_map_or, option_or}
 use Rattle.std.proofs.lemmas.Bool.{false≢true, eqb-true}
 use Rattle.std.proofs.lemmas.List.Elements.{All-cons, All-head, All-nil, All-tail, All-weaker}
 use Rattle.std.proofs.lemmas.List.Folds.{find-append}
-use Rattle.std.proofs.lemmas.Option.{none-some, same_Some}
+use Rattle.std.proofs.lemmas.Option.{none-some, option_and_then_some, same_Some}
 use Rattle.nf_base.specs.declared.changes.Change.{Change}
 use Rattle.nf_base.specs.declared.content.Piece.{Piece}
 use Rattle.nf_base.specs.declared.rows.MetaRow.{MetaRow}
@@ -17,6 +17,7 @@ use Rattle.nf_base.specs.declared.rows.UserRow.{UserRow}
 use Rattle.nf_defs.specs.People.{user_row}
 use Rattle.nf_defs.specs.Tables.{Tables}
 use Rattle.nf_defs.specs.Tree.{climb, content_of, folder_of, is_folder, is_folder_kind, node_row, owner_of, parent_of}
+use Rattle.nf_laws.proofs.Climbs.{climb_same, holds_some}
 use Rattle.nf_words.proofs.Known.{IsOfBody, found_has, found_passes}
 use Rattle.nf_words.specs.Changes.{blob_after, stamped}
 use Rattle.nf_words.specs.Sound.{AreCounters, AreSound, HasRoot, IsNodeSound, IsPieceSound, IsPlaceSound, root_of_user}
@@ -66,15 +67,6 @@ no_value f None none = refl
 no_value f (Some x) none = absurd (none-some (f x) (sym none))
 
 -- ---- what is there
-
-pub some_there : {X : Type 0} (o : Option X) → is_some o ≡ true → (x : X) × (o ≡ Some x)
-some_there None is = absurd (false≢true is)
-some_there (Some x) is = (x, refl)
-
--- where what is there passes the test, it is there
-pub holds_some : {X : Type 0} (test : X → Bool) (o : Option X) → option_map_or test o false ≡ true → (x : X) × (o ≡ Some x) × (test x ≡ true)
-holds_some test None is = absurd (false≢true is)
-holds_some test (Some x) is = (x, refl, is)
 
 -- the row of a folder
 pub folder_there : (rows : List NodeRow) (node : ℕ) → is_folder rows node ≡ true
@@ -155,26 +147,16 @@ folder_kept rows others node kept is =
 
 parent_kept : (rows others : List NodeRow) (node parent : ℕ) → AreKept rows others
     → parent_of rows node ≡ Some parent → parent_of others node ≡ Some parent
-parent_kept rows others node parent kept is = here (node_row rows node) refl is
-  where
-    here : (o : Option NodeRow) → node_row rows node ≡ o → option_and_then (λ row. folder_of row.place) o ≡ Some parent
-        → parent_of others node ≡ Some parent
-    here None e is = absurd (none-some parent is)
-    here (Some row) e is =
-        let k = kept node row e in
-        ap (option_and_then (λ row. folder_of row.place)) k.there ∙ ap folder_of k.place ∙ is
+parent_kept rows others node parent kept is =
+    option_and_then_some (λ row. folder_of row.place) (node_row rows node) parent is (λ row there placed.
+    let k = kept node row there in rw k.there (ap folder_of k.place ∙ placed))
 
 pub climb_kept : (k : ℕ) (rows others : List NodeRow) (node top : ℕ) → AreKept rows others
     → climb rows k node ≡ Some top → climb others k node ≡ Some top
-climb_kept zero rows others node top kept is = is
-climb_kept (suc k) rows others node top kept is =
-    here (parent_of rows node) refl is (λ parent is. climb_kept k rows others parent top kept is)
-  where
-    here : (o : Option ℕ) → parent_of rows node ≡ o → option_and_then (climb rows k) o ≡ Some top
-        → ((parent : ℕ) → climb rows k parent ≡ Some top → climb others k parent ≡ Some top) → climb others (suc k) node ≡ Some top
-    here None e is rest = absurd (none-some top is)
-    here (Some parent) e is rest =
-        ap (option_and_then (climb others k)) (parent_kept rows others node parent kept e) ∙ rest parent is
+climb_kept k rows others node top kept is =
+    climb_same rows others (λ k node. climb rows k node ≡ Some top) (λ k node parent is above. rw above at is)
+    (λ k node is. option_and_then_some (climb rows k) (parent_of rows node) top is
+    (λ parent above rest. parent_kept rows others node parent kept above ∙ sym above)) k node is ∙ is
 
 -- a row that is there as it was
 pub kept_row : (rows : List NodeRow) (node : ℕ) (old : NodeRow) → node_row rows node ≡ Some old → Kept rows node old
