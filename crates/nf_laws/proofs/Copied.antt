@@ -28,20 +28,10 @@ use Rattle.nf_laws.proofs.Gone.{clearing_sound, climb_cleared, counts_cleared, f
 use Rattle.nf_laws.proofs.Mirrored.{mirrored}
 use Rattle.nf_laws.proofs.Paths.{child_there}
 use Rattle.nf_laws.proofs.Rows.{counters_up, kept_joined, child_folder, climb_kept, finds_none, folder_kept, folder_there, row_is, parent_there, node_kept, none_above, pieces_kept, root_kept, stamp}
-use Rattle.nf_laws.proofs.Upwards.{depth_up, rooted}
-use Rattle.nf_laws.proofs.Walked.{walks_take}
+use Rattle.nf_laws.proofs.Upwards.{climbs_depth, deepest_among, depth_up}
+use Rattle.nf_laws.proofs.Walked.{AllPairs-append, walks_take}
 
 -- ---- lists
-
--- what each two of both lists have, and each of the one with each of the other
-AllPairs-append : {X : Type 0} (R : X → X → Type 0) (xs ys : List X) → AllPairs R xs → AllPairs R ys → All (λ x. All (R x) ys) xs
-    → AllPairs R (xs ++ ys)
-AllPairs-append R [] ys first second across = second
-AllPairs-append R (x ∷ xs) ys first second across =
-    AllPairs-cons R x (xs ++ ys)
-    (All-append (R x) xs ys (λ k d within. first 0 (suc k) d (omega arith) (omega arith)) (across 0 x (omega arith)))
-    (AllPairs-append R xs ys (λ i j d before within. first (suc i) (suc j) d (omega arith) (omega arith)) second
-    (λ k d within. across (suc k) d (omega arith)))
 
 -- where two lists have the same numbers in turn, they have one sum
 same_sum : {X Y : Type 0} (f : X → ℕ) (g : Y → ℕ) (xs : List X) (ys : List Y) → length xs ≡ length ys
@@ -64,19 +54,6 @@ or_none None = refl
 or_none (Some x) = refl
 
 -- ---- nodes that are there
-
--- so many folders up from a node as it is deep is its owner's root
-climbs_depth : (t : Tables) (node : ℕ) (row : NodeRow) → AreSound t → node_row t.nodes node ≡ Some row
-    → climb t.nodes (depth t.nodes node) node ≡ Some (root_of_user t row.owner)
-climbs_depth t node row sound there =
-    let h = rooted t node row sound there in
-    let root = root_of_user t row.owner in
-    let deep = depth_is h.steps t.nodes node root (none_above t row.owner sound) h.shallow h.climbs in
-    subst (λ (n : ℕ). climb t.nodes n node ≡ Some root) (sym deep) h.climbs
-
--- no node of some is deeper than their deepest
-deepest_of : (rows : List NodeRow) (nodes : List ℕ) (k : ℕ) → k < length nodes → depth rows (get_or nodes k 0) ≤ deepest rows nodes
-deepest_of rows nodes k within = max_bounds (deepest rows) (depth rows) refl (λ node nodes. refl) nodes k 0 within
 
 -- a walk begins with its top
 pub walk_first : (rows : List NodeRow) (top : ℕ) → (get_or (walk_of rows top) 0 0 ≡ top) × (0 < length (walk_of rows top))
@@ -228,7 +205,7 @@ module _ (t : Tables) (now : ℕ) (who : Option ℕ) (transfer : Transfer) (name
   folder_climbs =
       climb_kept (depth t.nodes transfer.folder) left.nodes made.nodes transfer.folder _ (kept_joined left.nodes rows)
       (climb_cleared t transfer.replaced (depth t.nodes transfer.folder) transfer.folder sound stays
-      ∙ climbs_depth t transfer.folder folder_row.0 sound folder_row.1
+      ∙ (climbs_depth t transfer.folder folder_row.0 sound folder_row.1).0
       ∙ ap (λ (o : Option NodeRow). Some (root_of_user t (option_map_or (λ row. row.owner) o 0))) (sym folder_row.1))
 
   -- ---- each copy is sound
@@ -268,7 +245,7 @@ module _ (t : Tables) (now : ℕ) (who : Option ℕ) (transfer : Transfer) (name
           climbs.1,
           known.deep,
           mirrors.all,
-          deepest_of t.nodes walk k (omega (arith, mirrors.all)),
+          deepest_among t.nodes walk k 0 (omega (arith, mirrors.all)),
           ap (depth t.nodes) first.0,
         );
         present =

@@ -24,7 +24,7 @@ use Rattle.nf_laws.proofs.Gone.{clearing_sound, climb_cleared, folder_stays, fre
 use Rattle.nf_laws.proofs.OneRow.{IsEither, each_either, length_with, pieces_with, rising_with, row_itself, row_other, value_with}
 use Rattle.nf_laws.proofs.Paths.{path_own}
 use Rattle.nf_laws.proofs.Rows.{IsRooted, folder_there, none_above, kept_row, node_still, parent_there, root_still}
-use Rattle.nf_laws.proofs.Upwards.{climb_short, climbs_is_under, depth_climb, never_climbs, rooted}
+use Rattle.nf_laws.proofs.Upwards.{deepest_among, climb_short, climbs_is_under, depth_climb, never_climbs, rooted}
 
 -- ---- climbs where a node is put into a folder
 
@@ -197,13 +197,6 @@ relinked_sound u node folder name old sound fits =
     }
 
 -- ---- what is known of a move
-
-deepest_among : (rows : List NodeRow) (nodes : List ℕ) → All (λ (node : ℕ). depth rows node ≤ deepest rows nodes) nodes
-deepest_among rows [] = All-nil (λ (node : ℕ). depth rows node ≤ deepest rows [])
-deepest_among rows (node ∷ nodes) =
-    All-cons (λ (other : ℕ). depth rows other ≤ deepest rows (node ∷ nodes)) node nodes (omega arith)
-    (All-weaker (λ (other : ℕ). depth rows other ≤ deepest rows nodes) (λ (other : ℕ). depth rows other ≤ deepest rows (node ∷ nodes))
-    (λ other less. omega arith) nodes (deepest_among rows nodes))
 
 -- what stays is as deep as before
 pub depth_cleared : (t : Tables) (replaced : Option ℕ) (node : ℕ) (row : NodeRow) → AreSound t → AreSound (record t { nodes = cleared t.nodes replaced })

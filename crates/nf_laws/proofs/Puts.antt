@@ -162,7 +162,7 @@ another old made node row new was is other = λ same.
 
 -- ---- the nodes under one that is there are there
 
-under_there : (old : List NodeRow) (node top : ℕ) → is_some (node_row old top) ≡ true → is_under old node top ≡ true
+pub under_there : (old : List NodeRow) (node top : ℕ) → is_some (node_row old top) ≡ true → is_under old node top ≡ true
     → is_some (node_row old node) ≡ true
 under_there old node top there is = let c = under_climb old node top is in here c.0 c.2
   where

@@ -1,5 +1,6 @@
 -- Climbs in sound tables: none from a node that is there takes more than 64 steps, and a folder is one less deep than what is in it.
-use Rattle.std.proofs.Common.{ℕ, suc, zero, ◌+◌, ◌≡◌, ◌≢◌, ◌≤◌, true, false, List, Option, None, Some, refl, sym, ap, subst, ◌∙◌, arith}
+-- So the words about the tree are as the plain ones.
+use Rattle.std.proofs.Common.{ℕ, suc, zero, ◌+◌, ◌≡◌, ◌≢◌, ◌≤◌, true, false, List, Option, None, Some, refl, sym, ap, subst, ◌∙◌, arith, ◌==◌, Bool, [], ◌∷◌, get_or}
 use Rattle.std.specs.Option.{option_and_then, option_map_or}
 use Rattle.std.proofs.lemmas.Bool.{both_ways, false_from_ne_true}
 use Rattle.std.proofs.lemmas.Option.{none-some, option_and_then_some, same_Some}
@@ -7,11 +8,21 @@ use Rattle.nf_base.specs.declared.rows.NodeRow.{NodeRow}
 use Rattle.nf_base.specs.declared.rows.Place.{Place}
 use Rattle.nf_base.specs.declared.rows.Place.TheVariants.{Root, Inside, Trash}
 use Rattle.nf_defs.specs.Tables.{Tables}
-use Rattle.nf_defs.specs.Tree.{climb, depth, folder_of, is_root, is_root_place, is_under, node_row, parent_of}
-use Rattle.nf_words.specs.Sound.{AreSound, root_of_user}
+use Rattle.nf_defs.specs.Tree.{climb, depth, folder_of, is_root, is_root_place, is_under, node_row, parent_of, child_of, is_in, is_present, taken_names}
+use Rattle.std.proofs.lemmas.List.Recursion.{max_bounds}
+use Rattle.std.specs.List.{All}
+use Rattle.nf_words.specs.Limits.{deepest}
+use Rattle.nf_laws.proofs.Climbs.{node_row_each}
+use Rattle.nf_words.specs.Sound.{AreSound, root_of_user, IsNodeSound}
 use Rattle.nf_laws.proofs.Climbs.{climb_under, climbs_no_further, depth_is, under_climb}
-use Rattle.nf_laws.proofs.Rows.{IsRooted, none_above, row_is}
-use Rattle.nf_laws.specs.Tree.{NoRings}
+use Rattle.nf_laws.proofs.Rows.{IsRooted, none_above, row_is, found_is, parent_there}
+use Rattle.nf_laws.specs.Tree.{NoRings, DepthIsClimbed, NamesAreTaken, NodesArePresent, Under, UnderIsDerived, itself, inside}
+use Rattle.std.specs.Prelude.{bytes_eq, is_some}
+use Rattle.std.specs.List.{list_any}
+use Rattle.std.proofs.lemmas.List.Folds.{list_any_at}
+use Rattle.nf_base.specs.FreeNames.{is_taken}
+use Rattle.nf_base.specs.declared.rows.UserRow.{UserRow}
+use Rattle.nf_defs.specs.People.{user_row}
 
 pub rooted : (t : Tables) (node : ℕ) (row : NodeRow) → AreSound t → node_row t.nodes node ≡ Some row → IsRooted t node row
 rooted t node row sound there =
@@ -38,6 +49,18 @@ climbs_is_under j t node top sound is = climb_under j t.nodes node top (climb_sh
 
 pub never_climbs : (t : Tables) (node top : ℕ) → AreSound t → is_under t.nodes node top ≡ false → (j : ℕ) → climb t.nodes j node ≢ Some top
 never_climbs t node top sound outside j is = both_ways (is_under t.nodes node top) outside (climbs_is_under j t node top sound is)
+
+-- so many folders up from a node as it is deep is its owner's root
+pub climbs_depth : (t : Tables) (node : ℕ) (row : NodeRow) → AreSound t → node_row t.nodes node ≡ Some row
+    → (climb t.nodes (depth t.nodes node) node ≡ Some (root_of_user t row.owner)) × (depth t.nodes node ≤ 64)
+climbs_depth t node row sound there =
+    let r = rooted t node row sound there in
+    let deep = depth_is r.steps t.nodes node (root_of_user t row.owner) (none_above t row.owner sound) r.shallow r.climbs in
+    (rw deep r.climbs, omega (arith, deep, r.shallow))
+
+-- no node of some is deeper than their deepest
+pub deepest_among : (rows : List NodeRow) (nodes : List ℕ) → All (λ (node : ℕ). depth rows node ≤ deepest rows nodes) nodes
+deepest_among rows nodes k d within = max_bounds (deepest rows) (depth rows) refl (λ node nodes. refl) nodes k d within
 
 -- ---- depths
 
@@ -87,3 +110,72 @@ inside_no_root rows node parent above = here (node_row rows node) refl above
     here None e is = absurd (none-some parent is)
     here (Some row) e is =
         ap (λ (o : Option NodeRow). option_map_or (λ row. is_root_place row.place) o false) e ∙ no_root_place row.place parent is
+
+-- ---- under
+
+pub derived : (j : ℕ) (rows : List NodeRow) (top node : ℕ) → climb rows j node ≡ Some top → Under rows top node
+derived zero rows top node is = subst (λ (n : ℕ). Under rows n node) (same_Some node top is) itself
+derived (suc j) rows top node is =
+    option_and_then_some (climb rows j) (parent_of rows node) top is
+    (λ parent above is. inside node parent above (derived j rows top parent is))
+
+pub climbed : (rows : List NodeRow) (top node : ℕ) → Under rows top node → (j : ℕ) × (climb rows j node ≡ Some top)
+climbed rows top _ itself = (0, refl)
+climbed rows top _ (inside node parent above under) = let r = climbed rows top parent under in (suc r.0, rw above r.1)
+
+pub under_derived : UnderIsDerived
+under_derived t top sound k d within =
+    let node = (get_or t.nodes k d).id in (
+      λ is. let c = under_climb t.nodes node top is in derived c.0 t.nodes top node c.2,
+      λ under. let c = climbed t.nodes top node under in climbs_is_under c.0 t node top sound c.1,
+    )
+
+-- ---- present
+
+-- no climb ends at 0, the number of no node
+climb_ends : (k : ℕ) (t : Tables) (node top : ℕ) → AreSound t → 1 ≤ node → climb t.nodes k node ≡ Some top → 1 ≤ top
+climb_ends zero t node top sound some is = omega (arith, same_Some node top is)
+climb_ends (suc k) t node top sound some is =
+    option_and_then_some (climb t.nodes k) (parent_of t.nodes node) top is (λ parent above is.
+    option_and_then_some (λ row. folder_of row.place) (node_row t.nodes node) parent above (λ row there place.
+    let folder = parent_there t node parent row sound there above in
+    let h = row_is t parent folder.0 sound folder.1 in climb_ends k t parent top sound (omega (arith, h.0, h.1.some)) is))
+
+pub nodes_present : NodesArePresent
+nodes_present t sound k d within = here (user_row t.users row.owner) refl h.present
+  where
+    row : NodeRow
+    row = get_or t.nodes k d
+
+    h : IsNodeSound t row
+    h = sound.nodes k d within
+
+    passes : UserRow → Bool
+    passes user = is_under t.nodes row.id user.root
+
+    here : (o : Option UserRow) → user_row t.users row.owner ≡ o → climb t.nodes h.steps row.id ≡ Some (option_map_or (λ user. user.root) o 0)
+        → is_present t.users t.nodes row.id ≡ true
+    here None e is = absurd (omega (arith, climb_ends h.steps t row.id 0 sound h.some is))
+    here (Some user) e is =
+        (found_is (λ user. passes user ≡ true → list_any passes t.users ≡ true) (λ user. user.id == row.owner) t.users user
+        (λ k d within is. list_any_at passes t.users k d within is) e).1
+        (climb_under h.steps t.nodes row.id user.root h.shallow is)
+
+-- ---- names
+
+pub names_taken : NamesAreTaken
+names_taken [] folder name = refl
+names_taken (x ∷ rows) folder name = here (is_in folder x) (bytes_eq x.name name) refl refl (names_taken rows folder name)
+  where
+    here : (a b : Bool) → is_in folder x ≡ a → bytes_eq x.name name ≡ b
+        → is_some (child_of rows folder name) ≡ is_taken name (taken_names rows folder)
+        → is_some (child_of (x ∷ rows) folder name) ≡ is_taken name (taken_names (x ∷ rows) folder)
+    here true true e f rest = simp (e, f)
+    here true false e f rest = simp (e, f) rest
+    here false b e f rest = simp e rest
+
+-- ---- depth
+
+pub depth_climbed : DepthIsClimbed
+depth_climbed t sound k d within =
+    let row : NodeRow = get_or t.nodes k d in climbs_depth t row.id row sound (node_row_each t.nodes sound.rising k d within)

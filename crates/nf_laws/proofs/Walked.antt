@@ -13,8 +13,7 @@ use Rattle.nf_defs.proofs.Walks.{Contains-from_flat, children_are, climbs_walk, 
 use Rattle.nf_defs.specs.Tables.{Tables}
 use Rattle.nf_defs.specs.Tree.{by_name, children_of, climb, folder_of, is_in, is_under, parent_of, walk_of, walk_within}
 use Rattle.nf_laws.proofs.Climbs.{climb_on, climb_under, under_climb}
-use Rattle.nf_laws.proofs.Upwards.{climb_short, depth_climb}
-use Rattle.nf_laws.proofs.Words.{climbed, derived}
+use Rattle.nf_laws.proofs.Upwards.{climb_short, climbed, depth_climb, derived}
 use Rattle.nf_laws.specs.Tree.{WalksTakeAllUnder}
 use Rattle.nf_words.specs.Sound.{AreSound}
 
@@ -54,6 +53,16 @@ walk_among t top node sound = here (is_under t.nodes node top) (list_any (λ oth
 
 -- ---- none twice
 
+-- what each two of both lists have, and each of the one with each of the other
+pub AllPairs-append : {X : Type 0} (R : X → X → Type 0) (xs ys : List X) → AllPairs R xs → AllPairs R ys → All (λ x. All (R x) ys) xs
+    → AllPairs R (xs ++ ys)
+AllPairs-append R [] ys first second across = second
+AllPairs-append R (x ∷ xs) ys first second across =
+    AllPairs-cons R x (xs ++ ys)
+    (All-append (R x) xs ys (λ k d within. first 0 (suc k) d (omega arith) (omega arith)) (across 0 x (omega arith)))
+    (AllPairs-append R xs ys (λ i j d before within. first (suc i) (suc j) d (omega arith) (omega arith)) second
+    (λ k d within. across (suc k) d (omega arith)))
+
 -- no member is in both
 abbrev AreDisjoint : List ℕ → List ℕ → Type 0
 AreDisjoint xs ys = (n : ℕ) → Contains xs n → Contains ys n → ⊥
@@ -62,13 +71,10 @@ abbrev pub AreDistinct : List ℕ → Type 0
 AreDistinct xs = AllPairs (λ (a b : ℕ). a ≢ b) xs
 
 distinct_append : (xs ys : List ℕ) → AreDistinct xs → AreDistinct ys → AreDisjoint xs ys → AreDistinct (xs ++ ys)
-distinct_append [] ys first second apart = second
-distinct_append (x ∷ xs) ys first second apart =
-    AllPairs-cons (λ (a b : ℕ). a ≢ b) x (xs ++ ys)
-    (All-append (λ (b : ℕ). x ≢ b) xs ys (λ k d within. first 0 (suc k) d (omega arith) (omega arith))
-    (λ k d within same. apart x (0, omega arith, refl) (subst (λ (n : ℕ). Contains ys n) (sym same) (All-contains_itself ys k d within))))
-    (distinct_append xs ys (λ i j d before within. first (suc i) (suc j) d (omega arith) (omega arith)) second
-    (λ n has other. apart n (suc has.0, omega (arith, has.1), has.2) other))
+distinct_append xs ys first second apart =
+    AllPairs-append (λ (a b : ℕ). a ≢ b) xs ys first second (λ i d within j e also same.
+    apart (get_or xs i d) (All-contains_itself xs i d within)
+    (subst (λ (n : ℕ). Contains ys n) (sym same) (All-contains_itself ys j e also)))
 
 distinct_flat : (f : ℕ → List ℕ) (xs : List ℕ) → All (λ (x : ℕ). AreDistinct (f x)) xs → AllPairs (λ (x y : ℕ). AreDisjoint (f x) (f y)) xs
     → AreDistinct (flat_map f xs)

@@ -3,19 +3,19 @@
 ghost use Rattle.nf_laws.specs.Tree.{UnderIsDerived, NodesArePresent, NamesAreTaken, DepthIsClimbed, NoRings, WalksTakeAllUnder};
 
 /// A node is under a top where folders lead up to it, however many.
-#[tactic(auto, using(crate::proofs::Words::under_derived))]
+#[tactic(auto, using(crate::proofs::Upwards::under_derived))]
 pub fn under_is_derived()
     ensures { UnderIsDerived }
 {}
 
 /// Every node of sound tables is under a user's root.
-#[tactic(auto, using(crate::proofs::Words::nodes_present))]
+#[tactic(auto, using(crate::proofs::Upwards::nodes_present))]
 pub fn nodes_are_present()
     ensures { NodesArePresent }
 {}
 
 /// A folder's taken names are those by which it has a child.
-#[tactic(auto, using(crate::proofs::Words::names_taken))]
+#[tactic(auto, using(crate::proofs::Upwards::names_taken))]
 pub fn names_are_taken()
     ensures { NamesAreTaken }
 {}
