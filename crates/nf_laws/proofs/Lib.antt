@@ -2,7 +2,6 @@ pub mod Added
 pub mod Blobs
 pub mod Bodies
 pub mod Climbs
-pub mod Contents
 pub mod Copied
 pub mod Counters
 pub mod Entries

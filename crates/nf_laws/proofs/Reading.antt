@@ -17,10 +17,9 @@ use Rattle.nf_defs.specs.Tree.{Leads, stays, leads_on, content_of, filled, found
 use Rattle.nf_defs.specs.declared.Found.{Found}
 use Rattle.nf_defs.specs.declared.Found.TheVariants.{At}
 use Rattle.nf_laws.proofs.Added.{less_than_new, new_there}
-use Rattle.nf_laws.proofs.Contents.{content_decides}
 use Rattle.nf_laws.proofs.Paths.{leads_found}
 use Rattle.nf_laws.proofs.OneRow.{row_itself}
-use Rattle.nf_laws.proofs.Replaced.{kept_replaced}
+use Rattle.nf_laws.proofs.Replaced.{content_decides, kept_replaced}
 use Rattle.nf_laws.proofs.Climbs.{holds_some}
 use Rattle.nf_laws.proofs.Rows.{AreKept, folder_kept, kept_joined, row_id}
 use Rattle.nf_laws.proofs.Stays as states

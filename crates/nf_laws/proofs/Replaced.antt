@@ -1,9 +1,13 @@
 -- The tables with another content of a file are sound.
-use Rattle.std.proofs.Common.{ℕ, ◌==◌, ◌≡◌, ◌≤◌, Bool, true, false, not, List, Option, Some, option_map, if◌then◌else◌, length, get_or, refl, sym, ap, subst, ◌∙◌, inl, inr, arith, le_refl}
-use Rattle.std.specs.Option.{option_map_or}
-use Rattle.std.proofs.lemmas.Bool.{both_ways, not-true}
-use Rattle.std.proofs.lemmas.List.Elements.{All-weaker}
+use Rattle.std.proofs.Common.{◌≡◌, List, bytes_eq, refl, ap, ℕ, ◌==◌, ◌≤◌, Bool, true, false, not, Option, Some, option_map, if◌then◌else◌, length, get_or, sym, subst, ◌∙◌, inl, inr, arith, le_refl}
+use Rattle.std.specs.Prelude.{nat_eq}
+use Rattle.std.specs.Bool.{Decides}
+use Rattle.std.proofs.lemmas.Bool.{and_from, and_parts, eq-eqb, eqb-true, both_ways, not-true}
+use Rattle.std.proofs.lemmas.Slice.Eq.{bytes_eq-Decides, slice_eq-Decides}
+use Rattle.nf_base.specs.Content.{content_eq, piece_eq}
 use Rattle.nf_base.specs.declared.content.Piece.{Piece}
+use Rattle.std.specs.Option.{option_map_or}
+use Rattle.std.proofs.lemmas.List.Elements.{All-weaker}
 use Rattle.nf_base.specs.declared.rows.NodeRow.{NodeRow}
 use Rattle.nf_defs.specs.Tables.{Tables}
 use Rattle.nf_defs.specs.Tree.{filled, is_folder_kind, node_row, with_node}
@@ -12,6 +16,29 @@ use Rattle.nf_words.specs.Changes.{blob_after, replaced}
 use Rattle.nf_words.specs.Sound.{AreSound, HasRoot, IsNodeSound}
 use Rattle.nf_laws.proofs.OneRow.{IsEither, each_either, length_with, pieces_with, rising_with, row_with, same_either}
 use Rattle.nf_laws.proofs.Rows.{AreKept, Kept, blob_up, body_sound, counters_up, kept_row, node_kept, root_kept, stamp}
+
+-- ---- whether a content is another
+
+piece_decides : (a b : Piece) → Decides (piece_eq a b) (a ≡ b)
+piece_decides a b = (
+  λ is.
+      let blobs = and_parts (nat_eq a.blob b.blob) _ is in
+      let sizes = and_parts (nat_eq a.size b.size) (bytes_eq a.digest b.digest) blobs.1 in
+      λ i. record {
+        blob = eqb-true a.blob b.blob blobs.0 i;
+        size = eqb-true a.size b.size sizes.0 i;
+        digest = (bytes_eq-Decides a.digest b.digest).0 sizes.1 i;
+      },
+  λ same.
+      and_from (nat_eq a.blob b.blob) _ (eq-eqb a.blob b.blob (ap (λ (p : Piece). p.blob) same))
+      (and_from (nat_eq a.size b.size) (bytes_eq a.digest b.digest) (eq-eqb a.size b.size (ap (λ (p : Piece). p.size) same))
+      ((bytes_eq-Decides a.digest b.digest).1 (ap (λ (p : Piece). p.digest) same))),
+)
+
+pub content_decides : (a b : List Piece) → Decides (content_eq a b) (a ≡ b)
+content_decides a b = slice_eq-Decides piece_decides a b (content_eq a b) refl
+
+-- ---- the tables with another
 
 -- each node keeps its owner, place, name and kind
 pub kept_replaced : (rows : List NodeRow) (now node : ℕ) (content : List Piece) → AreKept rows (with_node rows node (filled content now))
