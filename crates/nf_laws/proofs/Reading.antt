@@ -192,54 +192,18 @@ entry_file n s e root path content is =
 
 -- ---- what is read
 
--- what the rules of paths and limits, and what is given, say of a GET whose path leads to a node that is no folder
-record Grants (t : Tables) (now user : ℕ) (wanted : Wanted) (places : Places) (node : ℕ) (content : List Piece) : Type 0 where
-  led : lost places ≡ None
-  free : taken t.nodes wanted places ≡ None
-  fit : option_map denial.BadTarget (unfit t.nodes wanted places) ≡ None
-  new : unreplaced wanted places ≡ None
-  few : option_map denial.Limit (limited t wanted places) ≡ None
-  sent : given t now user wanted places ≡ allowed.Get node content
-
-get_grants : (t : Tables) (now user : ℕ) (spot : Spot) (node : ℕ) (row : NodeRow) → node_row t.nodes node ≡ Some row
-    → is_folder_kind row.kind ≡ false
-    → Grants t now user (Get spot) (record { source = Some (At node); target = None }) node row.content
-get_grants t now user spot node row there file =
-    let folder : is_folder t.nodes node ≡ false =
-    ap (λ (o : Option NodeRow). option_map_or (λ row. is_folder_kind row.kind) o false) there ∙ file in
-    record {
-      led = refl;
-      free = refl;
-      fit = refl;
-      new = refl;
-      few = refl;
-      sent = ap (λ (a : Bool). if a then allowed.List (listing_of t node) else allowed.Get node (content_of t.nodes node)) folder
-          ∙ ap (λ (o : Option NodeRow). allowed.Get node (option_map_or (λ row. row.content) o [])) there;
-    }
-
-call_grants : (call : Call) (spot : Spot) (node : ℕ) (row : NodeRow) → call.request.wanted ≡ Get spot → found call spot ≡ At node
+-- a call of a GET that the rules of who asks and of names pass is granted the content of the file to which its path leads
+granted : (call : Call) (spot : Spot) (node : ℕ) (row : NodeRow) → call.request.wanted ≡ Get spot → found call spot ≡ At node
     → node_row call.state.tables.nodes node ≡ Some row → is_folder_kind row.kind ≡ false
-    → Grants call.state.tables call.now (asker_of call) call.request.wanted (places_of call) node row.content
-call_grants call spot node row wanted at there file =
-    let t = call.state.tables in
-    let places : places_of call ≡ record { source = Some (At node); target = None } =
-    ap (λ (w : Wanted). record { source = option_map (found call) (source_of w); target = option_map (found call) (target_of w) }) wanted
-    ∙ ap (λ (f : Found). record { source = Some f; target = None }) at in
-    subst (λ (p : Places). Grants t call.now (asker_of call) call.request.wanted p node row.content) (sym places)
-    (subst (λ (w : Wanted). Grants t call.now (asker_of call) w (record { source = Some (At node); target = None }) node row.content) (sym wanted)
-    (get_grants t call.now (asker_of call) spot node row there file))
-
--- so a call that the rules of who asks and of names pass is granted the content
-granted : (call : Call) (node : ℕ) (content : List Piece)
-    → Grants call.state.tables call.now (asker_of call) call.request.wanted (places_of call) node content
     → Pass (token_rule ∷ not_you_rule ∷ forbidden_rule ∷ []) unshared call
-    → answered_by (call_decision call) ≡ Ok (Granted (Serve content))
+    → answered_by (call_decision call) ≡ Ok (Granted (Serve row.content))
 unfolding place_rule exists_rule target_rule overwrite_rule limit_rule
-granted call node content grants asked =
+granted call spot node row wanted at there file asked =
+    let folder : is_folder call.state.tables.nodes node ≡ false = rw there file in
     let pass : Pass rules unshared call =
-    (asked.0, (asked.1.0, (asked.1.1.0, (grants.led, (grants.free, (grants.fit, (grants.new, (grants.few, tt)))))))) in
+    (asked.0, (asked.1.0, (asked.1.1.0, (rw (wanted, at) refl, (rw wanted refl, (rw wanted refl, (rw wanted refl, (rw wanted refl, tt)))))))) in
     ap (λ (refusal : Option Denial). answered_by (unless_refused refusal (allowed_of call))) (none_of rules unshared call pass)
-    ∙ ap (λ (act : Allowed). answered_by (Ok act)) grants.sent
+    ∙ rw (wanted, at, folder, there) refl
 
 pub stored_is_read : StoredIsRead
 stored_is_read n s e es root path content seat now words request is legal same reads =
@@ -255,5 +219,5 @@ stored_is_read n s e es root path content seat now words request is legal same r
     ∙ file.there in
     let at : found call reads.spot ≡ At file.row.id =
     (λ i. found_from last.tables.nodes 0 (reads.from i) (reads.of_path i)) ∙ leads_found last.tables 0 root path file.row.id sound.rows led in
-    granted call file.row.id file.row.content (call_grants call reads.spot file.row.id file.row reads.wanted at there file.file) reads.asked
+    granted call reads.spot file.row.id file.row reads.wanted at there file.file reads.asked
     ∙ ap (λ (c : List Piece). answered_by (Ok (allowed.Get file.row.id c))) file.filled
