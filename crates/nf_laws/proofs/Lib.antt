@@ -1,6 +1,5 @@
 pub mod Added
 pub mod Blobs
-pub mod Bodies
 pub mod Climbs
 pub mod Copied
 pub mod Counters

@@ -16,7 +16,7 @@ use Rattle.nf_defs.specs.Tables.{Tables}
 use Rattle.nf_defs.specs.Tree.{Leads, by_name, children_of, climb, content_of, filled, found_from, is_folder, is_folder_kind, is_in, is_under, node_row, owner_of, parent_of, relinked}
 use Rattle.nf_defs.specs.declared.Found.{Found}
 use Rattle.nf_defs.specs.declared.Found.TheVariants.{At, Free, Missing}
-use Rattle.nf_laws.proofs.Bodies.{Alters, given_alters}
+use Rattle.nf_laws.proofs.Blobs.{Alters, given_alters}
 use Rattle.nf_laws.proofs.Climbs.{node_row_each, row_there, under_climb, some_there}
 use Rattle.nf_laws.proofs.Copied.{copies_owned}
 use Rattle.nf_laws.proofs.Entries.{after_has}

@@ -256,35 +256,25 @@ relinked_other t who transfer name row sound known there = λ same.
 moved_told : (t : Tables) (now : ℕ) (who : Option ℕ) (transfer : Transfer) (name : List ℕ) → AreSound t → KnownTransfer t who transfer name
     → TellsAct t now (allowed.Move transfer name)
 moved_told t now who transfer name sound known =
-    let found = found_there t who transfer.node sound known.source in here found.0 found.1
-  where
-    after : Tables
-    after = transferred t transfer name
-
-    left : List NodeRow
-    left = cleared t.nodes transfer.replaced
-
-    change : NodeRow → NodeRow
-    change = relinked transfer.folder name
-
-    drops : List Change
-    drops = dropped_for t.nodes transfer.replaced
-
-    here : (row : NodeRow) → node_row t.nodes transfer.node ≡ Some row → TellsAct t now (allowed.Move transfer name)
-    here row e =
-        let new : Change = Put (rows.Node (change row)) in
-        let other = relinked_other t who transfer name row sound known e in
-        let still : node_row left transfer.node ≡ Some row = row_cleared t.nodes transfer.replaced transfer.node known.apart ∙ e in
-        subst (λ (o : Option NodeRow). Tell t (stamped t after now (drops ++ transferred_row o transfer name))
-        (with_meta t.meta (record t.meta { last = now }) (drops ++ transferred_row o transfer name))) (sym e)
-        (nodes_told t now t.meta after.nodes (drops ++ new ∷ [])
-        (λ rest. ap (put_all t) (append_assoc drops (new ∷ []) rest) ∙ drops_for t transfer.replaced (new ∷ rest) sound
-        ∙ ap (λ (all : List NodeRow). put_all (record t { nodes = all }) rest)
-        (put_changed left transfer.node change row refl (clearing_sound t who transfer name sound known).rising still))
-        (All-append (Differs t) drops (new ∷ []) (replaced_differ t who transfer name sound known)
-        (All-cons (Differs t) new [] (changed_differs t transfer.node change row (λ row. refl) sound e other) (All-nil (Differs t))))
-        (another t.nodes after.nodes transfer.node row (change row) e
-        (row_itself left transfer.node change (λ row. refl) ∙ ap (option_map change) still) other))
+    let found = found_there t who transfer.node sound known.source in
+    let row : NodeRow = found.0 in
+    let change : NodeRow → NodeRow = relinked transfer.folder name in
+    let left : List NodeRow = cleared t.nodes transfer.replaced in
+    let after : Tables = transferred t transfer name in
+    let drops : List Change = dropped_for t.nodes transfer.replaced in
+    let new : Change = Put (rows.Node (change row)) in
+    let other = relinked_other t who transfer name row sound known found.1 in
+    let still : node_row left transfer.node ≡ Some row = row_cleared t.nodes transfer.replaced transfer.node known.apart ∙ found.1 in
+    subst (λ (o : Option NodeRow). Tell t (stamped t after now (drops ++ transferred_row o transfer name))
+    (with_meta t.meta (record t.meta { last = now }) (drops ++ transferred_row o transfer name))) (sym found.1)
+    (nodes_told t now t.meta after.nodes (drops ++ new ∷ [])
+    (λ rest. ap (put_all t) (append_assoc drops (new ∷ []) rest) ∙ drops_for t transfer.replaced (new ∷ rest) sound
+    ∙ ap (λ (all : List NodeRow). put_all (record t { nodes = all }) rest)
+    (put_changed left transfer.node change row refl (clearing_sound t who transfer name sound known).rising still))
+    (All-append (Differs t) drops (new ∷ []) (replaced_differ t who transfer name sound known)
+    (All-cons (Differs t) new [] (changed_differs t transfer.node change row (λ row. refl) sound found.1 other) (All-nil (Differs t))))
+    (another t.nodes after.nodes transfer.node row (change row) found.1
+    (row_itself left transfer.node change (λ row. refl) ∙ ap (option_map change) still) other))
 
 -- ---- nodes that are copied
 
@@ -302,6 +292,11 @@ copies_more t old (copy ∷ copies) sound numbered some = λ same.
 copies_told : (t : Tables) (now : ℕ) (who : Option ℕ) (copies : List NodeRow) (replaced : Option ℕ) → AreSound t
     → KnownCopies t now who copies replaced → TellsAct t now (allowed.Copy copies replaced)
 copies_told t now who copies replaced sound known =
+    let drops : List Change = dropped_for t.nodes replaced in
+    let puts : List Change = map (λ row. Put (rows.Node row)) copies in
+    let mirrors = mirrored t now who copies replaced sound known in
+    let numbered : AreNumbered t.meta.next_node copies = λ k d within.
+    (mirrors.each k (get_or copies k d) (slice_get-get_or copies k d within)).id in
     nodes_told t now (joined t copies replaced).meta (cleared t.nodes replaced ++ copies) (drops ++ puts)
     (λ rest. ap (put_all t) (append_assoc drops puts rest) ∙ drops_for t replaced (puts ++ rest) sound
     ∙ puts_new t (cleared t.nodes replaced) copies rest t.meta.next_node
@@ -311,18 +306,7 @@ copies_told t now who copies replaced sound known =
     (replaced_differ t who known.transfer known.name sound known.known))
     (All-map (Differs t) (λ row. Put (rows.Node row)) copies
     (λ k d within. new_differs t (get_or copies k d) sound (omega (arith, numbered k d within)))))
-    (copies_more t (cleared t.nodes replaced) copies sound numbered
-    (omega (arith, (mirrored t now who copies replaced sound known).all, (walk_first t.nodes known.transfer.node).1)))
-  where
-    drops : List Change
-    drops = dropped_for t.nodes replaced
-
-    puts : List Change
-    puts = map (λ row. Put (rows.Node row)) copies
-
-    numbered : AreNumbered t.meta.next_node copies
-    numbered k d within =
-        ((mirrored t now who copies replaced sound known).each k (get_or copies k d) (slice_get-get_or copies k d within)).id
+    (copies_more t (cleared t.nodes replaced) copies sound numbered (omega (arith, mirrors.all, (walk_first t.nodes known.transfer.node).1)))
 
 -- ---- each act
 
