@@ -35,7 +35,7 @@ use Rattle.nf_laws.proofs.Mirrored.{mirrored}
 use Rattle.nf_laws.proofs.OneRow.{with_all}
 use Rattle.nf_laws.proofs.Rows.{content_has, found_is, stamped_has, row_is}
 use Rattle.nf_laws.specs.Wholes.{BlobsAreNew, IsGoalHeld, IsHeld, IsThere, StaysWhole, blob_in, blob_under, Brings}
-use Rattle.std.proofs.lemmas.Bool.{and_parts, eqb-true, false_from_ne_true, false≢true}
+use Rattle.std.proofs.lemmas.Bool.{cond_both, and_parts, eqb-true, false_from_ne_true, false≢true}
 use Rattle.nf_base.specs.Content.{content_eq}
 use Rattle.nf_base.specs.declared.changes.Change.TheVariants.{Put}
 use Rattle.nf_base.specs.declared.rows.Row.TheVariants as rows
@@ -177,12 +177,9 @@ alters_stores next body act alters = tt
 
 served_stores : (t : Tables) (body : List ℕ) (o : Option ℕ) → StoresBody t.meta.next_blob body (served t o)
 served_stores t body None = tt
-served_stores t body (Some node) = here (is_folder t.nodes node)
-  where
-    here : (folds : Bool)
-        → StoresBody t.meta.next_blob body (if folds then allowed.List (listing_of t node) else allowed.Get node (content_of t.nodes node))
-    here true = tt
-    here false = tt
+served_stores t body (Some node) =
+    cond_both (is_folder t.nodes node) (allowed.List (listing_of t node)) (allowed.Get node (content_of t.nodes node))
+    (StoresBody t.meta.next_blob body) (λ folder. tt) (λ file. tt)
 
 given_stores : (t : Tables) (now user : ℕ) (body : List ℕ) (asked : Wanted) (places : Places)
     → StoresBody t.meta.next_blob body (given t now user asked places)

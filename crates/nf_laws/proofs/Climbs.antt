@@ -6,6 +6,7 @@ use Rattle.std.specs.Option.{option_and_then, option_map_or}
 use Rattle.std.proofs.lemmas.Bool.{false≢true, eqb-true, eq-eqb, or_cases, or_left, or_right}
 use Rattle.std.proofs.lemmas.Option.{none-some, option_and_then_some, same_Some}
 use Rattle.nf_base.specs.declared.rows.NodeRow.{NodeRow}
+use Rattle.nf_base.specs.declared.rows.Place.TheVariants.{Inside}
 use Rattle.nf_words.proofs.Known as known
 use Rattle.nf_defs.specs.Tree.{node_row, folder_of, parent_of, climb, depth, depth_within, is_under, is_under_within}
 
@@ -36,6 +37,10 @@ row_there (x ∷ rows) (suc k) d within = here (x.id == (get_or rows k d).id) re
         → is_some (node_row (x ∷ rows) (get_or rows k d).id) ≡ true
     here true e rest = simp e
     here false e rest = simp e rest
+
+pub parent_at : (rows : List NodeRow) (node folder : ℕ) (row : NodeRow) → node_row rows node ≡ Some row → row.place ≡ Inside folder
+    → parent_of rows node ≡ Some folder
+parent_at rows node folder row there place = rw there (ap folder_of place)
 
 -- ---- under, as a climb
 

@@ -23,11 +23,11 @@ use Rattle.nf_words.specs.Sound.{AreApart, AreSound, HasRoot, IsNodeSound, IsPie
 use Rattle.nf_words.specs.declared.request.Transfer.{Transfer}
 use Rattle.nf_laws.specs.Transfers.{IsCopyOf, Mirrors, is_replaced}
 use Rattle.nf_laws.proofs.Added.{new_apart}
-use Rattle.nf_laws.proofs.Climbs.{depth_is, node_row_each}
+use Rattle.nf_laws.proofs.Climbs.{node_row_each, parent_at}
 use Rattle.nf_laws.proofs.Gone.{clearing_sound, climb_cleared, counts_cleared, folder_stays, free_cleared, row_cleared}
 use Rattle.nf_laws.proofs.Mirrored.{mirrored}
 use Rattle.nf_laws.proofs.Paths.{child_there}
-use Rattle.nf_laws.proofs.Rows.{counters_up, kept_joined, child_folder, climb_kept, finds_none, folder_kept, folder_there, row_is, parent_there, node_kept, none_above, pieces_kept, root_kept, stamp}
+use Rattle.nf_laws.proofs.Rows.{row_joined, counters_up, kept_joined, child_folder, climb_kept, finds_none, folder_kept, folder_there, row_is, parent_there, node_kept, none_above, pieces_kept, root_kept, stamp}
 use Rattle.nf_laws.proofs.Upwards.{climbs_depth, deepest_among, depth_up}
 use Rattle.nf_laws.proofs.Walked.{AllPairs-append, walks_take}
 
@@ -47,11 +47,6 @@ same_sum f g (x ∷ xs) (y ∷ ys) long each =
       sum_by-cons g y ys,
       same_sum f g xs ys (omega arith) (λ k d e within. each (suc k) d e (omega arith)),
     )
-
--- a choice whose second is none
-or_none : {X : Type 0} (o : Option X) → option_or o None ≡ o
-or_none None = refl
-or_none (Some x) = refl
 
 -- ---- nodes that are there
 
@@ -75,10 +70,7 @@ module _ (t : Tables) (now : ℕ) (transfer : Transfer) (name : List ℕ) (rows 
   -- so a node whose number was given before is found as it was
   pub old_joined : (others : List NodeRow) (node : ℕ) → node < t.meta.next_node → node_row (others ++ rows) node ≡ node_row others node
   old_joined others node old =
-      let none : node_row rows node ≡ None =
-      finds_none (λ row. row.id == node) rows (λ k d within.
-      ne_eqb (get_or rows k d).id node (λ same. absurd (omega (arith, copies_numbered k d within)))) in
-      find-append (λ row. row.id == node) others rows ∙ ap (option_or (node_row others node)) none ∙ or_none (node_row others node)
+      row_joined others rows node (λ k d within same. absurd (omega (arith, copies_numbered k d within)))
 
   copies_rise : AllPairs (λ (a b : NodeRow). a.id < b.id) rows
   copies_rise i j d before within = omega (arith, (copy_at i d (omega arith)).id, (copy_at j d within).id)
@@ -115,7 +107,7 @@ module _ (t : Tables) (now : ℕ) (transfer : Transfer) (name : List ℕ) (rows 
         let same : above.node ≡ p.0 = same_Some above.node p.0 (sym above.at_index ∙ p.3) in
         let node : get_or walk (suc k) 0 ≡ copy.node = get_or_from_slice_get walk (suc k) copy.node 0 copy.at_index in
         let folder : get_or walk p.1 0 ≡ p.0 = get_or_from_slice_get walk p.1 p.0 0 p.3 in
-        let up : parent_of t.nodes copy.node ≡ Some p.0 = ap (option_and_then (λ row. folder_of row.place)) copy.there ∙ ap folder_of p.2 in
+        let up = parent_at t.nodes copy.node p.0 copy.of copy.there p.2 in
         let row = parent_there t copy.node p.0 copy.of sound copy.there up in
         let is : above.of ≡ row.0 = same_Some above.of row.0 (sym above.there ∙ ap (node_row t.nodes) same ∙ row.1) in
         record {
@@ -135,14 +127,12 @@ module _ (t : Tables) (now : ℕ) (transfer : Transfer) (name : List ℕ) (rows 
         × (climb others steps (t.meta.next_node + k) ≡ Some root)
     copy_climbs others root d there on zero k before within = absurd (omega arith)
     copy_climbs others root d there on (suc m) zero before within =
-        let up : parent_of others (t.meta.next_node + 0) ≡ Some transfer.folder =
-        ap (option_and_then (λ row. folder_of row.place)) (there 0 within) ∙ ap folder_of (copy_at 0 d within).placed.0 in
+        let up = parent_at others (t.meta.next_node + 0) transfer.folder (get_or rows 0 d) (there 0 within) (copy_at 0 d within).placed.0 in
         (suc (depth t.nodes transfer.folder), omega arith, ap (option_and_then (climb others (depth t.nodes transfer.folder))) up ∙ on)
     copy_climbs others root d there on (suc m) (suc k) before within =
         let c = copy_in k d within in
         let rest = copy_climbs others root d there on m c.at (omega (arith, c.before)) (omega (arith, c.before)) in
-        let up : parent_of others (t.meta.next_node + suc k) ≡ Some (t.meta.next_node + c.at) =
-        ap (option_and_then (λ row. folder_of row.place)) (there (suc k) within) ∙ ap folder_of c.place in
+        let up = parent_at others (t.meta.next_node + suc k) (t.meta.next_node + c.at) (get_or rows (suc k) d) (there (suc k) within) c.place in
         (suc rest.0, omega (arith, rest.1, c.deeper), ap (option_and_then (climb others rest.0)) up ∙ rest.2)
 
 -- ---- the tables with the copies

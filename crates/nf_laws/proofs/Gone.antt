@@ -2,7 +2,7 @@
 use Rattle.std.proofs.Common.{ℕ, suc, ◌==◌, ◌≡◌, ◌<◌, ◌≤◌, Bool, true, false, not, List, Option, None, Some, length, refl, sym, ap, subst, ◌∙◌, arith, le_refl}
 use Rattle.std.specs.List.{All}
 use Rattle.std.specs.Option.{option_and_then, option_map_or}
-use Rattle.std.proofs.lemmas.Bool.{not_from_false, both_ways, eqb-true, false_from_ne_true, false≢true, not-true}
+use Rattle.std.proofs.lemmas.Bool.{ne_eqb, not_from_false, both_ways, eqb-true, false_from_ne_true, false≢true, not-true}
 use Rattle.std.proofs.lemmas.List.Elements.{All-filter, All-weaker, filter_passes}
 use Rattle.std.proofs.lemmas.List.Filters.{length-filter_both, sum_by-filter_both}
 use Rattle.std.proofs.lemmas.List.Kept.{AllPairs-filter}
@@ -17,9 +17,9 @@ use Rattle.nf_words.proofs.Known.{KnownTransfer, child_parent}
 use Rattle.nf_words.specs.Changes.{cleared, removed}
 use Rattle.nf_words.specs.Sound.{AreApart, AreSound, HasRoot, IsNodeSound, IsPlaceSound}
 use Rattle.nf_words.specs.declared.request.Transfer.{Transfer}
-use Rattle.nf_laws.proofs.Climbs.{climb_those, climb_under, climbs_no_further, node_row_each, row_of_those, those, under_climb}
+use Rattle.nf_laws.proofs.Climbs.{parent_at, climb_those, climb_under, climbs_no_further, node_row_each, row_of_those, those, under_climb}
 use Rattle.nf_laws.proofs.Paths.{child_is, child_there}
-use Rattle.nf_laws.proofs.Rows.{found_is, kept_row, node_still, root_still}
+use Rattle.nf_laws.proofs.Rows.{finds_none, found_is, kept_row, node_still, root_still}
 use Rattle.nf_laws.proofs.Upwards.{inside_no_root, never_climbs, no_rings}
 use Rattle.nf_laws.specs.Transfers.{is_replaced}
 
@@ -37,7 +37,7 @@ place_left : (t : Tables) (test : ℕ → Bool) (row : NodeRow) → IsClosed t.n
     → (place : Place) → row.place ≡ place → IsPlaceSound t row place → IsPlaceSound (with_those t test) row place
 place_left t test row closed there passes Root is h = h
 place_left t test row closed there passes (Inside folder) is h =
-    let above : parent_of t.nodes row.id ≡ Some folder = ap (option_and_then (λ row. folder_of row.place)) there ∙ ap folder_of is in
+    let above = parent_at t.nodes row.id folder row there is in
     let e = row_of_those test t.nodes folder (closed row.id folder above passes) in
     (rw e h.0, rw e h.1)
 place_left t test row closed there passes Trash is h = h
@@ -121,15 +121,11 @@ row_cleared rows (Some top) node stays = row_of_those (is_left rows top) rows no
 pub row_gone : (rows : List NodeRow) (replaced : Option ℕ) (node : ℕ) → is_replaced rows replaced node ≡ true
     → node_row (cleared rows replaced) node ≡ None
 row_gone rows None node goes = absurd (false≢true goes)
-row_gone rows (Some top) node goes = here (node_row (cleared rows (Some top)) node) refl
-  where
-    here : (o : Option NodeRow) → node_row (cleared rows (Some top)) node ≡ o → o ≡ None
-    here None e = refl
-    here (Some row) e =
-        let h = found_is (λ (row : NodeRow). is_left rows top row.id ≡ true) (λ row. row.id == node) (cleared rows (Some top)) row
-        (filter_passes (λ row. is_left rows top row.id) rows) e in
-        let left = subst (λ (n : ℕ). is_left rows top n ≡ true) (eqb-true row.id node h.0) h.1 in
-        absurd (both_ways (is_under rows node top) (not-true (is_under rows node top) left) goes)
+row_gone rows (Some top) node goes =
+    finds_none (λ row. row.id == node) (cleared rows (Some top)) (λ k d within.
+    ne_eqb _ node (λ same.
+    let left = subst (λ (n : ℕ). is_left rows top n ≡ true) same (filter_passes (λ row. is_left rows top row.id) rows k d within) in
+    both_ways (is_under rows node top) (not-true (is_under rows node top) left) goes))
 
 -- a node that is there hasn't to go, and was there
 pub kept_cleared : (rows : List NodeRow) (replaced : Option ℕ) (node : ℕ) (row : NodeRow) → node_row (cleared rows replaced) node ≡ Some row

@@ -1,5 +1,5 @@
 -- Who owns a node that is there owned it before.
-use Rattle.std.proofs.Common.{ℕ, ◌==◌, ◌≡◌, ◌<◌, ◌≤◌, Bool, true, false, List, [], ◌∷◌, Option, None, Some, option_map, if◌then◌else◌, refl, sym, ap, subst, ◌∙◌, arith}
+use Rattle.std.proofs.Common.{zero, suc, ◌≢◌, ℕ, ◌==◌, ◌≡◌, ◌<◌, ◌≤◌, Bool, true, false, List, [], ◌∷◌, Option, None, Some, option_map, if◌then◌else◌, refl, sym, ap, subst, ◌∙◌, arith}
 use Rattle.std.specs.List.{All}
 use Rattle.std.specs.Option.{option_or}
 use Rattle.std.proofs.lemmas.Bool.{eqb-true}
@@ -12,7 +12,7 @@ use Rattle.nf_laws.proofs.Copied.{copies_numbered, old_joined}
 use Rattle.nf_laws.proofs.Gone.{kept_cleared}
 use Rattle.nf_laws.proofs.Mirrored.{mirrored}
 use Rattle.nf_laws.proofs.OneRow.{KeepsId, row_with}
-use Rattle.nf_laws.proofs.Rows.{stamp, stamped_has}
+use Rattle.nf_laws.proofs.Rows.{row_joined, stamp, stamped_has}
 use Rattle.nf_words.proofs.Known.{Known, KnownCopies, KnownNew}
 use Rattle.nf_words.specs.Changes.{altered, changed, cleared, created, joined, replaced, told, transferred}
 use Rattle.nf_words.specs.Sound.{AreSound}
@@ -29,15 +29,12 @@ KeepsOwners t made = (node : ℕ) (row : NodeRow) → node < t.meta.next_node �
 
 new_owners : (t : Tables) (now : ℕ) (new : NodeRow) (blob : Option ℕ) → KnownNew t now new blob → KeepsOwners t (created t new blob)
 new_owners t now new blob known node row given there =
-    here (node_row t.nodes node) (new.id == node) refl refl (sym (find-append (λ row. row.id == node) t.nodes (new ∷ [])) ∙ there)
+    let id : new.id ≡ t.meta.next_node = ap (λ (r : NodeRow). r.id) known.is_new in
+    (row, sym (row_joined t.nodes (new ∷ []) node (λ k d within. others id k d within)) ∙ there, refl)
   where
-    here : (o : Option NodeRow) (a : Bool) → node_row t.nodes node ≡ o → (new.id == node) ≡ a
-        → option_or o (node_row (new ∷ []) node) ≡ Some row → WasOf t.nodes node row
-    here None true e f is =
-        let id : new.id ≡ t.meta.next_node = ap (λ (r : NodeRow). r.id) known.is_new in
-        absurd (omega (arith, eqb-true new.id node f))
-    here None false e f is = absurd (none-some row (simp f at is))
-    here (Some old) a e f is = (old, e, ap (λ (r : NodeRow). r.owner) (same_Some row old (sym is)))
+    others : new.id ≡ t.meta.next_node → All (λ (row : NodeRow). row.id ≢ node) (new ∷ [])
+    others id zero d within same = omega (arith, id, given)
+    others id (suc k) d within same = absurd (omega arith)
 
 with_owners : (t made : Tables) (node : ℕ) (change : NodeRow → NodeRow) → KeepsId change → ((row : NodeRow) → (change row).owner ≡ row.owner)
     → made.nodes ≡ with_node t.nodes node change → KeepsOwners t made

@@ -1,9 +1,9 @@
 -- Rows that may change while each node keeps its owner, place, name and kind.
-use Rattle.std.proofs.Common.{ℕ, suc, zero, ◌==◌, ◌≡◌, ◌≤◌, Bool, true, false, List, [], ◌∷◌, ◌++◌, Option, None, Some, find, length, option_map, refl, sym, ap, subst, ◌∙◌, arith, le_refl}
+use Rattle.std.proofs.Common.{ℕ, suc, zero, ◌==◌, ◌≡◌, ◌≢◌, ◌≤◌, Bool, true, false, List, [], ◌∷◌, ◌++◌, Option, None, Some, find, length, option_map, refl, sym, ap, subst, ◌∙◌, arith, le_refl}
 use Rattle.std.specs.Prelude.{is_some}
 use Rattle.std.specs.List.{All}
 use Rattle.std.specs.Option.{IfSome, option_and_then, option_map_or, option_or}
-use Rattle.std.proofs.lemmas.Bool.{false≢true, eqb-true}
+use Rattle.std.proofs.lemmas.Bool.{ne_eqb, false≢true, eqb-true}
 use Rattle.std.proofs.lemmas.List.Elements.{All-cons, All-head, All-nil, All-tail, All-weaker}
 use Rattle.std.proofs.lemmas.List.Folds.{find-append}
 use Rattle.std.proofs.lemmas.Option.{none-some, option_and_then_some, same_Some}
@@ -65,6 +65,17 @@ each_fails {X = X} test (x ∷ xs) none = here (test x) refl none (λ none. each
 pub no_value : {X : Type 0} (f : X → ℕ) (o : Option X) → option_map f o ≡ None → o ≡ None
 no_value f None none = refl
 no_value f (Some x) none = absurd (none-some (f x) (sym none))
+
+pub or_none : {X : Type 0} (o : Option X) → option_or o None ≡ o
+or_none None = refl
+or_none (Some x) = refl
+
+-- a node's row is the same with rows of other nodes
+pub row_joined : (rows more : List NodeRow) (node : ℕ) → All (λ (row : NodeRow). row.id ≢ node) more
+    → node_row (rows ++ more) node ≡ node_row rows node
+row_joined rows more node others =
+    let none : node_row more node ≡ None = finds_none (λ row. row.id == node) more (λ k d within. ne_eqb _ node (others k d within)) in
+    find-append (λ row. row.id == node) rows more ∙ ap (option_or (node_row rows node)) none ∙ or_none (node_row rows node)
 
 -- ---- what is there
 

@@ -3,7 +3,7 @@ use Rattle.std.proofs.Common.{ℕ, zero, suc, ◌==◌, ◌&&◌, ◌≡◌, ◌
 use Rattle.std.specs.Prelude.{is_some}
 use Rattle.std.specs.List.{All}
 use Rattle.std.specs.Option.{option_map_or}
-use Rattle.std.proofs.lemmas.Bool.{and_from, and_parts, both_ways, eq-eqb, eqb-true, false≢true}
+use Rattle.std.proofs.lemmas.Bool.{cond_both, and_from, and_parts, both_ways, eq-eqb, eqb-true, false≢true}
 use Rattle.std.proofs.lemmas.List.Elements.{All-append, All-cons, All-map, All-nil, All-weaker}
 use Rattle.std.proofs.Math.Seq.{get_or-append_seam}
 use Rattle.std.proofs.lemmas.Option.{slice_get-get_or}
@@ -30,6 +30,7 @@ use Rattle.nf_laws.proofs.OneRow.{KeepsId, row_itself}
 use Rattle.nf_laws.proofs.Mirrored.{mirrored}
 use Rattle.nf_laws.proofs.Paths.{child_there, path_own}
 use Rattle.nf_laws.proofs.Puts.{AreNumbered, another, drops_for, drops_under, fewer, put_changed, put_new, puts_new, walk_there}
+use Rattle.nf_laws.proofs.Climbs.{holds_some}
 use Rattle.nf_laws.proofs.Rows.{row_id}
 use Rattle.nf_laws.specs.Tells.{ChangesTell}
 use Rattle.nf_words.proofs.Known.{Known, KnownContent, KnownCopies, KnownGone, KnownNew, KnownPath, KnownTransfer, known_change}
@@ -71,11 +72,9 @@ same_itself meta =
     itself n = eq-eqb n n refl
 
 put_meta : (t : Tables) (meta : MetaRow) → put_all t (new_meta t.meta meta) ≡ record t { meta = meta }
-put_meta t meta = here (same_meta t.meta meta) refl
-  where
-    here : (a : Bool) → same_meta t.meta meta ≡ a → put_all t (if a then [] else Put (rows.Meta meta) ∷ []) ≡ record t { meta = meta }
-    here true e = ap (λ (m : MetaRow). record t { meta = m }) (meta_same t.meta meta e)
-    here false e = refl
+put_meta t meta =
+    cond_both (same_meta t.meta meta) [] (Put (rows.Meta meta) ∷ []) (λ changes. put_all t changes ≡ record t { meta = meta })
+    (λ e. ap (λ (m : MetaRow). record t { meta = m }) (meta_same t.meta meta e)) (λ e. refl)
 
 -- ---- what is told of an act
 
@@ -92,15 +91,11 @@ nothing_told : (t : Tables) → Tell t t []
 nothing_told t = record { put = refl; differ = All-nil (Differs t); none = λ same. refl }
 
 meta_differs : (t : Tables) (meta : MetaRow) → All (Differs t) (new_meta t.meta meta)
-meta_differs t meta = here (same_meta t.meta meta) refl
-  where
-    here : (a : Bool) → same_meta t.meta meta ≡ a → All (Differs t) (if a then [] else Put (rows.Meta meta) ∷ [])
-    here true e = All-nil (Differs t)
-    here false e =
-        All-cons (Differs t) (Put (rows.Meta meta)) []
-        (λ same. both_ways (same_meta t.meta meta) e
-        (ap (same_meta t.meta) (ap (λ (u : Tables). u.meta) same) ∙ same_itself t.meta))
-        (All-nil (Differs t))
+meta_differs t meta =
+    cond_both (same_meta t.meta meta) [] (Put (rows.Meta meta) ∷ []) (All (Differs t)) (λ e. All-nil (Differs t))
+    (λ e. All-cons (Differs t) (Put (rows.Meta meta)) []
+    (λ same. both_ways (same_meta t.meta meta) e (ap (same_meta t.meta) (ap (λ (u : Tables). u.meta) same) ∙ same_itself t.meta))
+    (All-nil (Differs t)))
 
 -- where the changes of nodes make other nodes
 nodes_told : (t : Tables) (now : ℕ) (meta : MetaRow) (nodes : List NodeRow) (changes : List Change)
@@ -167,31 +162,22 @@ filled_other now content row other = λ same.
 
 over_told : (t : Tables) (now node : ℕ) (content : List Piece) (blob : Option ℕ) → AreSound t → KnownContent t node content blob
     → TellsAct t now (allowed.StoreOver node content blob)
-over_told t now node content blob sound known = here (node_row t.nodes node) refl known.file
-  where
-    after : Tables
-    after = replaced t now node content blob
-
-    here : (o : Option NodeRow) → node_row t.nodes node ≡ o → option_map_or (λ row. not (is_folder_kind row.kind)) o false ≡ true
-        → Tell t (stamped t after now (refilled o now content)) (with_meta t.meta (record after.meta { last = now }) (refilled o now content))
-    here None e file = absurd (false≢true file)
-    here (Some row) e file = put (content_eq row.content content && row.changed == now) refl
-      where
-        new : Change
-        new = Put (rows.Node (filled content now row))
-
-        put : (a : Bool) → (content_eq row.content content && row.changed == now) ≡ a
-            → Tell t (stamped t after now (if a then [] else new ∷ []))
-            (with_meta t.meta (record after.meta { last = now }) (if a then [] else new ∷ []))
-        put true same = nothing_told t
-        put false other =
-            let differs = filled_other now content row other in
-            nodes_told t now after.meta after.nodes (new ∷ [])
-            (λ rest. ap (λ (all : List NodeRow). put_all (record t { nodes = all }) rest)
-            (put_changed t.nodes node (filled content now) row refl sound.rising e))
-            (All-cons (Differs t) new [] (changed_differs t node (filled content now) row (λ row. refl) sound e differs) (All-nil (Differs t)))
-            (another t.nodes after.nodes node row (filled content now row) e
-            (row_itself t.nodes node (filled content now) (λ row. refl) ∙ ap (option_map (filled content now)) e) differs)
+over_told t now node content blob sound known =
+    let file = holds_some (λ row. not (is_folder_kind row.kind)) (node_row t.nodes node) known.file in
+    let row : NodeRow = file.0 in
+    let after : Tables = replaced t now node content blob in
+    let new : Change = Put (rows.Node (filled content now row)) in
+    let Tells : List Change → Type 0 = λ changes. Tell t (stamped t after now changes) (with_meta t.meta (record after.meta { last = now }) changes) in
+    subst (λ (o : Option NodeRow). Tells (refilled o now content)) (sym file.1)
+    (cond_both (content_eq row.content content && row.changed == now) [] (new ∷ []) Tells (λ same. nothing_told t)
+    (λ other.
+    let differs = filled_other now content row other in
+    nodes_told t now after.meta after.nodes (new ∷ [])
+    (λ rest. ap (λ (all : List NodeRow). put_all (record t { nodes = all }) rest)
+    (put_changed t.nodes node (filled content now) row refl sound.rising file.1))
+    (All-cons (Differs t) new [] (changed_differs t node (filled content now) row (λ row. refl) sound file.1 differs) (All-nil (Differs t)))
+    (another t.nodes after.nodes node row (filled content now row) file.1
+    (row_itself t.nodes node (filled content now) (λ row. refl) ∙ ap (option_map (filled content now)) file.1) differs)))
 
 -- ---- nodes that go
 

@@ -11,14 +11,14 @@ use Rattle.nf_defs.proofs.Walks.{climbs_walk, IsChildOf, children_are, inside_of
 use Rattle.nf_defs.specs.Tables.{Tables}
 use Rattle.nf_defs.specs.Tree.{child_of, climb, folder_of, is_under, node_row, parent_of, by_name, children_of, is_in, relinked, walk_of, walk_within, with_node}
 use Rattle.nf_defs.specs.declared.Found.TheVariants.{At}
-use Rattle.nf_laws.proofs.Climbs.{climb_on, climb_under, under_climb, node_row_each}
+use Rattle.nf_laws.proofs.Climbs.{parent_at, climb_on, climb_under, under_climb, node_row_each}
 use Rattle.nf_laws.proofs.Copied.{copies_there, old_joined}
 use Rattle.nf_laws.proofs.Entries.{step_changed}
 use Rattle.nf_laws.proofs.Gone.{row_cleared, row_gone}
 use Rattle.nf_laws.proofs.Mirrored.{mirrored}
 use Rattle.nf_laws.proofs.Paths.{IsOf, path_own}
 use Rattle.std.specs.Prelude.{is_some}
-use Rattle.nf_laws.proofs.Climbs.{some_there}
+use Rattle.nf_laws.proofs.Climbs.{parent_at, some_there}
 use Rattle.nf_laws.proofs.Puts.{under_there}
 use Rattle.nf_laws.proofs.Rows.{row_is, stamped_nodes}
 use Rattle.nf_laws.specs.Transfers.{AreCopied, CopiesMirror, Mirrors, is_replaced, IsMoved, MovesKeep}
@@ -166,9 +166,7 @@ under_apart : (t : Tables) (j node : ℕ) (row : NodeRow) (top : ℕ) → AreSou
     → is_in node row ≡ false
 under_apart t j node row top sound under there =
     false_from_ne_true (is_in node row) (λ is.
-    let above : parent_of t.nodes top ≡ Some node =
-    ap (option_and_then (λ row. folder_of row.place)) there ∙ ap folder_of (inside_of node row.place is) in
-    no_ring t j top sound (rw above under))
+    no_ring t j top sound (rw (parent_at t.nodes top node row there (inside_of node row.place is)) under))
 
 -- ---- the rows in a folder under the moved node
 
@@ -182,8 +180,7 @@ in_cleared t who transfer name j folder sound known under = here transfer.replac
     none_goes top e k d within goes =
         let row : NodeRow = get_or t.nodes k d in
         false_from_ne_true (is_in folder row) (λ is.
-        let above : parent_of t.nodes row.id ≡ Some folder =
-        ap (option_and_then (λ row. folder_of row.place)) (node_row_each t.nodes sound.rising k d within) ∙ ap folder_of (inside_of folder row.place is) in
+        let above = parent_at t.nodes row.id folder row (node_row_each t.nodes sound.rising k d within) (inside_of folder row.place is) in
         let up : climb t.nodes (suc j) row.id ≡ Some transfer.node = rw above under in
         let stays = source_stays t who transfer name row.id sound known (climbs_is_under (suc j) t row.id transfer.node sound up) in
         let still : is_under t.nodes row.id top ≡ false = rw e at stays in
@@ -227,7 +224,7 @@ same_walk (suc k) t who transfer name j folder sound known under =
     let all : All (λ (child : ℕ). walk_within k after child ≡ walk_within k t.nodes child) (children_of t.nodes folder) =
     All-weaker (IsChildOf t.nodes folder) (λ (child : ℕ). walk_within k after child ≡ walk_within k t.nodes child)
     (λ child is.
-    let above : parent_of t.nodes child ≡ Some folder = ap (option_and_then (λ (row : NodeRow). folder_of row.place)) is.there ∙ ap folder_of is.place in
+    let above = parent_at t.nodes child folder is.row is.there is.place in
     same_walk k t who transfer name (suc j) child sound known (rw above under))
     (children_of t.nodes folder) (children_are t.nodes folder sound.rising) in
     ap (λ (children : List ℕ). folder ∷ flat_map (walk_within k after) children) (same_children t who transfer name j folder sound known under)

@@ -2,7 +2,7 @@
 use Rattle.std.proofs.Common.{ℕ, zero, suc, ◌+◌, ◌-◌, ◌==◌, ◌<◌, ◌≡◌, ◌≢◌, Bool, true, false, List, [], ◌∷◌, ◌++◌, Some, get_or, map, filter, inl, inr, refl, sym, ap, subst, ◌∙◌, arith}
 use Rattle.std.specs.List.{All, AllPairs, Contains, flat_map, list_any}
 use Rattle.std.specs.Option.{option_and_then}
-use Rattle.std.proofs.lemmas.Bool.{cases_order, eq-eqb, eqb-true, false≢true}
+use Rattle.std.proofs.lemmas.Bool.{both_ways, cases_Bool, cases_order, false_from_ne_true, eq-eqb, eqb-true, false≢true}
 use Rattle.std.proofs.lemmas.List.Elements.{All-append, All-contains, All-contains_itself, All-head, All-map, All-tail}
 use Rattle.std.proofs.lemmas.List.Folds.{Any-from_list_any, list_any_at}
 use Rattle.std.proofs.lemmas.List.Kept.{AllPairs-cons, AllPairs-filter}
@@ -12,7 +12,7 @@ use Rattle.nf_defs.proofs.ByName.{AllPairs-by_name}
 use Rattle.nf_defs.proofs.Walks.{Contains-from_flat, children_are, climbs_walk, walk_climbs, walk_within_climbs}
 use Rattle.nf_defs.specs.Tables.{Tables}
 use Rattle.nf_defs.specs.Tree.{by_name, children_of, climb, folder_of, is_in, is_under, parent_of, walk_of, walk_within}
-use Rattle.nf_laws.proofs.Climbs.{climb_on, climb_under, under_climb}
+use Rattle.nf_laws.proofs.Climbs.{parent_at, climb_on, climb_under, under_climb}
 use Rattle.nf_laws.proofs.Upwards.{climb_short, climbed, depth_climb, derived}
 use Rattle.nf_laws.specs.Tree.{WalksTakeAllUnder}
 use Rattle.nf_words.specs.Sound.{AreSound}
@@ -35,21 +35,18 @@ under_walk t top node is = let c = under_climb t.nodes node top is in climbs_wal
 -- the test of a walk is that of its top
 pub walk_among : (t : Tables) (top node : ℕ) → AreSound t
     → list_any (λ other. other == node) (walk_of t.nodes top) ≡ is_under t.nodes node top
-walk_among t top node sound = here (is_under t.nodes node top) (list_any (λ other. other == node) (walk_of t.nodes top)) refl refl
-  where
-    here : (a b : Bool) → is_under t.nodes node top ≡ a → list_any (λ other. other == node) (walk_of t.nodes top) ≡ b → b ≡ a
-    here true true e f = refl
-    here true false e f =
-        let h = under_walk t top node e in
-        let any = list_any_at (λ other. other == node) (walk_of t.nodes top) h.0 node h.1 (eq-eqb _ node h.2) in
-        absurd (false≢true (sym f ∙ any))
-    here false true e f =
-        let h = Any-from_list_any (λ other. other == node) (walk_of t.nodes top) f in
-        let has : Contains (walk_of t.nodes top) node =
-        subst (λ (n : ℕ). Contains (walk_of t.nodes top) n) (eqb-true h.1 node h.4) (h.0, h.2, h.3) in
-        let is = walk_under t top node sound has in
-        absurd (false≢true (sym e ∙ is))
-    here false false e f = refl
+walk_among t top node sound =
+    elim (cases_Bool (is_under t.nodes node top)) [
+      | inl under ↦
+          (let h = under_walk t top node under in
+          list_any_at (λ other. other == node) (walk_of t.nodes top) h.0 node h.1 (eq-eqb _ node h.2) ∙ sym under)
+      | inr outside ↦
+          false_from_ne_true (list_any (λ other. other == node) (walk_of t.nodes top)) (λ any.
+          let h = Any-from_list_any (λ other. other == node) (walk_of t.nodes top) any in
+          let has : Contains (walk_of t.nodes top) node =
+          subst (λ (n : ℕ). Contains (walk_of t.nodes top) n) (eqb-true h.1 node h.4) (h.0, h.2, h.3) in
+          both_ways (is_under t.nodes node top) outside (walk_under t top node sound has)) ∙ sym outside
+    ]
 
 -- ---- none twice
 
@@ -105,7 +102,7 @@ children_distinct t folder sound =
 above : (t : Tables) (folder : ℕ) → AreSound t → All (λ (child : ℕ). parent_of t.nodes child ≡ Some folder) (children_of t.nodes folder)
 above t folder sound k d within =
     let is = children_are t.nodes folder sound.rising k d within in
-    ap (option_and_then (λ (row : NodeRow). folder_of row.place)) is.there ∙ ap folder_of is.place
+    parent_at t.nodes _ folder is.row is.there is.place
 
 -- a step more from a child is at the folder
 climb_folder : (t : Tables) (m folder child node : ℕ) → parent_of t.nodes child ≡ Some folder → climb t.nodes m node ≡ Some child
