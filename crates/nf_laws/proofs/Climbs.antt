@@ -3,7 +3,7 @@ use Rattle.std.proofs.Common.{ℕ, suc, zero, ◌+◌, ◌==◌, ◌≡◌, ◌<
 use Rattle.std.specs.Prelude.{is_some}
 use Rattle.std.specs.List.{All, AllPairs}
 use Rattle.std.specs.Option.{option_and_then, option_map_or}
-use Rattle.std.proofs.lemmas.Bool.{false≢true, eqb-true, eq-eqb, or_cases, or_left, or_right}
+use Rattle.std.proofs.lemmas.Bool.{cond_both, false≢true, eqb-true, eq-eqb, or_cases, or_left, or_right}
 use Rattle.std.proofs.lemmas.Option.{none-some, option_and_then_some, same_Some}
 use Rattle.nf_base.specs.declared.rows.NodeRow.{NodeRow}
 use Rattle.nf_base.specs.declared.rows.Place.TheVariants.{Inside}
@@ -31,12 +31,10 @@ node_row_each = known.node_row_each
 pub row_there : (rows : List NodeRow) → All (λ (row : NodeRow). is_some (node_row rows row.id) ≡ true) rows
 row_there [] k d within = absurd (omega arith)
 row_there (x ∷ rows) zero d within = rw (eq-eqb x.id x.id refl)
-row_there (x ∷ rows) (suc k) d within = here (x.id == (get_or rows k d).id) refl (row_there rows k d (omega arith))
-  where
-    here : (a : Bool) → (x.id == (get_or rows k d).id) ≡ a → is_some (node_row rows (get_or rows k d).id) ≡ true
-        → is_some (node_row (x ∷ rows) (get_or rows k d).id) ≡ true
-    here true e rest = simp e
-    here false e rest = simp e rest
+row_there (x ∷ rows) (suc k) d within =
+    let node = (get_or rows k d).id in
+    cond_both (x.id == node) (Some x) (node_row rows node) (λ (o : Option NodeRow). is_some o ≡ true) (λ e. refl)
+    (λ e. row_there rows k d (omega arith))
 
 pub parent_at : (rows : List NodeRow) (node folder : ℕ) (row : NodeRow) → node_row rows node ≡ Some row → row.place ≡ Inside folder
     → parent_of rows node ≡ Some folder

@@ -2,7 +2,7 @@
 use Rattle.std.proofs.Common.{ℕ, suc, zero, ◌+◌, ◌<◌, ◌==◌, ◌≡◌, ◌⊎◌, ◌≤◌, Bool, true, false, List, [], ◌∷◌, Option, None, Some, filter, option_map, if◌then◌else◌, length, get_or, refl, sym, ap, subst, ◌∙◌, inl, inr, arith}
 use Rattle.std.specs.List.{All, AllPairs}
 use Rattle.std.specs.Option.{option_map_or}
-use Rattle.std.proofs.lemmas.Bool.{eq-eqb, eqb-true, false≢true, ne_eqb}
+use Rattle.std.proofs.lemmas.Bool.{cond_both, eq-eqb, eqb-true, false≢true, ne_eqb}
 use Rattle.std.proofs.lemmas.List.Sums.{sum_by-cons}
 use Rattle.nf_base.specs.declared.rows.NodeRow.{NodeRow}
 use Rattle.nf_defs.specs.Tree.{node_row, piece_count, with_node}
@@ -14,11 +14,7 @@ KeepsId change = (row : NodeRow) → (change row).id ≡ row.id
 -- the row of a node: the old one, changed where it is that node's
 pub row_with : (rows : List NodeRow) (node : ℕ) (change : NodeRow → NodeRow) → KeepsId change → (other : ℕ)
     → node_row (with_node rows node change) other ≡ (if other == node then option_map change (node_row rows other) else node_row rows other)
-row_with [] node change keeps other = here (other == node)
-  where
-    here : (a : Bool) → ◌≡◌ {A = Option NodeRow} None (if a then None else None)
-    here true = refl
-    here false = refl
+row_with [] node change keeps other = cond_both (other == node) None None (λ (o : Option NodeRow). None ≡ o) (λ e. refl) (λ e. refl)
 row_with (row ∷ rows) node change keeps other =
     here (row.id == node) (row.id == other) refl refl (row_with rows node change keeps other)
   where
@@ -80,12 +76,9 @@ same_either of rows node change old row keeps (inr h) = ap of h.1 ∙ keeps old
 
 pub length_with : (rows : List NodeRow) (node : ℕ) (change : NodeRow → NodeRow) → length (with_node rows node change) ≡ length rows
 length_with [] node change = refl
-length_with (row ∷ rows) node change = here (row.id == node) refl (length_with rows node change)
-  where
-    here : (a : Bool) → (row.id == node) ≡ a → length (with_node rows node change) ≡ length rows
-        → length (with_node (row ∷ rows) node change) ≡ length (row ∷ rows)
-    here true e rest = simp e
-    here false e rest = simp e (omega (arith, rest))
+length_with (row ∷ rows) node change =
+    cond_both (row.id == node) (change row ∷ rows) (row ∷ with_node rows node change) (λ made. length made ≡ length (row ∷ rows))
+    (λ e. refl) (λ e. ap suc (length_with rows node change))
 
 pieces_of : (row : NodeRow) (rows : List NodeRow) → piece_count (row ∷ rows) ≡ length row.content + piece_count rows
 pieces_of = sum_by-cons (λ row. length row.content)
@@ -95,12 +88,11 @@ pub pieces_with : (rows : List NodeRow) (node : ℕ) (change : NodeRow → NodeR
     → ((row : NodeRow) → length (change row).content ≤ more + length row.content)
     → piece_count (with_node rows node change) ≤ more + piece_count rows
 pieces_with [] node change more few = omega arith
-pieces_with (row ∷ rows) node change more few = here (row.id == node) refl (pieces_with rows node change more few)
-  where
-    here : (a : Bool) → (row.id == node) ≡ a → piece_count (with_node rows node change) ≤ more + piece_count rows
-        → piece_count (with_node (row ∷ rows) node change) ≤ more + piece_count (row ∷ rows)
-    here true e rest = simp e (omega (arith, few row, pieces_of (change row) rows, pieces_of row rows))
-    here false e rest = simp e (omega (arith, rest, pieces_of row (with_node rows node change), pieces_of row rows))
+pieces_with (row ∷ rows) node change more few =
+    cond_both (row.id == node) (change row ∷ rows) (row ∷ with_node rows node change)
+    (λ made. piece_count made ≤ more + piece_count (row ∷ rows))
+    (λ e. omega (arith, few row, pieces_of (change row) rows, pieces_of row rows))
+    (λ e. omega (arith, pieces_with rows node change more few, pieces_of row (with_node rows node change), pieces_of row rows))
 
 -- what a change of a row keeps
 pub with_all : (P : NodeRow → Type 0) (rows : List NodeRow) (node : ℕ) (change : NodeRow → NodeRow)
@@ -144,9 +136,10 @@ pub value_with : {X : Type 0} (of : NodeRow → X) (none : X) (rows : List NodeR
     → ((row : NodeRow) → of (change row) ≡ of row) → (other : ℕ)
     → option_map_or of (node_row (with_node rows node change) other) none ≡ option_map_or of (node_row rows other) none
 value_with {X = X} of none rows node change keeps same other =
-    ap (λ (o : Option NodeRow). option_map_or of o none) (row_with rows node change keeps other) ∙ here (other == node) (node_row rows other)
+    ap (λ (o : Option NodeRow). option_map_or of o none) (row_with rows node change keeps other)
+    ∙ cond_both (other == node) (option_map change (node_row rows other)) (node_row rows other)
+    (λ o. option_map_or of o none ≡ option_map_or of (node_row rows other) none) (λ e. changed (node_row rows other)) (λ e. refl)
   where
-    here : (a : Bool) (o : Option NodeRow) → option_map_or of (if a then option_map change o else o) none ≡ option_map_or of o none
-    here true None = refl
-    here true (Some row) = same row
-    here false o = refl
+    changed : (o : Option NodeRow) → option_map_or of (option_map change o) none ≡ option_map_or of o none
+    changed None = refl
+    changed (Some row) = same row

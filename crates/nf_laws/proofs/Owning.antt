@@ -3,7 +3,7 @@ use Rattle.std.proofs.Common.{ℕ, suc, zero, ◌==◌, ◌≡◌, ◌≢◌, �
 use Rattle.std.specs.Prelude.{IsSome, is_some}
 use Rattle.std.specs.List.{All, filter_map}
 use Rattle.std.specs.Option.{option_and_then, option_map_or}
-use Rattle.std.proofs.lemmas.Bool.{eq-eqb, eqb-true, not-false}
+use Rattle.std.proofs.lemmas.Bool.{cond_both, eq-eqb, eqb-true, not-false}
 use Rattle.std.proofs.lemmas.List.{append-nil}
 use Rattle.std.proofs.lemmas.List.Elements.{All-cons, All-filter, All-head, All-map, All-nil, All-tail, filter-append}
 use Rattle.std.proofs.lemmas.Option.{option_and_then_some, same_Some}
@@ -81,27 +81,23 @@ got_listing decision listing is = absurd (cc)
 -- a GET gives that of the node at its place
 get_at : (t : Tables) (place : Found) (node : ℕ) (content : List Piece) → served t (node_found place) ≡ allowed.Get node content
     → (place ≡ At node) × (content ≡ content_of t.nodes node)
-get_at t (At other) node content is = here (is_folder t.nodes other) is
-  where
-    here : (folder : Bool) → (if folder then allowed.List (listing_of t other) else allowed.Get other (content_of t.nodes other)) ≡ allowed.Get node content
-        → (At other ≡ At node) × (content ≡ content_of t.nodes node)
-    here true is = absurd (cc)
-    here false is =
-        let same : other ≡ node = cc in
-        let sent : content_of t.nodes other ≡ content = cc in (ap At same, sym sent ∙ ap (content_of t.nodes) same)
+get_at t (At other) node content is =
+    cond_both (is_folder t.nodes other) (allowed.List (listing_of t other)) (allowed.Get other (content_of t.nodes other))
+    (λ act. act ≡ allowed.Get node content → (At other ≡ At node) × (content ≡ content_of t.nodes node)) (λ folder is. absurd (cc))
+    (λ file is.
+    let same : other ≡ node = cc in
+    let sent : content_of t.nodes other ≡ content = cc in (ap At same, sym sent ∙ ap (content_of t.nodes) same)) is
 get_at t (Free folder) node content is = absurd (cc)
 get_at t (Missing depth) node content is = absurd (cc)
 
 -- or lists the folder that is there
 list_at : (t : Tables) (place : Found) (listing : List ListingLine) → served t (node_found place) ≡ allowed.List listing
     → (folder : ℕ) × (place ≡ At folder) × (is_folder t.nodes folder ≡ true) × (listing ≡ listing_of t folder)
-list_at t (At other) listing is = here (is_folder t.nodes other) refl is
-  where
-    here : (folder : Bool) → is_folder t.nodes other ≡ folder
-        → (if folder then allowed.List (listing_of t other) else allowed.Get other (content_of t.nodes other)) ≡ allowed.List listing
-        → (folder : ℕ) × (At other ≡ At folder) × (is_folder t.nodes folder ≡ true) × (listing ≡ listing_of t folder)
-    here true e is = let same : listing_of t other ≡ listing = cc in (other, refl, e, sym same)
-    here false e is = absurd (cc)
+list_at t (At other) listing is =
+    cond_both (is_folder t.nodes other) (allowed.List (listing_of t other)) (allowed.Get other (content_of t.nodes other))
+    (λ act. act ≡ allowed.List listing
+    → (folder : ℕ) × (At other ≡ At folder) × (is_folder t.nodes folder ≡ true) × (listing ≡ listing_of t folder))
+    (λ folder is. let same : listing_of t other ≡ listing = cc in (other, refl, folder, sym same)) (λ file is. absurd (cc)) is
 list_at t (Free folder) listing is = absurd (cc)
 list_at t (Missing depth) listing is = absurd (cc)
 
