@@ -12,12 +12,13 @@ use Rattle.nf_base.specs.declared.rows.NodeRow.{NodeRow}
 use Rattle.nf_base.specs.declared.rows.Place.{Place}
 use Rattle.nf_base.specs.declared.rows.Place.TheVariants.{Inside}
 use Rattle.nf_defs.specs.Tables.{Tables}
-use Rattle.nf_defs.specs.Tree.{child_of, climb, folder_of, is_folder, is_in, is_place_in, node_row, owner_of}
+use Rattle.nf_defs.specs.Tree.{child_of, climb, depth, folder_of, is_folder, is_in, is_place_in, node_row, owner_of}
 use Rattle.nf_words.proofs.Known.{KnownNew}
 use Rattle.nf_words.specs.Changes.{blob_after, created}
 use Rattle.nf_words.specs.Sound.{AreApart, AreSound, HasRoot, IsNodeSound, IsPlaceSound, root_of_user}
+use Rattle.nf_laws.proofs.Upwards.{climbs_depth}
 use Rattle.nf_laws.proofs.Rows.{counters_up, blob_up, body_sound, climb_kept, each_fails, finds_none, folder_kept, folder_there, kept_joined, row_is, no_value, node_kept, none_above, root_kept, stamp}
-use Rattle.nf_laws.proofs.Climbs.{depth_is}
+use Rattle.nf_laws.proofs.Climbs.{parent_at}
 
 -- ---- the rows with one more
 
@@ -45,13 +46,6 @@ new_apart rows folder row inside free =
 
 -- ---- the new node
 
--- a folder's row, which is sound
-folder_sound : (t : Tables) (folder : ℕ) → AreSound t → is_folder t.nodes folder ≡ true
-    → (row : NodeRow) × (row.id ≡ folder) × (row.owner ≡ owner_of t.nodes folder) × IsNodeSound t row
-folder_sound t folder sound is =
-    let h = folder_there t.nodes folder is in
-    let found = row_is t folder h.0 sound h.1 in (h.0, found.0, rw h.1 refl, found.1)
-
 pub less_than_new : (t : Tables) (now : ℕ) (row : NodeRow) (blob : Option ℕ) → AreSound t → KnownNew t now row blob
     → All (λ (old : NodeRow). old.id < row.id) t.nodes
 less_than_new t now row blob sound known =
@@ -65,31 +59,29 @@ new_sound : (t : Tables) (now : ℕ) (row : NodeRow) (blob : Option ℕ) → Are
     → IsNodeSound (added t now row blob) row
 new_sound t now row blob sound known =
     let made = added t now row blob in
-    let folder = folder_sound t known.folder sound known.in_folder in
+    let folder = folder_there t.nodes known.folder known.in_folder in
+    let of = row_is t known.folder folder.0 sound folder.1 in
+    let up = depth t.nodes known.folder in
     let h = folder_kept t.nodes made.nodes known.folder (kept_joined t.nodes (row ∷ [])) known.in_folder in
     let id : row.id ≡ t.meta.next_node = ap (λ (r : NodeRow). r.id) known.is_new in
     let owner : row.owner ≡ owner_of t.nodes known.folder = ap (λ (r : NodeRow). r.owner) known.is_new in
     let place : row.place ≡ Inside known.folder = ap (λ (r : NodeRow). r.place) known.is_new in
     let changed : row.changed ≡ now = ap (λ (r : NodeRow). r.changed) known.is_new in
-    let steps = folder.3.steps in
-    let climbs : climb t.nodes steps known.folder ≡ Some (root_of_user t folder.0.owner) =
-    subst (λ (n : ℕ). climb t.nodes steps n ≡ Some (root_of_user t folder.0.owner)) folder.1 folder.3.present in
-    let deep = depth_is steps t.nodes known.folder (root_of_user t folder.0.owner) (none_above t folder.0.owner sound) folder.3.shallow climbs in
     record {
-      some = omega (arith, folder.3.some, folder.3.given);
+      some = omega (arith, of.1.some, of.1.given);
       given = omega arith;
       changed = omega arith;
       pieces = body_sound t made.meta made.nodes blob row.content sound.counters known.content (le_refl _);
       folder = known.empty;
       place = subst (λ (p : Place). IsPlaceSound made row p) (sym place) (h.0, h.1 ∙ sym owner);
-      steps = suc steps;
-      shallow = omega (arith, deep, known.deep);
+      steps = suc up;
+      shallow = omega (arith, known.deep);
       present =
-          ap (option_and_then (climb made.nodes steps))
-          (ap (option_and_then (λ row. folder_of row.place)) (new_there t.nodes row (less_than_new t now row blob sound known))
-          ∙ ap folder_of place)
-          ∙ climb_kept steps t.nodes made.nodes known.folder (root_of_user t folder.0.owner) (kept_joined t.nodes (row ∷ [])) climbs
-          ∙ ap (λ (user : ℕ). Some (root_of_user t user)) (folder.2 ∙ sym owner);
+          ap (option_and_then (climb made.nodes up))
+          (parent_at made.nodes row.id known.folder row (new_there t.nodes row (less_than_new t now row blob sound known)) place)
+          ∙ climb_kept up t.nodes made.nodes known.folder (root_of_user t folder.0.owner) (kept_joined t.nodes (row ∷ []))
+          (climbs_depth t known.folder folder.0 sound folder.1).0
+          ∙ ap (λ (user : ℕ). Some (root_of_user t user)) (sym (rw folder.1 at owner));
     }
 
 -- ---- all rows

@@ -35,7 +35,7 @@ use Rattle.nf_laws.proofs.Mirrored.{mirrored}
 use Rattle.nf_laws.proofs.OneRow.{with_all}
 use Rattle.nf_laws.proofs.Rows.{content_has, found_is, stamped_has, row_is}
 use Rattle.nf_laws.specs.Wholes.{BlobsAreNew, IsGoalHeld, IsHeld, IsThere, StaysWhole, blob_in, blob_under, Brings}
-use Rattle.std.proofs.lemmas.Bool.{cond_both, and_parts, eqb-true, false_from_ne_true, false≢true}
+use Rattle.std.proofs.lemmas.Bool.{cases_Bool, cond_both, and_parts, eqb-true, false_from_ne_true, false≢true}
 use Rattle.nf_base.specs.Content.{content_eq}
 use Rattle.nf_base.specs.declared.changes.Change.TheVariants.{Put}
 use Rattle.nf_base.specs.declared.rows.Row.TheVariants as rows
@@ -271,15 +271,14 @@ nodes_kept t opening blobs more keeps sound held = λ k d within.
 
 brought : (next : ℕ) (opening : List Row) (blobs : Blobs) (body : List ℕ)
     → All (IsHeld opening (with_blob blobs (blob_for next (length body)) body)) (content_in (blob_for next (length body)) (sha256 body) (length body))
-brought next opening blobs body = here (length body == 0) refl
-  where
-    here : (a : Bool) → (length body == 0) ≡ a
-        → All (IsHeld opening (with_blob blobs (blob_for next (length body)) body)) (content_in (blob_for next (length body)) (sha256 body) (length body))
-    here true e = simp e (All-nil (IsHeld opening blobs))
-    here false e =
-        let more = put_blob blobs next body in
-        simp e (All-cons (IsHeld opening more) _ []
-        (inl (record { bytes = body; there = put_at blobs next body; size = refl; digest = refl })) (All-nil (IsHeld opening more)))
+brought next opening blobs body =
+    elim (cases_Bool (length body == 0)) [
+      | inl none ↦ simp none (All-nil (IsHeld opening blobs))
+      | inr some ↦
+          (let more = put_blob blobs next body in
+          simp some (All-cons (IsHeld opening more) _ []
+          (inl (record { bytes = body; there = put_at blobs next body; size = refl; digest = refl })) (All-nil (IsHeld opening more))))
+    ]
 
 -- ---- the tables after an act
 

@@ -82,14 +82,6 @@ climbs_no_further (suc k) (suc i) rows node root top ends whole is =
     option_and_then_some (climb rows k) (parent_of rows node) root whole
     (λ parent above whole. omega (arith, climbs_no_further k i rows parent root top ends whole (rw above at is)))
 
--- so two climbs that end where no folder is above end at one node
-pub ends_same : (i k : ℕ) (rows : List NodeRow) (node a b : ℕ) → parent_of rows a ≡ None → parent_of rows b ≡ None
-    → climb rows i node ≡ Some a → climb rows k node ≡ Some b → a ≡ b
-ends_same i k rows node a b ends_a ends_b to_a to_b =
-    let same : i ≡ k =
-    omega (arith, climbs_no_further i k rows node a b ends_a to_a to_b, climbs_no_further k i rows node b a ends_b to_b to_a) in
-    same_Some a b (sym to_a ∙ ap (λ (n : ℕ). climb rows n node) same ∙ to_b)
-
 -- a climb goes on from where another ends
 pub climb_on : (j k : ℕ) (rows : List NodeRow) (node mid : ℕ) → climb rows j node ≡ Some mid → climb rows (j + k) node ≡ climb rows k mid
 climb_on zero k rows node mid is =

@@ -2,7 +2,7 @@
 use Rattle.std.proofs.Common.{ℕ, suc, zero, ◌+◌, ◌<◌, ◌==◌, ◌≡◌, ◌≢◌, ◌≤◌, Bool, true, false, List, [], ◌∷◌, Option, None, Some, option_map, length, get_or, refl, sym, ap, subst, ◌∙◌, inl, inr, arith, le_refl}
 use Rattle.std.specs.List.{All}
 use Rattle.std.specs.Option.{option_and_then, option_map_or}
-use Rattle.std.proofs.lemmas.Bool.{both_ways, false_from_ne_true, ne_eqb}
+use Rattle.std.proofs.lemmas.Bool.{cases_Bool, both_ways, false_from_ne_true, ne_eqb}
 use Rattle.std.proofs.lemmas.List.Elements.{All-cons, All-contains, All-nil, All-weaker}
 use Rattle.std.proofs.lemmas.Option.{option_and_then_some, same_Some}
 use Rattle.nf_base.specs.declared.rows.NodeRow.{NodeRow}
@@ -19,12 +19,12 @@ use Rattle.nf_words.specs.Limits.{deepest}
 use Rattle.nf_words.specs.Sound.{AreApart, AreSound, HasRoot, IsNodeSound, IsPlaceSound, root_of_user}
 use Rattle.nf_words.specs.declared.request.Transfer.{Transfer}
 use Rattle.nf_laws.proofs.Added.{new_apart}
-use Rattle.nf_laws.proofs.Climbs.{climb_same, climb_on, depth_is, ends_same, node_row_each, under_climb}
+use Rattle.nf_laws.proofs.Climbs.{climb_same, climb_on, depth_is, node_row_each, under_climb}
 use Rattle.nf_laws.proofs.Gone.{clearing_sound, climb_cleared, folder_stays, free_cleared, kept_cleared, row_cleared}
 use Rattle.nf_laws.proofs.OneRow.{IsEither, each_either, length_with, pieces_with, rising_with, row_itself, row_other, value_with}
-use Rattle.nf_laws.proofs.Paths.{path_own}
+use Rattle.nf_laws.proofs.Paths.{climb_own, path_own}
 use Rattle.nf_laws.proofs.Rows.{IsRooted, folder_there, none_above, kept_row, node_still, parent_there, root_still}
-use Rattle.nf_laws.proofs.Upwards.{deepest_among, climb_short, climbs_is_under, depth_climb, never_climbs, rooted}
+use Rattle.nf_laws.proofs.Upwards.{climbs_depth, deepest_among, climb_short, climbs_is_under, depth_climb, never_climbs, rooted}
 
 -- ---- climbs where a node is put into a folder
 
@@ -79,38 +79,31 @@ relink u node folder name = record u { nodes = relinking u.nodes node folder nam
 -- what is under the node leads to the root over the folder, and all else as before
 rooted_moved : (u : Tables) (node folder : ℕ) (name : List ℕ) (old row : NodeRow) → AreSound u → Fits u node folder name old
     → node_row u.nodes row.id ≡ Some row → IsRooted (relink u node folder name) row.id row
-rooted_moved u node folder name old row sound fits there = here (is_under u.nodes row.id node) refl
-  where
-    r : IsRooted u row.id row
-    r = rooted u row.id row sound there
-
-    here : (a : Bool) → is_under u.nodes row.id node ≡ a → IsRooted (relink u node folder name) row.id row
-    here false e = record {
-      steps = r.steps;
-      shallow = r.shallow;
-      climbs = climb_outside r.steps u.nodes node folder name row.id
-          (never_climbs u row.id node sound e) ∙ r.climbs;
-    }
-    here true e =
-        let c = under_climb u.nodes row.id node e in
-        let top = folder_there u.nodes folder fits.in_folder in
-        let f = rooted u folder top.0 sound top.1 in
-        let n = rooted u node old sound fits.there in
-        let deep = depth_is f.steps u.nodes folder (root_of_user u top.0.owner) (none_above u top.0.owner sound) f.shallow f.climbs in
-        let owner : top.0.owner ≡ old.owner =
-        sym (ap (λ (o : Option NodeRow). option_map_or (λ row. row.owner) o 0) top.1) ∙ fits.owner in
-        let same = ends_same (c.0 + n.steps) r.steps u.nodes row.id (root_of_user u old.owner) (root_of_user u row.owner)
-        (none_above u old.owner sound) (none_above u row.owner sound)
-        (climb_on c.0 n.steps u.nodes row.id node c.2 ∙ n.climbs) r.climbs in
-        record {
-          steps = c.0 + suc f.steps;
-          shallow = omega (arith, deep, fits.shallow c.0 row.id row there c.2);
-          climbs =
-              climb_on c.0 (suc f.steps) (relinking u.nodes node folder name) row.id node (climb_below c.0 u node folder name row.id sound c.2)
-              ∙ ap (option_and_then (climb (relinking u.nodes node folder name) f.steps)) (parent_itself u.nodes node folder name old fits.there)
-              ∙ climb_outside f.steps u.nodes node folder name folder (never_climbs u folder node sound fits.outside)
-              ∙ f.climbs ∙ ap Some (ap (root_of_user u) owner ∙ same);
-        }
+rooted_moved u node folder name old row sound fits there =
+    elim (cases_Bool (is_under u.nodes row.id node)) [
+      | inl under ↦
+          (let c = under_climb u.nodes row.id node under in
+          let top = folder_there u.nodes folder fits.in_folder in
+          let up = depth u.nodes folder in
+          let owner : old.owner ≡ row.owner =
+          sym (climb_own c.0 u old.owner row.id node row sound c.2 (record { row = old; there = fits.there; owner = refl }) there) in
+          record {
+            steps = c.0 + suc up;
+            shallow = omega (arith, fits.shallow c.0 row.id row there c.2);
+            climbs =
+                climb_on c.0 (suc up) (relinking u.nodes node folder name) row.id node (climb_below c.0 u node folder name row.id sound c.2)
+                ∙ ap (option_and_then (climb (relinking u.nodes node folder name) up)) (parent_itself u.nodes node folder name old fits.there)
+                ∙ climb_outside up u.nodes node folder name folder (never_climbs u folder node sound fits.outside)
+                ∙ (climbs_depth u folder top.0 sound top.1).0 ∙ ap (λ (user : ℕ). Some (root_of_user u user)) (rw top.1 at fits.owner ∙ owner);
+          })
+      | inr outside ↦
+          (let r = rooted u row.id row sound there in
+          record {
+            steps = r.steps;
+            shallow = r.shallow;
+            climbs = climb_outside r.steps u.nodes node folder name row.id (never_climbs u row.id node sound outside) ∙ r.climbs;
+          })
+    ]
 
 folder_moved : (u : Tables) (node folder : ℕ) (name : List ℕ) (row : NodeRow) (parent : ℕ)
     → (is_folder u.nodes parent ≡ true) × (owner_of u.nodes parent ≡ row.owner) → IsPlaceSound (relink u node folder name) row (Inside parent)
@@ -203,12 +196,10 @@ pub depth_cleared : (t : Tables) (replaced : Option ℕ) (node : ℕ) (row : Nod
     → node_row (cleared t.nodes replaced) node ≡ Some row → depth (cleared t.nodes replaced) node ≡ depth t.nodes node
 depth_cleared t replaced node row sound clear there =
     let u : Tables = record t { nodes = cleared t.nodes replaced } in
-    let r = rooted u node row clear there in
+    let up = climbs_depth u node row clear there in
     let kept = kept_cleared t.nodes replaced node row there in
-    let root = root_of_user t row.owner in
-    depth_is r.steps u.nodes node root (none_above u row.owner clear) r.shallow r.climbs
-    ∙ sym (depth_is r.steps t.nodes node root (none_above t row.owner sound) r.shallow
-    (sym (climb_cleared t replaced r.steps node sound kept.0) ∙ r.climbs))
+    sym (depth_is (depth u.nodes node) t.nodes node (root_of_user t row.owner) (none_above t row.owner sound) up.1
+    (sym (climb_cleared t replaced (depth u.nodes node) node sound kept.0) ∙ up.0))
 
 -- what is put somewhere gets its owner's folder
 pub folder_owner : (t : Tables) (who : Option ℕ) (transfer : Transfer) (name : List ℕ) → AreSound t → (known : KnownTransfer t who transfer name)

@@ -25,7 +25,7 @@ use Rattle.nf_laws.proofs.Mirrored.{mirrored}
 use Rattle.nf_laws.proofs.Moved.{folder_owner}
 use Rattle.nf_laws.proofs.OneRow.{filter_with}
 use Rattle.nf_laws.proofs.Rows.{folder_there, found_is, parent_there, row_id, stamp}
-use Rattle.nf_laws.proofs.Paths.{IsOf, found_leads, leads_own, path_own, root_own}
+use Rattle.nf_laws.proofs.Paths.{climb_own, IsOf, found_leads, leads_own, path_own, root_own}
 use Rattle.nf_laws.specs.Owners.{ChangesOnlyOwn, ChangesOwn, ListsAll, ListsOwn, ServesOwn, nodes_of_others}
 use Rattle.nf_words.proofs.Known.{Known, KnownCopies, KnownNew, KnownPath, call_known, call_passes}
 use Rattle.nf_words.specs.Actors.{actor_of}
@@ -238,17 +238,6 @@ others_left p q (x ∷ rows) own =
     here true true e f own rest = simp (e, f) (ap (λ (rows : List NodeRow). x ∷ rows) rest)
     here true false e f own rest = simp (e, f) rest
     here false b e f own rest = simp (e, own e) rest
-
--- a node under one has its owner
-climb_own : (j : ℕ) (t : Tables) (user node top : ℕ) (row : NodeRow) → AreSound t → climb t.nodes j node ≡ Some top → IsOf t user top
-    → node_row t.nodes node ≡ Some row → row.owner ≡ user
-climb_own zero t user node top row sound is of there =
-    let same : node ≡ top = same_Some node top is in
-    ap (λ (r : NodeRow). r.owner) (same_Some row of.row (sym there ∙ ap (node_row t.nodes) same ∙ of.there)) ∙ of.owner
-climb_own (suc j) t user node top row sound is of there =
-    option_and_then_some (climb t.nodes j) (parent_of t.nodes node) top is (λ parent above is.
-    let folder = parent_there t node parent row sound there above in
-    sym folder.3 ∙ climb_own j t user parent top folder.0 sound is of folder.1)
 
 -- all under a node of who acts are of who acts
 under_own : (t : Tables) (who : Option ℕ) (top : ℕ) → AreSound t → KnownPath t who (At top)

@@ -1,10 +1,10 @@
 -- Where a path leads: the walk against the derivation, and whose is what it leads to.
-use Rattle.std.proofs.Common.{ℕ, suc, ◌+◌, ◌==◌, ◌≡◌, ◌&&◌, Bool, true, false, List, [], ◌∷◌, Option, None, Some, bytes_eq, find, option_map, if◌then◌else◌, refl, sym, ap, subst, ◌∙◌, ⊎_elim, inl, inr, arith, ◌++◌, ◌⊎◌, ◌<◌, ◌≤◌, drop, get_or, length, take}
+use Rattle.std.proofs.Common.{ℕ, zero, suc, ◌+◌, ◌==◌, ◌≡◌, ◌&&◌, Bool, true, false, List, [], ◌∷◌, Option, None, Some, bytes_eq, find, option_map, if◌then◌else◌, refl, sym, ap, subst, ◌∙◌, ⊎_elim, inl, inr, arith, ◌++◌, ◌⊎◌, ◌<◌, ◌≤◌, drop, get_or, length, take}
 use Rattle.std.specs.List.{AllPairs}
 use Rattle.std.proofs.lemmas.Bool.{and_parts, eq-eqb}
 use Rattle.std.proofs.Math.Seq.{drop-cons}
 use Rattle.std.proofs.lemmas.List.{append-nil, length-drop, length-take-le, take-append-drop}
-use Rattle.std.proofs.lemmas.Option.{none-some, same_Some}
+use Rattle.std.proofs.lemmas.Option.{none-some, option_and_then_some, same_Some}
 use Rattle.std.proofs.lemmas.Slice.Eq.{bytes_eq-Decides}
 use Rattle.nf_base.specs.declared.rows.NodeRow.{NodeRow}
 use Rattle.nf_base.specs.declared.rows.Place.TheVariants.{Inside}
@@ -12,11 +12,11 @@ use Rattle.nf_base.specs.declared.rows.UserRow.{UserRow}
 use Rattle.nf_defs.proofs.Walks.{AreRising, inside_of}
 use Rattle.nf_defs.specs.People.{user_row}
 use Rattle.nf_defs.specs.Tables.{Tables}
-use Rattle.nf_defs.specs.Tree.{Leads, stays, leads_on, child_of, found_from, is_folder, is_in, is_place_in, node_row, onward}
+use Rattle.nf_defs.specs.Tree.{climb, parent_of, Leads, stays, leads_on, child_of, found_from, is_folder, is_in, is_place_in, node_row, onward}
 use Rattle.nf_defs.specs.declared.Found.{Found}
 use Rattle.nf_defs.specs.declared.Found.TheVariants.{At, Free, Missing}
 use Rattle.nf_laws.proofs.Climbs.{node_row_each}
-use Rattle.nf_laws.proofs.Rows.{child_owner, found_is, row_is}
+use Rattle.nf_laws.proofs.Rows.{parent_there, child_owner, found_is, row_is}
 use Rattle.nf_laws.specs.Walks.{LeadsNoFurther, LeadsToFree, WalkFollows}
 use Rattle.nf_words.proofs.Known.{KnownPath}
 use Rattle.nf_words.specs.Sound.{AreApart, AreSound, HasRoot, IsOwn}
@@ -218,6 +218,17 @@ leads_own t user _ _ _ sound (leads_on at name names child node folds there plac
     let h = row_is t child.id child sound there in
     let owner : of.row.owner ≡ child.owner = rw of.there at (child_owner t child child.place at h.1.place place) in
     leads_own t user child.id names node sound led (record { row = child; there = there; owner = sym owner ∙ of.owner })
+
+-- a node under one has its owner
+pub climb_own : (j : ℕ) (t : Tables) (user node top : ℕ) (row : NodeRow) → AreSound t → climb t.nodes j node ≡ Some top → IsOf t user top
+    → node_row t.nodes node ≡ Some row → row.owner ≡ user
+climb_own zero t user node top row sound is of there =
+    let same : node ≡ top = same_Some node top is in
+    ap (λ (r : NodeRow). r.owner) (same_Some row of.row (sym there ∙ ap (node_row t.nodes) same ∙ of.there)) ∙ of.owner
+climb_own (suc j) t user node top row sound is of there =
+    option_and_then_some (climb t.nodes j) (parent_of t.nodes node) top is (λ parent above is.
+    let folder = parent_there t node parent row sound there above in
+    sym folder.3 ∙ climb_own j t user parent top folder.0 sound is of folder.1)
 
 pub root_own : (t : Tables) (row : UserRow) → AreSound t → user_row t.users row.id ≡ Some row → IsOf t row.id row.root
 root_own t row sound there =

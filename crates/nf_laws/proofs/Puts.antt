@@ -2,7 +2,7 @@
 use Rattle.std.proofs.Common.{ℕ, zero, suc, ◌+◌, ◌==◌, ◌≡◌, ◌≢◌, ◌<◌, Bool, true, false, not, List, [], ◌∷◌, ◌++◌, Option, None, Some, filter, map, length, get_or, refl, sym, ap, subst, ◌∙◌, arith, append_assoc}
 use Rattle.std.specs.Prelude.{is_some}
 use Rattle.std.specs.List.{All, AllPairs, list_any}
-use Rattle.std.specs.Ordering.{nat_cmp, ordering_then}
+use Rattle.std.specs.Ordering.{MatchOrdering, nat_cmp, ordering_then}
 use Rattle.std.specs.Cmp.{nat_cmp_is}
 use Rattle.std.specs.declared.cmp.Ordering.{Ordering}
 use Rattle.std.specs.declared.cmp.Ordering.TheVariants.{Less, Equal, Greater}
@@ -35,14 +35,8 @@ then_equal Less = refl
 then_equal Equal = refl
 then_equal Greater = refl
 
-less : (a b : ℕ) → a < b → key_cmp (a ∷ []) (b ∷ []) ≡ Less
-less a b is = then_equal (nat_cmp a b) ∙ sym (nat_cmp_is a b Less is)
-
-equal : (a b : ℕ) → a ≡ b → key_cmp (a ∷ []) (b ∷ []) ≡ Equal
-equal a b same = then_equal (nat_cmp a b) ∙ sym (nat_cmp_is a b Equal same)
-
-greater : (a b : ℕ) → b < a → key_cmp (a ∷ []) (b ∷ []) ≡ Greater
-greater a b is = then_equal (nat_cmp a b) ∙ sym (nat_cmp_is a b Greater is)
+compared : (a b : ℕ) (o : Ordering) → MatchOrdering o (a < b) (a ≡ b) (b < a) → key_cmp (a ∷ []) (b ∷ []) ≡ o
+compared a b o is = then_equal (nat_cmp a b) ∙ sym (nat_cmp_is a b o is)
 
 -- ---- rows that are put
 
@@ -51,7 +45,7 @@ pub put_new : (row : NodeRow) (old : List NodeRow) → All (λ (other : NodeRow)
 put_new row old below =
     put_last node_key row old
     (All-weaker (λ (other : NodeRow). other.id < row.id) (λ (other : NodeRow). key_cmp (node_key other) (node_key row) ≡ Less)
-    (λ other is. less other.id row.id is) old below)
+    (λ other is. compared other.id row.id Less is) old below)
 
 -- the rows have the numbers from the first on
 abbrev pub AreNumbered : ℕ → List NodeRow → Type 0
@@ -91,14 +85,14 @@ put_changed (x ∷ old) node change row keeps rising is =
     here true e is rest =
         let same : x ≡ row = same_Some x row (simp e at is) in
         simp e (ap (λ (o : Ordering). by_order o (new ∷ x ∷ old) (new ∷ old) (x ∷ put node_key new old))
-        (equal new.id x.id (keeps ∙ sym (ap (λ (r : NodeRow). r.id) same)))
+        (compared new.id x.id Equal (keeps ∙ sym (ap (λ (r : NodeRow). r.id) same)))
         ∙ ap (λ (r : NodeRow). change r ∷ old) (sym same))
     here false e is rest =
         let found : node_row old node ≡ Some row = simp e at is in
         let below : x.id < row.id =
         (found_is (λ (r : NodeRow). x.id < r.id) (λ r. r.id == node) old row (λ k d within. rising 0 (suc k) d (omega arith) (omega arith)) found).1 in
         simp e (ap (λ (o : Ordering). by_order o (new ∷ x ∷ old) (new ∷ old) (x ∷ put node_key new old))
-        (greater new.id x.id (omega (arith, keeps, below)))
+        (compared new.id x.id Greater (omega (arith, keeps, below)))
         ∙ ap (λ (all : List NodeRow). x ∷ all) (rest found))
 
 -- ---- rows that are dropped

@@ -3,8 +3,9 @@ use Rattle.std.proofs.Common.{ℕ, suc, ◌+◌, ◌==◌, ◌&&◌, ◌≡◌, 
 use Rattle.std.specs.Prelude.{IsOk}
 use Rattle.std.specs.Option.{option_map_or}
 use Rattle.std.proofs.Math.Seq.{take-length}
-use Rattle.std.proofs.lemmas.Bool.{and_parts, false≢true, not-true}
+use Rattle.std.proofs.lemmas.Bool.{cond_both, and_parts, false≢true, not-true}
 use Rattle.nf_base.specs.Content.{content_eq}
+use Rattle.nf_base.specs.declared.changes.Change.{Change}
 use Rattle.nf_base.specs.declared.changes.Change.TheVariants.{Put}
 use Rattle.nf_base.specs.declared.content.Piece.{Piece}
 use Rattle.nf_base.specs.declared.rows.NodeKind.TheVariants.{File}
@@ -21,6 +22,7 @@ use Rattle.nf_laws.proofs.Paths.{leads_found}
 use Rattle.nf_laws.proofs.OneRow.{row_itself}
 use Rattle.nf_laws.proofs.Replaced.{content_decides, kept_replaced}
 use Rattle.nf_laws.proofs.Climbs.{holds_some}
+use Rattle.nf_laws.proofs.Entries.{step_changed}
 use Rattle.nf_laws.proofs.Rows.{AreKept, folder_kept, kept_joined, row_id}
 use Rattle.nf_laws.proofs.Stays as states
 use Rattle.nf_laws.specs.Reads.{IsStored, LeadsToKey, PathStays, StoredIsRead}
@@ -95,9 +97,10 @@ leads_stay before behind _ _ _ (leads_on at name names child node folds there pl
 
 -- a path leads to a file of that content
 record HasFile (rows : List NodeRow) (root : ℕ) (path : List (List ℕ)) (content : List Piece) : Type 0 where
+  node : ℕ
+  led : Leads rows root path node
   row : NodeRow
-  led : Leads rows root path row.id
-  there : node_row rows row.id ≡ Some row
+  there : node_row rows node ≡ Some row
   file : is_folder_kind row.kind ≡ false
   filled : row.content ≡ content
 
@@ -105,33 +108,26 @@ over_file : (t : Tables) (now node root : ℕ) (path : List (List ℕ)) (content
     → node_row t.nodes node ≡ Some old → is_folder_kind old.kind ≡ false → Leads t.nodes root path node
     → HasFile (changed t now (allowed.StoreOver node content blob)).nodes root path content
 over_file t now node root path content blob old there file led =
-    subst (λ (o : Option NodeRow). HasFile (stamped t after now (refilled o now content)).nodes root path content) (sym there)
-    (here (content_eq old.content content && old.changed == now) refl)
-  where
-    after : Tables
-    after = replaced t now node content blob
-
-    id : old.id ≡ node
-    id = row_id t.nodes node old there
-
-    here : (a : Bool) → (content_eq old.content content && old.changed == now) ≡ a
-        → HasFile (stamped t after now (if a then [] else Put (rows.Node (filled content now old)) ∷ [])).nodes root path content
-    here true same = record {
+    let after : Tables = replaced t now node content blob in
+    let HasIt : List Change → Type 0 = λ changes. HasFile (stamped t after now changes).nodes root path content in
+    subst (λ (o : Option NodeRow). HasIt (refilled o now content)) (sym there)
+    (cond_both (content_eq old.content content && old.changed == now) [] (Put (rows.Node (filled content now old)) ∷ []) HasIt
+    (λ same. record {
+      node = node;
+      led = led;
       row = old;
-      led = subst (λ (n : ℕ). Leads t.nodes root path n) (sym id) led;
-      there = subst (λ (n : ℕ). node_row t.nodes n ≡ Some old) (sym id) there;
+      there = there;
       file = file;
       filled = (content_decides old.content content).0 (and_parts (content_eq old.content content) (old.changed == now) same).0;
-    }
-    here false other = record {
+    })
+    (λ other. record {
+      node = node;
+      led = leads_kept t.nodes after.nodes root path node (kept_replaced t.nodes now node content) led;
       row = filled content now old;
-      led = subst (λ (n : ℕ). Leads after.nodes root path n) (sym id)
-          (leads_kept t.nodes after.nodes root path node (kept_replaced t.nodes now node content) led);
-      there = subst (λ (n : ℕ). node_row after.nodes n ≡ Some (filled content now old)) (sym id)
-          (row_itself t.nodes node (filled content now) (λ row. refl) ∙ ap (option_map (filled content now)) there);
+      there = row_itself t.nodes node (filled content now) (λ row. refl) ∙ ap (option_map (filled content now)) there;
       file = file;
       filled = refl;
-    }
+    }))
 
 new_file : (t : Tables) (now folder root : ℕ) (name : List ℕ) (front : List (List ℕ)) (content : List Piece) (blob : Option ℕ) → AreSound t
     → KnownNew t now (new_node t now folder name File content) blob → Leads t.nodes root front folder
@@ -145,6 +141,7 @@ new_file t now folder root name front content blob sound known led =
     let same : known.folder ≡ folder = cc in
     let folds : is_folder t.nodes folder ≡ true = subst (λ (n : ℕ). is_folder t.nodes n ≡ true) same known.in_folder in
     record {
+      node = row.id;
       row = row;
       led = leads_more behind root front folder row (leads_kept t.nodes behind root front folder kept led)
           (folder_kept t.nodes behind folder kept folds).0 there refl;
@@ -175,7 +172,6 @@ entry_file : (n : ℕ) (s : State) (e : Entry) (root : ℕ) (path : List (List �
 entry_file n s e root path content is =
     let t = s.tables in
     let act = stored_at t e.moment is.key is.digest is.size in
-    let event : Event = End (Body is.digest is.size) in
     let goes : decision_of s e.seat e.moment e.event ≡ stores t e.moment is.key is.digest is.size =
     ap (decision_of s e.seat e.moment) is.brought ∙ ap (ends_ticket t e.moment (Body is.digest is.size)) is.granted in
     let none : stores t e.moment is.key is.digest is.size ≡ Ok act =
@@ -183,9 +179,7 @@ entry_file n s e root path content is =
     let known = known_change s e.seat e.moment e.event act is.sound is.may.asked (goes ∙ none) in
     let becomes : (after s e).tables ≡ changed t e.moment act =
     ap (λ (m : Mark). (after_mark s e m).tables) is.answered
-    ∙ ap (λ (ev : Event). (step s e.seat e.moment ev).tables) is.brought
-    ∙ ap (λ (d : Result Allowed Denial). (decided (without_ticket s e.seat) e.seat e.moment d).tables)
-    (sym (ap (decision_of s e.seat e.moment) is.brought) ∙ goes ∙ none) in
+    ∙ step_changed s e.seat e.moment e.event act (goes ∙ none) in
     let file = stored_file t e.moment (actor_of s e.seat e.event) is.key is.digest is.size root path is.sound.rows known is.led in
     subst (λ (c : List Piece). HasFile (after s e).tables.nodes root path c) (sym is.body)
     (subst (λ (u : Tables). HasFile u.nodes root path (content_in (blob_for t.meta.next_blob is.size) is.digest is.size)) (sym becomes) file)
@@ -212,12 +206,12 @@ stored_is_read n s e es root path content seat now words request is legal same r
     let call = call_of last seat now words request in
     let sound : IsSound last = states.stays (n + 1) first es (states.sound_after n s e is.sound is.may) legal in
     let file = entry_file n s e root path content is in
-    let led = leads_stay first.tables.nodes last.tables.nodes root path file.row.id file.led same in
-    let there : node_row last.tables.nodes file.row.id ≡ Some file.row =
-    same (length path) file.row.id (le_refl _)
-    (subst (λ (names : List (List ℕ)). Leads first.tables.nodes root names file.row.id) (sym (take-length path)) file.led)
+    let led = leads_stay first.tables.nodes last.tables.nodes root path file.node file.led same in
+    let there : node_row last.tables.nodes file.node ≡ Some file.row =
+    same (length path) file.node (le_refl _)
+    (subst (λ (names : List (List ℕ)). Leads first.tables.nodes root names file.node) (sym (take-length path)) file.led)
     ∙ file.there in
-    let at : found call reads.spot ≡ At file.row.id =
-    (λ i. found_from last.tables.nodes 0 (reads.from i) (reads.of_path i)) ∙ leads_found last.tables 0 root path file.row.id sound.rows led in
-    granted call reads.spot file.row.id file.row reads.wanted at there file.file reads.asked
-    ∙ ap (λ (c : List Piece). answered_by (Ok (allowed.Get file.row.id c))) file.filled
+    let at : found call reads.spot ≡ At file.node =
+    (λ i. found_from last.tables.nodes 0 (reads.from i) (reads.of_path i)) ∙ leads_found last.tables 0 root path file.node sound.rows led in
+    granted call reads.spot file.node file.row reads.wanted at there file.file reads.asked
+    ∙ ap (λ (c : List Piece). answered_by (Ok (allowed.Get file.node c))) file.filled

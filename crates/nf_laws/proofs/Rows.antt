@@ -109,18 +109,12 @@ inside_folder Trash parent is = absurd (none-some parent is)
 -- its folder is there
 pub child_folder : (t : Tables) (row : NodeRow) (place : Place) (folder : ℕ) → IsPlaceSound t row place → place ≡ Inside folder
     → is_folder t.nodes folder ≡ true
-child_folder t row Root folder sound is = absurd (cc)
-child_folder t row (Inside parent) folder sound is =
-    let e : parent ≡ folder = cc in subst (λ (n : ℕ). is_folder t.nodes n ≡ true) e sound.0
-child_folder t row Trash folder sound is = absurd sound
+child_folder t row place folder sound is = (subst (IsPlaceSound t row) is sound).0
 
 -- and has its owner
 pub child_owner : (t : Tables) (row : NodeRow) (place : Place) (folder : ℕ) → IsPlaceSound t row place → place ≡ Inside folder
     → owner_of t.nodes folder ≡ row.owner
-child_owner t row Root folder sound is = absurd (cc)
-child_owner t row (Inside parent) folder sound is =
-    let e : parent ≡ folder = cc in subst (λ (n : ℕ). owner_of t.nodes n ≡ row.owner) e sound.1
-child_owner t row Trash folder sound is = absurd sound
+child_owner t row place folder sound is = (subst (IsPlaceSound t row) is sound).1
 
 -- so what a node that is there is in is a folder of its owner's
 pub parent_there : (t : Tables) (node parent : ℕ) (row : NodeRow) → AreSound t → node_row t.nodes node ≡ Some row
