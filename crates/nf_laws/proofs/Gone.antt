@@ -1,8 +1,8 @@
 -- The tables without what is removed are sound.
 use Rattle.std.proofs.Common.{ℕ, suc, ◌==◌, ◌≡◌, ◌<◌, ◌≤◌, Bool, true, false, not, List, Option, None, Some, length, refl, sym, ap, subst, ◌∙◌, arith, le_refl}
 use Rattle.std.specs.List.{All}
-use Rattle.std.specs.Option.{option_and_then, option_map_or}
-use Rattle.std.proofs.lemmas.Bool.{ne_eqb, not_from_false, both_ways, eqb-true, false_from_ne_true, false≢true, not-true}
+use Rattle.std.specs.Option.{option_map_or}
+use Rattle.std.proofs.lemmas.Bool.{ne_eqb, not_from_false, both_ways, false_from_ne_true, false≢true, not-true}
 use Rattle.std.proofs.lemmas.List.Elements.{All-filter, All-weaker, filter_passes}
 use Rattle.std.proofs.lemmas.List.Filters.{length-filter_both, sum_by-filter_both}
 use Rattle.std.proofs.lemmas.List.Kept.{AllPairs-filter}
@@ -19,7 +19,7 @@ use Rattle.nf_words.specs.Sound.{AreApart, AreSound, HasRoot, IsNodeSound, IsPla
 use Rattle.nf_words.specs.declared.request.Transfer.{Transfer}
 use Rattle.nf_laws.proofs.Climbs.{parent_at, climb_those, climb_under, climbs_no_further, node_row_each, row_of_those, those, under_climb}
 use Rattle.nf_laws.proofs.Paths.{child_is, child_there}
-use Rattle.nf_laws.proofs.Rows.{finds_none, found_is, kept_row, node_still, root_still}
+use Rattle.nf_laws.proofs.Rows.{finds_none, kept_row, node_still, root_still}
 use Rattle.nf_laws.proofs.Upwards.{inside_no_root, never_climbs, no_rings}
 use Rattle.nf_laws.specs.Transfers.{is_replaced}
 

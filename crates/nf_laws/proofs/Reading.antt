@@ -1,5 +1,5 @@
 -- What a PUT stored is what a later GET of the path is granted.
-use Rattle.std.proofs.Common.{ℕ, suc, ◌+◌, ◌==◌, ◌&&◌, ◌≡◌, Bool, true, false, not, List, [], ◌∷◌, ◌++◌, Option, None, Some, Result, Ok, length, take, option_map, if◌then◌else◌, refl, sym, ap, subst, ◌∙◌, arith, le_refl}
+use Rattle.std.proofs.Common.{ℕ, suc, ◌+◌, ◌==◌, ◌&&◌, ◌≡◌, true, false, not, List, [], ◌∷◌, ◌++◌, Option, None, Some, Result, Ok, length, take, option_map, refl, sym, ap, subst, ◌∙◌, arith, le_refl}
 use Rattle.std.specs.Prelude.{IsOk}
 use Rattle.std.specs.Option.{option_map_or}
 use Rattle.std.proofs.Math.Seq.{take-length}
@@ -14,8 +14,7 @@ use Rattle.nf_base.specs.declared.rows.Place.TheVariants.{Inside}
 use Rattle.nf_base.specs.declared.rows.Row.TheVariants as rows
 use Rattle.nf_defs.specs.Access.{unshared}
 use Rattle.nf_defs.specs.Tables.{Tables}
-use Rattle.nf_defs.specs.Tree.{Leads, stays, leads_on, content_of, filled, found_from, is_folder, is_folder_kind, node_row}
-use Rattle.nf_defs.specs.declared.Found.{Found}
+use Rattle.nf_defs.specs.Tree.{Leads, stays, leads_on, filled, found_from, is_folder, is_folder_kind, node_row}
 use Rattle.nf_defs.specs.declared.Found.TheVariants.{At}
 use Rattle.nf_laws.proofs.Added.{less_than_new, new_there}
 use Rattle.nf_laws.proofs.Paths.{leads_found}
@@ -29,35 +28,29 @@ use Rattle.nf_laws.specs.Reads.{IsStored, LeadsToKey, PathStays, StoredIsRead}
 use Rattle.nf_words.proofs.Known.{Known, KnownNew, known_change}
 use Rattle.nf_words.proofs.Orders.{none_of}
 use Rattle.nf_words.specs.Actors.{actor_of}
-use Rattle.nf_words.specs.Calls.{Call, asker_of, found, places_of, source_of, target_of}
-use Rattle.nf_words.specs.Changes.{allowed_of, changed, given, new_node, refilled, replaced, stamped}
+use Rattle.nf_words.specs.Calls.{Call, found}
+use Rattle.nf_words.specs.Changes.{allowed_of, changed, new_node, refilled, replaced, stamped}
 use Rattle.nf_words.specs.Endings.{blob_for, content_in, end_refusal, ends_ticket, stored_at, stores, unless_refused}
 use Rattle.nf_words.specs.History.{after, after_mark, replay}
 use Rattle.nf_words.specs.Laws.{Pass}
-use Rattle.nf_words.specs.Limits.{limit_rule, limited}
+use Rattle.nf_words.specs.Limits.{limit_rule}
 use Rattle.nf_words.specs.Callers.{not_you_rule, token_rule}
-use Rattle.nf_words.specs.Listing.{listing_of}
-use Rattle.nf_words.specs.Places.{exists_rule, forbidden_rule, lost, overwrite_rule, place_rule, taken, target_rule, unfit, unreplaced}
+use Rattle.nf_words.specs.Places.{exists_rule, forbidden_rule, overwrite_rule, place_rule, target_rule}
 use Rattle.nf_words.specs.Rules.{rules}
 use Rattle.nf_words.specs.Sound.{AreSound, IsSound}
-use Rattle.nf_words.specs.State.{State, without_ticket}
-use Rattle.nf_words.specs.Step.{answered_by, call_decision, call_of, decided, decision_of, step}
+use Rattle.nf_words.specs.State.{State}
+use Rattle.nf_words.specs.Step.{answered_by, call_decision, call_of, decision_of}
 use Rattle.nf_words.specs.declared.answer.Allowed.{Allowed}
 use Rattle.nf_words.specs.declared.answer.Allowed.TheVariants as allowed
 use Rattle.nf_words.specs.declared.answer.Denial.{Denial}
-use Rattle.nf_words.specs.declared.answer.Denial.TheVariants as denial
 use Rattle.nf_words.specs.declared.answer.Goal.TheVariants.{Serve}
 use Rattle.nf_words.specs.declared.answer.LockKey.{LockKey}
 use Rattle.nf_words.specs.declared.answer.LockKey.TheVariants.{Node, Slot}
 use Rattle.nf_words.specs.declared.answer.Reply.TheVariants.{Granted}
 use Rattle.nf_words.specs.declared.history.Entry.{Entry}
-use Rattle.nf_words.specs.declared.history.Event.{Event}
-use Rattle.nf_words.specs.declared.history.Event.TheVariants.{End}
 use Rattle.nf_words.specs.declared.history.Mark.{Mark}
 use Rattle.nf_words.specs.declared.history.Outcome.TheVariants.{Body}
-use Rattle.nf_words.specs.declared.request.Places.{Places}
 use Rattle.nf_words.specs.declared.request.Spot.{Spot}
-use Rattle.nf_words.specs.declared.request.Wanted.{Wanted}
 use Rattle.nf_words.specs.declared.request.Wanted.TheVariants.{Get}
 
 -- ---- paths that stay

@@ -3,7 +3,7 @@ use Rattle.std.proofs.Common.{ℕ, zero, suc, ◌==◌, ◌&&◌, ◌≡◌, ◌
 use Rattle.std.specs.Prelude.{is_some}
 use Rattle.std.specs.List.{All}
 use Rattle.std.specs.Option.{option_map_or}
-use Rattle.std.proofs.lemmas.Bool.{cond_both, and_from, and_parts, both_ways, eq-eqb, eqb-true, false≢true}
+use Rattle.std.proofs.lemmas.Bool.{cond_both, and_from, and_parts, both_ways, eq-eqb, eqb-true}
 use Rattle.std.proofs.lemmas.List.Elements.{All-append, All-cons, All-map, All-nil, All-weaker}
 use Rattle.std.proofs.Math.Seq.{get_or-append_seam}
 use Rattle.std.proofs.lemmas.Option.{slice_get-get_or}
@@ -19,7 +19,7 @@ use Rattle.nf_base.specs.declared.rows.Row.{Row}
 use Rattle.nf_base.specs.declared.rows.Row.TheVariants as rows
 use Rattle.nf_defs.specs.Changes.{IsDroppable, made, put_all}
 use Rattle.nf_defs.specs.Tables.{Tables}
-use Rattle.nf_defs.specs.Tree.{child_of, filled, is_folder_kind, is_under, node_row, relinked, walk_of, walk_within, with_node, without_under}
+use Rattle.nf_defs.specs.Tree.{child_of, filled, is_folder_kind, is_under, node_row, relinked, walk_of, with_node, without_under}
 use Rattle.nf_defs.specs.declared.Found.TheVariants.{At, Free}
 use Rattle.nf_laws.proofs.Climbs.{climb_under}
 use Rattle.nf_laws.proofs.Replaced.{content_decides}
@@ -38,12 +38,11 @@ use Rattle.nf_words.specs.Changes.{changed, changes_of, cleared, created, droppe
 use Rattle.nf_words.specs.History.{MayAsk}
 use Rattle.nf_words.specs.Sound.{AreSound, IsSound}
 use Rattle.nf_words.specs.State.{State}
-use Rattle.nf_words.specs.Step.{changes_by, changes_to, decided, decision_of, step, without}
+use Rattle.nf_words.specs.Step.{changes_by, changes_to, decision_of, step}
 use Rattle.nf_words.specs.declared.answer.Allowed.{Allowed}
 use Rattle.nf_words.specs.declared.answer.Allowed.TheVariants as allowed
 use Rattle.nf_words.specs.declared.answer.Denial.{Denial}
 use Rattle.nf_words.specs.declared.history.Event.{Event}
-use Rattle.nf_words.specs.declared.history.Event.TheVariants.{Begin, End}
 use Rattle.nf_words.specs.declared.request.Transfer.{Transfer}
 
 -- ---- the meta row
