@@ -1,9 +1,9 @@
 -- Rows by their numbers, and the folders that a climb passes.
-use Rattle.std.proofs.Common.{ℕ, suc, zero, ◌+◌, ◌==◌, ◌≡◌, ◌<◌, ◌≤◌, Bool, true, false, List, [], ◌∷◌, Option, None, Some, filter, get_or, refl, ap, ◌∙◌, ⊎_elim, arith}
+use Rattle.std.proofs.Common.{if◌then◌else◌, ℕ, suc, zero, ◌+◌, ◌==◌, ◌≡◌, ◌<◌, ◌≤◌, Bool, true, false, List, [], ◌∷◌, Option, None, Some, filter, get_or, refl, ap, ◌∙◌, ⊎_elim, arith}
 use Rattle.std.specs.Prelude.{is_some}
 use Rattle.std.specs.List.{All, AllPairs}
 use Rattle.std.specs.Option.{option_and_then, option_map_or}
-use Rattle.std.proofs.lemmas.Bool.{cond_both, false≢true, eqb-true, eq-eqb, or_cases, or_left, or_right}
+use Rattle.std.proofs.lemmas.Bool.{ne_eqb, both_ways, cond_both, false≢true, eqb-true, eq-eqb, or_cases, or_left, or_right}
 use Rattle.std.proofs.lemmas.Option.{none-some, option_and_then_some, same_Some}
 use Rattle.nf_base.specs.declared.rows.NodeRow.{NodeRow}
 use Rattle.nf_base.specs.declared.rows.Place.TheVariants.{Inside}
@@ -129,14 +129,11 @@ those test rows = filter (λ row. test row.id) rows
 
 pub row_of_those : (test : ℕ → Bool) (rows : List NodeRow) (node : ℕ) → test node ≡ true → node_row (those test rows) node ≡ node_row rows node
 row_of_those test [] node passes = refl
-row_of_those test (x ∷ rows) node passes = here (test x.id) (x.id == node) refl refl (row_of_those test rows node passes)
-  where
-    here : (a b : Bool) → test x.id ≡ a → (x.id == node) ≡ b → node_row (those test rows) node ≡ node_row rows node
-        → node_row (those test (x ∷ rows)) node ≡ node_row (x ∷ rows) node
-    here true true e f rest = simp (e, f)
-    here true false e f rest = simp (e, f) rest
-    here false true e f rest = absurd (cc (ap test (eqb-true x.id node f)))
-    here false false e f rest = simp (e, f) rest
+row_of_those test (x ∷ rows) node passes =
+    let rest = row_of_those test rows node passes in
+    cond_both (test x.id) (x ∷ those test rows) (those test rows) (λ left. node_row left node ≡ node_row (x ∷ rows) node)
+    (λ e. ap (λ (o : Option NodeRow). if x.id == node then Some x else o) rest)
+    (λ e. rest ∙ simp (ne_eqb x.id node (λ same. both_ways (test x.id) e (rw same passes))))
 
 -- where the folder of what passes the test passes it, a climb from there stays the same
 pub climb_those : (test : ℕ → Bool) (rows : List NodeRow)

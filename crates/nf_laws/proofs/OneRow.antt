@@ -2,7 +2,7 @@
 use Rattle.std.proofs.Common.{ℕ, suc, zero, ◌+◌, ◌<◌, ◌==◌, ◌≡◌, ◌⊎◌, ◌≤◌, Bool, true, false, List, [], ◌∷◌, Option, None, Some, filter, option_map, if◌then◌else◌, length, get_or, refl, sym, ap, subst, ◌∙◌, inl, inr, arith}
 use Rattle.std.specs.List.{All, AllPairs}
 use Rattle.std.specs.Option.{option_map_or}
-use Rattle.std.proofs.lemmas.Bool.{cond_both, eq-eqb, eqb-true, false≢true, ne_eqb}
+use Rattle.std.proofs.lemmas.Bool.{both_ways, cases_Bool, cond_both, eq-eqb, eqb-true, false≢true, ne_eqb}
 use Rattle.std.proofs.lemmas.List.Sums.{sum_by-cons}
 use Rattle.nf_base.specs.declared.rows.NodeRow.{NodeRow}
 use Rattle.nf_defs.specs.Tree.{node_row, piece_count, with_node}
@@ -11,40 +11,36 @@ use Rattle.nf_defs.specs.Tree.{node_row, piece_count, with_node}
 abbrev pub KeepsId : (NodeRow → NodeRow) → Type 0
 KeepsId change = (row : NodeRow) → (change row).id ≡ row.id
 
--- the row of a node: the old one, changed where it is that node's
-pub row_with : (rows : List NodeRow) (node : ℕ) (change : NodeRow → NodeRow) → KeepsId change → (other : ℕ)
-    → node_row (with_node rows node change) other ≡ (if other == node then option_map change (node_row rows other) else node_row rows other)
-row_with [] node change keeps other = cond_both (other == node) None None (λ (o : Option NodeRow). None ≡ o) (λ e. refl) (λ e. refl)
-row_with (row ∷ rows) node change keeps other =
-    here (row.id == node) (row.id == other) refl refl (row_with rows node change keeps other)
-  where
-    id : (change row).id ≡ row.id
-    id = keeps row
-
-    here : (a b : Bool) → (row.id == node) ≡ a → (row.id == other) ≡ b
-        → node_row (with_node rows node change) other ≡ (if other == node then option_map change (node_row rows other) else node_row rows other)
-        → node_row (with_node (row ∷ rows) node change) other
-        ≡ (if other == node then option_map change (node_row (row ∷ rows) other) else node_row (row ∷ rows) other)
-    here true true e f rest =
-        let same : (other == node) ≡ true = eq-eqb other node (sym (eqb-true row.id other f) ∙ eqb-true row.id node e) in simp (e, id, f, same)
-    here true false e f rest =
-        let differ : (other == node) ≡ false =
-        ne_eqb other node (λ is. false≢true (sym f ∙ eq-eqb row.id other (eqb-true row.id node e ∙ sym is))) in
-        simp (e, id, f, differ)
-    here false true e f rest =
-        let differ : (other == node) ≡ false = ne_eqb other node (λ is. false≢true (sym e ∙ eq-eqb row.id node (eqb-true row.id other f ∙ is))) in
-        simp (e, f, differ)
-    here false false e f rest = simp (e, f) rest
-
 -- the row of the node itself, and of another one
 pub row_itself : (rows : List NodeRow) (node : ℕ) (change : NodeRow → NodeRow) → KeepsId change
     → node_row (with_node rows node change) node ≡ option_map change (node_row rows node)
-row_itself rows node change keeps =
-    let same : (node == node) ≡ true = eq-eqb node node refl in rw (row_with rows node change keeps node, same)
+row_itself [] node change keeps = refl
+row_itself (row ∷ rows) node change keeps =
+    elim (cases_Bool (row.id == node)) [
+      | inl e ↦ (let same : ((change row).id == node) ≡ true = rw (keeps row) e in simp (e, same))
+      | inr e ↦ simp e (row_itself rows node change keeps)
+    ]
 
 pub row_other : (rows : List NodeRow) (node : ℕ) (change : NodeRow → NodeRow) → KeepsId change → (other : ℕ) → (other == node) ≡ false
     → node_row (with_node rows node change) other ≡ node_row rows other
-row_other rows node change keeps other differs = rw (row_with rows node change keeps other, differs)
+row_other [] node change keeps other differs = refl
+row_other (row ∷ rows) node change keeps other differs =
+    elim (cases_Bool (row.id == node)) [
+      | inl e ↦
+          (let before : (row.id == other) ≡ false =
+          ne_eqb row.id other (λ same. both_ways (other == node) differs (eq-eqb other node (sym same ∙ eqb-true row.id node e))) in
+          let after : ((change row).id == other) ≡ false = rw (keeps row) before in simp (e, before, after))
+      | inr e ↦ simp e (ap (λ (o : Option NodeRow). if row.id == other then Some row else o) (row_other rows node change keeps other differs))
+    ]
+
+-- so the row of a node is the old one, changed where it is that node's
+pub row_with : (rows : List NodeRow) (node : ℕ) (change : NodeRow → NodeRow) → KeepsId change → (other : ℕ)
+    → node_row (with_node rows node change) other ≡ (if other == node then option_map change (node_row rows other) else node_row rows other)
+row_with rows node change keeps other =
+    cond_both (other == node) (option_map change (node_row rows other)) (node_row rows other) (λ o. node_row (with_node rows node change) other ≡ o)
+    (λ e. subst (λ (n : ℕ). node_row (with_node rows node change) n ≡ option_map change (node_row rows n)) (sym (eqb-true other node e))
+    (row_itself rows node change keeps))
+    (row_other rows node change keeps other)
 
 -- ---- row by row
 
@@ -107,16 +103,9 @@ pub filter_with : (p : NodeRow → Bool) (rows : List NodeRow) (node : ℕ) (cha
     → filter p (with_node rows node change) ≡ filter p rows
 filter_with p [] node change fail = refl
 filter_with p (x ∷ rows) node change fail =
-    here (x.id == node) (p x) refl refl fail (λ fail. filter_with p rows node change fail)
-  where
-    here : (a b : Bool) → (x.id == node) ≡ a → p x ≡ b
-        → ((row : NodeRow) → node_row (x ∷ rows) node ≡ Some row → (p row ≡ false) × (p (change row) ≡ false))
-        → (((row : NodeRow) → node_row rows node ≡ Some row → (p row ≡ false) × (p (change row) ≡ false))
-        → filter p (with_node rows node change) ≡ filter p rows)
-        → filter p (with_node (x ∷ rows) node change) ≡ filter p (x ∷ rows)
-    here true b e f fail rest = let both = fail x (simp e) in simp (e, both.0, both.1)
-    here false true e f fail rest = simp (e, f) (ap (λ (rows : List NodeRow). x ∷ rows) (rest (λ row is. fail row (simp e is))))
-    here false false e f fail rest = simp (e, f) (rest (λ row is. fail row (simp e is)))
+    cond_both (x.id == node) (change x ∷ rows) (x ∷ with_node rows node change) (λ made. filter p made ≡ filter p (x ∷ rows))
+    (λ e. let both = fail x (simp e) in simp (both.0, both.1))
+    (λ e. ap (λ (left : List NodeRow). if p x then x ∷ left else left) (filter_with p rows node change (λ row is. fail row (simp e is))))
 
 -- what all numbers of nodes have
 pub numbers_with : (P : ℕ → Type 0) (rows : List NodeRow) (node : ℕ) (change : NodeRow → NodeRow) → KeepsId change

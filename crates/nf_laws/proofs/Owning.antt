@@ -1,5 +1,5 @@
 -- What is served or changed is its caller's own.
-use Rattle.std.proofs.Common.{ℕ, ◌==◌, ◌≡◌, ◌≢◌, ◌++◌, Bool, true, false, not, List, [], ◌∷◌, Option, None, Some, Result, Ok, filter, map, option_map, get_or, refl, sym, ap, subst, ◌∙◌, inl, inr}
+use Rattle.std.proofs.Common.{if◌then◌else◌, ℕ, ◌==◌, ◌≡◌, ◌≢◌, ◌++◌, Bool, true, false, not, List, [], ◌∷◌, Option, None, Some, Result, Ok, filter, map, option_map, get_or, refl, sym, ap, subst, ◌∙◌, inl, inr}
 use Rattle.std.specs.Prelude.{IsSome, is_some}
 use Rattle.std.specs.List.{All, filter_map}
 use Rattle.std.specs.Option.{option_and_then, option_map_or}
@@ -229,14 +229,10 @@ pub others_left : (p q : NodeRow → Bool) (rows : List NodeRow) → All (λ (ro
     → filter p (filter q rows) ≡ filter p rows
 others_left p q [] own = refl
 others_left p q (x ∷ rows) own =
-    here (q x) (p x) refl refl (All-head (λ (row : NodeRow). q row ≡ false → p row ≡ false) x rows own)
-    (others_left p q rows (All-tail (λ (row : NodeRow). q row ≡ false → p row ≡ false) x rows own))
-  where
-    here : (a b : Bool) → q x ≡ a → p x ≡ b → (q x ≡ false → p x ≡ false) → filter p (filter q rows) ≡ filter p rows
-        → filter p (filter q (x ∷ rows)) ≡ filter p (x ∷ rows)
-    here true true e f own rest = simp (e, f) (ap (λ (rows : List NodeRow). x ∷ rows) rest)
-    here true false e f own rest = simp (e, f) rest
-    here false b e f own rest = simp (e, own e) rest
+    let rest = others_left p q rows (All-tail (λ (row : NodeRow). q row ≡ false → p row ≡ false) x rows own) in
+    cond_both (q x) (x ∷ filter q rows) (filter q rows) (λ left. filter p left ≡ filter p (x ∷ rows))
+    (λ e. ap (λ (left : List NodeRow). if p x then x ∷ left else left) rest)
+    (λ e. rest ∙ simp (All-head (λ (row : NodeRow). q row ≡ false → p row ≡ false) x rows own e))
 
 -- all under a node of who acts are of who acts
 under_own : (t : Tables) (who : Option ℕ) (top : ℕ) → AreSound t → KnownPath t who (At top)

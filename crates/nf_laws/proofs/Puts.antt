@@ -1,12 +1,12 @@
 -- Rows of nodes that are put and dropped, one after the other.
-use Rattle.std.proofs.Common.{ℕ, zero, suc, ◌+◌, ◌==◌, ◌≡◌, ◌≢◌, ◌<◌, Bool, true, false, not, List, [], ◌∷◌, ◌++◌, Option, None, Some, filter, map, length, get_or, refl, sym, ap, subst, ◌∙◌, arith, append_assoc}
+use Rattle.std.proofs.Common.{if◌then◌else◌, inl, inr, ℕ, zero, suc, ◌+◌, ◌==◌, ◌≡◌, ◌≢◌, ◌<◌, Bool, true, false, not, List, [], ◌∷◌, ◌++◌, Option, None, Some, filter, map, length, get_or, refl, sym, ap, subst, ◌∙◌, arith, append_assoc}
 use Rattle.std.specs.Prelude.{is_some}
 use Rattle.std.specs.List.{All, AllPairs, list_any}
 use Rattle.std.specs.Ordering.{MatchOrdering, nat_cmp, ordering_then}
 use Rattle.std.specs.Cmp.{nat_cmp_is}
 use Rattle.std.specs.declared.cmp.Ordering.{Ordering}
 use Rattle.std.specs.declared.cmp.Ordering.TheVariants.{Less, Equal, Greater}
-use Rattle.std.proofs.lemmas.Bool.{both_ways, eq-eqb, eqb-true}
+use Rattle.std.proofs.lemmas.Bool.{cases_Bool, both_ways, eq-eqb, eqb-true}
 use Rattle.std.proofs.lemmas.List.{append-nil}
 use Rattle.std.proofs.lemmas.List.Elements.{All-push, All-weaker, filter_agree, filter_passes}
 use Rattle.std.proofs.lemmas.List.Folds.{list_any_at}
@@ -107,14 +107,12 @@ all_left (x ∷ old) = ap (λ (all : List NodeRow). x ∷ all) (all_left old)
 
 both_dropped : (n : ℕ) (nodes : List ℕ) (old : List NodeRow) → left nodes (dropped node_key (n ∷ []) old) ≡ left (n ∷ nodes) old
 both_dropped n nodes [] = refl
-both_dropped n nodes (x ∷ old) = here (n == x.id) (list_any (λ node. node == x.id) nodes) refl refl (both_dropped n nodes old)
-  where
-    here : (a b : Bool) → (n == x.id) ≡ a → list_any (λ node. node == x.id) nodes ≡ b
-        → left nodes (dropped node_key (n ∷ []) old) ≡ left (n ∷ nodes) old
-        → left nodes (dropped node_key (n ∷ []) (x ∷ old)) ≡ left (n ∷ nodes) (x ∷ old)
-    here true b e f rest = simp e rest
-    here false true e f rest = simp (e, f) rest
-    here false false e f rest = simp (e, f) (ap (λ (all : List NodeRow). x ∷ all) rest)
+both_dropped n nodes (x ∷ old) =
+    let rest = both_dropped n nodes old in
+    elim (cases_Bool (n == x.id)) [
+      | inl e ↦ simp e rest
+      | inr e ↦ simp e (ap (λ (all : List NodeRow). if not (list_any (λ node. node == x.id) nodes) then x ∷ all else all) rest)
+    ]
 
 -- nodes that are dropped one by one
 drops : (t : Tables) (nodes : List ℕ) (rest : List Change)

@@ -2,7 +2,7 @@
 use Rattle.std.proofs.Common.{ℕ, ◌==◌, ◌≡◌, ◌≢◌, ◌≤◌, Bool, true, false, List, [], ◌∷◌, ◌++◌, Option, None, Some, find, length, option_map, refl, sym, ap, subst, ◌∙◌, arith, le_refl}
 use Rattle.std.specs.List.{All}
 use Rattle.std.specs.Option.{IfSome, option_and_then, option_map_or, option_or}
-use Rattle.std.proofs.lemmas.Bool.{ne_eqb, eqb-true}
+use Rattle.std.proofs.lemmas.Bool.{cond_both, ne_eqb, eqb-true}
 use Rattle.std.proofs.lemmas.List.Elements.{All-cons, All-head, All-nil, All-tail, All-weaker}
 use Rattle.std.proofs.lemmas.List.Folds.{find-append}
 use Rattle.std.proofs.lemmas.Option.{none-some, option_and_then_some, same_Some}
@@ -54,12 +54,9 @@ finds_none test (x ∷ xs) fail = simp (All-head (λ x. test x ≡ false) x xs f
 
 pub each_fails : {X : Type 0} (test : X → Bool) (xs : List X) → find test xs ≡ None → All (λ x. test x ≡ false) xs
 each_fails test [] none = All-nil (λ x. test x ≡ false)
-each_fails {X = X} test (x ∷ xs) none = here (test x) refl none (λ none. each_fails test xs none)
-  where
-    here : (a : Bool) → test x ≡ a → find test (x ∷ xs) ≡ None → (find test xs ≡ None → All (λ x. test x ≡ false) xs)
-        → All (λ x. test x ≡ false) (x ∷ xs)
-    here true e none rest = absurd (none-some x (sym (simp e at none)))
-    here false e none rest = All-cons (λ x. test x ≡ false) x xs e (rest (simp e at none))
+each_fails {X = X} test (x ∷ xs) none =
+    cond_both (test x) (Some x) (find test xs) (λ (o : Option X). o ≡ None → All (λ x. test x ≡ false) (x ∷ xs))
+    (λ e none. absurd (none-some x (sym none))) (λ e none. All-cons (λ x. test x ≡ false) x xs e (each_fails test xs none)) none
 
 pub no_value : {X : Type 0} (f : X → ℕ) (o : Option X) → option_map f o ≡ None → o ≡ None
 no_value f None none = refl
