@@ -1,5 +1,5 @@
 -- Who owns a node that is there owned it before.
-use Rattle.std.proofs.Common.{zero, suc, ◌≢◌, ℕ, ◌==◌, ◌≡◌, ◌<◌, ◌≤◌, Bool, true, false, List, [], ◌∷◌, Option, None, Some, option_map, if◌then◌else◌, refl, sym, ap, subst, ◌∙◌, arith}
+use Rattle.std.proofs.Common.{inl, inr, zero, suc, ◌≢◌, ℕ, ◌==◌, ◌≡◌, ◌<◌, ◌≤◌, Bool, true, false, List, [], ◌∷◌, Option, None, Some, option_map, if◌then◌else◌, refl, sym, ap, subst, ◌∙◌, arith}
 use Rattle.std.specs.List.{All}
 use Rattle.std.proofs.lemmas.Option.{none-some, same_Some}
 use Rattle.nf_base.specs.declared.rows.NodeRow.{NodeRow}
@@ -8,7 +8,9 @@ use Rattle.nf_defs.specs.Tree.{filled, node_row, relinked, with_node}
 use Rattle.nf_laws.proofs.Copied.{copies_numbered, old_joined}
 use Rattle.nf_laws.proofs.Gone.{kept_cleared}
 use Rattle.nf_laws.proofs.Mirrored.{mirrored}
-use Rattle.nf_laws.proofs.OneRow.{KeepsId, row_with}
+use Rattle.std.proofs.lemmas.Bool.{cases_Bool, eqb-true}
+use Rattle.nf_laws.proofs.Climbs.{map_some}
+use Rattle.nf_laws.proofs.OneRow.{KeepsId, row_itself, row_other}
 use Rattle.nf_laws.proofs.Rows.{row_joined, stamped_has}
 use Rattle.nf_words.proofs.Known.{Known, KnownCopies, KnownNew}
 use Rattle.nf_words.specs.Changes.{altered, changed, cleared, created, joined, replaced, told, transferred}
@@ -35,17 +37,15 @@ new_owners t now new blob known node row given there =
 
 with_owners : (t made : Tables) (node : ℕ) (change : NodeRow → NodeRow) → KeepsId change → ((row : NodeRow) → (change row).owner ≡ row.owner)
     → made.nodes ≡ with_node t.nodes node change → KeepsOwners t made
-with_owners t made node change keeps owner nodes other row given there = here (other == node) (node_row t.nodes other) refl refl found
-  where
-    found : (if other == node then option_map change (node_row t.nodes other) else node_row t.nodes other) ≡ Some row
-    found = sym (row_with t.nodes node change keeps other) ∙ subst (λ (rows : List NodeRow). node_row rows other ≡ Some row) nodes there
-
-    here : (a : Bool) (o : Option NodeRow) → (other == node) ≡ a → node_row t.nodes other ≡ o
-        → (if a then option_map change o else o) ≡ Some row → WasOf t.nodes other row
-    here true None e f is = absurd (none-some row is)
-    here true (Some old) e f is = (old, f, ap (λ (r : NodeRow). r.owner) (same_Some row (change old) (sym is)) ∙ owner old)
-    here false None e f is = absurd (none-some row is)
-    here false (Some old) e f is = (old, f, ap (λ (r : NodeRow). r.owner) (same_Some row old (sym is)))
+with_owners t made node change keeps owner nodes other row given there =
+    let found = subst (λ (rows : List NodeRow). node_row rows other ≡ Some row) nodes there in
+    elim (cases_Bool (other == node)) [
+      | inl e ↦
+          (let is = subst (λ (n : ℕ). node_row (with_node t.nodes n change) other ≡ Some row) (sym (eqb-true other node e)) found in
+          let old = map_some change (node_row t.nodes other) row (sym (row_itself t.nodes other change keeps) ∙ is) in
+          (old.0, old.1, ap (λ (r : NodeRow). r.owner) (sym old.2) ∙ owner old.0))
+      | inr e ↦ (row, sym (row_other t.nodes node change keeps other e) ∙ found, refl)
+    ]
 
 abbrev clearing : Tables → Option ℕ → Tables
 clearing t replaced = record t { nodes = cleared t.nodes replaced }

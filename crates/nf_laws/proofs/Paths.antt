@@ -1,7 +1,7 @@
 -- Where a path leads: the walk against the derivation, and whose is what it leads to.
 use Rattle.std.proofs.Common.{ℕ, zero, suc, ◌+◌, ◌==◌, ◌≡◌, ◌&&◌, Bool, true, false, List, [], ◌∷◌, Option, None, Some, bytes_eq, find, option_map, if◌then◌else◌, refl, sym, ap, subst, ◌∙◌, ⊎_elim, inl, inr, arith, ◌++◌, ◌⊎◌, ◌<◌, ◌≤◌, drop, get_or, length, take}
 use Rattle.std.specs.List.{AllPairs}
-use Rattle.std.proofs.lemmas.Bool.{and_parts, eq-eqb}
+use Rattle.std.proofs.lemmas.Bool.{eqb-true, and_from, both_ways, cases_Bool, cond_both, and_parts, eq-eqb}
 use Rattle.std.proofs.Math.Seq.{drop-cons}
 use Rattle.std.proofs.lemmas.List.{append-nil, length-drop, length-take-le, take-append-drop}
 use Rattle.std.proofs.lemmas.Option.{none-some, option_and_then_some, same_Some}
@@ -15,7 +15,7 @@ use Rattle.nf_defs.specs.Tables.{Tables}
 use Rattle.nf_defs.specs.Tree.{climb, parent_of, Leads, stays, leads_on, child_of, found_from, is_folder, is_in, is_place_in, node_row, onward}
 use Rattle.nf_defs.specs.declared.Found.{Found}
 use Rattle.nf_defs.specs.declared.Found.TheVariants.{At, Free, Missing}
-use Rattle.nf_laws.proofs.Climbs.{node_row_each}
+use Rattle.nf_laws.proofs.Climbs.{map_some, node_row_each}
 use Rattle.nf_laws.proofs.Rows.{parent_there, child_owner, found_is, row_is}
 use Rattle.nf_laws.specs.Walks.{LeadsNoFurther, LeadsToFree, WalkFollows}
 use Rattle.nf_words.proofs.Known.{KnownPath}
@@ -33,52 +33,48 @@ pub record IsChild (rows : List NodeRow) (folder : ℕ) (name : List ℕ) (node 
 
 pub child_is : (rows : List NodeRow) (folder : ℕ) (name : List ℕ) (node : ℕ) → AreRising rows → child_of rows folder name ≡ Some node
     → IsChild rows folder name node
-child_is rows folder name node rising is = here (find test rows) refl is
-  where
-    test : NodeRow → Bool
-    test row = is_in folder row && bytes_eq row.name name
-
-    here : (o : Option NodeRow) → find test rows ≡ o → option_map (λ row. row.id) o ≡ Some node → IsChild rows folder name node
-    here None e is = absurd (none-some node is)
-    here (Some row) e is =
-        let h = found_is (λ (row : NodeRow). node_row rows row.id ≡ Some row) test rows row (node_row_each rows rising) e in
-        let passes = and_parts (is_in folder row) (bytes_eq row.name name) h.0 in
-        record {
-          row = row;
-          id = same_Some row.id node is;
-          there = h.1;
-          place = inside_of folder row.place passes.0;
-          named = (bytes_eq-Decides row.name name).0 passes.1;
-        }
+child_is rows folder name node rising is =
+    let test : NodeRow → Bool = λ row. is_in folder row && bytes_eq row.name name in
+    let found = map_some (λ (row : NodeRow). row.id) (find test rows) node is in
+    let row : NodeRow = found.0 in
+    let h = found_is (λ (row : NodeRow). node_row rows row.id ≡ Some row) test rows row (node_row_each rows rising) found.1 in
+    let passes = and_parts (is_in folder row) (bytes_eq row.name name) h.0 in
+    record {
+      row = row;
+      id = found.2;
+      there = h.1;
+      place = inside_of folder row.place passes.0;
+      named = (bytes_eq-Decides row.name name).0 passes.1;
+    }
 
 -- a row in a folder is its child of the row's name, since no other has that name
 pub child_there : (rows : List NodeRow) (folder : ℕ) (row : NodeRow) → AllPairs AreApart rows
     → node_row rows row.id ≡ Some row → row.place ≡ Inside folder → child_of rows folder row.name ≡ Some row.id
 child_there [] folder row apart there place = absurd (none-some row there)
 child_there (x ∷ rows) folder row apart there place =
-    here (x.id == row.id) (is_in folder x) (bytes_eq x.name row.name) refl refl refl there
-    (λ there. child_there rows folder row (λ i j d before within. apart (suc i) (suc j) d (omega arith) (omega arith)) there place)
+    cond_both (test x) (Some x) (find test rows) (λ o. option_map (λ (row : NodeRow). row.id) o ≡ Some row.id)
+    (λ passes.
+    elim (cases_Bool (x.id == row.id)) [
+      | inl same ↦ ap Some (eqb-true x.id row.id same)
+      | inr differs ↦
+          (let parts = and_parts (is_in folder x) (bytes_eq x.name row.name) passes in
+          let later = found_is (λ (other : NodeRow). AreApart x other) (λ other. other.id == row.id) rows row
+          (λ k d within. apart 0 (suc k) d (omega arith) (omega arith)) (simp differs at there) in
+          absurd (later.1 folder (inside_of folder x.place parts.0) place ((bytes_eq-Decides x.name row.name).0 parts.1)))
+    ])
+    (λ fails.
+    elim (cases_Bool (x.id == row.id)) [
+      | inl same ↦
+          (let is : row ≡ x = sym (same_Some x row (simp same at there)) in
+          absurd (both_ways (test x) fails (subst (λ (r : NodeRow). test r ≡ true) is
+          (and_from (is_in folder row) (bytes_eq row.name row.name) (rw place (eq-eqb folder folder refl))
+          ((bytes_eq-Decides row.name row.name).1 refl)))))
+      | inr differs ↦
+          child_there rows folder row (λ i j d before within. apart (suc i) (suc j) d (omega arith) (omega arith)) (simp differs at there) place
+    ])
   where
-    is_child : is_in folder row ≡ true
-    is_child = ap (is_place_in folder) place ∙ eq-eqb folder folder refl
-
-    apart_of : node_row rows row.id ≡ Some row → x.place ≡ Inside folder → x.name ≡ row.name → ⊥
-    apart_of there at named =
-        (found_is (λ (other : NodeRow). AreApart x other) (λ other. other.id == row.id) rows row
-        (λ k d within. apart 0 (suc k) d (omega arith) (omega arith)) there).1 folder at place named
-
-    here : (a b c : Bool) → (x.id == row.id) ≡ a → is_in folder x ≡ b → bytes_eq x.name row.name ≡ c
-        → node_row (x ∷ rows) row.id ≡ Some row → (node_row rows row.id ≡ Some row → child_of rows folder row.name ≡ Some row.id)
-        → child_of (x ∷ rows) folder row.name ≡ Some row.id
-    here true b c e f g there rest =
-        let same : x ≡ row = same_Some x row (simp e at there) in
-        let first : is_in folder x ≡ true = ap (is_in folder) same ∙ is_child in
-        let second : bytes_eq x.name row.name ≡ true = (bytes_eq-Decides x.name row.name).1 (ap (λ (r : NodeRow). r.name) same) in
-        simp (first, second) (ap (λ (r : NodeRow). Some r.id) same)
-    here false true true e f g there rest =
-        absurd (apart_of (simp e at there) (inside_of folder x.place f) ((bytes_eq-Decides x.name row.name).0 g))
-    here false true false e f g there rest = simp (f, g) (rest (simp e at there))
-    here false false c e f g there rest = simp f (rest (simp e at there))
+    test : NodeRow → Bool
+    test other = is_in folder other && bytes_eq other.name row.name
 
 -- ---- the walk
 

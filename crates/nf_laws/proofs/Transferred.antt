@@ -30,7 +30,7 @@ use Rattle.nf_words.specs.declared.answer.Allowed.TheVariants as allowed
 use Rattle.nf_words.specs.declared.request.Transfer.{Transfer}
 use Rattle.std.specs.List.{All, flat_map}
 use Rattle.std.proofs.lemmas.List.Elements.{All-head, All-tail, All-weaker}
-use Rattle.nf_laws.proofs.OneRow.{filter_with, row_with}
+use Rattle.nf_laws.proofs.OneRow.{filter_with, row_itself, row_other}
 use Rattle.nf_laws.proofs.Owning.{others_left}
 use Rattle.nf_laws.proofs.Upwards.{climbs_is_under}
 use Rattle.nf_laws.proofs.Walked.{no_ring}
@@ -236,8 +236,8 @@ moved_rows : (t : Tables) (who : Option ℕ) (transfer : Transfer) (name : List 
     → IsMoved t.nodes (nodes_after t transfer name) transfer name
 unfolding walk_of
 moved_rows t who transfer name sound known = record {
-  itself = row_with rest transfer.node (relinked transfer.folder name) (λ row. refl) transfer.node
-      ∙ simp (eq-eqb transfer.node transfer.node refl) (ap (option_map (relinked transfer.folder name)) (row_cleared t.nodes transfer.replaced transfer.node known.apart));
+  itself = row_itself rest transfer.node (relinked transfer.folder name) (λ row. refl)
+      ∙ ap (option_map (relinked transfer.folder name)) (row_cleared t.nodes transfer.replaced transfer.node known.apart);
   below = same_walk 64 t who transfer name 0 transfer.node sound known refl;
   gone = λ node goes. after node (is_gone node goes) ∙ row_gone t.nodes transfer.replaced node goes;
   others = λ node other stays. after node other ∙ row_cleared t.nodes transfer.replaced node stays;
@@ -248,7 +248,7 @@ moved_rows t who transfer name sound known = record {
 
     after : (node : ℕ) → node ≢ transfer.node → node_row (nodes_after t transfer name) node ≡ node_row rest node
     after node other =
-        row_with rest transfer.node (relinked transfer.folder name) (λ row. refl) node ∙ simp (ne_eqb node transfer.node other)
+        row_other rest transfer.node (relinked transfer.folder name) (λ row. refl) node (ne_eqb node transfer.node other)
 
     is_gone : (node : ℕ) → is_replaced t.nodes transfer.replaced node ≡ true → node ≢ transfer.node
     is_gone node goes = λ same. false≢true (sym known.apart ∙ ap (is_replaced t.nodes transfer.replaced) (sym same) ∙ goes)
