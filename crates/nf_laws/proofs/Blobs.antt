@@ -33,6 +33,7 @@ use Rattle.nf_laws.proofs.Entries.{entry_has, tickets_left, tickets_with}
 use Rattle.nf_laws.proofs.Gone.{all_cleared}
 use Rattle.nf_laws.proofs.Mirrored.{mirrored}
 use Rattle.nf_laws.proofs.OneRow.{with_all}
+use Rattle.nf_laws.proofs.Replaced.{content_decides}
 use Rattle.nf_laws.proofs.Rows.{content_has, found_is, stamped_has, row_is}
 use Rattle.nf_laws.specs.Wholes.{BlobsAreNew, IsGoalHeld, IsHeld, IsThere, StaysWhole, blob_in, blob_under, Brings}
 use Rattle.std.proofs.lemmas.Bool.{cases_Bool, cond_both, and_parts, eqb-true, false_from_ne_true, false≢true}
@@ -83,36 +84,20 @@ altered_next t now act = refl
 
 -- ---- an act that changes no row stores nothing
 
--- two contents that are alike begin with the same blob
-same_blob : (pieces : List Piece) (piece : Piece) (more : List Piece) → content_eq pieces (piece ∷ more) ≡ true
-    → (first : Piece) × (others : List Piece) × (pieces ≡ first ∷ others) × (first.blob ≡ piece.blob)
-same_blob [] piece more same = absurd (false≢true same)
-same_blob (first ∷ others) piece more same =
-    let heads = (and_parts _ _ same).0 in (first, others, refl, eqb-true first.blob piece.blob (and_parts _ _ heads).0)
-
--- no node holds a blob that wasn't given
-never_same : (t : Tables) (row : NodeRow) (piece : Piece) (more : List Piece) → All (IsPieceSound t) row.content
-    → piece.blob ≡ t.meta.next_blob → content_eq row.content (piece ∷ more) ≡ false
-never_same t row piece more sound is =
-    false_from_ne_true (content_eq row.content (piece ∷ more)) (λ alike.
-    let same = same_blob row.content piece more alike in
-    let first = All-head (IsPieceSound t) same.0 same.1 (subst (All (IsPieceSound t)) same.2 sound) in
-    omega (arith, first.given, same.3, is))
-
--- so a new blob makes another content
+-- no node holds a blob that wasn't given, so a new blob makes another content
 refills : (t : Tables) (row : NodeRow) (now : ℕ) (content : List Piece) (blob : Option ℕ) → All (IsPieceSound t) row.content
     → IsOfBody t.meta blob content → refilled (Some row) now content ≡ [] → blob ≡ None
 refills t row now content None sound of_body none = refl
 refills t row now content (Some id) sound of_body none =
     let piece : Piece = record { blob = id; size = of_body.1.0; digest = of_body.1.1 } in
-    let differs = never_same t row piece [] sound of_body.0 in
-    absurd (put_something (content_eq row.content content) (row.changed == now)
-    (ap (content_eq row.content) of_body.1.4 ∙ differs) none)
-  where
-    put_something : (a b : Bool) → a ≡ false
-        → (if a && b then [] else Put (rows.Node (record row { content = content; changed = now })) ∷ []) ≡ [] → ⊥
-    put_something true b is none = cc
-    put_something false b is none = cc
+    cond_both (content_eq row.content content && row.changed == now) [] (Put (rows.Node (filled content now row)) ∷ [])
+    (λ changes. changes ≡ [] → Some id ≡ None)
+    (λ same none.
+    let is : row.content ≡ piece ∷ [] =
+    (content_decides row.content content).0 (and_parts (content_eq row.content content) (row.changed == now) same).0 ∙ of_body.1.4 in
+    let old = All-head (IsPieceSound t) piece [] (subst (All (IsPieceSound t)) is sound) in
+    absurd (omega (arith, old.given, of_body.0)))
+    (λ other none. absurd (cc)) none
 
 pub told_blob : (t : Tables) (now : ℕ) (who : Option ℕ) (act : Allowed) → AreSound t → Known t now who act → told t now act ≡ [] → blob_of act ≡ None
 told_blob t now who (allowed.StoreNew row blob) sound known none = cc
