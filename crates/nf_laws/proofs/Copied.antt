@@ -180,8 +180,8 @@ module _ (t : Tables) (now : ℕ) (who : Option ℕ) (transfer : Transfer) (name
   folder_made =
       let same = row_cleared t.nodes transfer.replaced transfer.folder stays in
       let h = folder_kept left.nodes made.nodes transfer.folder (kept_joined left.nodes rows)
-      (ap (λ (o : Option NodeRow). option_map_or (λ row. is_folder_kind row.kind) o false) same ∙ known.in_folder) in
-      (h.0, h.1 ∙ ap (λ (o : Option NodeRow). option_map_or (λ row. row.owner) o 0) same)
+      (rw same known.in_folder) in
+      (h.0, h.1 ∙ rw same refl)
 
   folder_given : transfer.folder < t.meta.next_node
   folder_given = let h = row_is t transfer.folder folder_row.0 sound folder_row.1 in omega (arith, h.0, h.1.given)
@@ -205,8 +205,8 @@ module _ (t : Tables) (now : ℕ) (who : Option ℕ) (transfer : Transfer) (name
       let above : c.at < length rows = omega (arith, c.before) in
       let there = copy_there d c.at above in
       subst (λ (p : Place). IsPlaceSound made (get_or rows (suc k) d) p) (sym c.place) (
-        ap (λ (o : Option NodeRow). option_map_or (λ row. is_folder_kind row.kind) o false) there ∙ c.folder,
-        ap (λ (o : Option NodeRow). option_map_or (λ row. row.owner) o 0) there ∙ (copy c.at d above).owner ∙ sym (copy (suc k) d within).owner,
+        rw there c.folder,
+        rw there ((copy c.at d above).owner ∙ sym (copy (suc k) d within).owner),
       )
 
   copies_sound : All (IsNodeSound made) rows

@@ -1,8 +1,8 @@
 -- The tables without what is removed are sound.
-use Rattle.std.proofs.Common.{ℕ, suc, ◌==◌, ◌≡◌, ◌<◌, ◌≤◌, Bool, true, false, not, List, Option, None, Some, length, refl, sym, ap, subst, ◌∙◌, arith, le_refl}
+use Rattle.std.proofs.Common.{inl, inr, ℕ, suc, ◌==◌, ◌≡◌, ◌<◌, ◌≤◌, Bool, true, false, not, List, Option, None, Some, length, refl, sym, ap, subst, ◌∙◌, arith, le_refl}
 use Rattle.std.specs.List.{All}
 use Rattle.std.specs.Option.{option_map_or}
-use Rattle.std.proofs.lemmas.Bool.{ne_eqb, not_from_false, both_ways, false_from_ne_true, false≢true, not-true}
+use Rattle.std.proofs.lemmas.Bool.{cases_Bool, ne_eqb, not_from_false, both_ways, false_from_ne_true, false≢true, not-true}
 use Rattle.std.proofs.lemmas.List.Elements.{All-filter, All-weaker, filter_passes}
 use Rattle.std.proofs.lemmas.List.Filters.{length-filter_both, sum_by-filter_both}
 use Rattle.std.proofs.lemmas.List.Kept.{AllPairs-filter}
@@ -130,11 +130,11 @@ row_gone rows (Some top) node goes =
 -- a node that is there hasn't to go, and was there
 pub kept_cleared : (rows : List NodeRow) (replaced : Option ℕ) (node : ℕ) (row : NodeRow) → node_row (cleared rows replaced) node ≡ Some row
     → (is_replaced rows replaced node ≡ false) × (node_row rows node ≡ Some row)
-kept_cleared rows replaced node row there = here (is_replaced rows replaced node) refl
-  where
-    here : (a : Bool) → is_replaced rows replaced node ≡ a → (is_replaced rows replaced node ≡ false) × (node_row rows node ≡ Some row)
-    here true e = absurd (none-some row (sym (row_gone rows replaced node e) ∙ there))
-    here false e = (e, sym (row_cleared rows replaced node e) ∙ there)
+kept_cleared rows replaced node row there =
+    elim (cases_Bool (is_replaced rows replaced node)) [
+      | inl goes ↦ absurd (none-some row (sym (row_gone rows replaced node goes) ∙ there))
+      | inr stays ↦ (stays, sym (row_cleared rows replaced node stays) ∙ there)
+    ]
 
 -- it climbs as before
 pub climb_cleared : (t : Tables) (replaced : Option ℕ) (k node : ℕ) → AreSound t → is_replaced t.nodes replaced node ≡ false

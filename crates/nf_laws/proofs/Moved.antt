@@ -155,7 +155,7 @@ root_moved : (u : Tables) (node folder : ℕ) (name : List ℕ) → is_root u.no
     → HasRoot (relink u node folder name) user
 root_moved u node folder name no_root user root =
     let is : is_root u.nodes user.root ≡ true =
-    ap (λ (o : Option NodeRow). option_map_or (λ row. is_root_place row.place) o false) root.there ∙ ap is_root_place root.place in
+    rw root.there (ap is_root_place root.place) in
     let differs : (user.root == node) ≡ false =
     ne_eqb user.root node (λ same. both_ways (is_root u.nodes node) no_root (subst (λ (n : ℕ). is_root u.nodes n ≡ true) same is)) in
     root_still u (relink u node folder name) user root
@@ -209,7 +209,7 @@ folder_owner t who transfer name sound known = here transfer.replaced known.targ
         → child_of t.nodes transfer.folder name ≡ o → owner_of t.nodes transfer.folder ≡ known.target.row.id
     here None path same is =
         let own = path_own t who (Free transfer.folder) transfer.folder sound path refl in
-        ap (λ (o : Option NodeRow). option_map_or (λ row. row.owner) o 0) own.there ∙ own.owner ∙ same
+        rw own.there (own.owner ∙ same)
     here (Some top) path same is =
         let own = path_own t who (At top) top sound path refl in
         let above = child_parent t.nodes transfer.folder name top sound.rising is in
@@ -235,11 +235,9 @@ move_fits t who transfer name sound known =
       own.row,
       record {
         there = itself ∙ own.there;
-        no_root = ap (λ (o : Option NodeRow). option_map_or (λ row. is_root_place row.place) o false) itself ∙ known.no_root;
-        in_folder = ap (λ (o : Option NodeRow). option_map_or (λ row. is_folder_kind row.kind) o false) at ∙ known.in_folder;
-        owner =
-            ap (λ (o : Option NodeRow). option_map_or (λ row. row.owner) o 0) at ∙ folder_owner t who transfer name sound known
-            ∙ owners ∙ sym own.owner;
+        no_root = rw itself known.no_root;
+        in_folder = rw at known.in_folder;
+        owner = rw at (folder_owner t who transfer name sound known ∙ owners ∙ sym own.owner);
         free = free_cleared t transfer.replaced folder name sound known.there;
         outside = false_from_ne_true (is_under u.nodes folder node) (λ under.
             let c = under_climb u.nodes folder node under in

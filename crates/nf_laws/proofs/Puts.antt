@@ -73,27 +73,21 @@ pub put_changed : (old : List NodeRow) (node : ℕ) (change : NodeRow → NodeRo
     → put node_key (change row) old ≡ with_node old node change
 put_changed [] node change row keeps rising is = absurd (none-some row is)
 put_changed (x ∷ old) node change row keeps rising is =
-    here (x.id == node) refl is
-    (λ is. put_changed old node change row keeps (λ i j d before within. rising (suc i) (suc j) d (omega arith) (omega arith)) is)
-  where
-    new : NodeRow
-    new = change row
-
-    here : (a : Bool) → (x.id == node) ≡ a → node_row (x ∷ old) node ≡ Some row
-        → (node_row old node ≡ Some row → put node_key new old ≡ with_node old node change)
-        → put node_key new (x ∷ old) ≡ with_node (x ∷ old) node change
-    here true e is rest =
-        let same : x ≡ row = same_Some x row (simp e at is) in
-        simp e (ap (λ (o : Ordering). by_order o (new ∷ x ∷ old) (new ∷ old) (x ∷ put node_key new old))
-        (compared new.id x.id Equal (keeps ∙ sym (ap (λ (r : NodeRow). r.id) same)))
-        ∙ ap (λ (r : NodeRow). change r ∷ old) (sym same))
-    here false e is rest =
-        let found : node_row old node ≡ Some row = simp e at is in
-        let below : x.id < row.id =
-        (found_is (λ (r : NodeRow). x.id < r.id) (λ r. r.id == node) old row (λ k d within. rising 0 (suc k) d (omega arith) (omega arith)) found).1 in
-        simp e (ap (λ (o : Ordering). by_order o (new ∷ x ∷ old) (new ∷ old) (x ∷ put node_key new old))
-        (compared new.id x.id Greater (omega (arith, keeps, below)))
-        ∙ ap (λ (all : List NodeRow). x ∷ all) (rest found))
+    let new : NodeRow = change row in
+    let choice : Ordering → List NodeRow = λ o. by_order o (new ∷ x ∷ old) (new ∷ old) (x ∷ put node_key new old) in
+    elim (cases_Bool (x.id == node)) [
+      | inl e ↦
+          (let same : x ≡ row = same_Some x row (simp e at is) in
+          simp e (ap choice (compared new.id x.id Equal (keeps ∙ sym (ap (λ (r : NodeRow). r.id) same)))
+          ∙ ap (λ (r : NodeRow). change r ∷ old) (sym same)))
+      | inr e ↦
+          (let found : node_row old node ≡ Some row = simp e at is in
+          let below = found_is (λ (r : NodeRow). x.id < r.id) (λ r. r.id == node) old row
+          (λ k d within. rising 0 (suc k) d (omega arith) (omega arith)) found in
+          simp e (ap choice (compared new.id x.id Greater (omega (arith, keeps, below.1)))
+          ∙ ap (λ (all : List NodeRow). x ∷ all) (put_changed old node change row keeps
+          (λ i j d before within. rising (suc i) (suc j) d (omega arith) (omega arith)) found)))
+    ]
 
 -- ---- rows that are dropped
 

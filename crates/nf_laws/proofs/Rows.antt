@@ -140,11 +140,8 @@ pub folder_kept : (rows others : List NodeRow) (node : ℕ) → AreKept rows oth
     → (is_folder others node ≡ true) × (owner_of others node ≡ owner_of rows node)
 folder_kept rows others node kept is =
     let h = folder_there rows node is in
-    let k = kept node h.0 h.1 in (
-      ap (λ (o : Option NodeRow). option_map_or (λ row. is_folder_kind row.kind) o false) k.there ∙ ap is_folder_kind k.kind ∙ h.2,
-      ap (λ (o : Option NodeRow). option_map_or (λ row. row.owner) o 0) k.there ∙ k.owner
-          ∙ sym (ap (λ (o : Option NodeRow). option_map_or (λ row. row.owner) o 0) h.1),
-    )
+    let k = kept node h.0 h.1 in
+    (rw k.there (ap is_folder_kind k.kind ∙ h.2), rw (k.there, h.1) k.owner)
 
 parent_kept : (rows others : List NodeRow) (node parent : ℕ) → AreKept rows others
     → parent_of rows node ≡ Some parent → parent_of others node ≡ Some parent
