@@ -12,7 +12,7 @@ use Rattle.nf_base.specs.declared.rows.UserRow.{UserRow}
 use Rattle.nf_defs.proofs.Walks.{AreRising, inside_of}
 use Rattle.nf_defs.specs.People.{user_row}
 use Rattle.nf_defs.specs.Tables.{Tables}
-use Rattle.nf_defs.specs.Tree.{climb, parent_of, Leads, stays, leads_on, child_of, found_from, is_folder, is_in, is_place_in, node_row, onward}
+use Rattle.nf_defs.specs.Tree.{climb, parent_of, Leads, stays, leads_on, child_of, found_from, is_folder, is_in, node_row, onward}
 use Rattle.nf_defs.specs.declared.Found.{Found}
 use Rattle.nf_defs.specs.declared.Found.TheVariants.{At, Free, Missing}
 use Rattle.nf_laws.proofs.Climbs.{map_some, node_row_each}

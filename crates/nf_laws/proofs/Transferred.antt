@@ -1,7 +1,7 @@
 -- What a COPY leaves: the copies, and all that was there but for what had to go. And what a MOVE leaves as it was.
 use Rattle.std.proofs.Common.{ℕ, zero, suc, ◌+◌, ◌-◌, ◌<◌, ◌≡◌, true, false, List, ◌++◌, Option, None, Some, map, inl, inr, refl, sym, ap, subst, ◌∙◌, arith, length-append, ◌==◌, ◌≢◌, not, [], ◌∷◌, filter, get_or, length, option_map, ◌≤◌}
 use Rattle.std.specs.Option.{option_map_or}
-use Rattle.std.proofs.lemmas.Bool.{both_ways, cases_lt, false_from_ne_true, false≢true, eq-eqb, ne_eqb, not-false}
+use Rattle.std.proofs.lemmas.Bool.{both_ways, cases_lt, false_from_ne_true, false≢true, ne_eqb, not-false}
 use Rattle.std.proofs.lemmas.List.{length-map}
 use Rattle.std.proofs.lemmas.Option.{option_and_then_some}
 use Rattle.nf_base.specs.declared.changes.Change.TheVariants.{Put}
