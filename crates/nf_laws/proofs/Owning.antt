@@ -25,7 +25,7 @@ use Rattle.nf_laws.proofs.Moved.{folder_owner}
 use Rattle.nf_laws.proofs.OneRow.{filter_with}
 use Rattle.nf_laws.proofs.Rows.{folder_there, found_is, row_id, stamp}
 use Rattle.nf_laws.proofs.Paths.{climb_own, found_leads, leads_own, path_own, root_own}
-use Rattle.nf_laws.specs.Owners.{ChangesOnlyOwn, ChangesOwn, ListsAll, ListsOwn, ServesOwn, nodes_of_others}
+use Rattle.nf_laws.specs.Owners.{IsServed, ChangesOnlyOwn, ChangesOwn, ListsAll, ListsOwn, ServesOwn, nodes_of_others}
 use Rattle.nf_words.proofs.Known.{Known, KnownCopies, KnownNew, KnownPath, call_known, call_passes}
 use Rattle.nf_words.specs.Actors.{actor_of}
 use Rattle.nf_words.specs.Calls.{Call, asker_of, found, root_of, source_of, target_of, user_of}
@@ -113,33 +113,29 @@ asked t now user wanted leads act is shown =
       | inr alters ↦ absurd (shown (subst Alters is alters))
     ]
 
--- a node of the caller's to which a path leads from the caller's root
-record IsOfCaller (call : Call) (spot : Spot) (node : ℕ) : Type 0 where
-  user : ℕ
-  caller : user_of call ≡ Some user
-  row : NodeRow
-  id : row.id ≡ node
-  there : node_row call.state.tables.nodes row.id ≡ Some row
-  led : Leads call.state.tables.nodes (root_of call) spot.path row.id
-  own : row.owner ≡ user
-
+-- a node to which the path of a GET leads from the caller's root is the caller's
 of_caller : (call : Call) (spot : Spot) (node : ℕ) (place : Found) → AreSound call.state.tables → KnownPath call.state.tables (user_of call) place
-    → found call spot ≡ At node → IsOfCaller call spot node
-of_caller call spot node place sound path leads =
+    → call.request.wanted ≡ Get spot → found call spot ≡ At node
+    → (served : IsServed call (content_of call.state.tables.nodes node)) × (served.row.id ≡ node)
+of_caller call spot node place sound path wanted leads =
     let t = call.state.tables in
     let root : root_of call ≡ path.row.root = rw (path.caller, path.there) refl in
     let led = found_leads t (root_of call) spot.path node sound leads in
     let own = leads_own t path.row.id (root_of call) spot.path node sound led (rw root (root_own t path.row sound path.there)) in
-    let id = row_id t.nodes node own.row own.there in
-    record {
-      user = path.row.id;
-      caller = path.caller;
-      row = own.row;
-      id = id;
-      there = subst (λ (n : ℕ). node_row t.nodes n ≡ Some own.row) (sym id) own.there;
-      led = subst (Leads t.nodes (root_of call) spot.path) (sym id) led;
-      own = own.owner;
-    }
+    let id = row_id t.nodes node own.row own.there in (
+      record {
+        spot = spot;
+        asked = wanted;
+        user = path.row.id;
+        caller = path.caller;
+        row = own.row;
+        there = subst (λ (n : ℕ). node_row t.nodes n ≡ Some own.row) (sym id) own.there;
+        led = subst (Leads t.nodes (root_of call) spot.path) (sym id) led;
+        own = own.owner;
+        sent = rw own.there refl;
+      },
+      id,
+    )
 
 pub serves_own : ServesOwn
 serves_own s seat now words request content sound may is =
@@ -149,18 +145,7 @@ serves_own s seat now words request content sound may is =
     let known = call_known call act sound may get.1 in
     let spot = asked s.tables now (asker_of call) request.wanted (found call) act (call_passes call act get.1).1 (λ alters. alters) in
     let at = get_at s.tables (found call spot.0) get.0 content spot.2 in
-    let mine = of_caller call spot.0 get.0 (At get.0) sound.rows known.path at.0 in
-    record {
-      spot = spot.0;
-      asked = spot.1;
-      user = mine.user;
-      caller = mine.caller;
-      row = mine.row;
-      there = mine.there;
-      led = mine.led;
-      own = mine.own;
-      sent = rw mine.there at (ap (content_of s.tables.nodes) mine.id) ∙ sym at.1;
-    }
+    subst (IsServed call) (sym at.1) (of_caller call spot.0 get.0 (At get.0) sound.rows known.path spot.1 at.0).0
 
 pub lists_own : ListsOwn
 lists_own s seat now words request listing sound may is =
@@ -170,18 +155,20 @@ lists_own s seat now words request listing sound may is =
     let known = call_known call act sound may decides in
     let spot = asked s.tables now (asker_of call) request.wanted (found call) act (call_passes call act decides).1 (λ alters. alters) in
     let at = list_at s.tables (found call spot.0) listing spot.2 in
-    let mine = of_caller call spot.0 at.0 (At known.folder) sound.rows known.path at.1 in
+    let of = of_caller call spot.0 at.0 (At known.folder) sound.rows known.path spot.1 at.1 in
+    let mine = of.0 in
+    let id = of.1 in
     record {
-      spot = spot.0;
-      asked = spot.1;
+      spot = mine.spot;
+      asked = mine.asked;
       user = mine.user;
       caller = mine.caller;
       row = mine.row;
       there = mine.there;
-      folder = rw mine.there at (ap (is_folder s.tables.nodes) mine.id) ∙ at.2;
+      folder = rw mine.there at (ap (is_folder s.tables.nodes) id) ∙ at.2;
       led = mine.led;
       own = mine.own;
-      listed = at.3 ∙ ap (listing_of s.tables) (sym mine.id);
+      listed = at.3 ∙ ap (listing_of s.tables) (sym id);
     }
 
 -- ---- each node in a folder has a line

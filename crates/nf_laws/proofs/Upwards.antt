@@ -64,20 +64,15 @@ deepest_among rows nodes k d within = max_bounds (deepest rows) (depth rows) ref
 
 -- ---- depths
 
-steps_up : (k : ℕ) (rows : List NodeRow) (node parent root : ℕ) → parent_of rows root ≡ None → k ≤ 64
-    → parent_of rows node ≡ Some parent → climb rows k node ≡ Some root → depth rows node ≡ suc (depth rows parent)
-steps_up zero rows node parent root ends few above is =
-    absurd (none-some parent (sym ends ∙ ap (parent_of rows) (sym (same_Some node root is)) ∙ above))
-steps_up (suc k) rows node parent root ends few above is =
-    let rest : climb rows k parent ≡ Some root = rw above at is in
-    depth_is (suc k) rows node root ends few is ∙ ap suc (sym (depth_is k rows parent root ends (omega arith) rest))
-
 pub depth_up : (t : Tables) (node parent : ℕ) → AreSound t → parent_of t.nodes node ≡ Some parent
     → depth t.nodes node ≡ suc (depth t.nodes parent)
 depth_up t node parent sound above =
     option_and_then_some (λ row. folder_of row.place) (node_row t.nodes node) parent above (λ row there place.
-    let r = rooted t node row sound there in
-    steps_up r.steps t.nodes node parent (root_of_user t row.owner) (none_above t row.owner sound) r.shallow above r.climbs)
+    let folder = parent_there t node parent row sound there above in
+    let root = root_of_user t folder.0.owner in
+    let up : climb t.nodes (suc (depth t.nodes parent)) node ≡ Some root = rw above (climbs_depth t parent folder.0 sound folder.1).0 in
+    depth_is (suc (depth t.nodes parent)) t.nodes node root (none_above t folder.0.owner sound)
+    (climb_short (suc (depth t.nodes parent)) t node root sound up) up)
 
 -- a node is deeper than each that it climbs to by the steps
 pub depth_climb : (j : ℕ) (t : Tables) (node top : ℕ) → AreSound t → climb t.nodes j node ≡ Some top
