@@ -20,7 +20,7 @@ use Rattle.nf_words.specs.declared.request.Transfer.{Transfer}
 use Rattle.nf_laws.proofs.Added.{new_apart}
 use Rattle.nf_laws.proofs.Climbs.{climb_same, climb_on, depth_is, node_row_each, under_climb}
 use Rattle.nf_laws.proofs.Gone.{clearing_sound, climb_cleared, folder_stays, free_cleared, kept_cleared, row_cleared}
-use Rattle.nf_laws.proofs.OneRow.{IsEither, each_either, length_with, pieces_with, rising_with, row_itself, row_other, value_with}
+use Rattle.nf_laws.proofs.OneRow.{with_each, IsEither, each_either, length_with, pieces_with, rising_with, row_itself, row_other, value_with}
 use Rattle.nf_laws.proofs.Paths.{climb_own, path_own}
 use Rattle.nf_laws.proofs.Rows.{IsRooted, folder_there, none_above, kept_row, node_still, parent_there, root_still}
 use Rattle.nf_laws.proofs.Upwards.{climbs_depth, deepest_among, climb_short, climbs_is_under, depth_climb, never_climbs, rooted}
@@ -123,18 +123,15 @@ node_moved u node folder name old row sound fits there h =
     node_still u (relink u node folder name) row row.place row.name (le_refl _) (le_refl _) (le_refl _) h
     (place_moved u node folder name row row.place h.place) (rooted_moved u node folder name old row sound fits there)
 
--- the row at a place is sound
-either_moved : (u : Tables) (node folder : ℕ) (name : List ℕ) (old before row : NodeRow) → AreSound u → Fits u node folder name old
-    → node_row u.nodes before.id ≡ Some before → IsNodeSound u before → IsEither u.nodes node (relinked folder name) before row
-    → IsNodeSound (relink u node folder name) row
-either_moved u node folder name old before row sound fits there h (inl e) =
-    subst (λ (r : NodeRow). IsNodeSound (relink u node folder name) r) (sym e) (node_moved u node folder name old before sound fits there h)
-either_moved u node folder name old before row sound fits there h (inr is) =
-    let same : old.owner ≡ before.owner = ap (λ (r : NodeRow). r.owner) (same_Some old before (sym fits.there ∙ is.0)) in
-    subst (λ (r : NodeRow). IsNodeSound (relink u node folder name) r) (sym is.1)
-    (node_still u (relink u node folder name) before (Inside folder) name (le_refl _) (le_refl _) (le_refl _) h
-    (folder_moved u node folder name (relinked folder name before) folder (fits.in_folder, fits.owner ∙ same))
-    (rooted_moved u node folder name old before sound fits there))
+-- so is the moved row
+itself_moved : (u : Tables) (node folder : ℕ) (name : List ℕ) (old row : NodeRow) → AreSound u → Fits u node folder name old
+    → node_row u.nodes node ≡ Some row → node_row u.nodes row.id ≡ Some row → IsNodeSound u row
+    → IsNodeSound (relink u node folder name) (relinked folder name row)
+itself_moved u node folder name old row sound fits is there h =
+    let same : old.owner ≡ row.owner = ap (λ (r : NodeRow). r.owner) (same_Some old row (sym fits.there ∙ is)) in
+    node_still u (relink u node folder name) row (Inside folder) name (le_refl _) (le_refl _) (le_refl _) h
+    (folder_moved u node folder name (relinked folder name row) folder (fits.in_folder, fits.owner ∙ same))
+    (rooted_moved u node folder name old row sound fits there)
 
 -- two rows are apart, where both are from the changed one
 pair_apart : (rows : List NodeRow) (node : ℕ) (change : NodeRow → NodeRow) (a b x y : NodeRow)
@@ -174,10 +171,10 @@ relinked_sound u node folder name old sound fits =
     record {
       counters = sound.counters;
       rising = rising_with u.nodes node change (λ row. refl) sound.rising;
-      nodes = λ k d within.
-          let few : k < length u.nodes = omega (arith, counts) in
-          either_moved u node folder name old (get_or u.nodes k d) (get_or made.nodes k d) sound fits
-          (node_row_each u.nodes sound.rising k d few) (sound.nodes k d few) (either k d);
+      nodes = with_each (IsNodeSound made) (λ row. IsNodeSound u row × (node_row u.nodes row.id ≡ Some row)) u.nodes node change
+          (λ row h. node_moved u node folder name old row sound fits h.1 h.0)
+          (λ row is h. itself_moved u node folder name old row sound fits is h.1 h.0)
+          (λ k d within. (sound.nodes k d within, node_row_each u.nodes sound.rising k d within));
       names = λ i j d before within.
           let few : j < length u.nodes = omega (arith, counts) in
           pair_apart u.nodes node change (get_or u.nodes i d) (get_or u.nodes j d) (get_or made.nodes i d) (get_or made.nodes j d)

@@ -90,12 +90,18 @@ pieces_with (row ∷ rows) node change more few =
     (λ e. omega (arith, few row, pieces_of (change row) rows, pieces_of row rows))
     (λ e. omega (arith, pieces_with rows node change more few, pieces_of row (with_node rows node change), pieces_of row rows))
 
--- what a change of a row keeps
+-- what each row has and the changed one of the node has, all have
+pub with_each : (P Q : NodeRow → Type 0) (rows : List NodeRow) (node : ℕ) (change : NodeRow → NodeRow)
+    → ((row : NodeRow) → Q row → P row) → ((row : NodeRow) → node_row rows node ≡ Some row → Q row → P (change row))
+    → All Q rows → All P (with_node rows node change)
+with_each P Q rows node change same changed all k d within =
+    let old : Q (get_or rows k d) = all k d (omega (arith, length_with rows node change)) in
+    elim (each_either rows node change k d) [ | inl e ↦ subst P (sym e) (same _ old) | inr h ↦ subst P (sym h.1) (changed _ h.0 old) ]
+
+-- so what a change of a row keeps
 pub with_all : (P : NodeRow → Type 0) (rows : List NodeRow) (node : ℕ) (change : NodeRow → NodeRow)
     → ((row : NodeRow) → P row → P (change row)) → All P rows → All P (with_node rows node change)
-with_all P rows node change keeps all k d within =
-    let old : P (get_or rows k d) = all k d (omega (arith, length_with rows node change)) in
-    elim (each_either rows node change k d) [ inl e ↦ subst P (sym e) old | inr h ↦ subst P (sym h.1) (keeps _ old) ]
+with_all P rows node change keeps = with_each P P rows node change (λ row h. h) (λ row is h. keeps row h)
 
 -- the rows that pass a test stay, where neither the old row passes nor the changed one
 pub filter_with : (p : NodeRow → Bool) (rows : List NodeRow) (node : ℕ) (change : NodeRow → NodeRow)

@@ -14,7 +14,7 @@ use Rattle.nf_defs.specs.Tree.{filled, is_folder_kind, node_row, with_node}
 use Rattle.nf_words.proofs.Known.{KnownContent}
 use Rattle.nf_words.specs.Changes.{blob_after, replaced}
 use Rattle.nf_words.specs.Sound.{AreSound, HasRoot, IsNodeSound}
-use Rattle.nf_laws.proofs.OneRow.{IsEither, each_either, length_with, pieces_with, rising_with, row_with, same_either}
+use Rattle.nf_laws.proofs.OneRow.{IsEither, each_either, length_with, pieces_with, rising_with, row_with, same_either, with_each}
 use Rattle.nf_laws.proofs.Rows.{AreKept, Kept, blob_up, body_sound, counters_up, kept_row, node_kept, root_kept, stamp}
 
 -- ---- whether a content is another
@@ -90,16 +90,6 @@ brought_sound t now node content blob old all later known is sound =
       present = kept.present;
     }
 
--- the row at a place is sound
-either_sound : (t : Tables) (now node : ℕ) (content : List Piece) (blob : Option ℕ) (old row : NodeRow) → AreSound t → t.meta.last ≤ now
-    → KnownContent t node content blob → IsNodeSound t old → IsEither t.nodes node (filled content now) old row
-    → IsNodeSound (refilled_at t now node content blob) row
-either_sound t now node content blob old row all later known sound (inl e) =
-    subst (λ (r : NodeRow). IsNodeSound (refilled_at t now node content blob) r) (sym e) (other_sound t now node content blob old later sound)
-either_sound t now node content blob old row all later known sound (inr h) =
-    subst (λ (r : NodeRow). IsNodeSound (refilled_at t now node content blob) r) (sym h.1)
-    (brought_sound t now node content blob old all later known h.0 sound)
-
 pub replaced_sound : (t : Tables) (now : ℕ) (node : ℕ) (content : List Piece) (blob : Option ℕ)
     → AreSound t → t.meta.last ≤ now → KnownContent t node content blob → AreSound (stamp (replaced t now node content blob) now)
 replaced_sound t now node content blob sound later known =
@@ -115,8 +105,8 @@ replaced_sound t now node content blob sound later known =
     record {
       counters = counters_up t.meta t.meta.next_node (blob_after t.meta.next_blob blob) now sound.counters (le_refl _) (blob_up t.meta.next_blob blob);
       rising = rising_with t.nodes node change (λ row. refl) sound.rising;
-      nodes = λ k d within. either_sound t now node content blob (get_or t.nodes k d) (get_or made.nodes k d) sound later known
-          (sound.nodes k d (omega (arith, counts))) (either k d);
+      nodes = with_each (IsNodeSound made) (IsNodeSound t) t.nodes node change (λ old. other_sound t now node content blob old later)
+          (λ old. brought_sound t now node content blob old sound later known) sound.nodes;
       names = λ i j d before within folder first second same. sound.names i j d before (omega (arith, counts)) folder
           (sym (place i d) ∙ first) (sym (place j d) ∙ second) (sym (name i d) ∙ same ∙ name j d);
       roots = All-weaker (HasRoot t) (HasRoot made) (root_kept t made.meta made.nodes (kept_replaced t.nodes now node content)) t.users sound.roots;
