@@ -1,5 +1,5 @@
 -- Rows by their numbers, and the folders that a climb passes.
-use Rattle.std.proofs.Common.{option_map, if◌then◌else◌, ℕ, suc, zero, ◌+◌, ◌==◌, ◌≡◌, ◌<◌, ◌≤◌, Bool, true, false, List, [], ◌∷◌, Option, None, Some, filter, get_or, refl, ap, ◌∙◌, ⊎_elim, arith}
+use Rattle.std.proofs.Common.{sym, option_map, if◌then◌else◌, ℕ, suc, zero, ◌+◌, ◌==◌, ◌≡◌, ◌<◌, ◌≤◌, Bool, true, false, List, [], ◌∷◌, Option, None, Some, filter, get_or, refl, ap, ◌∙◌, ⊎_elim, arith}
 use Rattle.std.specs.Prelude.{is_some}
 use Rattle.std.specs.List.{All, AllPairs}
 use Rattle.std.specs.Option.{option_and_then, option_map_or}
@@ -94,6 +94,12 @@ climb_on (suc j) k rows node mid is =
     option_and_then_some (climb rows j) (parent_of rows node) mid is (λ parent above is.
     let count : suc j + k ≡ suc (j + k) = omega arith in
     ap (λ (n : ℕ). climb rows n node) count ∙ ap (option_and_then (climb rows (j + k))) above ∙ climb_on j k rows parent mid is)
+
+-- so of two climbs from a node the longer goes on from where the shorter ends
+pub climb_rest : (j k whole : ℕ) (rows : List NodeRow) (node mid top : ℕ) → whole ≡ j + k → climb rows j node ≡ Some mid
+    → climb rows whole node ≡ Some top → climb rows k mid ≡ Some top
+climb_rest j k whole rows node mid top is first second =
+    sym (climb_on j k rows node mid first) ∙ ap (λ (n : ℕ). climb rows n node) (sym is) ∙ second
 
 -- a climb is the same in other rows, where each node that it passes is in the same folder
 pub climb_same : (rows others : List NodeRow) (Passed : ℕ → ℕ → Type 0)

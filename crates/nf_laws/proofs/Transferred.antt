@@ -11,7 +11,7 @@ use Rattle.nf_defs.proofs.Walks.{climbs_walk, IsChildOf, children_are, inside_of
 use Rattle.nf_defs.specs.Tables.{Tables}
 use Rattle.nf_defs.specs.Tree.{child_of, climb, folder_of, is_under, node_row, parent_of, by_name, children_of, is_in, relinked, walk_of, walk_within, with_node}
 use Rattle.nf_defs.specs.declared.Found.TheVariants.{At}
-use Rattle.nf_laws.proofs.Climbs.{parent_at, climb_on, climb_under, under_climb, node_row_each}
+use Rattle.nf_laws.proofs.Climbs.{climb_rest, parent_at, climb_on, climb_under, under_climb, node_row_each}
 use Rattle.nf_laws.proofs.Copied.{copies_there, old_joined}
 use Rattle.nf_laws.proofs.Entries.{step_changed}
 use Rattle.nf_laws.proofs.Gone.{row_cleared, row_gone}
@@ -32,7 +32,7 @@ use Rattle.std.specs.List.{All, flat_map}
 use Rattle.std.proofs.lemmas.List.Elements.{All-head, All-tail, All-weaker}
 use Rattle.nf_laws.proofs.OneRow.{filter_with, row_itself, row_other}
 use Rattle.nf_laws.proofs.Owning.{others_left}
-use Rattle.nf_laws.proofs.Upwards.{climbs_is_under}
+use Rattle.nf_laws.proofs.Upwards.{never_climbs, climbs_is_under}
 use Rattle.nf_laws.proofs.Walked.{no_ring}
 use Rattle.nf_words.specs.Step.{step}
 
@@ -63,17 +63,11 @@ source_stays t who transfer name node sound known under = here transfer.replaced
         let d = under_climb t.nodes node top also in
         elim (cases_lt d.0 c.0) [
           | inl less ↦
-              (let longer : c.0 ≡ d.0 + suc (c.0 - d.0 - 1) = omega arith in
-              let rest : climb t.nodes (suc (c.0 - d.0 - 1)) top ≡ Some transfer.node =
-              sym (climb_on d.0 (suc (c.0 - d.0 - 1)) t.nodes node top d.2) ∙ ap (λ (n : ℕ). climb t.nodes n node) (sym longer) ∙ c.2 in
-              both_ways (is_under t.nodes transfer.folder transfer.node) known.outside
-              (climb_under (c.0 - d.0 - 1) t.nodes transfer.folder transfer.node (omega (arith, c.1)) (rw above at rest)))
+              (let rest = climb_rest d.0 (suc (c.0 - d.0 - 1)) c.0 t.nodes node top transfer.node (omega arith) d.2 c.2 in
+              never_climbs t transfer.folder transfer.node sound known.outside (c.0 - d.0 - 1) (rw above at rest))
           | inr more ↦
-              (let longer : d.0 ≡ c.0 + (d.0 - c.0) = omega arith in
-              let rest : climb t.nodes (d.0 - c.0) transfer.node ≡ Some top =
-              sym (climb_on c.0 (d.0 - c.0) t.nodes node transfer.node c.2) ∙ ap (λ (n : ℕ). climb t.nodes n node) (sym longer) ∙ d.2 in
-              both_ways (is_under t.nodes transfer.node top) apart
-              (climb_under (d.0 - c.0) t.nodes transfer.node top (omega (arith, d.1)) rest))
+              never_climbs t transfer.node top sound apart (d.0 - c.0)
+              (climb_rest c.0 (d.0 - c.0) d.0 t.nodes node transfer.node top (omega arith) c.2 d.2)
         ]
 
     here : (replaced : Option ℕ) → child_of t.nodes transfer.folder name ≡ replaced

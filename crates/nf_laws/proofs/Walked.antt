@@ -11,7 +11,7 @@ use Rattle.nf_defs.proofs.ByName.{AllPairs-by_name}
 use Rattle.nf_defs.proofs.Walks.{Contains-from_flat, children_are, climbs_walk, walk_climbs, walk_within_climbs}
 use Rattle.nf_defs.specs.Tables.{Tables}
 use Rattle.nf_defs.specs.Tree.{by_name, children_of, climb, is_in, is_under, parent_of, walk_of, walk_within}
-use Rattle.nf_laws.proofs.Climbs.{parent_at, climb_on, climb_under, under_climb}
+use Rattle.nf_laws.proofs.Climbs.{climb_rest, parent_at, climb_on, climb_under, under_climb}
 use Rattle.nf_laws.proofs.Upwards.{climb_short, climbed, depth_climb, derived}
 use Rattle.nf_laws.specs.Tree.{WalksTakeAllUnder}
 use Rattle.nf_words.specs.Sound.{AreSound}
@@ -116,9 +116,7 @@ not_under : (t : Tables) (i j folder child other node : ℕ) → AreSound t
     → parent_of t.nodes child ≡ Some folder → parent_of t.nodes other ≡ Some folder
     → i < j → climb t.nodes i node ≡ Some child → climb t.nodes j node ≡ Some other → ⊥
 not_under t i j folder child other node sound up also less first second =
-    let longer : j ≡ i + suc (j - i - 1) = omega arith in
-    let rest : climb t.nodes (suc (j - i - 1)) child ≡ Some other =
-    sym (climb_on i (suc (j - i - 1)) t.nodes node child first) ∙ ap (λ (n : ℕ). climb t.nodes n node) (sym longer) ∙ second in
+    let rest = climb_rest i (suc (j - i - 1)) j t.nodes node child other (omega arith) first second in
     no_ring t (j - i - 1) folder sound (climb_folder t (j - i - 1) folder other folder also (rw up at rest))
 
 -- nothing is under two of them
