@@ -13,12 +13,12 @@ use Rattle.nf_base.specs.declared.rows.Place.{Place}
 use Rattle.nf_base.specs.declared.rows.Place.TheVariants.{Inside}
 use Rattle.nf_defs.specs.Tables.{Tables}
 use Rattle.nf_defs.specs.Tree.{child_of, climb, depth, is_in, is_place_in, node_row, owner_of}
+use Rattle.nf_laws.proofs.Climbs.{parent_at}
+use Rattle.nf_laws.proofs.Rows.{blob_up, body_sound, climb_kept, counters_up, each_fails, finds_none, folder_kept, folder_there, kept_joined, no_value, node_kept, root_kept, row_is, stamp}
+use Rattle.nf_laws.proofs.Upwards.{climbs_depth}
 use Rattle.nf_words.proofs.Known.{KnownNew}
 use Rattle.nf_words.specs.Changes.{blob_after, created}
 use Rattle.nf_words.specs.Sound.{AreApart, AreSound, HasRoot, IsNodeSound, IsPlaceSound, root_of_user}
-use Rattle.nf_laws.proofs.Upwards.{climbs_depth}
-use Rattle.nf_laws.proofs.Rows.{counters_up, blob_up, body_sound, climb_kept, each_fails, finds_none, folder_kept, folder_there, kept_joined, row_is, no_value, node_kept, root_kept, stamp}
-use Rattle.nf_laws.proofs.Climbs.{parent_at}
 
 -- ---- the rows with one more
 

@@ -1,26 +1,43 @@
 -- The blob that an act stores, and what an event stores in it. Whole blobs stay whole, and what is stored has the next number.
 use Rattle.std.proofs.Common.{◌≡◌, ℕ, ◌<◌, ◌==◌, List, [], ◌∷◌, length, get_or, inl, inr, refl, sym, ap, subst, ◌∙◌, arith, ◌&&◌, not, Result, Ok, Err, ◌⊎◌}
-use Rattle.std.specs.Prelude.{Option, None, Some}
+use Rattle.std.specs.Prelude.{None, Option, Some}
 use Rattle.std.specs.List.{All}
 use Rattle.std.specs.Option.{IfSome, option_map_or}
-use Rattle.std.proofs.lemmas.List.Elements.{All-append, All-cons, All-nil, All-push, All-head}
+use Rattle.std.proofs.lemmas.List.Elements.{All-append, All-cons, All-head, All-nil, All-push}
 use Rattle.std.proofs.lemmas.Option.{none-some, slice_get-get_or}
+use Rattle.std.proofs.lemmas.Bool.{and_parts, cases_Bool, cond_both}
 use Rattle.sha2.specs.Sha256.{sha256}
 use Rattle.nf_base.specs.declared.changes.Change.{Change}
 use Rattle.nf_base.specs.declared.content.Piece.{Piece}
 use Rattle.nf_base.specs.declared.rows.MetaRow.{MetaRow}
 use Rattle.nf_base.specs.declared.rows.NodeRow.{NodeRow}
 use Rattle.nf_base.specs.declared.rows.Row.{Row}
+use Rattle.nf_base.specs.Content.{content_eq}
+use Rattle.nf_base.specs.declared.changes.Change.TheVariants.{Put}
+use Rattle.nf_base.specs.declared.rows.Row.TheVariants as rows
 use Rattle.nf_defs.specs.Blobs.{Blobs, blob_at, put_blob, with_blob}
 use Rattle.nf_defs.specs.Tables.{Tables}
 use Rattle.nf_defs.proofs.Blobs.{new_at, put_at, put_elsewhere, still_at}
-use Rattle.nf_defs.specs.Tree.{filled, relinked, content_of, is_folder, is_folder_kind, node_row}
-use Rattle.nf_words.specs.Changes.{altered, blob_after, blob_of, changed, cleared, goal_of, stamped, told, with_goal, allowed_of, given, made_folder, refilled, served, stored}
+use Rattle.nf_defs.specs.Tree.{content_of, filled, is_folder, is_folder_kind, node_row, relinked}
+use Rattle.nf_defs.specs.Access.{unshared}
+use Rattle.nf_defs.specs.declared.Found.{Found}
+use Rattle.nf_defs.specs.declared.Found.TheVariants.{At, Free}
+use Rattle.nf_defs.specs.declared.Seeker.{Seeker}
+use Rattle.nf_defs.specs.declared.Seeker.TheVariants as seeker
+use Rattle.nf_laws.proofs.Climbs.{holds_some}
+use Rattle.nf_laws.proofs.Entries.{entry_has, tickets_left, tickets_with}
+use Rattle.nf_laws.proofs.Gone.{all_cleared}
+use Rattle.nf_laws.proofs.Mirrored.{mirrored}
+use Rattle.nf_laws.proofs.OneRow.{with_all}
+use Rattle.nf_laws.proofs.Replaced.{content_decides}
+use Rattle.nf_laws.proofs.Rows.{content_has, found_is, row_is, stamped_has}
+use Rattle.nf_laws.specs.Wholes.{BlobsAreNew, Brings, IsGoalHeld, IsHeld, IsThere, StaysWhole, blob_in, blob_under}
+use Rattle.nf_words.specs.Changes.{allowed_of, altered, blob_after, blob_of, changed, cleared, given, goal_of, made_folder, refilled, served, stamped, stored, told, with_goal}
 use Rattle.nf_words.specs.Endings.{blob_for, content_in, end_refusal, ends_goal, ends_ticket, stored_at, unless_refused}
 use Rattle.nf_words.specs.History.{MayAsk, after_mark}
 use Rattle.nf_words.specs.Sound.{AreSound, IsGoalSound, IsNodeSound, IsPieceSound, IsSound}
 use Rattle.nf_words.specs.State.{State, ticket_of}
-use Rattle.nf_words.specs.Step.{without, call_of, decision_of}
+use Rattle.nf_words.specs.Step.{call_of, decision_of, without}
 use Rattle.nf_words.specs.declared.answer.Allowed.{Allowed}
 use Rattle.nf_words.specs.declared.answer.Allowed.TheVariants as allowed
 use Rattle.nf_words.specs.declared.answer.Goal.{Goal}
@@ -28,23 +45,7 @@ use Rattle.nf_words.specs.declared.answer.Goal.TheVariants.{Serve, Store}
 use Rattle.nf_words.specs.declared.history.Entry.{Entry}
 use Rattle.nf_words.specs.declared.history.Mark.{Mark}
 use Rattle.nf_words.specs.declared.history.Ticket.{Ticket}
-use Rattle.nf_words.proofs.Known.{Known, KnownCopies, known_change, IsOfBody}
-use Rattle.nf_laws.proofs.Entries.{entry_has, tickets_left, tickets_with}
-use Rattle.nf_laws.proofs.Gone.{all_cleared}
-use Rattle.nf_laws.proofs.Mirrored.{mirrored}
-use Rattle.nf_laws.proofs.OneRow.{with_all}
-use Rattle.nf_laws.proofs.Replaced.{content_decides}
-use Rattle.nf_laws.proofs.Rows.{content_has, found_is, stamped_has, row_is}
-use Rattle.nf_laws.specs.Wholes.{BlobsAreNew, IsGoalHeld, IsHeld, IsThere, StaysWhole, blob_in, blob_under, Brings}
-use Rattle.std.proofs.lemmas.Bool.{cases_Bool, cond_both, and_parts}
-use Rattle.nf_base.specs.Content.{content_eq}
-use Rattle.nf_base.specs.declared.changes.Change.TheVariants.{Put}
-use Rattle.nf_base.specs.declared.rows.Row.TheVariants as rows
-use Rattle.nf_defs.specs.Access.{unshared}
-use Rattle.nf_defs.specs.declared.Found.{Found}
-use Rattle.nf_defs.specs.declared.Found.TheVariants.{At, Free}
-use Rattle.nf_defs.specs.declared.Seeker.{Seeker}
-use Rattle.nf_defs.specs.declared.Seeker.TheVariants as seeker
+use Rattle.nf_words.proofs.Known.{IsOfBody, Known, KnownCopies, known_change}
 use Rattle.nf_words.specs.Calls.{asker_of, last_name, places_of}
 use Rattle.nf_words.specs.Copies.{copies_to}
 use Rattle.nf_words.specs.Listing.{listing_of}
@@ -61,7 +62,6 @@ use Rattle.nf_words.specs.declared.request.Places.{Places}
 use Rattle.nf_words.specs.declared.request.Spot.{Spot}
 use Rattle.nf_words.specs.declared.request.Wanted.{Wanted}
 use Rattle.nf_words.specs.declared.request.Wanted.TheVariants as wanted
-use Rattle.nf_laws.proofs.Climbs.{holds_some}
 
 -- ---- a blob that is stored has the next number
 
@@ -272,9 +272,7 @@ stored_held : (next : ℕ) (opening : List Row) (blobs : Blobs) (body : List ℕ
     → blob ≡ blob_for next (length body) → content ≡ content_in (blob_for next (length body)) (sha256 body) (length body)
     → All (IsHeld opening (with_blob blobs blob body)) content
 stored_held next opening blobs body blob content in_blob in_content =
-    subst (λ (o : Option ℕ). All (IsHeld opening (with_blob blobs o body)) content) (sym in_blob)
-    (subst (λ (c : List Piece). All (IsHeld opening (with_blob blobs (blob_for next (length body)) body)) c) (sym in_content)
-    (brought next opening blobs body))
+    rw (in_blob, in_content) (brought next opening blobs body)
 
 -- a copy has the content of a node that is there
 copies_held : (t : Tables) (now : ℕ) (who : Option ℕ) (copies : List NodeRow) (replaced : Option ℕ) (opening : List Row) (blobs : Blobs)

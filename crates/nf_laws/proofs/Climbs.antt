@@ -3,12 +3,12 @@ use Rattle.std.proofs.Common.{sym, option_map, if◌then◌else◌, ℕ, suc, ze
 use Rattle.std.specs.Prelude.{is_some}
 use Rattle.std.specs.List.{All, AllPairs}
 use Rattle.std.specs.Option.{option_and_then, option_map_or}
-use Rattle.std.proofs.lemmas.Bool.{ne_eqb, both_ways, cond_both, false≢true, eqb-true, eq-eqb, or_cases, or_left, or_right}
+use Rattle.std.proofs.lemmas.Bool.{both_ways, cond_both, eq-eqb, eqb-true, false≢true, ne_eqb, or_cases, or_left, or_right}
 use Rattle.std.proofs.lemmas.Option.{none-some, option_and_then_some, same_Some}
 use Rattle.nf_base.specs.declared.rows.NodeRow.{NodeRow}
 use Rattle.nf_base.specs.declared.rows.Place.TheVariants.{Inside}
+use Rattle.nf_defs.specs.Tree.{climb, depth, depth_within, folder_of, is_under, is_under_within, node_row, parent_of}
 use Rattle.nf_words.proofs.Known as known
-use Rattle.nf_defs.specs.Tree.{node_row, folder_of, parent_of, climb, depth, depth_within, is_under, is_under_within}
 
 -- ---- what is there
 

@@ -12,20 +12,20 @@ use Rattle.nf_base.specs.declared.rows.Place.{Place}
 use Rattle.nf_base.specs.declared.rows.Place.TheVariants.{Inside}
 use Rattle.nf_defs.specs.Tables.{Tables}
 use Rattle.nf_defs.specs.Tree.{child_of, climb, content_of, depth, is_folder, is_folder_kind, node_row, owner_of, piece_count, walk_of, walk_within}
-use Rattle.nf_words.proofs.Known.{KnownCopies, KnownTransfer}
-use Rattle.nf_words.specs.Changes.{cleared, joined}
-use Rattle.nf_words.specs.Limits.{pieces_in}
-use Rattle.nf_words.specs.Sound.{AreApart, AreSound, HasRoot, IsNodeSound, IsPieceSound, IsPlaceSound, root_of_user}
-use Rattle.nf_words.specs.declared.request.Transfer.{Transfer}
-use Rattle.nf_laws.specs.Transfers.{IsCopyOf, Mirrors, is_replaced}
 use Rattle.nf_laws.proofs.Added.{new_apart}
 use Rattle.nf_laws.proofs.Climbs.{node_row_each, parent_at}
 use Rattle.nf_laws.proofs.Gone.{clearing_sound, climb_cleared, counts_cleared, folder_stays, free_cleared, row_cleared}
 use Rattle.nf_laws.proofs.Mirrored.{mirrored}
 use Rattle.nf_laws.proofs.Paths.{child_there}
-use Rattle.nf_laws.proofs.Rows.{row_joined, counters_up, kept_joined, child_folder, climb_kept, folder_kept, folder_there, row_is, parent_there, node_kept, pieces_kept, root_kept, stamp}
+use Rattle.nf_laws.proofs.Rows.{child_folder, climb_kept, counters_up, folder_kept, folder_there, kept_joined, node_kept, parent_there, pieces_kept, root_kept, row_is, row_joined, stamp}
 use Rattle.nf_laws.proofs.Upwards.{climbs_depth, deepest_among, depth_up}
 use Rattle.nf_laws.proofs.Walked.{AllPairs-append, walks_take}
+use Rattle.nf_laws.specs.Transfers.{IsCopyOf, Mirrors, is_replaced}
+use Rattle.nf_words.proofs.Known.{KnownCopies, KnownTransfer}
+use Rattle.nf_words.specs.Changes.{cleared, joined}
+use Rattle.nf_words.specs.Limits.{pieces_in}
+use Rattle.nf_words.specs.Sound.{AreApart, AreSound, HasRoot, IsNodeSound, IsPieceSound, IsPlaceSound, root_of_user}
+use Rattle.nf_words.specs.declared.request.Transfer.{Transfer}
 
 -- ---- lists
 

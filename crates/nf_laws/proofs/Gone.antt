@@ -2,26 +2,26 @@
 use Rattle.std.proofs.Common.{inl, inr, ℕ, suc, ◌==◌, ◌≡◌, ◌<◌, ◌≤◌, Bool, true, false, not, List, Option, None, Some, length, refl, sym, ap, subst, ◌∙◌, arith, le_refl}
 use Rattle.std.specs.List.{All}
 use Rattle.std.specs.Option.{option_map_or}
-use Rattle.std.proofs.lemmas.Bool.{cases_Bool, ne_eqb, not_from_false, both_ways, false_from_ne_true, false≢true, not-true}
+use Rattle.std.proofs.lemmas.Bool.{both_ways, cases_Bool, false_from_ne_true, false≢true, ne_eqb, not-true, not_from_false}
 use Rattle.std.proofs.lemmas.List.Elements.{All-filter, All-weaker, filter_passes}
 use Rattle.std.proofs.lemmas.List.Filters.{length-filter_both, sum_by-filter_both}
 use Rattle.std.proofs.lemmas.List.Kept.{AllPairs-filter}
 use Rattle.std.proofs.lemmas.Option.{none-some, same_Some}
 use Rattle.nf_base.specs.declared.rows.NodeRow.{NodeRow}
 use Rattle.nf_base.specs.declared.rows.Place.{Place}
-use Rattle.nf_base.specs.declared.rows.Place.TheVariants.{Root, Inside, Trash}
+use Rattle.nf_base.specs.declared.rows.Place.TheVariants.{Inside, Root, Trash}
 use Rattle.nf_base.specs.declared.rows.UserRow.{UserRow}
 use Rattle.nf_defs.specs.Tables.{Tables}
 use Rattle.nf_defs.specs.Tree.{child_of, climb, folder_of, is_root, is_root_place, is_under, node_row, parent_of, piece_count}
-use Rattle.nf_words.proofs.Known.{KnownTransfer, child_parent}
-use Rattle.nf_words.specs.Changes.{cleared, removed}
-use Rattle.nf_words.specs.Sound.{AreApart, AreSound, HasRoot, IsNodeSound, IsPlaceSound}
-use Rattle.nf_words.specs.declared.request.Transfer.{Transfer}
-use Rattle.nf_laws.proofs.Climbs.{parent_at, climb_those, climb_under, climbs_no_further, node_row_each, row_of_those, those, under_climb}
+use Rattle.nf_laws.proofs.Climbs.{climb_those, climb_under, climbs_no_further, node_row_each, parent_at, row_of_those, those, under_climb}
 use Rattle.nf_laws.proofs.Paths.{child_is, child_there}
 use Rattle.nf_laws.proofs.Rows.{finds_none, kept_row, node_still, root_still}
 use Rattle.nf_laws.proofs.Upwards.{inside_no_root, never_climbs, no_rings}
 use Rattle.nf_laws.specs.Transfers.{is_replaced}
+use Rattle.nf_words.proofs.Known.{KnownTransfer, child_parent}
+use Rattle.nf_words.specs.Changes.{cleared, removed}
+use Rattle.nf_words.specs.Sound.{AreApart, AreSound, HasRoot, IsNodeSound, IsPlaceSound}
+use Rattle.nf_words.specs.declared.request.Transfer.{Transfer}
 
 -- ---- the tables with the nodes alone whose numbers pass a test
 

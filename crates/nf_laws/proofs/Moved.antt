@@ -1,29 +1,29 @@
 -- The tables with a node moved into another folder are sound.
 use Rattle.std.proofs.Common.{ℕ, suc, ◌+◌, ◌<◌, ◌==◌, ◌≡◌, ◌≢◌, ◌≤◌, true, false, List, Option, None, Some, option_map, length, get_or, refl, sym, ap, subst, ◌∙◌, inl, inr, arith, le_refl}
 use Rattle.std.specs.Option.{option_and_then, option_map_or}
-use Rattle.std.proofs.lemmas.Bool.{cases_Bool, both_ways, false_from_ne_true, ne_eqb}
+use Rattle.std.proofs.lemmas.Bool.{both_ways, cases_Bool, false_from_ne_true, ne_eqb}
 use Rattle.std.proofs.lemmas.List.Elements.{All-contains, All-weaker}
 use Rattle.std.proofs.lemmas.Option.{same_Some}
 use Rattle.nf_base.specs.declared.rows.NodeRow.{NodeRow}
 use Rattle.nf_base.specs.declared.rows.Place.{Place}
-use Rattle.nf_base.specs.declared.rows.Place.TheVariants.{Root, Inside, Trash}
+use Rattle.nf_base.specs.declared.rows.Place.TheVariants.{Inside, Root, Trash}
 use Rattle.nf_base.specs.declared.rows.UserRow.{UserRow}
 use Rattle.nf_defs.proofs.Walks.{climbs_walk}
 use Rattle.nf_defs.specs.Tables.{Tables}
 use Rattle.nf_defs.specs.declared.Found.TheVariants.{At, Free}
 use Rattle.nf_defs.specs.Tree.{child_of, climb, depth, folder_of, is_folder, is_folder_kind, is_root, is_root_place, is_under, node_row, owner_of, parent_of, relinked, walk_of, with_node}
+use Rattle.nf_laws.proofs.Added.{new_apart}
+use Rattle.nf_laws.proofs.Climbs.{climb_on, climb_same, depth_is, node_row_each, under_climb}
+use Rattle.nf_laws.proofs.Gone.{clearing_sound, climb_cleared, folder_stays, free_cleared, kept_cleared, row_cleared}
+use Rattle.nf_laws.proofs.OneRow.{IsEither, each_either, length_with, pieces_with, rising_with, row_itself, row_other, value_with, with_each}
+use Rattle.nf_laws.proofs.Paths.{climb_own, path_own}
+use Rattle.nf_laws.proofs.Rows.{IsRooted, folder_there, kept_row, node_still, none_above, parent_there, root_still}
+use Rattle.nf_laws.proofs.Upwards.{climb_short, climbs_depth, climbs_is_under, deepest_among, depth_climb, never_climbs, rooted}
 use Rattle.nf_words.proofs.Known.{KnownPath, KnownTransfer, child_parent}
 use Rattle.nf_words.specs.Changes.{cleared, transferred}
 use Rattle.nf_words.specs.Limits.{deepest}
 use Rattle.nf_words.specs.Sound.{AreApart, AreSound, HasRoot, IsNodeSound, IsPlaceSound, root_of_user}
 use Rattle.nf_words.specs.declared.request.Transfer.{Transfer}
-use Rattle.nf_laws.proofs.Added.{new_apart}
-use Rattle.nf_laws.proofs.Climbs.{climb_same, climb_on, depth_is, node_row_each, under_climb}
-use Rattle.nf_laws.proofs.Gone.{clearing_sound, climb_cleared, folder_stays, free_cleared, kept_cleared, row_cleared}
-use Rattle.nf_laws.proofs.OneRow.{with_each, IsEither, each_either, length_with, pieces_with, rising_with, row_itself, row_other, value_with}
-use Rattle.nf_laws.proofs.Paths.{climb_own, path_own}
-use Rattle.nf_laws.proofs.Rows.{IsRooted, folder_there, none_above, kept_row, node_still, parent_there, root_still}
-use Rattle.nf_laws.proofs.Upwards.{climbs_depth, deepest_among, climb_short, climbs_is_under, depth_climb, never_climbs, rooted}
 
 -- ---- climbs where a node is put into a folder
 

@@ -1,14 +1,14 @@
 -- Who owns a node that is there owned it before.
 use Rattle.std.proofs.Common.{inl, inr, zero, suc, ◌≢◌, ℕ, ◌==◌, ◌≡◌, ◌<◌, ◌≤◌, List, [], ◌∷◌, Option, None, Some, refl, sym, ap, subst, ◌∙◌, arith}
 use Rattle.std.specs.List.{All}
+use Rattle.std.proofs.lemmas.Bool.{cases_Bool, eqb-true}
 use Rattle.nf_base.specs.declared.rows.NodeRow.{NodeRow}
 use Rattle.nf_defs.specs.Tables.{Tables}
 use Rattle.nf_defs.specs.Tree.{filled, node_row, relinked, with_node}
+use Rattle.nf_laws.proofs.Climbs.{map_some}
 use Rattle.nf_laws.proofs.Copied.{copies_numbered, old_joined}
 use Rattle.nf_laws.proofs.Gone.{kept_cleared}
 use Rattle.nf_laws.proofs.Mirrored.{mirrored}
-use Rattle.std.proofs.lemmas.Bool.{cases_Bool, eqb-true}
-use Rattle.nf_laws.proofs.Climbs.{map_some}
 use Rattle.nf_laws.proofs.OneRow.{KeepsId, row_itself, row_other}
 use Rattle.nf_laws.proofs.Rows.{row_joined, stamped_has}
 use Rattle.nf_words.proofs.Known.{Known, KnownCopies, KnownNew}

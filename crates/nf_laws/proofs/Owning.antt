@@ -16,16 +16,16 @@ use Rattle.nf_defs.specs.Tree.{Leads, by_name, children_of, content_of, filled, 
 use Rattle.nf_defs.specs.declared.Found.{Found}
 use Rattle.nf_defs.specs.declared.Found.TheVariants.{At, Free, Missing}
 use Rattle.nf_laws.proofs.Blobs.{Alters, given_alters}
-use Rattle.nf_laws.proofs.Climbs.{node_row_each, row_there, under_climb, some_there}
+use Rattle.nf_laws.proofs.Climbs.{node_row_each, row_there, some_there, under_climb}
 use Rattle.nf_laws.proofs.Copied.{copies_owned}
 use Rattle.nf_laws.proofs.Entries.{after_has}
 use Rattle.nf_laws.proofs.Gone.{row_cleared}
 use Rattle.nf_laws.proofs.Mirrored.{mirrored}
 use Rattle.nf_laws.proofs.Moved.{folder_owner}
 use Rattle.nf_laws.proofs.OneRow.{filter_with}
-use Rattle.nf_laws.proofs.Rows.{folder_there, found_is, row_id, stamp}
 use Rattle.nf_laws.proofs.Paths.{climb_own, found_leads, leads_own, path_own, root_own}
-use Rattle.nf_laws.specs.Owners.{IsServed, ChangesOnlyOwn, ChangesOwn, ListsAll, ListsOwn, ServesOwn, nodes_of_others}
+use Rattle.nf_laws.proofs.Rows.{folder_there, found_is, row_id, stamp}
+use Rattle.nf_laws.specs.Owners.{ChangesOnlyOwn, ChangesOwn, IsServed, ListsAll, ListsOwn, ServesOwn, nodes_of_others}
 use Rattle.nf_words.proofs.Known.{Known, KnownCopies, KnownNew, KnownPath, call_known, call_passes}
 use Rattle.nf_words.specs.Actors.{actor_of}
 use Rattle.nf_words.specs.Calls.{Call, asker_of, found, root_of, source_of, target_of, user_of}
@@ -33,7 +33,7 @@ use Rattle.nf_words.specs.Changes.{altered, cleared, given, reply_by, served}
 use Rattle.nf_words.specs.Listing.{line_of, listing_of}
 use Rattle.nf_words.specs.Places.{node_found}
 use Rattle.nf_words.specs.Sound.{AreSound}
-use Rattle.nf_words.specs.Step.{answered_by, call_of, call_decision}
+use Rattle.nf_words.specs.Step.{answered_by, call_decision, call_of}
 use Rattle.nf_words.specs.declared.answer.Allowed.{Allowed}
 use Rattle.nf_words.specs.declared.answer.Allowed.TheVariants as allowed
 use Rattle.nf_words.specs.declared.answer.Denial.{Denial}

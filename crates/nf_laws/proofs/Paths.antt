@@ -1,7 +1,7 @@
 -- Where a path leads: the walk against the derivation, and whose is what it leads to.
 use Rattle.std.proofs.Common.{ℕ, zero, suc, ◌+◌, ◌==◌, ◌≡◌, ◌&&◌, Bool, true, false, List, [], ◌∷◌, Option, None, Some, bytes_eq, find, option_map, if◌then◌else◌, refl, sym, ap, subst, ◌∙◌, ⊎_elim, inl, inr, arith, ◌++◌, ◌⊎◌, ◌<◌, ◌≤◌, drop, get_or, length, take}
 use Rattle.std.specs.List.{AllPairs}
-use Rattle.std.proofs.lemmas.Bool.{eqb-true, and_from, both_ways, cases_Bool, cond_both, and_parts, eq-eqb}
+use Rattle.std.proofs.lemmas.Bool.{and_from, and_parts, both_ways, cases_Bool, cond_both, eq-eqb, eqb-true}
 use Rattle.std.proofs.Math.Seq.{drop-cons}
 use Rattle.std.proofs.lemmas.List.{append-nil, length-drop, length-take-le, take-append-drop}
 use Rattle.std.proofs.lemmas.Option.{none-some, option_and_then_some, same_Some}
@@ -12,11 +12,11 @@ use Rattle.nf_base.specs.declared.rows.UserRow.{UserRow}
 use Rattle.nf_defs.proofs.Walks.{AreRising, inside_of}
 use Rattle.nf_defs.specs.People.{user_row}
 use Rattle.nf_defs.specs.Tables.{Tables}
-use Rattle.nf_defs.specs.Tree.{climb, parent_of, Leads, stays, leads_on, child_of, found_from, is_folder, is_in, node_row, onward}
+use Rattle.nf_defs.specs.Tree.{Leads, child_of, climb, found_from, is_folder, is_in, leads_on, node_row, onward, parent_of, stays}
 use Rattle.nf_defs.specs.declared.Found.{Found}
 use Rattle.nf_defs.specs.declared.Found.TheVariants.{At, Free, Missing}
 use Rattle.nf_laws.proofs.Climbs.{map_some, node_row_each}
-use Rattle.nf_laws.proofs.Rows.{parent_there, child_owner, found_is, row_is}
+use Rattle.nf_laws.proofs.Rows.{child_owner, found_is, parent_there, row_is}
 use Rattle.nf_laws.specs.Walks.{LeadsNoFurther, LeadsToFree, WalkFollows}
 use Rattle.nf_words.proofs.Known.{KnownPath}
 use Rattle.nf_words.specs.Sound.{AreApart, AreSound, HasRoot, IsOwn}

@@ -3,7 +3,7 @@ use Rattle.std.proofs.Common.{ℕ, suc, ◌+◌, ◌==◌, ◌&&◌, ◌≡◌, 
 use Rattle.std.specs.Prelude.{IsOk}
 use Rattle.std.specs.Option.{option_map_or}
 use Rattle.std.proofs.Math.Seq.{take-length}
-use Rattle.std.proofs.lemmas.Bool.{cond_both, and_parts, false≢true, not-true}
+use Rattle.std.proofs.lemmas.Bool.{and_parts, cond_both, false≢true, not-true}
 use Rattle.nf_base.specs.Content.{content_eq}
 use Rattle.nf_base.specs.declared.changes.Change.{Change}
 use Rattle.nf_base.specs.declared.changes.Change.TheVariants.{Put}
@@ -14,14 +14,14 @@ use Rattle.nf_base.specs.declared.rows.Place.TheVariants.{Inside}
 use Rattle.nf_base.specs.declared.rows.Row.TheVariants as rows
 use Rattle.nf_defs.specs.Access.{unshared}
 use Rattle.nf_defs.specs.Tables.{Tables}
-use Rattle.nf_defs.specs.Tree.{Leads, stays, leads_on, filled, found_from, is_folder, is_folder_kind, node_row}
+use Rattle.nf_defs.specs.Tree.{Leads, filled, found_from, is_folder, is_folder_kind, leads_on, node_row, stays}
 use Rattle.nf_defs.specs.declared.Found.TheVariants.{At}
 use Rattle.nf_laws.proofs.Added.{less_than_new, new_there}
-use Rattle.nf_laws.proofs.Paths.{leads_found}
-use Rattle.nf_laws.proofs.OneRow.{row_itself}
-use Rattle.nf_laws.proofs.Replaced.{content_decides, kept_replaced}
 use Rattle.nf_laws.proofs.Climbs.{holds_some}
 use Rattle.nf_laws.proofs.Entries.{step_changed}
+use Rattle.nf_laws.proofs.OneRow.{row_itself}
+use Rattle.nf_laws.proofs.Paths.{leads_found}
+use Rattle.nf_laws.proofs.Replaced.{content_decides, kept_replaced}
 use Rattle.nf_laws.proofs.Rows.{AreKept, folder_kept, kept_joined, row_id}
 use Rattle.nf_laws.proofs.Stays as states
 use Rattle.nf_laws.specs.Reads.{IsStored, LeadsToKey, PathStays, StoredIsRead}

@@ -2,20 +2,20 @@
 use Rattle.std.proofs.Common.{◌≡◌, List, bytes_eq, refl, ap, ℕ, ◌==◌, ◌≤◌, Bool, true, false, not, Option, Some, option_map, if◌then◌else◌, length, get_or, sym, subst, ◌∙◌, inl, inr, arith, le_refl}
 use Rattle.std.specs.Prelude.{nat_eq}
 use Rattle.std.specs.Bool.{Decides}
-use Rattle.std.proofs.lemmas.Bool.{and_from, and_parts, eq-eqb, eqb-true, both_ways, not-true}
+use Rattle.std.specs.Option.{option_map_or}
+use Rattle.std.proofs.lemmas.Bool.{and_from, and_parts, both_ways, eq-eqb, eqb-true, not-true}
 use Rattle.std.proofs.lemmas.Slice.Eq.{bytes_eq-Decides, slice_eq-Decides}
+use Rattle.std.proofs.lemmas.List.Elements.{All-weaker}
 use Rattle.nf_base.specs.Content.{content_eq, piece_eq}
 use Rattle.nf_base.specs.declared.content.Piece.{Piece}
-use Rattle.std.specs.Option.{option_map_or}
-use Rattle.std.proofs.lemmas.List.Elements.{All-weaker}
 use Rattle.nf_base.specs.declared.rows.NodeRow.{NodeRow}
 use Rattle.nf_defs.specs.Tables.{Tables}
 use Rattle.nf_defs.specs.Tree.{filled, is_folder_kind, node_row, with_node}
+use Rattle.nf_laws.proofs.OneRow.{IsEither, each_either, length_with, pieces_with, rising_with, row_with, same_either, with_each}
+use Rattle.nf_laws.proofs.Rows.{AreKept, Kept, blob_up, body_sound, counters_up, kept_row, node_kept, root_kept, stamp}
 use Rattle.nf_words.proofs.Known.{KnownContent}
 use Rattle.nf_words.specs.Changes.{blob_after, replaced}
 use Rattle.nf_words.specs.Sound.{AreSound, HasRoot, IsNodeSound}
-use Rattle.nf_laws.proofs.OneRow.{IsEither, each_either, length_with, pieces_with, rising_with, row_with, same_either, with_each}
-use Rattle.nf_laws.proofs.Rows.{AreKept, Kept, blob_up, body_sound, counters_up, kept_row, node_kept, root_kept, stamp}
 
 -- ---- whether a content is another
 

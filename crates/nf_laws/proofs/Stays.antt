@@ -7,9 +7,19 @@ use Rattle.nf_base.specs.declared.content.Piece.{Piece}
 use Rattle.nf_defs.specs.Tables.{Tables}
 use Rattle.nf_defs.specs.declared.Seeker.{Seeker}
 use Rattle.nf_defs.specs.declared.Seeker.TheVariants as seeker
+use Rattle.nf_laws.proofs.Added.{created_sound}
+use Rattle.nf_laws.proofs.Copied.{copied_sound}
+use Rattle.nf_laws.proofs.Counters.{changed_up}
+use Rattle.nf_laws.proofs.Entries.{entry_has, tickets_left, tickets_with}
+use Rattle.nf_laws.proofs.Gone.{left_sound}
+use Rattle.nf_laws.proofs.Moved.{transferred_sound}
+use Rattle.nf_laws.proofs.Owned.{KeepsOwners, owners_kept}
+use Rattle.nf_laws.proofs.Paths.{IsFor, is_own, path_own}
+use Rattle.nf_laws.proofs.Replaced.{replaced_sound}
+use Rattle.nf_laws.proofs.Rows.{content_has, pieces_kept, stamp, stamp_sound, stamped_has}
 use Rattle.nf_words.specs.Changes.{altered, changed, goal_of, removed, told, transferred, with_goal}
 use Rattle.nf_words.specs.Endings.{place_of}
-use Rattle.nf_words.specs.History.{MayCome, IsLegalFrom, after, after_mark, replay}
+use Rattle.nf_words.specs.History.{IsLegalFrom, MayCome, after, after_mark, replay}
 use Rattle.nf_words.specs.Sound.{AreSound, IsGoalSound, IsPieceSound, IsSound, MayStoreAt, node_of_key}
 use Rattle.nf_words.specs.State.{State}
 use Rattle.nf_words.specs.Step.{without}
@@ -25,16 +35,6 @@ use Rattle.nf_words.specs.declared.history.Mark.TheVariants as mark
 use Rattle.nf_words.specs.declared.history.Ticket.{Ticket}
 use Rattle.nf_words.proofs.Known.{Known, KnownGranted, known_change}
 use Rattle.nf_words.proofs.Steps.{differ_replay}
-use Rattle.nf_laws.proofs.Added.{created_sound}
-use Rattle.nf_laws.proofs.Copied.{copied_sound}
-use Rattle.nf_laws.proofs.Counters.{changed_up}
-use Rattle.nf_laws.proofs.Entries.{entry_has, tickets_left, tickets_with}
-use Rattle.nf_laws.proofs.Gone.{left_sound}
-use Rattle.nf_laws.proofs.Moved.{transferred_sound}
-use Rattle.nf_laws.proofs.Owned.{KeepsOwners, owners_kept}
-use Rattle.nf_laws.proofs.Replaced.{replaced_sound}
-use Rattle.nf_laws.proofs.Rows.{content_has, pieces_kept, stamp, stamp_sound, stamped_has}
-use Rattle.nf_laws.proofs.Paths.{IsFor, is_own, path_own}
 
 -- ---- the rows
 

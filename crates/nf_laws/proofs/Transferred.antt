@@ -1,39 +1,39 @@
 -- What a COPY leaves: the copies, and all that was there but for what had to go. And what a MOVE leaves as it was.
 use Rattle.std.proofs.Common.{ℕ, zero, suc, ◌+◌, ◌-◌, ◌<◌, ◌≡◌, true, false, List, ◌++◌, Option, None, Some, map, inl, inr, refl, sym, ap, subst, ◌∙◌, arith, length-append, ◌==◌, ◌≢◌, not, [], ◌∷◌, filter, get_or, length, option_map, ◌≤◌}
 use Rattle.std.specs.Option.{option_map_or}
+use Rattle.std.specs.Prelude.{is_some}
+use Rattle.std.specs.List.{All, flat_map}
 use Rattle.std.proofs.lemmas.Bool.{both_ways, cases_lt, false_from_ne_true, false≢true, ne_eqb, not-false}
 use Rattle.std.proofs.lemmas.List.{length-map}
 use Rattle.std.proofs.lemmas.Option.{option_and_then_some}
+use Rattle.std.proofs.lemmas.List.Elements.{All-head, All-tail, All-weaker}
 use Rattle.nf_base.specs.declared.changes.Change.TheVariants.{Put}
 use Rattle.nf_base.specs.declared.rows.NodeRow.{NodeRow}
 use Rattle.nf_base.specs.declared.rows.Row.TheVariants as rows
-use Rattle.nf_defs.proofs.Walks.{climbs_walk, IsChildOf, children_are, inside_of}
+use Rattle.nf_defs.proofs.Walks.{IsChildOf, children_are, climbs_walk, inside_of}
 use Rattle.nf_defs.specs.Tables.{Tables}
-use Rattle.nf_defs.specs.Tree.{child_of, climb, folder_of, is_under, node_row, parent_of, by_name, children_of, is_in, relinked, walk_of, walk_within, with_node}
+use Rattle.nf_defs.specs.Tree.{by_name, child_of, children_of, climb, folder_of, is_in, is_under, node_row, parent_of, relinked, walk_of, walk_within, with_node}
 use Rattle.nf_defs.specs.declared.Found.TheVariants.{At}
-use Rattle.nf_laws.proofs.Climbs.{climb_rest, parent_at, climb_on, climb_under, under_climb, node_row_each}
+use Rattle.nf_laws.proofs.Climbs.{climb_on, climb_rest, climb_under, node_row_each, parent_at, under_climb}
+use Rattle.nf_laws.proofs.Climbs.{parent_at, some_there}
 use Rattle.nf_laws.proofs.Copied.{copies_there, old_joined}
 use Rattle.nf_laws.proofs.Entries.{step_changed}
 use Rattle.nf_laws.proofs.Gone.{row_cleared, row_gone}
 use Rattle.nf_laws.proofs.Mirrored.{mirrored}
+use Rattle.nf_laws.proofs.OneRow.{filter_with, row_itself, row_other}
+use Rattle.nf_laws.proofs.Owning.{others_left}
 use Rattle.nf_laws.proofs.Paths.{IsOf, path_own}
-use Rattle.std.specs.Prelude.{is_some}
-use Rattle.nf_laws.proofs.Climbs.{parent_at, some_there}
 use Rattle.nf_laws.proofs.Puts.{under_there}
 use Rattle.nf_laws.proofs.Rows.{row_is, stamped_nodes}
-use Rattle.nf_laws.specs.Transfers.{AreCopied, CopiesMirror, Mirrors, is_replaced, IsMoved, MovesKeep}
+use Rattle.nf_laws.proofs.Upwards.{climbs_is_under, never_climbs}
+use Rattle.nf_laws.proofs.Walked.{no_ring}
+use Rattle.nf_laws.specs.Transfers.{AreCopied, CopiesMirror, IsMoved, Mirrors, MovesKeep, is_replaced}
 use Rattle.nf_words.proofs.Known.{KnownCopies, KnownTransfer, child_parent, known_change}
 use Rattle.nf_words.specs.Actors.{actor_of}
-use Rattle.nf_words.specs.Changes.{changed, cleared, dropped_for, joined, told, altered, transferred_row}
+use Rattle.nf_words.specs.Changes.{altered, changed, cleared, dropped_for, joined, told, transferred_row}
 use Rattle.nf_words.specs.Sound.{AreSound}
 use Rattle.nf_words.specs.declared.answer.Allowed.TheVariants as allowed
 use Rattle.nf_words.specs.declared.request.Transfer.{Transfer}
-use Rattle.std.specs.List.{All, flat_map}
-use Rattle.std.proofs.lemmas.List.Elements.{All-head, All-tail, All-weaker}
-use Rattle.nf_laws.proofs.OneRow.{filter_with, row_itself, row_other}
-use Rattle.nf_laws.proofs.Owning.{others_left}
-use Rattle.nf_laws.proofs.Upwards.{never_climbs, climbs_is_under}
-use Rattle.nf_laws.proofs.Walked.{no_ring}
 use Rattle.nf_words.specs.Step.{step}
 
 -- ---- nodes that are there

@@ -2,27 +2,27 @@
 -- So the words about the tree are as the plain ones.
 use Rattle.std.proofs.Common.{ℕ, suc, zero, ◌+◌, ◌≡◌, ◌≢◌, ◌≤◌, true, false, List, Option, None, Some, refl, sym, ap, subst, ◌∙◌, arith, ◌==◌, Bool, [], ◌∷◌, get_or}
 use Rattle.std.specs.Option.{option_and_then, option_map_or}
-use Rattle.std.proofs.lemmas.Bool.{both_ways, false_from_ne_true}
-use Rattle.std.proofs.lemmas.Option.{none-some, option_and_then_some, same_Some}
-use Rattle.nf_base.specs.declared.rows.NodeRow.{NodeRow}
-use Rattle.nf_base.specs.declared.rows.Place.{Place}
-use Rattle.nf_base.specs.declared.rows.Place.TheVariants.{Root, Inside, Trash}
-use Rattle.nf_defs.specs.Tables.{Tables}
-use Rattle.nf_defs.specs.Tree.{climb, depth, folder_of, is_root, is_root_place, is_under, node_row, parent_of, child_of, is_in, is_present, taken_names}
-use Rattle.std.proofs.lemmas.List.Recursion.{max_bounds}
 use Rattle.std.specs.List.{All}
-use Rattle.nf_words.specs.Limits.{deepest}
-use Rattle.nf_laws.proofs.Climbs.{node_row_each}
-use Rattle.nf_words.specs.Sound.{AreSound, root_of_user, IsNodeSound}
-use Rattle.nf_laws.proofs.Climbs.{climb_under, climbs_no_further, depth_is, under_climb}
-use Rattle.nf_laws.proofs.Rows.{IsRooted, none_above, row_is, found_is, parent_there}
-use Rattle.nf_laws.specs.Tree.{NoRings, DepthIsClimbed, NamesAreTaken, NodesArePresent, Under, UnderIsDerived, itself, inside}
 use Rattle.std.specs.Prelude.{bytes_eq, is_some}
 use Rattle.std.specs.List.{list_any}
+use Rattle.std.proofs.lemmas.Bool.{both_ways, false_from_ne_true}
+use Rattle.std.proofs.lemmas.Option.{none-some, option_and_then_some, same_Some}
+use Rattle.std.proofs.lemmas.List.Recursion.{max_bounds}
 use Rattle.std.proofs.lemmas.List.Folds.{list_any_at}
+use Rattle.nf_base.specs.declared.rows.NodeRow.{NodeRow}
+use Rattle.nf_base.specs.declared.rows.Place.{Place}
+use Rattle.nf_base.specs.declared.rows.Place.TheVariants.{Inside, Root, Trash}
 use Rattle.nf_base.specs.FreeNames.{is_taken}
 use Rattle.nf_base.specs.declared.rows.UserRow.{UserRow}
+use Rattle.nf_defs.specs.Tables.{Tables}
+use Rattle.nf_defs.specs.Tree.{child_of, climb, depth, folder_of, is_in, is_present, is_root, is_root_place, is_under, node_row, parent_of, taken_names}
 use Rattle.nf_defs.specs.People.{user_row}
+use Rattle.nf_laws.proofs.Climbs.{climb_under, climbs_no_further, depth_is, under_climb}
+use Rattle.nf_laws.proofs.Climbs.{node_row_each}
+use Rattle.nf_laws.proofs.Rows.{IsRooted, found_is, none_above, parent_there, row_is}
+use Rattle.nf_laws.specs.Tree.{DepthIsClimbed, NamesAreTaken, NoRings, NodesArePresent, Under, UnderIsDerived, inside, itself}
+use Rattle.nf_words.specs.Limits.{deepest}
+use Rattle.nf_words.specs.Sound.{AreSound, IsNodeSound, root_of_user}
 
 pub rooted : (t : Tables) (node : ℕ) (row : NodeRow) → AreSound t → node_row t.nodes node ≡ Some row → IsRooted t node row
 rooted t node row sound there =

@@ -1,7 +1,7 @@
 -- What a walk takes: all that is under its top, and nothing twice.
 use Rattle.std.proofs.Common.{ℕ, zero, suc, ◌+◌, ◌-◌, ◌==◌, ◌<◌, ◌≡◌, ◌≢◌, true, List, [], ◌∷◌, ◌++◌, Some, get_or, map, filter, inl, inr, refl, sym, ap, subst, ◌∙◌, arith}
 use Rattle.std.specs.List.{All, AllPairs, Contains, flat_map, list_any}
-use Rattle.std.proofs.lemmas.Bool.{both_ways, cases_Bool, cases_order, false_from_ne_true, eq-eqb, eqb-true}
+use Rattle.std.proofs.lemmas.Bool.{both_ways, cases_Bool, cases_order, eq-eqb, eqb-true, false_from_ne_true}
 use Rattle.std.proofs.lemmas.List.Elements.{All-append, All-contains, All-contains_itself, All-head, All-map, All-tail}
 use Rattle.std.proofs.lemmas.List.Folds.{Any-from_list_any, list_any_at}
 use Rattle.std.proofs.lemmas.List.Kept.{AllPairs-cons, AllPairs-filter}
@@ -11,7 +11,7 @@ use Rattle.nf_defs.proofs.ByName.{AllPairs-by_name}
 use Rattle.nf_defs.proofs.Walks.{Contains-from_flat, children_are, climbs_walk, walk_climbs, walk_within_climbs}
 use Rattle.nf_defs.specs.Tables.{Tables}
 use Rattle.nf_defs.specs.Tree.{by_name, children_of, climb, is_in, is_under, parent_of, walk_of, walk_within}
-use Rattle.nf_laws.proofs.Climbs.{climb_rest, parent_at, climb_on, climb_under, under_climb}
+use Rattle.nf_laws.proofs.Climbs.{climb_on, climb_rest, climb_under, parent_at, under_climb}
 use Rattle.nf_laws.proofs.Upwards.{climb_short, climbed, depth_climb, derived}
 use Rattle.nf_laws.specs.Tree.{WalksTakeAllUnder}
 use Rattle.nf_words.specs.Sound.{AreSound}
