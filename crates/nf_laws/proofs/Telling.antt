@@ -21,8 +21,7 @@ use Rattle.nf_defs.specs.Changes.{IsDroppable, made, put_all}
 use Rattle.nf_defs.specs.Tables.{Tables}
 use Rattle.nf_defs.specs.Tree.{child_of, filled, is_folder_kind, is_under, node_row, relinked, walk_of, with_node, without_under}
 use Rattle.nf_defs.specs.declared.Found.TheVariants.{At, Free}
-use Rattle.nf_laws.proofs.Climbs.{climb_under}
-use Rattle.nf_laws.proofs.Climbs.{holds_some}
+use Rattle.nf_laws.proofs.Climbs.{climb_under, holds_some}
 use Rattle.nf_laws.proofs.Copied.{walk_first}
 use Rattle.nf_laws.proofs.Entries.{step_has}
 use Rattle.nf_laws.proofs.Gone.{all_cleared, clearing_sound, row_cleared}

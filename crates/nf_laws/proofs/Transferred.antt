@@ -14,8 +14,7 @@ use Rattle.nf_defs.proofs.Walks.{IsChildOf, children_are, climbs_walk, inside_of
 use Rattle.nf_defs.specs.Tables.{Tables}
 use Rattle.nf_defs.specs.Tree.{by_name, child_of, children_of, climb, folder_of, is_in, is_under, node_row, parent_of, relinked, walk_of, walk_within, with_node}
 use Rattle.nf_defs.specs.declared.Found.TheVariants.{At}
-use Rattle.nf_laws.proofs.Climbs.{climb_on, climb_rest, climb_under, node_row_each, parent_at, under_climb}
-use Rattle.nf_laws.proofs.Climbs.{parent_at, some_there}
+use Rattle.nf_laws.proofs.Climbs.{climb_on, climb_rest, climb_under, node_row_each, parent_at, some_there, under_climb}
 use Rattle.nf_laws.proofs.Copied.{copies_there, old_joined}
 use Rattle.nf_laws.proofs.Entries.{step_changed}
 use Rattle.nf_laws.proofs.Gone.{row_cleared, row_gone}

@@ -2,9 +2,8 @@
 -- So the words about the tree are as the plain ones.
 use Rattle.std.proofs.Common.{ℕ, suc, zero, ◌+◌, ◌≡◌, ◌≢◌, ◌≤◌, true, false, List, Option, None, Some, refl, sym, ap, subst, ◌∙◌, arith, ◌==◌, Bool, [], ◌∷◌, get_or}
 use Rattle.std.specs.Option.{option_and_then, option_map_or}
-use Rattle.std.specs.List.{All}
+use Rattle.std.specs.List.{All, list_any}
 use Rattle.std.specs.Prelude.{bytes_eq, is_some}
-use Rattle.std.specs.List.{list_any}
 use Rattle.std.proofs.lemmas.Bool.{both_ways, false_from_ne_true}
 use Rattle.std.proofs.lemmas.Option.{none-some, option_and_then_some, same_Some}
 use Rattle.std.proofs.lemmas.List.Recursion.{max_bounds}
@@ -17,8 +16,7 @@ use Rattle.nf_base.specs.declared.rows.UserRow.{UserRow}
 use Rattle.nf_defs.specs.Tables.{Tables}
 use Rattle.nf_defs.specs.Tree.{child_of, climb, depth, folder_of, is_in, is_present, is_root, is_root_place, is_under, node_row, parent_of, taken_names}
 use Rattle.nf_defs.specs.People.{user_row}
-use Rattle.nf_laws.proofs.Climbs.{climb_under, climbs_no_further, depth_is, under_climb}
-use Rattle.nf_laws.proofs.Climbs.{node_row_each}
+use Rattle.nf_laws.proofs.Climbs.{climb_under, climbs_no_further, depth_is, node_row_each, under_climb}
 use Rattle.nf_laws.proofs.Rows.{IsRooted, found_is, none_above, parent_there, row_is}
 use Rattle.nf_laws.specs.Tree.{DepthIsClimbed, NamesAreTaken, NoRings, NodesArePresent, Under, UnderIsDerived, inside, itself}
 use Rattle.nf_words.specs.Limits.{deepest}
