@@ -195,9 +195,7 @@ unless_stores t body (Some refusal) act stores = tt
 goal_stores : (t : Tables) (now : ℕ) (outcome : Outcome) (goal : Goal) (body : List ℕ) → Brings body (End outcome)
     → Decides t body (ends_goal t now outcome goal)
 goal_stores t now (Body digest size) (Store by key wanted) body brings =
-    unless_stores t body (end_refusal t key size) (stored_at t now key digest size)
-    (subst (λ (d : List ℕ). StoresBody t.meta.next_blob body (stored_at t now key d size)) (sym brings.0)
-    (subst (λ (n : ℕ). StoresBody t.meta.next_blob body (stored_at t now key (sha256 body) n)) (sym brings.1) (key_stores t now key body)))
+    unless_stores t body (end_refusal t key size) (stored_at t now key digest size) (rw (brings.0, brings.1) (key_stores t now key body))
 goal_stores t now (Body digest size) goal body brings = tt
 goal_stores t now outcome goal body brings = tt
 
