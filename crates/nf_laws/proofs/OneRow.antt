@@ -96,7 +96,7 @@ pub with_each : (P Q : NodeRow → Type 0) (rows : List NodeRow) (node : ℕ) (c
     → All Q rows → All P (with_node rows node change)
 with_each P Q rows node change same changed all k d within =
     let old : Q (get_or rows k d) = all k d (omega (arith, length_with rows node change)) in
-    elim (each_either rows node change k d) [ | inl e ↦ subst P (sym e) (same _ old) | inr h ↦ subst P (sym h.1) (changed _ h.0 old) ]
+    elim (each_either rows node change k d) [ inl e ↦ subst P (sym e) (same _ old) | inr h ↦ subst P (sym h.1) (changed _ h.0 old) ]
 
 -- so what a change of a row keeps
 pub with_all : (P : NodeRow → Type 0) (rows : List NodeRow) (node : ℕ) (change : NodeRow → NodeRow)

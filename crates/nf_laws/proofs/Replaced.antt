@@ -1,5 +1,5 @@
 -- The tables with another content of a file are sound.
-use Rattle.std.proofs.Common.{◌≡◌, List, bytes_eq, refl, ap, ℕ, ◌==◌, ◌≤◌, Bool, true, false, not, Option, Some, option_map, if◌then◌else◌, length, get_or, sym, subst, ◌∙◌, inl, inr, arith, le_refl}
+use Rattle.std.proofs.Common.{◌≡◌, List, bytes_eq, refl, ap, ℕ, ◌==◌, ◌≤◌, Bool, true, false, not, Option, Some, option_map, if◌then◌else◌, length, get_or, sym, ◌∙◌, arith, le_refl}
 use Rattle.std.specs.Prelude.{nat_eq}
 use Rattle.std.specs.Bool.{Decides}
 use Rattle.std.specs.Option.{option_map_or}

@@ -1,9 +1,9 @@
 -- What a COPY leaves: the copies, and all that was there but for what had to go. And what a MOVE leaves as it was.
-use Rattle.std.proofs.Common.{ℕ, zero, suc, ◌+◌, ◌-◌, ◌<◌, ◌≡◌, true, false, List, ◌++◌, Option, None, Some, map, inl, inr, refl, sym, ap, subst, ◌∙◌, arith, length-append, ◌==◌, ◌≢◌, not, [], ◌∷◌, filter, get_or, length, option_map, ◌≤◌}
+use Rattle.std.proofs.Common.{ℕ, zero, suc, ◌-◌, ◌<◌, ◌≡◌, true, false, List, ◌++◌, Option, None, Some, map, inl, inr, refl, sym, ap, subst, ◌∙◌, arith, length-append, ◌==◌, ◌≢◌, not, [], ◌∷◌, filter, get_or, length, option_map, ◌≤◌}
 use Rattle.std.specs.Option.{option_map_or}
 use Rattle.std.specs.Prelude.{is_some}
 use Rattle.std.specs.List.{All, flat_map}
-use Rattle.std.proofs.lemmas.Bool.{both_ways, cases_lt, false_from_ne_true, false≢true, ne_eqb, not-false}
+use Rattle.std.proofs.lemmas.Bool.{cases_lt, false_from_ne_true, false≢true, ne_eqb, not-false}
 use Rattle.std.proofs.lemmas.List.{length-map}
 use Rattle.std.proofs.lemmas.Option.{option_and_then_some}
 use Rattle.std.proofs.lemmas.List.Elements.{All-head, All-tail, All-weaker}
@@ -14,7 +14,7 @@ use Rattle.nf_defs.proofs.Walks.{IsChildOf, children_are, climbs_walk, inside_of
 use Rattle.nf_defs.specs.Tables.{Tables}
 use Rattle.nf_defs.specs.Tree.{by_name, child_of, children_of, climb, folder_of, is_in, is_under, node_row, parent_of, relinked, walk_of, walk_within, with_node}
 use Rattle.nf_defs.specs.declared.Found.TheVariants.{At}
-use Rattle.nf_laws.proofs.Climbs.{climb_on, climb_rest, climb_under, node_row_each, parent_at, some_there, under_climb}
+use Rattle.nf_laws.proofs.Climbs.{climb_rest, node_row_each, parent_at, some_there, under_climb}
 use Rattle.nf_laws.proofs.Copied.{copies_there, old_joined}
 use Rattle.nf_laws.proofs.Entries.{step_changed}
 use Rattle.nf_laws.proofs.Gone.{row_cleared, row_gone}

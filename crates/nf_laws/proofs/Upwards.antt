@@ -1,6 +1,6 @@
 -- Climbs in sound tables: none from a node that is there takes more than 64 steps, and a folder is one less deep than what is in it.
 -- So the words about the tree are as the plain ones.
-use Rattle.std.proofs.Common.{ℕ, suc, zero, ◌+◌, ◌≡◌, ◌≢◌, ◌≤◌, true, false, List, Option, None, Some, refl, sym, ap, subst, ◌∙◌, arith, ◌==◌, Bool, [], ◌∷◌, get_or}
+use Rattle.std.proofs.Common.{ℕ, suc, zero, ◌+◌, ◌≡◌, ◌≢◌, ◌≤◌, true, false, List, Option, None, Some, refl, ap, subst, ◌∙◌, arith, ◌==◌, Bool, [], ◌∷◌, get_or}
 use Rattle.std.specs.Option.{option_and_then, option_map_or}
 use Rattle.std.specs.List.{All, list_any}
 use Rattle.std.specs.Prelude.{bytes_eq, is_some}
