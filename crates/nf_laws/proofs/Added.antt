@@ -1,8 +1,8 @@
 -- The tables with a node more are sound.
-use Rattle.std.proofs.Common.{ℕ, suc, ◌==◌, ◌&&◌, ◌≡◌, ◌<◌, ◌≤◌, true, false, List, [], ◌∷◌, ◌++◌, Option, None, Some, length, bytes_eq, refl, sym, ap, subst, ◌∙◌, arith, le_refl, length-append}
+use Rattle.std.proofs.Common.{ℕ, ◌+◌, suc, ◌==◌, ◌&&◌, ◌≡◌, ◌<◌, ◌≤◌, false, List, [], ◌∷◌, ◌++◌, Option, None, Some, length, bytes_eq, refl, sym, ap, subst, ◌∙◌, arith, le_refl, length-append}
 use Rattle.std.specs.List.{All}
-use Rattle.std.specs.Option.{option_and_then, option_map_or, option_or}
-use Rattle.std.proofs.lemmas.Bool.{and_from, both_ways, eq-eqb, eqb-true, ne_eqb}
+use Rattle.std.specs.Option.{option_and_then, option_or}
+use Rattle.std.proofs.lemmas.Bool.{and_from, both_ways, eq-eqb, ne_eqb}
 use Rattle.std.proofs.lemmas.List.Elements.{All-push, All-weaker}
 use Rattle.std.proofs.lemmas.List.Folds.{find-append}
 use Rattle.std.proofs.lemmas.List.Quantifiers.{all_pairs_push}
@@ -12,26 +12,15 @@ use Rattle.nf_base.specs.declared.rows.NodeRow.{NodeRow}
 use Rattle.nf_base.specs.declared.rows.Place.{Place}
 use Rattle.nf_base.specs.declared.rows.Place.TheVariants.{Inside}
 use Rattle.nf_defs.specs.Tables.{Tables}
-use Rattle.nf_defs.specs.Tree.{child_of, climb, folder_of, is_folder, is_in, is_place_in, node_row, owner_of}
+use Rattle.nf_defs.specs.Tree.{child_of, climb, depth, is_in, is_place_in, node_row, owner_of}
+use Rattle.nf_laws.proofs.Climbs.{parent_at}
+use Rattle.nf_laws.proofs.Rows.{blob_up, body_sound, climb_kept, counters_up, each_fails, finds_none, folder_kept, folder_there, kept_joined, no_value, node_kept, root_kept, row_is, stamp}
+use Rattle.nf_laws.proofs.Upwards.{climbs_depth}
 use Rattle.nf_words.proofs.Known.{KnownNew}
-use Rattle.nf_words.specs.Changes.{created}
+use Rattle.nf_words.specs.Changes.{blob_after, created}
 use Rattle.nf_words.specs.Sound.{AreApart, AreSound, HasRoot, IsNodeSound, IsPlaceSound, root_of_user}
-use Rattle.nf_laws.proofs.Rows.{AreKept, blob_up, body_sound, climb_kept, each_fails, finds_none, folder_kept, folder_there, found_is, no_value, node_kept, none_above, root_kept, stamp}
-use Rattle.nf_laws.proofs.Climbs.{depth_is}
 
 -- ---- the rows with one more
-
-pub kept_added : (rows : List NodeRow) (row : NodeRow) → AreKept rows (rows ++ row ∷ [])
-kept_added rows row node old is = record {
-  row = old;
-  there =
-      find-append (λ row. row.id == node) rows (row ∷ [])
-      ∙ ap (λ (o : Option NodeRow). option_or o (node_row (row ∷ []) node)) is;
-  owner = refl;
-  place = refl;
-  name = refl;
-  kind = refl;
-}
 
 -- where no row has the new row's number, it is found by it
 pub new_there : (rows : List NodeRow) (row : NodeRow) → All (λ (old : NodeRow). old.id < row.id) rows
@@ -57,14 +46,6 @@ new_apart rows folder row inside free =
 
 -- ---- the new node
 
--- a folder's row, which is sound
-folder_sound : (t : Tables) (folder : ℕ) → AreSound t → is_folder t.nodes folder ≡ true
-    → (row : NodeRow) × (row.id ≡ folder) × (row.owner ≡ owner_of t.nodes folder) × IsNodeSound t row
-folder_sound t folder sound is =
-    let h = folder_there t.nodes folder is in
-    let found = found_is (IsNodeSound t) (λ row. row.id == folder) t.nodes h.0 sound.nodes h.1 in
-    (h.0, eqb-true h.0.id folder found.0, sym (ap (λ (o : Option NodeRow). option_map_or (λ row. row.owner) o 0) h.1), found.1)
-
 pub less_than_new : (t : Tables) (now : ℕ) (row : NodeRow) (blob : Option ℕ) → AreSound t → KnownNew t now row blob
     → All (λ (old : NodeRow). old.id < row.id) t.nodes
 less_than_new t now row blob sound known =
@@ -78,31 +59,29 @@ new_sound : (t : Tables) (now : ℕ) (row : NodeRow) (blob : Option ℕ) → Are
     → IsNodeSound (added t now row blob) row
 new_sound t now row blob sound known =
     let made = added t now row blob in
-    let folder = folder_sound t known.folder sound known.in_folder in
-    let h = folder_kept t.nodes made.nodes known.folder (kept_added t.nodes row) known.in_folder in
+    let folder = folder_there t.nodes known.folder known.in_folder in
+    let of = row_is t known.folder folder.0 sound folder.1 in
+    let up = depth t.nodes known.folder in
+    let h = folder_kept t.nodes made.nodes known.folder (kept_joined t.nodes (row ∷ [])) known.in_folder in
     let id : row.id ≡ t.meta.next_node = ap (λ (r : NodeRow). r.id) known.is_new in
     let owner : row.owner ≡ owner_of t.nodes known.folder = ap (λ (r : NodeRow). r.owner) known.is_new in
     let place : row.place ≡ Inside known.folder = ap (λ (r : NodeRow). r.place) known.is_new in
     let changed : row.changed ≡ now = ap (λ (r : NodeRow). r.changed) known.is_new in
-    let steps = folder.3.steps in
-    let climbs : climb t.nodes steps known.folder ≡ Some (root_of_user t folder.0.owner) =
-    subst (λ (n : ℕ). climb t.nodes steps n ≡ Some (root_of_user t folder.0.owner)) folder.1 folder.3.present in
-    let deep = depth_is steps t.nodes known.folder (root_of_user t folder.0.owner) (none_above t folder.0.owner sound) folder.3.shallow climbs in
     record {
-      some = omega (arith, folder.3.some, folder.3.given);
+      some = omega (arith, of.1.some, of.1.given);
       given = omega arith;
       changed = omega arith;
       pieces = body_sound t made.meta made.nodes blob row.content sound.counters known.content (le_refl _);
       folder = known.empty;
       place = subst (λ (p : Place). IsPlaceSound made row p) (sym place) (h.0, h.1 ∙ sym owner);
-      steps = suc steps;
-      shallow = omega (arith, deep, known.deep);
+      steps = suc up;
+      shallow = omega (arith, known.deep);
       present =
-          ap (option_and_then (climb made.nodes steps))
-          (ap (option_and_then (λ row. folder_of row.place)) (new_there t.nodes row (less_than_new t now row blob sound known))
-          ∙ ap folder_of place)
-          ∙ climb_kept steps t.nodes made.nodes known.folder (root_of_user t folder.0.owner) (kept_added t.nodes row) climbs
-          ∙ ap (λ (user : ℕ). Some (root_of_user t user)) (folder.2 ∙ sym owner);
+          ap (option_and_then (climb made.nodes up))
+          (parent_at made.nodes row.id known.folder row (new_there t.nodes row (less_than_new t now row blob sound known)) place)
+          ∙ climb_kept up t.nodes made.nodes known.folder (root_of_user t folder.0.owner) (kept_joined t.nodes (row ∷ []))
+          (climbs_depth t known.folder folder.0 sound folder.1).0
+          ∙ ap (λ (user : ℕ). Some (root_of_user t user)) (sym (rw folder.1 at owner));
     }
 
 -- ---- all rows
@@ -111,15 +90,10 @@ pub created_sound : (t : Tables) (now : ℕ) (row : NodeRow) (blob : Option ℕ)
     → AreSound (stamp (created t row blob) now)
 created_sound t now row blob sound later known =
     let made = added t now row blob in
-    let kept = kept_added t.nodes row in
+    let kept = kept_joined t.nodes (row ∷ []) in
     record {
-      counters = record {
-        users = sound.counters.users;
-        groups = sound.counters.groups;
-        nodes = omega arith;
-        shares = sound.counters.shares;
-        blobs = omega (arith, sound.counters.blobs, blob_up t.meta.next_blob blob);
-      };
+      counters = counters_up t.meta (t.meta.next_node + 1) (blob_after t.meta.next_blob blob) now sound.counters (omega arith)
+          (blob_up t.meta.next_blob blob);
       rising = all_pairs_push (λ (a b : NodeRow). a.id < b.id) t.nodes row sound.rising (less_than_new t now row blob sound known);
       nodes = All-push (IsNodeSound made) t.nodes row
           (All-weaker (IsNodeSound t) (IsNodeSound made)

@@ -1,44 +1,215 @@
--- Whole blobs stay whole, and what is stored has the next number.
-use Rattle.std.proofs.Common.{◌≡◌, ℕ, ◌<◌, ◌==◌, Bool, true, false, not, List, [], ◌∷◌, length, get_or, Result, Ok, Err, inl, inr, refl, sym, ap, subst, ◌∙◌, arith}
-use Rattle.std.specs.Prelude.{Option, None, Some}
+-- The blob that an act stores, and what an event stores in it. Whole blobs stay whole, and what is stored has the next number.
+use Rattle.std.proofs.Common.{◌≡◌, ℕ, ◌<◌, ◌==◌, List, [], ◌∷◌, length, get_or, inl, inr, refl, sym, ap, subst, ◌∙◌, arith, ◌&&◌, not, Result, Ok, Err, ◌⊎◌}
+use Rattle.std.specs.Prelude.{None, Option, Some}
 use Rattle.std.specs.List.{All}
 use Rattle.std.specs.Option.{IfSome, option_map_or}
-use Rattle.std.proofs.lemmas.List.Elements.{All-append, All-cons, All-nil, All-push, All-tail, All-head, All-filter}
+use Rattle.std.proofs.lemmas.List.Elements.{All-append, All-cons, All-head, All-nil, All-push}
 use Rattle.std.proofs.lemmas.Option.{none-some, slice_get-get_or}
+use Rattle.std.proofs.lemmas.Bool.{and_parts, cases_Bool, cond_both}
 use Rattle.sha2.specs.Sha256.{sha256}
 use Rattle.nf_base.specs.declared.changes.Change.{Change}
 use Rattle.nf_base.specs.declared.content.Piece.{Piece}
 use Rattle.nf_base.specs.declared.rows.MetaRow.{MetaRow}
 use Rattle.nf_base.specs.declared.rows.NodeRow.{NodeRow}
 use Rattle.nf_base.specs.declared.rows.Row.{Row}
+use Rattle.nf_base.specs.Content.{content_eq}
+use Rattle.nf_base.specs.declared.changes.Change.TheVariants.{Put}
+use Rattle.nf_base.specs.declared.rows.Row.TheVariants as rows
 use Rattle.nf_defs.specs.Blobs.{Blobs, blob_at, put_blob, with_blob}
 use Rattle.nf_defs.specs.Tables.{Tables}
 use Rattle.nf_defs.proofs.Blobs.{new_at, put_at, put_elsewhere, still_at}
-use Rattle.nf_defs.specs.Tree.{content_of, filled, node_row, relinked, with_node}
-use Rattle.nf_words.specs.Actors.{actor_of}
-use Rattle.nf_words.specs.Changes.{altered, blob_after, blob_of, changed, cleared, goal_of, stamped, told, with_goal}
-use Rattle.nf_words.specs.Endings.{blob_for, content_in}
-use Rattle.nf_words.specs.History.{MayAsk, after_mark, failed}
+use Rattle.nf_defs.specs.Tree.{content_of, filled, is_folder, is_folder_kind, node_row, relinked}
+use Rattle.nf_defs.specs.Access.{unshared}
+use Rattle.nf_defs.specs.declared.Found.{Found}
+use Rattle.nf_defs.specs.declared.Found.TheVariants.{At, Free}
+use Rattle.nf_defs.specs.declared.Seeker.{Seeker}
+use Rattle.nf_defs.specs.declared.Seeker.TheVariants as seeker
+use Rattle.nf_laws.proofs.Climbs.{holds_some}
+use Rattle.nf_laws.proofs.Entries.{entry_has, tickets_left, tickets_with}
+use Rattle.nf_laws.proofs.Gone.{all_cleared}
+use Rattle.nf_laws.proofs.Mirrored.{mirrored}
+use Rattle.nf_laws.proofs.OneRow.{with_all}
+use Rattle.nf_laws.proofs.Replaced.{content_decides}
+use Rattle.nf_laws.proofs.Rows.{content_has, found_is, row_is, stamped_has}
+use Rattle.nf_laws.specs.Wholes.{BlobsAreNew, Brings, IsGoalHeld, IsHeld, IsThere, StaysWhole, blob_in, blob_under}
+use Rattle.nf_words.specs.Changes.{allowed_of, altered, blob_after, blob_of, changed, cleared, given, goal_of, made_folder, refilled, served, stamped, stored, told, with_goal}
+use Rattle.nf_words.specs.Endings.{blob_for, content_in, end_refusal, ends_goal, ends_ticket, stored_at, unless_refused}
+use Rattle.nf_words.specs.History.{MayAsk, after_mark}
 use Rattle.nf_words.specs.Sound.{AreSound, IsGoalSound, IsNodeSound, IsPieceSound, IsSound}
-use Rattle.nf_words.specs.State.{State, ticket_for, without_ticket}
-use Rattle.nf_words.specs.Step.{blob_by, blob_to, decided, decision_of, step}
+use Rattle.nf_words.specs.State.{State, ticket_of}
+use Rattle.nf_words.specs.Step.{call_of, decision_of, without}
 use Rattle.nf_words.specs.declared.answer.Allowed.{Allowed}
 use Rattle.nf_words.specs.declared.answer.Allowed.TheVariants as allowed
-use Rattle.nf_words.specs.declared.answer.Denial.{Denial}
 use Rattle.nf_words.specs.declared.answer.Goal.{Goal}
 use Rattle.nf_words.specs.declared.answer.Goal.TheVariants.{Serve, Store}
 use Rattle.nf_words.specs.declared.history.Entry.{Entry}
+use Rattle.nf_words.specs.declared.history.Mark.{Mark}
+use Rattle.nf_words.specs.declared.history.Ticket.{Ticket}
+use Rattle.nf_words.proofs.Known.{IsOfBody, Known, KnownCopies, known_change}
+use Rattle.nf_words.specs.Calls.{asker_of, last_name, places_of}
+use Rattle.nf_words.specs.Copies.{copies_to}
+use Rattle.nf_words.specs.Listing.{listing_of}
+use Rattle.nf_words.specs.Places.{node_at, transfer_of}
+use Rattle.nf_words.specs.Rules.{refusal_of}
+use Rattle.nf_words.specs.declared.answer.Denial.{Denial}
+use Rattle.nf_words.specs.declared.answer.LockKey.{LockKey}
+use Rattle.nf_words.specs.declared.answer.LockKey.TheVariants.{Node, Slot}
 use Rattle.nf_words.specs.declared.history.Event.{Event}
 use Rattle.nf_words.specs.declared.history.Event.TheVariants.{Begin, End}
-use Rattle.nf_words.specs.declared.history.Mark.{Mark}
-use Rattle.nf_words.specs.declared.history.Mark.TheVariants as mark
-use Rattle.nf_words.specs.declared.history.Ticket.{Ticket}
-use Rattle.nf_words.proofs.Known.{Known, KnownCopies, found_has, known_change}
-use Rattle.nf_laws.proofs.Bodies.{Decides, IsNext, StoresBody, act_next, altered_next, begin_none, decision_stores, told_blob}
-use Rattle.nf_laws.proofs.Gone.{all_cleared}
-use Rattle.nf_laws.proofs.Owned.{copies_mirror}
-use Rattle.nf_laws.proofs.Rows.{found_is, stamped_has}
-use Rattle.nf_laws.specs.Wholes.{BlobsAreNew, Brings, IsGoalHeld, IsHeld, IsThere, IsWhole, StaysWhole, blob_in, blob_under}
+use Rattle.nf_words.specs.declared.history.Outcome.{Outcome}
+use Rattle.nf_words.specs.declared.history.Outcome.TheVariants.{Body}
+use Rattle.nf_words.specs.declared.request.Places.{Places}
+use Rattle.nf_words.specs.declared.request.Spot.{Spot}
+use Rattle.nf_words.specs.declared.request.Wanted.{Wanted}
+use Rattle.nf_words.specs.declared.request.Wanted.TheVariants as wanted
+
+-- ---- a blob that is stored has the next number
+
+abbrev pub IsNext : ℕ → Option ℕ → Type 0
+IsNext next None = Unit {0}
+IsNext next (Some id) = id ≡ next
+
+body_next : (meta : MetaRow) (blob : Option ℕ) (content : List Piece) → IsOfBody meta blob content → IsNext meta.next_blob blob
+body_next meta None content of_body = tt
+body_next meta (Some id) content of_body = of_body.0
+
+pub act_next : (t : Tables) (now : ℕ) (who : Option ℕ) (act : Allowed) → Known t now who act → IsNext t.meta.next_blob (blob_of act)
+act_next t now who (allowed.StoreNew row blob) known = body_next t.meta blob row.content known.new.content
+act_next t now who (allowed.StoreOver node content blob) known = body_next t.meta blob content known.brought.content
+act_next t now who act known = tt
+
+pub altered_next : (t : Tables) (now : ℕ) (act : Allowed) → (altered t now act).meta.next_blob ≡ blob_after t.meta.next_blob (blob_of act)
+altered_next t now allowed.Close = refl
+altered_next t now act = refl
+
+-- ---- an act that changes no row stores nothing
+
+-- no node holds a blob that wasn't given, so a new blob makes another content
+refills : (t : Tables) (row : NodeRow) (now : ℕ) (content : List Piece) (blob : Option ℕ) → All (IsPieceSound t) row.content
+    → IsOfBody t.meta blob content → refilled (Some row) now content ≡ [] → blob ≡ None
+refills t row now content None sound of_body none = refl
+refills t row now content (Some id) sound of_body none =
+    let piece : Piece = record { blob = id; size = of_body.1.0; digest = of_body.1.1 } in
+    cond_both (content_eq row.content content && row.changed == now) [] (Put (rows.Node (filled content now row)) ∷ [])
+    (λ changes. changes ≡ [] → Some id ≡ None)
+    (λ same none.
+    let is : row.content ≡ piece ∷ [] =
+    (content_decides row.content content).0 (and_parts (content_eq row.content content) (row.changed == now) same).0 ∙ of_body.1.4 in
+    let old = All-head (IsPieceSound t) piece [] (subst (All (IsPieceSound t)) is sound) in
+    absurd (omega (arith, old.given, of_body.0)))
+    (λ other none. absurd (cc)) none
+
+pub told_blob : (t : Tables) (now : ℕ) (who : Option ℕ) (act : Allowed) → AreSound t → Known t now who act → told t now act ≡ [] → blob_of act ≡ None
+told_blob t now who (allowed.StoreNew row blob) sound known none = cc
+told_blob t now who (allowed.StoreOver node content blob) sound known none =
+    let file = holds_some (λ row. not (is_folder_kind row.kind)) (node_row t.nodes node) known.brought.file in
+    refills t file.0 now content blob (row_is t node file.0 sound file.1).1.pieces known.brought.content (rw file.1 at none)
+told_blob t now who act sound known none = refl
+
+-- ---- what an event stores
+
+-- an act stores these bytes, if it stores any
+abbrev pub StoresBody : ℕ → List ℕ → Allowed → Type 0
+StoresBody next body (allowed.StoreNew row blob) =
+    (blob ≡ blob_for next (length body)) × (row.content ≡ content_in (blob_for next (length body)) (sha256 body) (length body))
+StoresBody next body (allowed.StoreOver node content blob) =
+    (blob ≡ blob_for next (length body)) × (content ≡ content_in (blob_for next (length body)) (sha256 body) (length body))
+StoresBody next body (allowed.Mkcol row) = row.content ≡ []
+StoresBody next body act = Unit {0}
+
+-- what a request that isn't a GET may do: nothing that stores or shows a content
+abbrev pub Alters : Allowed → Type 0
+Alters (allowed.Get node content) = ⊥
+Alters (allowed.List listing) = ⊥
+Alters (allowed.StoreNew row blob) = ⊥
+Alters (allowed.StoreOver node content blob) = ⊥
+Alters (allowed.Mkcol row) = row.content ≡ []
+Alters act = Unit {0}
+
+put_alters : (by : Seeker) (name : List ℕ) (size : ℕ) (o : Option Found) → Alters (stored by name size o)
+put_alters by name size None = tt
+put_alters by name size (Some (At node)) = tt
+put_alters by name size (Some place) = tt
+
+folder_alters : (t : Tables) (now : ℕ) (name : List ℕ) (o : Option Found) → Alters (made_folder t now name o)
+folder_alters t now name None = tt
+folder_alters t now name (Some (Free folder)) = refl
+folder_alters t now name (Some place) = tt
+
+-- what is done where something is there
+either_alters : {X : Type 0} (act : X → Allowed) (o : Option X) → ((x : X) → Alters (act x)) → Alters (option_map_or act o allowed.Close)
+either_alters act None all = tt
+either_alters act (Some x) all = all x
+
+pub given_alters : (t : Tables) (now user : ℕ) (asked : Wanted) (places : Places)
+    → ((spot : Spot) × (asked ≡ wanted.Get spot)) ⊎ Alters (given t now user asked places)
+given_alters t now user (wanted.Get spot) places = inl (spot, refl)
+given_alters t now user (wanted.Put spot size) places = inr (put_alters (seeker.User user) (last_name spot) size places.target)
+given_alters t now user (wanted.Mkcol spot) places = inr (folder_alters t now (last_name spot) places.target)
+given_alters t now user (wanted.Delete spot) places = inr (either_alters allowed.Delete (node_at places.source) (λ node. tt))
+given_alters t now user (wanted.Move source target overwrite) places =
+    inr (either_alters (λ transfer. allowed.Move transfer (last_name target)) (transfer_of t.nodes places) (λ transfer. tt))
+given_alters t now user (wanted.Copy source target overwrite) places =
+    inr (either_alters (λ transfer. allowed.Copy (copies_to t now transfer (last_name target)) transfer.replaced)
+    (transfer_of t.nodes places) (λ transfer. tt))
+
+-- so a Begin stores nothing
+alters_stores : (next : ℕ) (body : List ℕ) (act : Allowed) → Alters act → StoresBody next body act
+alters_stores next body (allowed.StoreNew row blob) alters = absurd alters
+alters_stores next body (allowed.StoreOver node content blob) alters = absurd alters
+alters_stores next body (allowed.Mkcol row) alters = alters
+alters_stores next body act alters = tt
+
+served_stores : (t : Tables) (body : List ℕ) (o : Option ℕ) → StoresBody t.meta.next_blob body (served t o)
+served_stores t body None = tt
+served_stores t body (Some node) =
+    cond_both (is_folder t.nodes node) (allowed.List (listing_of t node)) (allowed.Get node (content_of t.nodes node))
+    (StoresBody t.meta.next_blob body) (λ folder. tt) (λ file. tt)
+
+given_stores : (t : Tables) (now user : ℕ) (body : List ℕ) (asked : Wanted) (places : Places)
+    → StoresBody t.meta.next_blob body (given t now user asked places)
+given_stores t now user body asked places =
+    elim (given_alters t now user asked places) [
+      | inl get ↦
+          subst (λ (w : Wanted). StoresBody t.meta.next_blob body (given t now user w places)) (sym get.1)
+          (served_stores t body (node_at places.source))
+      | inr alters ↦ alters_stores t.meta.next_blob body (given t now user asked places) alters
+    ]
+
+-- the End of a PUT stores its body
+key_stores : (t : Tables) (now : ℕ) (key : LockKey) (body : List ℕ)
+    → StoresBody t.meta.next_blob body (stored_at t now key (sha256 body) (length body))
+key_stores t now (Node node) body = (refl, refl)
+key_stores t now (Slot folder name) body = (refl, refl)
+
+-- a decision stores these bytes, if it stores any
+abbrev pub Decides : Tables → List ℕ → Result Allowed Denial → Type 0
+Decides t body (Ok act) = StoresBody t.meta.next_blob body act
+Decides t body (Err refusal) = Unit {0}
+
+unless_stores : (t : Tables) (body : List ℕ) (refusal : Option Denial) (act : Allowed) → StoresBody t.meta.next_blob body act
+    → Decides t body (unless_refused refusal act)
+unless_stores t body None act stores = stores
+unless_stores t body (Some refusal) act stores = tt
+
+goal_stores : (t : Tables) (now : ℕ) (outcome : Outcome) (goal : Goal) (body : List ℕ) → Brings body (End outcome)
+    → Decides t body (ends_goal t now outcome goal)
+goal_stores t now (Body digest size) (Store by key wanted) body brings =
+    unless_stores t body (end_refusal t key size) (stored_at t now key digest size) (rw (brings.0, brings.1) (key_stores t now key body))
+goal_stores t now (Body digest size) goal body brings = tt
+goal_stores t now outcome goal body brings = tt
+
+ticket_stores : (t : Tables) (now : ℕ) (outcome : Outcome) (ticket : Option Ticket) (body : List ℕ) → Brings body (End outcome)
+    → Decides t body (ends_ticket t now outcome ticket)
+ticket_stores t now outcome None body brings = tt
+ticket_stores t now outcome (Some ticket) body brings = goal_stores t now outcome ticket.goal body brings
+
+pub decision_stores : (s : State) (seat now : ℕ) (event : Event) (body : List ℕ) → Brings body event → Decides s.tables body (decision_of s seat now event)
+decision_stores s seat now (Begin words request) body brings =
+    let call = call_of s seat now words request in
+    unless_stores s.tables body (refusal_of unshared call) (allowed_of call)
+    (given_stores s.tables now (asker_of call) body request.wanted (places_of call))
+decision_stores s seat now (End outcome) body brings = ticket_stores s.tables now outcome (ticket_of s seat) body brings
 
 -- ---- pieces whose bytes stay
 
@@ -83,42 +254,29 @@ nodes_kept t opening blobs more keeps sound held = λ k d within.
 
 brought : (next : ℕ) (opening : List Row) (blobs : Blobs) (body : List ℕ)
     → All (IsHeld opening (with_blob blobs (blob_for next (length body)) body)) (content_in (blob_for next (length body)) (sha256 body) (length body))
-brought next opening blobs body = here (length body == 0) refl
-  where
-    here : (a : Bool) → (length body == 0) ≡ a
-        → All (IsHeld opening (with_blob blobs (blob_for next (length body)) body)) (content_in (blob_for next (length body)) (sha256 body) (length body))
-    here true e = simp e (All-nil (IsHeld opening blobs))
-    here false e =
-        let more = put_blob blobs next body in
-        simp e (All-cons (IsHeld opening more) _ []
-        (inl (record { bytes = body; there = put_at blobs next body; size = refl; digest = refl })) (All-nil (IsHeld opening more)))
+brought next opening blobs body =
+    elim (cases_Bool (length body == 0)) [
+      | inl none ↦ simp none (All-nil (IsHeld opening blobs))
+      | inr some ↦
+          (let more = put_blob blobs next body in
+          simp some (All-cons (IsHeld opening more) _ []
+          (inl (record { bytes = body; there = put_at blobs next body; size = refl; digest = refl })) (All-nil (IsHeld opening more))))
+    ]
 
 -- ---- the tables after an act
-
--- what a change keeps
-with_all : (P : NodeRow → Type 0) (old : List NodeRow) (node : ℕ) (change : NodeRow → NodeRow)
-    → ((row : NodeRow) → P row → P (change row)) → All P old → All P (with_node old node change)
-with_all P [] node change keeps h = h
-with_all P (row ∷ old) node change keeps h = here (row.id == node) refl (with_all P old node change keeps (All-tail P row old h))
-  where
-    here : (a : Bool) → (row.id == node) ≡ a → All P (with_node old node change) → All P (with_node (row ∷ old) node change)
-    here true e rest = simp e (All-cons P (change row) old (keeps row (All-head P row old h)) (All-tail P row old h))
-    here false e rest = simp e (All-cons P row (with_node old node change) (All-head P row old h) rest)
 
 -- the content of a body is held with it
 stored_held : (next : ℕ) (opening : List Row) (blobs : Blobs) (body : List ℕ) (blob : Option ℕ) (content : List Piece)
     → blob ≡ blob_for next (length body) → content ≡ content_in (blob_for next (length body)) (sha256 body) (length body)
     → All (IsHeld opening (with_blob blobs blob body)) content
 stored_held next opening blobs body blob content in_blob in_content =
-    subst (λ (o : Option ℕ). All (IsHeld opening (with_blob blobs o body)) content) (sym in_blob)
-    (subst (λ (c : List Piece). All (IsHeld opening (with_blob blobs (blob_for next (length body)) body)) c) (sym in_content)
-    (brought next opening blobs body))
+    rw (in_blob, in_content) (brought next opening blobs body)
 
 -- a copy has the content of a node that is there
 copies_held : (t : Tables) (now : ℕ) (who : Option ℕ) (copies : List NodeRow) (replaced : Option ℕ) (opening : List Row) (blobs : Blobs)
     → AreSound t → KnownCopies t now who copies replaced → All (IsRowHeld opening blobs) t.nodes → All (IsRowHeld opening blobs) copies
 copies_held t now who copies replaced opening blobs sound known kept k d within =
-    let copy = (copies_mirror t now who copies replaced sound known).each k (get_or copies k d) (slice_get-get_or copies k d within) in
+    let copy = (mirrored t now who copies replaced sound known).each k (get_or copies k d) (slice_get-get_or copies k d within) in
     subst (All (IsHeld opening blobs)) (sym copy.content)
     (found_is (IsRowHeld opening blobs) (λ row. row.id == copy.node) t.nodes copy.of kept copy.there).1
 
@@ -127,9 +285,6 @@ altered_held : (t : Tables) (now : ℕ) (who : Option ℕ) (act : Allowed) (open
     → AreSound t → Known t now who act
     → All (IsRowHeld opening (with_blob blobs (blob_of act) body)) t.nodes → StoresBody t.meta.next_blob body act
     → All (IsRowHeld opening (with_blob blobs (blob_of act) body)) (altered t now act).nodes
-altered_held t now who (allowed.Get node content) opening blobs body sound known kept stores = kept
-altered_held t now who (allowed.List listing) opening blobs body sound known kept stores = kept
-altered_held t now who (allowed.Put by key size) opening blobs body sound known kept stores = kept
 altered_held t now who (allowed.StoreNew row blob) opening blobs body sound known kept stores =
     All-push (IsRowHeld opening (with_blob blobs blob body)) t.nodes row kept
     (stored_held t.meta.next_blob opening blobs body blob row.content stores.0 stores.1)
@@ -147,7 +302,7 @@ altered_held t now who (allowed.Move transfer name) opening blobs body sound kno
 altered_held t now who (allowed.Copy copies replaced) opening blobs body sound known kept stores =
     All-append (IsRowHeld opening blobs) (cleared t.nodes replaced) copies (all_cleared (IsRowHeld opening blobs) t.nodes replaced kept)
     (copies_held t now who copies replaced opening blobs sound known kept)
-altered_held t now who allowed.Close opening blobs body sound known kept stores = kept
+altered_held t now who act opening blobs body sound known kept stores = kept
 
 changed_held : (t : Tables) (now : ℕ) (who : Option ℕ) (act : Allowed) (opening : List Row) (blobs : Blobs) (body : List ℕ)
     → AreSound t → Known t now who act
@@ -175,93 +330,42 @@ tickets_kept : (t : Tables) (opening : List Row) (blobs more : Blobs) (tickets :
 tickets_kept t opening blobs more tickets keeps sound held = λ k d within.
     goal_kept t opening blobs more (get_or tickets k d).goal keeps (sound k d within) (held k d within)
 
-content_held : (rows : List NodeRow) (opening : List Row) (blobs : Blobs) (node : ℕ) → All (IsRowHeld opening blobs) rows
-    → All (IsHeld opening blobs) (content_of rows node)
-content_held rows opening blobs node all = here (node_row rows node) refl
-  where
-    here : (o : Option NodeRow) → node_row rows node ≡ o → All (IsHeld opening blobs) (option_map_or (λ row. row.content) o [])
-    here None e = All-nil (IsHeld opening blobs)
-    here (Some row) e =
-        subst (λ (o : Option NodeRow). IfSome o (IsRowHeld opening blobs)) e
-        (found_has (IsRowHeld opening blobs) (λ row. row.id == node) rows all)
-
 granted_held : (t : Tables) (now : ℕ) (who : Option ℕ) (act : Allowed) (opening : List Row) (blobs : Blobs) → Known t now who act
     → All (IsRowHeld opening blobs) t.nodes → IfSome (goal_of act) (IsGoalHeld opening blobs)
 granted_held t now who (allowed.Get node content) opening blobs known all =
-    subst (λ (c : List Piece). All (IsHeld opening blobs) c) (sym known.of_node) (content_held t.nodes opening blobs node all)
-granted_held t now who (allowed.List listing) opening blobs known all = tt
-granted_held t now who (allowed.Put by key size) opening blobs known all = tt
-granted_held t now who (allowed.StoreNew row blob) opening blobs known all = tt
-granted_held t now who (allowed.StoreOver node content blob) opening blobs known all = tt
-granted_held t now who (allowed.Mkcol row) opening blobs known all = tt
-granted_held t now who (allowed.Delete node) opening blobs known all = tt
-granted_held t now who (allowed.Move transfer name) opening blobs known all = tt
-granted_held t now who (allowed.Copy copies replaced) opening blobs known all = tt
-granted_held t now who allowed.Close opening blobs known all = tt
-
-tickets_held : (tickets : List Ticket) (seat : ℕ) (goal : Option Goal) (opening : List Row) (blobs : Blobs)
-    → All (HasGoalHeld opening blobs) tickets → IfSome goal (IsGoalHeld opening blobs)
-    → All (HasGoalHeld opening blobs) (with_goal tickets seat goal)
-tickets_held tickets seat None opening blobs all held = all
-tickets_held tickets seat (Some goal) opening blobs all held =
-    All-push (HasGoalHeld opening blobs) tickets (ticket_for seat goal) all held
+    subst (All (IsHeld opening blobs)) (sym known.of_node) (content_has (IsHeld opening blobs) t.nodes node all)
+granted_held t now who act opening blobs known all = tt
 
 -- ---- the state
 
-decided_whole : (s : State) (seat now : ℕ) (who : Option ℕ) (decision : Result Allowed Denial) (opening : List Row) (blobs : Blobs) (body : List ℕ)
-    → AreSound s.tables → All (HasGoalSound s.tables) s.tickets
-    → ((act : Allowed) → decision ≡ Ok act → Known s.tables now who act) → Decides s.tables body decision → IsWhole opening s blobs
-    → IsWhole opening (decided s seat now decision) (with_blob blobs (blob_by decision) body)
-decided_whole s seat now who (Ok act) opening blobs body sound goals known stores whole =
+-- what the nodes and the granted GETs name is held
+abbrev Holds : List Row → Blobs → Tables → List Ticket → Type 0
+Holds opening blobs t tickets = All (IsRowHeld opening blobs) t.nodes × All (HasGoalHeld opening blobs) tickets
+
+-- so blobs are whole after an act
+act_whole : (t : Tables) (tickets : List Ticket) (seat now : ℕ) (who : Option ℕ) (act : Allowed) (opening : List Row) (blobs : Blobs) (body : List ℕ)
+    → AreSound t → All (HasGoalSound t) tickets → Known t now who act → StoresBody t.meta.next_blob body act
+    → Holds opening blobs t tickets → Holds opening (with_blob blobs (blob_of act) body) (changed t now act) (with_goal tickets seat (goal_of act))
+act_whole t tickets seat now who act opening blobs body sound goals known stores whole =
     let more = with_blob blobs (blob_of act) body in
-    let keeps = given_kept s.tables.meta.next_blob blobs (blob_of act) body (act_next s.tables now who act (known act refl)) in
-    let kept = nodes_kept s.tables opening blobs more keeps sound.nodes whole.nodes in
-    record {
-      nodes = changed_held s.tables now who act opening blobs body sound (known act refl) kept stores;
-      tickets = tickets_held s.tickets seat (goal_of act) opening more
-          (tickets_kept s.tables opening blobs more s.tickets keeps goals whole.tickets)
-          (granted_held s.tables now who act opening more (known act refl) kept);
-    }
-decided_whole s seat now who (Err refusal) opening blobs body sound goals known stores whole = whole
-
-ended_whole : (s : State) (seat : ℕ) (opening : List Row) (blobs : Blobs) → IsWhole opening s blobs → IsWhole opening (without_ticket s seat) blobs
-ended_whole s seat opening blobs whole = record {
-  nodes = whole.nodes;
-  tickets = All-filter (λ ticket. not (ticket.seat == seat)) (HasGoalHeld opening blobs) s.tickets whole.tickets;
-}
-
-step_whole : (s : State) (seat now : ℕ) (event : Event) (body : List ℕ) (opening : List Row) (blobs : Blobs)
-    → IsSound s → MayAsk s seat event → Brings body event → IsWhole opening s blobs
-    → IsWhole opening (step s seat now event) (with_blob blobs (blob_to s seat now event) body)
-step_whole s seat now (Begin words request) body opening blobs sound asked brings whole =
-    let event = Begin words request in
-    let h = decided_whole s seat now (actor_of s seat event) (decision_of s seat now event) opening blobs body sound.rows sound.goals
-    (λ act is. known_change s seat now event act sound asked is) (decision_stores s seat now event body brings) whole in
-    record { nodes = h.nodes; tickets = h.tickets }
-step_whole s seat now (End outcome) body opening blobs sound asked brings whole =
-    let event = End outcome in
-    let goals = All-filter (λ ticket. not (ticket.seat == seat)) (HasGoalSound s.tables) s.tickets sound.goals in
-    let h = decided_whole (without_ticket s seat) seat now (actor_of s seat event) (decision_of s seat now event) opening blobs body
-    sound.rows goals (λ act is. known_change s seat now event act sound asked is) (decision_stores s seat now event body brings)
-    (ended_whole s seat opening blobs whole) in
-    record { nodes = h.nodes; tickets = h.tickets }
-
-failed_whole : (s : State) (seat now : ℕ) (event : Event) (opening : List Row) (blobs : Blobs) → IsWhole opening s blobs
-    → IsWhole opening (failed s seat now event) blobs
-failed_whole s seat now (Begin words request) opening blobs whole = record { nodes = whole.nodes; tickets = whole.tickets }
-failed_whole s seat now (End outcome) opening blobs whole =
-    let h = ended_whole s seat opening blobs whole in record { nodes = h.nodes; tickets = h.tickets }
-
-marked_whole : (s : State) (e : Entry) (m : Mark) (body : List ℕ) (opening : List Row) (blobs : Blobs)
-    → IsSound s → MayAsk s e.seat e.event → Brings body e.event → IsWhole opening s blobs
-    → IsWhole opening (after_mark s e m) (with_blob blobs (blob_under s e m) body)
-marked_whole s e mark.Answered body opening blobs sound asked brings whole =
-    step_whole s e.seat e.moment e.event body opening blobs sound asked brings whole
-marked_whole s e mark.Store body opening blobs sound asked brings whole = failed_whole s e.seat e.moment e.event opening blobs whole
-marked_whole s e mark.Memory body opening blobs sound asked brings whole = failed_whole s e.seat e.moment e.event opening blobs whole
+    let keeps = given_kept t.meta.next_blob blobs (blob_of act) body (act_next t now who act known) in
+    let kept = nodes_kept t opening blobs more keeps sound.nodes whole.0 in (
+      changed_held t now who act opening blobs body sound known kept stores,
+      tickets_with (HasGoalHeld opening more) tickets seat (goal_of act) (tickets_kept t opening blobs more tickets keeps goals whole.1)
+          (granted_held t now who act opening more known kept),
+    )
 
 pub stays_whole : StaysWhole
-stays_whole n s e body opening blobs sound may brings whole = marked_whole s e e.mark body opening blobs sound may.asked brings whole
+stays_whole n s e body opening blobs sound may brings whole =
+    let first : Holds opening blobs s.tables (without s e.seat e.event).tickets =
+    (whole.nodes, tickets_left (HasGoalHeld opening blobs) s e.seat e.event whole.tickets) in
+    let goals = tickets_left (HasGoalSound s.tables) s e.seat e.event sound.goals in
+    let h = entry_has (λ t tickets blob. Holds opening (with_blob blobs blob body) t tickets) s e e.mark first
+    (λ act is.
+    act_whole s.tables _ e.seat e.moment _ act opening blobs body sound.rows goals
+    (known_change s e.seat e.moment e.event act sound may.asked is)
+    (subst (Decides s.tables body) is (decision_stores s e.seat e.moment e.event body brings)) first) in
+    record { nodes = h.0; tickets = h.1 }
 
 -- ---- new numbers
 
@@ -281,31 +385,18 @@ changed_new t now who act id sound known is = here (told t now act) refl
     here (change ∷ changes) e =
         let given = altered_next t now act ∙ ap (blob_after t.meta.next_blob) is in (next, omega (arith, next, given))
 
-decided_new : (s : State) (seat now : ℕ) (who : Option ℕ) (decision : Result Allowed Denial) (id : ℕ) → AreSound s.tables
-    → ((act : Allowed) → decision ≡ Ok act → Known s.tables now who act) → blob_by decision ≡ Some id
-    → IsNew s.tables.meta (decided s seat now decision).tables.meta id
-decided_new s seat now who (Ok act) id sound known is = changed_new s.tables now who act id sound (known act refl) is
-decided_new s seat now who (Err refusal) id sound known is = absurd (none-some id is)
-
-step_new : (s : State) (seat now : ℕ) (event : Event) (id : ℕ) → IsSound s → MayAsk s seat event → blob_to s seat now event ≡ Some id
-    → IsNew s.tables.meta (step s seat now event).tables.meta id
-step_new s seat now (Begin words request) id sound asked is = absurd (none-some id (sym (begin_none s seat now words request) ∙ is))
-step_new s seat now (End outcome) id sound asked is =
-    let event = End outcome in
-    decided_new (without_ticket s seat) seat now (actor_of s seat event) (decision_of s seat now event) id sound.rows
-    (λ act done. known_change s seat now event act sound asked done) is
-
-marked_new : (s : State) (e : Entry) (m : Mark) (id : ℕ) → IsSound s → MayAsk s e.seat e.event → blob_under s e m ≡ Some id
+entry_new : (s : State) (e : Entry) (m : Mark) (id : ℕ) → IsSound s → MayAsk s e.seat e.event → blob_under s e m ≡ Some id
     → IsNew s.tables.meta (after_mark s e m).tables.meta id
-marked_new s e mark.Answered id sound asked is = step_new s e.seat e.moment e.event id sound asked is
-marked_new s e mark.Store id sound asked is = absurd (none-some id is)
-marked_new s e mark.Memory id sound asked is = absurd (none-some id is)
+entry_new s e m id sound asked =
+    entry_has (λ t tickets blob. blob ≡ Some id → IsNew s.tables.meta t.meta id) s e m (λ is. absurd (none-some id is))
+    (λ act decides.
+    changed_new s.tables e.moment _ act id sound.rows (known_change s e.seat e.moment e.event act sound asked decides))
 
 pub blobs_are_new : BlobsAreNew
 blobs_are_new = record {
-  next = λ n s e id sound may is. marked_new s e e.mark id sound may.asked is;
+  next = λ n s e id sound may is. entry_new s e e.mark id sound may.asked is;
   same = λ n s e body blobs id sound may given.
       still_at blobs (blob_in s e) body id
-      (λ is. let new = marked_new s e e.mark id sound may.asked is in absurd (omega (arith, new.0, given)));
+      (λ is. let new = entry_new s e e.mark id sound may.asked is in absurd (omega (arith, new.0, given)));
   stored = λ s e body blobs id is. new_at blobs (blob_in s e) body id is;
 }

@@ -1,53 +1,33 @@
 -- The tables with copies more are sound.
-use Rattle.std.proofs.Common.{ℕ, zero, suc, ◌+◌, ◌==◌, ◌≡◌, ◌≢◌, ◌<◌, ◌≤◌, true, false, List, [], ◌∷◌, ◌++◌, Option, None, Some, get_or, length, map, refl, sym, ap, subst, ◌∙◌, arith, length-append}
-use Rattle.std.specs.Prelude.{is_some}
+use Rattle.std.proofs.Common.{ℕ, zero, suc, ◌+◌, ◌≡◌, ◌≢◌, ◌<◌, ◌≤◌, true, false, List, [], ◌∷◌, ◌++◌, Option, Some, get_or, length, refl, sym, ap, subst, ◌∙◌, arith, le_refl, length-append}
 use Rattle.std.specs.List.{All, AllPairs, slice_get, sum_by}
-use Rattle.std.specs.Option.{option_and_then, option_map_or, option_or}
-use Rattle.std.proofs.lemmas.Bool.{eqb-true, ne_eqb}
+use Rattle.std.specs.Option.{option_and_then, option_map_or}
 use Rattle.std.proofs.lemmas.List.{get_or-append-add}
 use Rattle.std.proofs.lemmas.List.Elements.{All-append, All-weaker}
-use Rattle.std.proofs.lemmas.List.Folds.{find-append}
-use Rattle.std.proofs.lemmas.List.Kept.{AllPairs-cons}
-use Rattle.std.proofs.lemmas.List.Recursion.{max_bounds}
 use Rattle.std.proofs.lemmas.List.Sums.{sum_by-append, sum_by-cons}
 use Rattle.std.proofs.lemmas.Option.{get_or_from_slice_get, same_Some, slice_get-get_or, slice_get_within}
-use Rattle.nf_base.specs.declared.changes.Change.{Change}
-use Rattle.nf_base.specs.declared.changes.Change.TheVariants.{Put}
 use Rattle.nf_base.specs.declared.content.Piece.{Piece}
 use Rattle.nf_base.specs.declared.rows.NodeRow.{NodeRow}
 use Rattle.nf_base.specs.declared.rows.Place.{Place}
 use Rattle.nf_base.specs.declared.rows.Place.TheVariants.{Inside}
-use Rattle.nf_base.specs.declared.rows.Row.TheVariants as kinds
 use Rattle.nf_defs.specs.Tables.{Tables}
-use Rattle.nf_defs.specs.Tree.{child_of, climb, content_of, depth, folder_of, is_folder, is_folder_kind, node_row, owner_of, parent_of, piece_count, walk_of, walk_within}
-use Rattle.nf_defs.specs.declared.Found.TheVariants.{At}
-use Rattle.nf_words.proofs.Known.{KnownCopies, KnownTransfer}
-use Rattle.nf_words.specs.Changes.{changed, cleared, dropped_for, joined, stamped}
-use Rattle.nf_words.specs.Limits.{deepest, pieces_in}
-use Rattle.nf_words.specs.Sound.{AreApart, AreSound, HasRoot, IsNodeSound, IsPieceSound, IsPlaceSound, root_of_user}
-use Rattle.nf_words.specs.declared.answer.Allowed.TheVariants as allowed
-use Rattle.nf_words.specs.declared.request.Transfer.{Transfer}
-use Rattle.nf_laws.specs.Transfers.{IsCopyOf, Mirrors, is_replaced}
+use Rattle.nf_defs.specs.Tree.{child_of, climb, content_of, depth, is_folder, is_folder_kind, node_row, owner_of, piece_count, walk_of, walk_within}
 use Rattle.nf_laws.proofs.Added.{new_apart}
-use Rattle.nf_laws.proofs.Climbs.{depth_is, node_row_each}
+use Rattle.nf_laws.proofs.Climbs.{node_row_each, parent_at}
 use Rattle.nf_laws.proofs.Gone.{clearing_sound, climb_cleared, counts_cleared, folder_stays, free_cleared, row_cleared}
 use Rattle.nf_laws.proofs.Mirrored.{mirrored}
-use Rattle.nf_laws.proofs.Paths.{child_there, path_own}
-use Rattle.nf_laws.proofs.Rows.{AreKept, child_folder, climb_kept, finds_none, folder_kept, folder_there, found_is, node_kept, none_above, pieces_kept, root_kept, stamp}
-use Rattle.nf_laws.proofs.Upwards.{depth_up, rooted}
-use Rattle.nf_laws.proofs.Walked.{walks_take}
+use Rattle.nf_laws.proofs.Paths.{child_there}
+use Rattle.nf_laws.proofs.Rows.{child_folder, climb_kept, counters_up, folder_kept, folder_there, kept_joined, node_kept, parent_there, pieces_kept, root_kept, row_is, row_joined, stamp}
+use Rattle.nf_laws.proofs.Upwards.{climbs_depth, deepest_among, depth_up}
+use Rattle.nf_laws.proofs.Walked.{AllPairs-append, walks_take}
+use Rattle.nf_laws.specs.Transfers.{IsCopyOf, Mirrors, is_replaced}
+use Rattle.nf_words.proofs.Known.{KnownCopies, KnownTransfer}
+use Rattle.nf_words.specs.Changes.{cleared, joined}
+use Rattle.nf_words.specs.Limits.{pieces_in}
+use Rattle.nf_words.specs.Sound.{AreApart, AreSound, HasRoot, IsNodeSound, IsPieceSound, IsPlaceSound, root_of_user}
+use Rattle.nf_words.specs.declared.request.Transfer.{Transfer}
 
 -- ---- lists
-
--- what each two of both lists have, and each of the one with each of the other
-AllPairs-append : {X : Type 0} (R : X → X → Type 0) (xs ys : List X) → AllPairs R xs → AllPairs R ys → All (λ x. All (R x) ys) xs
-    → AllPairs R (xs ++ ys)
-AllPairs-append R [] ys first second across = second
-AllPairs-append R (x ∷ xs) ys first second across =
-    AllPairs-cons R x (xs ++ ys)
-    (All-append (R x) xs ys (λ k d within. first 0 (suc k) d (omega arith) (omega arith)) (across 0 x (omega arith)))
-    (AllPairs-append R xs ys (λ i j d before within. first (suc i) (suc j) d (omega arith) (omega arith)) second
-    (λ k d within. across (suc k) d (omega arith)))
 
 -- where two lists have the same numbers in turn, they have one sum
 same_sum : {X Y : Type 0} (f : X → ℕ) (g : Y → ℕ) (xs : List X) (ys : List Y) → length xs ≡ length ys
@@ -64,45 +44,12 @@ same_sum f g (x ∷ xs) (y ∷ ys) long each =
       same_sum f g xs ys (omega arith) (λ k d e within. each (suc k) d e (omega arith)),
     )
 
--- a choice whose second is none
-or_none : {X : Type 0} (o : Option X) → option_or o None ≡ o
-or_none None = refl
-or_none (Some x) = refl
-
 -- ---- nodes that are there
 
-row_sound : (t : Tables) (node : ℕ) (row : NodeRow) → AreSound t → node_row t.nodes node ≡ Some row → (row.id ≡ node) × IsNodeSound t row
-row_sound t node row sound there =
-    let h = found_is (IsNodeSound t) (λ row. row.id == node) t.nodes row sound.nodes there in (eqb-true row.id node h.0, h.1)
-
--- so many folders up from a node as it is deep is its owner's root
-climbs_depth : (t : Tables) (node : ℕ) (row : NodeRow) → AreSound t → node_row t.nodes node ≡ Some row
-    → climb t.nodes (depth t.nodes node) node ≡ Some (root_of_user t row.owner)
-climbs_depth t node row sound there =
-    let h = rooted t node row sound there in
-    let root = root_of_user t row.owner in
-    let deep = depth_is h.steps t.nodes node root (none_above t row.owner sound) h.shallow h.climbs in
-    subst (λ (n : ℕ). climb t.nodes n node ≡ Some root) (sym deep) h.climbs
-
--- no node of some is deeper than their deepest
-deepest_of : (rows : List NodeRow) (nodes : List ℕ) (k : ℕ) → k < length nodes → depth rows (get_or nodes k 0) ≤ deepest rows nodes
-deepest_of rows nodes k within = max_bounds (deepest rows) (depth rows) refl (λ node nodes. refl) nodes k 0 within
-
 -- a walk begins with its top
-walk_first : (rows : List NodeRow) (top : ℕ) → (get_or (walk_of rows top) 0 0 ≡ top) × (0 < length (walk_of rows top))
+pub walk_first : (rows : List NodeRow) (top : ℕ) → (get_or (walk_of rows top) 0 0 ≡ top) × (0 < length (walk_of rows top))
 unfolding walk_of walk_within
 walk_first rows top = (refl, omega arith)
-
--- with more rows those before are kept
-pub kept_joined : (rows more : List NodeRow) → AreKept rows (rows ++ more)
-kept_joined rows more node old is = record {
-  row = old;
-  there = find-append (λ row. row.id == node) rows more ∙ ap (λ (o : Option NodeRow). option_or o (node_row more node)) is;
-  owner = refl;
-  place = refl;
-  name = refl;
-  kind = refl;
-}
 
 -- ---- copies
 
@@ -119,10 +66,7 @@ module _ (t : Tables) (now : ℕ) (transfer : Transfer) (name : List ℕ) (rows 
   -- so a node whose number was given before is found as it was
   pub old_joined : (others : List NodeRow) (node : ℕ) → node < t.meta.next_node → node_row (others ++ rows) node ≡ node_row others node
   old_joined others node old =
-      let none : node_row rows node ≡ None =
-      finds_none (λ row. row.id == node) rows (λ k d within.
-      ne_eqb (get_or rows k d).id node (λ same. absurd (omega (arith, copies_numbered k d within)))) in
-      find-append (λ row. row.id == node) others rows ∙ ap (option_or (node_row others node)) none ∙ or_none (node_row others node)
+      row_joined others rows node (λ k d within same. absurd (omega (arith, copies_numbered k d within)))
 
   copies_rise : AllPairs (λ (a b : NodeRow). a.id < b.id) rows
   copies_rise i j d before within = omega (arith, (copy_at i d (omega arith)).id, (copy_at j d within).id)
@@ -157,11 +101,11 @@ module _ (t : Tables) (now : ℕ) (transfer : Transfer) (name : List ℕ) (rows 
         let above = copy_at p.1 d (omega (arith, p.4)) in
         let walk = walk_of t.nodes transfer.node in
         let same : above.node ≡ p.0 = same_Some above.node p.0 (sym above.at_index ∙ p.3) in
-        let row = folder_there t.nodes p.0 (child_folder t copy.of copy.of.place p.0 (row_sound t copy.node copy.of sound copy.there).1.place p.2) in
-        let is : above.of ≡ row.0 = same_Some above.of row.0 (sym above.there ∙ ap (node_row t.nodes) same ∙ row.1) in
         let node : get_or walk (suc k) 0 ≡ copy.node = get_or_from_slice_get walk (suc k) copy.node 0 copy.at_index in
         let folder : get_or walk p.1 0 ≡ p.0 = get_or_from_slice_get walk p.1 p.0 0 p.3 in
-        let up : parent_of t.nodes copy.node ≡ Some p.0 = ap (option_and_then (λ row. folder_of row.place)) copy.there ∙ ap folder_of p.2 in
+        let up = parent_at t.nodes copy.node p.0 copy.of copy.there p.2 in
+        let row = parent_there t copy.node p.0 copy.of sound copy.there up in
+        let is : above.of ≡ row.0 = same_Some above.of row.0 (sym above.there ∙ ap (node_row t.nodes) same ∙ row.1) in
         record {
           at = p.1;
           before = p.4;
@@ -179,20 +123,18 @@ module _ (t : Tables) (now : ℕ) (transfer : Transfer) (name : List ℕ) (rows 
         × (climb others steps (t.meta.next_node + k) ≡ Some root)
     copy_climbs others root d there on zero k before within = absurd (omega arith)
     copy_climbs others root d there on (suc m) zero before within =
-        let up : parent_of others (t.meta.next_node + 0) ≡ Some transfer.folder =
-        ap (option_and_then (λ row. folder_of row.place)) (there 0 within) ∙ ap folder_of (copy_at 0 d within).placed.0 in
+        let up = parent_at others (t.meta.next_node + 0) transfer.folder (get_or rows 0 d) (there 0 within) (copy_at 0 d within).placed.0 in
         (suc (depth t.nodes transfer.folder), omega arith, ap (option_and_then (climb others (depth t.nodes transfer.folder))) up ∙ on)
     copy_climbs others root d there on (suc m) (suc k) before within =
         let c = copy_in k d within in
         let rest = copy_climbs others root d there on m c.at (omega (arith, c.before)) (omega (arith, c.before)) in
-        let up : parent_of others (t.meta.next_node + suc k) ≡ Some (t.meta.next_node + c.at) =
-        ap (option_and_then (λ row. folder_of row.place)) (there (suc k) within) ∙ ap folder_of c.place in
+        let up = parent_at others (t.meta.next_node + suc k) (t.meta.next_node + c.at) (get_or rows (suc k) d) (there (suc k) within) c.place in
         (suc rest.0, omega (arith, rest.1, c.deeper), ap (option_and_then (climb others rest.0)) up ∙ rest.2)
 
 -- ---- the tables with the copies
 
 module _ (t : Tables) (now : ℕ) (who : Option ℕ) (transfer : Transfer) (name : List ℕ) (rows : List NodeRow)
-    (mirrors : Mirrors t now transfer name rows) (sound : AreSound t) (later : t.meta.last ≤ now) (known : KnownTransfer t who transfer name) where
+    (mirrors : Mirrors t now transfer name rows) (sound : AreSound t) (known : KnownTransfer t who transfer name) where
   abbrev left : Tables
   left = record t { nodes = cleared t.nodes transfer.replaced }
 
@@ -238,18 +180,18 @@ module _ (t : Tables) (now : ℕ) (who : Option ℕ) (transfer : Transfer) (name
   folder_made =
       let same = row_cleared t.nodes transfer.replaced transfer.folder stays in
       let h = folder_kept left.nodes made.nodes transfer.folder (kept_joined left.nodes rows)
-      (ap (λ (o : Option NodeRow). option_map_or (λ row. is_folder_kind row.kind) o false) same ∙ known.in_folder) in
-      (h.0, h.1 ∙ ap (λ (o : Option NodeRow). option_map_or (λ row. row.owner) o 0) same)
+      (rw same known.in_folder) in
+      (h.0, h.1 ∙ rw same refl)
 
   folder_given : transfer.folder < t.meta.next_node
-  folder_given = let h = row_sound t transfer.folder folder_row.0 sound folder_row.1 in omega (arith, h.0, h.1.given)
+  folder_given = let h = row_is t transfer.folder folder_row.0 sound folder_row.1 in omega (arith, h.0, h.1.given)
 
   -- and climbs to the owner's root
   folder_climbs : climb made.nodes (depth t.nodes transfer.folder) transfer.folder ≡ Some (root_of_user t (owner_of t.nodes transfer.folder))
   folder_climbs =
       climb_kept (depth t.nodes transfer.folder) left.nodes made.nodes transfer.folder _ (kept_joined left.nodes rows)
       (climb_cleared t transfer.replaced (depth t.nodes transfer.folder) transfer.folder sound stays
-      ∙ climbs_depth t transfer.folder folder_row.0 sound folder_row.1
+      ∙ (climbs_depth t transfer.folder folder_row.0 sound folder_row.1).0
       ∙ ap (λ (o : Option NodeRow). Some (root_of_user t (option_map_or (λ row. row.owner) o 0))) (sym folder_row.1))
 
   -- ---- each copy is sound
@@ -263,14 +205,14 @@ module _ (t : Tables) (now : ℕ) (who : Option ℕ) (transfer : Transfer) (name
       let above : c.at < length rows = omega (arith, c.before) in
       let there = copy_there d c.at above in
       subst (λ (p : Place). IsPlaceSound made (get_or rows (suc k) d) p) (sym c.place) (
-        ap (λ (o : Option NodeRow). option_map_or (λ row. is_folder_kind row.kind) o false) there ∙ c.folder,
-        ap (λ (o : Option NodeRow). option_map_or (λ row. row.owner) o 0) there ∙ (copy c.at d above).owner ∙ sym (copy (suc k) d within).owner,
+        rw there c.folder,
+        rw there ((copy c.at d above).owner ∙ sym (copy (suc k) d within).owner),
       )
 
   copies_sound : All (IsNodeSound made) rows
   copies_sound k d within =
       let c = copy k d within in
-      let of = row_sound t c.node c.of sound c.there in
+      let of = row_is t c.node c.of sound c.there in
       let root = root_of_user t (owner_of t.nodes transfer.folder) in
       let climbs = copy_climbs t now transfer name rows mirrors sound made.nodes root d (copy_there d) folder_climbs (suc k) k (omega arith) within in
       let walk = walk_of t.nodes transfer.node in
@@ -289,7 +231,7 @@ module _ (t : Tables) (now : ℕ) (who : Option ℕ) (transfer : Transfer) (name
           climbs.1,
           known.deep,
           mirrors.all,
-          deepest_of t.nodes walk k (omega (arith, mirrors.all)),
+          deepest_among t.nodes walk k 0 (omega (arith, mirrors.all)),
           ap (depth t.nodes) first.0,
         );
         present =
@@ -309,7 +251,7 @@ module _ (t : Tables) (now : ℕ) (who : Option ℕ) (transfer : Transfer) (name
       let old : NodeRow = get_or left.nodes i d in
       let c = copy_in t now transfer name rows mirrors sound k e also in
       let above = folder_there left.nodes folder (child_folder left old old.place folder (left_sound.nodes i d within).place place) in
-      let h = row_sound left folder above.0 left_sound above.1 in
+      let h = row_is left folder above.0 left_sound above.1 in
       let same : folder ≡ t.meta.next_node + c.at = cc (c.place) in
       absurd (omega (arith, h.0, h.1.given))
 
@@ -331,8 +273,8 @@ module _ (t : Tables) (now : ℕ) (who : Option ℕ) (transfer : Transfer) (name
       let second : folder ≡ t.meta.next_node + q.1 = cc (q.5) in
       let at : p.1 ≡ q.1 = omega (arith, first, second) in
       let in_one : p.0 ≡ q.0 = same_Some p.0 q.0 (sym p.3 ∙ ap (slice_get walk) at ∙ q.3) in
-      let id_a = (row_sound t a.node a.of sound a.there).0 in
-      let id_b = (row_sound t b.node b.of sound b.there).0 in
+      let id_a = (row_is t a.node a.of sound a.there).0 in
+      let id_b = (row_is t b.node b.of sound b.there).0 in
       let child_a = child_there t.nodes p.0 a.of sound.names (ap (node_row t.nodes) id_a ∙ a.there) p.2 in
       let child_b = child_there t.nodes q.0 b.of sound.names (ap (node_row t.nodes) id_b ∙ b.there) q.2 in
       let same : a.of.id ≡ b.of.id =
@@ -345,20 +287,14 @@ module _ (t : Tables) (now : ℕ) (who : Option ℕ) (transfer : Transfer) (name
 
   -- ---- all rows
 
-  joined_sound : AllPairs (λ (a b : ℕ). a ≢ b) (walk_of t.nodes transfer.node)
+  joined_sound : t.meta.last ≤ now → AllPairs (λ (a b : ℕ). a ≢ b) (walk_of t.nodes transfer.node)
       → length t.nodes + length (walk_of t.nodes transfer.node) ≤ 262144
       → piece_count t.nodes + pieces_in t.nodes (walk_of t.nodes transfer.node) ≤ 1048576 → AreSound made
-  joined_sound once few_nodes few_pieces =
+  joined_sound later once few_nodes few_pieces =
       let kept = kept_joined left.nodes rows in
       let counts = counts_cleared t.nodes transfer.replaced in
       record {
-        counters = record {
-          users = sound.counters.users;
-          groups = sound.counters.groups;
-          nodes = omega (arith, sound.counters.nodes);
-          shares = sound.counters.shares;
-          blobs = sound.counters.blobs;
-        };
+        counters = counters_up t.meta (t.meta.next_node + length rows) t.meta.next_blob now sound.counters (omega arith) (le_refl _);
         rising = rising;
         nodes = All-append (IsNodeSound made) left.nodes rows
             (All-weaker (IsNodeSound left) (IsNodeSound made)
@@ -376,22 +312,9 @@ module _ (t : Tables) (now : ℕ) (who : Option ℕ) (transfer : Transfer) (name
         );
       }
 
--- the moment is stamped, since a copy is told
-stamped_some : (before after : Tables) (now : ℕ) (first : List Change) (rows : List NodeRow) → 0 < length rows
-    → stamped before after now (first ++ map (λ row. Put (kinds.Node row)) rows) ≡ stamp after now
-stamped_some before after now [] [] some = absurd (omega arith)
-stamped_some before after now [] (row ∷ rows) some = refl
-stamped_some before after now (change ∷ changes) rows some = refl
-
 pub copied_sound : (t : Tables) (now : ℕ) (who : Option ℕ) (rows : List NodeRow) (replaced : Option ℕ)
-    → AreSound t → t.meta.last ≤ now → KnownCopies t now who rows replaced → AreSound (changed t now (allowed.Copy rows replaced))
+    → AreSound t → t.meta.last ≤ now → KnownCopies t now who rows replaced → AreSound (stamp (joined t rows replaced) now)
 copied_sound t now who rows replaced sound later copies =
-    let transfer = copies.transfer in
-    let of = path_own t who (At transfer.node) transfer.node sound copies.known.source refl in
-    let mirrors = subst (λ (rows : List NodeRow). Mirrors t now transfer copies.name rows) (sym copies.copies)
-    (mirrored t now transfer copies.name sound (ap is_some of.there)) in
-    let some : 0 < length rows = omega (arith, mirrors.all, (walk_first t.nodes transfer.node).1) in
-    subst (λ (o : Option ℕ). AreSound (changed t now (allowed.Copy rows o))) (sym copies.replaced_is)
-    (subst AreSound (sym (stamped_some t (joined t rows transfer.replaced) now (dropped_for t.nodes transfer.replaced) rows some))
-    (joined_sound t now who transfer copies.name rows mirrors sound later copies.known (walks_take.once t transfer.node sound)
-    copies.nodes copies.pieces))
+    subst (λ (o : Option ℕ). AreSound (stamp (joined t rows o) now)) (sym copies.replaced_is)
+    (joined_sound t now who copies.transfer copies.name rows (mirrored t now who rows replaced sound copies) sound copies.known later
+    (walks_take.once t copies.transfer.node sound) copies.nodes copies.pieces)

@@ -1,27 +1,27 @@
 -- The tables without what is removed are sound.
-use Rattle.std.proofs.Common.{ℕ, suc, ◌==◌, ◌≡◌, ◌<◌, ◌≤◌, ◌&&◌, Bool, true, false, not, bytes_eq, find, option_map, List, [], ◌∷◌, Option, None, Some, get_or, length, refl, sym, ap, subst, ◌∙◌, arith}
-use Rattle.std.specs.List.{All, AllPairs}
-use Rattle.std.specs.Option.{option_and_then, option_map_or}
-use Rattle.std.proofs.lemmas.Bool.{and_parts, both_ways, eqb-true, false_from_ne_true, false≢true, not-true}
-use Rattle.std.proofs.lemmas.List.Elements.{All-cons, All-filter, All-nil, All-weaker, filter_passes}
+use Rattle.std.proofs.Common.{inl, inr, ℕ, suc, ◌==◌, ◌≡◌, ◌<◌, ◌≤◌, Bool, true, false, not, List, Option, None, Some, length, refl, sym, ap, subst, ◌∙◌, arith, le_refl}
+use Rattle.std.specs.List.{All}
+use Rattle.std.specs.Option.{option_map_or}
+use Rattle.std.proofs.lemmas.Bool.{both_ways, cases_Bool, false_from_ne_true, false≢true, ne_eqb, not-true, not_from_false}
+use Rattle.std.proofs.lemmas.List.Elements.{All-filter, All-weaker, filter_passes}
 use Rattle.std.proofs.lemmas.List.Filters.{length-filter_both, sum_by-filter_both}
 use Rattle.std.proofs.lemmas.List.Kept.{AllPairs-filter}
-use Rattle.std.proofs.lemmas.Option.{none-some, option_and_then_some, same_Some}
-use Rattle.std.proofs.lemmas.Slice.Eq.{bytes_eq-Decides}
+use Rattle.std.proofs.lemmas.Option.{none-some, same_Some}
 use Rattle.nf_base.specs.declared.rows.NodeRow.{NodeRow}
 use Rattle.nf_base.specs.declared.rows.Place.{Place}
-use Rattle.nf_base.specs.declared.rows.Place.TheVariants.{Root, Inside, Trash}
+use Rattle.nf_base.specs.declared.rows.Place.TheVariants.{Inside, Root, Trash}
 use Rattle.nf_base.specs.declared.rows.UserRow.{UserRow}
 use Rattle.nf_defs.specs.Tables.{Tables}
-use Rattle.nf_defs.specs.Tree.{child_of, climb, folder_of, is_in, is_root, is_root_place, is_under, node_row, parent_of, piece_count}
+use Rattle.nf_defs.specs.Tree.{child_of, climb, folder_of, is_root, is_root_place, is_under, node_row, parent_of, piece_count}
+use Rattle.nf_laws.proofs.Climbs.{climb_those, climb_under, climbs_no_further, node_row_each, parent_at, row_of_those, those, under_climb}
+use Rattle.nf_laws.proofs.Paths.{child_is, child_there}
+use Rattle.nf_laws.proofs.Rows.{finds_none, kept_row, node_still, root_still}
+use Rattle.nf_laws.proofs.Upwards.{inside_no_root, never_climbs, no_rings}
+use Rattle.nf_laws.specs.Transfers.{is_replaced}
 use Rattle.nf_words.proofs.Known.{KnownTransfer, child_parent}
 use Rattle.nf_words.specs.Changes.{cleared, removed}
 use Rattle.nf_words.specs.Sound.{AreApart, AreSound, HasRoot, IsNodeSound, IsPlaceSound}
 use Rattle.nf_words.specs.declared.request.Transfer.{Transfer}
-use Rattle.nf_laws.proofs.Climbs.{climb_those, climb_under, climbs_no_further, node_row_each, row_of_those, those, under_climb}
-use Rattle.nf_laws.proofs.Rows.{finds_none, found_is, pieces_kept, place_in, stamp, stamp_sound}
-use Rattle.nf_laws.proofs.Upwards.{climbs_is_under, inside_no_root, no_ring}
-use Rattle.nf_laws.specs.Transfers.{is_replaced}
 
 -- ---- the tables with the nodes alone whose numbers pass a test
 
@@ -37,34 +37,22 @@ place_left : (t : Tables) (test : ℕ → Bool) (row : NodeRow) → IsClosed t.n
     → (place : Place) → row.place ≡ place → IsPlaceSound t row place → IsPlaceSound (with_those t test) row place
 place_left t test row closed there passes Root is h = h
 place_left t test row closed there passes (Inside folder) is h =
-    let above : parent_of t.nodes row.id ≡ Some folder = ap (option_and_then (λ row. folder_of row.place)) there ∙ ap folder_of is in
+    let above = parent_at t.nodes row.id folder row there is in
     let e = row_of_those test t.nodes folder (closed row.id folder above passes) in
     (rw e h.0, rw e h.1)
 place_left t test row closed there passes Trash is h = h
 
 node_left : (t : Tables) (test : ℕ → Bool) (row : NodeRow) → IsClosed t.nodes test → node_row t.nodes row.id ≡ Some row → test row.id ≡ true
     → IsNodeSound t row → IsNodeSound (with_those t test) row
-node_left t test row closed there passes h = record {
-  some = h.some;
-  given = h.given;
-  changed = h.changed;
-  pieces = pieces_kept t (with_those t test) row.content (omega arith) h.pieces;
-  folder = h.folder;
-  place = place_left t test row closed there passes row.place refl h.place;
-  steps = h.steps;
-  shallow = h.shallow;
-  present = climb_those test t.nodes closed h.steps row.id passes ∙ h.present;
-}
+node_left t test row closed there passes h =
+    node_still t (with_those t test) row row.place row.name (le_refl _) (le_refl _) (le_refl _) h
+    (place_left t test row closed there passes row.place refl h.place)
+    (record { steps = h.steps; shallow = h.shallow; climbs = climb_those test t.nodes closed h.steps row.id passes ∙ h.present })
 
 root_stays : (t : Tables) (test : ℕ → Bool) (user : UserRow) → test user.root ≡ true → HasRoot t user → HasRoot (with_those t test) user
-root_stays t test user passes root = record {
-  row = root.row;
-  there = row_of_those test t.nodes user.root passes ∙ root.there;
-  place = root.place;
-  folder = root.folder;
-  owner = root.owner;
-  name = root.name;
-}
+root_stays t test user passes root =
+    root_still t (with_those t test) user root
+    (kept_row (those test t.nodes) user.root root.row (row_of_those test t.nodes user.root passes ∙ root.there))
 
 pub those_sound : (t : Tables) (test : ℕ → Bool) → AreSound t → IsClosed t.nodes test
     → ((user : UserRow) → HasRoot t user → test user.root ≡ true) → AreSound (with_those t test)
@@ -95,39 +83,26 @@ is_left rows top node = not (is_under rows node top)
 
 -- the folder of a node that is left is left
 pub folder_left : (t : Tables) (top : ℕ) → AreSound t → IsClosed t.nodes (is_left t.nodes top)
-folder_left t top sound node parent above left = here (is_under t.nodes parent top) refl
-  where
-    here : (a : Bool) → is_under t.nodes parent top ≡ a → not a ≡ true
-    here false e = refl
-    here true e =
-        let c = under_climb t.nodes parent top e in
-        let further : climb t.nodes (suc c.0) node ≡ Some top = rw above c.2 in
-        option_and_then_some (λ row. folder_of row.place) (node_row t.nodes node) parent above (λ row there place.
-        absurd (both_ways (is_under t.nodes node top) (not-true (is_under t.nodes node top) left)
-        (climbs_is_under (suc c.0) t node top row sound there further)))
+folder_left t top sound node parent above left =
+    let outside = not-true (is_under t.nodes node top) left in
+    not_from_false (is_under t.nodes parent top) (false_from_ne_true (is_under t.nodes parent top) (λ under.
+    let c = under_climb t.nodes parent top under in
+    never_climbs t node top sound outside (suc c.0) (rw above c.2)))
 
 -- a root is left, since a top that it is under is that root
 root_left : (t : Tables) (top : ℕ) → is_root t.nodes top ≡ false → (user : UserRow) → HasRoot t user → is_left t.nodes top user.root ≡ true
-root_left t top no_root user root = here (is_under t.nodes user.root top) refl
-  where
-    here : (a : Bool) → is_under t.nodes user.root top ≡ a → not a ≡ true
-    here false e = refl
-    here true e =
-        let c = under_climb t.nodes user.root top e in
-        let alone : parent_of t.nodes user.root ≡ None =
-        ap (option_and_then (λ row. folder_of row.place)) root.there ∙ ap folder_of root.place in
-        let short = climbs_no_further 0 c.0 t.nodes user.root user.root top alone refl c.2 in
-        let none : c.0 ≡ 0 = omega (arith, short) in
-        let same = same_Some user.root top (subst (λ (j : ℕ). climb t.nodes j user.root ≡ Some top) none c.2) in
-        let is : is_root t.nodes user.root ≡ true =
-        ap (λ (o : Option NodeRow). option_map_or (λ row. is_root_place row.place) o false) root.there ∙ ap is_root_place root.place in
-        absurd (both_ways (is_root t.nodes top) no_root (subst (λ (n : ℕ). is_root t.nodes n ≡ true) same is))
+root_left t top no_root user root =
+    not_from_false (is_under t.nodes user.root top) (false_from_ne_true (is_under t.nodes user.root top) (λ under.
+    let c = under_climb t.nodes user.root top under in
+    let alone : parent_of t.nodes user.root ≡ None = rw root.there (ap folder_of root.place) in
+    let short = climbs_no_further 0 c.0 t.nodes user.root user.root top alone refl c.2 in
+    let none : c.0 ≡ 0 = omega (arith, short) in
+    let same = same_Some user.root top (subst (λ (j : ℕ). climb t.nodes j user.root ≡ Some top) none c.2) in
+    let is : is_root t.nodes user.root ≡ true = rw root.there (ap is_root_place root.place) in
+    both_ways (is_root t.nodes top) no_root (subst (λ (n : ℕ). is_root t.nodes n ≡ true) same is)))
 
 pub left_sound : (t : Tables) (top : ℕ) → AreSound t → is_root t.nodes top ≡ false → AreSound (removed t top)
 left_sound t top sound no_root = those_sound t (is_left t.nodes top) sound (folder_left t top sound) (root_left t top no_root)
-
-pub removed_sound : (t : Tables) (now top : ℕ) → AreSound t → t.meta.last ≤ now → is_root t.nodes top ≡ false → AreSound (stamp (removed t top) now)
-removed_sound t now top sound later no_root = stamp_sound (removed t top) now (left_sound t top sound no_root) later
 
 -- ---- the tables without what has to go, if anything has
 
@@ -146,24 +121,20 @@ row_cleared rows (Some top) node stays = row_of_those (is_left rows top) rows no
 pub row_gone : (rows : List NodeRow) (replaced : Option ℕ) (node : ℕ) → is_replaced rows replaced node ≡ true
     → node_row (cleared rows replaced) node ≡ None
 row_gone rows None node goes = absurd (false≢true goes)
-row_gone rows (Some top) node goes = here (node_row (cleared rows (Some top)) node) refl
-  where
-    here : (o : Option NodeRow) → node_row (cleared rows (Some top)) node ≡ o → o ≡ None
-    here None e = refl
-    here (Some row) e =
-        let h = found_is (λ (row : NodeRow). is_left rows top row.id ≡ true) (λ row. row.id == node) (cleared rows (Some top)) row
-        (filter_passes (λ row. is_left rows top row.id) rows) e in
-        let left = subst (λ (n : ℕ). is_left rows top n ≡ true) (eqb-true row.id node h.0) h.1 in
-        absurd (both_ways (is_under rows node top) (not-true (is_under rows node top) left) goes)
+row_gone rows (Some top) node goes =
+    finds_none (λ row. row.id == node) (cleared rows (Some top)) (λ k d within.
+    ne_eqb _ node (λ same.
+    let left = subst (λ (n : ℕ). is_left rows top n ≡ true) same (filter_passes (λ row. is_left rows top row.id) rows k d within) in
+    both_ways (is_under rows node top) (not-true (is_under rows node top) left) goes))
 
 -- a node that is there hasn't to go, and was there
 pub kept_cleared : (rows : List NodeRow) (replaced : Option ℕ) (node : ℕ) (row : NodeRow) → node_row (cleared rows replaced) node ≡ Some row
     → (is_replaced rows replaced node ≡ false) × (node_row rows node ≡ Some row)
-kept_cleared rows replaced node row there = here (is_replaced rows replaced node) refl
-  where
-    here : (a : Bool) → is_replaced rows replaced node ≡ a → (is_replaced rows replaced node ≡ false) × (node_row rows node ≡ Some row)
-    here true e = absurd (none-some row (sym (row_gone rows replaced node e) ∙ there))
-    here false e = (e, sym (row_cleared rows replaced node e) ∙ there)
+kept_cleared rows replaced node row there =
+    elim (cases_Bool (is_replaced rows replaced node)) [
+      | inl goes ↦ absurd (none-some row (sym (row_gone rows replaced node goes) ∙ there))
+      | inr stays ↦ (stays, sym (row_cleared rows replaced node stays) ∙ there)
+    ]
 
 -- it climbs as before
 pub climb_cleared : (t : Tables) (replaced : Option ℕ) (k node : ℕ) → AreSound t → is_replaced t.nodes replaced node ≡ false
@@ -189,52 +160,24 @@ all_cleared P rows (Some top) all = All-filter (λ row. is_left rows top row.id)
 
 -- ---- what something is put at
 
--- where of any two rows not both pass, each that passes is the one that is found
-only_one : {X : Type 0} (test : X → Bool) (xs : List X) (found : X) → AllPairs (λ (a b : X). test a ≡ true → test b ≡ true → ⊥) xs
-    → find test xs ≡ Some found → All (λ (x : X). test x ≡ true → x ≡ found) xs
-only_one test [] found apart is = All-nil (λ x. test x ≡ true → x ≡ found)
-only_one {X = X} test (x ∷ xs) found apart is =
-    here (test x) refl is (λ is. only_one test xs found (λ i j d before within. apart (suc i) (suc j) d (omega arith) (omega arith)) is)
-  where
-    P : X → Type 0
-    P y = test y ≡ true → y ≡ found
-
-    here : (a : Bool) → test x ≡ a → find test (x ∷ xs) ≡ Some found → (find test xs ≡ Some found → All P xs) → All P (x ∷ xs)
-    here true e is rest =
-        All-cons P x xs (λ passes. same_Some x found (simp e at is))
-        (λ k d within passes. absurd (apart 0 (suc k) d (omega arith) (omega arith) e passes))
-    here false e is rest = All-cons P x xs (λ passes. absurd (both_ways (test x) e passes)) (rest (simp e at is))
-
 -- where the folder's child of the name has to go, the name is free then
 pub free_cleared : (t : Tables) (replaced : Option ℕ) (folder : ℕ) (name : List ℕ) → AreSound t → child_of t.nodes folder name ≡ replaced
     → child_of (cleared t.nodes replaced) folder name ≡ None
 free_cleared t None folder name sound is = is
-free_cleared t (Some top) folder name sound is = here (find test t.nodes) refl is
+free_cleared t (Some top) folder name sound is = here (child_of rows folder name) refl
   where
-    test : NodeRow → Bool
-    test row = is_in folder row && bytes_eq row.name name
+    rows : List NodeRow
+    rows = cleared t.nodes (Some top)
 
-    apart : AllPairs (λ (a b : NodeRow). test a ≡ true → test b ≡ true → ⊥) t.nodes
-    apart i j d before within first second =
-        let a : NodeRow = get_or t.nodes i d in
-        let b : NodeRow = get_or t.nodes j d in
-        let in_a = and_parts (is_in folder a) (bytes_eq a.name name) first in
-        let in_b = and_parts (is_in folder b) (bytes_eq b.name name) second in
-        sound.names i j d before within folder (place_in folder a.place in_a.0) (place_in folder b.place in_b.0)
-        ((bytes_eq-Decides a.name name).0 in_a.1 ∙ sym ((bytes_eq-Decides b.name name).0 in_b.1))
-
-    here : (o : Option NodeRow) → find test t.nodes ≡ o → option_map (λ row. row.id) o ≡ Some top
-        → child_of (cleared t.nodes (Some top)) folder name ≡ None
-    here None e is = absurd (none-some top is)
-    here (Some found) e is =
-        let passes : NodeRow → Bool = λ row. is_left t.nodes top row.id in
-        let one = All-filter passes (λ (row : NodeRow). test row ≡ true → row ≡ found) t.nodes (only_one test t.nodes found apart e) in
-        ap (option_map (λ row. row.id)) (finds_none test (cleared t.nodes (Some top)) (λ k d within.
-        let row : NodeRow = get_or (cleared t.nodes (Some top)) k d in
-        false_from_ne_true (test row) (λ is_child.
-        let id : row.id ≡ top = ap (λ (r : NodeRow). r.id) (one k d within is_child) ∙ same_Some found.id top is in
-        both_ways (is_under t.nodes row.id top) (not-true (is_under t.nodes row.id top) (filter_passes passes t.nodes k d within))
-        (climb_under 0 t.nodes row.id top (omega arith) (ap Some id)))))
+    here : (o : Option ℕ) → child_of rows folder name ≡ o → o ≡ None
+    here None e = refl
+    here (Some node) e =
+        let child = child_is rows folder name node (AllPairs-filter (λ a b. a.id < b.id) (λ row. is_left t.nodes top row.id) t.nodes sound.rising) e in
+        let kept = kept_cleared t.nodes (Some top) child.row.id child.row child.there in
+        let same : child.row.id ≡ top =
+        same_Some child.row.id top
+        (sym (child_there t.nodes folder child.row sound.names kept.1 child.place) ∙ ap (child_of t.nodes folder) child.named ∙ is) in
+        absurd (both_ways (is_under t.nodes child.row.id top) kept.0 (climb_under 0 t.nodes child.row.id top (omega arith) (ap Some same)))
 
 -- what is there is no root, as it is in a folder
 pub replaced_no_root : (t : Tables) (replaced : Option ℕ) (folder : ℕ) (name : List ℕ) → AreSound t → child_of t.nodes folder name ≡ replaced
@@ -247,7 +190,7 @@ replaced_no_root t (Some top) folder name sound is =
 pub folder_stays : (t : Tables) (replaced : Option ℕ) (folder : ℕ) (name : List ℕ) → AreSound t → child_of t.nodes folder name ≡ replaced
     → is_replaced t.nodes replaced folder ≡ false
 folder_stays t None folder name sound is = refl
-folder_stays t (Some top) folder name sound is = no_ring t top folder sound (child_parent t.nodes folder name top sound.rising is)
+folder_stays t (Some top) folder name sound is = no_rings t top folder sound (child_parent t.nodes folder name top sound.rising is)
 
 -- so the tables that something is moved or copied in are sound
 pub clearing_sound : (t : Tables) (who : Option ℕ) (transfer : Transfer) (name : List ℕ) → AreSound t → KnownTransfer t who transfer name

@@ -1,13 +1,10 @@
 pub mod Added
 pub mod Blobs
-pub mod Bodies
 pub mod Climbs
-pub mod Contents
 pub mod Copied
 pub mod Counters
 pub mod Entries
 pub mod Gone
-pub mod Joined
 pub mod Mirrored
 pub mod Moved
 pub mod Numbers
@@ -15,7 +12,6 @@ pub mod OneRow
 pub mod Opening
 pub mod Owned
 pub mod Owning
-pub mod Moving
 pub mod Paths
 pub mod Puts
 pub mod Reading
@@ -23,6 +19,6 @@ pub mod Replaced
 pub mod Rows
 pub mod Stays
 pub mod Telling
+pub mod Transferred
 pub mod Upwards
 pub mod Walked
-pub mod Words

@@ -1,8 +1,7 @@
 -- A copy mirrors what it is a copy of: the k-th copy is that of the k-th node of the walk.
-use Rattle.std.proofs.Common.{ℕ, zero, suc, ◌+◌, ◌<◌, ◌≡◌, ◌⊎◌, true, List, [], ◌∷◌, ◌++◌, Option, None, Some, length, inl, inr, refl, sym, ap, subst, ◌∙◌, arith, length-append}
-use Rattle.std.specs.Prelude.{is_some, slice_get}
+use Rattle.std.proofs.Common.{ℕ, zero, suc, ◌+◌, ◌<◌, ◌≡◌, ◌⊎◌, List, [], ◌∷◌, ◌++◌, Option, Some, length, ⊎_elim, inl, inr, refl, sym, ap, subst, ◌∙◌, arith, length-append}
+use Rattle.std.specs.Prelude.{slice_get}
 use Rattle.std.specs.List.{All, flat_map}
-use Rattle.std.proofs.lemmas.Bool.{false≢true}
 use Rattle.std.proofs.lemmas.List.Elements.{All-head, All-tail}
 use Rattle.std.proofs.lemmas.Option.{none-some, same_Some}
 use Rattle.nf_base.specs.declared.rows.NodeRow.{NodeRow}
@@ -10,8 +9,11 @@ use Rattle.nf_base.specs.declared.rows.Place.TheVariants.{Inside}
 use Rattle.nf_defs.proofs.Walks.{AreRising, IsChildOf, children_are}
 use Rattle.nf_defs.specs.Tables.{Tables}
 use Rattle.nf_defs.specs.Tree.{children_of, node_row, owner_of, walk_of, walk_within}
+use Rattle.nf_defs.specs.declared.Found.TheVariants.{At}
+use Rattle.nf_laws.proofs.Paths.{path_own}
 use Rattle.nf_laws.specs.Transfers.{IsCopyOf, IsPlacedCopy, Mirrors}
-use Rattle.nf_words.specs.Copies.{copied_row, copies_of_all, copies_to, copies_within, renamed}
+use Rattle.nf_words.proofs.Known.{KnownCopies}
+use Rattle.nf_words.specs.Copies.{copied_row, copies_of_all, copies_within, renamed}
 use Rattle.nf_words.specs.Sound.{AreSound}
 use Rattle.nf_words.specs.declared.request.Transfer.{Transfer}
 
@@ -45,172 +47,117 @@ record IsLower (walk : List ℕ) (first k : ℕ) (of copy : NodeRow) : Type 0 wh
   at_index : slice_get walk at ≡ Some folder
   before : at < k
   place : copy.place ≡ Inside (first + at)
-
--- or directly in the folder of the copies, where its node is in the folder above the walk
-abbrev IsPlaced : List ℕ → ℕ → ℕ → ℕ → ℕ → NodeRow → NodeRow → Type 0
-IsPlaced walk above folder first k of copy =
-    ((of.place ≡ Inside above) × (copy.place ≡ Inside folder)) ⊎ IsLower walk first k of copy
-
-record IsCopied (rows : List NodeRow) (owner now above folder first : ℕ) (walk : List ℕ) (k : ℕ) (copy : NodeRow) : Type 0 where
-  node : ℕ
-  of : NodeRow
-  at_index : slice_get walk k ≡ Some node
-  there : node_row rows node ≡ Some of
-  id : copy.id ≡ first + k
-  owned : copy.owner ≡ owner
-  kind : copy.kind ≡ of.kind
-  content : copy.content ≡ of.content
   name : copy.name ≡ of.name
-  changed : copy.changed ≡ now
-  placed : IsPlaced walk above folder first k of copy
 
-record AreCopies (rows : List NodeRow) (owner now above folder first : ℕ) (walk : List ℕ) (copies : List NodeRow) : Type 0 where
-  all : length copies ≡ length walk
-  each : (k : ℕ) (copy : NodeRow) → slice_get copies k ≡ Some copy → IsCopied rows owner now above folder first walk k copy
+-- or it is directly in the folder of the copies, as its node is in the folder above the walk
+abbrev IsDirect : ℕ → ℕ → ℕ → NodeRow → NodeRow → Type 0
+IsDirect above folder k of copy = (of.place ≡ Inside above) × (copy.place ≡ Inside folder) × (copy.name ≡ of.name)
 
--- ---- copies put together
+-- or as the first of all, under the name
+abbrev IsFirst : ℕ → List ℕ → ℕ → NodeRow → NodeRow → Type 0
+IsFirst folder name k of copy = (k ≡ 0) × (copy.place ≡ Inside folder) × (copy.name ≡ name)
 
 module _ (rows : List NodeRow) (owner now : ℕ) where
-  no_copies : (above folder first : ℕ) → AreCopies rows owner now above folder first [] []
-  no_copies above folder first = record { all = refl; each = λ k copy is. absurd (none-some copy is) }
+  record IsCopied (Direct : ℕ → NodeRow → NodeRow → Type 0) (first : ℕ) (walk : List ℕ) (k : ℕ) (copy : NodeRow) : Type 0 where
+    node : ℕ
+    of : NodeRow
+    at_index : slice_get walk k ≡ Some node
+    there : node_row rows node ≡ Some of
+    id : copy.id ≡ first + k
+    is : copy ≡ record of { id = copy.id; owner = owner; place = copy.place; name = copy.name; changed = now }
+    placed : Direct k of copy ⊎ IsLower walk first k of copy
+
+  record AreCopies (Direct : ℕ → NodeRow → NodeRow → Type 0) (first : ℕ) (walk : List ℕ) (copies : List NodeRow) : Type 0 where
+    all : length copies ≡ length walk
+    each : (k : ℕ) (copy : NodeRow) → slice_get copies k ≡ Some copy → IsCopied Direct first walk k copy
+
+  -- ---- copies put together
+
+  no_copies : (Direct : ℕ → NodeRow → NodeRow → Type 0) (first : ℕ) → AreCopies Direct first [] []
+  no_copies Direct first = record { all = refl; each = λ k copy is. absurd (none-some copy is) }
+
+  -- a copy in a longer walk, where it may stand further on
+  further : (Before After : ℕ → NodeRow → NodeRow → Type 0) (start first : ℕ) (walk longer : List ℕ) (on : ℕ → ℕ)
+      → ((k : ℕ) → start + k ≡ first + on k)
+      → ((k node : ℕ) → slice_get walk k ≡ Some node → slice_get longer (on k) ≡ Some node)
+      → ((k : ℕ) (of copy : NodeRow) → Before k of copy → After (on k) of copy ⊎ IsLower longer first (on k) of copy)
+      → (k : ℕ) (copy : NodeRow) → IsCopied Before start walk k copy → IsCopied After first longer (on k) copy
+  further Before After start first walk longer on counts within direct k copy c = record {
+    node = c.node;
+    of = c.of;
+    at_index = within k c.node c.at_index;
+    there = c.there;
+    id = c.id ∙ counts k;
+    is = c.is;
+    placed = ⊎_elim (direct k c.of copy) (λ lower. inr (record {
+      folder = lower.folder;
+      at = on lower.at;
+      of_place = lower.of_place;
+      at_index = within lower.at lower.folder lower.at_index;
+      before = omega (arith, lower.before, counts lower.at, counts k);
+      place = lower.place ∙ ap Inside (counts lower.at);
+      name = lower.name;
+    })) c.placed;
+  }
 
   -- a folder's copy before those of what is in it
-  copies_below : (above folder first node : ℕ) (walk : List ℕ) (copies : List NodeRow) (child : IsChildOf rows above node)
-      → AreCopies rows owner now node first (first + 1) walk copies
-      → AreCopies rows owner now above folder first (node ∷ walk) (copied_row owner now first folder child.row ∷ copies)
-  copies_below above folder first node walk copies child below = record { all = omega (arith, below.all); each = each }
+  copies_below : (Direct : ℕ → NodeRow → NodeRow → Type 0) (first node : ℕ) (row top : NodeRow) (walk : List ℕ) (copies : List NodeRow)
+      → node_row rows node ≡ Some row → Direct 0 row top → top.id ≡ first
+      → top ≡ record row { id = top.id; owner = owner; place = top.place; name = top.name; changed = now }
+      → AreCopies (IsDirect node first) (first + 1) walk copies → AreCopies Direct first (node ∷ walk) (top ∷ copies)
+  copies_below Direct first node row top walk copies there direct id is below = record { all = omega (arith, below.all); each = each }
     where
-      top : NodeRow
-      top = copied_row owner now first folder child.row
-
-      placed : (k : ℕ) (of copy : NodeRow) → IsPlaced walk node first (first + 1) k of copy
-          → IsPlaced (node ∷ walk) above folder first (suc k) of copy
-      placed k of copy (inl direct) =
-          inr (record {
+      each : (k : ℕ) (copy : NodeRow) → slice_get (top ∷ copies) k ≡ Some copy → IsCopied Direct first (node ∷ walk) k copy
+      each zero copy same =
+          subst (λ (c : NodeRow). IsCopied Direct first (node ∷ walk) 0 c) (same_Some top copy same) (record {
+            node = node;
+            of = row;
+            at_index = refl;
+            there = there;
+            id = omega arith;
+            is = is;
+            placed = inl direct;
+          })
+      each (suc k) copy same =
+          further (IsDirect node first) Direct (first + 1) first walk (node ∷ walk) suc (λ k. omega arith) (λ k node is. is)
+          (λ k of copy direct. inr (record {
             folder = node;
             at = 0;
             of_place = direct.0;
             at_index = refl;
             before = omega arith;
             place = direct.1 ∙ ap Inside (omega arith);
-          })
-      placed k of copy (inr lower) =
-          inr (record {
-            folder = lower.folder;
-            at = suc lower.at;
-            of_place = lower.of_place;
-            at_index = lower.at_index;
-            before = omega (arith, lower.before);
-            place = lower.place ∙ ap Inside (omega arith);
-          })
-
-      each : (k : ℕ) (copy : NodeRow) → slice_get (top ∷ copies) k ≡ Some copy
-          → IsCopied rows owner now above folder first (node ∷ walk) k copy
-      each zero copy is =
-          subst (λ (c : NodeRow). IsCopied rows owner now above folder first (node ∷ walk) 0 c) (same_Some top copy is) (record {
-            node = node;
-            of = child.row;
-            at_index = refl;
-            there = child.there;
-            id = omega arith;
-            owned = refl;
-            kind = refl;
-            content = refl;
-            name = refl;
-            changed = refl;
-            placed = inl (child.place, refl);
-          })
-      each (suc k) copy is =
-          let c = below.each k copy is in
-          record {
-            node = c.node;
-            of = c.of;
-            at_index = c.at_index;
-            there = c.there;
-            id = omega (arith, c.id);
-            owned = c.owned;
-            kind = c.kind;
-            content = c.content;
-            name = c.name;
-            changed = c.changed;
-            placed = placed k c.of copy c.placed;
-          }
+            name = direct.2;
+          })) k copy (below.each k copy same)
 
   -- copies behind each other, in one folder
   copies_behind : (above folder first : ℕ) (walk others : List ℕ) (copies more : List NodeRow)
-      → AreCopies rows owner now above folder first walk copies
-      → AreCopies rows owner now above folder (first + length copies) others more
-      → AreCopies rows owner now above folder first (walk ++ others) (copies ++ more)
+      → AreCopies (IsDirect above folder) first walk copies → AreCopies (IsDirect above folder) (first + length copies) others more
+      → AreCopies (IsDirect above folder) first (walk ++ others) (copies ++ more)
   copies_behind above folder first walk others copies more front rest = record {
     all = omega (arith, front.all, rest.all, length-append copies more, length-append walk others);
     each = λ k copy is. each k copy (get_either copies more k copy is);
   }
     where
-      left : (k : ℕ) (of copy : NodeRow) → IsPlaced walk above folder first k of copy
-          → IsPlaced (walk ++ others) above folder first k of copy
-      left k of copy (inl direct) = inl direct
-      left k of copy (inr lower) =
-          inr (record {
-            folder = lower.folder;
-            at = lower.at;
-            of_place = lower.of_place;
-            at_index = get_left walk others lower.at lower.folder lower.at_index;
-            before = lower.before;
-            place = lower.place;
-          })
-
-      right : (j k : ℕ) (of copy : NodeRow) → k ≡ length copies + j → IsPlaced others above folder (first + length copies) j of copy
-          → IsPlaced (walk ++ others) above folder first k of copy
-      right j k of copy at (inl direct) = inl direct
-      right j k of copy at (inr lower) =
-          inr (record {
-            folder = lower.folder;
-            at = length walk + lower.at;
-            of_place = lower.of_place;
-            at_index = get_right walk others lower.at lower.folder lower.at_index;
-            before = omega (arith, lower.before, front.all);
-            place = lower.place ∙ ap Inside (omega (arith, front.all));
-          })
+      Direct : ℕ → NodeRow → NodeRow → Type 0
+      Direct = IsDirect above folder
 
       each : (k : ℕ) (copy : NodeRow) → (slice_get copies k ≡ Some copy) ⊎ ((j : ℕ) × (k ≡ length copies + j) × (slice_get more j ≡ Some copy))
-          → IsCopied rows owner now above folder first (walk ++ others) k copy
+          → IsCopied Direct first (walk ++ others) k copy
       each k copy (inl is) =
-          let c = front.each k copy is in
-          record {
-            node = c.node;
-            of = c.of;
-            at_index = get_left walk others k c.node c.at_index;
-            there = c.there;
-            id = c.id;
-            owned = c.owned;
-            kind = c.kind;
-            content = c.content;
-            name = c.name;
-            changed = c.changed;
-            placed = left k c.of copy c.placed;
-          }
+          further Direct Direct first first walk (walk ++ others) (λ k. k) (λ k. refl) (get_left walk others)
+          (λ k of copy direct. inl direct) k copy (front.each k copy is)
       each k copy (inr (j, at, is)) =
-          let c = rest.each j copy is in
-          let e : k ≡ length walk + j = omega (arith, front.all) in
-          record {
-            node = c.node;
-            of = c.of;
-            at_index = ap (slice_get (walk ++ others)) e ∙ get_right walk others j c.node c.at_index;
-            there = c.there;
-            id = omega (arith, c.id);
-            owned = c.owned;
-            kind = c.kind;
-            content = c.content;
-            name = c.name;
-            changed = c.changed;
-            placed = right j k c.of copy at c.placed;
-          }
+          let e : length walk + j ≡ k = omega (arith, front.all) in
+          subst (λ (n : ℕ). IsCopied Direct first (walk ++ others) n copy) e
+          (further Direct Direct (first + length copies) first others (walk ++ others) (λ k. length walk + k) (λ k. omega (arith, front.all))
+          (get_right walk others) (λ k of copy direct. inl direct) j copy (rest.each j copy is))
 
   copies_each : (above folder : ℕ) (walk : ℕ → List ℕ) (copies : ℕ → ℕ → ℕ → List NodeRow)
-      → ((first node : ℕ) → IsChildOf rows above node → AreCopies rows owner now above folder first (walk node) (copies first folder node))
+      → ((first node : ℕ) → IsChildOf rows above node → AreCopies (IsDirect above folder) first (walk node) (copies first folder node))
       → (first : ℕ) (nodes : List ℕ) → All (IsChildOf rows above) nodes
-      → AreCopies rows owner now above folder first (flat_map walk nodes) (copies_of_all copies first folder nodes)
-  copies_each above folder walk copies each first [] children = no_copies above folder first
+      → AreCopies (IsDirect above folder) first (flat_map walk nodes) (copies_of_all copies first folder nodes)
+  copies_each above folder walk copies each first [] children = no_copies (IsDirect above folder) first
   copies_each above folder walk copies each first (node ∷ nodes) children =
       copies_behind above folder first (walk node) (flat_map walk nodes) (copies first folder node)
       (copies_of_all copies (first + length (copies first folder node)) folder nodes)
@@ -218,128 +165,68 @@ module _ (rows : List NodeRow) (owner now : ℕ) where
       (copies_each above folder walk copies each (first + length (copies first folder node)) nodes
       (All-tail (IsChildOf rows above) node nodes children))
 
-  -- the copies of a folder's child and of what is under it
-  copies_are : (k : ℕ) → AreRising rows → (above folder first node : ℕ) → IsChildOf rows above node
-      → AreCopies rows owner now above folder first (walk_within k rows node) (copies_within k rows owner now first folder node)
-  unfolding walk_within copies_within
-  copies_are zero rising above folder first node child =
-      rw child.there (copies_below above folder first node [] [] child (no_copies node first (first + 1)))
-  copies_are (suc k) rising above folder first node child =
-      rw child.there
-      (copies_below above folder first node (flat_map (walk_within k rows) (children_of rows node))
-      (copies_of_all (copies_within k rows owner now) (first + 1) first (children_of rows node)) child
-      (copies_each node first (walk_within k rows) (copies_within k rows owner now)
-      (λ start lower inside. copies_are k rising node first start lower inside)
-      (first + 1) (children_of rows node) (children_are rows node rising)))
+  module _ (rising : AreRising rows) where
+    -- the copies of a folder's child and of what is under it
+    copies_are : (k above folder first node : ℕ) → IsChildOf rows above node
+        → AreCopies (IsDirect above folder) first (walk_within k rows node) (copies_within k rows owner now first folder node)
+    unfolding walk_within copies_within
+    copies_are zero above folder first node child =
+        rw child.there
+        (copies_below (IsDirect above folder) first node child.row (copied_row owner now first folder child.row) [] []
+        child.there (child.place, refl, refl) refl refl (no_copies (IsDirect node first) (first + 1)))
+    copies_are (suc k) above folder first node child =
+        rw child.there
+        (copies_below (IsDirect above folder) first node child.row (copied_row owner now first folder child.row) _ _
+        child.there (child.place, refl, refl) refl refl
+        (copies_each node first (walk_within k rows) (copies_within k rows owner now)
+        (λ start lower inside. copies_are k node first start lower inside) (first + 1) (children_of rows node) (children_are rows node rising)))
+
+    -- and those of any node that is there, the first under another name
+    renamed_are : (k folder first node : ℕ) (name : List ℕ) (row : NodeRow) → node_row rows node ≡ Some row
+        → AreCopies (IsFirst folder name) first (walk_within (suc k) rows node)
+        (renamed name (copies_within (suc k) rows owner now first folder node))
+    unfolding walk_within copies_within
+    renamed_are k folder first node name row there =
+        rw there
+        (copies_below (IsFirst folder name) first node row (record (copied_row owner now first folder row) { name = name }) _ _
+        there (refl, refl, refl) refl refl
+        (copies_each node first (walk_within k rows) (copies_within k rows owner now)
+        (λ start lower inside. copies_are k node first start lower inside) (first + 1) (children_of rows node) (children_are rows node rising)))
 
 -- ---- the copies of a node that is there
 
--- the node's copy, and those of what is under it
-record Top (rows : List NodeRow) (owner now first folder node : ℕ) (walk : List ℕ) (copies : List NodeRow) : Type 0 where
-  row : NodeRow
-  there : node_row rows node ≡ Some row
-  walk_below : List ℕ
-  copies_below : List NodeRow
-  walk_is : walk ≡ node ∷ walk_below
-  copies_is : copies ≡ copied_row owner now first folder row ∷ copies_below
-  below : AreCopies rows owner now node first (first + 1) walk_below copies_below
-
-top_copies : (k : ℕ) (rows : List NodeRow) (owner now first folder node : ℕ) (row : NodeRow) → AreRising rows → node_row rows node ≡ Some row
-    → Top rows owner now first folder node (walk_within (suc k) rows node) (copies_within (suc k) rows owner now first folder node)
-unfolding walk_within copies_within
-top_copies k rows owner now first folder node row rising there = record {
-  row = row;
-  there = there;
-  walk_below = flat_map (walk_within k rows) (children_of rows node);
-  copies_below = copies_of_all (copies_within k rows owner now) (first + 1) first (children_of rows node);
-  walk_is = refl;
-  copies_is = rw there refl;
-  below =
-      copies_each rows owner now node first (walk_within k rows) (copies_within k rows owner now)
-      (λ start lower inside. copies_are rows owner now k rising node first start lower inside)
-      (first + 1) (children_of rows node) (children_are rows node rising);
+copy_is : (t : Tables) (now : ℕ) (transfer : Transfer) (name : List ℕ) (k : ℕ) (copy : NodeRow)
+    → IsCopied t.nodes (owner_of t.nodes transfer.folder) now (IsFirst transfer.folder name) t.meta.next_node (walk_of t.nodes transfer.node) k copy
+    → IsCopyOf t now transfer name k copy
+copy_is t now transfer name k copy c = record {
+  node = c.node;
+  of = c.of;
+  at_index = c.at_index;
+  there = c.there;
+  id = c.id;
+  owner = ap (λ (r : NodeRow). r.owner) c.is;
+  kind = ap (λ (r : NodeRow). r.kind) c.is;
+  content = ap (λ (r : NodeRow). r.content) c.is;
+  changed = ap (λ (r : NodeRow). r.changed) c.is;
+  placed = placed k c.of copy c.placed;
 }
+  where
+    placed : (k : ℕ) (of copy : NodeRow)
+        → IsFirst transfer.folder name k of copy ⊎ IsLower (walk_of t.nodes transfer.node) t.meta.next_node k of copy
+        → IsPlacedCopy t transfer name k of copy
+    placed zero of copy (inl first) = (first.1, first.2)
+    placed zero of copy (inr lower) = absurd (omega (arith, lower.before))
+    placed (suc k) of copy (inl first) = absurd (omega (arith, first.0))
+    placed (suc k) of copy (inr lower) =
+        (lower.name, (lower.folder, lower.at, lower.of_place, lower.at_index, lower.before, lower.place))
 
-top_of_walk : (t : Tables) (now : ℕ) (transfer : Transfer) (row : NodeRow) → AreSound t → node_row t.nodes transfer.node ≡ Some row
-    → Top t.nodes (owner_of t.nodes transfer.folder) now t.meta.next_node transfer.folder transfer.node (walk_of t.nodes transfer.node)
-    (copies_within 64 t.nodes (owner_of t.nodes transfer.folder) now t.meta.next_node transfer.folder transfer.node)
+pub mirrored : (t : Tables) (now : ℕ) (who : Option ℕ) (rows : List NodeRow) (replaced : Option ℕ) → AreSound t
+    → (known : KnownCopies t now who rows replaced) → Mirrors t now known.transfer known.name rows
 unfolding walk_of
-top_of_walk t now transfer row sound there =
-    top_copies 63 t.nodes (owner_of t.nodes transfer.folder) now t.meta.next_node transfer.folder transfer.node row sound.rising there
-
--- the same, with the name of the new place
-renamed_mirror : (t : Tables) (now : ℕ) (transfer : Transfer) (name : List ℕ) (copies : List NodeRow)
-    → Top t.nodes (owner_of t.nodes transfer.folder) now t.meta.next_node transfer.folder transfer.node (walk_of t.nodes transfer.node) copies
-    → Mirrors t now transfer name (renamed name copies)
-renamed_mirror t now transfer name copies top =
-    subst (λ (rows : List NodeRow). Mirrors t now transfer name (renamed name rows)) (sym top.copies_is) (record {
-      all = omega (arith, top.below.all, ap length top.walk_is);
-      each = each;
-    })
-  where
-    walk : List ℕ
-    walk = walk_of t.nodes transfer.node
-
-    first : NodeRow
-    first = record (copied_row (owner_of t.nodes transfer.folder) now t.meta.next_node transfer.folder top.row) { name = name }
-
-    in_walk : (k node : ℕ) → slice_get (transfer.node ∷ top.walk_below) k ≡ Some node → slice_get walk k ≡ Some node
-    in_walk k node is = ap (λ (nodes : List ℕ). slice_get nodes k) top.walk_is ∙ is
-
-    placed : (k : ℕ) (of copy : NodeRow) → copy.name ≡ of.name
-        → IsPlaced top.walk_below transfer.node t.meta.next_node (t.meta.next_node + 1) k of copy
-        → IsPlacedCopy t transfer name (suc k) of copy
-    placed k of copy named (inl direct) =
-        (named, (transfer.node, 0, direct.0, in_walk 0 transfer.node refl, omega arith, direct.1 ∙ ap Inside (omega arith)))
-    placed k of copy named (inr lower) = (
-      named,
-      (
-        lower.folder,
-        suc lower.at,
-        lower.of_place,
-        in_walk (suc lower.at) lower.folder lower.at_index,
-        omega (arith, lower.before),
-        lower.place ∙ ap Inside (omega arith),
-      ),
-    )
-
-    each : (k : ℕ) (copy : NodeRow) → slice_get (first ∷ top.copies_below) k ≡ Some copy → IsCopyOf t now transfer name k copy
-    each zero copy is =
-        subst (λ (c : NodeRow). IsCopyOf t now transfer name 0 c) (same_Some first copy is) (record {
-          node = transfer.node;
-          of = top.row;
-          at_index = in_walk 0 transfer.node refl;
-          there = top.there;
-          id = omega arith;
-          owner = refl;
-          kind = refl;
-          content = refl;
-          changed = refl;
-          placed = (refl, refl);
-        })
-    each (suc k) copy is =
-        let c = top.below.each k copy is in
-        record {
-          node = c.node;
-          of = c.of;
-          at_index = in_walk (suc k) c.node c.at_index;
-          there = c.there;
-          id = omega (arith, c.id);
-          owner = c.owned;
-          kind = c.kind;
-          content = c.content;
-          changed = c.changed;
-          placed = placed k c.of copy c.name c.placed;
-        }
-
-pub mirrored : (t : Tables) (now : ℕ) (transfer : Transfer) (name : List ℕ) → AreSound t
-    → is_some (node_row t.nodes transfer.node) ≡ true → Mirrors t now transfer name (copies_to t now transfer name)
-mirrored t now transfer name sound there = here (node_row t.nodes transfer.node) refl there
-  where
-    here : (o : Option NodeRow) → node_row t.nodes transfer.node ≡ o → is_some o ≡ true
-        → Mirrors t now transfer name (copies_to t now transfer name)
-    here None e there = absurd (false≢true there)
-    here (Some row) e there =
-        renamed_mirror t now transfer name
-        (copies_within 64 t.nodes (owner_of t.nodes transfer.folder) now t.meta.next_node transfer.folder transfer.node)
-        (top_of_walk t now transfer row sound e)
+mirrored t now who rows replaced sound known =
+    let transfer = known.transfer in
+    let of = path_own t who (At transfer.node) transfer.node sound known.known.source refl in
+    let copies = renamed_are t.nodes (owner_of t.nodes transfer.folder) now sound.rising 63 transfer.folder t.meta.next_node transfer.node
+    known.name of.row of.there in
+    subst (λ (rows : List NodeRow). Mirrors t now transfer known.name rows) (sym known.copies)
+    (record { all = copies.all; each = λ k copy is. copy_is t now transfer known.name k copy (copies.each k copy is) })

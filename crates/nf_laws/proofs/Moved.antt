@@ -1,31 +1,29 @@
 -- The tables with a node moved into another folder are sound.
-use Rattle.std.proofs.Common.{ℕ, suc, zero, ◌+◌, ◌<◌, ◌==◌, ◌≡◌, ◌≢◌, ◌≤◌, Bool, true, false, List, [], ◌∷◌, Option, None, Some, option_map, length, get_or, refl, sym, ap, subst, ◌∙◌, inl, inr, arith, le_refl}
-use Rattle.std.specs.List.{All}
+use Rattle.std.proofs.Common.{ℕ, suc, ◌+◌, ◌<◌, ◌==◌, ◌≡◌, ◌≢◌, ◌≤◌, true, false, List, Option, None, Some, option_map, length, get_or, refl, sym, ap, subst, ◌∙◌, inl, inr, arith, le_refl}
 use Rattle.std.specs.Option.{option_and_then, option_map_or}
-use Rattle.std.proofs.lemmas.Bool.{both_ways, false_from_ne_true, ne_eqb}
-use Rattle.std.proofs.lemmas.List.Elements.{All-cons, All-contains, All-nil, All-weaker}
-use Rattle.std.proofs.lemmas.Option.{option_and_then_some, same_Some}
+use Rattle.std.proofs.lemmas.Bool.{both_ways, cases_Bool, false_from_ne_true, ne_eqb}
+use Rattle.std.proofs.lemmas.List.Elements.{All-contains, All-weaker}
+use Rattle.std.proofs.lemmas.Option.{same_Some}
 use Rattle.nf_base.specs.declared.rows.NodeRow.{NodeRow}
 use Rattle.nf_base.specs.declared.rows.Place.{Place}
-use Rattle.nf_base.specs.declared.rows.Place.TheVariants.{Root, Inside, Trash}
+use Rattle.nf_base.specs.declared.rows.Place.TheVariants.{Inside, Root, Trash}
 use Rattle.nf_base.specs.declared.rows.UserRow.{UserRow}
 use Rattle.nf_defs.proofs.Walks.{climbs_walk}
 use Rattle.nf_defs.specs.Tables.{Tables}
 use Rattle.nf_defs.specs.declared.Found.TheVariants.{At, Free}
 use Rattle.nf_defs.specs.Tree.{child_of, climb, depth, folder_of, is_folder, is_folder_kind, is_root, is_root_place, is_under, node_row, owner_of, parent_of, relinked, walk_of, with_node}
+use Rattle.nf_laws.proofs.Added.{new_apart}
+use Rattle.nf_laws.proofs.Climbs.{climb_on, climb_same, depth_is, node_row_each, under_climb}
+use Rattle.nf_laws.proofs.Gone.{clearing_sound, climb_cleared, folder_stays, free_cleared, kept_cleared, row_cleared}
+use Rattle.nf_laws.proofs.OneRow.{IsEither, each_either, length_with, pieces_with, rising_with, row_itself, row_other, value_with, with_each}
+use Rattle.nf_laws.proofs.Paths.{climb_own, path_own}
+use Rattle.nf_laws.proofs.Rows.{IsRooted, folder_there, kept_row, node_still, none_above, parent_there, root_still}
+use Rattle.nf_laws.proofs.Upwards.{climb_short, climbs_depth, climbs_is_under, deepest_among, depth_climb, never_climbs, rooted}
 use Rattle.nf_words.proofs.Known.{KnownPath, KnownTransfer, child_parent}
-use Rattle.nf_words.specs.Changes.{altered, changed, cleared, told, transferred}
+use Rattle.nf_words.specs.Changes.{cleared, transferred}
 use Rattle.nf_words.specs.Limits.{deepest}
 use Rattle.nf_words.specs.Sound.{AreApart, AreSound, HasRoot, IsNodeSound, IsPlaceSound, root_of_user}
-use Rattle.nf_words.specs.declared.answer.Allowed.TheVariants as allowed
 use Rattle.nf_words.specs.declared.request.Transfer.{Transfer}
-use Rattle.nf_laws.proofs.Added.{new_apart}
-use Rattle.nf_laws.proofs.Climbs.{climb_on, depth_is, ends_same, node_row_each, under_climb}
-use Rattle.nf_laws.proofs.Gone.{clearing_sound, climb_cleared, folder_stays, free_cleared, kept_cleared, row_cleared}
-use Rattle.nf_laws.proofs.OneRow.{IsEither, each_either, length_with, pieces_with, rising_with, row_itself, row_other, value_with}
-use Rattle.nf_laws.proofs.Paths.{path_own}
-use Rattle.nf_laws.proofs.Rows.{child_owner, folder_there, found_is, inside_folder, none_above, pieces_kept, stamp_sound, stamped_has}
-use Rattle.nf_laws.proofs.Upwards.{IsRooted, climb_few, climbs_is_under, depth_climb, rooted}
 
 -- ---- climbs where a node is put into a folder
 
@@ -47,34 +45,19 @@ parent_other rows node folder name other differs =
 -- what doesn't climb to the node climbs as before
 pub climb_outside : (k : ℕ) (rows : List NodeRow) (node folder : ℕ) (name : List ℕ) (other : ℕ) → ((j : ℕ) → climb rows j other ≢ Some node)
     → climb (relinking rows node folder name) k other ≡ climb rows k other
-climb_outside zero rows node folder name other apart = refl
-climb_outside (suc k) rows node folder name other apart =
-    here (parent_of rows other) refl (λ parent apart. climb_outside k rows node folder name parent apart)
-  where
-    made : List NodeRow
-    made = relinking rows node folder name
-
-    same : parent_of made other ≡ parent_of rows other
-    same = parent_other rows node folder name other (λ is. apart 0 (ap Some is))
-
-    here : (o : Option ℕ) → parent_of rows other ≡ o
-        → ((parent : ℕ) → ((j : ℕ) → climb rows j parent ≢ Some node) → climb made k parent ≡ climb rows k parent)
-        → climb made (suc k) other ≡ climb rows (suc k) other
-    here None e rest = ap (option_and_then (climb made k)) (same ∙ e) ∙ sym (ap (option_and_then (climb rows k)) e)
-    here (Some parent) e rest =
-        ap (option_and_then (climb made k)) (same ∙ e)
-        ∙ rest parent (λ j is. apart (suc j) (ap (option_and_then (climb rows j)) e ∙ is))
-        ∙ sym (ap (option_and_then (climb rows k)) e)
+climb_outside k rows node folder name other apart =
+    climb_same rows (relinking rows node folder name) (λ k other. (j : ℕ) → climb rows j other ≢ Some node)
+    (λ k other parent apart above j is. apart (suc j) (rw above is))
+    (λ k other apart. parent_other rows node folder name other (λ is. apart 0 (ap Some is))) k other apart
 
 -- what is under the node climbs to it as before
 pub climb_below : (j : ℕ) (u : Tables) (node folder : ℕ) (name : List ℕ) (other : ℕ) → AreSound u → climb u.nodes j other ≡ Some node
     → climb (relinking u.nodes node folder name) j other ≡ Some node
-climb_below zero u node folder name other sound is = is
-climb_below (suc j) u node folder name other sound whole =
-    option_and_then_some (climb u.nodes j) (parent_of u.nodes other) node whole (λ parent above is.
-    let same = parent_other u.nodes node folder name other
-    (λ (itself : other ≡ node). absurd (omega (arith, depth_climb (suc j) u other node sound whole, ap (depth u.nodes) itself))) in
-    ap (option_and_then (climb (relinking u.nodes node folder name) j)) (same ∙ above) ∙ climb_below j u node folder name parent sound is)
+climb_below j u node folder name other sound is =
+    climb_same u.nodes (relinking u.nodes node folder name) (λ j other. climb u.nodes j other ≡ Some node)
+    (λ j other parent is above. rw above at is)
+    (λ j other is. parent_other u.nodes node folder name other
+    (λ itself. omega (arith, depth_climb (suc j) u other node sound is, ap (depth u.nodes) itself))) j other is ∙ is
 
 -- ---- a node in another folder
 
@@ -95,39 +78,31 @@ relink u node folder name = record u { nodes = relinking u.nodes node folder nam
 -- what is under the node leads to the root over the folder, and all else as before
 rooted_moved : (u : Tables) (node folder : ℕ) (name : List ℕ) (old row : NodeRow) → AreSound u → Fits u node folder name old
     → node_row u.nodes row.id ≡ Some row → IsRooted (relink u node folder name) row.id row
-rooted_moved u node folder name old row sound fits there = here (is_under u.nodes row.id node) refl
-  where
-    r : IsRooted u row.id row
-    r = rooted u row.id row sound there
-
-    here : (a : Bool) → is_under u.nodes row.id node ≡ a → IsRooted (relink u node folder name) row.id row
-    here false e = record {
-      steps = r.steps;
-      shallow = r.shallow;
-      climbs = climb_outside r.steps u.nodes node folder name row.id
-          (λ j is. both_ways (is_under u.nodes row.id node) e (climbs_is_under j u row.id node row sound there is)) ∙ r.climbs;
-    }
-    here true e =
-        let c = under_climb u.nodes row.id node e in
-        let top = folder_there u.nodes folder fits.in_folder in
-        let f = rooted u folder top.0 sound top.1 in
-        let n = rooted u node old sound fits.there in
-        let deep = depth_is f.steps u.nodes folder (root_of_user u top.0.owner) (none_above u top.0.owner sound) f.shallow f.climbs in
-        let owner : top.0.owner ≡ old.owner =
-        sym (ap (λ (o : Option NodeRow). option_map_or (λ row. row.owner) o 0) top.1) ∙ fits.owner in
-        let same = ends_same (c.0 + n.steps) r.steps u.nodes row.id (root_of_user u old.owner) (root_of_user u row.owner)
-        (none_above u old.owner sound) (none_above u row.owner sound)
-        (climb_on c.0 n.steps u.nodes row.id node c.2 ∙ n.climbs) r.climbs in
-        record {
-          steps = c.0 + suc f.steps;
-          shallow = omega (arith, deep, fits.shallow c.0 row.id row there c.2);
-          climbs =
-              climb_on c.0 (suc f.steps) (relinking u.nodes node folder name) row.id node (climb_below c.0 u node folder name row.id sound c.2)
-              ∙ ap (option_and_then (climb (relinking u.nodes node folder name) f.steps)) (parent_itself u.nodes node folder name old fits.there)
-              ∙ climb_outside f.steps u.nodes node folder name folder
-              (λ j is. both_ways (is_under u.nodes folder node) fits.outside (climbs_is_under j u folder node top.0 sound top.1 is))
-              ∙ f.climbs ∙ ap Some (ap (root_of_user u) owner ∙ same);
-        }
+rooted_moved u node folder name old row sound fits there =
+    elim (cases_Bool (is_under u.nodes row.id node)) [
+      | inl under ↦
+          (let c = under_climb u.nodes row.id node under in
+          let top = folder_there u.nodes folder fits.in_folder in
+          let up = depth u.nodes folder in
+          let owner : old.owner ≡ row.owner =
+          sym (climb_own c.0 u old.owner row.id node row sound c.2 (record { row = old; there = fits.there; owner = refl }) there) in
+          record {
+            steps = c.0 + suc up;
+            shallow = omega (arith, fits.shallow c.0 row.id row there c.2);
+            climbs =
+                climb_on c.0 (suc up) (relinking u.nodes node folder name) row.id node (climb_below c.0 u node folder name row.id sound c.2)
+                ∙ ap (option_and_then (climb (relinking u.nodes node folder name) up)) (parent_itself u.nodes node folder name old fits.there)
+                ∙ climb_outside up u.nodes node folder name folder (never_climbs u folder node sound fits.outside)
+                ∙ (climbs_depth u folder top.0 sound top.1).0 ∙ ap (λ (user : ℕ). Some (root_of_user u user)) (rw top.1 at fits.owner ∙ owner);
+          })
+      | inr outside ↦
+          (let r = rooted u row.id row sound there in
+          record {
+            steps = r.steps;
+            shallow = r.shallow;
+            climbs = climb_outside r.steps u.nodes node folder name row.id (never_climbs u row.id node sound outside) ∙ r.climbs;
+          })
+    ]
 
 folder_moved : (u : Tables) (node folder : ℕ) (name : List ℕ) (row : NodeRow) (parent : ℕ)
     → (is_folder u.nodes parent ≡ true) × (owner_of u.nodes parent ≡ row.owner) → IsPlaceSound (relink u node folder name) row (Inside parent)
@@ -145,40 +120,18 @@ place_moved u node folder name row Trash h = h
 node_moved : (u : Tables) (node folder : ℕ) (name : List ℕ) (old row : NodeRow) → AreSound u → Fits u node folder name old
     → node_row u.nodes row.id ≡ Some row → IsNodeSound u row → IsNodeSound (relink u node folder name) row
 node_moved u node folder name old row sound fits there h =
-    let r = rooted_moved u node folder name old row sound fits there in
-    record {
-      some = h.some;
-      given = h.given;
-      changed = h.changed;
-      pieces = pieces_kept u (relink u node folder name) row.content (le_refl _) h.pieces;
-      folder = h.folder;
-      place = place_moved u node folder name row row.place h.place;
-      steps = r.steps;
-      shallow = r.shallow;
-      present = r.climbs;
-    }
+    node_still u (relink u node folder name) row row.place row.name (le_refl _) (le_refl _) (le_refl _) h
+    (place_moved u node folder name row row.place h.place) (rooted_moved u node folder name old row sound fits there)
 
--- the row at a place is sound
-either_moved : (u : Tables) (node folder : ℕ) (name : List ℕ) (old before row : NodeRow) → AreSound u → Fits u node folder name old
-    → node_row u.nodes before.id ≡ Some before → IsNodeSound u before → IsEither u.nodes node (relinked folder name) before row
-    → IsNodeSound (relink u node folder name) row
-either_moved u node folder name old before row sound fits there h (inl e) =
-    subst (λ (r : NodeRow). IsNodeSound (relink u node folder name) r) (sym e) (node_moved u node folder name old before sound fits there h)
-either_moved u node folder name old before row sound fits there h (inr is) =
-    let kept = node_moved u node folder name old before sound fits there h in
-    let same : old.owner ≡ before.owner = ap (λ (r : NodeRow). r.owner) (same_Some old before (sym fits.there ∙ is.0)) in
-    subst (λ (r : NodeRow). IsNodeSound (relink u node folder name) r) (sym is.1)
-    (record {
-      some = kept.some;
-      given = kept.given;
-      changed = kept.changed;
-      pieces = kept.pieces;
-      folder = kept.folder;
-      place = folder_moved u node folder name (relinked folder name before) folder (fits.in_folder, fits.owner ∙ same);
-      steps = kept.steps;
-      shallow = kept.shallow;
-      present = kept.present;
-    })
+-- so is the moved row
+itself_moved : (u : Tables) (node folder : ℕ) (name : List ℕ) (old row : NodeRow) → AreSound u → Fits u node folder name old
+    → node_row u.nodes node ≡ Some row → node_row u.nodes row.id ≡ Some row → IsNodeSound u row
+    → IsNodeSound (relink u node folder name) (relinked folder name row)
+itself_moved u node folder name old row sound fits is there h =
+    let same : old.owner ≡ row.owner = ap (λ (r : NodeRow). r.owner) (same_Some old row (sym fits.there ∙ is)) in
+    node_still u (relink u node folder name) row (Inside folder) name (le_refl _) (le_refl _) (le_refl _) h
+    (folder_moved u node folder name (relinked folder name row) folder (fits.in_folder, fits.owner ∙ same))
+    (rooted_moved u node folder name old row sound fits there)
 
 -- two rows are apart, where both are from the changed one
 pair_apart : (rows : List NodeRow) (node : ℕ) (change : NodeRow → NodeRow) (a b x y : NodeRow)
@@ -199,17 +152,12 @@ root_moved : (u : Tables) (node folder : ℕ) (name : List ℕ) → is_root u.no
     → HasRoot (relink u node folder name) user
 root_moved u node folder name no_root user root =
     let is : is_root u.nodes user.root ≡ true =
-    ap (λ (o : Option NodeRow). option_map_or (λ row. is_root_place row.place) o false) root.there ∙ ap is_root_place root.place in
+    rw root.there (ap is_root_place root.place) in
     let differs : (user.root == node) ≡ false =
     ne_eqb user.root node (λ same. both_ways (is_root u.nodes node) no_root (subst (λ (n : ℕ). is_root u.nodes n ≡ true) same is)) in
-    record {
-      row = root.row;
-      there = row_other u.nodes node (relinked folder name) (λ row. refl) user.root differs ∙ root.there;
-      place = root.place;
-      folder = root.folder;
-      owner = root.owner;
-      name = root.name;
-    }
+    root_still u (relink u node folder name) user root
+    (kept_row (relinking u.nodes node folder name) user.root root.row
+    (row_other u.nodes node (relinked folder name) (λ row. refl) user.root differs ∙ root.there))
 
 relinked_sound : (u : Tables) (node folder : ℕ) (name : List ℕ) (old : NodeRow) → AreSound u → Fits u node folder name old
     → AreSound (relink u node folder name)
@@ -223,10 +171,10 @@ relinked_sound u node folder name old sound fits =
     record {
       counters = sound.counters;
       rising = rising_with u.nodes node change (λ row. refl) sound.rising;
-      nodes = λ k d within.
-          let few : k < length u.nodes = omega (arith, counts) in
-          either_moved u node folder name old (get_or u.nodes k d) (get_or made.nodes k d) sound fits
-          (node_row_each u.nodes sound.rising k d few) (sound.nodes k d few) (either k d);
+      nodes = with_each (IsNodeSound made) (λ row. IsNodeSound u row × (node_row u.nodes row.id ≡ Some row)) u.nodes node change
+          (λ row h. node_moved u node folder name old row sound fits h.1 h.0)
+          (λ row is h. itself_moved u node folder name old row sound fits is h.1 h.0)
+          (λ k d within. (sound.nodes k d within, node_row_each u.nodes sound.rising k d within));
       names = λ i j d before within.
           let few : j < length u.nodes = omega (arith, counts) in
           pair_apart u.nodes node change (get_or u.nodes i d) (get_or u.nodes j d) (get_or made.nodes i d) (get_or made.nodes j d)
@@ -239,24 +187,15 @@ relinked_sound u node folder name old sound fits =
 
 -- ---- what is known of a move
 
-deepest_among : (rows : List NodeRow) (nodes : List ℕ) → All (λ (node : ℕ). depth rows node ≤ deepest rows nodes) nodes
-deepest_among rows [] = All-nil (λ (node : ℕ). depth rows node ≤ deepest rows [])
-deepest_among rows (node ∷ nodes) =
-    All-cons (λ (other : ℕ). depth rows other ≤ deepest rows (node ∷ nodes)) node nodes (omega arith)
-    (All-weaker (λ (other : ℕ). depth rows other ≤ deepest rows nodes) (λ (other : ℕ). depth rows other ≤ deepest rows (node ∷ nodes))
-    (λ other less. omega arith) nodes (deepest_among rows nodes))
-
 -- what stays is as deep as before
 pub depth_cleared : (t : Tables) (replaced : Option ℕ) (node : ℕ) (row : NodeRow) → AreSound t → AreSound (record t { nodes = cleared t.nodes replaced })
     → node_row (cleared t.nodes replaced) node ≡ Some row → depth (cleared t.nodes replaced) node ≡ depth t.nodes node
 depth_cleared t replaced node row sound clear there =
     let u : Tables = record t { nodes = cleared t.nodes replaced } in
-    let r = rooted u node row clear there in
+    let up = climbs_depth u node row clear there in
     let kept = kept_cleared t.nodes replaced node row there in
-    let root = root_of_user t row.owner in
-    depth_is r.steps u.nodes node root (none_above u row.owner clear) r.shallow r.climbs
-    ∙ sym (depth_is r.steps t.nodes node root (none_above t row.owner sound) r.shallow
-    (sym (climb_cleared t replaced r.steps node sound kept.0) ∙ r.climbs))
+    sym (depth_is (depth u.nodes node) t.nodes node (root_of_user t row.owner) (none_above t row.owner sound) up.1
+    (sym (climb_cleared t replaced (depth u.nodes node) node sound kept.0) ∙ up.0))
 
 -- what is put somewhere gets its owner's folder
 pub folder_owner : (t : Tables) (who : Option ℕ) (transfer : Transfer) (name : List ℕ) → AreSound t → (known : KnownTransfer t who transfer name)
@@ -267,14 +206,12 @@ folder_owner t who transfer name sound known = here transfer.replaced known.targ
         → child_of t.nodes transfer.folder name ≡ o → owner_of t.nodes transfer.folder ≡ known.target.row.id
     here None path same is =
         let own = path_own t who (Free transfer.folder) transfer.folder sound path refl in
-        ap (λ (o : Option NodeRow). option_map_or (λ row. row.owner) o 0) own.there ∙ own.owner ∙ same
+        rw own.there (own.owner ∙ same)
     here (Some top) path same is =
         let own = path_own t who (At top) top sound path refl in
         let above = child_parent t.nodes transfer.folder name top sound.rising is in
-        let h = found_is (IsNodeSound t) (λ row. row.id == top) t.nodes own.row sound.nodes own.there in
-        let place : folder_of own.row.place ≡ Some transfer.folder =
-        sym (ap (option_and_then (λ row. folder_of row.place)) own.there) ∙ above in
-        child_owner t own.row own.row.place transfer.folder h.1.place (inside_folder own.row.place transfer.folder place) ∙ own.owner ∙ same
+        let folder = parent_there t top transfer.folder own.row sound own.there above in
+        rw folder.1 (folder.3 ∙ own.owner ∙ same)
 
 move_fits : (t : Tables) (who : Option ℕ) (transfer : Transfer) (name : List ℕ) → AreSound t → (known : KnownTransfer t who transfer name)
     → (old : NodeRow)
@@ -295,20 +232,18 @@ move_fits t who transfer name sound known =
       own.row,
       record {
         there = itself ∙ own.there;
-        no_root = ap (λ (o : Option NodeRow). option_map_or (λ row. is_root_place row.place) o false) itself ∙ known.no_root;
-        in_folder = ap (λ (o : Option NodeRow). option_map_or (λ row. is_folder_kind row.kind) o false) at ∙ known.in_folder;
-        owner =
-            ap (λ (o : Option NodeRow). option_map_or (λ row. row.owner) o 0) at ∙ folder_owner t who transfer name sound known
-            ∙ owners ∙ sym own.owner;
+        no_root = rw itself known.no_root;
+        in_folder = rw at known.in_folder;
+        owner = rw at (folder_owner t who transfer name sound known ∙ owners ∙ sym own.owner);
         free = free_cleared t transfer.replaced folder name sound known.there;
         outside = false_from_ne_true (is_under u.nodes folder node) (λ under.
             let c = under_climb u.nodes folder node under in
             both_ways (is_under t.nodes folder node) known.outside
-            (climbs_is_under c.0 t folder node top.0 sound top.1 (sym (climb_cleared t transfer.replaced c.0 folder sound stays) ∙ c.2)));
+            (climbs_is_under c.0 t folder node sound (sym (climb_cleared t transfer.replaced c.0 folder sound stays) ∙ c.2)));
         shallow = λ j below row there is.
             let kept = kept_cleared t.nodes transfer.replaced below row there in
             let climbs : climb t.nodes j below ≡ Some node = sym (climb_cleared t transfer.replaced j below sound kept.0) ∙ is in
-            let few = climb_few j t below node row sound kept.1 climbs in
+            let few = climb_short j t below node sound climbs in
             let among = All-contains (λ (n : ℕ). depth t.nodes n ≤ deepest t.nodes (walk_of t.nodes node)) (walk_of t.nodes node) below
             (deepest_among t.nodes (walk_of t.nodes node)) (climbs_walk j t.nodes node below few climbs) in
             omega (arith, among, deep, depth_climb j t below node sound climbs, known.deep);
@@ -321,10 +256,3 @@ transferred_sound t who transfer name sound known =
     let fits = move_fits t who transfer name sound known in
     relinked_sound (record t { nodes = cleared t.nodes transfer.replaced }) transfer.node transfer.folder name fits.0
     (clearing_sound t who transfer name sound known) fits.1
-
-pub moved_sound : (t : Tables) (now : ℕ) (who : Option ℕ) (transfer : Transfer) (name : List ℕ) → AreSound t → t.meta.last ≤ now
-    → KnownTransfer t who transfer name → AreSound (changed t now (allowed.Move transfer name))
-moved_sound t now who transfer name sound later known =
-    let act = allowed.Move transfer name in
-    stamped_has AreSound t (altered t now act) now (told t now act) sound
-    (stamp_sound (transferred t transfer name) now (transferred_sound t who transfer name sound known) later)

@@ -12,11 +12,10 @@ use Rattle.nf_laws.proofs.Entries.{after_has}
 use Rattle.nf_laws.proofs.Gone.{all_cleared}
 use Rattle.nf_laws.proofs.OneRow.{numbers_with}
 use Rattle.nf_laws.proofs.Owned.{copies_new}
-use Rattle.nf_laws.proofs.Rows.{stamped_has}
 use Rattle.nf_laws.proofs.Stays.{sound_after}
 use Rattle.nf_laws.specs.Numbers.{NumbersAreNew}
 use Rattle.nf_words.proofs.Known.{Known, KnownNew}
-use Rattle.nf_words.specs.Changes.{altered, changed, cleared, told}
+use Rattle.nf_words.specs.Changes.{altered, cleared}
 use Rattle.nf_words.specs.History.{IsLegalFrom, after, replay}
 use Rattle.nf_words.specs.Sound.{AreSound, IsSound}
 use Rattle.nf_words.specs.State.{State}
@@ -37,35 +36,24 @@ new_number first t now row blob later known =
     let id : row.id ≡ t.meta.next_node = ap (λ (r : NodeRow). r.id) known.is_new in inr (omega arith)
 
 numbers_changed : (first t : Tables) (now : ℕ) (who : Option ℕ) (act : Allowed) → AreSound t → first.meta.next_node ≤ t.meta.next_node
-    → AreOldOrNew first t → Known t now who act → AreOldOrNew first (changed t now act)
-numbers_changed first t now who (allowed.Get node content) sound later all known = all
-numbers_changed first t now who (allowed.List listing) sound later all known = all
-numbers_changed first t now who (allowed.Put by key length) sound later all known = all
+    → AreOldOrNew first t → Known t now who act → AreOldOrNew first (altered t now act)
 numbers_changed first t now who (allowed.StoreNew row blob) sound later all known =
     All-push (λ (row : NodeRow). IsOldOrNew first row.id) t.nodes row all (new_number first t now row blob later known.new)
 numbers_changed first t now who (allowed.StoreOver node content blob) sound later all known =
-    let act = allowed.StoreOver node content blob in
-    stamped_has (AreOldOrNew first) t (altered t now act) now (told t now act) all
-    (numbers_with (IsOldOrNew first) t.nodes node (filled content now) (λ row. refl) all)
+    numbers_with (IsOldOrNew first) t.nodes node (filled content now) (λ row. refl) all
 numbers_changed first t now who (allowed.Mkcol row) sound later all known =
     All-push (λ (row : NodeRow). IsOldOrNew first row.id) t.nodes row all (new_number first t now row None later known.new)
 numbers_changed first t now who (allowed.Delete node) sound later all known =
-    let act = allowed.Delete node in
-    stamped_has (AreOldOrNew first) t (altered t now act) now (told t now act) all
-    (all_cleared (λ (row : NodeRow). IsOldOrNew first row.id) t.nodes (Some node) all)
+    all_cleared (λ (row : NodeRow). IsOldOrNew first row.id) t.nodes (Some node) all
 numbers_changed first t now who (allowed.Move transfer name) sound later all known =
-    let act = allowed.Move transfer name in
-    stamped_has (AreOldOrNew first) t (altered t now act) now (told t now act) all
-    (numbers_with (IsOldOrNew first) (cleared t.nodes transfer.replaced) transfer.node (relinked transfer.folder name) (λ row. refl)
-    (all_cleared (λ (row : NodeRow). IsOldOrNew first row.id) t.nodes transfer.replaced all))
+    numbers_with (IsOldOrNew first) (cleared t.nodes transfer.replaced) transfer.node (relinked transfer.folder name) (λ row. refl)
+    (all_cleared (λ (row : NodeRow). IsOldOrNew first row.id) t.nodes transfer.replaced all)
 numbers_changed first t now who (allowed.Copy rows replaced) sound later all known =
-    let act = allowed.Copy rows replaced in
-    stamped_has (AreOldOrNew first) t (altered t now act) now (told t now act) all
-    (All-append (λ (row : NodeRow). IsOldOrNew first row.id) (cleared t.nodes replaced) rows
+    All-append (λ (row : NodeRow). IsOldOrNew first row.id) (cleared t.nodes replaced) rows
     (all_cleared (λ (row : NodeRow). IsOldOrNew first row.id) t.nodes replaced all)
     (All-weaker (λ (row : NodeRow). t.meta.next_node ≤ row.id) (λ (row : NodeRow). IsOldOrNew first row.id)
-    (λ row new. inr (omega (arith, later, new))) rows (copies_new t now who rows replaced sound known)))
-numbers_changed first t now who allowed.Close sound later all known = all
+    (λ row new. inr (omega (arith, later, new))) rows (copies_new t now who rows replaced sound known))
+numbers_changed first t now who act sound later all known = all
 
 numbers_stay : (first : Tables) (n : ℕ) (s : State) (es : List Entry) → IsSound s → IsLegalFrom n s es
     → first.meta.next_node ≤ s.tables.meta.next_node → AreOldOrNew first s.tables → AreOldOrNew first (replay s es).tables

@@ -1,8 +1,8 @@
 -- Rows where that of one node is changed.
-use Rattle.std.proofs.Common.{ℕ, suc, zero, ◌+◌, ◌<◌, ◌==◌, ◌≡◌, ◌⊎◌, ◌≤◌, Bool, true, false, List, [], ◌∷◌, Option, None, Some, option_map, if◌then◌else◌, length, get_or, refl, sym, ap, subst, ◌∙◌, inl, inr, arith}
+use Rattle.std.proofs.Common.{ℕ, suc, zero, ◌+◌, ◌<◌, ◌==◌, ◌≡◌, ◌⊎◌, ◌≤◌, Bool, true, false, List, [], ◌∷◌, Option, None, Some, filter, option_map, if◌then◌else◌, length, get_or, refl, sym, ap, subst, ◌∙◌, inl, inr, arith}
 use Rattle.std.specs.List.{All, AllPairs}
 use Rattle.std.specs.Option.{option_map_or}
-use Rattle.std.proofs.lemmas.Bool.{eq-eqb, eqb-true, false≢true, ne_eqb}
+use Rattle.std.proofs.lemmas.Bool.{both_ways, cases_Bool, cond_both, eq-eqb, eqb-true, ne_eqb}
 use Rattle.std.proofs.lemmas.List.Sums.{sum_by-cons}
 use Rattle.nf_base.specs.declared.rows.NodeRow.{NodeRow}
 use Rattle.nf_defs.specs.Tree.{node_row, piece_count, with_node}
@@ -11,44 +11,36 @@ use Rattle.nf_defs.specs.Tree.{node_row, piece_count, with_node}
 abbrev pub KeepsId : (NodeRow → NodeRow) → Type 0
 KeepsId change = (row : NodeRow) → (change row).id ≡ row.id
 
--- the row of a node: the old one, changed where it is that node's
-pub row_with : (rows : List NodeRow) (node : ℕ) (change : NodeRow → NodeRow) → KeepsId change → (other : ℕ)
-    → node_row (with_node rows node change) other ≡ (if other == node then option_map change (node_row rows other) else node_row rows other)
-row_with [] node change keeps other = here (other == node)
-  where
-    here : (a : Bool) → ◌≡◌ {A = Option NodeRow} None (if a then None else None)
-    here true = refl
-    here false = refl
-row_with (row ∷ rows) node change keeps other =
-    here (row.id == node) (row.id == other) refl refl (row_with rows node change keeps other)
-  where
-    id : (change row).id ≡ row.id
-    id = keeps row
-
-    here : (a b : Bool) → (row.id == node) ≡ a → (row.id == other) ≡ b
-        → node_row (with_node rows node change) other ≡ (if other == node then option_map change (node_row rows other) else node_row rows other)
-        → node_row (with_node (row ∷ rows) node change) other
-        ≡ (if other == node then option_map change (node_row (row ∷ rows) other) else node_row (row ∷ rows) other)
-    here true true e f rest =
-        let same : (other == node) ≡ true = eq-eqb other node (sym (eqb-true row.id other f) ∙ eqb-true row.id node e) in simp (e, id, f, same)
-    here true false e f rest =
-        let differ : (other == node) ≡ false =
-        ne_eqb other node (λ is. false≢true (sym f ∙ eq-eqb row.id other (eqb-true row.id node e ∙ sym is))) in
-        simp (e, id, f, differ)
-    here false true e f rest =
-        let differ : (other == node) ≡ false = ne_eqb other node (λ is. false≢true (sym e ∙ eq-eqb row.id node (eqb-true row.id other f ∙ is))) in
-        simp (e, f, differ)
-    here false false e f rest = simp (e, f) rest
-
 -- the row of the node itself, and of another one
 pub row_itself : (rows : List NodeRow) (node : ℕ) (change : NodeRow → NodeRow) → KeepsId change
     → node_row (with_node rows node change) node ≡ option_map change (node_row rows node)
-row_itself rows node change keeps =
-    let same : (node == node) ≡ true = eq-eqb node node refl in rw (row_with rows node change keeps node, same)
+row_itself [] node change keeps = refl
+row_itself (row ∷ rows) node change keeps =
+    elim (cases_Bool (row.id == node)) [
+      | inl e ↦ (let same : ((change row).id == node) ≡ true = rw (keeps row) e in simp (e, same))
+      | inr e ↦ simp e (row_itself rows node change keeps)
+    ]
 
 pub row_other : (rows : List NodeRow) (node : ℕ) (change : NodeRow → NodeRow) → KeepsId change → (other : ℕ) → (other == node) ≡ false
     → node_row (with_node rows node change) other ≡ node_row rows other
-row_other rows node change keeps other differs = rw (row_with rows node change keeps other, differs)
+row_other [] node change keeps other differs = refl
+row_other (row ∷ rows) node change keeps other differs =
+    elim (cases_Bool (row.id == node)) [
+      | inl e ↦
+          (let before : (row.id == other) ≡ false =
+          ne_eqb row.id other (λ same. both_ways (other == node) differs (eq-eqb other node (sym same ∙ eqb-true row.id node e))) in
+          let after : ((change row).id == other) ≡ false = rw (keeps row) before in simp (e, before, after))
+      | inr e ↦ simp e (ap (λ (o : Option NodeRow). if row.id == other then Some row else o) (row_other rows node change keeps other differs))
+    ]
+
+-- so the row of a node is the old one, changed where it is that node's
+pub row_with : (rows : List NodeRow) (node : ℕ) (change : NodeRow → NodeRow) → KeepsId change → (other : ℕ)
+    → node_row (with_node rows node change) other ≡ (if other == node then option_map change (node_row rows other) else node_row rows other)
+row_with rows node change keeps other =
+    cond_both (other == node) (option_map change (node_row rows other)) (node_row rows other) (λ o. node_row (with_node rows node change) other ≡ o)
+    (λ e. subst (λ (n : ℕ). node_row (with_node rows node change) n ≡ option_map change (node_row rows n)) (sym (eqb-true other node e))
+    (row_itself rows node change keeps))
+    (row_other rows node change keeps other)
 
 -- ---- row by row
 
@@ -80,12 +72,9 @@ same_either of rows node change old row keeps (inr h) = ap of h.1 ∙ keeps old
 
 pub length_with : (rows : List NodeRow) (node : ℕ) (change : NodeRow → NodeRow) → length (with_node rows node change) ≡ length rows
 length_with [] node change = refl
-length_with (row ∷ rows) node change = here (row.id == node) refl (length_with rows node change)
-  where
-    here : (a : Bool) → (row.id == node) ≡ a → length (with_node rows node change) ≡ length rows
-        → length (with_node (row ∷ rows) node change) ≡ length (row ∷ rows)
-    here true e rest = simp e
-    here false e rest = simp e (omega (arith, rest))
+length_with (row ∷ rows) node change =
+    cond_both (row.id == node) (change row ∷ rows) (row ∷ with_node rows node change) (λ made. length made ≡ length (row ∷ rows))
+    (λ e. refl) (λ e. ap suc (length_with rows node change))
 
 pieces_of : (row : NodeRow) (rows : List NodeRow) → piece_count (row ∷ rows) ≡ length row.content + piece_count rows
 pieces_of = sum_by-cons (λ row. length row.content)
@@ -95,19 +84,39 @@ pub pieces_with : (rows : List NodeRow) (node : ℕ) (change : NodeRow → NodeR
     → ((row : NodeRow) → length (change row).content ≤ more + length row.content)
     → piece_count (with_node rows node change) ≤ more + piece_count rows
 pieces_with [] node change more few = omega arith
-pieces_with (row ∷ rows) node change more few = here (row.id == node) refl (pieces_with rows node change more few)
-  where
-    here : (a : Bool) → (row.id == node) ≡ a → piece_count (with_node rows node change) ≤ more + piece_count rows
-        → piece_count (with_node (row ∷ rows) node change) ≤ more + piece_count (row ∷ rows)
-    here true e rest = simp e (omega (arith, few row, pieces_of (change row) rows, pieces_of row rows))
-    here false e rest = simp e (omega (arith, rest, pieces_of row (with_node rows node change), pieces_of row rows))
+pieces_with (row ∷ rows) node change more few =
+    cond_both (row.id == node) (change row ∷ rows) (row ∷ with_node rows node change)
+    (λ made. piece_count made ≤ more + piece_count (row ∷ rows))
+    (λ e. omega (arith, few row, pieces_of (change row) rows, pieces_of row rows))
+    (λ e. omega (arith, pieces_with rows node change more few, pieces_of row (with_node rows node change), pieces_of row rows))
+
+-- what each row has and the changed one of the node has, all have
+pub with_each : (P Q : NodeRow → Type 0) (rows : List NodeRow) (node : ℕ) (change : NodeRow → NodeRow)
+    → ((row : NodeRow) → Q row → P row) → ((row : NodeRow) → node_row rows node ≡ Some row → Q row → P (change row))
+    → All Q rows → All P (with_node rows node change)
+with_each P Q rows node change same changed all k d within =
+    let old : Q (get_or rows k d) = all k d (omega (arith, length_with rows node change)) in
+    elim (each_either rows node change k d) [ inl e ↦ subst P (sym e) (same _ old) | inr h ↦ subst P (sym h.1) (changed _ h.0 old) ]
+
+-- so what a change of a row keeps
+pub with_all : (P : NodeRow → Type 0) (rows : List NodeRow) (node : ℕ) (change : NodeRow → NodeRow)
+    → ((row : NodeRow) → P row → P (change row)) → All P rows → All P (with_node rows node change)
+with_all P rows node change keeps = with_each P P rows node change (λ row h. h) (λ row is h. keeps row h)
+
+-- the rows that pass a test stay, where neither the old row passes nor the changed one
+pub filter_with : (p : NodeRow → Bool) (rows : List NodeRow) (node : ℕ) (change : NodeRow → NodeRow)
+    → ((row : NodeRow) → node_row rows node ≡ Some row → (p row ≡ false) × (p (change row) ≡ false))
+    → filter p (with_node rows node change) ≡ filter p rows
+filter_with p [] node change fail = refl
+filter_with p (x ∷ rows) node change fail =
+    cond_both (x.id == node) (change x ∷ rows) (x ∷ with_node rows node change) (λ made. filter p made ≡ filter p (x ∷ rows))
+    (λ e. let both = fail x (simp e) in simp (both.0, both.1))
+    (λ e. ap (λ (left : List NodeRow). if p x then x ∷ left else left) (filter_with p rows node change (λ row is. fail row (simp e is))))
 
 -- what all numbers of nodes have
 pub numbers_with : (P : ℕ → Type 0) (rows : List NodeRow) (node : ℕ) (change : NodeRow → NodeRow) → KeepsId change
     → All (λ (row : NodeRow). P row.id) rows → All (λ (row : NodeRow). P row.id) (with_node rows node change)
-numbers_with P rows node change keeps all k d within =
-    let same = same_either (λ (r : NodeRow). r.id) rows node change (get_or rows k d) _ keeps (each_either rows node change k d) in
-    subst P (sym same) (all k d (omega (arith, length_with rows node change)))
+numbers_with P rows node change keeps = with_all (λ (row : NodeRow). P row.id) rows node change (λ row h. subst P (sym (keeps row)) h)
 
 pub rising_with : (rows : List NodeRow) (node : ℕ) (change : NodeRow → NodeRow) → KeepsId change
     → AllPairs (λ (a b : NodeRow). a.id < b.id) rows → AllPairs (λ (a b : NodeRow). a.id < b.id) (with_node rows node change)
@@ -122,9 +131,10 @@ pub value_with : {X : Type 0} (of : NodeRow → X) (none : X) (rows : List NodeR
     → ((row : NodeRow) → of (change row) ≡ of row) → (other : ℕ)
     → option_map_or of (node_row (with_node rows node change) other) none ≡ option_map_or of (node_row rows other) none
 value_with {X = X} of none rows node change keeps same other =
-    ap (λ (o : Option NodeRow). option_map_or of o none) (row_with rows node change keeps other) ∙ here (other == node) (node_row rows other)
+    ap (λ (o : Option NodeRow). option_map_or of o none) (row_with rows node change keeps other)
+    ∙ cond_both (other == node) (option_map change (node_row rows other)) (node_row rows other)
+    (λ o. option_map_or of o none ≡ option_map_or of (node_row rows other) none) (λ e. changed (node_row rows other)) (λ e. refl)
   where
-    here : (a : Bool) (o : Option NodeRow) → option_map_or of (if a then option_map change o else o) none ≡ option_map_or of o none
-    here true None = refl
-    here true (Some row) = same row
-    here false o = refl
+    changed : (o : Option NodeRow) → option_map_or of (option_map change o) none ≡ option_map_or of o none
+    changed None = refl
+    changed (Some row) = same row

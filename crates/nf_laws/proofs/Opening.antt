@@ -1,6 +1,6 @@
 -- Blobs are whole for the rows that a run is opened with, but for damage.
 use Rattle.std.proofs.Common.{ℕ, ◌==◌, ◌≡◌, ◌⊎◌, Bool, true, false, bytes_eq, List, length, get_or, refl, sym, ap, ◌∙◌, inl, inr}
-use Rattle.std.specs.Prelude.{Option, None, Some}
+use Rattle.std.specs.Prelude.{None, Option, Some}
 use Rattle.std.specs.Bool.{Decides}
 use Rattle.std.specs.List.{Contains}
 use Rattle.std.proofs.lemmas.Bool.{both_ways, eq-eqb, eqb-true}
@@ -23,24 +23,22 @@ there_or_not blobs piece = found (blob_at blobs piece.blob) refl
   where
     found : (o : Option (List ℕ)) → blob_at blobs piece.blob ≡ o → IsThere blobs piece ⊎ (IsThere blobs piece → ⊥)
     found None e = inr (λ is. none-some is.bytes (sym e ∙ is.there))
-    found (Some bytes) e = sized (length bytes == piece.size) refl
+    found (Some bytes) e = both (length bytes == piece.size) (bytes_eq (sha256 bytes) piece.digest) refl refl
       where
         same : (is : IsThere blobs piece) → bytes ≡ is.bytes
         same is = same_Some bytes is.bytes (sym e ∙ is.there)
 
-        sized : (a : Bool) → (length bytes == piece.size) ≡ a → IsThere blobs piece ⊎ (IsThere blobs piece → ⊥)
-        sized false size =
-            inr (λ is. both_ways (length bytes == piece.size) size (eq-eqb (length bytes) piece.size (ap length (same is) ∙ is.size)))
-        sized true size = digested (bytes_eq (sha256 bytes) piece.digest) refl
-          where
-            decides : Decides (bytes_eq (sha256 bytes) piece.digest) (sha256 bytes ≡ piece.digest)
-            decides = bytes_eq-Decides (sha256 bytes) piece.digest
+        decides : Decides (bytes_eq (sha256 bytes) piece.digest) (sha256 bytes ≡ piece.digest)
+        decides = bytes_eq-Decides (sha256 bytes) piece.digest
 
-            digested : (a : Bool) → bytes_eq (sha256 bytes) piece.digest ≡ a → IsThere blobs piece ⊎ (IsThere blobs piece → ⊥)
-            digested false digest =
-                inr (λ is. both_ways (bytes_eq (sha256 bytes) piece.digest) digest (decides.1 (ap sha256 (same is) ∙ is.digest)))
-            digested true digest =
-                inl (record { bytes = bytes; there = e; size = eqb-true (length bytes) piece.size size; digest = decides.0 digest })
+        both : (a b : Bool) → (length bytes == piece.size) ≡ a → bytes_eq (sha256 bytes) piece.digest ≡ b
+            → IsThere blobs piece ⊎ (IsThere blobs piece → ⊥)
+        both true true size digest =
+            inl (record { bytes = bytes; there = e; size = eqb-true (length bytes) piece.size size; digest = decides.0 digest })
+        both true false size digest =
+            inr (λ is. both_ways (bytes_eq (sha256 bytes) piece.digest) digest (decides.1 (ap sha256 (same is) ∙ is.digest)))
+        both false b size digest =
+            inr (λ is. both_ways (length bytes == piece.size) size (eq-eqb (length bytes) piece.size (ap length (same is) ∙ is.size)))
 
 -- so one that the rows name is there or damaged
 named_held : (rows : List Row) (blobs : Blobs) (piece : Piece) → IsNamed rows piece → IsHeld rows blobs piece

@@ -1,24 +1,18 @@
 -- Who owns a node that is there owned it before.
-use Rattle.std.proofs.Common.{ℕ, ◌==◌, ◌≡◌, ◌<◌, ◌≤◌, Bool, true, false, List, [], ◌∷◌, Option, None, Some, option_map, if◌then◌else◌, refl, sym, ap, subst, ◌∙◌, arith}
-use Rattle.std.specs.Prelude.{is_some}
+use Rattle.std.proofs.Common.{inl, inr, zero, suc, ◌≢◌, ℕ, ◌==◌, ◌≡◌, ◌<◌, ◌≤◌, List, [], ◌∷◌, Option, None, Some, refl, sym, ap, subst, ◌∙◌, arith}
 use Rattle.std.specs.List.{All}
-use Rattle.std.specs.Option.{option_or}
-use Rattle.std.proofs.lemmas.Bool.{eqb-true}
-use Rattle.std.proofs.lemmas.List.Folds.{find-append}
-use Rattle.std.proofs.lemmas.Option.{none-some, same_Some}
+use Rattle.std.proofs.lemmas.Bool.{cases_Bool, eqb-true}
 use Rattle.nf_base.specs.declared.rows.NodeRow.{NodeRow}
 use Rattle.nf_defs.specs.Tables.{Tables}
-use Rattle.nf_defs.specs.declared.Found.TheVariants.{At}
 use Rattle.nf_defs.specs.Tree.{filled, node_row, relinked, with_node}
+use Rattle.nf_laws.proofs.Climbs.{map_some}
 use Rattle.nf_laws.proofs.Copied.{copies_numbered, old_joined}
 use Rattle.nf_laws.proofs.Gone.{kept_cleared}
 use Rattle.nf_laws.proofs.Mirrored.{mirrored}
-use Rattle.nf_laws.proofs.OneRow.{KeepsId, row_with}
-use Rattle.nf_laws.proofs.Paths.{path_own}
-use Rattle.nf_laws.proofs.Rows.{stamp, stamped_has}
-use Rattle.nf_laws.specs.Transfers.{Mirrors}
+use Rattle.nf_laws.proofs.OneRow.{KeepsId, row_itself, row_other}
+use Rattle.nf_laws.proofs.Rows.{row_joined, stamped_has}
 use Rattle.nf_words.proofs.Known.{Known, KnownCopies, KnownNew}
-use Rattle.nf_words.specs.Changes.{altered, changed, cleared, created, joined, told}
+use Rattle.nf_words.specs.Changes.{altered, changed, cleared, created, joined, replaced, told, transferred}
 use Rattle.nf_words.specs.Sound.{AreSound}
 use Rattle.nf_words.specs.declared.answer.Allowed.{Allowed}
 use Rattle.nf_words.specs.declared.answer.Allowed.TheVariants as allowed
@@ -33,29 +27,24 @@ KeepsOwners t made = (node : ℕ) (row : NodeRow) → node < t.meta.next_node �
 
 new_owners : (t : Tables) (now : ℕ) (new : NodeRow) (blob : Option ℕ) → KnownNew t now new blob → KeepsOwners t (created t new blob)
 new_owners t now new blob known node row given there =
-    here (node_row t.nodes node) (new.id == node) refl refl (sym (find-append (λ row. row.id == node) t.nodes (new ∷ [])) ∙ there)
+    let id : new.id ≡ t.meta.next_node = ap (λ (r : NodeRow). r.id) known.is_new in
+    (row, sym (row_joined t.nodes (new ∷ []) node (λ k d within. others id k d within)) ∙ there, refl)
   where
-    here : (o : Option NodeRow) (a : Bool) → node_row t.nodes node ≡ o → (new.id == node) ≡ a
-        → option_or o (node_row (new ∷ []) node) ≡ Some row → WasOf t.nodes node row
-    here None true e f is =
-        let id : new.id ≡ t.meta.next_node = ap (λ (r : NodeRow). r.id) known.is_new in
-        absurd (omega (arith, eqb-true new.id node f))
-    here None false e f is = absurd (none-some row (simp f at is))
-    here (Some old) a e f is = (old, e, ap (λ (r : NodeRow). r.owner) (same_Some row old (sym is)))
+    others : new.id ≡ t.meta.next_node → All (λ (row : NodeRow). row.id ≢ node) (new ∷ [])
+    others id zero d within same = omega (arith, id, given)
+    others id (suc k) d within same = absurd (omega arith)
 
 with_owners : (t made : Tables) (node : ℕ) (change : NodeRow → NodeRow) → KeepsId change → ((row : NodeRow) → (change row).owner ≡ row.owner)
     → made.nodes ≡ with_node t.nodes node change → KeepsOwners t made
-with_owners t made node change keeps owner nodes other row given there = here (other == node) (node_row t.nodes other) refl refl found
-  where
-    found : (if other == node then option_map change (node_row t.nodes other) else node_row t.nodes other) ≡ Some row
-    found = sym (row_with t.nodes node change keeps other) ∙ subst (λ (rows : List NodeRow). node_row rows other ≡ Some row) nodes there
-
-    here : (a : Bool) (o : Option NodeRow) → (other == node) ≡ a → node_row t.nodes other ≡ o
-        → (if a then option_map change o else o) ≡ Some row → WasOf t.nodes other row
-    here true None e f is = absurd (none-some row is)
-    here true (Some old) e f is = (old, f, ap (λ (r : NodeRow). r.owner) (same_Some row (change old) (sym is)) ∙ owner old)
-    here false None e f is = absurd (none-some row is)
-    here false (Some old) e f is = (old, f, ap (λ (r : NodeRow). r.owner) (same_Some row old (sym is)))
+with_owners t made node change keeps owner nodes other row given there =
+    let found = subst (λ (rows : List NodeRow). node_row rows other ≡ Some row) nodes there in
+    elim (cases_Bool (other == node)) [
+      | inl e ↦
+          (let is = subst (λ (n : ℕ). node_row (with_node t.nodes n change) other ≡ Some row) (sym (eqb-true other node e)) found in
+          let old = map_some change (node_row t.nodes other) row (sym (row_itself t.nodes other change keeps) ∙ is) in
+          (old.0, old.1, ap (λ (r : NodeRow). r.owner) (sym old.2) ∙ owner old.0))
+      | inr e ↦ (row, sym (row_other t.nodes node change keeps other e) ∙ found, refl)
+    ]
 
 abbrev clearing : Tables → Option ℕ → Tables
 clearing t replaced = record t { nodes = cleared t.nodes replaced }
@@ -71,23 +60,16 @@ then_owners t made replaced keeps node row given there =
 
 -- ---- copies
 
-pub copies_mirror : (t : Tables) (now : ℕ) (who : Option ℕ) (rows : List NodeRow) (replaced : Option ℕ) → AreSound t
-    → (known : KnownCopies t now who rows replaced) → Mirrors t now known.transfer known.name rows
-copies_mirror t now who rows replaced sound known =
-    let of = path_own t who (At known.transfer.node) known.transfer.node sound known.known.source refl in
-    subst (λ (rows : List NodeRow). Mirrors t now known.transfer known.name rows) (sym known.copies)
-    (mirrored t now known.transfer known.name sound (ap is_some of.there))
-
 -- a copy's number wasn't given before
 pub copies_new : (t : Tables) (now : ℕ) (who : Option ℕ) (rows : List NodeRow) (replaced : Option ℕ) → AreSound t
     → KnownCopies t now who rows replaced → All (λ (copy : NodeRow). t.meta.next_node ≤ copy.id) rows
 copies_new t now who rows replaced sound known k d within =
-    (copies_numbered t now known.transfer known.name rows (copies_mirror t now who rows replaced sound known) k d within).0
+    (copies_numbered t now known.transfer known.name rows (mirrored t now who rows replaced sound known) k d within).0
 
 copied_owners : (t : Tables) (now : ℕ) (who : Option ℕ) (rows : List NodeRow) (replaced : Option ℕ) → AreSound t
     → KnownCopies t now who rows replaced → KeepsOwners t (joined t rows replaced)
 copied_owners t now who rows replaced sound known node row given there =
-    let same = old_joined t now known.transfer known.name rows (copies_mirror t now who rows replaced sound known)
+    let same = old_joined t now known.transfer known.name rows (mirrored t now who rows replaced sound known)
     (cleared t.nodes replaced) node given in
     cleared_owners t replaced node row given (sym same ∙ there)
 
@@ -96,27 +78,18 @@ copied_owners t now who rows replaced sound known node row given there =
 all_owners : (t : Tables) → KeepsOwners t t
 all_owners t node row given there = (row, there, refl)
 
+altered_owners : (t : Tables) (now : ℕ) (who : Option ℕ) (act : Allowed) → AreSound t → Known t now who act → KeepsOwners t (altered t now act)
+altered_owners t now who (allowed.StoreNew row blob) sound known = new_owners t now row blob known.new
+altered_owners t now who (allowed.StoreOver node content blob) sound known =
+    with_owners t (replaced t now node content blob) node (filled content now) (λ row. refl) (λ row. refl) refl
+altered_owners t now who (allowed.Mkcol row) sound known = new_owners t now row None known.new
+altered_owners t now who (allowed.Delete node) sound known = cleared_owners t (Some node)
+altered_owners t now who (allowed.Move transfer name) sound known =
+    then_owners t (transferred t transfer name) transfer.replaced
+    (with_owners (clearing t transfer.replaced) (transferred t transfer name) transfer.node (relinked transfer.folder name) (λ row. refl) (λ row. refl) refl)
+altered_owners t now who (allowed.Copy rows replaced) sound known = copied_owners t now who rows replaced sound known
+altered_owners t now who act sound known = all_owners t
+
 pub owners_kept : (t : Tables) (now : ℕ) (who : Option ℕ) (act : Allowed) → AreSound t → Known t now who act → KeepsOwners t (changed t now act)
-owners_kept t now who (allowed.Get node content) sound known = all_owners t
-owners_kept t now who (allowed.List listing) sound known = all_owners t
-owners_kept t now who (allowed.Put by key length) sound known = all_owners t
-owners_kept t now who (allowed.StoreNew row blob) sound known = new_owners t now row blob known.new
-owners_kept t now who (allowed.StoreOver node content blob) sound known =
-    let act = allowed.StoreOver node content blob in
-    stamped_has (KeepsOwners t) t (altered t now act) now (told t now act) (all_owners t)
-    (with_owners t (stamp (altered t now act) now) node (filled content now) (λ row. refl) (λ row. refl) refl)
-owners_kept t now who (allowed.Mkcol row) sound known = new_owners t now row None known.new
-owners_kept t now who (allowed.Delete node) sound known =
-    let act = allowed.Delete node in
-    stamped_has (KeepsOwners t) t (altered t now act) now (told t now act) (all_owners t) (cleared_owners t (Some node))
-owners_kept t now who (allowed.Move transfer name) sound known =
-    let act = allowed.Move transfer name in
-    let made = stamp (altered t now act) now in
-    stamped_has (KeepsOwners t) t (altered t now act) now (told t now act) (all_owners t)
-    (then_owners t made transfer.replaced
-    (with_owners (clearing t transfer.replaced) made transfer.node (relinked transfer.folder name) (λ row. refl) (λ row. refl) refl))
-owners_kept t now who (allowed.Copy rows replaced) sound known =
-    let act = allowed.Copy rows replaced in
-    stamped_has (KeepsOwners t) t (altered t now act) now (told t now act) (all_owners t)
-    (copied_owners t now who rows replaced sound known)
-owners_kept t now who allowed.Close sound known = all_owners t
+owners_kept t now who act sound known =
+    stamped_has (KeepsOwners t) t (altered t now act) now (told t now act) (all_owners t) (altered_owners t now who act sound known)

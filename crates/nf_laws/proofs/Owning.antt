@@ -1,40 +1,39 @@
 -- What is served or changed is its caller's own.
-use Rattle.std.proofs.Common.{ℕ, suc, zero, ◌==◌, ◌≡◌, ◌≢◌, ◌++◌, Bool, true, false, not, if◌then◌else◌, List, [], ◌∷◌, length, Option, None, Some, Result, Ok, Err, filter, map, option_map, get_or, refl, sym, ap, subst, ◌∙◌}
+use Rattle.std.proofs.Common.{if◌then◌else◌, ℕ, ◌==◌, ◌≡◌, ◌≢◌, ◌++◌, Bool, true, false, not, List, [], ◌∷◌, Option, None, Some, Result, Ok, filter, map, option_map, get_or, refl, sym, ap, subst, ◌∙◌, inl, inr}
 use Rattle.std.specs.Prelude.{IsSome, is_some}
 use Rattle.std.specs.List.{All, filter_map}
 use Rattle.std.specs.Option.{option_and_then, option_map_or}
-use Rattle.std.proofs.lemmas.Bool.{eq-eqb, eqb-true, false≢true, not-false}
+use Rattle.std.proofs.lemmas.Bool.{cond_both, eq-eqb, not-false}
 use Rattle.std.proofs.lemmas.List.{append-nil}
-use Rattle.std.proofs.lemmas.List.Elements.{All-cons, All-filter, All-head, All-map, All-nil, All-tail, filter-append}
-use Rattle.std.proofs.lemmas.Option.{option_and_then_some, same_Some}
+use Rattle.std.proofs.lemmas.List.Elements.{All-filter, All-head, All-map, All-tail, filter-append}
+use Rattle.std.proofs.lemmas.Option.{same_Some}
 use Rattle.nf_base.specs.declared.content.Piece.{Piece}
 use Rattle.nf_base.specs.declared.rows.NodeRow.{NodeRow}
-use Rattle.nf_base.specs.declared.rows.UserRow.{UserRow}
 use Rattle.nf_defs.proofs.ByName.{All-by_name}
 use Rattle.nf_defs.specs.People.{user_row}
 use Rattle.nf_defs.specs.Tables.{Tables}
-use Rattle.nf_defs.specs.Tree.{Leads, by_name, children_of, climb, content_of, filled, folder_of, found_from, is_folder, is_folder_kind, is_in, is_under, node_row, owner_of, parent_of, relinked, with_node}
+use Rattle.nf_defs.specs.Tree.{Leads, by_name, children_of, content_of, filled, is_folder, is_in, is_under, node_row, owner_of, relinked}
 use Rattle.nf_defs.specs.declared.Found.{Found}
 use Rattle.nf_defs.specs.declared.Found.TheVariants.{At, Free, Missing}
-use Rattle.nf_laws.proofs.Climbs.{node_row_each, under_climb}
+use Rattle.nf_laws.proofs.Blobs.{Alters, given_alters}
+use Rattle.nf_laws.proofs.Climbs.{node_row_each, row_there, some_there, under_climb}
 use Rattle.nf_laws.proofs.Copied.{copies_owned}
 use Rattle.nf_laws.proofs.Entries.{after_has}
 use Rattle.nf_laws.proofs.Gone.{row_cleared}
 use Rattle.nf_laws.proofs.Mirrored.{mirrored}
-use Rattle.nf_laws.proofs.Rows.{child_folder, child_owner, folder_there, found_is, inside_folder, stamped_has}
-use Rattle.nf_laws.proofs.Paths.{IsFor, IsOf, found_leads, path_own}
-use Rattle.nf_laws.specs.Owners.{ChangesOnlyOwn, ChangesOwn, ListsAll, ListsOwn, ServesOwn, nodes_of_others}
-use Rattle.nf_words.proofs.Known.{Known, KnownCopies, KnownNew, KnownPath, KnownTransfer, call_known, call_passes, child_parent, found_passes, target_place}
+use Rattle.nf_laws.proofs.Moved.{folder_owner}
+use Rattle.nf_laws.proofs.OneRow.{filter_with}
+use Rattle.nf_laws.proofs.Paths.{climb_own, found_leads, leads_own, path_own, root_own}
+use Rattle.nf_laws.proofs.Rows.{folder_there, found_is, row_id, stamp}
+use Rattle.nf_laws.specs.Owners.{ChangesOnlyOwn, ChangesOwn, IsServed, ListsAll, ListsOwn, ServesOwn, nodes_of_others}
+use Rattle.nf_words.proofs.Known.{Known, KnownCopies, KnownNew, KnownPath, call_known, call_passes}
 use Rattle.nf_words.specs.Actors.{actor_of}
-use Rattle.nf_words.specs.Calls.{Call, asker_of, found, last_name, root_of, source_of, target_of, user_of}
-use Rattle.nf_words.specs.Changes.{altered, changed, cleared, copied, deleted, given, made_folder, moved, reply_by, served, stored, told}
-use Rattle.nf_words.specs.Copies.{copies_to}
+use Rattle.nf_words.specs.Calls.{Call, asker_of, found, root_of, source_of, target_of, user_of}
+use Rattle.nf_words.specs.Changes.{altered, cleared, given, reply_by, served}
 use Rattle.nf_words.specs.Listing.{line_of, listing_of}
-use Rattle.nf_defs.specs.declared.Seeker.{Seeker}
-use Rattle.nf_defs.specs.declared.Seeker.TheVariants as seeker
-use Rattle.nf_words.specs.Places.{node_found, transfer_of}
-use Rattle.nf_words.specs.Sound.{AreSound, IsNodeSound}
-use Rattle.nf_words.specs.Step.{answered_by, call_of, call_decision}
+use Rattle.nf_words.specs.Places.{node_found}
+use Rattle.nf_words.specs.Sound.{AreSound}
+use Rattle.nf_words.specs.Step.{answered_by, call_decision, call_of}
 use Rattle.nf_words.specs.declared.answer.Allowed.{Allowed}
 use Rattle.nf_words.specs.declared.answer.Allowed.TheVariants as allowed
 use Rattle.nf_words.specs.declared.answer.Denial.{Denial}
@@ -43,18 +42,17 @@ use Rattle.nf_words.specs.declared.answer.Goal.TheVariants.{Serve}
 use Rattle.nf_words.specs.declared.answer.Reply.{Reply}
 use Rattle.nf_words.specs.declared.answer.Reply.TheVariants.{Granted, Listing}
 use Rattle.nf_words.specs.declared.listing.ListingLine.{ListingLine}
-use Rattle.nf_words.specs.declared.request.Transfer.{Transfer}
 use Rattle.nf_words.specs.declared.request.Places.{Places}
 use Rattle.nf_words.specs.declared.request.Spot.{Spot}
 use Rattle.nf_words.specs.declared.request.Wanted.{Wanted}
-use Rattle.nf_words.specs.declared.request.Wanted.TheVariants.{Get, Put, Mkcol, Delete, Move, Copy}
+use Rattle.nf_words.specs.declared.request.Wanted.TheVariants.{Get}
 
 -- ---- what is served
 
 same_reply : (x y : Reply) → ◌≡◌ {A = Result Reply Denial} (Ok x) (Ok y) → x ≡ y
 same_reply x y e = cc
 
--- what is put at a place is answered nothing else
+-- what is put at a place is answered neither a grant nor a listing
 grants_none : (replaced : Option ℕ) (goal : Goal) → reply_by replaced ≢ Granted goal
 grants_none None goal = λ is. cc
 grants_none (Some node) goal = λ is. cc
@@ -67,87 +65,38 @@ lists_none (Some node) listing = λ is. cc
 got : (decision : Result Allowed Denial) (content : List Piece) → answered_by decision ≡ Ok (Granted (Serve content))
     → (node : ℕ) × (decision ≡ Ok (allowed.Get node content))
 got (Ok (allowed.Get node other)) content is = (node, cc)
-got (Ok (allowed.List listing)) content is = absurd (cc)
-got (Ok (allowed.Put by key length)) content is = absurd (cc)
-got (Ok (allowed.StoreNew row blob)) content is = absurd (cc)
-got (Ok (allowed.StoreOver node other blob)) content is = absurd (cc)
-got (Ok (allowed.Mkcol row)) content is = absurd (cc)
-got (Ok (allowed.Delete node)) content is = absurd (cc)
 got (Ok (allowed.Move transfer name)) content is = absurd (grants_none transfer.replaced (Serve content) (same_reply _ _ is))
 got (Ok (allowed.Copy rows replaced)) content is = absurd (grants_none replaced (Serve content) (same_reply _ _ is))
-got (Ok allowed.Close) content is = absurd (cc)
-got (Err refusal) content is = absurd (cc)
+got decision content is = absurd (cc)
 
 -- only a GET is answered a listing
 got_listing : (decision : Result Allowed Denial) (listing : List ListingLine) → answered_by decision ≡ Ok (Listing listing)
     → decision ≡ Ok (allowed.List listing)
-got_listing (Ok (allowed.Get node content)) listing is = absurd (cc)
 got_listing (Ok (allowed.List other)) listing is = cc
-got_listing (Ok (allowed.Put by key length)) listing is = absurd (cc)
-got_listing (Ok (allowed.StoreNew row blob)) listing is = absurd (cc)
-got_listing (Ok (allowed.StoreOver node other blob)) listing is = absurd (cc)
-got_listing (Ok (allowed.Mkcol row)) listing is = absurd (cc)
-got_listing (Ok (allowed.Delete node)) listing is = absurd (cc)
 got_listing (Ok (allowed.Move transfer name)) listing is = absurd (lists_none transfer.replaced listing (same_reply _ _ is))
 got_listing (Ok (allowed.Copy rows replaced)) listing is = absurd (lists_none replaced listing (same_reply _ _ is))
-got_listing (Ok allowed.Close) listing is = absurd (cc)
-got_listing (Err refusal) listing is = absurd (cc)
-
--- ---- only a GET shows something
-
-abbrev is_shown : Allowed → Bool
-is_shown (allowed.Get node content) = true
-is_shown (allowed.List listing) = true
-is_shown other = false
-
-no_put : (who : Seeker) (name : List ℕ) (length : ℕ) (place : Option Found) → is_shown (stored who name length place) ≡ false
-no_put who name length None = refl
-no_put who name length (Some (At node)) = refl
-no_put who name length (Some (Free folder)) = refl
-no_put who name length (Some (Missing depth)) = refl
-
-no_folder : (t : Tables) (now : ℕ) (name : List ℕ) (place : Option Found) → is_shown (made_folder t now name place) ≡ false
-no_folder t now name None = refl
-no_folder t now name (Some (At node)) = refl
-no_folder t now name (Some (Free folder)) = refl
-no_folder t now name (Some (Missing depth)) = refl
-
-no_deletion : (node : Option ℕ) → is_shown (deleted node) ≡ false
-no_deletion None = refl
-no_deletion (Some node) = refl
-
-no_move : (name : List ℕ) (transfer : Option Transfer) → is_shown (moved name transfer) ≡ false
-no_move name None = refl
-no_move name (Some transfer) = refl
-
-no_copy : (t : Tables) (now : ℕ) (name : List ℕ) (transfer : Option Transfer) → is_shown (copied t now name transfer) ≡ false
-no_copy t now name None = refl
-no_copy t now name (Some transfer) = refl
+got_listing decision listing is = absurd (cc)
 
 -- a GET gives that of the node at its place
 get_at : (t : Tables) (place : Found) (node : ℕ) (content : List Piece) → served t (node_found place) ≡ allowed.Get node content
     → (place ≡ At node) × (content ≡ content_of t.nodes node)
-get_at t (At other) node content is = here (is_folder t.nodes other) is
-  where
-    here : (folder : Bool) → (if folder then allowed.List (listing_of t other) else allowed.Get other (content_of t.nodes other)) ≡ allowed.Get node content
-        → (At other ≡ At node) × (content ≡ content_of t.nodes node)
-    here true is = absurd (cc)
-    here false is =
-        let same : other ≡ node = cc in
-        let sent : content_of t.nodes other ≡ content = cc in (ap At same, sym sent ∙ ap (content_of t.nodes) same)
+get_at t (At other) node content is =
+    cond_both (is_folder t.nodes other) (allowed.List (listing_of t other)) (allowed.Get other (content_of t.nodes other))
+    (λ act. act ≡ allowed.Get node content → (At other ≡ At node) × (content ≡ content_of t.nodes node)) (λ folder is. absurd (cc))
+    (λ file is.
+    let same : other ≡ node = cc in
+    let sent : content_of t.nodes other ≡ content = cc in (ap At same, sym sent ∙ ap (content_of t.nodes) same)) is
 get_at t (Free folder) node content is = absurd (cc)
 get_at t (Missing depth) node content is = absurd (cc)
 
 -- or lists the folder that is there
 list_at : (t : Tables) (place : Found) (listing : List ListingLine) → served t (node_found place) ≡ allowed.List listing
     → (folder : ℕ) × (place ≡ At folder) × (is_folder t.nodes folder ≡ true) × (listing ≡ listing_of t folder)
-list_at t (At other) listing is = here (is_folder t.nodes other) refl is
-  where
-    here : (folder : Bool) → is_folder t.nodes other ≡ folder
-        → (if folder then allowed.List (listing_of t other) else allowed.Get other (content_of t.nodes other)) ≡ allowed.List listing
-        → (folder : ℕ) × (At other ≡ At folder) × (is_folder t.nodes folder ≡ true) × (listing ≡ listing_of t folder)
-    here true e is = let same : listing_of t other ≡ listing = cc in (other, refl, e, sym same)
-    here false e is = absurd (cc)
+list_at t (At other) listing is =
+    cond_both (is_folder t.nodes other) (allowed.List (listing_of t other)) (allowed.Get other (content_of t.nodes other))
+    (λ act. act ≡ allowed.List listing
+    → (folder : ℕ) × (At other ≡ At folder) × (is_folder t.nodes folder ≡ true) × (listing ≡ listing_of t folder))
+    (λ folder is. let same : listing_of t other ≡ listing = cc in (other, refl, folder, sym same)) (λ file is. absurd (cc)) is
 list_at t (Free folder) listing is = absurd (cc)
 list_at t (Missing depth) listing is = absurd (cc)
 
@@ -156,47 +105,37 @@ places_for wanted leads = record { source = option_map leads (source_of wanted);
 
 -- what is shown is asked for by a GET, whose place leads there
 asked : (t : Tables) (now user : ℕ) (wanted : Wanted) (leads : Spot → Found) (act : Allowed)
-    → given t now user wanted (places_for wanted leads) ≡ act → is_shown act ≡ true
+    → given t now user wanted (places_for wanted leads) ≡ act → (Alters act → ⊥)
     → (spot : Spot) × (wanted ≡ Get spot) × (served t (node_found (leads spot)) ≡ act)
-asked t now user (Get spot) leads act is shown = (spot, refl, is)
-asked t now user (Put spot length) leads act is shown =
-    absurd (false≢true (sym (no_put (seeker.User user) (last_name spot) length (Some (leads spot))) ∙ ap is_shown is ∙ shown))
-asked t now user (Mkcol spot) leads act is shown =
-    absurd (false≢true (sym (no_folder t now (last_name spot) (Some (leads spot))) ∙ ap is_shown is ∙ shown))
-asked t now user (Delete spot) leads act is shown =
-    absurd (false≢true (sym (no_deletion (node_found (leads spot))) ∙ ap is_shown is ∙ shown))
-asked t now user (Move source target overwrite) leads act is shown =
-    let places = places_for (Move source target overwrite) leads in
-    absurd (false≢true (sym (no_move (last_name target) (transfer_of t.nodes places)) ∙ ap is_shown is ∙ shown))
-asked t now user (Copy source target overwrite) leads act is shown =
-    let places = places_for (Copy source target overwrite) leads in
-    absurd (false≢true (sym (no_copy t now (last_name target) (transfer_of t.nodes places)) ∙ ap is_shown is ∙ shown))
+asked t now user wanted leads act is shown =
+    elim (given_alters t now user wanted (places_for wanted leads)) [
+      | inl get ↦ (get.0, get.1, subst (λ (w : Wanted). given t now user w (places_for w leads) ≡ act) get.1 is)
+      | inr alters ↦ absurd (shown (subst Alters is alters))
+    ]
 
--- a node of the caller's to which a path leads from the caller's root
-record IsOfCaller (call : Call) (spot : Spot) (node : ℕ) : Type 0 where
-  user : ℕ
-  caller : user_of call ≡ Some user
-  row : NodeRow
-  id : row.id ≡ node
-  there : node_row call.state.tables.nodes row.id ≡ Some row
-  led : Leads call.state.tables.nodes (root_of call) spot.path row.id
-  own : row.owner ≡ user
-
-of_caller : (call : Call) (spot : Spot) (node : ℕ) → AreSound call.state.tables → KnownPath call.state.tables (user_of call) (At node)
-    → found call spot ≡ At node → IsOfCaller call spot node
-of_caller call spot node sound path leads =
+-- a node to which the path of a GET leads from the caller's root is the caller's
+of_caller : (call : Call) (spot : Spot) (node : ℕ) (place : Found) → AreSound call.state.tables → KnownPath call.state.tables (user_of call) place
+    → call.request.wanted ≡ Get spot → found call spot ≡ At node
+    → (served : IsServed call (content_of call.state.tables.nodes node)) × (served.row.id ≡ node)
+of_caller call spot node place sound path wanted leads =
     let t = call.state.tables in
-    let own = path_own t (user_of call) (At node) node sound path refl in
-    let id : own.row.id ≡ node = eqb-true own.row.id node (found_passes (λ (row : NodeRow). row.id == node) t.nodes own.row own.there) in
-    record {
-      user = path.row.id;
-      caller = path.caller;
-      row = own.row;
-      id = id;
-      there = subst (λ (n : ℕ). node_row t.nodes n ≡ Some own.row) (sym id) own.there;
-      led = found_leads t (root_of call) spot.path own.row.id sound (leads ∙ ap At (sym id));
-      own = own.owner;
-    }
+    let root : root_of call ≡ path.row.root = rw (path.caller, path.there) refl in
+    let led = found_leads t (root_of call) spot.path node sound leads in
+    let own = leads_own t path.row.id (root_of call) spot.path node sound led (rw root (root_own t path.row sound path.there)) in
+    let id = row_id t.nodes node own.row own.there in (
+      record {
+        spot = spot;
+        asked = wanted;
+        user = path.row.id;
+        caller = path.caller;
+        row = own.row;
+        there = subst (λ (n : ℕ). node_row t.nodes n ≡ Some own.row) (sym id) own.there;
+        led = subst (Leads t.nodes (root_of call) spot.path) (sym id) led;
+        own = own.owner;
+        sent = rw own.there refl;
+      },
+      id,
+    )
 
 pub serves_own : ServesOwn
 serves_own s seat now words request content sound may is =
@@ -204,21 +143,9 @@ serves_own s seat now words request content sound may is =
     let get = got (call_decision call) content is in
     let act = allowed.Get get.0 content in
     let known = call_known call act sound may get.1 in
-    let spot = asked s.tables now (asker_of call) request.wanted (found call) act (call_passes call act get.1).1 refl in
+    let spot = asked s.tables now (asker_of call) request.wanted (found call) act (call_passes call act get.1).1 (λ alters. alters) in
     let at = get_at s.tables (found call spot.0) get.0 content spot.2 in
-    let mine = of_caller call spot.0 get.0 sound.rows known.path at.0 in
-    record {
-      spot = spot.0;
-      asked = spot.1;
-      user = mine.user;
-      caller = mine.caller;
-      row = mine.row;
-      there = mine.there;
-      led = mine.led;
-      own = mine.own;
-      sent = sym (ap (λ (o : Option NodeRow). option_map_or (λ row. row.content) o []) mine.there)
-          ∙ ap (content_of s.tables.nodes) mine.id ∙ sym at.1;
-    }
+    subst (IsServed call) (sym at.1) (of_caller call spot.0 get.0 (At get.0) sound.rows known.path spot.1 at.0).0
 
 pub lists_own : ListsOwn
 lists_own s seat now words request listing sound may is =
@@ -226,51 +153,33 @@ lists_own s seat now words request listing sound may is =
     let act = allowed.List listing in
     let decides = got_listing (call_decision call) listing is in
     let known = call_known call act sound may decides in
-    let spot = asked s.tables now (asker_of call) request.wanted (found call) act (call_passes call act decides).1 refl in
+    let spot = asked s.tables now (asker_of call) request.wanted (found call) act (call_passes call act decides).1 (λ alters. alters) in
     let at = list_at s.tables (found call spot.0) listing spot.2 in
-    let caller : KnownPath s.tables (user_of call) (At known.folder) = known.path in
-    let root : root_of call ≡ caller.row.root =
-    ap (λ (who : Option ℕ). option_map_or (λ row. row.root) (option_and_then (user_row s.tables.users) who) 0) caller.caller
-    ∙ ap (λ (row : Option UserRow). option_map_or (λ row. row.root) row 0) caller.there in
-    let path : KnownPath s.tables (user_of call) (At at.0) = record {
-      row = caller.row;
-      caller = caller.caller;
-      there = caller.there;
-      names = spot.0.path;
-      leads = subst (λ (n : ℕ). found_from s.tables.nodes 0 n spot.0.path ≡ At at.0) root at.1;
-    } in
-    let mine = of_caller call spot.0 at.0 sound.rows path at.1 in
+    let of = of_caller call spot.0 at.0 (At known.folder) sound.rows known.path spot.1 at.1 in
+    let mine = of.0 in
+    let id = of.1 in
     record {
-      spot = spot.0;
-      asked = spot.1;
+      spot = mine.spot;
+      asked = mine.asked;
       user = mine.user;
       caller = mine.caller;
       row = mine.row;
       there = mine.there;
-      folder = sym (ap (λ (o : Option NodeRow). option_map_or (λ row. is_folder_kind row.kind) o false) mine.there)
-          ∙ ap (is_folder s.tables.nodes) mine.id ∙ at.2;
+      folder = rw mine.there at (ap (is_folder s.tables.nodes) id) ∙ at.2;
       led = mine.led;
       own = mine.own;
-      listed = at.3 ∙ ap (listing_of s.tables) (sym mine.id);
+      listed = at.3 ∙ ap (listing_of s.tables) (sym id);
     }
 
 -- ---- each node in a folder has a line
 
 has_owner : (t : Tables) → All (λ (row : NodeRow). IsSome (user_row t.users row.owner)) t.nodes → (node : ℕ)
     → is_some (node_row t.nodes node) ≡ true → (line : ListingLine) × (option_and_then (line_of t) (node_row t.nodes node) ≡ Some line) × (line.id ≡ node)
-has_owner t owners node there = of_row (node_row t.nodes node) refl there
-  where
-    of_user : (row : NodeRow) (user : Option UserRow) → user_row t.users row.owner ≡ user → IsSome user → row.id ≡ node
-        → (line : ListingLine) × (line_of t row ≡ Some line) × (line.id ≡ node)
-    of_user row None e some id = absurd (cc some)
-    of_user row (Some user) e some id = (_, ap (option_map _) e, id)
-
-    of_row : (o : Option NodeRow) → node_row t.nodes node ≡ o → is_some o ≡ true
-        → (line : ListingLine) × (option_and_then (line_of t) o ≡ Some line) × (line.id ≡ node)
-    of_row None e some = absurd (cc some)
-    of_row (Some row) e some =
-        let h = found_is (λ (row : NodeRow). IsSome (user_row t.users row.owner)) (λ row. row.id == node) t.nodes row owners e in
-        of_user row (user_row t.users row.owner) refl h.1 (eqb-true row.id node h.0)
+has_owner t owners node there =
+    let row = some_there (node_row t.nodes node) there in
+    let some = found_is (λ (row : NodeRow). IsSome (user_row t.users row.owner)) (λ row. row.id == node) t.nodes row.0 owners row.1 in
+    let user = some_there (user_row t.users row.0.owner) some.1 in
+    (_, ap (option_and_then (line_of t)) row.1 ∙ ap (option_map _) user.1, row_id t.nodes node row.0 row.1)
 
 lines_of : (t : Tables) → All (λ (row : NodeRow). IsSome (user_row t.users row.owner)) t.nodes → (nodes : List ℕ)
     → All (λ (node : ℕ). is_some (node_row t.nodes node) ≡ true) nodes
@@ -281,23 +190,11 @@ lines_of t owners (node ∷ nodes) there =
     let rest = lines_of t owners nodes (All-tail (λ (node : ℕ). is_some (node_row t.nodes node) ≡ true) node nodes there) in
     rw h.1 (cc (h.2, rest))
 
--- each row is found by its number
-found_each : (rows others : List NodeRow) → ((node : ℕ) → is_some (node_row others node) ≡ true → is_some (node_row rows node) ≡ true)
-    → All (λ (row : NodeRow). is_some (node_row rows row.id) ≡ true) others
-found_each rows [] among = All-nil (λ (row : NodeRow). is_some (node_row rows row.id) ≡ true)
-found_each rows (x ∷ others) among =
-    All-cons (λ (row : NodeRow). is_some (node_row rows row.id) ≡ true) x others (among x.id (simp (eq-eqb x.id x.id refl)))
-    (found_each rows others (λ node there. among node (here (x.id == node) node refl there)))
-  where
-    here : (a : Bool) (node : ℕ) → (x.id == node) ≡ a → is_some (node_row others node) ≡ true → is_some (node_row (x ∷ others) node) ≡ true
-    here true node e there = simp e
-    here false node e there = simp e there
-
 children_there : (rows : List NodeRow) (folder : ℕ) → All (λ (node : ℕ). is_some (node_row rows node) ≡ true) (children_of rows folder)
 children_there rows folder =
     let found = λ (row : NodeRow). is_some (node_row rows row.id) ≡ true in
     All-map (λ (node : ℕ). is_some (node_row rows node) ≡ true) (λ (row : NodeRow). row.id) (by_name (filter (is_in folder) rows))
-    (All-by_name found (filter (is_in folder) rows) (All-filter (is_in folder) found rows (found_each rows rows (λ node there. there))))
+    (All-by_name found (filter (is_in folder) rows) (All-filter (is_in folder) found rows (row_there rows)))
 
 pub lists_all : ListsAll
 lists_all t folder owners = lines_of t owners (children_of t.nodes folder) (children_there t.nodes folder)
@@ -310,65 +207,19 @@ is_of_other who row = not (option_map_or (λ user. row.owner == user) who false)
 own_row : (who : Option ℕ) (user : ℕ) (row : NodeRow) → who ≡ Some user → row.owner ≡ user → is_of_other who row ≡ false
 own_row who user row is owner = rw is (ap not (eq-eqb row.owner user owner))
 
-unchanged : (t : Tables) (who : Option ℕ) → ChangesOwn t t who
-unchanged t who = record { others = refl; rest = refl }
-
 new_own : (t : Tables) (now : ℕ) (who : Option ℕ) (user : ℕ) (row : NodeRow) (blob : Option ℕ) → KnownNew t now row blob
     → who ≡ Some user → row.owner ≡ user → nodes_of_others who (t.nodes ++ row ∷ []) ≡ nodes_of_others who t.nodes
 new_own t now who user row blob known is owner =
     filter-append (is_of_other who) t.nodes (row ∷ []) ∙ simp (own_row who user row is owner, append-nil)
 
--- a row that differs is of who acts and keeps its owner, so the rows of others are the same
-others_over : (who : Option ℕ) (rows : List NodeRow) (node : ℕ) (change : NodeRow → NodeRow)
-    → ((row : NodeRow) → (change row).owner ≡ row.owner)
-    → ((row : NodeRow) → node_row rows node ≡ Some row → is_of_other who row ≡ false)
-    → nodes_of_others who (with_node rows node change) ≡ nodes_of_others who rows
-others_over who [] node change keeps own = refl
-others_over who (x ∷ rows) node change keeps own =
-    here (x.id == node) (is_of_other who x) refl refl own (λ own. others_over who rows node change keeps own)
-  where
-    here : (a b : Bool) → (x.id == node) ≡ a → is_of_other who x ≡ b
-        → ((row : NodeRow) → node_row (x ∷ rows) node ≡ Some row → is_of_other who row ≡ false)
-        → (((row : NodeRow) → node_row rows node ≡ Some row → is_of_other who row ≡ false)
-        → nodes_of_others who (with_node rows node change) ≡ nodes_of_others who rows)
-        → nodes_of_others who (with_node (x ∷ rows) node change) ≡ nodes_of_others who (x ∷ rows)
-    here true b e f own rest =
-        let mine : is_of_other who x ≡ false = own x (simp e) in
-        let still : is_of_other who (change x) ≡ false =
-        ap (λ (owner : ℕ). not (option_map_or (λ user. owner == user) who false)) (keeps x) ∙ mine in
-        simp (e, mine, still)
-    here false true e f own rest = simp (e, f) (ap (λ (rows : List NodeRow). x ∷ rows) (rest (λ row is. own row (simp e is))))
-    here false false e f own rest = simp (e, f) (rest (λ row is. own row (simp e is)))
-
 pub others_left : (p q : NodeRow → Bool) (rows : List NodeRow) → All (λ (row : NodeRow). q row ≡ false → p row ≡ false) rows
     → filter p (filter q rows) ≡ filter p rows
 others_left p q [] own = refl
 others_left p q (x ∷ rows) own =
-    here (q x) (p x) refl refl (All-head (λ (row : NodeRow). q row ≡ false → p row ≡ false) x rows own)
-    (others_left p q rows (All-tail (λ (row : NodeRow). q row ≡ false → p row ≡ false) x rows own))
-  where
-    here : (a b : Bool) → q x ≡ a → p x ≡ b → (q x ≡ false → p x ≡ false) → filter p (filter q rows) ≡ filter p rows
-        → filter p (filter q (x ∷ rows)) ≡ filter p (x ∷ rows)
-    here true true e f own rest = simp (e, f) (ap (λ (rows : List NodeRow). x ∷ rows) rest)
-    here true false e f own rest = simp (e, f) rest
-    here false b e f own rest = simp (e, own e) rest
-
--- a node under one has its owner
-climb_own : (j : ℕ) (t : Tables) (user node top : ℕ) (row : NodeRow) → AreSound t → climb t.nodes j node ≡ Some top → IsOf t user top
-    → node_row t.nodes node ≡ Some row → row.owner ≡ user
-climb_own zero t user node top row sound is of there =
-    let same : node ≡ top = same_Some node top is in
-    ap (λ (r : NodeRow). r.owner) (same_Some row of.row (sym there ∙ ap (node_row t.nodes) same ∙ of.there)) ∙ of.owner
-climb_own (suc j) t user node top row sound is of there =
-    option_and_then_some (climb t.nodes j) (parent_of t.nodes node) top is (λ parent above is.
-    let place : folder_of row.place ≡ Some parent =
-    sym (ap (option_and_then (λ row. folder_of row.place)) there) ∙ above in
-    let h = (found_is (IsNodeSound t) (λ row. row.id == node) t.nodes row sound.nodes there).1 in
-    let inside = inside_folder row.place parent place in
-    let folder = folder_there t.nodes parent (child_folder t row row.place parent h.place inside) in
-    sym (child_owner t row row.place parent h.place inside)
-    ∙ ap (λ (o : Option NodeRow). option_map_or (λ row. row.owner) o 0) folder.1
-    ∙ climb_own j t user parent top folder.0 sound is of folder.1)
+    let rest = others_left p q rows (All-tail (λ (row : NodeRow). q row ≡ false → p row ≡ false) x rows own) in
+    cond_both (q x) (x ∷ filter q rows) (filter q rows) (λ left. filter p left ≡ filter p (x ∷ rows))
+    (λ e. ap (λ (left : List NodeRow). if p x then x ∷ left else left) rest)
+    (λ e. rest ∙ simp (All-head (λ (row : NodeRow). q row ≡ false → p row ≡ false) x rows own e))
 
 -- all under a node of who acts are of who acts
 under_own : (t : Tables) (who : Option ℕ) (top : ℕ) → AreSound t → KnownPath t who (At top)
@@ -387,27 +238,6 @@ cleared_others t who None folder sound path = refl
 cleared_others t who (Some top) folder sound path =
     others_left (is_of_other who) (λ row. not (is_under t.nodes row.id top)) t.nodes (under_own t who top sound path)
 
--- the folder of the new place is of who acts
-pub folder_own : (t : Tables) (who : Option ℕ) (transfer : Transfer) (name : List ℕ) → AreSound t → (known : KnownTransfer t who transfer name)
-    → owner_of t.nodes transfer.folder ≡ known.target.row.id
-folder_own t who transfer name sound known = here transfer.replaced refl
-  where
-    here : (replaced : Option ℕ) → transfer.replaced ≡ replaced → owner_of t.nodes transfer.folder ≡ known.target.row.id
-    here None e =
-        let free : target_place transfer ≡ Free transfer.folder = rw e refl in
-        let own = is_own_at (target_place transfer) transfer.folder known.target (subst (λ (place : Found). IsFor place transfer.folder) (sym free) refl) in
-        ap (λ (o : Option NodeRow). option_map_or (λ row. row.owner) o 0) own.there ∙ own.owner
-      where
-        is_own_at : (place : Found) (node : ℕ) (path : KnownPath t who place) → IsFor place node → IsOf t path.row.id node
-        is_own_at place node path is = path_own t who place node sound path is
-    here (Some top) e =
-        let at : target_place transfer ≡ At top = rw e refl in
-        let own = path_own t who (target_place transfer) top sound known.target (subst (λ (place : Found). IsFor place top) (sym at) refl) in
-        let above : parent_of t.nodes top ≡ Some transfer.folder = child_parent t.nodes transfer.folder name top sound.rising (known.there ∙ e) in
-        let place : folder_of own.row.place ≡ Some transfer.folder = sym (ap (option_and_then (λ row. folder_of row.place)) own.there) ∙ above in
-        let h = (found_is (IsNodeSound t) (λ row. row.id == top) t.nodes own.row sound.nodes own.there).1 in
-        child_owner t own.row own.row.place transfer.folder h.place (inside_folder own.row.place transfer.folder place) ∙ own.owner
-
 abbrev IsOwnedBy : ℕ → NodeRow → Type 0
 IsOwnedBy owner row = row.owner ≡ owner
 
@@ -423,11 +253,8 @@ copied_others : (t : Tables) (now : ℕ) (who : Option ℕ) (rows : List NodeRow
     → nodes_of_others who (cleared t.nodes replaced ++ rows) ≡ nodes_of_others who t.nodes
 copied_others t now who rows replaced sound known =
     let transfer = known.transfer in
-    let own = path_own t who (At transfer.node) transfer.node sound known.known.source refl in
-    let mirrors = mirrored t now transfer known.name sound (ap is_some own.there) in
-    let owned = subst (λ (owner : ℕ). All (IsOwnedBy owner) (copies_to t now transfer known.name))
-    (folder_own t who transfer known.name sound known.known) (copies_owned t now transfer known.name (copies_to t now transfer known.name) mirrors) in
-    let mine = subst (λ (rows : List NodeRow). All (IsOwnedBy known.known.target.row.id) rows) (sym known.copies) owned in
+    let mine = subst (λ (owner : ℕ). All (IsOwnedBy owner) rows) (folder_owner t who transfer known.name sound known.known)
+    (copies_owned t now transfer known.name rows (mirrored t now who rows replaced sound known)) in
     let none = none_of_others who known.known.target.row.id rows known.known.target.caller mine in
     let rest = cleared_others t who transfer.replaced transfer.folder sound known.known.target in
     filter-append (is_of_other who) (cleared t.nodes replaced) rows
@@ -435,63 +262,46 @@ copied_others t now who rows replaced sound known =
     ∙ append-nil _
     ∙ ap (λ (replaced : Option ℕ). nodes_of_others who (cleared t.nodes replaced)) known.replaced_is ∙ rest
 
-act_changes : (t : Tables) (now : ℕ) (who : Option ℕ) (act : Allowed) → AreSound t → Known t now who act → ChangesOwn t (changed t now act) who
-act_changes t now who (allowed.Get node content) sound known = unchanged t who
-act_changes t now who (allowed.List listing) sound known = unchanged t who
-act_changes t now who (allowed.Put by key length) sound known = unchanged t who
-act_changes t now who (allowed.StoreNew row blob) sound known =
+-- the nodes of others after an act
+others_kept : (t : Tables) (now : ℕ) (who : Option ℕ) (act : Allowed) → AreSound t → Known t now who act
+    → nodes_of_others who (altered t now act).nodes ≡ nodes_of_others who t.nodes
+others_kept t now who (allowed.StoreNew row blob) sound known =
     let new = known.new in
     let folder = folder_there t.nodes new.folder new.in_folder in
     let owner : row.owner ≡ owner_of t.nodes new.folder = ap (λ (r : NodeRow). r.owner) new.is_new in
-    let same : owner_of t.nodes new.folder ≡ folder.0.owner = ap (λ (o : Option NodeRow). option_map_or (λ row. row.owner) o 0) folder.1 in
-    record {
-      others = new_own t now who known.own.user row blob new known.own.holder (owner ∙ same ∙ known.own.own.owner folder.0 folder.1);
-      rest = refl;
-    }
-act_changes t now who (allowed.StoreOver node content blob) sound known =
-    let act = allowed.StoreOver node content blob in
-    stamped_has (λ (made : Tables). ChangesOwn t made who) t (altered t now act) now (told t now act) (unchanged t who)
-    (record {
-      others = others_over who t.nodes node (filled content now) (λ row. refl)
-          (λ row there. own_row who known.own.user row known.own.holder (known.own.own.owner row there));
-      rest = refl;
-    })
-act_changes t now who (allowed.Mkcol row) sound known =
+    new_own t now who known.own.user row blob new known.own.holder
+    (owner ∙ rw folder.1 (known.own.own.owner folder.0 folder.1))
+others_kept t now who (allowed.StoreOver node content blob) sound known =
+    filter_with (is_of_other who) t.nodes node (filled content now)
+    (λ row there. let own = own_row who known.own.user row known.own.holder (known.own.own.owner row there) in (own, own))
+others_kept t now who (allowed.Mkcol row) sound known =
     let new = known.new in
     let own = path_own t who (Free new.folder) new.folder sound known.path refl in
     let owner : row.owner ≡ owner_of t.nodes new.folder = ap (λ (r : NodeRow). r.owner) new.is_new in
-    let same : owner_of t.nodes new.folder ≡ own.row.owner = ap (λ (o : Option NodeRow). option_map_or (λ row. row.owner) o 0) own.there in
-    record {
-      others = new_own t now who known.path.row.id row None new known.path.caller (owner ∙ same ∙ own.owner);
-      rest = refl;
-    }
-act_changes t now who (allowed.Delete node) sound known =
-    let act = allowed.Delete node in
-    stamped_has (λ (made : Tables). ChangesOwn t made who) t (altered t now act) now (told t now act) (unchanged t who)
-    (record {
-      others = others_left (is_of_other who) (λ row. not (is_under t.nodes row.id node)) t.nodes (under_own t who node sound known.path);
-      rest = refl;
-    })
-act_changes t now who (allowed.Move transfer name) sound known =
-    let act = allowed.Move transfer name in
+    new_own t now who known.path.row.id row None new known.path.caller (owner ∙ rw own.there own.owner)
+others_kept t now who (allowed.Delete node) sound known =
+    others_left (is_of_other who) (λ row. not (is_under t.nodes row.id node)) t.nodes (under_own t who node sound known.path)
+others_kept t now who (allowed.Move transfer name) sound known =
     let own = path_own t who (At transfer.node) transfer.node sound known.source refl in
-    stamped_has (λ (made : Tables). ChangesOwn t made who) t (altered t now act) now (told t now act) (unchanged t who)
-    (record {
-      others = others_over who (cleared t.nodes transfer.replaced) transfer.node (relinked transfer.folder name) (λ row. refl)
-          (λ row there.
-          let same : row ≡ own.row = same_Some row own.row (sym there ∙ row_cleared t.nodes transfer.replaced transfer.node known.apart ∙ own.there) in
-          own_row who known.source.row.id row known.source.caller (ap (λ (r : NodeRow). r.owner) same ∙ own.owner))
-          ∙ cleared_others t who transfer.replaced transfer.folder sound known.target;
-      rest = refl;
-    })
-act_changes t now who (allowed.Copy rows replaced) sound known =
-    let act = allowed.Copy rows replaced in
-    stamped_has (λ (made : Tables). ChangesOwn t made who) t (altered t now act) now (told t now act) (unchanged t who)
-    (record { others = copied_others t now who rows replaced sound known; rest = refl })
-act_changes t now who allowed.Close sound known = unchanged t who
+    filter_with (is_of_other who) (cleared t.nodes transfer.replaced) transfer.node (relinked transfer.folder name)
+    (λ row there.
+    let same : row ≡ own.row = same_Some row own.row (sym there ∙ row_cleared t.nodes transfer.replaced transfer.node known.apart ∙ own.there) in
+    let mine = own_row who known.source.row.id row known.source.caller (ap (λ (r : NodeRow). r.owner) same ∙ own.owner) in (mine, mine))
+    ∙ cleared_others t who transfer.replaced transfer.folder sound known.target
+others_kept t now who (allowed.Copy rows replaced) sound known = copied_others t now who rows replaced sound known
+others_kept t now who act sound known = refl
+
+-- no other row
+rest_kept : (t : Tables) (now : ℕ) (act : Allowed)
+    → altered t now act ≡ record t { meta = (altered t now act).meta; nodes = (altered t now act).nodes }
+rest_kept t now allowed.Close = refl
+rest_kept t now act = refl
 
 pub changes_own : ChangesOnlyOwn
 changes_own n s e sound may =
     let who = actor_of s e.seat e.event in
-    after_has (λ (made : Tables). ChangesOwn s.tables made who) n s e sound may (unchanged s.tables who)
-    (λ act known. act_changes s.tables e.moment who act sound.rows known)
+    after_has (λ (made : Tables). ChangesOwn s.tables made who) n s e sound may (record { others = refl; rest = refl })
+    (λ act known. record {
+      others = others_kept s.tables e.moment who act sound.rows known;
+      rest = ap (λ (t : Tables). stamp t e.moment) (rest_kept s.tables e.moment act);
+    })

@@ -1,90 +1,80 @@
 -- Where a path leads: the walk against the derivation, and whose is what it leads to.
-use Rattle.std.proofs.Common.{ℕ, suc, ◌+◌, ◌==◌, ◌≡◌, ◌&&◌, Bool, true, false, List, [], ◌∷◌, Option, None, Some, bytes_eq, find, option_map, if◌then◌else◌, refl, sym, ap, subst, ◌∙◌, ⊎_elim, inl, inr, arith, ◌++◌, ◌⊎◌, ◌<◌, ◌≤◌, drop, get_or, length, take}
+use Rattle.std.proofs.Common.{ℕ, zero, suc, ◌+◌, ◌==◌, ◌≡◌, ◌&&◌, Bool, true, false, List, [], ◌∷◌, Option, None, Some, bytes_eq, find, option_map, if◌then◌else◌, refl, sym, ap, subst, ◌∙◌, ⊎_elim, inl, inr, arith, ◌++◌, ◌⊎◌, ◌<◌, ◌≤◌, drop, get_or, length, take}
 use Rattle.std.specs.List.{AllPairs}
-use Rattle.std.specs.Option.{option_map_or}
-use Rattle.std.proofs.lemmas.Bool.{and_parts, false≢true, eq-eqb, eqb-true}
+use Rattle.std.proofs.lemmas.Bool.{and_from, and_parts, both_ways, cases_Bool, cond_both, eq-eqb, eqb-true}
 use Rattle.std.proofs.Math.Seq.{drop-cons}
 use Rattle.std.proofs.lemmas.List.{append-nil, length-drop, length-take-le, take-append-drop}
-use Rattle.std.proofs.lemmas.Option.{none-some, same_Some}
+use Rattle.std.proofs.lemmas.Option.{none-some, option_and_then_some, same_Some}
 use Rattle.std.proofs.lemmas.Slice.Eq.{bytes_eq-Decides}
 use Rattle.nf_base.specs.declared.rows.NodeRow.{NodeRow}
-use Rattle.nf_base.specs.declared.rows.Place.{Place}
-use Rattle.nf_base.specs.declared.rows.Place.TheVariants.{Root, Inside, Trash}
+use Rattle.nf_base.specs.declared.rows.Place.TheVariants.{Inside}
 use Rattle.nf_base.specs.declared.rows.UserRow.{UserRow}
+use Rattle.nf_defs.proofs.Walks.{AreRising, inside_of}
 use Rattle.nf_defs.specs.People.{user_row}
 use Rattle.nf_defs.specs.Tables.{Tables}
-use Rattle.nf_defs.specs.Tree.{Leads, stays, leads_on, child_of, found_from, is_folder, is_in, is_place_in, node_row, onward, owner_of}
+use Rattle.nf_defs.specs.Tree.{Leads, child_of, climb, found_from, is_folder, is_in, leads_on, node_row, onward, parent_of, stays}
 use Rattle.nf_defs.specs.declared.Found.{Found}
 use Rattle.nf_defs.specs.declared.Found.TheVariants.{At, Free, Missing}
-use Rattle.nf_laws.proofs.Climbs.{node_row_each}
-use Rattle.nf_laws.proofs.Rows.{child_owner, found_is}
+use Rattle.nf_laws.proofs.Climbs.{map_some, node_row_each}
+use Rattle.nf_laws.proofs.Rows.{child_owner, found_is, parent_there, row_is}
 use Rattle.nf_laws.specs.Walks.{LeadsNoFurther, LeadsToFree, WalkFollows}
 use Rattle.nf_words.proofs.Known.{KnownPath}
-use Rattle.nf_words.specs.Sound.{AreApart, AreSound, HasRoot, IsNodeSound, IsOwn}
+use Rattle.nf_words.specs.Sound.{AreApart, AreSound, HasRoot, IsOwn}
 
 -- ---- a folder's child of a name
 
-inside_of : (folder : ℕ) (place : Place) → is_place_in folder place ≡ true → place ≡ Inside folder
-inside_of folder Root is = absurd (false≢true is)
-inside_of folder (Inside parent) is = ap Inside (eqb-true parent folder is)
-inside_of folder Trash is = absurd (false≢true is)
-
 -- the row of a child
-record IsChild (rows : List NodeRow) (folder : ℕ) (name : List ℕ) (node : ℕ) : Type 0 where
-  row : NodeRow
-  id : row.id ≡ node
-  there : node_row rows row.id ≡ Some row
-  place : row.place ≡ Inside folder
-  named : row.name ≡ name
+pub record IsChild (rows : List NodeRow) (folder : ℕ) (name : List ℕ) (node : ℕ) : Type 0 where
+  pub row : NodeRow
+  pub id : row.id ≡ node
+  pub there : node_row rows row.id ≡ Some row
+  pub place : row.place ≡ Inside folder
+  pub named : row.name ≡ name
 
-child_is : (t : Tables) (folder : ℕ) (name : List ℕ) (node : ℕ) → AreSound t → child_of t.nodes folder name ≡ Some node
-    → IsChild t.nodes folder name node
-child_is t folder name node sound is = here (find test t.nodes) refl is
-  where
-    test : NodeRow → Bool
-    test row = is_in folder row && bytes_eq row.name name
-
-    here : (o : Option NodeRow) → find test t.nodes ≡ o → option_map (λ row. row.id) o ≡ Some node → IsChild t.nodes folder name node
-    here None e is = absurd (none-some node is)
-    here (Some row) e is =
-        let h = found_is (λ (row : NodeRow). node_row t.nodes row.id ≡ Some row) test t.nodes row (node_row_each t.nodes sound.rising) e in
-        let passes = and_parts (is_in folder row) (bytes_eq row.name name) h.0 in
-        record {
-          row = row;
-          id = same_Some row.id node is;
-          there = h.1;
-          place = inside_of folder row.place passes.0;
-          named = (bytes_eq-Decides row.name name).0 passes.1;
-        }
+pub child_is : (rows : List NodeRow) (folder : ℕ) (name : List ℕ) (node : ℕ) → AreRising rows → child_of rows folder name ≡ Some node
+    → IsChild rows folder name node
+child_is rows folder name node rising is =
+    let test : NodeRow → Bool = λ row. is_in folder row && bytes_eq row.name name in
+    let found = map_some (λ (row : NodeRow). row.id) (find test rows) node is in
+    let row : NodeRow = found.0 in
+    let h = found_is (λ (row : NodeRow). node_row rows row.id ≡ Some row) test rows row (node_row_each rows rising) found.1 in
+    let passes = and_parts (is_in folder row) (bytes_eq row.name name) h.0 in
+    record {
+      row = row;
+      id = found.2;
+      there = h.1;
+      place = inside_of folder row.place passes.0;
+      named = (bytes_eq-Decides row.name name).0 passes.1;
+    }
 
 -- a row in a folder is its child of the row's name, since no other has that name
 pub child_there : (rows : List NodeRow) (folder : ℕ) (row : NodeRow) → AllPairs AreApart rows
     → node_row rows row.id ≡ Some row → row.place ≡ Inside folder → child_of rows folder row.name ≡ Some row.id
 child_there [] folder row apart there place = absurd (none-some row there)
 child_there (x ∷ rows) folder row apart there place =
-    here (x.id == row.id) (is_in folder x) (bytes_eq x.name row.name) refl refl refl there
-    (λ there. child_there rows folder row (λ i j d before within. apart (suc i) (suc j) d (omega arith) (omega arith)) there place)
+    cond_both (test x) (Some x) (find test rows) (λ o. option_map (λ (row : NodeRow). row.id) o ≡ Some row.id)
+    (λ passes.
+    elim (cases_Bool (x.id == row.id)) [
+      | inl same ↦ ap Some (eqb-true x.id row.id same)
+      | inr differs ↦
+          (let parts = and_parts (is_in folder x) (bytes_eq x.name row.name) passes in
+          let later = found_is (λ (other : NodeRow). AreApart x other) (λ other. other.id == row.id) rows row
+          (λ k d within. apart 0 (suc k) d (omega arith) (omega arith)) (simp differs at there) in
+          absurd (later.1 folder (inside_of folder x.place parts.0) place ((bytes_eq-Decides x.name row.name).0 parts.1)))
+    ])
+    (λ fails.
+    elim (cases_Bool (x.id == row.id)) [
+      | inl same ↦
+          (let is : row ≡ x = sym (same_Some x row (simp same at there)) in
+          absurd (both_ways (test x) fails (subst (λ (r : NodeRow). test r ≡ true) is
+          (and_from (is_in folder row) (bytes_eq row.name row.name) (rw place (eq-eqb folder folder refl))
+          ((bytes_eq-Decides row.name row.name).1 refl)))))
+      | inr differs ↦
+          child_there rows folder row (λ i j d before within. apart (suc i) (suc j) d (omega arith) (omega arith)) (simp differs at there) place
+    ])
   where
-    is_child : is_in folder row ≡ true
-    is_child = ap (is_place_in folder) place ∙ eq-eqb folder folder refl
-
-    apart_of : node_row rows row.id ≡ Some row → x.place ≡ Inside folder → x.name ≡ row.name → ⊥
-    apart_of there at named =
-        (found_is (λ (other : NodeRow). AreApart x other) (λ other. other.id == row.id) rows row
-        (λ k d within. apart 0 (suc k) d (omega arith) (omega arith)) there).1 folder at place named
-
-    here : (a b c : Bool) → (x.id == row.id) ≡ a → is_in folder x ≡ b → bytes_eq x.name row.name ≡ c
-        → node_row (x ∷ rows) row.id ≡ Some row → (node_row rows row.id ≡ Some row → child_of rows folder row.name ≡ Some row.id)
-        → child_of (x ∷ rows) folder row.name ≡ Some row.id
-    here true b c e f g there rest =
-        let same : x ≡ row = same_Some x row (simp e at there) in
-        let first : is_in folder x ≡ true = ap (is_in folder) same ∙ is_child in
-        let second : bytes_eq x.name row.name ≡ true = (bytes_eq-Decides x.name row.name).1 (ap (λ (r : NodeRow). r.name) same) in
-        simp (first, second) (ap (λ (r : NodeRow). Some r.id) same)
-    here false true true e f g there rest =
-        absurd (apart_of (simp e at there) (inside_of folder x.place f) ((bytes_eq-Decides x.name row.name).0 g))
-    here false true false e f g there rest = simp (f, g) (rest (simp e at there))
-    here false false c e f g there rest = simp f (rest (simp e at there))
+    test : NodeRow → Bool
+    test other = is_in folder other && bytes_eq other.name row.name
 
 -- ---- the walk
 
@@ -135,7 +125,7 @@ walk t before from (name ∷ names) sound =
     here true None (n ∷ names) folds is rest =
         (0, omega arith, record { node = from; within = omega arith; led = stays from; stuck = inr (is, omega arith) })
     here true (Some child) names folds is rest =
-        further t before from name names child (found_from t.nodes (before + 1) child names) folds (child_is t from name child sound is) (rest child)
+        further t before from name names child (found_from t.nodes (before + 1) child names) folds (child_is t.nodes from name child sound.rising is) (rest child)
 
 -- a walk goes on from where its first names lead
 walks_on : (t : Tables) (before from : ℕ) (front rest : List (List ℕ)) (node : ℕ) → AreSound t → Leads t.nodes from front node
@@ -221,10 +211,20 @@ pub leads_own : (t : Tables) (user from : ℕ) (names : List (List ℕ)) (node :
     → Leads t.nodes from names node → IsOf t user from → IsOf t user node
 leads_own t user _ _ _ sound (stays at) of = of
 leads_own t user _ _ _ sound (leads_on at name names child node folds there place named led) of =
-    let h = found_is (IsNodeSound t) (λ row. row.id == child.id) t.nodes child sound.nodes there in
-    let owner : owner_of t.nodes at ≡ of.row.owner = ap (λ (o : Option NodeRow). option_map_or (λ row. row.owner) o 0) of.there in
-    leads_own t user child.id names node sound led
-    (record { row = child; there = there; owner = sym (child_owner t child child.place at h.1.place place) ∙ owner ∙ of.owner })
+    let h = row_is t child.id child sound there in
+    let owner : of.row.owner ≡ child.owner = rw of.there at (child_owner t child child.place at h.1.place place) in
+    leads_own t user child.id names node sound led (record { row = child; there = there; owner = sym owner ∙ of.owner })
+
+-- a node under one has its owner
+pub climb_own : (j : ℕ) (t : Tables) (user node top : ℕ) (row : NodeRow) → AreSound t → climb t.nodes j node ≡ Some top → IsOf t user top
+    → node_row t.nodes node ≡ Some row → row.owner ≡ user
+climb_own zero t user node top row sound is of there =
+    let same : node ≡ top = same_Some node top is in
+    ap (λ (r : NodeRow). r.owner) (same_Some row of.row (sym there ∙ ap (node_row t.nodes) same ∙ of.there)) ∙ of.owner
+climb_own (suc j) t user node top row sound is of there =
+    option_and_then_some (climb t.nodes j) (parent_of t.nodes node) top is (λ parent above is.
+    let folder = parent_there t node parent row sound there above in
+    sym folder.3 ∙ climb_own j t user parent top folder.0 sound is of folder.1)
 
 pub root_own : (t : Tables) (row : UserRow) → AreSound t → user_row t.users row.id ≡ Some row → IsOf t row.id row.root
 root_own t row sound there =
@@ -252,8 +252,8 @@ path_own t who (Missing depth) node sound path is = absurd is
 
 pub is_own : (t : Tables) (user node : ℕ) → AreSound t → IsOf t user node → IsOwn t user node
 is_own t user node sound of =
-    let h = found_is (IsNodeSound t) (λ row. row.id == node) t.nodes of.row sound.nodes of.there in
+    let h = row_is t node of.row sound of.there in
     record {
-      given = omega (arith, h.1.given, eqb-true of.row.id node h.0);
+      given = omega (arith, h.0, h.1.given);
       owner = λ row there. ap (λ (r : NodeRow). r.owner) (same_Some row of.row (sym there ∙ of.there)) ∙ of.owner;
     }

@@ -1,18 +1,18 @@
 -- Rows of nodes that are put and dropped, one after the other.
-use Rattle.std.proofs.Common.{ℕ, zero, suc, ◌+◌, ◌==◌, ◌≡◌, ◌≢◌, ◌<◌, Bool, true, false, not, List, [], ◌∷◌, ◌++◌, Option, None, Some, filter, map, length, get_or, refl, sym, ap, subst, ◌∙◌, arith, append_assoc}
+use Rattle.std.proofs.Common.{if◌then◌else◌, inl, inr, ℕ, zero, suc, ◌+◌, ◌==◌, ◌≡◌, ◌≢◌, ◌<◌, Bool, true, false, not, List, [], ◌∷◌, ◌++◌, Option, None, Some, filter, map, length, get_or, refl, sym, ap, subst, ◌∙◌, arith, append_assoc}
 use Rattle.std.specs.Prelude.{is_some}
 use Rattle.std.specs.List.{All, AllPairs, list_any}
-use Rattle.std.specs.Ordering.{nat_cmp, ordering_then}
+use Rattle.std.specs.Ordering.{MatchOrdering, nat_cmp, ordering_then}
 use Rattle.std.specs.Cmp.{nat_cmp_is}
 use Rattle.std.specs.declared.cmp.Ordering.{Ordering}
-use Rattle.std.specs.declared.cmp.Ordering.TheVariants.{Less, Equal, Greater}
-use Rattle.std.proofs.lemmas.Bool.{both_ways, eq-eqb, eqb-true, false≢true}
+use Rattle.std.specs.declared.cmp.Ordering.TheVariants.{Equal, Greater, Less}
+use Rattle.std.proofs.lemmas.Bool.{both_ways, cases_Bool, eq-eqb, eqb-true}
 use Rattle.std.proofs.lemmas.List.{append-nil}
 use Rattle.std.proofs.lemmas.List.Elements.{All-push, All-weaker, filter_agree, filter_passes}
 use Rattle.std.proofs.lemmas.List.Folds.{list_any_at}
 use Rattle.std.proofs.lemmas.Option.{none-some, option_and_then_some, same_Some}
 use Rattle.nf_base.specs.declared.changes.Change.{Change}
-use Rattle.nf_base.specs.declared.changes.Change.TheVariants.{Put, Drop}
+use Rattle.nf_base.specs.declared.changes.Change.TheVariants.{Drop, Put}
 use Rattle.nf_base.specs.declared.changes.RowKey.TheVariants as keys
 use Rattle.nf_base.specs.declared.rows.NodeRow.{NodeRow}
 use Rattle.nf_base.specs.declared.rows.Row.TheVariants.{Node}
@@ -22,7 +22,7 @@ use Rattle.nf_defs.specs.Keys.{node_key}
 use Rattle.nf_defs.specs.Puts.{by_order, dropped, key_cmp, put}
 use Rattle.nf_defs.specs.Tables.{Tables}
 use Rattle.nf_defs.specs.Tree.{climb, folder_of, is_under, node_row, parent_of, walk_of, with_node, without_under}
-use Rattle.nf_laws.proofs.Climbs.{those, under_climb}
+use Rattle.nf_laws.proofs.Climbs.{some_there, those, under_climb}
 use Rattle.nf_laws.proofs.Rows.{found_is}
 use Rattle.nf_laws.proofs.Walked.{walk_among}
 use Rattle.nf_words.specs.Changes.{cleared, dropped_for, dropped_under}
@@ -35,14 +35,8 @@ then_equal Less = refl
 then_equal Equal = refl
 then_equal Greater = refl
 
-less : (a b : ℕ) → a < b → key_cmp (a ∷ []) (b ∷ []) ≡ Less
-less a b is = then_equal (nat_cmp a b) ∙ sym (nat_cmp_is a b Less is)
-
-equal : (a b : ℕ) → a ≡ b → key_cmp (a ∷ []) (b ∷ []) ≡ Equal
-equal a b same = then_equal (nat_cmp a b) ∙ sym (nat_cmp_is a b Equal same)
-
-greater : (a b : ℕ) → b < a → key_cmp (a ∷ []) (b ∷ []) ≡ Greater
-greater a b is = then_equal (nat_cmp a b) ∙ sym (nat_cmp_is a b Greater is)
+compared : (a b : ℕ) (o : Ordering) → MatchOrdering o (a < b) (a ≡ b) (b < a) → key_cmp (a ∷ []) (b ∷ []) ≡ o
+compared a b o is = then_equal (nat_cmp a b) ∙ sym (nat_cmp_is a b o is)
 
 -- ---- rows that are put
 
@@ -51,7 +45,7 @@ pub put_new : (row : NodeRow) (old : List NodeRow) → All (λ (other : NodeRow)
 put_new row old below =
     put_last node_key row old
     (All-weaker (λ (other : NodeRow). other.id < row.id) (λ (other : NodeRow). key_cmp (node_key other) (node_key row) ≡ Less)
-    (λ other is. less other.id row.id is) old below)
+    (λ other is. compared other.id row.id Less is) old below)
 
 -- the rows have the numbers from the first on
 abbrev pub AreNumbered : ℕ → List NodeRow → Type 0
@@ -79,27 +73,21 @@ pub put_changed : (old : List NodeRow) (node : ℕ) (change : NodeRow → NodeRo
     → put node_key (change row) old ≡ with_node old node change
 put_changed [] node change row keeps rising is = absurd (none-some row is)
 put_changed (x ∷ old) node change row keeps rising is =
-    here (x.id == node) refl is
-    (λ is. put_changed old node change row keeps (λ i j d before within. rising (suc i) (suc j) d (omega arith) (omega arith)) is)
-  where
-    new : NodeRow
-    new = change row
-
-    here : (a : Bool) → (x.id == node) ≡ a → node_row (x ∷ old) node ≡ Some row
-        → (node_row old node ≡ Some row → put node_key new old ≡ with_node old node change)
-        → put node_key new (x ∷ old) ≡ with_node (x ∷ old) node change
-    here true e is rest =
-        let same : x ≡ row = same_Some x row (simp e at is) in
-        simp e (ap (λ (o : Ordering). by_order o (new ∷ x ∷ old) (new ∷ old) (x ∷ put node_key new old))
-        (equal new.id x.id (keeps ∙ sym (ap (λ (r : NodeRow). r.id) same)))
-        ∙ ap (λ (r : NodeRow). change r ∷ old) (sym same))
-    here false e is rest =
-        let found : node_row old node ≡ Some row = simp e at is in
-        let below : x.id < row.id =
-        (found_is (λ (r : NodeRow). x.id < r.id) (λ r. r.id == node) old row (λ k d within. rising 0 (suc k) d (omega arith) (omega arith)) found).1 in
-        simp e (ap (λ (o : Ordering). by_order o (new ∷ x ∷ old) (new ∷ old) (x ∷ put node_key new old))
-        (greater new.id x.id (omega (arith, keeps, below)))
-        ∙ ap (λ (all : List NodeRow). x ∷ all) (rest found))
+    let new : NodeRow = change row in
+    let choice : Ordering → List NodeRow = λ o. by_order o (new ∷ x ∷ old) (new ∷ old) (x ∷ put node_key new old) in
+    elim (cases_Bool (x.id == node)) [
+      | inl e ↦
+          (let same : x ≡ row = same_Some x row (simp e at is) in
+          simp e (ap choice (compared new.id x.id Equal (keeps ∙ sym (ap (λ (r : NodeRow). r.id) same)))
+          ∙ ap (λ (r : NodeRow). change r ∷ old) (sym same)))
+      | inr e ↦
+          (let found : node_row old node ≡ Some row = simp e at is in
+          let below = found_is (λ (r : NodeRow). x.id < r.id) (λ r. r.id == node) old row
+          (λ k d within. rising 0 (suc k) d (omega arith) (omega arith)) found in
+          simp e (ap choice (compared new.id x.id Greater (omega (arith, keeps, below.1)))
+          ∙ ap (λ (all : List NodeRow). x ∷ all) (put_changed old node change row keeps
+          (λ i j d before within. rising (suc i) (suc j) d (omega arith) (omega arith)) found)))
+    ]
 
 -- ---- rows that are dropped
 
@@ -113,14 +101,12 @@ all_left (x ∷ old) = ap (λ (all : List NodeRow). x ∷ all) (all_left old)
 
 both_dropped : (n : ℕ) (nodes : List ℕ) (old : List NodeRow) → left nodes (dropped node_key (n ∷ []) old) ≡ left (n ∷ nodes) old
 both_dropped n nodes [] = refl
-both_dropped n nodes (x ∷ old) = here (n == x.id) (list_any (λ node. node == x.id) nodes) refl refl (both_dropped n nodes old)
-  where
-    here : (a b : Bool) → (n == x.id) ≡ a → list_any (λ node. node == x.id) nodes ≡ b
-        → left nodes (dropped node_key (n ∷ []) old) ≡ left (n ∷ nodes) old
-        → left nodes (dropped node_key (n ∷ []) (x ∷ old)) ≡ left (n ∷ nodes) (x ∷ old)
-    here true b e f rest = simp e rest
-    here false true e f rest = simp (e, f) rest
-    here false false e f rest = simp (e, f) (ap (λ (all : List NodeRow). x ∷ all) rest)
+both_dropped n nodes (x ∷ old) =
+    let rest = both_dropped n nodes old in
+    elim (cases_Bool (n == x.id)) [
+      | inl e ↦ simp e rest
+      | inr e ↦ simp e (ap (λ (all : List NodeRow). if not (list_any (λ node. node == x.id) nodes) then x ∷ all else all) rest)
+    ]
 
 -- nodes that are dropped one by one
 drops : (t : Tables) (nodes : List ℕ) (rest : List Change)
@@ -148,14 +134,11 @@ drops_for t (Some top) rest sound = drops_under t top rest sound
 
 -- where a node is gone that was there
 pub fewer : (test : ℕ → Bool) (old : List NodeRow) (node : ℕ) → is_some (node_row old node) ≡ true → test node ≡ false → those test old ≢ old
-fewer test old node there fails = λ same. here (node_row old node) refl there same
-  where
-    here : (o : Option NodeRow) → node_row old node ≡ o → is_some o ≡ true → those test old ≡ old → ⊥
-    here None e there same = false≢true there
-    here (Some row) e there same =
-        let h = found_is (λ (row : NodeRow). test row.id ≡ true) (λ row. row.id == node) (those test old) row
-        (filter_passes (λ row. test row.id) old) (ap (λ (all : List NodeRow). node_row all node) same ∙ e) in
-        both_ways (test node) fails (subst (λ (n : ℕ). test n ≡ true) (eqb-true row.id node h.0) h.1)
+fewer test old node there fails = λ same.
+    let row = some_there (node_row old node) there in
+    let h = found_is (λ (row : NodeRow). test row.id ≡ true) (λ row. row.id == node) (those test old) row.0
+    (filter_passes (λ row. test row.id) old) (ap (λ (all : List NodeRow). node_row all node) same ∙ row.1) in
+    both_ways (test node) fails (subst (λ (n : ℕ). test n ≡ true) (eqb-true row.0.id node h.0) h.1)
 
 -- where a node's row is another
 pub another : (old made : List NodeRow) (node : ℕ) (row new : NodeRow) → node_row old node ≡ Some row → node_row made node ≡ Some new
@@ -165,7 +148,7 @@ another old made node row new was is other = λ same.
 
 -- ---- the nodes under one that is there are there
 
-under_there : (old : List NodeRow) (node top : ℕ) → is_some (node_row old top) ≡ true → is_under old node top ≡ true
+pub under_there : (old : List NodeRow) (node top : ℕ) → is_some (node_row old top) ≡ true → is_under old node top ≡ true
     → is_some (node_row old node) ≡ true
 under_there old node top there is = let c = under_climb old node top is in here c.0 c.2
   where

@@ -1,10 +1,11 @@
 -- What a PUT stored is what a later GET of the path is granted.
-use Rattle.std.proofs.Common.{ℕ, suc, ◌+◌, ◌==◌, ◌&&◌, ◌≡◌, Bool, true, false, not, List, [], ◌∷◌, ◌++◌, Option, None, Some, Result, Ok, length, take, option_map, if◌then◌else◌, refl, sym, ap, subst, ◌∙◌, arith, le_refl}
+use Rattle.std.proofs.Common.{ℕ, suc, ◌+◌, ◌==◌, ◌&&◌, ◌≡◌, true, false, not, List, [], ◌∷◌, ◌++◌, Option, None, Some, Result, Ok, length, take, option_map, refl, sym, ap, subst, ◌∙◌, arith, le_refl}
 use Rattle.std.specs.Prelude.{IsOk}
 use Rattle.std.specs.Option.{option_map_or}
 use Rattle.std.proofs.Math.Seq.{take-length}
-use Rattle.std.proofs.lemmas.Bool.{and_parts, eqb-true, false≢true, not-true}
+use Rattle.std.proofs.lemmas.Bool.{and_parts, cond_both, false≢true, not-true}
 use Rattle.nf_base.specs.Content.{content_eq}
+use Rattle.nf_base.specs.declared.changes.Change.{Change}
 use Rattle.nf_base.specs.declared.changes.Change.TheVariants.{Put}
 use Rattle.nf_base.specs.declared.content.Piece.{Piece}
 use Rattle.nf_base.specs.declared.rows.NodeKind.TheVariants.{File}
@@ -13,49 +14,43 @@ use Rattle.nf_base.specs.declared.rows.Place.TheVariants.{Inside}
 use Rattle.nf_base.specs.declared.rows.Row.TheVariants as rows
 use Rattle.nf_defs.specs.Access.{unshared}
 use Rattle.nf_defs.specs.Tables.{Tables}
-use Rattle.nf_defs.specs.Tree.{Leads, stays, leads_on, content_of, filled, found_from, is_folder, is_folder_kind, node_row}
-use Rattle.nf_defs.specs.declared.Found.{Found}
+use Rattle.nf_defs.specs.Tree.{Leads, filled, found_from, is_folder, is_folder_kind, leads_on, node_row, stays}
 use Rattle.nf_defs.specs.declared.Found.TheVariants.{At}
-use Rattle.nf_laws.proofs.Added.{kept_added, less_than_new, new_there}
-use Rattle.nf_laws.proofs.Contents.{content_decides}
-use Rattle.nf_laws.proofs.Paths.{leads_found}
+use Rattle.nf_laws.proofs.Added.{less_than_new, new_there}
+use Rattle.nf_laws.proofs.Climbs.{holds_some}
+use Rattle.nf_laws.proofs.Entries.{step_changed}
 use Rattle.nf_laws.proofs.OneRow.{row_itself}
-use Rattle.nf_laws.proofs.Replaced.{kept_replaced}
-use Rattle.nf_laws.proofs.Rows.{AreKept, folder_kept}
+use Rattle.nf_laws.proofs.Paths.{leads_found}
+use Rattle.nf_laws.proofs.Replaced.{content_decides, kept_replaced}
+use Rattle.nf_laws.proofs.Rows.{AreKept, folder_kept, kept_joined, row_id}
 use Rattle.nf_laws.proofs.Stays as states
 use Rattle.nf_laws.specs.Reads.{IsStored, LeadsToKey, PathStays, StoredIsRead}
-use Rattle.nf_words.proofs.Known.{Known, KnownNew, found_passes, known_change}
+use Rattle.nf_words.proofs.Known.{Known, KnownNew, known_change}
 use Rattle.nf_words.proofs.Orders.{none_of}
 use Rattle.nf_words.specs.Actors.{actor_of}
-use Rattle.nf_words.specs.Calls.{Call, asker_of, found, places_of, source_of, target_of}
-use Rattle.nf_words.specs.Changes.{allowed_of, changed, given, new_node, refilled, replaced, stamped}
+use Rattle.nf_words.specs.Calls.{Call, found}
+use Rattle.nf_words.specs.Changes.{allowed_of, changed, new_node, refilled, replaced, stamped}
 use Rattle.nf_words.specs.Endings.{blob_for, content_in, end_refusal, ends_ticket, stored_at, stores, unless_refused}
 use Rattle.nf_words.specs.History.{after, after_mark, replay}
 use Rattle.nf_words.specs.Laws.{Pass}
-use Rattle.nf_words.specs.Limits.{limit_rule, limited}
+use Rattle.nf_words.specs.Limits.{limit_rule}
 use Rattle.nf_words.specs.Callers.{not_you_rule, token_rule}
-use Rattle.nf_words.specs.Listing.{listing_of}
-use Rattle.nf_words.specs.Places.{exists_rule, forbidden_rule, lost, overwrite_rule, place_rule, taken, target_rule, unfit, unreplaced}
+use Rattle.nf_words.specs.Places.{exists_rule, forbidden_rule, overwrite_rule, place_rule, target_rule}
 use Rattle.nf_words.specs.Rules.{rules}
 use Rattle.nf_words.specs.Sound.{AreSound, IsSound}
-use Rattle.nf_words.specs.State.{State, without_ticket}
-use Rattle.nf_words.specs.Step.{answered_by, call_decision, call_of, decided, decision_of, step}
+use Rattle.nf_words.specs.State.{State}
+use Rattle.nf_words.specs.Step.{answered_by, call_decision, call_of, decision_of}
 use Rattle.nf_words.specs.declared.answer.Allowed.{Allowed}
 use Rattle.nf_words.specs.declared.answer.Allowed.TheVariants as allowed
 use Rattle.nf_words.specs.declared.answer.Denial.{Denial}
-use Rattle.nf_words.specs.declared.answer.Denial.TheVariants as denial
 use Rattle.nf_words.specs.declared.answer.Goal.TheVariants.{Serve}
 use Rattle.nf_words.specs.declared.answer.LockKey.{LockKey}
 use Rattle.nf_words.specs.declared.answer.LockKey.TheVariants.{Node, Slot}
 use Rattle.nf_words.specs.declared.answer.Reply.TheVariants.{Granted}
 use Rattle.nf_words.specs.declared.history.Entry.{Entry}
-use Rattle.nf_words.specs.declared.history.Event.{Event}
-use Rattle.nf_words.specs.declared.history.Event.TheVariants.{End}
 use Rattle.nf_words.specs.declared.history.Mark.{Mark}
 use Rattle.nf_words.specs.declared.history.Outcome.TheVariants.{Body}
-use Rattle.nf_words.specs.declared.request.Places.{Places}
 use Rattle.nf_words.specs.declared.request.Spot.{Spot}
-use Rattle.nf_words.specs.declared.request.Wanted.{Wanted}
 use Rattle.nf_words.specs.declared.request.Wanted.TheVariants.{Get}
 
 -- ---- paths that stay
@@ -66,7 +61,7 @@ leads_kept : (before behind : List NodeRow) (from : ℕ) (names : List (List ℕ
 leads_kept before behind _ _ _ kept (stays at) = stays at
 leads_kept before behind _ _ _ kept (leads_on at name names child node folds there place named led) =
     let k = kept child.id child there in
-    let id : k.row.id ≡ child.id = eqb-true k.row.id child.id (found_passes (λ (row : NodeRow). row.id == child.id) behind k.row k.there) in
+    let id : k.row.id ≡ child.id = row_id behind child.id k.row k.there in
     leads_on at name names k.row node (folder_kept before behind at kept folds).0
     (subst (λ (n : ℕ). node_row behind n ≡ Some k.row) (sym id) k.there) (k.place ∙ place) (k.name ∙ named)
     (subst (λ (n : ℕ). Leads behind n names node) (sym id) (leads_kept before behind child.id names node kept led))
@@ -95,9 +90,10 @@ leads_stay before behind _ _ _ (leads_on at name names child node folds there pl
 
 -- a path leads to a file of that content
 record HasFile (rows : List NodeRow) (root : ℕ) (path : List (List ℕ)) (content : List Piece) : Type 0 where
+  node : ℕ
+  led : Leads rows root path node
   row : NodeRow
-  led : Leads rows root path row.id
-  there : node_row rows row.id ≡ Some row
+  there : node_row rows node ≡ Some row
   file : is_folder_kind row.kind ≡ false
   filled : row.content ≡ content
 
@@ -105,33 +101,26 @@ over_file : (t : Tables) (now node root : ℕ) (path : List (List ℕ)) (content
     → node_row t.nodes node ≡ Some old → is_folder_kind old.kind ≡ false → Leads t.nodes root path node
     → HasFile (changed t now (allowed.StoreOver node content blob)).nodes root path content
 over_file t now node root path content blob old there file led =
-    subst (λ (o : Option NodeRow). HasFile (stamped t after now (refilled o now content)).nodes root path content) (sym there)
-    (here (content_eq old.content content && old.changed == now) refl)
-  where
-    after : Tables
-    after = replaced t now node content blob
-
-    id : old.id ≡ node
-    id = eqb-true old.id node (found_passes (λ (row : NodeRow). row.id == node) t.nodes old there)
-
-    here : (a : Bool) → (content_eq old.content content && old.changed == now) ≡ a
-        → HasFile (stamped t after now (if a then [] else Put (rows.Node (filled content now old)) ∷ [])).nodes root path content
-    here true same = record {
+    let after : Tables = replaced t now node content blob in
+    let HasIt : List Change → Type 0 = λ changes. HasFile (stamped t after now changes).nodes root path content in
+    subst (λ (o : Option NodeRow). HasIt (refilled o now content)) (sym there)
+    (cond_both (content_eq old.content content && old.changed == now) [] (Put (rows.Node (filled content now old)) ∷ []) HasIt
+    (λ same. record {
+      node = node;
+      led = led;
       row = old;
-      led = subst (λ (n : ℕ). Leads t.nodes root path n) (sym id) led;
-      there = subst (λ (n : ℕ). node_row t.nodes n ≡ Some old) (sym id) there;
+      there = there;
       file = file;
       filled = (content_decides old.content content).0 (and_parts (content_eq old.content content) (old.changed == now) same).0;
-    }
-    here false other = record {
+    })
+    (λ other. record {
+      node = node;
+      led = leads_kept t.nodes after.nodes root path node (kept_replaced t.nodes now node content) led;
       row = filled content now old;
-      led = subst (λ (n : ℕ). Leads after.nodes root path n) (sym id)
-          (leads_kept t.nodes after.nodes root path node (kept_replaced t.nodes now node content) led);
-      there = subst (λ (n : ℕ). node_row after.nodes n ≡ Some (filled content now old)) (sym id)
-          (row_itself t.nodes node (filled content now) (λ row. refl) ∙ ap (option_map (filled content now)) there);
+      there = row_itself t.nodes node (filled content now) (λ row. refl) ∙ ap (option_map (filled content now)) there;
       file = file;
       filled = refl;
-    }
+    }))
 
 new_file : (t : Tables) (now folder root : ℕ) (name : List ℕ) (front : List (List ℕ)) (content : List Piece) (blob : Option ℕ) → AreSound t
     → KnownNew t now (new_node t now folder name File content) blob → Leads t.nodes root front folder
@@ -139,12 +128,13 @@ new_file : (t : Tables) (now folder root : ℕ) (name : List ℕ) (front : List 
 new_file t now folder root name front content blob sound known led =
     let row = new_node t now folder name File content in
     let behind : List NodeRow = t.nodes ++ row ∷ [] in
-    let kept = kept_added t.nodes row in
+    let kept = kept_joined t.nodes (row ∷ []) in
     let there = new_there t.nodes row (less_than_new t now row blob sound known) in
     let place : Inside folder ≡ Inside known.folder = ap (λ (r : NodeRow). r.place) known.is_new in
     let same : known.folder ≡ folder = cc in
     let folds : is_folder t.nodes folder ≡ true = subst (λ (n : ℕ). is_folder t.nodes n ≡ true) same known.in_folder in
     record {
+      node = row.id;
       row = row;
       led = leads_more behind root front folder row (leads_kept t.nodes behind root front folder kept led)
           (folder_kept t.nodes behind folder kept folds).0 there refl;
@@ -153,21 +143,13 @@ new_file t now folder root name front content blob sound known led =
       filled = refl;
     }
 
-file_there : (rows : List NodeRow) (node : ℕ) → option_map_or (λ row. not (is_folder_kind row.kind)) (node_row rows node) false ≡ true
-    → (row : NodeRow) × (node_row rows node ≡ Some row) × (is_folder_kind row.kind ≡ false)
-file_there rows node is = here (node_row rows node) refl is
-  where
-    here : (o : Option NodeRow) → node_row rows node ≡ o → option_map_or (λ row. not (is_folder_kind row.kind)) o false ≡ true
-        → (row : NodeRow) × (node_row rows node ≡ Some row) × (is_folder_kind row.kind ≡ false)
-    here None e is = absurd (false≢true is)
-    here (Some row) e is = (row, e, not-true (is_folder_kind row.kind) is)
-
 stored_file : (t : Tables) (now : ℕ) (who : Option ℕ) (key : LockKey) (digest : List ℕ) (size root : ℕ) (path : List (List ℕ)) → AreSound t
     → Known t now who (stored_at t now key digest size) → LeadsToKey t.nodes root path key
     → HasFile (changed t now (stored_at t now key digest size)).nodes root path (content_in (blob_for t.meta.next_blob size) digest size)
 stored_file t now who (Node node) digest size root path sound known led =
-    let file = file_there t.nodes node known.brought.file in
-    over_file t now node root path (content_in (blob_for t.meta.next_blob size) digest size) (blob_for t.meta.next_blob size) file.0 file.1 file.2 led
+    let file = holds_some (λ row. not (is_folder_kind row.kind)) (node_row t.nodes node) known.brought.file in
+    over_file t now node root path (content_in (blob_for t.meta.next_blob size) digest size) (blob_for t.meta.next_blob size) file.0 file.1
+    (not-true (is_folder_kind file.0.kind) file.2) led
 stored_file t now who (Slot folder name) digest size root path sound known (front, parts, led) =
     let blob = blob_for t.meta.next_blob size in
     let content = content_in blob digest size in
@@ -183,7 +165,6 @@ entry_file : (n : ℕ) (s : State) (e : Entry) (root : ℕ) (path : List (List �
 entry_file n s e root path content is =
     let t = s.tables in
     let act = stored_at t e.moment is.key is.digest is.size in
-    let event : Event = End (Body is.digest is.size) in
     let goes : decision_of s e.seat e.moment e.event ≡ stores t e.moment is.key is.digest is.size =
     ap (decision_of s e.seat e.moment) is.brought ∙ ap (ends_ticket t e.moment (Body is.digest is.size)) is.granted in
     let none : stores t e.moment is.key is.digest is.size ≡ Ok act =
@@ -191,63 +172,25 @@ entry_file n s e root path content is =
     let known = known_change s e.seat e.moment e.event act is.sound is.may.asked (goes ∙ none) in
     let becomes : (after s e).tables ≡ changed t e.moment act =
     ap (λ (m : Mark). (after_mark s e m).tables) is.answered
-    ∙ ap (λ (ev : Event). (step s e.seat e.moment ev).tables) is.brought
-    ∙ ap (λ (d : Result Allowed Denial). (decided (without_ticket s e.seat) e.seat e.moment d).tables)
-    (sym (ap (decision_of s e.seat e.moment) is.brought) ∙ goes ∙ none) in
+    ∙ step_changed s e.seat e.moment e.event act (goes ∙ none) in
     let file = stored_file t e.moment (actor_of s e.seat e.event) is.key is.digest is.size root path is.sound.rows known is.led in
     subst (λ (c : List Piece). HasFile (after s e).tables.nodes root path c) (sym is.body)
     (subst (λ (u : Tables). HasFile u.nodes root path (content_in (blob_for t.meta.next_blob is.size) is.digest is.size)) (sym becomes) file)
 
 -- ---- what is read
 
--- what the rules of paths and limits, and what is given, say of a GET whose path leads to a node that is no folder
-record Grants (t : Tables) (now user : ℕ) (wanted : Wanted) (places : Places) (node : ℕ) (content : List Piece) : Type 0 where
-  led : lost places ≡ None
-  free : taken t.nodes wanted places ≡ None
-  fit : option_map denial.BadTarget (unfit t.nodes wanted places) ≡ None
-  new : unreplaced wanted places ≡ None
-  few : option_map denial.Limit (limited t wanted places) ≡ None
-  sent : given t now user wanted places ≡ allowed.Get node content
-
-get_grants : (t : Tables) (now user : ℕ) (spot : Spot) (node : ℕ) (row : NodeRow) → node_row t.nodes node ≡ Some row
-    → is_folder_kind row.kind ≡ false
-    → Grants t now user (Get spot) (record { source = Some (At node); target = None }) node row.content
-get_grants t now user spot node row there file =
-    let folder : is_folder t.nodes node ≡ false =
-    ap (λ (o : Option NodeRow). option_map_or (λ row. is_folder_kind row.kind) o false) there ∙ file in
-    record {
-      led = refl;
-      free = refl;
-      fit = refl;
-      new = refl;
-      few = refl;
-      sent = ap (λ (a : Bool). if a then allowed.List (listing_of t node) else allowed.Get node (content_of t.nodes node)) folder
-          ∙ ap (λ (o : Option NodeRow). allowed.Get node (option_map_or (λ row. row.content) o [])) there;
-    }
-
-call_grants : (call : Call) (spot : Spot) (node : ℕ) (row : NodeRow) → call.request.wanted ≡ Get spot → found call spot ≡ At node
+-- a call of a GET that the rules of who asks and of names pass is granted the content of the file to which its path leads
+granted : (call : Call) (spot : Spot) (node : ℕ) (row : NodeRow) → call.request.wanted ≡ Get spot → found call spot ≡ At node
     → node_row call.state.tables.nodes node ≡ Some row → is_folder_kind row.kind ≡ false
-    → Grants call.state.tables call.now (asker_of call) call.request.wanted (places_of call) node row.content
-call_grants call spot node row wanted at there file =
-    let t = call.state.tables in
-    let places : places_of call ≡ record { source = Some (At node); target = None } =
-    ap (λ (w : Wanted). record { source = option_map (found call) (source_of w); target = option_map (found call) (target_of w) }) wanted
-    ∙ ap (λ (f : Found). record { source = Some f; target = None }) at in
-    subst (λ (p : Places). Grants t call.now (asker_of call) call.request.wanted p node row.content) (sym places)
-    (subst (λ (w : Wanted). Grants t call.now (asker_of call) w (record { source = Some (At node); target = None }) node row.content) (sym wanted)
-    (get_grants t call.now (asker_of call) spot node row there file))
-
--- so a call that the rules of who asks and of names pass is granted the content
-granted : (call : Call) (node : ℕ) (content : List Piece)
-    → Grants call.state.tables call.now (asker_of call) call.request.wanted (places_of call) node content
     → Pass (token_rule ∷ not_you_rule ∷ forbidden_rule ∷ []) unshared call
-    → answered_by (call_decision call) ≡ Ok (Granted (Serve content))
+    → answered_by (call_decision call) ≡ Ok (Granted (Serve row.content))
 unfolding place_rule exists_rule target_rule overwrite_rule limit_rule
-granted call node content grants asked =
+granted call spot node row wanted at there file asked =
+    let folder : is_folder call.state.tables.nodes node ≡ false = rw there file in
     let pass : Pass rules unshared call =
-    (asked.0, (asked.1.0, (asked.1.1.0, (grants.led, (grants.free, (grants.fit, (grants.new, (grants.few, tt)))))))) in
+    (asked.0, (asked.1.0, (asked.1.1.0, (rw (wanted, at) refl, (rw wanted refl, (rw wanted refl, (rw wanted refl, (rw wanted refl, tt)))))))) in
     ap (λ (refusal : Option Denial). answered_by (unless_refused refusal (allowed_of call))) (none_of rules unshared call pass)
-    ∙ ap (λ (act : Allowed). answered_by (Ok act)) grants.sent
+    ∙ rw (wanted, at, folder, there) refl
 
 pub stored_is_read : StoredIsRead
 stored_is_read n s e es root path content seat now words request is legal same reads =
@@ -256,12 +199,12 @@ stored_is_read n s e es root path content seat now words request is legal same r
     let call = call_of last seat now words request in
     let sound : IsSound last = states.stays (n + 1) first es (states.sound_after n s e is.sound is.may) legal in
     let file = entry_file n s e root path content is in
-    let led = leads_stay first.tables.nodes last.tables.nodes root path file.row.id file.led same in
-    let there : node_row last.tables.nodes file.row.id ≡ Some file.row =
-    same (length path) file.row.id (le_refl _)
-    (subst (λ (names : List (List ℕ)). Leads first.tables.nodes root names file.row.id) (sym (take-length path)) file.led)
+    let led = leads_stay first.tables.nodes last.tables.nodes root path file.node file.led same in
+    let there : node_row last.tables.nodes file.node ≡ Some file.row =
+    same (length path) file.node (le_refl _)
+    (subst (λ (names : List (List ℕ)). Leads first.tables.nodes root names file.node) (sym (take-length path)) file.led)
     ∙ file.there in
-    let at : found call reads.spot ≡ At file.row.id =
-    (λ i. found_from last.tables.nodes 0 (reads.from i) (reads.of_path i)) ∙ leads_found last.tables 0 root path file.row.id sound.rows led in
-    granted call file.row.id file.row.content (call_grants call reads.spot file.row.id file.row reads.wanted at there file.file) reads.asked
-    ∙ ap (λ (c : List Piece). answered_by (Ok (allowed.Get file.row.id c))) file.filled
+    let at : found call reads.spot ≡ At file.node =
+    (λ i. found_from last.tables.nodes 0 (reads.from i) (reads.of_path i)) ∙ leads_found last.tables 0 root path file.node sound.rows led in
+    granted call reads.spot file.node file.row reads.wanted at there file.file reads.asked
+    ∙ ap (λ (c : List Piece). answered_by (Ok (allowed.Get file.node c))) file.filled

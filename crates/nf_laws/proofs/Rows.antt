@@ -1,20 +1,22 @@
 -- Rows that may change while each node keeps its owner, place, name and kind.
-use Rattle.std.proofs.Common.{ℕ, suc, zero, ◌==◌, ◌≡◌, ◌≤◌, Bool, true, false, List, [], ◌∷◌, Option, None, Some, find, option_map, refl, sym, ap, subst, ◌∙◌, arith, le_refl}
+use Rattle.std.proofs.Common.{ℕ, ◌==◌, ◌≡◌, ◌≢◌, ◌≤◌, Bool, true, false, List, [], ◌∷◌, ◌++◌, Option, None, Some, find, length, option_map, refl, sym, ap, subst, ◌∙◌, arith, le_refl}
 use Rattle.std.specs.List.{All}
-use Rattle.std.specs.Option.{IfSome, option_and_then, option_map_or}
-use Rattle.std.proofs.lemmas.Bool.{false≢true, eqb-true}
+use Rattle.std.specs.Option.{IfSome, option_and_then, option_map_or, option_or}
+use Rattle.std.proofs.lemmas.Bool.{cond_both, eqb-true, ne_eqb}
 use Rattle.std.proofs.lemmas.List.Elements.{All-cons, All-head, All-nil, All-tail, All-weaker}
-use Rattle.std.proofs.lemmas.Option.{none-some, same_Some}
+use Rattle.std.proofs.lemmas.List.Folds.{find-append}
+use Rattle.std.proofs.lemmas.Option.{none-some, option_and_then_some, same_Some}
 use Rattle.nf_base.specs.declared.changes.Change.{Change}
 use Rattle.nf_base.specs.declared.content.Piece.{Piece}
 use Rattle.nf_base.specs.declared.rows.MetaRow.{MetaRow}
 use Rattle.nf_base.specs.declared.rows.NodeRow.{NodeRow}
 use Rattle.nf_base.specs.declared.rows.Place.{Place}
-use Rattle.nf_base.specs.declared.rows.Place.TheVariants.{Root, Inside, Trash}
+use Rattle.nf_base.specs.declared.rows.Place.TheVariants.{Inside, Root, Trash}
 use Rattle.nf_base.specs.declared.rows.UserRow.{UserRow}
 use Rattle.nf_defs.specs.People.{user_row}
 use Rattle.nf_defs.specs.Tables.{Tables}
-use Rattle.nf_defs.specs.Tree.{climb, folder_of, is_folder, is_folder_kind, is_place_in, node_row, owner_of, parent_of}
+use Rattle.nf_defs.specs.Tree.{climb, content_of, folder_of, is_folder, is_folder_kind, node_row, owner_of, parent_of}
+use Rattle.nf_laws.proofs.Climbs.{climb_same, holds_some}
 use Rattle.nf_words.proofs.Known.{IsOfBody, found_has, found_passes}
 use Rattle.nf_words.specs.Changes.{blob_after, stamped}
 use Rattle.nf_words.specs.Sound.{AreCounters, AreSound, HasRoot, IsNodeSound, IsPieceSound, IsPlaceSound, root_of_user}
@@ -27,6 +29,23 @@ pub found_is : {X : Type 0} (P : X → Type 0) (test : X → Bool) (xs : List X)
 found_is {X = X} P test xs found all is =
     (found_passes test xs found is, subst (λ (o : Option X). IfSome o P) is (found_has P test xs all))
 
+-- a node's row has its number
+pub row_id : (rows : List NodeRow) (node : ℕ) (row : NodeRow) → node_row rows node ≡ Some row → row.id ≡ node
+row_id rows node row is = eqb-true row.id node (found_passes (λ row. row.id == node) rows row is)
+
+-- and is sound
+pub row_is : (t : Tables) (node : ℕ) (row : NodeRow) → AreSound t → node_row t.nodes node ≡ Some row → (row.id ≡ node) × IsNodeSound t row
+row_is t node row sound is =
+    (row_id t.nodes node row is, (found_is (IsNodeSound t) (λ row. row.id == node) t.nodes row sound.nodes is).1)
+
+-- what all pieces of rows have, those of a node have
+pub content_has : (P : Piece → Type 0) (rows : List NodeRow) (node : ℕ) → All (λ (row : NodeRow). All P row.content) rows → All P (content_of rows node)
+content_has P rows node all = here (node_row rows node) (found_has (λ (row : NodeRow). All P row.content) (λ row. row.id == node) rows all)
+  where
+    here : (o : Option NodeRow) → IfSome o (λ (row : NodeRow). All P row.content) → All P (option_map_or (λ row. row.content) o [])
+    here None all = All-nil P
+    here (Some row) all = all
+
 -- ---- look-ups that find nothing
 
 pub finds_none : {X : Type 0} (test : X → Bool) (xs : List X) → All (λ x. test x ≡ false) xs → find test xs ≡ None
@@ -35,28 +54,31 @@ finds_none test (x ∷ xs) fail = simp (All-head (λ x. test x ≡ false) x xs f
 
 pub each_fails : {X : Type 0} (test : X → Bool) (xs : List X) → find test xs ≡ None → All (λ x. test x ≡ false) xs
 each_fails test [] none = All-nil (λ x. test x ≡ false)
-each_fails {X = X} test (x ∷ xs) none = here (test x) refl none (λ none. each_fails test xs none)
-  where
-    here : (a : Bool) → test x ≡ a → find test (x ∷ xs) ≡ None → (find test xs ≡ None → All (λ x. test x ≡ false) xs)
-        → All (λ x. test x ≡ false) (x ∷ xs)
-    here true e none rest = absurd (none-some x (sym (simp e at none)))
-    here false e none rest = All-cons (λ x. test x ≡ false) x xs e (rest (simp e at none))
+each_fails {X = X} test (x ∷ xs) none =
+    cond_both (test x) (Some x) (find test xs) (λ (o : Option X). o ≡ None → All (λ x. test x ≡ false) (x ∷ xs))
+    (λ e none. absurd (none-some x (sym none))) (λ e none. All-cons (λ x. test x ≡ false) x xs e (each_fails test xs none)) none
 
 pub no_value : {X : Type 0} (f : X → ℕ) (o : Option X) → option_map f o ≡ None → o ≡ None
 no_value f None none = refl
 no_value f (Some x) none = absurd (none-some (f x) (sym none))
+
+pub or_none : {X : Type 0} (o : Option X) → option_or o None ≡ o
+or_none None = refl
+or_none (Some x) = refl
+
+-- a node's row is the same with rows of other nodes
+pub row_joined : (rows more : List NodeRow) (node : ℕ) → All (λ (row : NodeRow). row.id ≢ node) more
+    → node_row (rows ++ more) node ≡ node_row rows node
+row_joined rows more node others =
+    let none : node_row more node ≡ None = finds_none (λ row. row.id == node) more (λ k d within. ne_eqb _ node (others k d within)) in
+    find-append (λ row. row.id == node) rows more ∙ ap (option_or (node_row rows node)) none ∙ or_none (node_row rows node)
 
 -- ---- what is there
 
 -- the row of a folder
 pub folder_there : (rows : List NodeRow) (node : ℕ) → is_folder rows node ≡ true
     → (row : NodeRow) × (node_row rows node ≡ Some row) × (is_folder_kind row.kind ≡ true)
-folder_there rows node is = here (node_row rows node) refl is
-  where
-    here : (o : Option NodeRow) → node_row rows node ≡ o → option_map_or (λ row. is_folder_kind row.kind) o false ≡ true
-        → (row : NodeRow) × (node_row rows node ≡ Some row) × (is_folder_kind row.kind ≡ true)
-    here None e is = absurd (false≢true is)
-    here (Some row) e is = (row, e, is)
+folder_there rows node is = holds_some (λ row. is_folder_kind row.kind) (node_row rows node) is
 
 -- no folder is above a user's root
 pub none_above : (t : Tables) (user : ℕ) → AreSound t → parent_of t.nodes (root_of_user t user) ≡ None
@@ -65,8 +87,7 @@ none_above t user sound = of_user (user_row t.users user) refl
     of_no_user : (o : Option NodeRow) → node_row t.nodes 0 ≡ o → option_and_then (λ row. folder_of row.place) o ≡ None
     of_no_user None e = refl
     of_no_user (Some row) e =
-        let h = found_is (IsNodeSound t) (λ row. row.id == 0) t.nodes row sound.nodes e in
-        absurd (omega (arith, h.1.some, eqb-true row.id 0 h.0))
+        let h = row_is t 0 row sound e in absurd (omega (arith, h.0, h.1.some))
 
     of_user : (o : Option UserRow) → user_row t.users user ≡ o → parent_of t.nodes (option_map_or (λ row. row.root) o 0) ≡ None
     of_user None e = of_no_user (node_row t.nodes 0) refl
@@ -81,26 +102,25 @@ inside_folder Root parent is = absurd (none-some parent is)
 inside_folder (Inside folder) parent is = ap Inside (same_Some folder parent is)
 inside_folder Trash parent is = absurd (none-some parent is)
 
-pub place_in : (folder : ℕ) (place : Place) → is_place_in folder place ≡ true → place ≡ Inside folder
-place_in folder Root is = absurd (false≢true is)
-place_in folder (Inside parent) is = ap Inside (eqb-true parent folder is)
-place_in folder Trash is = absurd (false≢true is)
-
 -- its folder is there
 pub child_folder : (t : Tables) (row : NodeRow) (place : Place) (folder : ℕ) → IsPlaceSound t row place → place ≡ Inside folder
     → is_folder t.nodes folder ≡ true
-child_folder t row Root folder sound is = absurd (cc)
-child_folder t row (Inside parent) folder sound is =
-    let e : parent ≡ folder = cc in subst (λ (n : ℕ). is_folder t.nodes n ≡ true) e sound.0
-child_folder t row Trash folder sound is = absurd sound
+child_folder t row place folder sound is = (subst (IsPlaceSound t row) is sound).0
 
 -- and has its owner
 pub child_owner : (t : Tables) (row : NodeRow) (place : Place) (folder : ℕ) → IsPlaceSound t row place → place ≡ Inside folder
     → owner_of t.nodes folder ≡ row.owner
-child_owner t row Root folder sound is = absurd (cc)
-child_owner t row (Inside parent) folder sound is =
-    let e : parent ≡ folder = cc in subst (λ (n : ℕ). owner_of t.nodes n ≡ row.owner) e sound.1
-child_owner t row Trash folder sound is = absurd sound
+child_owner t row place folder sound is = (subst (IsPlaceSound t row) is sound).1
+
+-- so what a node that is there is in is a folder of its owner's
+pub parent_there : (t : Tables) (node parent : ℕ) (row : NodeRow) → AreSound t → node_row t.nodes node ≡ Some row
+    → parent_of t.nodes node ≡ Some parent
+    → (folder : NodeRow) × (node_row t.nodes parent ≡ Some folder) × (is_folder_kind folder.kind ≡ true) × (folder.owner ≡ row.owner)
+parent_there t node parent row sound there above =
+    let place = inside_folder row.place parent (rw there at above) in
+    let h = (row_is t node row sound there).1.place in
+    let folder = folder_there t.nodes parent (child_folder t row row.place parent h place) in
+    (folder.0, folder.1, folder.2, rw folder.1 at (child_owner t row row.place parent h place))
 
 -- ---- what stays where each node keeps its owner, place, name and kind
 
@@ -120,38 +140,31 @@ pub folder_kept : (rows others : List NodeRow) (node : ℕ) → AreKept rows oth
     → (is_folder others node ≡ true) × (owner_of others node ≡ owner_of rows node)
 folder_kept rows others node kept is =
     let h = folder_there rows node is in
-    let k = kept node h.0 h.1 in (
-      ap (λ (o : Option NodeRow). option_map_or (λ row. is_folder_kind row.kind) o false) k.there ∙ ap is_folder_kind k.kind ∙ h.2,
-      ap (λ (o : Option NodeRow). option_map_or (λ row. row.owner) o 0) k.there ∙ k.owner
-          ∙ sym (ap (λ (o : Option NodeRow). option_map_or (λ row. row.owner) o 0) h.1),
-    )
+    let k = kept node h.0 h.1 in
+    (rw k.there (ap is_folder_kind k.kind ∙ h.2), rw (k.there, h.1) k.owner)
 
 parent_kept : (rows others : List NodeRow) (node parent : ℕ) → AreKept rows others
     → parent_of rows node ≡ Some parent → parent_of others node ≡ Some parent
-parent_kept rows others node parent kept is = here (node_row rows node) refl is
-  where
-    here : (o : Option NodeRow) → node_row rows node ≡ o → option_and_then (λ row. folder_of row.place) o ≡ Some parent
-        → parent_of others node ≡ Some parent
-    here None e is = absurd (none-some parent is)
-    here (Some row) e is =
-        let k = kept node row e in
-        ap (option_and_then (λ row. folder_of row.place)) k.there ∙ ap folder_of k.place ∙ is
+parent_kept rows others node parent kept is =
+    option_and_then_some (λ row. folder_of row.place) (node_row rows node) parent is (λ row there placed.
+    let k = kept node row there in rw k.there (ap folder_of k.place ∙ placed))
 
 pub climb_kept : (k : ℕ) (rows others : List NodeRow) (node top : ℕ) → AreKept rows others
     → climb rows k node ≡ Some top → climb others k node ≡ Some top
-climb_kept zero rows others node top kept is = is
-climb_kept (suc k) rows others node top kept is =
-    here (parent_of rows node) refl is (λ parent is. climb_kept k rows others parent top kept is)
-  where
-    here : (o : Option ℕ) → parent_of rows node ≡ o → option_and_then (climb rows k) o ≡ Some top
-        → ((parent : ℕ) → climb rows k parent ≡ Some top → climb others k parent ≡ Some top) → climb others (suc k) node ≡ Some top
-    here None e is rest = absurd (none-some top is)
-    here (Some parent) e is rest =
-        ap (option_and_then (climb others k)) (parent_kept rows others node parent kept e) ∙ rest parent is
+climb_kept k rows others node top kept is =
+    climb_same rows others (λ k node. climb rows k node ≡ Some top) (λ k node parent is above. rw above at is)
+    (λ k node is. option_and_then_some (climb rows k) (parent_of rows node) top is
+    (λ parent above rest. parent_kept rows others node parent kept above ∙ sym above)) k node is ∙ is
 
--- all rows keep these of themselves
-pub kept_same : (rows : List NodeRow) → AreKept rows rows
-kept_same rows node old is = record { row = old; there = is; owner = refl; place = refl; name = refl; kind = refl }
+-- a row that is there as it was
+pub kept_row : (rows : List NodeRow) (node : ℕ) (old : NodeRow) → node_row rows node ≡ Some old → Kept rows node old
+kept_row rows node old is = record { row = old; there = is; owner = refl; place = refl; name = refl; kind = refl }
+
+-- with more rows those before are kept
+pub kept_joined : (rows more : List NodeRow) → AreKept rows (rows ++ more)
+kept_joined rows more node old is =
+    kept_row (rows ++ more) node old
+    (find-append (λ row. row.id == node) rows more ∙ ap (λ (o : Option NodeRow). option_or o (node_row more node)) is)
 
 -- the tables with other rows and counters
 abbrev pub with_nodes : Tables → MetaRow → List NodeRow → Tables
@@ -171,33 +184,65 @@ pieces_kept t made pieces grows =
     All-weaker (IsPieceSound t) (IsPieceSound made)
     (λ piece sound. record { some = sound.some; few = sound.few; first = sound.first; given = omega (arith, sound.given) }) pieces
 
-pub node_kept : (t : Tables) (meta : MetaRow) (others : List NodeRow) (row : NodeRow) → AreKept t.nodes others
-    → t.meta.next_node ≤ meta.next_node → t.meta.next_blob ≤ meta.next_blob → t.meta.last ≤ meta.last
-    → IsNodeSound t row → IsNodeSound (with_nodes t meta others) row
-node_kept t meta others row kept nodes blobs later sound = record {
+-- a node leads to its owner's root
+pub record IsRooted (t : Tables) (node : ℕ) (row : NodeRow) : Type 0 where
+  pub steps : ℕ
+  pub shallow : steps ≤ 64
+  pub climbs : climb t.nodes steps node ≡ Some (root_of_user t row.owner)
+
+-- a sound row stays so in other tables and in another place, where it is rooted in them
+pub node_still : (t made : Tables) (row : NodeRow) (place : Place) (name : List ℕ) → t.meta.next_node ≤ made.meta.next_node
+    → t.meta.next_blob ≤ made.meta.next_blob → t.meta.last ≤ made.meta.last → IsNodeSound t row
+    → IsPlaceSound made (record row { place = place; name = name }) place → IsRooted made row.id row
+    → IsNodeSound made (record row { place = place; name = name })
+node_still t made row place name nodes blobs later sound in_place rooted = record {
   some = sound.some;
   given = omega (arith, sound.given);
   changed = omega (arith, sound.changed);
-  pieces = pieces_kept t (with_nodes t meta others) row.content blobs sound.pieces;
+  pieces = pieces_kept t made row.content blobs sound.pieces;
   folder = sound.folder;
-  place = place_kept t meta others row row.place kept sound.place;
-  steps = sound.steps;
-  shallow = sound.shallow;
-  present = climb_kept sound.steps t.nodes others row.id (root_of_user t row.owner) kept sound.present;
+  place = in_place;
+  steps = rooted.steps;
+  shallow = rooted.shallow;
+  present = rooted.climbs;
+}
+
+pub node_kept : (t : Tables) (meta : MetaRow) (others : List NodeRow) (row : NodeRow) → AreKept t.nodes others
+    → t.meta.next_node ≤ meta.next_node → t.meta.next_blob ≤ meta.next_blob → t.meta.last ≤ meta.last
+    → IsNodeSound t row → IsNodeSound (with_nodes t meta others) row
+node_kept t meta others row kept nodes blobs later sound =
+    node_still t (with_nodes t meta others) row row.place row.name nodes blobs later sound (place_kept t meta others row row.place kept sound.place)
+    (record {
+      steps = sound.steps;
+      shallow = sound.shallow;
+      climbs = climb_kept sound.steps t.nodes others row.id (root_of_user t row.owner) kept sound.present;
+    })
+
+-- so does a root, where it is there
+pub root_still : (t made : Tables) (user : UserRow) (root : HasRoot t user) → Kept made.nodes user.root root.row → HasRoot made user
+root_still t made user root k = record {
+  row = k.row;
+  there = k.there;
+  place = k.place ∙ root.place;
+  folder = ap is_folder_kind k.kind ∙ root.folder;
+  owner = k.owner ∙ root.owner;
+  name = k.name ∙ root.name;
 }
 
 pub root_kept : (t : Tables) (meta : MetaRow) (others : List NodeRow) → AreKept t.nodes others
     → (user : UserRow) → HasRoot t user → HasRoot (with_nodes t meta others) user
-root_kept t meta others kept user root =
-    let k = kept user.root root.row root.there in
-    record {
-      row = k.row;
-      there = k.there;
-      place = k.place ∙ root.place;
-      folder = ap is_folder_kind k.kind ∙ root.folder;
-      owner = k.owner ∙ root.owner;
-      name = k.name ∙ root.name;
-    }
+root_kept t meta others kept user root = root_still t (with_nodes t meta others) user root (kept user.root root.row root.there)
+
+-- no counter falls below 1
+pub counters_up : (meta : MetaRow) (nodes blobs last : ℕ) → AreCounters meta → meta.next_node ≤ nodes → meta.next_blob ≤ blobs
+    → AreCounters (record meta { next_node = nodes; next_blob = blobs; last = last })
+counters_up meta nodes blobs last counters more_nodes more_blobs = record {
+  users = counters.users;
+  groups = counters.groups;
+  nodes = omega (arith, counters.nodes);
+  shares = counters.shares;
+  blobs = omega (arith, counters.blobs);
+}
 
 -- the piece of a body is sound, where its blob's number was given
 pub body_sound : (t : Tables) (meta : MetaRow) (others : List NodeRow) (blob : Option ℕ) (content : List Piece)
@@ -226,23 +271,22 @@ pub stamped_has : (P : Tables → Type 0) (t made : Tables) (now : ℕ) (changes
 stamped_has P t made now [] same stamps = same
 stamped_has P t made now (change ∷ changes) same stamps = stamps
 
+-- where a row differs the nodes are those of the tables made
+pub stamped_nodes : (t made : Tables) (now : ℕ) (changes : List Change) → 1 ≤ length changes → (stamped t made now changes).nodes ≡ made.nodes
+stamped_nodes t made now [] some = absurd (omega arith)
+stamped_nodes t made now (change ∷ changes) some = refl
+
 -- a later moment changes nothing else
 pub stamp_sound : (t : Tables) (now : ℕ) → AreSound t → t.meta.last ≤ now → AreSound (stamp t now)
 stamp_sound t now sound later =
     let made = stamp t now in
     record {
-      counters = record {
-        users = sound.counters.users;
-        groups = sound.counters.groups;
-        nodes = sound.counters.nodes;
-        shares = sound.counters.shares;
-        blobs = sound.counters.blobs;
-      };
+      counters = counters_up t.meta t.meta.next_node t.meta.next_blob now sound.counters (le_refl _) (le_refl _);
       rising = sound.rising;
       nodes = All-weaker (IsNodeSound t) (IsNodeSound made)
-          (λ row. node_kept t made.meta t.nodes row (kept_same t.nodes) (le_refl _) (le_refl _) later) t.nodes sound.nodes;
+          (λ row. node_kept t made.meta t.nodes row (kept_row t.nodes) (le_refl _) (le_refl _) later) t.nodes sound.nodes;
       names = sound.names;
-      roots = All-weaker (HasRoot t) (HasRoot made) (root_kept t made.meta t.nodes (kept_same t.nodes)) t.users sound.roots;
+      roots = All-weaker (HasRoot t) (HasRoot made) (root_kept t made.meta t.nodes (kept_row t.nodes)) t.users sound.roots;
       few_nodes = sound.few_nodes;
       few_pieces = sound.few_pieces;
     }

@@ -3,42 +3,45 @@ use Rattle.std.proofs.Common.{ℕ, zero, suc, ◌==◌, ◌&&◌, ◌≡◌, ◌
 use Rattle.std.specs.Prelude.{is_some}
 use Rattle.std.specs.List.{All}
 use Rattle.std.specs.Option.{option_map_or}
-use Rattle.std.proofs.lemmas.Bool.{and_from, and_parts, both_ways, eq-eqb, eqb-true, false≢true}
+use Rattle.std.proofs.lemmas.Bool.{and_from, and_parts, both_ways, cond_both, eq-eqb, eqb-true}
 use Rattle.std.proofs.lemmas.List.Elements.{All-append, All-cons, All-map, All-nil, All-weaker}
 use Rattle.std.proofs.Math.Seq.{get_or-append_seam}
 use Rattle.std.proofs.lemmas.Option.{slice_get-get_or}
 use Rattle.nf_base.specs.Content.{content_eq}
 use Rattle.nf_base.specs.declared.changes.Change.{Change}
-use Rattle.nf_base.specs.declared.changes.Change.TheVariants.{Put, Drop}
+use Rattle.nf_base.specs.declared.changes.Change.TheVariants.{Drop, Put}
 use Rattle.nf_base.specs.declared.changes.RowKey.TheVariants as keys
 use Rattle.nf_base.specs.declared.content.Piece.{Piece}
 use Rattle.nf_base.specs.declared.rows.MetaRow.{MetaRow}
 use Rattle.nf_base.specs.declared.rows.NodeRow.{NodeRow}
 use Rattle.nf_base.specs.declared.rows.Place.TheVariants.{Inside}
+use Rattle.nf_base.specs.declared.rows.Row.{Row}
 use Rattle.nf_base.specs.declared.rows.Row.TheVariants as rows
 use Rattle.nf_defs.specs.Changes.{IsDroppable, made, put_all}
 use Rattle.nf_defs.specs.Tables.{Tables}
-use Rattle.nf_defs.specs.Tree.{child_of, filled, is_folder_kind, is_under, node_row, relinked, walk_of, walk_within, with_node, without_under}
+use Rattle.nf_defs.specs.Tree.{child_of, filled, is_folder_kind, is_under, node_row, relinked, walk_of, with_node, without_under}
 use Rattle.nf_defs.specs.declared.Found.TheVariants.{At, Free}
-use Rattle.nf_laws.proofs.Climbs.{climb_under}
-use Rattle.nf_laws.proofs.Contents.{content_decides}
+use Rattle.nf_laws.proofs.Climbs.{climb_under, holds_some}
+use Rattle.nf_laws.proofs.Copied.{walk_first}
+use Rattle.nf_laws.proofs.Entries.{step_has}
 use Rattle.nf_laws.proofs.Gone.{all_cleared, clearing_sound, row_cleared}
+use Rattle.nf_laws.proofs.Mirrored.{mirrored}
 use Rattle.nf_laws.proofs.OneRow.{KeepsId, row_itself}
-use Rattle.nf_laws.proofs.Owned.{copies_mirror}
 use Rattle.nf_laws.proofs.Paths.{child_there, path_own}
 use Rattle.nf_laws.proofs.Puts.{AreNumbered, another, drops_for, drops_under, fewer, put_changed, put_new, puts_new, walk_there}
+use Rattle.nf_laws.proofs.Replaced.{content_decides}
+use Rattle.nf_laws.proofs.Rows.{row_id}
 use Rattle.nf_laws.specs.Tells.{ChangesTell}
-use Rattle.nf_words.proofs.Known.{Known, KnownContent, KnownCopies, KnownGone, KnownNew, KnownPath, KnownTransfer, found_passes, known_change}
+use Rattle.nf_words.proofs.Known.{Known, KnownContent, KnownCopies, KnownGone, KnownNew, KnownPath, KnownTransfer, known_change}
 use Rattle.nf_words.specs.Changes.{changed, changes_of, cleared, created, dropped_for, dropped_under, joined, meta_after, new_meta, refilled, replaced, same_meta, stamped, told, transferred, transferred_row, with_meta}
 use Rattle.nf_words.specs.History.{MayAsk}
 use Rattle.nf_words.specs.Sound.{AreSound, IsSound}
 use Rattle.nf_words.specs.State.{State}
-use Rattle.nf_words.specs.Step.{changes_by, changes_to, decided, decision_of, step, without}
+use Rattle.nf_words.specs.Step.{changes_by, changes_to, decision_of, step}
 use Rattle.nf_words.specs.declared.answer.Allowed.{Allowed}
 use Rattle.nf_words.specs.declared.answer.Allowed.TheVariants as allowed
 use Rattle.nf_words.specs.declared.answer.Denial.{Denial}
 use Rattle.nf_words.specs.declared.history.Event.{Event}
-use Rattle.nf_words.specs.declared.history.Event.TheVariants.{Begin, End}
 use Rattle.nf_words.specs.declared.request.Transfer.{Transfer}
 
 -- ---- the meta row
@@ -67,11 +70,9 @@ same_itself meta =
     itself n = eq-eqb n n refl
 
 put_meta : (t : Tables) (meta : MetaRow) → put_all t (new_meta t.meta meta) ≡ record t { meta = meta }
-put_meta t meta = here (same_meta t.meta meta) refl
-  where
-    here : (a : Bool) → same_meta t.meta meta ≡ a → put_all t (if a then [] else Put (rows.Meta meta) ∷ []) ≡ record t { meta = meta }
-    here true e = ap (λ (m : MetaRow). record t { meta = m }) (meta_same t.meta meta e)
-    here false e = refl
+put_meta t meta =
+    cond_both (same_meta t.meta meta) [] (Put (rows.Meta meta) ∷ []) (λ changes. put_all t changes ≡ record t { meta = meta })
+    (λ e. ap (λ (m : MetaRow). record t { meta = m }) (meta_same t.meta meta e)) (λ e. refl)
 
 -- ---- what is told of an act
 
@@ -88,15 +89,11 @@ nothing_told : (t : Tables) → Tell t t []
 nothing_told t = record { put = refl; differ = All-nil (Differs t); none = λ same. refl }
 
 meta_differs : (t : Tables) (meta : MetaRow) → All (Differs t) (new_meta t.meta meta)
-meta_differs t meta = here (same_meta t.meta meta) refl
-  where
-    here : (a : Bool) → same_meta t.meta meta ≡ a → All (Differs t) (if a then [] else Put (rows.Meta meta) ∷ [])
-    here true e = All-nil (Differs t)
-    here false e =
-        All-cons (Differs t) (Put (rows.Meta meta)) []
-        (λ same. both_ways (same_meta t.meta meta) e
-        (ap (same_meta t.meta) (ap (λ (u : Tables). u.meta) same) ∙ same_itself t.meta))
-        (All-nil (Differs t))
+meta_differs t meta =
+    cond_both (same_meta t.meta meta) [] (Put (rows.Meta meta) ∷ []) (All (Differs t)) (λ e. All-nil (Differs t))
+    (λ e. All-cons (Differs t) (Put (rows.Meta meta)) []
+    (λ same. both_ways (same_meta t.meta meta) e (ap (same_meta t.meta) (ap (λ (u : Tables). u.meta) same) ∙ same_itself t.meta))
+    (All-nil (Differs t)))
 
 -- where the changes of nodes make other nodes
 nodes_told : (t : Tables) (now : ℕ) (meta : MetaRow) (nodes : List NodeRow) (changes : List Change)
@@ -163,31 +160,22 @@ filled_other now content row other = λ same.
 
 over_told : (t : Tables) (now node : ℕ) (content : List Piece) (blob : Option ℕ) → AreSound t → KnownContent t node content blob
     → TellsAct t now (allowed.StoreOver node content blob)
-over_told t now node content blob sound known = here (node_row t.nodes node) refl known.file
-  where
-    after : Tables
-    after = replaced t now node content blob
-
-    here : (o : Option NodeRow) → node_row t.nodes node ≡ o → option_map_or (λ row. not (is_folder_kind row.kind)) o false ≡ true
-        → Tell t (stamped t after now (refilled o now content)) (with_meta t.meta (record after.meta { last = now }) (refilled o now content))
-    here None e file = absurd (false≢true file)
-    here (Some row) e file = put (content_eq row.content content && row.changed == now) refl
-      where
-        new : Change
-        new = Put (rows.Node (filled content now row))
-
-        put : (a : Bool) → (content_eq row.content content && row.changed == now) ≡ a
-            → Tell t (stamped t after now (if a then [] else new ∷ []))
-            (with_meta t.meta (record after.meta { last = now }) (if a then [] else new ∷ []))
-        put true same = nothing_told t
-        put false other =
-            let differs = filled_other now content row other in
-            nodes_told t now after.meta after.nodes (new ∷ [])
-            (λ rest. ap (λ (all : List NodeRow). put_all (record t { nodes = all }) rest)
-            (put_changed t.nodes node (filled content now) row refl sound.rising e))
-            (All-cons (Differs t) new [] (changed_differs t node (filled content now) row (λ row. refl) sound e differs) (All-nil (Differs t)))
-            (another t.nodes after.nodes node row (filled content now row) e
-            (row_itself t.nodes node (filled content now) (λ row. refl) ∙ ap (option_map (filled content now)) e) differs)
+over_told t now node content blob sound known =
+    let file = holds_some (λ row. not (is_folder_kind row.kind)) (node_row t.nodes node) known.file in
+    let row : NodeRow = file.0 in
+    let after : Tables = replaced t now node content blob in
+    let new : Change = Put (rows.Node (filled content now row)) in
+    let Tells : List Change → Type 0 = λ changes. Tell t (stamped t after now changes) (with_meta t.meta (record after.meta { last = now }) changes) in
+    subst (λ (o : Option NodeRow). Tells (refilled o now content)) (sym file.1)
+    (cond_both (content_eq row.content content && row.changed == now) [] (new ∷ []) Tells (λ same. nothing_told t)
+    (λ other.
+    let differs = filled_other now content row other in
+    nodes_told t now after.meta after.nodes (new ∷ [])
+    (λ rest. ap (λ (all : List NodeRow). put_all (record t { nodes = all }) rest)
+    (put_changed t.nodes node (filled content now) row refl sound.rising file.1))
+    (All-cons (Differs t) new [] (changed_differs t node (filled content now) row (λ row. refl) sound file.1 differs) (All-nil (Differs t)))
+    (another t.nodes after.nodes node row (filled content now row) file.1
+    (row_itself t.nodes node (filled content now) (λ row. refl) ∙ ap (option_map (filled content now)) file.1) differs)))
 
 -- ---- nodes that go
 
@@ -238,7 +226,7 @@ replaced_differ t who transfer name sound known = here transfer.replaced refl
 relinked_other : (t : Tables) (who : Option ℕ) (transfer : Transfer) (name : List ℕ) (row : NodeRow) → AreSound t
     → KnownTransfer t who transfer name → node_row t.nodes transfer.node ≡ Some row → relinked transfer.folder name row ≢ row
 relinked_other t who transfer name row sound known there = λ same.
-    let id : row.id ≡ transfer.node = eqb-true row.id transfer.node (found_passes (λ row. row.id == transfer.node) t.nodes row there) in
+    let id = row_id t.nodes transfer.node row there in
     let place : row.place ≡ Inside transfer.folder = sym (ap (λ (r : NodeRow). r.place) same) in
     let named : row.name ≡ name = sym (ap (λ (r : NodeRow). r.name) same) in
     let child : child_of t.nodes transfer.folder row.name ≡ Some row.id =
@@ -252,35 +240,25 @@ relinked_other t who transfer name row sound known there = λ same.
 moved_told : (t : Tables) (now : ℕ) (who : Option ℕ) (transfer : Transfer) (name : List ℕ) → AreSound t → KnownTransfer t who transfer name
     → TellsAct t now (allowed.Move transfer name)
 moved_told t now who transfer name sound known =
-    let found = found_there t who transfer.node sound known.source in here found.0 found.1
-  where
-    after : Tables
-    after = transferred t transfer name
-
-    left : List NodeRow
-    left = cleared t.nodes transfer.replaced
-
-    change : NodeRow → NodeRow
-    change = relinked transfer.folder name
-
-    drops : List Change
-    drops = dropped_for t.nodes transfer.replaced
-
-    here : (row : NodeRow) → node_row t.nodes transfer.node ≡ Some row → TellsAct t now (allowed.Move transfer name)
-    here row e =
-        let new : Change = Put (rows.Node (change row)) in
-        let other = relinked_other t who transfer name row sound known e in
-        let still : node_row left transfer.node ≡ Some row = row_cleared t.nodes transfer.replaced transfer.node known.apart ∙ e in
-        subst (λ (o : Option NodeRow). Tell t (stamped t after now (drops ++ transferred_row o transfer name))
-        (with_meta t.meta (record t.meta { last = now }) (drops ++ transferred_row o transfer name))) (sym e)
-        (nodes_told t now t.meta after.nodes (drops ++ new ∷ [])
-        (λ rest. ap (put_all t) (append_assoc drops (new ∷ []) rest) ∙ drops_for t transfer.replaced (new ∷ rest) sound
-        ∙ ap (λ (all : List NodeRow). put_all (record t { nodes = all }) rest)
-        (put_changed left transfer.node change row refl (clearing_sound t who transfer name sound known).rising still))
-        (All-append (Differs t) drops (new ∷ []) (replaced_differ t who transfer name sound known)
-        (All-cons (Differs t) new [] (changed_differs t transfer.node change row (λ row. refl) sound e other) (All-nil (Differs t))))
-        (another t.nodes after.nodes transfer.node row (change row) e
-        (row_itself left transfer.node change (λ row. refl) ∙ ap (option_map change) still) other))
+    let found = found_there t who transfer.node sound known.source in
+    let row : NodeRow = found.0 in
+    let change : NodeRow → NodeRow = relinked transfer.folder name in
+    let left : List NodeRow = cleared t.nodes transfer.replaced in
+    let after : Tables = transferred t transfer name in
+    let drops : List Change = dropped_for t.nodes transfer.replaced in
+    let new : Change = Put (rows.Node (change row)) in
+    let other = relinked_other t who transfer name row sound known found.1 in
+    let still : node_row left transfer.node ≡ Some row = row_cleared t.nodes transfer.replaced transfer.node known.apart ∙ found.1 in
+    subst (λ (o : Option NodeRow). Tell t (stamped t after now (drops ++ transferred_row o transfer name))
+    (with_meta t.meta (record t.meta { last = now }) (drops ++ transferred_row o transfer name))) (sym found.1)
+    (nodes_told t now t.meta after.nodes (drops ++ new ∷ [])
+    (λ rest. ap (put_all t) (append_assoc drops (new ∷ []) rest) ∙ drops_for t transfer.replaced (new ∷ rest) sound
+    ∙ ap (λ (all : List NodeRow). put_all (record t { nodes = all }) rest)
+    (put_changed left transfer.node change row refl (clearing_sound t who transfer name sound known).rising still))
+    (All-append (Differs t) drops (new ∷ []) (replaced_differ t who transfer name sound known)
+    (All-cons (Differs t) new [] (changed_differs t transfer.node change row (λ row. refl) sound found.1 other) (All-nil (Differs t))))
+    (another t.nodes after.nodes transfer.node row (change row) found.1
+    (row_itself left transfer.node change (λ row. refl) ∙ ap (option_map change) still) other))
 
 -- ---- nodes that are copied
 
@@ -295,14 +273,14 @@ copies_more t old (copy ∷ copies) sound numbered some = λ same.
     (given (length old) copy (omega (arith, length-append old (copy ∷ copies)))) in
     absurd (omega (arith, first, numbered 0 copy (omega arith)))
 
--- one of them at least
-walk_some : (old : List NodeRow) (top : ℕ) → 1 ≤ length (walk_of old top)
-unfolding walk_of walk_within
-walk_some old top = omega arith
-
 copies_told : (t : Tables) (now : ℕ) (who : Option ℕ) (copies : List NodeRow) (replaced : Option ℕ) → AreSound t
     → KnownCopies t now who copies replaced → TellsAct t now (allowed.Copy copies replaced)
 copies_told t now who copies replaced sound known =
+    let drops : List Change = dropped_for t.nodes replaced in
+    let puts : List Change = map (λ row. Put (rows.Node row)) copies in
+    let mirrors = mirrored t now who copies replaced sound known in
+    let numbered : AreNumbered t.meta.next_node copies = λ k d within.
+    (mirrors.each k (get_or copies k d) (slice_get-get_or copies k d within)).id in
     nodes_told t now (joined t copies replaced).meta (cleared t.nodes replaced ++ copies) (drops ++ puts)
     (λ rest. ap (put_all t) (append_assoc drops puts rest) ∙ drops_for t replaced (puts ++ rest) sound
     ∙ puts_new t (cleared t.nodes replaced) copies rest t.meta.next_node
@@ -312,104 +290,63 @@ copies_told t now who copies replaced sound known =
     (replaced_differ t who known.transfer known.name sound known.known))
     (All-map (Differs t) (λ row. Put (rows.Node row)) copies
     (λ k d within. new_differs t (get_or copies k d) sound (omega (arith, numbered k d within)))))
-    (copies_more t (cleared t.nodes replaced) copies sound numbered
-    (omega (arith, (copies_mirror t now who copies replaced sound known).all, walk_some t.nodes known.transfer.node)))
-  where
-    drops : List Change
-    drops = dropped_for t.nodes replaced
-
-    puts : List Change
-    puts = map (λ row. Put (rows.Node row)) copies
-
-    numbered : AreNumbered t.meta.next_node copies
-    numbered k d within =
-        ((copies_mirror t now who copies replaced sound known).each k (get_or copies k d) (slice_get-get_or copies k d within)).id
+    (copies_more t (cleared t.nodes replaced) copies sound numbered (omega (arith, mirrors.all, (walk_first t.nodes known.transfer.node).1)))
 
 -- ---- each act
 
 act_told : (t : Tables) (now : ℕ) (who : Option ℕ) (act : Allowed) → AreSound t → Known t now who act → TellsAct t now act
-act_told t now who (allowed.Get node content) sound known = nothing_told t
-act_told t now who (allowed.List listing) sound known = nothing_told t
-act_told t now who (allowed.Put by key length) sound known = nothing_told t
 act_told t now who (allowed.StoreNew row blob) sound known = new_told t now row blob sound known.new
 act_told t now who (allowed.StoreOver node content blob) sound known = over_told t now node content blob sound known.brought
 act_told t now who (allowed.Mkcol row) sound known = new_told t now row None sound known.new
 act_told t now who (allowed.Delete node) sound known = gone_told t now who node sound known
 act_told t now who (allowed.Move transfer name) sound known = moved_told t now who transfer name sound known
 act_told t now who (allowed.Copy copies replaced) sound known = copies_told t now who copies replaced sound known
-act_told t now who allowed.Close sound known = nothing_told t
+act_told t now who act sound known = nothing_told t
 
 -- ---- each step
 
-decided_told : (s : State) (seat now : ℕ) (decision : Result Allowed Denial)
-    → ((act : Allowed) → decision ≡ Ok act → TellsAct s.tables now act)
-    → Tell s.tables (decided s seat now decision).tables (changes_by s.tables now decision)
-decided_told s seat now (Ok act) tells = tells act refl
-decided_told s seat now (Err refusal) tells = nothing_told s.tables
-
 step_told : (s : State) (seat now : ℕ) (event : Event) → IsSound s → MayAsk s seat event
     → Tell s.tables (step s seat now event).tables (changes_to s seat now event)
-step_told s seat now (Begin words request) sound asked =
-    let event = Begin words request in
-    decided_told s seat now (decision_of s seat now event)
-    (λ act is. act_told s.tables now _ act sound.rows (known_change s seat now event act sound asked is))
-step_told s seat now (End outcome) sound asked =
-    let event = End outcome in
-    decided_told (without s seat event) seat now (decision_of s seat now event)
+step_told s seat now event sound asked =
+    step_has (λ t tickets decision. Tell s.tables t (changes_by s.tables now decision)) s seat now event (λ refusal. nothing_told s.tables)
     (λ act is. act_told s.tables now _ act sound.rows (known_change s seat now event act sound asked is))
 
 -- ---- the meta row is never dropped
 
-meta_droppable : (old meta : MetaRow) → All IsDroppable (new_meta old meta)
-meta_droppable old meta = here (same_meta old meta)
-  where
-    here : (a : Bool) → All IsDroppable (if a then [] else Put (rows.Meta meta) ∷ [])
-    here true = All-nil IsDroppable
-    here false = All-cons IsDroppable (Put (rows.Meta meta)) [] tt (All-nil IsDroppable)
+put_droppable : (same : Bool) (row : Row) → All IsDroppable (if same then [] else Put row ∷ [])
+put_droppable true row = All-nil IsDroppable
+put_droppable false row = All-cons IsDroppable (Put row) [] tt (All-nil IsDroppable)
 
 refilled_droppable : (o : Option NodeRow) (now : ℕ) (content : List Piece) → All IsDroppable (refilled o now content)
 refilled_droppable None now content = All-nil IsDroppable
-refilled_droppable (Some row) now content = here (content_eq row.content content && row.changed == now)
-  where
-    new : Change
-    new = Put (rows.Node (filled content now row))
-
-    here : (a : Bool) → All IsDroppable (if a then [] else new ∷ [])
-    here true = All-nil IsDroppable
-    here false = All-cons IsDroppable new [] tt (All-nil IsDroppable)
-
-under_droppable : (nodes : List NodeRow) (top : ℕ) → All IsDroppable (dropped_under nodes top)
-under_droppable nodes top = All-map IsDroppable (λ node. Drop (keys.Node node)) (walk_of nodes top) (λ k d within is. cc)
+refilled_droppable (Some row) now content =
+    put_droppable (content_eq row.content content && row.changed == now) (rows.Node (filled content now row))
 
 replaced_droppable : (nodes : List NodeRow) (replaced : Option ℕ) → All IsDroppable (dropped_for nodes replaced)
 replaced_droppable nodes None = All-nil IsDroppable
-replaced_droppable nodes (Some top) = under_droppable nodes top
+replaced_droppable nodes (Some top) = All-map IsDroppable (λ node. Drop (keys.Node node)) (walk_of nodes top) (λ k d within is. cc)
 
 row_droppable : (o : Option NodeRow) (transfer : Transfer) (name : List ℕ) → All IsDroppable (transferred_row o transfer name)
 row_droppable None transfer name = All-nil IsDroppable
-row_droppable (Some row) transfer name =
-    All-cons IsDroppable (Put (rows.Node (relinked transfer.folder name row))) [] tt (All-nil IsDroppable)
+row_droppable (Some row) transfer name = put_droppable false (rows.Node (relinked transfer.folder name row))
 
 told_droppable : (t : Tables) (now : ℕ) (act : Allowed) → All IsDroppable (told t now act)
-told_droppable t now (allowed.Get node content) = All-nil IsDroppable
-told_droppable t now (allowed.List listing) = All-nil IsDroppable
-told_droppable t now (allowed.Put by key length) = All-nil IsDroppable
-told_droppable t now (allowed.StoreNew row blob) = All-cons IsDroppable (Put (rows.Node row)) [] tt (All-nil IsDroppable)
+told_droppable t now (allowed.StoreNew row blob) = put_droppable false (rows.Node row)
 told_droppable t now (allowed.StoreOver node content blob) = refilled_droppable (node_row t.nodes node) now content
-told_droppable t now (allowed.Mkcol row) = All-cons IsDroppable (Put (rows.Node row)) [] tt (All-nil IsDroppable)
-told_droppable t now (allowed.Delete node) = under_droppable t.nodes node
+told_droppable t now (allowed.Mkcol row) = put_droppable false (rows.Node row)
+told_droppable t now (allowed.Delete node) = replaced_droppable t.nodes (Some node)
 told_droppable t now (allowed.Move transfer name) =
     All-append IsDroppable (dropped_for t.nodes transfer.replaced) (transferred_row (node_row t.nodes transfer.node) transfer name)
     (replaced_droppable t.nodes transfer.replaced) (row_droppable (node_row t.nodes transfer.node) transfer name)
 told_droppable t now (allowed.Copy copies replaced) =
     All-append IsDroppable (dropped_for t.nodes replaced) (map (λ row. Put (rows.Node row)) copies) (replaced_droppable t.nodes replaced)
     (All-map IsDroppable (λ row. Put (rows.Node row)) copies (λ k d within. tt))
-told_droppable t now allowed.Close = All-nil IsDroppable
+told_droppable t now act = All-nil IsDroppable
 
 with_meta_droppable : (old meta : MetaRow) (changes : List Change) → All IsDroppable changes → All IsDroppable (with_meta old meta changes)
 with_meta_droppable old meta [] all = all
 with_meta_droppable old meta (change ∷ changes) all =
-    All-append IsDroppable (change ∷ changes) (new_meta old meta) all (meta_droppable old meta)
+    All-append IsDroppable (change ∷ changes) (new_meta old meta) all (put_droppable (same_meta old meta) (rows.Meta meta))
 
 decided_droppable : (t : Tables) (now : ℕ) (decision : Result Allowed Denial) → All IsDroppable (changes_by t now decision)
 decided_droppable t now (Ok act) = with_meta_droppable t.meta (meta_after t now act) (told t now act) (told_droppable t now act)

@@ -1,46 +1,26 @@
 -- What a walk takes: all that is under its top, and nothing twice.
-use Rattle.std.proofs.Common.{ℕ, zero, suc, ◌+◌, ◌-◌, ◌==◌, ◌<◌, ◌≤◌, ◌≡◌, ◌≢◌, Bool, true, false, List, [], ◌∷◌, ◌++◌, Option, Some, get_or, map, filter, inl, inr, refl, sym, ap, subst, ◌∙◌, arith}
+use Rattle.std.proofs.Common.{ℕ, zero, suc, ◌+◌, ◌-◌, ◌==◌, ◌<◌, ◌≡◌, ◌≢◌, true, List, [], ◌∷◌, ◌++◌, Some, get_or, map, filter, inl, inr, refl, sym, ap, subst, ◌∙◌, arith}
 use Rattle.std.specs.List.{All, AllPairs, Contains, flat_map, list_any}
-use Rattle.std.specs.Option.{option_and_then}
-use Rattle.std.proofs.lemmas.Bool.{cases_order, eq-eqb, eqb-true, false≢true}
+use Rattle.std.proofs.lemmas.Bool.{both_ways, cases_Bool, cases_order, eq-eqb, eqb-true, false_from_ne_true}
 use Rattle.std.proofs.lemmas.List.Elements.{All-append, All-contains, All-contains_itself, All-head, All-map, All-tail}
 use Rattle.std.proofs.lemmas.List.Folds.{Any-from_list_any, list_any_at}
 use Rattle.std.proofs.lemmas.List.Kept.{AllPairs-cons, AllPairs-filter}
-use Rattle.std.proofs.lemmas.Option.{option_and_then_some, same_Some}
+use Rattle.std.proofs.lemmas.Option.{same_Some}
 use Rattle.nf_base.specs.declared.rows.NodeRow.{NodeRow}
 use Rattle.nf_defs.proofs.ByName.{AllPairs-by_name}
 use Rattle.nf_defs.proofs.Walks.{Contains-from_flat, children_are, climbs_walk, walk_climbs, walk_within_climbs}
 use Rattle.nf_defs.specs.Tables.{Tables}
-use Rattle.nf_defs.specs.Tree.{by_name, children_of, climb, folder_of, is_in, is_under, node_row, parent_of, walk_of, walk_within}
-use Rattle.nf_laws.proofs.Climbs.{climb_on, climb_under, under_climb}
-use Rattle.nf_laws.proofs.Upwards.{climb_few, depth_climb}
-use Rattle.nf_laws.proofs.Words.{climbed, derived}
-use Rattle.nf_laws.specs.Tree.{NoRings, WalksTakeAllUnder}
+use Rattle.nf_defs.specs.Tree.{by_name, children_of, climb, is_in, is_under, parent_of, walk_of, walk_within}
+use Rattle.nf_laws.proofs.Climbs.{climb_on, climb_rest, climb_under, parent_at, under_climb}
+use Rattle.nf_laws.proofs.Upwards.{climb_short, climbed, depth_climb, derived}
+use Rattle.nf_laws.specs.Tree.{WalksTakeAllUnder}
 use Rattle.nf_words.specs.Sound.{AreSound}
 
 -- ---- climbs of sound tables
 
--- none is longer than 64
-pub climb_short : (t : Tables) (j node top : ℕ) → AreSound t → climb t.nodes j node ≡ Some top → j ≤ 64
-climb_short t zero node top sound is = omega arith
-climb_short t (suc j) node top sound is =
-    option_and_then_some (climb t.nodes j) (parent_of t.nodes node) top is (λ parent above rest.
-    option_and_then_some (λ row. folder_of row.place) (node_row t.nodes node) parent above
-    (λ row there placed. climb_few (suc j) t node top row sound there is))
-
 -- none comes back
 pub no_ring : (t : Tables) (j node : ℕ) → AreSound t → climb t.nodes (suc j) node ≡ Some node → ⊥
 no_ring t j node sound is = absurd (omega (arith, depth_climb (suc j) t node node sound is))
-
--- so no folder is under a node that is in it
-pub no_rings : NoRings
-no_rings t node parent sound above = here (is_under t.nodes parent node) refl
-  where
-    here : (a : Bool) → is_under t.nodes parent node ≡ a → a ≡ false
-    here false e = refl
-    here true e =
-        let c = under_climb t.nodes parent node e in
-        absurd (no_ring t c.0 node sound (subst (λ (o : Option ℕ). option_and_then (climb t.nodes c.0) o ≡ Some node) (sym above) c.2))
 
 -- ---- those under the top
 
@@ -54,23 +34,30 @@ under_walk t top node is = let c = under_climb t.nodes node top is in climbs_wal
 -- the test of a walk is that of its top
 pub walk_among : (t : Tables) (top node : ℕ) → AreSound t
     → list_any (λ other. other == node) (walk_of t.nodes top) ≡ is_under t.nodes node top
-walk_among t top node sound = here (is_under t.nodes node top) (list_any (λ other. other == node) (walk_of t.nodes top)) refl refl
-  where
-    here : (a b : Bool) → is_under t.nodes node top ≡ a → list_any (λ other. other == node) (walk_of t.nodes top) ≡ b → b ≡ a
-    here true true e f = refl
-    here true false e f =
-        let h = under_walk t top node e in
-        let any = list_any_at (λ other. other == node) (walk_of t.nodes top) h.0 node h.1 (eq-eqb _ node h.2) in
-        absurd (false≢true (sym f ∙ any))
-    here false true e f =
-        let h = Any-from_list_any (λ other. other == node) (walk_of t.nodes top) f in
-        let has : Contains (walk_of t.nodes top) node =
-        subst (λ (n : ℕ). Contains (walk_of t.nodes top) n) (eqb-true h.1 node h.4) (h.0, h.2, h.3) in
-        let is = walk_under t top node sound has in
-        absurd (false≢true (sym e ∙ is))
-    here false false e f = refl
+walk_among t top node sound =
+    elim (cases_Bool (is_under t.nodes node top)) [
+      | inl under ↦
+          (let h = under_walk t top node under in
+          list_any_at (λ other. other == node) (walk_of t.nodes top) h.0 node h.1 (eq-eqb _ node h.2) ∙ sym under)
+      | inr outside ↦
+          false_from_ne_true (list_any (λ other. other == node) (walk_of t.nodes top)) (λ any.
+          let h = Any-from_list_any (λ other. other == node) (walk_of t.nodes top) any in
+          let has : Contains (walk_of t.nodes top) node =
+          subst (λ (n : ℕ). Contains (walk_of t.nodes top) n) (eqb-true h.1 node h.4) (h.0, h.2, h.3) in
+          both_ways (is_under t.nodes node top) outside (walk_under t top node sound has)) ∙ sym outside
+    ]
 
 -- ---- none twice
+
+-- what each two of both lists have, and each of the one with each of the other
+pub AllPairs-append : {X : Type 0} (R : X → X → Type 0) (xs ys : List X) → AllPairs R xs → AllPairs R ys → All (λ x. All (R x) ys) xs
+    → AllPairs R (xs ++ ys)
+AllPairs-append R [] ys first second across = second
+AllPairs-append R (x ∷ xs) ys first second across =
+    AllPairs-cons R x (xs ++ ys)
+    (All-append (R x) xs ys (λ k d within. first 0 (suc k) d (omega arith) (omega arith)) (across 0 x (omega arith)))
+    (AllPairs-append R xs ys (λ i j d before within. first (suc i) (suc j) d (omega arith) (omega arith)) second
+    (λ k d within. across (suc k) d (omega arith)))
 
 -- no member is in both
 abbrev AreDisjoint : List ℕ → List ℕ → Type 0
@@ -80,13 +67,10 @@ abbrev pub AreDistinct : List ℕ → Type 0
 AreDistinct xs = AllPairs (λ (a b : ℕ). a ≢ b) xs
 
 distinct_append : (xs ys : List ℕ) → AreDistinct xs → AreDistinct ys → AreDisjoint xs ys → AreDistinct (xs ++ ys)
-distinct_append [] ys first second apart = second
-distinct_append (x ∷ xs) ys first second apart =
-    AllPairs-cons (λ (a b : ℕ). a ≢ b) x (xs ++ ys)
-    (All-append (λ (b : ℕ). x ≢ b) xs ys (λ k d within. first 0 (suc k) d (omega arith) (omega arith))
-    (λ k d within same. apart x (0, omega arith, refl) (subst (λ (n : ℕ). Contains ys n) (sym same) (All-contains_itself ys k d within))))
-    (distinct_append xs ys (λ i j d before within. first (suc i) (suc j) d (omega arith) (omega arith)) second
-    (λ n has other. apart n (suc has.0, omega (arith, has.1), has.2) other))
+distinct_append xs ys first second apart =
+    AllPairs-append (λ (a b : ℕ). a ≢ b) xs ys first second (λ i d within j e also same.
+    apart (get_or xs i d) (All-contains_itself xs i d within)
+    (subst (λ (n : ℕ). Contains ys n) (sym same) (All-contains_itself ys j e also)))
 
 distinct_flat : (f : ℕ → List ℕ) (xs : List ℕ) → All (λ (x : ℕ). AreDistinct (f x)) xs → AllPairs (λ (x y : ℕ). AreDisjoint (f x) (f y)) xs
     → AreDistinct (flat_map f xs)
@@ -117,7 +101,7 @@ children_distinct t folder sound =
 above : (t : Tables) (folder : ℕ) → AreSound t → All (λ (child : ℕ). parent_of t.nodes child ≡ Some folder) (children_of t.nodes folder)
 above t folder sound k d within =
     let is = children_are t.nodes folder sound.rising k d within in
-    ap (option_and_then (λ (row : NodeRow). folder_of row.place)) is.there ∙ ap folder_of is.place
+    parent_at t.nodes _ folder is.row is.there is.place
 
 -- a step more from a child is at the folder
 climb_folder : (t : Tables) (m folder child node : ℕ) → parent_of t.nodes child ≡ Some folder → climb t.nodes m node ≡ Some child
@@ -132,9 +116,7 @@ not_under : (t : Tables) (i j folder child other node : ℕ) → AreSound t
     → parent_of t.nodes child ≡ Some folder → parent_of t.nodes other ≡ Some folder
     → i < j → climb t.nodes i node ≡ Some child → climb t.nodes j node ≡ Some other → ⊥
 not_under t i j folder child other node sound up also less first second =
-    let longer : j ≡ i + suc (j - i - 1) = omega arith in
-    let rest : climb t.nodes (suc (j - i - 1)) child ≡ Some other =
-    sym (climb_on i (suc (j - i - 1)) t.nodes node child first) ∙ ap (λ (n : ℕ). climb t.nodes n node) (sym longer) ∙ second in
+    let rest = climb_rest i (suc (j - i - 1)) j t.nodes node child other (omega arith) first second in
     no_ring t (j - i - 1) folder sound (climb_folder t (j - i - 1) folder other folder also (rw up at rest))
 
 -- nothing is under two of them
@@ -176,7 +158,7 @@ pub walks_take : WalksTakeAllUnder
 walks_take = record {
   those = λ t top node sound. (
     λ h. let c = walk_climbs t.nodes top node sound.rising h in derived c.0 t.nodes top node c.2,
-    λ under. let c = climbed t.nodes top node under in climbs_walk c.0 t.nodes top node (climb_short t c.0 node top sound c.1) c.1,
+    λ under. let c = climbed t.nodes top node under in climbs_walk c.0 t.nodes top node (climb_short c.0 t node top sound c.1) c.1,
   );
   once = walk_distinct;
 }

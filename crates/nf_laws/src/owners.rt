@@ -3,11 +3,13 @@
 ghost use Rattle.nf_laws.specs.Owners.{ChangesOnlyOwn, ListsAll, ListsOwn, ServesOwn};
 
 /// What a GET is granted is the content of the caller's own node, to which the path leads from the caller's root.
+#[tactic(auto, using(crate::proofs::Owning::serves_own))]
 pub fn serves_only_own()
     ensures { ServesOwn }
 {}
 
 /// What a GET of a folder is answered is what is in the caller's own folder, to which the path leads from the caller's root.
+#[tactic(auto, using(crate::proofs::Owning::lists_all, crate::proofs::Owning::lists_own))]
 pub fn lists_only_own()
     ensures own { ListsOwn }
     ensures all { ListsAll }

@@ -9,6 +9,7 @@ pub fn moves_keep()
 
 /// A COPY leaves its source as it was, and makes a copy of each node under it, of the same kind, content and name, in the copy of
 /// the folder in which the node is.
+#[tactic(auto, using(crate::proofs::Transferred::copies_mirror_all))]
 pub fn copies_mirror()
     ensures { CopiesMirror }
 {}

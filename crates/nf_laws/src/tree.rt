@@ -3,16 +3,19 @@
 ghost use Rattle.nf_laws.specs.Tree.{UnderIsDerived, NodesArePresent, NamesAreTaken, DepthIsClimbed, NoRings, WalksTakeAllUnder};
 
 /// A node is under a top where folders lead up to it, however many.
+#[tactic(auto, using(crate::proofs::Upwards::under_derived))]
 pub fn under_is_derived()
     ensures { UnderIsDerived }
 {}
 
 /// Every node of sound tables is under a user's root.
+#[tactic(auto, using(crate::proofs::Upwards::nodes_present))]
 pub fn nodes_are_present()
     ensures { NodesArePresent }
 {}
 
 /// A folder's taken names are those by which it has a child.
+#[tactic(auto, using(crate::proofs::Upwards::names_taken))]
 pub fn names_are_taken()
     ensures { NamesAreTaken }
 {}
@@ -23,11 +26,13 @@ pub fn depth_is_climbed()
 {}
 
 /// No node is in a folder that is under it.
+#[tactic(auto, using(crate::proofs::Upwards::no_rings))]
 pub fn no_rings()
     ensures { NoRings }
 {}
 
 /// A walk from a top has just the nodes under it, each once: they are what a DELETE drops, and what a COPY copies.
+#[tactic(auto, using(crate::proofs::Walked::walks_take))]
 pub fn walks_take_all_under()
     ensures { WalksTakeAllUnder }
 {}

@@ -13,6 +13,7 @@ pub fn opens_whole()
 {}
 
 /// A body is stored under the next number, and each number that was given keeps its bytes.
+#[tactic(auto, using(crate::proofs::Blobs::blobs_are_new))]
 pub fn blobs_are_new()
     ensures { BlobsAreNew }
 {}

@@ -1,4 +1,4 @@
-use Rattle.nf_laws.proofs.Moving.{moves_keep}
+use Rattle.nf_laws.proofs.Transferred.{moves_keep}
 use Rattle.nf_laws.proofs.transfers.moves_keep.Goals as goal
 
 pub returns : goal.returns

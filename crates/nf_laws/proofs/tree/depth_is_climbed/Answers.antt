@@ -1,4 +1,4 @@
-use Rattle.nf_laws.proofs.Words.{depth_climbed}
+use Rattle.nf_laws.proofs.Upwards.{depth_climbed}
 use Rattle.nf_laws.proofs.tree.depth_is_climbed.Goals as goal
 
 pub returns : goal.returns

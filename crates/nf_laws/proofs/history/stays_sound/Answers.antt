@@ -1,5 +1,0 @@
-use Rattle.nf_laws.proofs.Stays.{stays}
-use Rattle.nf_laws.proofs.history.stays_sound.Goals as goal
-
-pub returns : goal.returns
-returns c = stays

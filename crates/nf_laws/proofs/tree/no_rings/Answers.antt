@@ -1,5 +1,0 @@
-use Rattle.nf_laws.proofs.Walked.{no_rings}
-use Rattle.nf_laws.proofs.tree.no_rings.Goals as goal
-
-pub returns : goal.returns
-returns c = no_rings
