@@ -9,7 +9,7 @@ use Rattle.nf_rows.specs.declared.parts.TheConstants.{FORMAT}
 use Rattle.nf_rows.specs.Fields.{key_fields, body_fields}
 use Rattle.nf_rows.specs.Spelling.{Value, Valued, spelled, AreFit}
 use Rattle.nf_rows.specs.Faults.{AreBytes, ◌>>=◌, format_at, values_at, row_at, reading}
-use Rattle.nf_rows.proofs.Front.{Reading, then_other, if_read, IsFaultAt, Taken}
+use Rattle.nf_rows.proofs.Front.{Reading, then_other, if_read, IsFaultAt}
 use Rattle.nf_rows.proofs.FieldLaws.{format_read, format_again}
 use Rattle.nf_rows.proofs.Values.{Cut, values_read}
 
@@ -65,9 +65,7 @@ key_fault kind key body known (faults.Long at) (n, c) =
     let here : n ≡ at = omega (arith, c.1) in
     let len : length (take n key) ≡ n = length-take-le n key (omega (arith, c.0)) in
     (λ past. absurd (omega (arith, c.0, here)), λ inside. rw (known, ← here) (row_is kind (take n key) [] c.2 (c.3 (length (take n key))) ∙ no_body kind (length (take n key)) c.2 ∙ ap (λ (k : ℕ). Err (faults.Short k)) len))
-key_fault kind key body known (faults.Short at) c = tt
-key_fault kind key body known faults.Kind c = tt
-key_fault kind key body known faults.Memory c = tt
+key_fault kind key body known fault c = tt
 
 format_fault : (kind : ℕ) (key body : List ℕ) → (ltb kind 1 || ltb 12 kind) ≡ false → (keys : List Value) → values_at (key_fields kind) (length key) key ≡ Ok keys → (fault : RowFault) → IsFaultAt (length key) fault → IsFaulty kind key body fault
 format_fault kind key body known keys k (faults.Value at) here =
@@ -75,9 +73,7 @@ format_fault kind key body known keys k (faults.Value at) here =
     let left : at - length key ≡ 0 = omega (arith, here) in
     rw (known, front, left) (row_is kind key [] keys k ∙ no_body kind (length key) keys ∙ ap (λ (n : ℕ). Err (faults.Short n)) (sym here))
 format_fault kind key body known keys k (faults.Long at) here = absurd here
-format_fault kind key body known keys k (faults.Short at) here = tt
-format_fault kind key body known keys k faults.Kind here = tt
-format_fault kind key body known keys k faults.Memory here = tt
+format_fault kind key body known keys k fault here = tt
 
 body_fault : (kind : ℕ) (key body : List ℕ) → (ltb kind 1 || ltb 12 kind) ≡ false → (keys : List Value) → values_at (key_fields kind) (length key) key ≡ Ok keys → (format : ℕ × List ℕ) → body ≡ FORMAT ∷ format.1 → (fault : RowFault)
     → Cut fault (body_fields FORMAT kind) (length key + length body) format.1 → IsFaulty kind key body fault
@@ -88,19 +84,17 @@ body_fault kind key body known keys k format parts (faults.Value at) (n, c) =
 body_fault kind key body known keys k format parts (faults.Long at) (n, c) =
     let counted : at ≡ length key + suc n = omega (arith, c.0, c.1, ap length parts) in
     (λ past. rw (known, behind_at kind key body keys format at n k parts (omega (arith, c.0)) counted, c.3 at) refl, λ inside. absurd (omega (arith, counted)))
-body_fault kind key body known keys k format parts (faults.Short at) c = tt
-body_fault kind key body known keys k format parts faults.Kind c = tt
-body_fault kind key body known keys k format parts faults.Memory c = tt
+body_fault kind key body known keys k format parts fault c = tt
 
 pub row_read : (kind : ℕ) (key body : List ℕ) → AreBytes key → AreBytes body → Reading (IsFaulty kind key body) (IsRead kind key body) (reading kind key body)
 row_read kind key body key_fits body_fits = if_read (ltb kind 1 || ltb 12 kind) _ _ (λ unknown. record { is = tt }) (λ known.
     then_other (values_at (key_fields kind) (length key) key) _ (values_read (key_fields kind) (length key) key key_fits (omega arith)) (key_fault kind key body known) (λ keys k t.
-      then_other (format_at (length key) body) _ (format_read (length key) body body_fits) (format_fault kind key body known keys k) (λ format f u.
-        let parts : body ≡ FORMAT ∷ format.1 = u.parts ∙ ap (λ (n : ℕ). n ∷ format.1) u.fit in
-        let within : length format.1 ≤ length key + length body = omega (arith, ap length parts) in
-        then_other (values_at (body_fields format.0 kind) (length key + length body) format.1) _ (values_read (body_fields format.0 kind) (length key + length body) format.1 u.left within)
-        (λ fault c. body_fault kind key body known keys k format parts fault (subst (λ (n : ℕ). Cut fault (body_fields n kind) (length key + length body) format.1) u.fit c)) (λ bodies b w.
-          record { is = (refl, t.0, parts ∙ ap (λ (r : List ℕ). FORMAT ∷ r) w.0, t.1, w.1) }))))
+    then_other (format_at (length key) body) _ (format_read (length key) body body_fits) (format_fault kind key body known keys k) (λ format f u.
+    let parts : body ≡ FORMAT ∷ format.1 = u.parts ∙ ap (λ (n : ℕ). n ∷ format.1) u.fit in
+    let within : length format.1 ≤ length key + length body = omega (arith, ap length parts) in
+    then_other (values_at (body_fields format.0 kind) (length key + length body) format.1) _ (values_read (body_fields format.0 kind) (length key + length body) format.1 u.left within)
+    (λ fault c. body_fault kind key body known keys k format parts fault (subst (λ (n : ℕ). Cut fault (body_fields n kind) (length key + length body) format.1) u.fit c)) (λ bodies b w.
+    record { is = (refl, t.0, parts ∙ ap (λ (r : List ℕ). FORMAT ∷ r) w.0, t.1, w.1) }))))
 
 -- what follows of a row that was read, and of one with a fault
 pub found_is : (kind : ℕ) (key body : List ℕ) (v : Valued) → AreBytes key → AreBytes body → reading kind key body ≡ Ok v → IsRead kind key body v

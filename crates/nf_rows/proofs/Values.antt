@@ -104,9 +104,7 @@ cut_first s fs (faults.Value at) below here =
     let same : (other : ℕ) → other - 0 ≡ other = λ other. omega arith in
     (s.behind, (s.within, here ∙ s.counted below, λ other. rw (s.short other, same other) refl))
 cut_first s fs (faults.Long at) below here = absurd here
-cut_first s fs (faults.Short at) below here = (0, tt)
-cut_first s fs faults.Kind below here = (0, tt)
-cut_first s fs faults.Memory below here = (0, tt)
+cut_first s fs fault below here = (0, tt)
 
 -- a later field has it
 value_before : (f : Field) (bytes : List ℕ) (v : Value × List ℕ) (n : ℕ) → IsTaken f bytes v
@@ -123,9 +121,7 @@ cut_later f fs end bytes v t below (faults.Value at) (n, cut) =
 cut_later f fs end bytes v t below (faults.Long at) (n, cut) =
     let b = value_before f bytes v n t in
     (length (spelled v.0) + n, (omega (arith, cut.0, b.0), omega (arith, cut.1, b.0, below), v.0 ∷ cut.2, λ other. rw (b.1 other, cut.3 other) refl))
-cut_later f fs end bytes v t below (faults.Short at) cut = (0, tt)
-cut_later f fs end bytes v t below faults.Kind cut = (0, tt)
-cut_later f fs end bytes v t below faults.Memory cut = (0, tt)
+cut_later f fs end bytes v t below fault cut = (0, tt)
 
 pub values_read : (fs : List Field) (end : ℕ) (bytes : List ℕ) → AreBytes bytes → length bytes ≤ end
     → Reading (λ fault. Cut fault fs end bytes) (λ vs. (bytes ≡ flat_map spelled vs) × AllByRecursion FitsValue vs) (values_at fs end bytes)
@@ -134,9 +130,9 @@ values_read [] end (b ∷ bytes) fits below = record { is = (0, (omega arith, om
 values_read (f ∷ fs) end bytes fits below =
     let s = stands f end bytes fits in
     then_other (value_at f end bytes) _ s.read (λ fault. cut_first s fs fault below) (λ v e t.
-      let left : length v.1 ≤ end = omega (arith, (value_before f bytes v 0 t).0, below) in
-      then_other (values_at fs end v.1) _ (values_read fs end v.1 t.0.left left) (cut_later f fs end bytes v t below) (λ vs d u.
-        record { is = (t.0.parts ∙ ap (λ (r : List ℕ). spelled v.0 ++ r) u.0 ∙ sym (flat_map-cons spelled v.0 vs), (t.0.fit, u.1)) }))
+    let left : length v.1 ≤ end = omega (arith, (value_before f bytes v 0 t).0, below) in
+    then_other (values_at fs end v.1) _ (values_read fs end v.1 t.0.left left) (cut_later f fs end bytes v t below) (λ vs d u.
+    record { is = (t.0.parts ∙ ap (λ (r : List ℕ). spelled v.0 ++ r) u.0 ∙ sym (flat_map-cons spelled v.0 vs), (t.0.fit, u.1)) }))
 
 pub values_again : (vs : List Value) (end : ℕ) → AllByRecursion FitsValue vs → values_at (map field_of vs) end (flat_map spelled vs) ≡ Ok vs
 values_again [] end fits = refl

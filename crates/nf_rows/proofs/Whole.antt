@@ -1,9 +1,8 @@
 -- Whole rows: what is read is spelled so, and what is spelled so is read.
-use Rattle.std.proofs.Common.{◌≡◌, ℕ, ◌+◌, ◌-◌, ltb, List, [], ◌∷◌, ◌++◌, length, Result, Ok, Err, refl, sym, ap, subst, ◌∙◌}
-use Rattle.std.specs.Prelude.{map, ◌||◌, IfOk, MatchResult}
-use Rattle.std.specs.List.{flat_map, AllByRecursion}
-use Rattle.std.specs.Int.{w16, w32, w64, to_be_bytes}
-use Rattle.std.proofs.lemmas.List.Concat.{flat_map-cons}
+use Rattle.std.proofs.Common.{◌≡◌, ℕ, ◌+◌, List, ◌∷◌, length, Result, Ok, Err, refl, sym, ap, subst, ◌∙◌}
+use Rattle.std.specs.Prelude.{map, IfOk, MatchResult}
+use Rattle.std.specs.List.{flat_map}
+use Rattle.nf_base.specs.Keys.{key_of}
 use Rattle.nf_base.specs.declared.changes.RowKey.{RowKey}
 use Rattle.nf_base.specs.declared.changes.RowKey.TheVariants as keys
 use Rattle.nf_base.specs.declared.rows.Row.{Row}
@@ -11,11 +10,9 @@ use Rattle.nf_base.specs.declared.rows.Row.TheVariants as rows
 use Rattle.nf_rows.specs.declared.fault.RowFault.{RowFault}
 use Rattle.nf_rows.specs.declared.fault.RowFault.TheVariants as faults
 use Rattle.nf_rows.specs.declared.parts.TheConstants.{FORMAT}
-use Rattle.nf_rows.specs.Fields.{Field, field_of, key_fields, body_fields}
-use Rattle.nf_rows.specs.Fields as fields
-use Rattle.nf_rows.specs.Spelling.{Value, Valued, Keyed, Raw, AreFit, spelled, FitsValue, FitsKey, kind_of, key_values, body_values, values_of, key_spelling, spelling_of, Fits}
-use Rattle.nf_rows.specs.Spelling as values
-use Rattle.nf_rows.specs.Faults.{AreBytes, ◌>>=◌, Gives, format_at, values_at, row_at, reading}
+use Rattle.nf_rows.specs.Fields.{field_of, key_fields, body_fields}
+use Rattle.nf_rows.specs.Spelling.{Value, Keyed, Raw, AreFit, spelled, FitsKey, kind_of, key_values, values_of, key_spelling, spelling_of, Fits}
+use Rattle.nf_rows.specs.Faults.{AreBytes, Gives, values_at, row_at, reading}
 use Rattle.nf_rows.proofs.Rows.{found_is}
 use Rattle.nf_rows.proofs.OneRow.{same_key, same_row}
 use Rattle.nf_rows.proofs.FieldLaws.{format_again}
@@ -44,17 +41,7 @@ of_row row kind of_key of_body fits = row_again kind (values_of FORMAT row).key 
 
 pub read_again : (row : Row) → Fits row → reading (spelling_of row).kind (spelling_of row).key (spelling_of row).body ≡ Ok (values_of FORMAT row)
 read_again (rows.Meta r) fits = of_row (rows.Meta r) 1 refl refl fits
-read_again (rows.User r) fits = of_row (rows.User r) 2 refl refl fits
-read_again (rows.Token r) fits = of_row (rows.Token r) 3 refl refl fits
-read_again (rows.Group r) fits = of_row (rows.Group r) 4 refl refl fits
-read_again (rows.Member r) fits = of_row (rows.Member r) 5 refl refl fits
-read_again (rows.Node r) fits = of_row (rows.Node r) 6 refl refl fits
-read_again (rows.Share r) fits = of_row (rows.Share r) 7 refl refl fits
-read_again (rows.Mount r) fits = of_row (rows.Mount r) 8 refl refl fits
-read_again (rows.Version r) fits = of_row (rows.Version r) 9 refl refl fits
-read_again (rows.Item r) fits = of_row (rows.Item r) 10 refl refl fits
-read_again (rows.Upload r) fits = of_row (rows.Upload r) 11 refl refl fits
-read_again (rows.Chunk r) fits = of_row (rows.Chunk r) 12 refl refl fits
+read_again row fits = of_row row (kind_of (key_of row)) refl refl fits
 
 -- a reading isn't well and faulty
 given_not : {X : Type 0} {r : Result X RowFault} {x : X} {fault : RowFault} → r ≡ Ok x → r ≡ Err fault → ⊥
@@ -72,10 +59,7 @@ pub is_only : (kind : ℕ) (key body : List ℕ) (r : Result Row RowFault) (row 
 is_only kind key body (Ok read) row given fits same =
     same_row read row (ok_is (values_of FORMAT read) (values_of FORMAT row) (sym given ∙ spelled_again kind key body row fits same))
 is_only kind key body (Err faults.Memory) row given fits same = refl
-is_only kind key body (Err faults.Kind) row given fits same = absurd (given_not (spelled_again kind key body row fits same) (given (λ e. cc)))
-is_only kind key body (Err (faults.Short at)) row given fits same = absurd (given_not (spelled_again kind key body row fits same) (given (λ e. cc)))
-is_only kind key body (Err (faults.Long at)) row given fits same = absurd (given_not (spelled_again kind key body row fits same) (given (λ e. cc)))
-is_only kind key body (Err (faults.Value at)) row given fits same = absurd (given_not (spelled_again kind key body row fits same) (given (λ e. cc)))
+is_only kind key body (Err fault) row given fits same = absurd (given_not (spelled_again kind key body row fits same) (given (λ e. cc)))
 
 -- the same bytes are the same row
 pub one_row : (a b : Row) → Fits a → Fits b → spelling_of a ≡ spelling_of b → a ≡ b
@@ -84,17 +68,7 @@ one_row a b a_fits b_fits same =
 
 key_fields_of : (key : RowKey) → key_fields (kind_of key) ≡ map field_of (key_values key)
 key_fields_of keys.Meta = refl
-key_fields_of (keys.User id) = refl
-key_fields_of (keys.Token digest) = refl
-key_fields_of (keys.Group id) = refl
-key_fields_of (keys.Member group user) = refl
-key_fields_of (keys.Node id) = refl
-key_fields_of (keys.Share id) = refl
-key_fields_of (keys.Mount user node) = refl
-key_fields_of (keys.Version node at) = refl
-key_fields_of (keys.Item node) = refl
-key_fields_of (keys.Upload user dir) = refl
-key_fields_of (keys.Chunk user dir number) = refl
+key_fields_of key = refl
 
 -- a key's bytes are read as its values
 key_again : (key : RowKey) → FitsKey key → values_at (key_fields (kind_of key)) 0 (flat_map spelled (key_values key)) ≡ Ok (key_values key)
