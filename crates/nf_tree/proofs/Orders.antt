@@ -1,13 +1,13 @@
 -- A list of places in the order of their rows' keys: where a key cuts it, and what putting in and taking out leave.
-use Rattle.std.proofs.Common.{◌⊎◌, ℕ, zero, suc, ◌+◌, ◌-◌, ◌<◌, ◌≤◌, ◌≡◌, ◌≢◌, Bool, true, false, List, [], ◌∷◌, ◌++◌, Some, None, refl, sym, ap, ◌∙◌, subst, inl, inr, arith, length, get_or, set, nat_eq}
+use Rattle.std.proofs.Common.{ℕ, zero, suc, ◌+◌, ◌<◌, ◌≤◌, ◌≡◌, ◌≢◌, Bool, true, false, List, [], ◌∷◌, ◌++◌, Some, None, refl, sym, ap, ◌∙◌, subst, inl, inr, arith, length, get_or, set, nat_eq}
 use Rattle.std.specs.Cmp.{IsStrictWeakOrder}
-use Rattle.std.specs.List.{All, AllPairs, AllWithin, Contains, insert, remove, slice_get, list_any, range_with_len}
+use Rattle.std.specs.List.{All, AllPairs, Contains, insert, remove, slice_get, list_any, range_with_len}
 use Rattle.std.specs.List.Sorted.{IsPartitionedBy, IsPermutation, IsSortedBy}
 use Rattle.std.proofs.lemmas.Bool.{cases_lt, cases_order, true_from_ne_false}
 use Rattle.std.proofs.lemmas.Bool.Decides.{Decides-eqb, nat_tests}
-use Rattle.std.proofs.lemmas.List.{get_or_default, length_push, length-set}
+use Rattle.std.proofs.lemmas.List.{length_push, length-set}
 use Rattle.std.proofs.lemmas.List.Elements.{All-cons, All-contains}
-use Rattle.std.proofs.lemmas.List.Edits.{length-insert, get_or-insert_below, get_or-insert_at, get_or-insert_above, length-remove}
+use Rattle.std.proofs.lemmas.List.Edits.{length-insert, length-remove}
 use Rattle.std.proofs.lemmas.List.Folds.{list_any_at}
 use Rattle.std.proofs.lemmas.List.FromFn.{length-range_with_len, get_or-range_with_len}
 use Rattle.std.proofs.lemmas.List.Kept.{AllPairs-cons}
@@ -18,9 +18,7 @@ use Rattle.std.proofs.lemmas.Map.Made.{AllPairs-from_IsDistinct, IsDistinct-from
 use Rattle.std.proofs.lemmas.Map.Steps.{length-le_from_distinct_below}
 use Rattle.std.proofs.lemmas.Map.Views.{Contains-from_any}
 use Rattle.nf_base.specs.declared.rows.NodeRow.{NodeRow}
-use Rattle.std.specs.declared.cmp.Ordering.{Ordering}
-use Rattle.std.specs.Ordering.{is_lt}
-use Rattle.nf_tree.specs.Order.{Key, key_cmp, key_lt, key_at, key_of, AreRisingNodes, AreInOrder, IsIndex, IsCut, LacksOnly, no_key}
+use Rattle.nf_tree.specs.Order.{Key, key_lt, key_at, key_of, AreRisingNodes, AreInOrder, IsIndex, IsCut, LacksOnly, no_key}
 use Rattle.nf_tree.proofs.Positions.{no_row}
 use Rattle.nf_tree.proofs.Keys.{weak, lt_itself, lt_trans, same_number}
 

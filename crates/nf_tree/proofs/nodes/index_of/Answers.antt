@@ -1,4 +1,4 @@
-use Rattle.std.proofs.Common.{rules, sym}
+use Rattle.std.proofs.Common.{rules}
 use Rattle.std.proofs.lemmas.List.Sorted.{answers_always}
 use Rattle.nf_tree.proofs.Positions.{no_row, searched}
 use Rattle.nf_tree.proofs.nodes.index_of.Goals as goal

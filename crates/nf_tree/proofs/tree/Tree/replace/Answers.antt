@@ -1,4 +1,4 @@
-use Rattle.std.proofs.Common.{◌==◌, length, ap, sym, refl, ◌∙◌, arith}
+use Rattle.std.proofs.Common.{◌==◌, length, ap, refl, ◌∙◌, arith}
 use Rattle.nf_base.specs.declared.rows.NodeRow.{NodeRow}
 use Rattle.nf_defs.specs.Tree.{content_of, is_file}
 use Rattle.nf_tree.specs.Held.{Held}
