@@ -23,6 +23,7 @@ pub struct Reader<'a> {
     end: usize,
 }
 
+#[tactic(auto, unfolding(crate::specs::Faults::value_at, crate::specs::Faults::what_at))]
 impl<'a> Reader<'a> {
     pub fn key(alloc: Global, key: &'a [u8]) -> Self
         ensures rest { result.rest.now ≡ key.now }
@@ -65,7 +66,6 @@ impl<'a> Reader<'a> {
         }
     }
 
-    #[tactic(auto, unfolding(crate::specs::Faults::value_at))]
     pub fn u16(&mut self) -> Result<u16, RowFault>
         ensures { Reads field.U16 value.U16 self.old self.new result }
     {
@@ -74,7 +74,6 @@ impl<'a> Reader<'a> {
         Ok(number)
     }
 
-    #[tactic(auto, unfolding(crate::specs::Faults::value_at))]
     pub fn u32(&mut self) -> Result<u32, RowFault>
         ensures { Reads field.U32 value.U32 self.old self.new result }
     {
@@ -83,7 +82,6 @@ impl<'a> Reader<'a> {
         Ok(number)
     }
 
-    #[tactic(auto, unfolding(crate::specs::Faults::value_at))]
     pub fn u64(&mut self) -> Result<u64, RowFault>
         ensures { Reads field.U64 value.U64 self.old self.new result }
     {
@@ -92,7 +90,6 @@ impl<'a> Reader<'a> {
         Ok(number)
     }
 
-    #[tactic(auto, unfolding(crate::specs::Faults::value_at))]
     pub fn digest(&mut self) -> Result<Digest, RowFault>
         ensures { Reads field.Digest value.Digest self.old self.new result }
     {
@@ -101,7 +98,6 @@ impl<'a> Reader<'a> {
         Ok(digest_of(bytes))
     }
 
-    #[tactic(auto, unfolding(crate::specs::Faults::value_at))]
     pub fn name(&mut self) -> Result<Name, RowFault>
         ensures { Reads field.Name value.Name self.old self.new result }
     {
@@ -110,7 +106,6 @@ impl<'a> Reader<'a> {
         Ok(name)
     }
 
-    #[tactic(auto, unfolding(crate::specs::Faults::value_at))]
     pub fn path(&mut self) -> Result<Path, RowFault>
         ensures { Reads field.Path value.Path self.old self.new result }
     {
@@ -119,7 +114,6 @@ impl<'a> Reader<'a> {
         Ok(path)
     }
 
-    #[tactic(auto, unfolding(crate::specs::Faults::value_at))]
     pub fn place(&mut self) -> Result<Place, RowFault>
         ensures { Reads field.Where value.Where self.old self.new result }
     {
@@ -133,7 +127,6 @@ impl<'a> Reader<'a> {
     }
 
     /// A node's kind, and its content, which has no piece in a folder.
-    #[tactic(auto, unfolding(crate::specs::Faults::value_at, crate::specs::Faults::what_at))]
     pub fn kind_and_content(&mut self) -> Result<(NodeKind, Content), RowFault>
         ensures reads { Reads field.What (λ what. value.What what.0 what.1) self.old self.new result }
         ensures plain { IfOk result (λ what. IsPlain what.0 what.1) }
@@ -149,7 +142,6 @@ impl<'a> Reader<'a> {
         Ok((kind, content))
     }
 
-    #[tactic(auto, unfolding(crate::specs::Faults::value_at))]
     pub fn share_kind(&mut self) -> Result<ShareKind, RowFault>
         ensures { Reads field.Whom value.Whom self.old self.new result }
     {
@@ -158,7 +150,6 @@ impl<'a> Reader<'a> {
         Ok(kind)
     }
 
-    #[tactic(auto, unfolding(crate::specs::Faults::value_at))]
     fn optional(&mut self) -> Result<Option<u64>, RowFault>
         ensures { Reads field.Optional value.Optional self.old self.new result }
     {
@@ -170,22 +161,15 @@ impl<'a> Reader<'a> {
     pub fn optional_share(&mut self) -> Result<Option<ShareId>, RowFault>
         ensures { Reads field.Optional value.Optional self.old self.new result }
     {
-        match self.optional()? {
-            None => Ok(None),
-            Some(number) => Ok(Some(ShareId::new(number))),
-        }
+        Ok(self.optional()?.map(|number| ShareId::new(number)))
     }
 
     pub fn optional_moment(&mut self) -> Result<Option<Moment>, RowFault>
         ensures { Reads field.Optional value.Optional self.old self.new result }
     {
-        match self.optional()? {
-            None => Ok(None),
-            Some(seconds) => Ok(Some(Moment::new(seconds))),
-        }
+        Ok(self.optional()?.map(|seconds| Moment::new(seconds)))
     }
 
-    #[tactic(auto, unfolding(crate::specs::Faults::value_at))]
     pub fn permissions(&mut self) -> Result<Perms, RowFault>
         ensures { Reads field.Permissions value.Permissions self.old self.new result }
     {
@@ -198,7 +182,6 @@ impl<'a> Reader<'a> {
         }
     }
 
-    #[tactic(auto, unfolding(crate::specs::Faults::value_at))]
     pub fn flag(&mut self) -> Result<bool, RowFault>
         ensures { Reads field.Flag value.Flag self.old self.new result }
     {
@@ -208,7 +191,6 @@ impl<'a> Reader<'a> {
     }
 
     /// A content of at most so many pieces.
-    #[tactic(auto, unfolding(crate::specs::Faults::value_at))]
     pub fn content(&mut self, most: usize) -> Result<Content, RowFault>
         ensures reads { Reads (field.Pieces most) (value.Pieces most) self.old self.new result }
         ensures within { IfOk result (λ content. length content ≤ most) }

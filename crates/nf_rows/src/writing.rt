@@ -1,62 +1,47 @@
 //! Writing rows.
+#![tactic(auto, unfolding(crate::specs::Spelling::spelled))]
 
 ghost use Rattle.std.specs.Prelude.{◌≡◌, ◌++◌, ◌∷◌, [], OnOk};
-ghost use Rattle.nf_base.specs.declared.rows.Row.TheVariants as rows;
 ghost use Rattle.nf_base.specs.Kept.{IsPlain, IsSized};
-ghost use Rattle.nf_rows.specs.Spelling.{AreFit, Fits, FitsContent, FitsKey, FitsPiece, FitsValue, Puts, body_values, key_spelling, key_values, kind_of, spelled, spelling_of};
+ghost use Rattle.nf_rows.specs.Spelling.{Fits, FitsKey, FitsPiece, Puts, PutsAll, body_values, key_spelling, key_values, kind_of, spelled, spelling_of};
 ghost use Rattle.nf_rows.specs.Spelling as value;
 
 use crate::parts::FORMAT;
 use crate::raw::{RawKey, RawRow};
 use nf_base::{
-    ChunkRow, Content, Digest, GroupRow, ItemRow, MetaRow, Moment, MountRow, Name, NodeKind,
-    NodeRow, Path, Perms, Piece, Place, Row, RowKey, ShareId, ShareKind, ShareRow, TokenRow,
-    UploadRow, UserRow, VersionRow,
+    Content, Digest, Moment, Name, NodeKind, Path, Perms, Piece, Place, Row, RowKey, ShareId,
+    ShareKind,
 };
 use std::alloc::AllocError;
 
-#[tactic(auto, unfolding(crate::specs::Spelling::spelled))]
 fn put_u16(out: &mut Vec<u8>, n: u16) -> Result<(), AllocError>
-    ensures spelled { OnOk result (out.new.items ≡ out.old.items ++ spelled (value.U16 n)) }
-    ensures fits { OnOk result (FitsValue (value.U16 n)) }
+    ensures { OnOk result (Puts (value.U16 n) out.old.items out.new.items) }
 {
-    out.extend_from_slice(&n.to_be_bytes())?;
-    Ok(())
+    out.extend_from_slice(&n.to_be_bytes())
 }
 
-#[tactic(auto, unfolding(crate::specs::Spelling::spelled))]
 fn put_u32(out: &mut Vec<u8>, n: u32) -> Result<(), AllocError>
-    ensures spelled { OnOk result (out.new.items ≡ out.old.items ++ spelled (value.U32 n)) }
-    ensures fits { OnOk result (FitsValue (value.U32 n)) }
+    ensures { OnOk result (Puts (value.U32 n) out.old.items out.new.items) }
 {
-    out.extend_from_slice(&n.to_be_bytes())?;
-    Ok(())
+    out.extend_from_slice(&n.to_be_bytes())
 }
 
-#[tactic(auto, unfolding(crate::specs::Spelling::spelled))]
 fn put_u64(out: &mut Vec<u8>, n: u64) -> Result<(), AllocError>
-    ensures spelled { OnOk result (out.new.items ≡ out.old.items ++ spelled (value.U64 n)) }
-    ensures fits { OnOk result (FitsValue (value.U64 n)) }
+    ensures { OnOk result (Puts (value.U64 n) out.old.items out.new.items) }
 {
-    out.extend_from_slice(&n.to_be_bytes())?;
-    Ok(())
+    out.extend_from_slice(&n.to_be_bytes())
 }
 
-#[tactic(auto, unfolding(crate::specs::Spelling::spelled))]
 fn put_name(out: &mut Vec<u8>, name: &Name) -> Result<(), AllocError>
-    ensures spelled { OnOk result (out.new.items ≡ out.old.items ++ spelled (value.Name name.now)) }
-    ensures fits { OnOk result (FitsValue (value.Name name.now)) }
+    ensures { OnOk result (Puts (value.Name name.now) out.old.items out.new.items) }
 {
     let bytes = name.as_bytes();
     out.push(bytes.len() as u8)?;
-    out.extend_from_slice(bytes)?;
-    Ok(())
+    out.extend_from_slice(bytes)
 }
 
-#[tactic(auto, unfolding(crate::specs::Spelling::spelled))]
 fn put_path(out: &mut Vec<u8>, path: &Path) -> Result<(), AllocError>
-    ensures spelled { OnOk result (out.new.items ≡ out.old.items ++ spelled (value.Path path.now)) }
-    ensures fits { OnOk result (FitsValue (value.Path path.now)) }
+    ensures { OnOk result (Puts (value.Path path.now) out.old.items out.new.items) }
 {
     let names = path.names();
     out.push(names.len() as u8)?;
@@ -66,10 +51,8 @@ fn put_path(out: &mut Vec<u8>, path: &Path) -> Result<(), AllocError>
     Ok(())
 }
 
-#[tactic(auto, unfolding(crate::specs::Spelling::spelled))]
 fn put_place(out: &mut Vec<u8>, place: Place) -> Result<(), AllocError>
-    ensures spelled { OnOk result (out.new.items ≡ out.old.items ++ spelled (value.Where place)) }
-    ensures fits { OnOk result (FitsValue (value.Where place)) }
+    ensures { OnOk result (Puts (value.Where place) out.old.items out.new.items) }
 {
     match place {
         Place::Root => out.push(0)?,
@@ -82,10 +65,8 @@ fn put_place(out: &mut Vec<u8>, place: Place) -> Result<(), AllocError>
     Ok(())
 }
 
-#[tactic(auto, unfolding(crate::specs::Spelling::spelled))]
 fn put_share_kind(out: &mut Vec<u8>, kind: &ShareKind) -> Result<(), AllocError>
-    ensures spelled { OnOk result (out.new.items ≡ out.old.items ++ spelled (value.Whom kind.now)) }
-    ensures fits { OnOk result (FitsValue (value.Whom kind.now)) }
+    ensures { OnOk result (Puts (value.Whom kind.now) out.old.items out.new.items) }
 {
     match kind {
         ShareKind::User(user) => {
@@ -104,10 +85,8 @@ fn put_share_kind(out: &mut Vec<u8>, kind: &ShareKind) -> Result<(), AllocError>
     Ok(())
 }
 
-#[tactic(auto, unfolding(crate::specs::Spelling::spelled))]
 fn put_optional(out: &mut Vec<u8>, n: Option<u64>) -> Result<(), AllocError>
-    ensures spelled { OnOk result (out.new.items ≡ out.old.items ++ spelled (value.Optional n)) }
-    ensures fits { OnOk result (FitsValue (value.Optional n)) }
+    ensures { OnOk result (Puts (value.Optional n) out.old.items out.new.items) }
 {
     match n {
         None => out.push(0)?,
@@ -119,10 +98,8 @@ fn put_optional(out: &mut Vec<u8>, n: Option<u64>) -> Result<(), AllocError>
     Ok(())
 }
 
-#[tactic(auto, unfolding(crate::specs::Spelling::spelled))]
 fn put_flag(out: &mut Vec<u8>, flag: bool) -> Result<(), AllocError>
-    ensures spelled { OnOk result (out.new.items ≡ out.old.items ++ spelled (value.Flag flag)) }
-    ensures fits { OnOk result (FitsValue (value.Flag flag)) }
+    ensures { OnOk result (Puts (value.Flag flag) out.old.items out.new.items) }
 {
     if flag {
         out.push(1)?;
@@ -132,7 +109,7 @@ fn put_flag(out: &mut Vec<u8>, flag: bool) -> Result<(), AllocError>
     Ok(())
 }
 
-#[tactic(auto, unfolding(crate::specs::Spelling::spelled))]
+#[tactic(auto, unfolding(crate::specs::Spelling::spelled, crate::specs::Spelling::piece))]
 fn put_piece(out: &mut Vec<u8>, piece: &Piece) -> Result<(), AllocError>
     requires { IsSized piece.now }
     ensures spelled { OnOk result (out.new.items ≡ out.old.items ++ value.piece piece.now) }
@@ -144,10 +121,8 @@ fn put_piece(out: &mut Vec<u8>, piece: &Piece) -> Result<(), AllocError>
     Ok(())
 }
 
-#[tactic(auto, unfolding(crate::specs::Spelling::spelled))]
 fn put_content(out: &mut Vec<u8>, content: &Content) -> Result<(), AllocError>
-    ensures spelled { OnOk result (out.new.items ≡ out.old.items ++ value.content content.now) }
-    ensures fits { OnOk result (FitsContent 10000 content.now) }
+    ensures { OnOk result (Puts (value.Pieces 10000 content.now) out.old.items out.new.items) }
 {
     let pieces = content.pieces();
     put_u16(out, pieces.len() as u16)?;
@@ -157,15 +132,13 @@ fn put_content(out: &mut Vec<u8>, content: &Content) -> Result<(), AllocError>
     Ok(())
 }
 
-#[tactic(auto, unfolding(crate::specs::Spelling::spelled))]
 fn put_kind_and_content(
     out: &mut Vec<u8>,
     kind: NodeKind,
     content: &Content,
 ) -> Result<(), AllocError>
     requires { IsPlain kind content.now }
-    ensures spelled { OnOk result (out.new.items ≡ out.old.items ++ spelled (value.What kind content.now)) }
-    ensures fits { OnOk result (FitsValue (value.What kind content.now)) }
+    ensures { OnOk result (Puts (value.What kind content.now) out.old.items out.new.items) }
 {
     match kind {
         NodeKind::Folder => out.push(0)?,
@@ -174,19 +147,14 @@ fn put_kind_and_content(
     put_content(out, content)
 }
 
-#[tactic(auto, unfolding(crate::specs::Spelling::spelled))]
 fn put_digest(out: &mut Vec<u8>, digest: &Digest) -> Result<(), AllocError>
-    ensures spelled { OnOk result (out.new.items ≡ out.old.items ++ spelled (value.Digest digest.now)) }
-    ensures fits { OnOk result (FitsValue (value.Digest digest.now)) }
+    ensures { OnOk result (Puts (value.Digest digest.now) out.old.items out.new.items) }
 {
-    out.extend_from_slice(digest.as_bytes())?;
-    Ok(())
+    out.extend_from_slice(digest.as_bytes())
 }
 
-#[tactic(auto, unfolding(crate::specs::Spelling::spelled))]
 fn put_permissions(out: &mut Vec<u8>, perms: Perms) -> Result<(), AllocError>
-    ensures spelled { OnOk result (out.new.items ≡ out.old.items ++ spelled (value.Permissions perms)) }
-    ensures fits { OnOk result (FitsValue (value.Permissions perms)) }
+    ensures { OnOk result (Puts (value.Permissions perms) out.old.items out.new.items) }
 {
     out.push(perms.bits())?;
     Ok(())
@@ -195,25 +163,18 @@ fn put_permissions(out: &mut Vec<u8>, perms: Perms) -> Result<(), AllocError>
 fn share_number(share: Option<ShareId>) -> Option<u64>
     ensures { result ≡ share }
 {
-    match share {
-        None => None,
-        Some(share) => Some(share.number()),
-    }
+    share.map(|share| share.number())
 }
 
 fn seconds(moment: Option<Moment>) -> Option<u64>
     ensures { result ≡ moment }
 {
-    match moment {
-        None => None,
-        Some(moment) => Some(moment.seconds()),
-    }
+    moment.map(|moment| moment.seconds())
 }
 
 /// Puts the fields of a key, which are the row's first.
 fn put_key(key: &RowKey, out: &mut Vec<u8>) -> Result<(), AllocError>
-    ensures puts { OnOk result (Puts (key_values key.now) out.old.items out.new.items) }
-    ensures fits { OnOk result (FitsKey key.now) }
+    ensures { OnOk result (PutsAll (key_values key.now) out.old.items out.new.items) }
 {
     match key {
         RowKey::Meta => Ok(()),
@@ -247,137 +208,66 @@ fn put_key(key: &RowKey, out: &mut Vec<u8>) -> Result<(), AllocError>
     }
 }
 
-fn put_meta(row: &MetaRow, out: &mut Vec<u8>) -> Result<(), AllocError>
-    ensures puts { OnOk result (Puts (body_values FORMAT (rows.Meta row.now)) out.old.items out.new.items) }
-    ensures fits { OnOk result (AreFit (body_values FORMAT (rows.Meta row.now))) }
-{
-    put_u32(out, row.next_user.number())?;
-    put_u32(out, row.next_group.number())?;
-    put_u64(out, row.next_node.number())?;
-    put_u64(out, row.next_share.number())?;
-    put_u64(out, row.next_blob.number())?;
-    put_u64(out, row.last.seconds())?;
-    Ok(())
-}
-
-fn put_user(row: &UserRow, out: &mut Vec<u8>) -> Result<(), AllocError>
-    ensures puts { OnOk result (Puts (body_values FORMAT (rows.User row.now)) out.old.items out.new.items) }
-    ensures fits { OnOk result (AreFit (body_values FORMAT (rows.User row.now))) }
-{
-    put_name(out, &row.name)?;
-    put_u64(out, row.quota)?;
-    put_u64(out, row.root.number())?;
-    Ok(())
-}
-
-fn put_token(row: &TokenRow, out: &mut Vec<u8>) -> Result<(), AllocError>
-    ensures puts { OnOk result (Puts (body_values FORMAT (rows.Token row.now)) out.old.items out.new.items) }
-    ensures fits { OnOk result (AreFit (body_values FORMAT (rows.Token row.now))) }
-{
-    put_u32(out, row.user.number())?;
-    Ok(())
-}
-
-fn put_group(row: &GroupRow, out: &mut Vec<u8>) -> Result<(), AllocError>
-    ensures puts { OnOk result (Puts (body_values FORMAT (rows.Group row.now)) out.old.items out.new.items) }
-    ensures fits { OnOk result (AreFit (body_values FORMAT (rows.Group row.now))) }
-{
-    put_name(out, &row.name)?;
-    Ok(())
-}
-
-fn put_node(row: &NodeRow, out: &mut Vec<u8>) -> Result<(), AllocError>
-    ensures puts { OnOk result (Puts (body_values FORMAT (rows.Node row.now)) out.old.items out.new.items) }
-    ensures fits { OnOk result (AreFit (body_values FORMAT (rows.Node row.now))) }
-{
-    put_u32(out, row.owner.number())?;
-    put_place(out, row.place)?;
-    put_name(out, &row.name)?;
-    put_kind_and_content(out, row.kind, &row.content)?;
-    put_u64(out, row.changed.seconds())?;
-    Ok(())
-}
-
-fn put_share(row: &ShareRow, out: &mut Vec<u8>) -> Result<(), AllocError>
-    ensures puts { OnOk result (Puts (body_values FORMAT (rows.Share row.now)) out.old.items out.new.items) }
-    ensures fits { OnOk result (AreFit (body_values FORMAT (rows.Share row.now))) }
-{
-    put_share_kind(out, &row.kind)?;
-    put_u64(out, row.node.number())?;
-    put_u32(out, row.owner.number())?;
-    put_u32(out, row.initiator.number())?;
-    put_optional(out, share_number(row.parent))?;
-    put_permissions(out, row.perms)?;
-    put_optional(out, seconds(row.until))?;
-    put_flag(out, row.ended)?;
-    put_u64(out, row.made.seconds())?;
-    Ok(())
-}
-
-fn put_mount(row: &MountRow, out: &mut Vec<u8>) -> Result<(), AllocError>
-    ensures puts { OnOk result (Puts (body_values FORMAT (rows.Mount row.now)) out.old.items out.new.items) }
-    ensures fits { OnOk result (AreFit (body_values FORMAT (rows.Mount row.now))) }
-{
-    put_name(out, &row.name)?;
-    put_flag(out, row.left)?;
-    Ok(())
-}
-
-#[tactic(auto, unfolding(crate::specs::Spelling::spelled))]
-fn put_version(row: &VersionRow, out: &mut Vec<u8>) -> Result<(), AllocError>
-    ensures puts { OnOk result (Puts (body_values FORMAT (rows.Version row.now)) out.old.items out.new.items) }
-    ensures fits { OnOk result (AreFit (body_values FORMAT (rows.Version row.now))) }
-{
-    put_content(out, &row.content)?;
-    Ok(())
-}
-
-fn put_item(row: &ItemRow, out: &mut Vec<u8>) -> Result<(), AllocError>
-    ensures puts { OnOk result (Puts (body_values FORMAT (rows.Item row.now)) out.old.items out.new.items) }
-    ensures fits { OnOk result (AreFit (body_values FORMAT (rows.Item row.now))) }
-{
-    put_u32(out, row.owner.number())?;
-    put_name(out, &row.name)?;
-    put_u64(out, row.from.number())?;
-    put_u64(out, row.at.seconds())?;
-    Ok(())
-}
-
-fn put_upload(row: &UploadRow, out: &mut Vec<u8>) -> Result<(), AllocError>
-    ensures puts { OnOk result (Puts (body_values FORMAT (rows.Upload row.now)) out.old.items out.new.items) }
-    ensures fits { OnOk result (AreFit (body_values FORMAT (rows.Upload row.now))) }
-{
-    put_path(out, &row.to)?;
-    put_u64(out, row.touched.seconds())?;
-    Ok(())
-}
-
-#[tactic(auto, unfolding(crate::specs::Spelling::spelled))]
-fn put_chunk(row: &ChunkRow, out: &mut Vec<u8>) -> Result<(), AllocError>
-    ensures puts { OnOk result (Puts (body_values FORMAT (rows.Chunk row.now)) out.old.items out.new.items) }
-    ensures fits { OnOk result (AreFit (body_values FORMAT (rows.Chunk row.now))) }
-{
-    put_content(out, &row.content)?;
-    Ok(())
-}
-
+/// Puts the other fields of a row.
+#[tactic(auto)]
 fn put_body(row: &Row, out: &mut Vec<u8>) -> Result<(), AllocError>
-    ensures puts { OnOk result (Puts (body_values FORMAT row.now) out.old.items out.new.items) }
-    ensures fits { OnOk result (AreFit (body_values FORMAT row.now)) }
+    ensures { OnOk result (PutsAll (body_values FORMAT row.now) out.old.items out.new.items) }
 {
     match row {
-        Row::Meta(row) => put_meta(row, out),
-        Row::User(row) => put_user(row, out),
-        Row::Token(row) => put_token(row, out),
-        Row::Group(row) => put_group(row, out),
+        Row::Meta(row) => {
+            put_u32(out, row.next_user.number())?;
+            put_u32(out, row.next_group.number())?;
+            put_u64(out, row.next_node.number())?;
+            put_u64(out, row.next_share.number())?;
+            put_u64(out, row.next_blob.number())?;
+            put_u64(out, row.last.seconds())?;
+            Ok(())
+        }
+        Row::User(row) => {
+            put_name(out, &row.name)?;
+            put_u64(out, row.quota)?;
+            put_u64(out, row.root.number())?;
+            Ok(())
+        }
+        Row::Token(row) => put_u32(out, row.user.number()),
+        Row::Group(row) => put_name(out, &row.name),
         Row::Member(_) => Ok(()),
-        Row::Node(row) => put_node(row, out),
-        Row::Share(row) => put_share(row, out),
-        Row::Mount(row) => put_mount(row, out),
-        Row::Version(row) => put_version(row, out),
-        Row::Item(row) => put_item(row, out),
-        Row::Upload(row) => put_upload(row, out),
-        Row::Chunk(row) => put_chunk(row, out),
+        Row::Node(row) => {
+            put_u32(out, row.owner.number())?;
+            put_place(out, row.place)?;
+            put_name(out, &row.name)?;
+            put_kind_and_content(out, row.kind, &row.content)?;
+            put_u64(out, row.changed.seconds())
+        }
+        Row::Share(row) => {
+            put_share_kind(out, &row.kind)?;
+            put_u64(out, row.node.number())?;
+            put_u32(out, row.owner.number())?;
+            put_u32(out, row.initiator.number())?;
+            put_optional(out, share_number(row.parent))?;
+            put_permissions(out, row.perms)?;
+            put_optional(out, seconds(row.until))?;
+            put_flag(out, row.ended)?;
+            put_u64(out, row.made.seconds())?;
+            Ok(())
+        }
+        Row::Mount(row) => {
+            put_name(out, &row.name)?;
+            put_flag(out, row.left)
+        }
+        Row::Version(row) => put_content(out, &row.content),
+        Row::Item(row) => {
+            put_u32(out, row.owner.number())?;
+            put_name(out, &row.name)?;
+            put_u64(out, row.from.number())?;
+            put_u64(out, row.at.seconds())?;
+            Ok(())
+        }
+        Row::Upload(row) => {
+            put_path(out, &row.to)?;
+            put_u64(out, row.touched.seconds())
+        }
+        Row::Chunk(row) => put_content(out, &row.content),
     }
 }
 

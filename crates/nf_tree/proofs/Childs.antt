@@ -1,11 +1,11 @@
 -- The child of a name is the row where its key cuts the index.
-use Rattle.std.proofs.Common.{ℕ, zero, suc, ◌<◌, ◌≤◌, ◌≡◌, ◌&&◌, Bool, true, false, List, [], ◌∷◌, Option, Some, None, refl, sym, ap, ◌∙◌, subst, inl, inr, arith, length, get_or, find, nat_cmp}
+use Rattle.std.proofs.Common.{ℕ, ◌<◌, ◌≤◌, ◌≡◌, ◌&&◌, Bool, true, false, List, Option, Some, None, refl, sym, ap, ◌∙◌, subst, inl, inr, arith, length, get_or, nat_cmp}
 use Rattle.std.specs.List.{Contains}
 use Rattle.std.specs.Ordering.{is_lt}
 use Rattle.std.specs.Option.{option_map}
 use Rattle.std.specs.Str.{bytes_eq}
 use Rattle.std.specs.Cmp.Lexicographic.{options_total}
-use Rattle.std.proofs.lemmas.Bool.{cases_lt}
+use Rattle.std.proofs.lemmas.Bool.{and_parts, cases_lt, false_from_ne_true}
 use Rattle.std.proofs.lemmas.Bool.Decides.{nat_tests}
 use Rattle.std.proofs.lemmas.Cmp.{tied_itself, nat_list_cmp_total, nat_cmp_total}
 use Rattle.std.proofs.lemmas.List.{get_or_default}
@@ -14,23 +14,12 @@ use Rattle.nf_base.specs.declared.rows.NodeRow.{NodeRow}
 use Rattle.nf_base.specs.declared.rows.Place.{Place}
 use Rattle.nf_base.specs.declared.rows.Place.TheVariants.{Root, Inside, Trash}
 use Rattle.nf_defs.specs.Tree.{child_of, is_in, is_place_in, folder_of}
+use Rattle.nf_defs.proofs.Lookups.{position_at, position_nowhere, find_there, find_nowhere}
 use Rattle.nf_tree.specs.Order.{Key, key_lt, key_at, key_of, AreRisingNodes, IsIndex, IsCut}
 use Rattle.std.proofs.lemmas.List.{get_or_read}
 use Rattle.nf_tree.proofs.Positions.{no_row}
 use Rattle.nf_tree.proofs.Keys.{weak, squeezed}
 use Rattle.nf_tree.proofs.Orders.{key_of_row, in_index}
-
--- ---- the first row that passes
-
-find_first : {X : Type 0} (p : X → Bool) (xs : List X) (i : ℕ) (d : X) → i < length xs → p (get_or xs i d) ≡ true → ((k : ℕ) → k < i → p (get_or xs k d) ≡ false)
-    → find p xs ≡ Some (get_or xs i d)
-find_first p [] i d within is before = absurd (omega arith)
-find_first p (x ∷ xs) zero d within is before = rw is refl
-find_first p (x ∷ xs) (suc i) d within is before = rw (before 0 (omega arith)) (find_first p xs i d (omega arith) is (λ k less. before (suc k) (omega arith)))
-
-find_none : {X : Type 0} (p : X → Bool) (xs : List X) (d : X) → ((k : ℕ) → k < length xs → p (get_or xs k d) ≡ false) → find p xs ≡ None
-find_none p [] d none = refl
-find_none p (x ∷ xs) d none = rw (none 0 (omega arith)) (find_none p xs d (λ k less. none (suc k) (omega arith)))
 
 -- ---- rows in a folder
 
@@ -51,13 +40,8 @@ is_child folder name row = is_in folder row && bytes_eq row.name name
 child_key : (rows : List NodeRow) (folder k : ℕ) (name : List ℕ) (d : NodeRow) → k < length rows → is_child folder name (get_or rows k d) ≡ true
     → key_at rows k ≡ record { folder = Some folder; name = name; id = (get_or rows k d).id }
 unfolding is_child
-child_key rows folder k name d within is = key_of_row rows k d within ∙ same (get_or rows k d) (both _ _ is)
+child_key rows folder k name d within is = key_of_row rows k d within ∙ same (get_or rows k d) (and_parts _ _ is)
   where
-    both : (a b : Bool) → (a && b) ≡ true → (a ≡ true) × (b ≡ true)
-    both true true h = (refl, refl)
-    both true false h = absurd (cc)
-    both false b h = absurd (cc)
-
     same : (row : NodeRow) → (is_in folder row ≡ true) × (bytes_eq row.name name ≡ true) → key_of row ≡ record { folder = Some folder; name = name; id = row.id }
     same row h = let e = folder_is folder row.place h.0 in let f = (bytes_eq-Decides row.name name).0 h.1 in rw e (rw f refl)
 
@@ -111,67 +95,57 @@ module _ (rows : List NodeRow) (order : List ℕ) (folder : ℕ) (name : List �
   child_there : (at : ℕ) → cut < length order → at ≡ get_or order cut at → is_child folder name (get_or rows at d) ≡ true → child_of rows folder name ≡ Some (get_or rows at d).id
   unfolding is_child
   child_there at high is child =
-      let e = find_first (is_child folder name) rows at d there child (λ k less. first k less (is_child folder name (get_or rows k d)) refl) in
-      ap (option_map (λ (row : NodeRow). row.id)) e
+      let first = position_at (is_child folder name) rows at d there child (λ k less. false_from_ne_true _ (λ is. apart k less is (behind k (omega (arith, there)) is))) in
+      ap (option_map (λ (row : NodeRow). row.id)) (sym (find_there (is_child folder name) rows at (get_or rows at d) first (get_or_default rows at d (get_or rows at d) there)))
     where
       there : at < length rows
       there = subst (λ a. a < length rows) (sym is) (index.within cut at high)
 
-      first : (k : ℕ) → k < at → (b : Bool) → is_child folder name (get_or rows k d) ≡ b → is_child folder name (get_or rows k d) ≡ false
-      first k less false e = e
-      first k less true e = absurd (apart (behind k (omega (arith, there)) e))
-        where
-          apart : (j : ℕ) × (cut ≤ j) × (j < length order) × (get_or order j k ≡ k) → ⊥
-          apart (j, past, high_j, is_j) = elim (cases_lt cut j) [
-            | inr same ↦ (let f : get_or order cut k ≡ k = subst (λ i. get_or order i k ≡ k) (omega arith) is_j in let g : at ≡ k = is ∙ get_or_default order cut at k high ∙ f in n_lt at k less g)
-            | inl more ↦
-                (let f = index.in_order cut j k more high_j in
-                let g = subst (λ a. key_lt (key_at rows (get_or order cut k)) (key_at rows a) ≡ true) is_j f in
-                let h = subst (λ a. key_lt (key_at rows a) (key_at rows k) ≡ true) (get_or_default order cut k at high ∙ sym is) g in
-                let m = subst (λ key. key_lt key (key_at rows k) ≡ true) (child_key rows folder at name d there child) h in
-                let n = subst (λ key. key_lt (record { folder = Some folder; name = name; id = (get_or rows at d).id }) key ≡ true) (child_key rows folder k name d (omega (arith, there)) e) m in
-                let o = sym (by_number (Some folder) name (get_or rows at d).id (get_or rows k d).id) ∙ n in
-                let rise = rising k at d less there in
-                let p = not_below (get_or rows at d).id (get_or rows k d).id (omega arith) in
-                absurd (cc))
-          ]
+      apart : (k : ℕ) → k < at → is_child folder name (get_or rows k d) ≡ true → (j : ℕ) × (cut ≤ j) × (j < length order) × (get_or order j k ≡ k) → ⊥
+      apart k less e (j, past, high_j, is_j) = elim (cases_lt cut j) [
+        | inr same ↦ (let f : get_or order cut k ≡ k = subst (λ i. get_or order i k ≡ k) (omega arith) is_j in let g : at ≡ k = is ∙ get_or_default order cut at k high ∙ f in n_lt at k less g)
+        | inl more ↦
+            (let f = index.in_order cut j k more high_j in
+            let g = subst (λ a. key_lt (key_at rows (get_or order cut k)) (key_at rows a) ≡ true) is_j f in
+            let h = subst (λ a. key_lt (key_at rows a) (key_at rows k) ≡ true) (get_or_default order cut k at high ∙ sym is) g in
+            let m = subst (λ key. key_lt key (key_at rows k) ≡ true) (child_key rows folder at name d there child) h in
+            let n = subst (λ key. key_lt (record { folder = Some folder; name = name; id = (get_or rows at d).id }) key ≡ true) (child_key rows folder k name d (omega (arith, there)) e) m in
+            let o = sym (by_number (Some folder) name (get_or rows at d).id (get_or rows k d).id) ∙ n in
+            let rise = rising k at d less there in
+            let p = not_below (get_or rows at d).id (get_or rows k d).id (omega arith) in
+            absurd (cc))
+      ]
 
   pub child_past : length order ≤ cut → child_of rows folder name ≡ None
   unfolding is_child
-  child_past past = ap (option_map (λ (row : NodeRow). row.id)) (find_none (is_child folder name) rows d (λ k within. none k within (is_child folder name (get_or rows k d)) refl))
-    where
-      none : (k : ℕ) → k < length rows → (b : Bool) → is_child folder name (get_or rows k d) ≡ b → is_child folder name (get_or rows k d) ≡ false
-      none k within false e = e
-      none k within true e = let h = behind k within e in absurd (omega (arith, h.1, h.2))
+  child_past past = ap (option_map (λ (row : NodeRow). row.id)) (sym (find_nowhere (is_child folder name) rows (position_nowhere (is_child folder name) rows d (λ k within.
+      false_from_ne_true _ (λ e. let h = behind k within e in absurd (omega (arith, h.1, h.2)))))))
 
   child_nowhere : (at : ℕ) → cut < length order → at ≡ get_or order cut at → is_child folder name (get_or rows at d) ≡ false → child_of rows folder name ≡ None
   unfolding is_child
-  child_nowhere at high is other = ap (option_map (λ (row : NodeRow). row.id)) (find_none (is_child folder name) rows d (λ k within. none k within (is_child folder name (get_or rows k d)) refl))
+  child_nowhere at high is other = ap (option_map (λ (row : NodeRow). row.id)) (sym (find_nowhere (is_child folder name) rows (position_nowhere (is_child folder name) rows d (λ k within.
+      false_from_ne_true _ (λ e. apart k within e (behind k within e))))))
     where
       there : at < length rows
       there = subst (λ a. a < length rows) (sym is) (index.within cut at high)
 
-      none : (k : ℕ) → k < length rows → (b : Bool) → is_child folder name (get_or rows k d) ≡ b → is_child folder name (get_or rows k d) ≡ false
-      none k within false e = e
-      none k within true e = absurd (apart (behind k within e))
-        where
-          apart : (j : ℕ) × (cut ≤ j) × (j < length order) × (get_or order j k ≡ k) → ⊥
-          apart (j, past, high_j, is_j) = elim (cases_lt cut j) [
-            | inr same ↦
-                (let f : get_or order cut k ≡ k = subst (λ i. get_or order i k ≡ k) (omega arith) is_j in
-                let g = sym (get_or_default order cut at k high ∙ f) in
-                let one : k ≡ at = g ∙ sym is in
-                let h = subst (λ a. is_child folder name (get_or rows a d) ≡ true) one e in absurd (cc))
-            | inl more ↦
-                (let f = index.in_order cut j k more high_j in
-                let g = subst (λ a. key_lt (key_at rows (get_or order cut k)) (key_at rows a) ≡ true) is_j f in
-                let h = subst (λ a. key_lt (key_at rows a) (key_at rows k) ≡ true) (get_or_default order cut k at high ∙ sym is) g in
-                let m = subst (λ key. key_lt (key_at rows at) key ≡ true) (child_key rows folder k name d within e) h in
-                let low = subst (λ a. key_lt (key_at rows a) (record { folder = Some folder; name = name; id = 0 }) ≡ false) (sym is) (cuts.behind cut at (omega arith) high) in
-                let p = squeezed (key_at rows at) (Some folder) name 0 (get_or rows k d).id low (weak.one_way _ _ m) in
-                let q = is_child_from rows folder at name d there p.0 p.1 in
-                absurd (cc))
-          ]
+      apart : (k : ℕ) → k < length rows → is_child folder name (get_or rows k d) ≡ true → (j : ℕ) × (cut ≤ j) × (j < length order) × (get_or order j k ≡ k) → ⊥
+      apart k within e (j, past, high_j, is_j) = elim (cases_lt cut j) [
+        | inr same ↦
+            (let f : get_or order cut k ≡ k = subst (λ i. get_or order i k ≡ k) (omega arith) is_j in
+            let g = sym (get_or_default order cut at k high ∙ f) in
+            let one : k ≡ at = g ∙ sym is in
+            let h = subst (λ a. is_child folder name (get_or rows a d) ≡ true) one e in absurd (cc))
+        | inl more ↦
+            (let f = index.in_order cut j k more high_j in
+            let g = subst (λ a. key_lt (key_at rows (get_or order cut k)) (key_at rows a) ≡ true) is_j f in
+            let h = subst (λ a. key_lt (key_at rows a) (key_at rows k) ≡ true) (get_or_default order cut k at high ∙ sym is) g in
+            let m = subst (λ key. key_lt (key_at rows at) key ≡ true) (child_key rows folder k name d within e) h in
+            let low = subst (λ a. key_lt (key_at rows a) (record { folder = Some folder; name = name; id = 0 }) ≡ false) (sym is) (cuts.behind cut at (omega arith) high) in
+            let p = squeezed (key_at rows at) (Some folder) name 0 (get_or rows k d).id low (weak.one_way _ _ m) in
+            let q = is_child_from rows folder at name d there p.0 p.1 in
+            absurd (cc))
+      ]
 
   -- the row that was read at the cut
   row_here : (row : NodeRow) → cut < length order → row ≡ get_or rows (get_or order cut 0) row → row ≡ get_or rows (get_or order cut 0) d

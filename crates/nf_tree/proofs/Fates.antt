@@ -1,11 +1,12 @@
 -- Where rows go when some are dropped, and the index of those that are left.
-use Rattle.std.proofs.Common.{ℕ, zero, suc, ◌+◌, ◌<◌, ◌≤◌, ◌≡◌, Bool, true, false, List, [], ◌∷◌, ◌++◌, refl, sym, ap, ◌∙◌, subst, inl, inr, arith, length, get_or, take, drop, map, filter, nat_eq, nat_lt}
+use Rattle.std.proofs.Common.{ℕ, zero, suc, ◌+◌, ◌<◌, ◌≤◌, ◌≡◌, Bool, true, false, List, [], ◌∷◌, ◌++◌, refl, sym, ap, ◌∙◌, subst, inl, inr, arith, length, get_or, take, drop, map, filter, nat_eq, nat_lt, cond}
 use Rattle.std.specs.List.{All, AllPairs, Contains, list_any}
-use Rattle.std.proofs.lemmas.Bool.{cases_lt}
+use Rattle.std.proofs.lemmas.Bool.{cases_lt, false_from_ne_true, true_from_ne_false}
 use Rattle.std.proofs.lemmas.Bool.Decides.{Decides-eqb, nat_tests}
-use Rattle.std.proofs.lemmas.List.{get_or_default, get_or-drop, get_or-map, get_or_push, get_or_append_left, length-map, length_push, take_more}
-use Rattle.std.proofs.lemmas.List.Elements.{All-contains, All-filter, filter-append, filter_passes}
-use Rattle.std.proofs.lemmas.List.Filters.{FiltersInPlace}
+use Rattle.std.proofs.lemmas.List.{get_or_default, get_or-drop, get_or-map, get_or_push, get_or_append_left, length-map, length_push}
+use Rattle.std.proofs.lemmas.List.Elements.{All-contains, All-filter, filter_passes}
+use Rattle.std.proofs.lemmas.List.Filters.{FiltersInPlace, length-filter_more}
+use Rattle.std.proofs.lemmas.List.Sums.{count_by-le-length, length-filter}
 use Rattle.std.proofs.lemmas.List.Folds.{list_any_at}
 use Rattle.std.proofs.lemmas.List.Kept.{AllPairs-filter}
 use Rattle.std.proofs.lemmas.Map.Made.{IsDistinct-from_AllPairs}
@@ -17,33 +18,16 @@ use Rattle.nf_tree.specs.Held.{IsTree}
 use Rattle.nf_tree.specs.Order.{key_lt, key_at, key_of, AreFates, AreInOrder, IsIndex}
 use Rattle.nf_tree.proofs.Positions.{no_row}
 use Rattle.nf_tree.proofs.Orders.{key_of_row, in_index, no_place_twice}
-use Rattle.nf_tree.proofs.Members.{Contains-map, Contains-filter}
+use Rattle.nf_defs.proofs.ByName.{Contains-map, Contains-filter}
 
 -- ---- how many stay
 
 pub fewer : (p : NodeRow → Bool) (rows : List NodeRow) → length (filter p rows) ≤ length rows
-fewer p [] = omega arith
-fewer p (row ∷ rows) = here (p row) refl (fewer p rows)
-  where
-    here : (b : Bool) → p row ≡ b → length (filter p rows) ≤ length rows → length (filter p (row ∷ rows)) ≤ length (row ∷ rows)
-    here true e few = rw e (omega arith)
-    here false e few = rw e (omega arith)
+fewer p rows = omega (arith, length-filter p rows, count_by-le-length p rows)
 
-pub one_more : (p : NodeRow → Bool) (rows : List NodeRow) (n : ℕ) (row : NodeRow) → n < length rows → row ≡ get_or rows n row → p row ≡ true
-    → length (filter p (take (n + 1) rows)) ≡ length (filter p (take n rows)) + 1
-one_more p rows n row within is stays =
-    ap (λ list. length (filter p list)) (take_more rows n row within ∙ ap (λ r. take n rows ++ r ∷ []) (sym is))
-    ∙ ap length (filter-append p (take n rows) (row ∷ [])) ∙ (rw stays (length_push (filter p (take n rows)) row))
-
-pub no_more : (p : NodeRow → Bool) (rows : List NodeRow) (n : ℕ) (row : NodeRow) → n < length rows → row ≡ get_or rows n row → p row ≡ false
-    → length (filter p (take (n + 1) rows)) ≡ length (filter p (take n rows))
-no_more p rows n row within is goes =
-    ap (λ list. length (filter p list)) (take_more rows n row within ∙ ap (λ r. take n rows ++ r ∷ []) (sym is))
-    ∙ ap length (filter-append p (take n rows) (row ∷ [])) ∙ (rw goes (ap length (append_none (filter p (take n rows)))))
-  where
-    append_none : (list : List NodeRow) → list ++ [] ≡ list
-    append_none [] = refl
-    append_none (x ∷ list) = ap (λ rest. x ∷ rest) (append_none list)
+pub one_more : (p : NodeRow → Bool) (rows : List NodeRow) (n : ℕ) (row : NodeRow) → n < length rows → row ≡ get_or rows n row
+    → length (filter p (take (n + 1) rows)) ≡ length (filter p (take n rows)) + cond (p row) 1 0
+one_more p rows n row within is = length-filter_more p rows n row within ∙ ap (λ r. length (filter p (take n rows)) + cond (p r) 1 0) (sym is)
 
 -- ---- a row that stays goes behind those before it
 
@@ -111,11 +95,7 @@ module _ (p : NodeRow → Bool) (rows : List NodeRow) (order fates : List ℕ) (
   fate at = get_or fates at 0
 
   stays_if : (at : ℕ) → at < length rows → fate at < length rows → p (get_or rows at no_row) ≡ true
-  stays_if at within low = here (p (get_or rows at no_row)) refl
-    where
-      here : (b : Bool) → p (get_or rows at no_row) ≡ b → p (get_or rows at no_row) ≡ true
-      here true e = e
-      here false e = let h = are.go at no_row within e in absurd (omega arith)
+  stays_if at within low = true_from_ne_false _ (λ goes. let h = are.go at no_row within goes in absurd (omega arith))
 
   lands : (at : ℕ) → at < length rows → fate at < length rows → (fate at < length (filter p rows)) × (key_at (filter p rows) (fate at) ≡ key_at rows at)
   lands at within low =
@@ -205,18 +185,15 @@ module _ (p : NodeRow → Bool) (rows ys : List NodeRow) (fates : List ℕ) (kep
   fate_is = is ∙ get_or_default fates at fate 0 (let e = are.long in omega arith)
 
   pub stays_by : fate < length rows → p (get_or ys at no_row) ≡ true
-  stays_by low = here (p (get_or rows at no_row)) refl
-    where
-      here : (b : Bool) → p (get_or rows at no_row) ≡ b → p (get_or ys at no_row) ≡ true
-      here true e = ap p (still p rows ys kept at no_row filtered) ∙ e
-      here false e = absurd (let g = are.go at no_row within e in let f = fate_is in omega arith)
+  stays_by low = ap p (still p rows ys kept at no_row filtered) ∙ true_from_ne_false _ (λ goes. let g = are.go at no_row within goes in let f = fate_is in absurd (omega arith))
 
   pub goes_by : length rows ≤ fate → p (get_or ys at no_row) ≡ false
-  goes_by high = here (p (get_or rows at no_row)) refl
-    where
-      here : (b : Bool) → p (get_or rows at no_row) ≡ b → p (get_or ys at no_row) ≡ false
-      here true e = absurd (let g = are.stay at no_row within e in let f = fate_is in let h = (stays_behind p rows at no_row within e).0 in let few = fewer p rows in omega arith)
-      here false e = ap p (still p rows ys kept at no_row filtered) ∙ e
+  goes_by high = ap p (still p rows ys kept at no_row filtered) ∙ false_from_ne_true _ (λ stays.
+      let g = are.stay at no_row within stays in
+      let f = fate_is in
+      let h = (stays_behind p rows at no_row within stays).0 in
+      let few = fewer p rows in
+      absurd (omega arith))
 
 -- all of a list is mapped
 pub mapped : (f : ℕ → ℕ) (xs : List ℕ) (n : ℕ) → length xs ≡ n → map f (take n xs) ++ drop n xs ≡ map f xs

@@ -4,11 +4,11 @@ use Rattle.std.specs.Cmp.{IsTotalOrder, IsStrictWeakOrder}
 use Rattle.std.specs.Cmp.Lexicographic.{slice_cmp, options_total}
 use Rattle.std.specs.declared.cmp.Ordering.{Ordering}
 use Rattle.std.specs.Option.{option_cmp}
-use Rattle.std.specs.Ordering.{ordering_then, ordering_reverse, is_lt, is_gt, is_eq}
+use Rattle.std.specs.Ordering.{ordering_then, ordering_reverse, is_lt, is_gt}
 use Rattle.std.proofs.lemmas.Cmp.{then_total, on_total, nat_list_cmp_total, nat_cmp_total, ranked}
+use Rattle.std.proofs.lemmas.Bool.{both_ways, false_from_ne_true, true_from_ne_false}
 use Rattle.std.proofs.lemmas.List.Sorted.{ranks_by}
-use Rattle.std.proofs.lemmas.Map.Text.{is_eq-slice_cmp}
-use Rattle.std.proofs.lemmas.Slice.Eq.{bytes_eq-Decides}
+use Rattle.nf_base.proofs.Naming.{slice_cmp-Equal}
 use Rattle.nf_tree.specs.Order.{Key, key_cmp, key_lt}
 
 pub key_total : IsTotalOrder key_cmp
@@ -20,23 +20,18 @@ pub weak : IsStrictWeakOrder key_lt
 unfolding key_lt
 weak = ranks_by key_total (λ key. key)
 
-pub lt_itself : (a : Key) → key_lt a a ≡ false
-lt_itself a = here (key_lt a a) refl
-  where
-    here : (b : Bool) → key_lt a a ≡ b → key_lt a a ≡ false
-    here true e = weak.one_way a a e
-    here false e = e
+-- ---- what follows of such a test
 
--- a < b and not c < b give a < c
-pub lt_upto : (a b c : Key) → key_lt a b ≡ true → key_lt c b ≡ false → key_lt a c ≡ true
-lt_upto a b c less upto = here (key_lt a c) refl
-  where
-    here : (r : Bool) → key_lt a c ≡ r → key_lt a c ≡ true
-    here true e = e
-    here false e = let h = weak.chain a c b e upto in absurd (cc)
+module _ {X : Type 0} {lt : X → X → Bool} (order : IsStrictWeakOrder lt) where
+  pub lt_itself : (a : X) → lt a a ≡ false
+  lt_itself a = false_from_ne_true (lt a a) (λ less. both_ways (lt a a) (order.one_way a a less) less)
 
-pub lt_trans : (a b c : Key) → key_lt a b ≡ true → key_lt b c ≡ true → key_lt a c ≡ true
-lt_trans a b c less more = lt_upto a b c less (weak.one_way b c more)
+  -- a < b and not c < b give a < c
+  lt_upto : (a b c : X) → lt a b ≡ true → lt c b ≡ false → lt a c ≡ true
+  lt_upto a b c less upto = true_from_ne_false (lt a c) (λ high. both_ways (lt a b) (order.chain a c b high upto) less)
+
+  pub lt_trans : (a b c : X) → lt a b ≡ true → lt b c ≡ true → lt a c ≡ true
+  lt_trans a b c less more = lt_upto a b c less (order.one_way b c more)
 
 -- ---- ties
 
@@ -53,9 +48,6 @@ option_tie None None h = refl
 option_tie None (Some y) h = absurd (cc)
 option_tie (Some x) None h = absurd (cc)
 option_tie (Some x) (Some y) h = ap Some (nat_tie x y h)
-
-pub name_tie : (x y : List ℕ) → slice_cmp nat_cmp x y ≡ Equal → x ≡ y
-name_tie x y h = (bytes_eq-Decides x y).0 (sym (is_eq-slice_cmp x y) ∙ ap is_eq h)
 
 level : (o : Ordering) → is_lt o ≡ false → is_gt o ≡ false → o ≡ Equal
 level Less h g = absurd (cc)
@@ -96,7 +88,7 @@ unfolding key_lt
 squeezed key folder name i j low high =
     let e = between (option_cmp nat_cmp key.folder folder) (slice_cmp nat_cmp key.name name) (nat_cmp key.id i) (nat_cmp key.id j) low
     (is_gt_back key (record { folder = folder; name = name; id = j }) ∙ high) in
-    (option_tie _ _ e.0, name_tie _ _ e.1)
+    (option_tie _ _ e.0, (slice_cmp-Equal key.name name).0 e.1)
 
 -- between two keys of one folder there is no other folder
 between_folders : (o c d : Ordering) → is_lt (ordering_then o c) ≡ false → is_gt (ordering_then o d) ≡ false → o ≡ Equal

@@ -1,4 +1,3 @@
-pub mod Members
 pub mod Positions
 pub mod Climbs
 pub mod Keys

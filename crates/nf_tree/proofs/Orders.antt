@@ -1,13 +1,13 @@
 -- A list of places in the order of their rows' keys: where a key cuts it, and what putting in and taking out leave.
-use Rattle.std.proofs.Common.{◌⊎◌, ℕ, zero, suc, ◌+◌, ◌-◌, ◌<◌, ◌≤◌, ◌≡◌, ◌≢◌, Bool, true, false, List, [], ◌∷◌, ◌++◌, Some, None, refl, sym, ap, ◌∙◌, subst, inl, inr, arith, length, get_or, set, nat_eq}
+use Rattle.std.proofs.Common.{ℕ, zero, suc, ◌+◌, ◌<◌, ◌≤◌, ◌≡◌, ◌≢◌, Bool, true, false, List, [], ◌∷◌, ◌++◌, Some, None, refl, sym, ap, ◌∙◌, subst, inl, inr, arith, length, get_or, set, nat_eq}
 use Rattle.std.specs.Cmp.{IsStrictWeakOrder}
-use Rattle.std.specs.List.{All, AllPairs, AllWithin, Contains, insert, remove, slice_get, list_any, range_with_len}
-use Rattle.std.specs.List.Sorted.{IsPermutation, IsSortedBy}
-use Rattle.std.proofs.lemmas.Bool.{cases_lt, cases_order}
+use Rattle.std.specs.List.{All, AllPairs, Contains, insert, remove, slice_get, list_any, range_with_len}
+use Rattle.std.specs.List.Sorted.{IsPartitionedBy, IsPermutation, IsSortedBy}
+use Rattle.std.proofs.lemmas.Bool.{cases_lt, cases_order, true_from_ne_false}
 use Rattle.std.proofs.lemmas.Bool.Decides.{Decides-eqb, nat_tests}
-use Rattle.std.proofs.lemmas.List.{get_or_default, length_push, length-set}
+use Rattle.std.proofs.lemmas.List.{length_push, length-set}
 use Rattle.std.proofs.lemmas.List.Elements.{All-cons, All-contains}
-use Rattle.std.proofs.lemmas.List.Edits.{length-insert, get_or-insert_below, get_or-insert_at, get_or-insert_above, length-remove}
+use Rattle.std.proofs.lemmas.List.Edits.{length-insert, length-remove}
 use Rattle.std.proofs.lemmas.List.Folds.{list_any_at}
 use Rattle.std.proofs.lemmas.List.FromFn.{length-range_with_len, get_or-range_with_len}
 use Rattle.std.proofs.lemmas.List.Kept.{AllPairs-cons}
@@ -18,9 +18,7 @@ use Rattle.std.proofs.lemmas.Map.Made.{AllPairs-from_IsDistinct, IsDistinct-from
 use Rattle.std.proofs.lemmas.Map.Steps.{length-le_from_distinct_below}
 use Rattle.std.proofs.lemmas.Map.Views.{Contains-from_any}
 use Rattle.nf_base.specs.declared.rows.NodeRow.{NodeRow}
-use Rattle.std.specs.declared.cmp.Ordering.{Ordering}
-use Rattle.std.specs.Ordering.{is_lt}
-use Rattle.nf_tree.specs.Order.{Key, key_cmp, key_lt, key_at, key_of, AreRisingNodes, AreInOrder, IsIndex, IsCut, LacksOnly, no_key}
+use Rattle.nf_tree.specs.Order.{Key, key_lt, key_at, key_of, AreRisingNodes, AreInOrder, IsIndex, IsCut, LacksOnly, no_key}
 use Rattle.nf_tree.proofs.Positions.{no_row}
 use Rattle.nf_tree.proofs.Keys.{weak, lt_itself, lt_trans, same_number}
 
@@ -58,29 +56,12 @@ same_place rows a b d rising within_a within_b low high =
       ]
     ]
 
--- what a comparison with the row at a place says of its key
-pub compared : (rows : List NodeRow) (at : ℕ) (row : NodeRow) (key : Key) (o : Ordering) (b : Bool) → at < length rows → row ≡ get_or rows at row
-    → o ≡ key_cmp (key_of row) key → is_lt o ≡ b → key_lt (key_at rows at) key ≡ b
-unfolding key_lt
-compared rows at row key o b within is e h = ap (λ k. is_lt (key_cmp k key)) (key_of_read rows at row within is) ∙ ap is_lt (sym e) ∙ h
-
-pub cut_more : (rows : List NodeRow) (order : List ℕ) (key : Key) (middle : ℕ) → AreInOrder rows order → middle < length order
-    → key_lt (key_at rows (get_or order middle 0)) key ≡ true → AllWithin (λ at. key_lt (key_at rows at) key ≡ true) order 0 (middle + 1)
-cut_more rows order key middle in_order within less = λ k d low high.
-    let here : key_lt (key_at rows (get_or order middle d)) key ≡ true = subst (λ a. key_lt (key_at rows a) key ≡ true) (get_or_default order middle 0 d within) less in
-    elim (cases_lt k middle) [
-      | inl below ↦ lt_trans _ _ _ (in_order k middle d below within) here
-      | inr past ↦ subst (λ j. key_lt (key_at rows (get_or order j d)) key ≡ true) (omega arith) here
-    ]
-
-pub cut_less : (rows : List NodeRow) (order : List ℕ) (key : Key) (middle : ℕ) → AreInOrder rows order → middle < length order
-    → key_lt (key_at rows (get_or order middle 0)) key ≡ false → AllWithin (λ at. key_lt (key_at rows at) key ≡ false) order middle (length order)
-cut_less rows order key middle in_order within upto = λ k d low high.
-    let here : key_lt (key_at rows (get_or order middle d)) key ≡ false = subst (λ a. key_lt (key_at rows a) key ≡ false) (get_or_default order middle 0 d within) upto in
-    elim (cases_lt middle k) [
-      | inl above ↦ weak.chain _ _ _ (weak.one_way _ _ (in_order middle k d above high)) here
-      | inr past ↦ subst (λ j. key_lt (key_at rows (get_or order j d)) key ≡ false) (omega arith) here
-    ]
+-- a key cuts the places in two
+pub parted : (rows : List NodeRow) (order : List ℕ) (key : Key) → AreInOrder rows order → IsPartitionedBy (λ at. key_lt (key_at rows at) key) order
+parted rows order key in_order = λ i j d le within less. elim (cases_lt i j) [
+  | inl before ↦ lt_trans weak _ _ _ (in_order i j d before within) less
+  | inr past ↦ subst (λ k. key_lt (key_at rows (get_or order k d)) key ≡ true) (omega arith) less
+]
 
 -- a cut by the row at a place
 pub own_cut : (rows : List NodeRow) (order same : List ℕ) (at cut : ℕ) (row : NodeRow) → same ≡ order → at < length rows → row ≡ get_or rows at row
@@ -91,7 +72,7 @@ own_cut rows order same at cut row one within is cuts =
 -- ---- the places of an index
 
 below_itself : (rows : List NodeRow) (a b : ℕ) → a ≡ b → key_lt (key_at rows a) (key_at rows b) ≡ true → ⊥
-below_itself rows a b same less = let h = subst (λ k. key_lt (key_at rows k) (key_at rows b) ≡ true) same less in let f = lt_itself (key_at rows b) in absurd (cc)
+below_itself rows a b same less = let h = subst (λ k. key_lt (key_at rows k) (key_at rows b) ≡ true) same less in let f = lt_itself weak (key_at rows b) in absurd (cc)
 
 -- no place stands twice
 pub no_place_twice : (rows : List NodeRow) (order : List ℕ) → AreInOrder rows order → AllPairs (λ a b. a ≢ b) order
@@ -121,34 +102,14 @@ in_index rows order at index there = here (list_any (nat_eq at) order) refl
 AllPairs-insert : {X : Type 0} (R : X → X → Type 0) (xs : List X) (i : ℕ) (y : X) → i ≤ length xs → AllPairs R xs
     → ((k : ℕ) (d : X) → k < i → R (get_or xs k d) y) → ((k : ℕ) (d : X) → i ≤ k → k < length xs → R y (get_or xs k d))
     → AllPairs R (insert xs i y)
-AllPairs-insert {X} R xs i y bound pairs before behind a b d less within =
-    let long = length-insert xs i y bound in
-    cases (cases_order a i) (cases_order b i) (omega arith)
-  where
-    cases : (a ≡ i) ⊎ ((a < i) ⊎ (i < a)) → (b ≡ i) ⊎ ((b < i) ⊎ (i < b)) → b < length xs + 1 → R (get_or (insert xs i y) a d) (get_or (insert xs i y) b d)
-    cases (inl at) (inl bt) high = absurd (omega arith)
-    cases (inl at) (inr (inl bl)) high = absurd (omega arith)
-    cases (inl at) (inr (inr bm)) high =
-        let e : b - 1 + 1 ≡ b = omega arith in
-        subst (λ x. R x (get_or (insert xs i y) b d)) (sym (ap (λ k. get_or (insert xs i y) k d) at ∙ get_or-insert_at xs i y d bound))
-        (subst (λ x. R y x) (sym (get_or-insert_above xs i y d (b - 1) (omega arith) bound) ∙ ap (λ k. get_or (insert xs i y) k d) e) (behind (b - 1) d (omega arith) (omega arith)))
-    cases (inr (inl al)) (inl bt) high =
-        subst (λ x. R x (get_or (insert xs i y) b d)) (sym (get_or-insert_below xs i y d a al bound))
-        (subst (λ x. R (get_or xs a d) x) (sym (ap (λ k. get_or (insert xs i y) k d) bt ∙ get_or-insert_at xs i y d bound)) (before a d al))
-    cases (inr (inl al)) (inr (inl bl)) high =
-        subst (λ x. R x (get_or (insert xs i y) b d)) (sym (get_or-insert_below xs i y d a al bound))
-        (subst (λ x. R (get_or xs a d) x) (sym (get_or-insert_below xs i y d b bl bound)) (pairs a b d less (omega arith)))
-    cases (inr (inl al)) (inr (inr bm)) high =
-        let e : b - 1 + 1 ≡ b = omega arith in
-        subst (λ x. R x (get_or (insert xs i y) b d)) (sym (get_or-insert_below xs i y d a al bound))
-        (subst (λ x. R (get_or xs a d) x) (sym (get_or-insert_above xs i y d (b - 1) (omega arith) bound) ∙ ap (λ k. get_or (insert xs i y) k d) e) (pairs a (b - 1) d (omega arith) (omega arith)))
-    cases (inr (inr am)) (inl bt) high = absurd (omega arith)
-    cases (inr (inr am)) (inr (inl bl)) high = absurd (omega arith)
-    cases (inr (inr am)) (inr (inr bm)) high =
-        let e : a - 1 + 1 ≡ a = omega arith in
-        let f : b - 1 + 1 ≡ b = omega arith in
-        subst (λ x. R x (get_or (insert xs i y) b d)) (sym (get_or-insert_above xs i y d (a - 1) (omega arith) bound) ∙ ap (λ k. get_or (insert xs i y) k d) e)
-        (subst (λ x. R (get_or xs (a - 1) d) x) (sym (get_or-insert_above xs i y d (b - 1) (omega arith) bound) ∙ ap (λ k. get_or (insert xs i y) k d) f) (pairs (a - 1) (b - 1) d (omega arith) (omega arith)))
+AllPairs-insert R xs zero y bound pairs before behind = AllPairs-cons R y xs (λ k d high. behind k d (omega arith) high) pairs
+AllPairs-insert R [] (suc i) y bound pairs before behind = absurd (omega arith)
+AllPairs-insert R (x ∷ xs) (suc i) y bound pairs before behind =
+    AllPairs-cons R x (insert xs i y)
+    (All-permutation (R x) (y ∷ xs) (insert xs i y) (IsPermutation-insert xs i y)
+    (All-cons (R x) y xs (before 0 x (omega arith)) (λ k d high. pairs 0 (suc k) d (omega arith) (omega arith))))
+    (AllPairs-insert R xs i y (omega arith) (λ a b d less high. pairs (suc a) (suc b) d (omega arith) (omega arith))
+    (λ k d less. before (suc k) d (omega arith)) (λ k d low high. behind (suc k) d (omega arith) (omega arith)))
 
 pub put_in : (rows : List NodeRow) (order : List ℕ) (at to : ℕ) → AreRisingNodes rows → at < length rows → LacksOnly rows order at
     → IsCut rows order (key_at rows at) to → IsIndex rows (insert order to at)
@@ -156,13 +117,9 @@ put_in rows order at to rising there lacks cut = record {
   within = All-permutation (λ k. k < length rows) (at ∷ order) (insert order to at) (IsPermutation-insert order to at) (All-cons (λ k. k < length rows) at order there lacks.within);
   long = length-insert order to at cut.bound ∙ lacks.long;
   in_order = AllPairs-insert (λ a b. key_lt (key_at rows a) (key_at rows b) ≡ true) order to at cut.bound lacks.in_order (λ k e less. cut.before k e (omega arith) less)
-      (λ k e low high. apart k e high (key_lt (key_at rows at) (key_at rows (get_or order k e))) refl (cut.behind k e low high));
+      (λ k e low high. true_from_ne_false _ (λ is. lacks.absent k e high
+      (same_place rows (get_or order k e) at no_row rising (lacks.within k e high) there (cut.behind k e low high) is)));
 }
-  where
-    apart : (k e : ℕ) → k < length order → (b : Bool) → key_lt (key_at rows at) (key_at rows (get_or order k e)) ≡ b → key_lt (key_at rows (get_or order k e)) (key_at rows at) ≡ false
-        → key_lt (key_at rows at) (key_at rows (get_or order k e)) ≡ true
-    apart k e high true is upto = is
-    apart k e high false is upto = absurd (lacks.absent k e high (same_place rows (get_or order k e) at no_row rising (lacks.within k e high) there upto is))
 
 -- ---- taking out
 
@@ -264,7 +221,9 @@ pub sorted_index : (rows : List NodeRow) (order : List ℕ) → AreRisingNodes r
 sorted_index rows order rising places sorted = record {
   within = within;
   long = length_permutation (range_with_len 0 (length rows)) order places ∙ length-range_with_len 0 (length rows);
-  in_order = λ a b d less high. strict a b d less high (key_lt (key_at rows (get_or order a d)) (key_at rows (get_or order b d))) refl;
+  in_order = λ a b d less high. true_from_ne_false _ (λ is. apart a b d less high
+      (same_place rows (get_or order a d) (get_or order b d) no_row rising (within a d (omega arith)) (within b d high) is
+      (sorted_far (place_lt rows) (places_weak rows) order sorted a b d (omega arith) high)));
 }
   where
     at_range : (a d : ℕ) → a < length (range_with_len 0 (length rows)) → get_or (range_with_len 0 (length rows)) a d ≡ a
@@ -277,9 +236,3 @@ sorted_index rows order rising places sorted = record {
     apart : AllPairs (λ a b. a ≢ b) order
     apart = AllPairs-from_IsDistinct Decides-eqb order (IsDistinct-IsPermutation nat_eq eq_flips (range_with_len 0 (length rows)) order places
         (IsDistinct-from_AllPairs Decides-eqb (range_with_len 0 (length rows)) (λ a b d less high same. let e = at_range a d (omega arith) in let g = at_range b d high in omega arith)))
-
-    strict : (a b d : ℕ) → a < b → b < length order → (r : Bool) → key_lt (key_at rows (get_or order a d)) (key_at rows (get_or order b d)) ≡ r
-        → key_lt (key_at rows (get_or order a d)) (key_at rows (get_or order b d)) ≡ true
-    strict a b d less high true e = e
-    strict a b d less high false e = absurd (apart a b d less high
-        (same_place rows (get_or order a d) (get_or order b d) no_row rising (within a d (omega arith)) (within b d high) e (sorted_far (place_lt rows) (places_weak rows) order sorted a b d (omega arith) high)))

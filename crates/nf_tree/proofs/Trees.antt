@@ -1,8 +1,8 @@
 -- What each change of the tree leaves.
-use Rattle.std.proofs.Common.{ℕ, zero, suc, ◌+◌, ◌<◌, ◌≤◌, ◌≡◌, ◌==◌, Bool, true, false, not, List, [], ◌∷◌, ◌++◌, Some, refl, sym, ap, ◌∙◌, subst, inl, inr, arith, length, get_or, set}
+use Rattle.std.proofs.Common.{ℕ, zero, suc, ◌+◌, ◌<◌, ◌≤◌, ◌≡◌, ◌==◌, true, false, not, List, [], ◌∷◌, ◌++◌, Some, refl, sym, ap, ◌∙◌, subst, inl, inr, arith, length, get_or, set}
 use Rattle.std.specs.Option.{option_map_or}
 use Rattle.std.specs.List.{All, position}
-use Rattle.std.proofs.lemmas.Bool.{cases_eq}
+use Rattle.std.proofs.lemmas.Bool.{cases_eq, not-true}
 use Rattle.std.proofs.lemmas.List.{get_or-set_same, get_or-set_other, length-set, length_push, get_or_read}
 use Rattle.std.proofs.lemmas.List.Elements.{All-push, All-set}
 use Rattle.std.proofs.lemmas.List.Quantifiers.{all_pairs_push, position-Some}
@@ -142,11 +142,7 @@ pieces_few rows order pieces room tree =
 
 -- what is known of the node's row
 pub file_row : (rows : List NodeRow) (node : ℕ) (row : NodeRow) → Some row ≡ node_row rows node → is_file rows node ≡ true → is_folder_kind row.kind ≡ false
-file_row rows node row there file = here (is_folder_kind row.kind) (ap (λ o. option_map_or (λ (r : NodeRow). not (is_folder_kind r.kind)) o false) there ∙ file)
-  where
-    here : (b : Bool) → not b ≡ true → b ≡ false
-    here true h = absurd (cc)
-    here false h = refl
+file_row rows node row there file = not-true _ (ap (λ o. option_map_or (λ (r : NodeRow). not (is_folder_kind r.kind)) o false) there ∙ file)
 
 pub content_row : (rows : List NodeRow) (node : ℕ) (row : NodeRow) → Some row ≡ node_row rows node → row.content ≡ content_of rows node
 content_row rows node row there = ap (λ o. option_map_or (λ (r : NodeRow). r.content) o []) there

@@ -1,11 +1,12 @@
 -- The order of the nodes by folder, then name, then number, and a list of places that is in it.
-use Rattle.std.specs.Prelude.{ℕ, ◌+◌, ◌<◌, ◌≤◌, ◌≡◌, ◌≢◌, Bool, true, false, not, List, [], length, take, filter, Option, None, All, AllPairs, slice_get, slice_index, slice_index_or}
+use Rattle.std.specs.Prelude.{ℕ, ◌+◌, ◌<◌, ◌≤◌, ◌≡◌, ◌≢◌, Bool, true, false, not, List, [], length, take, filter, Option, None, All, AllPairs, slice_get, slice_index, slice_index_or, unwrap_or}
 use Rattle.std.specs.List.{AllWithin}
 use Rattle.std.specs.Option.{option_map_or, option_cmp}
 use Rattle.std.specs.Ordering.{nat_cmp, ordering_then, is_lt}
 use Rattle.std.specs.Cmp.Lexicographic.{slice_cmp}
 use Rattle.std.specs.declared.cmp.Ordering.{Ordering}
 use Rattle.nf_base.specs.declared.rows.NodeRow.{NodeRow}
+use Rattle.nf_base.specs.declared.rows.Place.{Place}
 use Rattle.nf_defs.specs.Tree.{folder_of, is_under}
 
 -- the numbers of the nodes rise
@@ -56,6 +57,10 @@ pub record IsCut (rows : List NodeRow) (order : List ℕ) (key : Key) (cut : ℕ
   pub bound : cut ≤ length order
   pub before : AllWithin (λ at. key_lt (key_at rows at) key ≡ true) order 0 cut
   pub behind : AllWithin (λ at. key_lt (key_at rows at) key ≡ false) order cut (length order)
+
+-- a row elsewhere, under another name where one is given
+abbrev pub placed : Place → Option (List ℕ) → NodeRow → NodeRow
+placed place name row = record row { place = place; name = unwrap_or name row.name }
 
 -- the row stays where the nodes under a top go
 abbrev pub stays : List NodeRow → ℕ → NodeRow → Bool

@@ -2,9 +2,9 @@
 
 ghost use Rattle.std.specs.Prelude.{◌≡◌, false, ◌==◌, ◌≤◌, ◌<◌, length, vec_len, vec_capacity, option_copied, IfOk};
 ghost use Rattle.std.specs.List.{position};
-ghost use Rattle.nf_defs.specs.Tree.{node_row, is_folder, is_root, folder_of, parent_of, is_under, is_rooted, depth, piece_count, is_folder_kind, filled, relinked, trashed, without_under};
+ghost use Rattle.nf_defs.specs.Tree.{node_row, is_folder, is_root, folder_of, parent_of, is_under, is_rooted, depth, piece_count, is_folder_kind, filled, without_under};
 ghost use Rattle.nf_tree.specs.Held.{AreSmall};
-ghost use Rattle.nf_tree.specs.Order.{AreRisingNodes, AreFates, stays};
+ghost use Rattle.nf_tree.specs.Order.{AreRisingNodes, AreFates, placed, stays};
 
 use crate::order::folder_of;
 use nf_base::{Content, Moment, Name, NodeId, NodeKind, NodeRow, Place};
@@ -59,19 +59,14 @@ fn parent_of(rows: &[NodeRow], node: NodeId) -> Option<NodeId>
     folder_of(node_row(rows, node)?.place)
 }
 
-/// Puts a row into that folder, under that name.
-pub(crate) fn relink(row: &mut NodeRow, folder: NodeId, name: Name)
-    ensures { row.new ≡ relinked folder name row.old }
+/// Puts a row elsewhere, under another name where one is given.
+pub(crate) fn place(row: &mut NodeRow, place: Place, name: Option<Name>)
+    ensures { row.new ≡ placed place name row.old }
 {
-    row.place = Place::Inside(folder);
-    row.name = name;
-}
-
-/// Makes a row the top of an item in the trash.
-pub(crate) fn trash(row: &mut NodeRow)
-    ensures { row.new ≡ trashed row.old }
-{
-    row.place = Place::Trash;
+    row.place = place;
+    if let Some(name) = name {
+        row.name = name;
+    }
 }
 
 /// Gives a file's row another content. The old one is answered.

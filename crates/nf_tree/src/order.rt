@@ -27,13 +27,36 @@ pub(crate) fn is_in(folder: NodeId, row: &NodeRow) -> bool
     }
 }
 
-/// How the key of a row stands to another key.
-fn compare(row: &NodeRow, folder: &Option<NodeId>, name: &[u8], id: NodeId) -> Ordering
-    ensures { result ≡ key_cmp (key_of row.now) (record { folder = folder.now; name = name.now; id = id }) }
+fn get_row(rows: &[NodeRow], at: usize) -> Option<&NodeRow>
+    ensures { option_copied result ≡ slice_get rows.now at }
 {
-    match folder_of(row.place).cmp(folder) {
-        Ordering::Equal => match row.name.as_bytes().cmp(name) {
-            Ordering::Equal => row.id.cmp(&id),
+    rows.get(at)
+}
+
+/// The key of the row at a place. What is past the end comes before all rows.
+fn key_at(rows: &[NodeRow], at: usize) -> (Option<NodeId>, &[u8], NodeId)
+    ensures { key_at rows.now at ≡ record { folder = result.0; name = result.1.now; id = result.2 } }
+{
+    match get_row(rows, at) {
+        Some(row) => (folder_of(row.place), row.name.as_bytes(), row.id),
+        None => (None, b"", NodeId::new(0)),
+    }
+}
+
+/// How the key of the row at a place stands to another key.
+fn compare(
+    rows: &[NodeRow],
+    at: usize,
+    folder: &Option<NodeId>,
+    name: &[u8],
+    id: NodeId,
+) -> Ordering
+    ensures { result ≡ key_cmp (key_at rows.now at) (record { folder = folder.now; name = name.now; id = id }) }
+{
+    let (first_folder, first_name, first_id) = key_at(rows, at);
+    match first_folder.cmp(folder) {
+        Ordering::Equal => match first_name.cmp(name) {
+            Ordering::Equal => first_id.cmp(&id),
             other => other,
         },
         other => other,
@@ -42,28 +65,15 @@ fn compare(row: &NodeRow, folder: &Option<NodeId>, name: &[u8], id: NodeId) -> O
 
 /// How many places have keys before that one.
 fn cut(rows: &[NodeRow], order: &[usize], folder: &Option<NodeId>, name: &[u8], id: NodeId) -> usize
-    requires within { All (λ at. at < length rows.now) order.now }
-    requires in_order { AreInOrder rows.now order.now }
+    requires { AreInOrder rows.now order.now }
     ensures { IsCut rows.now order.now (record { folder = folder.now; name = name.now; id = id }) result }
 {
-    let mut low = 0;
-    let mut high = order.len();
-    while low < high {
-        let middle = low + (high - low) / 2;
-        let at = order[middle];
-        if compare(&rows[at], folder, name, id).is_lt() {
-            low = middle + 1;
-        } else {
-            high = middle;
-        }
-    }
-    low
+    order.partition_point(|at| compare(rows, *at, folder, name, id).is_lt())
 }
 
 /// How many places have keys before that of a row.
 fn cut_at(rows: &[NodeRow], order: &[usize], row: &NodeRow) -> usize
-    requires within { All (λ at. at < length rows.now) order.now }
-    requires in_order { AreInOrder rows.now order.now }
+    requires { AreInOrder rows.now order.now }
     ensures { IsCut rows.now order.now (key_of row.now) result }
 {
     cut(
@@ -101,29 +111,12 @@ pub(crate) fn take(rows: &[NodeRow], order: &mut Vec<usize>, at: usize)
     order.remove(from);
 }
 
-/// Which of two rows comes first.
-fn compare_rows(first: &NodeRow, row: &NodeRow) -> Ordering
-    ensures { result ≡ key_cmp (key_of first.now) (key_of row.now) }
-{
-    compare(first, &folder_of(row.place), row.name.as_bytes(), row.id)
-}
-
-fn get_row(rows: &[NodeRow], at: usize) -> Option<&NodeRow>
-    ensures { option_copied result ≡ slice_get rows.now at }
-{
-    rows.get(at)
-}
-
-/// Which of the rows at two places comes first. What is past the end comes before all rows.
+/// Which of the rows at two places comes first.
 fn compare_places(rows: &[NodeRow], a: usize, b: usize) -> Ordering
     ensures { result ≡ key_cmp (key_at rows.now a) (key_at rows.now b) }
 {
-    match (get_row(rows, a), get_row(rows, b)) {
-        (Some(first), Some(row)) => compare_rows(first, row),
-        (Some(first), None) => compare(first, &None, b"", NodeId::new(0)),
-        (None, Some(row)) => compare(row, &None, b"", NodeId::new(0)).reverse(),
-        (None, None) => Ordering::Equal,
-    }
+    let (folder, name, id) = key_at(rows, b);
+    compare(rows, a, &folder, name, id)
 }
 
 /// The places of the rows in order.

@@ -4,10 +4,10 @@ ghost use Rattle.std.specs.Prelude.{◌≡◌, ◌==◌, ◌<◌, ◌≤◌, ◌
 ghost use Rattle.std.specs.List.{position};
 ghost use Rattle.nf_base.specs.declared.rows.Row.TheVariants.{Node};
 ghost use Rattle.nf_defs.specs.Tree.{node_row, child_of, is_folder, is_file, content_of, piece_count, is_under, depth, found_from, children_of, walk_of, walk_within, is_rooted, with_node, filled, relinked, trashed, without_under};
-ghost use Rattle.nf_tree.specs.Order.{AreRisingNodes};
+ghost use Rattle.nf_tree.specs.Order.{AreRisingNodes, placed};
 
 use crate::{nodes, order};
-use nf_base::{Content, Moment, Name, NodeId, NodeRow, Row, RowList};
+use nf_base::{Content, Moment, Name, NodeId, NodeRow, Place, Row, RowList};
 use nf_defs::Found;
 use std::alloc::{AllocError, Global};
 use std::marker::Model;
@@ -302,10 +302,7 @@ impl Tree {
         requires { IsSome (node_row self.old.rows node) }
         ensures { self.new ≡ record self.old { rows = with_node self.old.rows node (relinked folder name) } }
     {
-        let at = self.place_of(node);
-        order::take(&self.rows, &mut self.order, at);
-        nodes::relink(&mut self.rows[at], folder, name);
-        order::put(&self.rows, &mut self.order, at);
+        self.place(node, Place::Inside(folder), Some(name))
     }
 
     /// Makes a node the top of an item in the trash.
@@ -313,10 +310,18 @@ impl Tree {
         requires { IsSome (node_row self.old.rows node) }
         ensures { self.new ≡ record self.old { rows = with_node self.old.rows node trashed } }
     {
-        let top = self.place_of(node);
-        order::take(&self.rows, &mut self.order, top);
-        nodes::trash(&mut self.rows[top]);
-        order::put(&self.rows, &mut self.order, top);
+        self.place(node, Place::Trash, None)
+    }
+
+    /// Puts a node elsewhere, under another name where one is given.
+    fn place(&mut self, node: NodeId, place: Place, name: Option<Name>)
+        requires { IsSome (node_row self.old.rows node) }
+        ensures { self.new ≡ record self.old { rows = with_node self.old.rows node (placed place name) } }
+    {
+        let at = self.place_of(node);
+        order::take(&self.rows, &mut self.order, at);
+        nodes::place(&mut self.rows[at], place, name);
+        order::put(&self.rows, &mut self.order, at);
     }
 
     /// Moves a node out of the trash into that folder, under that name.
@@ -341,123 +346,5 @@ impl Tree {
         ensures { Some result ≡ position (λ row. row.id == node) self.now.rows }
     {
         nodes::index_of(&self.rows, node).unwrap()
-    }
-}
-
-#[cfg(test)]
-mod tests {
-    use super::*;
-    use nf_base::{NodeKind, Place, UserId};
-    use std::test::Fail;
-
-    fn inside(folder: u64) -> Place {
-        Place::Inside(NodeId::new(folder))
-    }
-
-    /// Puts a new folder in, if its number is the highest.
-    fn put(alloc: Global, tree: &mut Tree, id: u64, place: Place, name: &[u8]) -> Result<(), Fail> {
-        tree.reserve(1)?;
-        let row = NodeRow {
-            id: NodeId::new(id),
-            owner: UserId::new(1),
-            place,
-            name: Name::read(alloc, name)?,
-            kind: NodeKind::Folder,
-            content: Content::empty(alloc),
-            changed: Moment::new(1),
-        };
-        if tree.nodes().iter().all(|older| older.id < row.id) {
-            tree.add(row);
-        }
-        Ok(())
-    }
-
-    /// A root with two children, one of which has a child, and a folder in the trash with a child.
-    fn forest(alloc: Global) -> Result<Tree, Fail> {
-        let mut tree = Tree::new(alloc);
-        put(alloc, &mut tree, 1, Place::Root, b"ann")?;
-        put(alloc, &mut tree, 2, inside(1), b"ab")?;
-        put(alloc, &mut tree, 3, inside(1), b"aa")?;
-        put(alloc, &mut tree, 4, inside(2), b"aa")?;
-        put(alloc, &mut tree, 8, Place::Trash, b"aa")?;
-        put(alloc, &mut tree, 9, inside(8), b"aa")?;
-        Ok(tree)
-    }
-
-    #[test]
-    fn walks_by_name(rt: HostRuntime) -> Result<(), Fail> {
-        let alloc = rt.alloc();
-        let tree = forest(alloc)?;
-        let nodes = tree.subtree(alloc, NodeId::new(1))?;
-        assert!(rt;
-            nodes.as_slice()
-                == [
-                    NodeId::new(1),
-                    NodeId::new(3),
-                    NodeId::new(2),
-                    NodeId::new(4)
-                ]
-                .as_slice()
-        );
-        let nodes = tree.subtree(alloc, NodeId::new(8))?;
-        assert!(rt; nodes.as_slice() == [NodeId::new(8), NodeId::new(9)].as_slice());
-        assert!(rt; tree.under(NodeId::new(9), NodeId::new(8)) && !tree.present(NodeId::new(9)));
-        Ok(())
-    }
-
-    #[test]
-    fn what_is_nowhere_is_a_walk_of_its_own(rt: HostRuntime) -> Result<(), Fail> {
-        let alloc = rt.alloc();
-        let tree = forest(alloc)?;
-        let nowhere = NodeId::new(5);
-        assert!(rt; tree.node(nowhere).is_none() && !tree.present(nowhere));
-        assert!(rt; tree.under(nowhere, nowhere) && tree.depth(nowhere) == 0);
-        assert_eq!(rt; tree.subtree(alloc, nowhere)?.len(), 1);
-        Ok(())
-    }
-
-    #[test]
-    fn looks_64_folders_far(rt: HostRuntime) -> Result<(), Fail> {
-        let alloc = rt.alloc();
-        let mut tree = Tree::new(alloc);
-        put(alloc, &mut tree, 1, Place::Root, b"ann")?;
-        for id in 1..66u64 {
-            put(alloc, &mut tree, id + 1, inside(id), b"a")?;
-        }
-        assert!(rt; tree.present(NodeId::new(65)) && !tree.present(NodeId::new(66)));
-        assert!(rt;
-            tree.under(NodeId::new(65), NodeId::new(1))
-                && !tree.under(NodeId::new(66), NodeId::new(1))
-        );
-        assert!(rt; tree.depth(NodeId::new(65)) == 64 && tree.depth(NodeId::new(66)) == 64);
-        assert_eq!(rt; tree.subtree(alloc, NodeId::new(1))?.len(), 65);
-        Ok(())
-    }
-
-    /// Whether a look-up by the index is what a scan finds.
-    fn finds_as_a_scan(tree: &Tree, folder: NodeId, name: &Name) -> bool {
-        let scanned = tree.nodes().iter().find(|row| row.place == Place::Inside(folder)
-            && row.name == *name);
-        tree.child(folder, name) == scanned.map(|row| row.id)
-    }
-
-    #[test]
-    fn finds_after_many_moves(rt: HostRuntime) -> Result<(), Fail> {
-        let alloc = rt.alloc();
-        let mut tree = forest(alloc)?;
-        let mut dice = 1u32;
-        for _ in 0..200 {
-            dice = dice.wrapping_mul(1_664_525).wrapping_add(1_013_904_223);
-            let node = NodeId::new(u64::from(dice >> 16) % 9);
-            let folder = NodeId::new(u64::from(dice >> 20) % 9);
-            let name = Name::read(alloc, if dice >> 31 == 0 { b"aa" } else { b"ab" })?;
-            if tree.node(node).is_some() {
-                tree.relink(node, folder, name.copy()?);
-            }
-            assert!(rt;
-                finds_as_a_scan(&tree, folder, &name) && finds_as_a_scan(&tree, node, &name)
-            );
-        }
-        Ok(())
     }
 }

@@ -12,12 +12,11 @@ use Rattle.nf_base.specs.declared.rows.MetaRow.{MetaRow}
 use Rattle.nf_base.specs.declared.rows.NodeKind.{NodeKind}
 use Rattle.nf_base.specs.declared.rows.NodeKind.TheVariants.{Folder, File}
 use Rattle.nf_base.specs.declared.rows.NodeRow.{NodeRow}
-use Rattle.nf_base.specs.declared.rows.Place.{Place}
-use Rattle.nf_base.specs.declared.rows.Place.TheVariants.{Root, Inside, Trash}
 use Rattle.nf_defs.specs.Tables.{Tables}
-use Rattle.nf_defs.specs.Tree.{child_of, content_of, depth, folder_of, found_from, is_file, is_folder, is_folder_kind, is_in, is_place_in, is_root, is_under, node_row, onward, parent_of, piece_count, walk_of}
+use Rattle.nf_defs.specs.Tree.{child_of, content_of, depth, folder_of, found_from, is_file, is_folder, is_folder_kind, is_in, is_root, is_under, node_row, onward, parent_of, piece_count, walk_of}
 use Rattle.nf_defs.specs.declared.Found.{Found}
 use Rattle.nf_defs.specs.declared.Found.TheVariants.{At, Free, Missing}
+use Rattle.nf_defs.proofs.Walks.{inside_of}
 use Rattle.nf_words.specs.Actors.{actor_of, holder, storer_of}
 use Rattle.nf_words.specs.Callers.{is_caller, not_you_rule}
 use Rattle.nf_words.specs.Calls.{Call, asker_of, caller_row, found, last_name, named_in, root_of, source_of, target_of, user_of, users_of}
@@ -49,7 +48,7 @@ use Rattle.nf_words.specs.declared.listing.ListingLine.{ListingLine}
 use Rattle.nf_words.specs.declared.history.Event.{Event}
 use Rattle.nf_words.specs.declared.history.Event.TheVariants.{Begin, End}
 use Rattle.nf_words.specs.declared.history.Outcome.{Outcome}
-use Rattle.nf_words.specs.declared.history.Outcome.TheVariants.{Sent, Gone, Body}
+use Rattle.nf_words.specs.declared.history.Outcome.TheVariants.{Body}
 use Rattle.nf_words.specs.declared.history.Ticket.{Ticket}
 use Rattle.nf_words.specs.declared.request.Caller.{Caller}
 use Rattle.nf_words.specs.declared.request.Caller.TheVariants.{Absent, Token}
@@ -208,11 +207,6 @@ node_row_each (x ∷ rows) rising (suc k) d within =
     rw (ne_eqb x.id (get_or rows k d).id (λ e. absurd (omega arith)))
     (node_row_each rows (λ i j d before within. rising (suc i) (suc j) d (omega arith) (omega arith)) k d (omega arith))
 
-inside_of : (folder : ℕ) (place : Place) → is_place_in folder place ≡ true → folder_of place ≡ Some folder
-inside_of folder Root is = absurd (false≢true is)
-inside_of folder (Inside parent) is = ap Some (eqb-true parent folder is)
-inside_of folder Trash is = absurd (false≢true is)
-
 -- a folder's child is in it
 pub child_parent : (rows : List NodeRow) (folder : ℕ) (name : List ℕ) (node : ℕ) → AllPairs (λ (a b : NodeRow). a.id < b.id) rows
     → child_of rows folder name ≡ Some node → parent_of rows node ≡ Some folder
@@ -228,7 +222,7 @@ child_parent rows folder name node rising is = here (find test rows) refl is
         let there = subst (λ (o : Option NodeRow). IfSome o (λ (row : NodeRow). node_row rows row.id ≡ Some row)) e
         (found_has (λ (row : NodeRow). node_row rows row.id ≡ Some row) test rows (node_row_each rows rising)) in
         subst (λ (n : ℕ). parent_of rows n ≡ Some folder) (same_Some row.id node is)
-        (ap (λ (o : Option NodeRow). option_and_then (λ row. folder_of row.place) o) there ∙ inside_of folder row.place passes.0)
+        (ap (λ (o : Option NodeRow). option_and_then (λ row. folder_of row.place) o) there ∙ ap folder_of (inside_of folder row.place passes.0))
 
 -- ---- what it says that none refuses
 
@@ -325,14 +319,12 @@ free_known rows before at (name ∷ names) folder is =
         → ((child : ℕ) → found_from rows (before + 1) child names ≡ Free folder
         → (is_folder rows folder ≡ true) × (child_of rows folder (last_of names) ≡ None))
         → (is_folder rows folder ≡ true) × (child_of rows folder (last_of (name ∷ names)) ≡ None)
-    here false child names folds none is rest = absurd (cc)
     here true None [] folds none is rest = (cc, cc)
-    here true None (n ∷ names) folds none is rest = absurd (cc)
-    here true (Some child) [] folds none is rest = absurd (cc)
     here true (Some child) (n ∷ names) folds none is rest = (
       (rest child is).0,
       ap (λ (last : List ℕ). child_of rows folder last) (last_more name n names) ∙ (rest child is).1,
     )
+    here folds child names folded found is rest = absurd (cc)
 
 -- a node is its folder's child of that name
 record LastStep (rows : List NodeRow) (name : List ℕ) (node : ℕ) : Type 0 where
@@ -355,12 +347,11 @@ last_step rows before at (name ∷ names) node is =
         → (if folds then onward before at names child (λ child. found_from rows (before + 1) child names) else Missing before) ≡ At node
         → ((child : ℕ) → found_from rows (before + 1) child names ≡ At node → EndsAt rows child names node)
         → LastStep rows (last_of (name ∷ names)) node
-    here false child names folds there is rest = absurd (cc)
     here true None [] folds there is rest = absurd (cc)
-    here true None (n ∷ names) folds there is rest = absurd (cc)
     here true (Some child) [] folds there is rest = record { folder = at; folds = folds; child = there ∙ ap Some (rest child is) }
     here true (Some child) (n ∷ names) folds there is rest =
         subst (λ (last : List ℕ). LastStep rows last node) (sym (last_more name n names)) (rest child is)
+    here folds child names folded there is rest = absurd (cc)
 
 -- names that lead to a node in a folder, from one that is in none, lead to the folder's child of the last name
 at_known : (rows : List NodeRow) (at : ℕ) (names : List (List ℕ)) (node folder : ℕ) → AllPairs (λ (a b : NodeRow). a.id < b.id) rows
@@ -464,8 +455,7 @@ shown_known call spot node row is leads = here (is_folder t.nodes node) refl
 served_known : (call : Call) (spot : Spot) (place : Found) (row : UserRow) → caller_row call ≡ Some row → found call spot ≡ place
     → Known call.state.tables call.now (user_of call) (served call.state.tables (node_at (Some place)))
 served_known call spot (At node) row is leads = shown_known call spot node row is leads
-served_known call spot (Free folder) row is leads = tt
-served_known call spot (Missing depth) row is leads = tt
+served_known call spot nowhere row is leads = tt
 
 granted_known : (call : Call) (spot : Spot) (length : ℕ) (place : Found) (row : UserRow) → caller_row call ≡ Some row → length ≤ MAX_BODY
     → found call spot ≡ place
@@ -502,8 +492,7 @@ deleted_known : (call : Call) (spot : Spot) (place : Found) (row : UserRow) → 
     → is_there (is_root call.state.tables.nodes) (Some place) ≡ false
     → Known call.state.tables call.now (user_of call) (deleted (node_at (Some place)))
 deleted_known call spot (At node) row is leads fits = record { no_root = fits; path = path_known call spot (At node) row is leads }
-deleted_known call spot (Free folder) row is leads fits = tt
-deleted_known call spot (Missing depth) row is leads fits = tt
+deleted_known call spot nowhere row is leads fits = tt
 
 -- ---- what is moved or copied
 
@@ -577,95 +566,76 @@ fit_parts rows true transfer o is fits = absurd (cc)
 fit_parts rows false transfer o is fits =
     (refl, subst (λ (o : Option Transfer). option_map_or (misplaced rows) o (Some target.Root) ≡ None) is fits)
 
-transfer_known : (call : Call) (source target : Spot) (row : UserRow) (transfer : Transfer)
-    → AreSound call.state.tables → caller_row call ≡ Some row
-    → transfer_of call.state.tables.nodes (record { source = Some (found call source); target = Some (found call target) }) ≡ Some transfer
-    → unfit_between call.state.tables.nodes (record { source = Some (found call source); target = Some (found call target) }) ≡ None
-    → deepest_in call.state.tables.nodes transfer.node transfer.folder ≤ 64
-    → KnownTransfer call.state.tables (user_of call) transfer (last_name target)
-transfer_known call source target row transfer sound is led fits deep = here (found call source) refl led fits
-  where
-    t : Tables
-    t = call.state.tables
+-- what is moved or copied, by a caller whose row is there
+module _ (call : Call) (source target : Spot) (row : UserRow) (sound : AreSound call.state.tables) (is : caller_row call ≡ Some row) where
+  abbrev t : Tables
+  t = call.state.tables
 
-    here : (from : Found) → found call source ≡ from
-        → transfer_of t.nodes (record { source = Some from; target = Some (found call target) }) ≡ Some transfer
-        → unfit_between t.nodes (record { source = Some from; target = Some (found call target) }) ≡ None
-        → KnownTransfer t (user_of call) transfer (last_name target)
-    here (Free folder) leads led fits = absurd (none-some transfer led)
-    here (Missing depth) leads led fits = absurd (none-some transfer led)
-    here (At node) leads led fits =
-        let parts = transfer_parts t.nodes node (found call target) transfer led in
-        let at = target_known call target (found call target) row transfer sound is refl parts.1 parts.2 in
-        let fit = fit_parts t.nodes (is_root t.nodes node) transfer (transfer_to t.nodes node (found call target)) led fits in
-        let placed = none_misplaced _ _ _ fit.1 in
-        record {
-          source = subst (λ (n : ℕ). KnownPath t (user_of call) (At n)) parts.0 (path_known call source (At node) row is leads);
-          target = at.path;
-          no_root = subst (λ (n : ℕ). is_root t.nodes n ≡ false) parts.0 fit.0;
-          in_folder = at.in_folder;
-          there = at.there;
-          differs = placed.0;
-          outside = placed.1;
-          apart = placed.2;
-          deep = deep;
-        }
+  abbrev led_to : Found → Places
+  led_to from = record { source = Some from; target = Some (found call target) }
+
+  abbrev places : Places
+  places = led_to (found call source)
+
+  transfer_known : (transfer : Transfer) → transfer_of t.nodes places ≡ Some transfer → unfit_between t.nodes places ≡ None
+      → deepest_in t.nodes transfer.node transfer.folder ≤ 64 → KnownTransfer t (user_of call) transfer (last_name target)
+  transfer_known transfer led fits deep = here (found call source) refl led fits
+    where
+      here : (from : Found) → found call source ≡ from → transfer_of t.nodes (led_to from) ≡ Some transfer → unfit_between t.nodes (led_to from) ≡ None
+          → KnownTransfer t (user_of call) transfer (last_name target)
+      here (At node) leads led fits =
+          let parts = transfer_parts t.nodes node (found call target) transfer led in
+          let at = target_known call target (found call target) row transfer sound is refl parts.1 parts.2 in
+          let fit = fit_parts t.nodes (is_root t.nodes node) transfer (transfer_to t.nodes node (found call target)) led fits in
+          let placed = none_misplaced _ _ _ fit.1 in
+          record {
+            source = subst (λ (n : ℕ). KnownPath t (user_of call) (At n)) parts.0 (path_known call source (At node) row is leads);
+            target = at.path;
+            no_root = subst (λ (n : ℕ). is_root t.nodes n ≡ false) parts.0 fit.0;
+            in_folder = at.in_folder;
+            there = at.there;
+            differs = placed.0;
+            outside = placed.1;
+            apart = placed.2;
+            deep = deep;
+          }
+      here nowhere leads led fits = absurd (none-some transfer led)
+
+  moved_known : unfit_between t.nodes places ≡ None → option_and_then (move_limit t) (transfer_of t.nodes places) ≡ None
+      → Known t call.now (user_of call) (moved (last_name target) (transfer_of t.nodes places))
+  moved_known fits some = here (transfer_of t.nodes places) refl some
+    where
+      here : (o : Option Transfer) → transfer_of t.nodes places ≡ o → option_and_then (move_limit t) o ≡ None
+          → Known t call.now (user_of call) (moved (last_name target) o)
+      here None e some = tt
+      here (Some transfer) e some =
+          transfer_known transfer e fits (within t 0 (deepest_in t.nodes transfer.node transfer.folder) 0 0 some).deep
+
+  copied_known : unfit_between t.nodes places ≡ None → option_and_then (copy_limit t) (transfer_of t.nodes places) ≡ None
+      → Known t call.now (user_of call) (copied t call.now (last_name target) (transfer_of t.nodes places))
+  copied_known fits some = here (transfer_of t.nodes places) refl some
+    where
+      here : (o : Option Transfer) → transfer_of t.nodes places ≡ o → option_and_then (copy_limit t) o ≡ None
+          → Known t call.now (user_of call) (copied t call.now (last_name target) o)
+      here None e some = tt
+      here (Some transfer) e some =
+          let nodes = walk_of t.nodes transfer.node in
+          let fits_in = within t (length nodes) (deepest_in t.nodes transfer.node transfer.folder) (pieces_in t.nodes nodes) 0 some in
+          record {
+            transfer = transfer;
+            name = last_name target;
+            known = transfer_known transfer e fits fits_in.deep;
+            replaced_is = refl;
+            copies = refl;
+            nodes = fits_in.nodes;
+            next_node = fits_in.next_node;
+            pieces = fits_in.pieces;
+            next_blob = omega (arith, fits_in.next_blob);
+          }
 
 -- where the paths of something wanted lead
 abbrev pub places_at : Call → Wanted → Places
 places_at call wanted = record { source = option_map (found call) (source_of wanted); target = option_map (found call) (target_of wanted) }
-
-moved_known : (call : Call) (source target : Spot) (row : UserRow) → AreSound call.state.tables → caller_row call ≡ Some row
-    → unfit_between call.state.tables.nodes (record { source = Some (found call source); target = Some (found call target) }) ≡ None
-    → option_and_then (move_limit call.state.tables)
-    (transfer_of call.state.tables.nodes (record { source = Some (found call source); target = Some (found call target) })) ≡ None
-    → Known call.state.tables call.now (user_of call) (moved (last_name target)
-    (transfer_of call.state.tables.nodes (record { source = Some (found call source); target = Some (found call target) })))
-moved_known call source target row sound is fits some = here (transfer_of t.nodes places) refl some
-  where
-    t : Tables
-    t = call.state.tables
-
-    places : Places
-    places = record { source = Some (found call source); target = Some (found call target) }
-
-    here : (o : Option Transfer) → transfer_of t.nodes places ≡ o → option_and_then (move_limit t) o ≡ None
-        → Known t call.now (user_of call) (moved (last_name target) o)
-    here None e some = tt
-    here (Some transfer) e some =
-        transfer_known call source target row transfer sound is e fits (within t 0 (deepest_in t.nodes transfer.node transfer.folder) 0 0 some).deep
-
-copied_known : (call : Call) (source target : Spot) (row : UserRow) → AreSound call.state.tables → caller_row call ≡ Some row
-    → unfit_between call.state.tables.nodes (record { source = Some (found call source); target = Some (found call target) }) ≡ None
-    → option_and_then (copy_limit call.state.tables)
-    (transfer_of call.state.tables.nodes (record { source = Some (found call source); target = Some (found call target) })) ≡ None
-    → Known call.state.tables call.now (user_of call) (copied call.state.tables call.now (last_name target)
-    (transfer_of call.state.tables.nodes (record { source = Some (found call source); target = Some (found call target) })))
-copied_known call source target row sound is fits some = here (transfer_of t.nodes places) refl some
-  where
-    t : Tables
-    t = call.state.tables
-
-    places : Places
-    places = record { source = Some (found call source); target = Some (found call target) }
-
-    here : (o : Option Transfer) → transfer_of t.nodes places ≡ o → option_and_then (copy_limit t) o ≡ None
-        → Known t call.now (user_of call) (copied t call.now (last_name target) o)
-    here None e some = tt
-    here (Some transfer) e some =
-        let nodes = walk_of t.nodes transfer.node in
-        let fits_in = within t (length nodes) (deepest_in t.nodes transfer.node transfer.folder) (pieces_in t.nodes nodes) 0 some in
-        record {
-          transfer = transfer;
-          name = last_name target;
-          known = transfer_known call source target row transfer sound is e fits fits_in.deep;
-          replaced_is = refl;
-          copies = refl;
-          nodes = fits_in.nodes;
-          next_node = fits_in.next_node;
-          pieces = fits_in.pieces;
-          next_blob = omega (arith, fits_in.next_blob);
-        }
 
 wanted_known : (call : Call) (wanted : Wanted) (row : UserRow) → AreSound call.state.tables → caller_row call ≡ Some row → IsShort wanted
     → unfit call.state.tables.nodes wanted (places_at call wanted) ≡ None
@@ -748,8 +718,6 @@ closes t now who act is = let e : allowed.Close ≡ act = cc in subst (λ (a : A
 
 goal_known : (t : Tables) (now : ℕ) (goal : Goal) (outcome : Outcome) (act : Allowed)
     → IsGoalSound t goal → MayBring goal outcome → ends_goal t now outcome goal ≡ Ok act → Known t now (storer_of goal) act
-goal_known t now goal Sent act sound may is = closes t now (storer_of goal) act is
-goal_known t now goal Gone act sound may is = closes t now (storer_of goal) act is
 goal_known t now (Serve content) (Body digest size) act sound may is = absurd may
 goal_known t now (Store by key wanted) (Body digest size) act sound may is =
     let h = not_refused (end_refusal t key size) (stored_at t now key digest size) act is in
@@ -758,6 +726,7 @@ goal_known t now (Store by key wanted) (Body digest size) act sound may is =
     subst (λ (a : Allowed). Known t now (storer_of (Store by key wanted)) a) h.1
     (subst (λ (n : ℕ). Known t now (storer_of (Store by key n)) (stored_at t now key digest size)) may
     (key_known t now by key digest size short sound.1 none.0 (no_limit _ none.1)))
+goal_known t now goal without act sound may is = closes t now (storer_of goal) act is
 
 ticket_known : (t : Tables) (now : ℕ) (ticket : Option Ticket) (outcome : Outcome) (act : Allowed)
     → IfSome ticket (λ (ticket : Ticket). IsGoalSound t ticket.goal)

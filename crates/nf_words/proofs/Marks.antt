@@ -2,12 +2,13 @@
 use Rattle.std.proofs.Common.{◌≡◌, ◌↔◌, ℕ, Bool, true, false, List, [], ◌∷◌, Result, Ok, Err, refl, subst}
 use Rattle.std.specs.Prelude.{Option, None, Some, option_map, option_and_then, is_some, if◌then◌else◌}
 use Rattle.std.specs.List.{list_all, list_any}
+use Rattle.std.proofs.lemmas.Bool.{both_ways}
 use Rattle.std.specs.Option.{IfSome, option_or}
 use Rattle.nf_base.specs.declared.rows.NodeRow.{NodeRow}
 use Rattle.nf_defs.specs.Access.{Access, unshared}
 use Rattle.nf_defs.specs.Tables.{Tables}
 use Rattle.nf_defs.specs.declared.Found.{Found}
-use Rattle.nf_defs.specs.declared.Found.TheVariants.{At, Free, Missing}
+use Rattle.nf_defs.specs.declared.Found.TheVariants.{At, Missing}
 use Rattle.nf_words.specs.Callers.{is_caller, not_you_rule, token_rule}
 use Rattle.nf_words.specs.Calls.{Call, paths_of, places_of, user_of, users_of}
 use Rattle.nf_words.specs.Changes.{allowed_of}
@@ -22,7 +23,7 @@ use Rattle.nf_words.specs.declared.answer.Allowed.{Allowed}
 use Rattle.nf_words.specs.declared.answer.Denial.{Denial}
 use Rattle.nf_words.specs.declared.answer.Denial.TheVariants as denial
 use Rattle.nf_words.specs.declared.answer.Goal.{Goal}
-use Rattle.nf_words.specs.declared.answer.Goal.TheVariants.{Serve, Store}
+use Rattle.nf_words.specs.declared.answer.Goal.TheVariants.{Store}
 use Rattle.nf_words.specs.declared.answer.Limit.{Limit}
 use Rattle.nf_words.specs.declared.answer.LockKey.{LockKey}
 use Rattle.nf_words.specs.declared.answer.LockKey.TheVariants.{Node, Slot}
@@ -33,11 +34,11 @@ use Rattle.nf_words.specs.declared.history.Event.TheVariants.{Begin, End}
 use Rattle.nf_words.specs.declared.history.Mark.{Mark}
 use Rattle.nf_words.specs.declared.history.Mark.TheVariants as mark
 use Rattle.nf_words.specs.declared.history.Outcome.{Outcome}
-use Rattle.nf_words.specs.declared.history.Outcome.TheVariants.{Sent, Gone, Body}
+use Rattle.nf_words.specs.declared.history.Outcome.TheVariants.{Body}
 use Rattle.nf_words.specs.declared.history.Ticket.{Ticket}
 use Rattle.nf_words.specs.declared.request.Places.{Places}
 use Rattle.nf_words.specs.declared.request.Wanted.{Wanted}
-use Rattle.nf_words.specs.declared.request.Wanted.TheVariants.{Get, Put, Mkcol, Delete, Move, Copy}
+use Rattle.nf_words.specs.declared.request.Wanted.TheVariants.{Put, Mkcol, Move, Copy}
 
 -- a denial that no rule gives: the step failed, or there was no room for it
 abbrev pub is_failure : Denial → Bool
@@ -73,30 +74,21 @@ limits (Some limit) = refl
 source_fine : (o : Option Found) → IsRefusal (option_and_then source_lost o)
 source_fine None = tt
 source_fine (Some (At node)) = tt
-source_fine (Some (Free folder)) = refl
-source_fine (Some (Missing depth)) = refl
+source_fine (Some nowhere) = refl
 
 target_fine : (o : Option Found) → IsRefusal (option_and_then target_lost o)
-target_fine None = tt
-target_fine (Some (At node)) = tt
-target_fine (Some (Free folder)) = tt
 target_fine (Some (Missing depth)) = refl
+target_fine place = tt
 
 taken_fine : (rows : List NodeRow) (wanted : Wanted) (places : Places) → IsRefusal (taken rows wanted places)
-taken_fine rows (Get spot) places = tt
 taken_fine rows (Put spot length) places = if_test _ denial.Exists refl
 taken_fine rows (Mkcol spot) places = if_test _ denial.Exists refl
-taken_fine rows (Delete spot) places = tt
-taken_fine rows (Move source target overwrite) places = tt
-taken_fine rows (Copy source target overwrite) places = tt
+taken_fine rows wanted places = tt
 
 kept_fine : (wanted : Wanted) (places : Places) → IsRefusal (unreplaced wanted places)
-kept_fine (Get spot) places = tt
-kept_fine (Put spot length) places = tt
-kept_fine (Mkcol spot) places = tt
-kept_fine (Delete spot) places = tt
 kept_fine (Move source target overwrite) places = if_test (is_kept overwrite places) denial.Overwrite refl
 kept_fine (Copy source target overwrite) places = if_test (is_kept overwrite places) denial.Overwrite refl
+kept_fine wanted places = tt
 
 -- each of some rules refuses so
 abbrev AreRefusals : List Rule → Type 0
@@ -162,11 +154,9 @@ unless_fine None act fine = tt
 unless_fine (Some refusal) act fine = fine
 
 goal_fine : (t : Tables) (now : ℕ) (outcome : Outcome) (goal : Goal) → IsDecided (ends_goal t now outcome goal)
-goal_fine t now Sent goal = tt
-goal_fine t now Gone goal = tt
-goal_fine t now (Body digest size) (Serve content) = tt
 goal_fine t now (Body digest size) (Store by key wanted) =
     unless_fine (end_refusal t key size) (stored_at t now key digest size) (either (key_lost t key) _ (lost_fine t key) (limits (limit_at t (pieces_of size) (place_of key))))
+goal_fine t now outcome goal = tt
 
 ticket_fine : (t : Tables) (now : ℕ) (outcome : Outcome) (ticket : Option Ticket) → IsDecided (ends_ticket t now outcome ticket)
 ticket_fine t now outcome None = tt
@@ -180,11 +170,7 @@ decides s seat now (End outcome) = ticket_fine s.tables now outcome (ticket_of s
 no_failure : (decision : Result Allowed Denial) (refusal : Denial) → IsDecided decision → is_failure refusal ≡ true
     → answered_by decision ≡ Err refusal → ⊥
 no_failure (Ok act) refusal fine fails is = cc
-no_failure (Err other) refusal fine fails is = let e : other ≡ refusal = cc in no_both (is_failure refusal) fails (subst (λ (d : Denial). is_failure d ≡ false) e fine)
-  where
-    no_both : (b : Bool) → b ≡ true → b ≡ false → ⊥
-    no_both true is not = cc
-    no_both false is not = cc
+no_failure (Err other) refusal fine fails is = let e : other ≡ refusal = cc in both_ways (is_failure refusal) (subst (λ (d : Denial). is_failure d ≡ false) e fine) fails
 
 pub never_failed : (s : State) (seat now : ℕ) (event : Event) (refusal : Denial) → is_failure refusal ≡ true → answer_to s seat now event ≡ Err refusal → ⊥
 never_failed s seat now event refusal fails is = no_failure (decision_of s seat now event) refusal (decides s seat now event) fails is

@@ -51,16 +51,10 @@ put_opens None = λ is. cc
 put_opens (Some node) = λ is. cc
 
 closes : (act : Allowed) → reply_to act ≡ Closed → act ≡ allowed.Close
-closes (allowed.Get node content) is = cc
-closes (allowed.List listing) is = cc
-closes (allowed.Put by key length) is = cc
-closes (allowed.StoreNew row blob) is = cc
-closes (allowed.StoreOver node content blob) is = cc
-closes (allowed.Mkcol row) is = cc
-closes (allowed.Delete node) is = cc
 closes (allowed.Move transfer name) is = absurd (put_opens transfer.replaced is)
 closes (allowed.Copy rows replaced) is = absurd (put_opens replaced is)
 closes allowed.Close is = refl
+closes act is = cc
 
 -- an act that isn't refused isn't answered so, if it doesn't close
 open_answer : (refusal : Option Denial) (act : Allowed) → (refusal ≡ None → act ≢ allowed.Close)
@@ -77,43 +71,33 @@ open_shown t node = here (is_folder t.nodes node)
 
 open_served : (t : Tables) (place : Found) → source_lost place ≡ None → served t (node_found place) ≢ allowed.Close
 open_served t (At node) there = open_shown t node
-open_served t (Free folder) there = absurd (cc)
-open_served t (Missing depth) there = absurd (cc)
+open_served t nowhere there = absurd (cc)
 
 open_deleted : (place : Found) → source_lost place ≡ None → deleted (node_found place) ≢ allowed.Close
 open_deleted (At node) there = λ is. cc
-open_deleted (Free folder) there = absurd (cc)
-open_deleted (Missing depth) there = absurd (cc)
+open_deleted nowhere there = absurd (cc)
 
 open_put : (by : Seeker) (name : List ℕ) (length : ℕ) (place : Found) → target_lost place ≡ None → stored by name length (Some place) ≢ allowed.Close
-open_put by name length (At node) there = λ is. cc
-open_put by name length (Free folder) there = λ is. cc
 open_put by name length (Missing depth) there = absurd (cc)
+open_put by name length place there = λ is. cc
 
 open_made : (t : Tables) (now : ℕ) (name : List ℕ) (place : Found) → target_lost place ≡ None
     → (if is_some (node_found place) then Some denial.Exists else None) ≡ None → made_folder t now name (Some place) ≢ allowed.Close
-open_made t now name (At node) there free = absurd (cc)
 open_made t now name (Free folder) there free = λ is. cc
-open_made t now name (Missing depth) there free = absurd (cc)
+open_made t now name place there free = absurd (cc)
 
 -- what has no transfer is unfit
 open_moved : (rows : List NodeRow) (root : Bool) (name : List ℕ) (transfer : Option Transfer)
     → (if root then Some target.Root else option_map_or (misplaced rows) transfer (Some target.Root)) ≡ None
     → moved name transfer ≢ allowed.Close
-open_moved rows true name transfer fits = absurd (cc)
-open_moved rows false name None fits = absurd (cc)
 open_moved rows false name (Some transfer) fits = λ is. cc
+open_moved rows root name transfer fits = absurd (cc)
 
 open_copied : (t : Tables) (now : ℕ) (root : Bool) (name : List ℕ) (transfer : Option Transfer)
     → (if root then Some target.Root else option_map_or (misplaced t.nodes) transfer (Some target.Root)) ≡ None
     → copied t now name transfer ≢ allowed.Close
-open_copied t now true name transfer fits = absurd (cc)
-open_copied t now false name None fits = absurd (cc)
 open_copied t now false name (Some transfer) fits = λ is. cc
-
--- where only the target is looked for
-only_target : (o : Option Denial) → option_or None o ≡ None → o ≡ None
-only_target o none = none
+open_copied t now root name transfer fits = absurd (cc)
 
 only_source : (o : Option Denial) → option_or o None ≡ None → o ≡ None
 only_source None none = refl
@@ -123,8 +107,8 @@ open_given : (call : Call) (asked : Wanted) → lost (places_at call asked) ≡ 
     → unfit call.state.tables.nodes asked (places_at call asked) ≡ None
     → given call.state.tables call.now (asker_of call) asked (places_at call asked) ≢ allowed.Close
 open_given call (Get spot) led free fits = open_served call.state.tables (found call spot) (only_source _ led)
-open_given call (Put spot length) led free fits = open_put (seeker.User (asker_of call)) (last_name spot) length (found call spot) (only_target _ led)
-open_given call (Mkcol spot) led free fits = open_made call.state.tables call.now (last_name spot) (found call spot) (only_target _ led) free
+open_given call (Put spot length) led free fits = open_put (seeker.User (asker_of call)) (last_name spot) length (found call spot) led
+open_given call (Mkcol spot) led free fits = open_made call.state.tables call.now (last_name spot) (found call spot) led free
 open_given call (Delete spot) led free fits = open_deleted (found call spot) (only_source _ led)
 open_given call (Move source target overwrite) led free fits =
     let t = call.state.tables in
@@ -168,15 +152,8 @@ IsPlain answer = (goal : Goal) → answer ≢ Ok (Granted goal)
 
 no_goal : (act : Allowed) → IsPlain (Ok (reply_to act)) → goal_of act ≡ None
 no_goal (allowed.Get node content) plain = absurd (plain (Serve content) refl)
-no_goal (allowed.List listing) plain = refl
 no_goal (allowed.Put by key length) plain = absurd (plain (Store by key length) refl)
-no_goal (allowed.StoreNew row blob) plain = refl
-no_goal (allowed.StoreOver node content blob) plain = refl
-no_goal (allowed.Mkcol row) plain = refl
-no_goal (allowed.Delete node) plain = refl
-no_goal (allowed.Move transfer name) plain = refl
-no_goal (allowed.Copy rows replaced) plain = refl
-no_goal allowed.Close plain = refl
+no_goal act plain = refl
 
 plain_decided : (s : State) (seat now : ℕ) (decision : Result Allowed Denial) → IsPlain (answered_by decision)
     → (decided s seat now decision).tickets ≡ s.tickets

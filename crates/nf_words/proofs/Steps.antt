@@ -16,7 +16,7 @@ use Rattle.nf_words.specs.declared.answer.Allowed.{Allowed}
 use Rattle.nf_words.specs.declared.answer.Allowed.TheVariants as allowed
 use Rattle.nf_words.specs.declared.answer.Denial.{Denial}
 use Rattle.nf_words.specs.declared.answer.Goal.{Goal}
-use Rattle.nf_words.specs.declared.answer.Goal.TheVariants.{Serve, Store}
+use Rattle.nf_words.specs.declared.answer.Goal.TheVariants.{Store}
 use Rattle.nf_words.specs.declared.answer.LockKey.{LockKey}
 use Rattle.nf_words.specs.declared.answer.LockKey.TheVariants.{Node, Slot}
 use Rattle.nf_words.specs.declared.answer.Reply.{Reply}
@@ -83,13 +83,9 @@ pub other_step : (s : State) (seat now : ℕ) (event : Event) (other : ℕ) → 
 other_step s seat now event other differ =
     other_decided (without s seat event) seat now other (decision_of s seat now event) differ ∙ other_without s seat event other differ
 
-other_failed : (s : State) (seat now : ℕ) (event : Event) (other : ℕ) → other ≢ seat → ticket_of (failed s seat now event) other ≡ ticket_of s other
-other_failed s seat now event other differ = other_without s seat event other differ
-
 other_mark : (s : State) (e : Entry) (m : Mark) (other : ℕ) → other ≢ e.seat → ticket_of (after_mark s e m) other ≡ ticket_of s other
 other_mark s e mark.Answered other differ = other_step s e.seat e.moment e.event other differ
-other_mark s e mark.Store other differ = other_failed s e.seat e.moment e.event other differ
-other_mark s e mark.Memory other differ = other_failed s e.seat e.moment e.event other differ
+other_mark s e failure other differ = other_without s e.seat e.event other differ
 
 pub other_after : (s : State) (e : Entry) (other : ℕ) → other ≢ e.seat → ticket_of (after s e) other ≡ ticket_of s other
 other_after s e other differ = other_mark s e e.mark other differ
@@ -108,10 +104,8 @@ stores_nothing None t now (Node node) digest length = refl
 stores_nothing None t now (Slot folder name) digest length = refl
 
 goal_nothing : (t : Tables) (now : ℕ) (outcome : Outcome) (goal : Goal) → GrantsNothing (ends_goal t now outcome goal)
-goal_nothing t now Sent goal = refl
-goal_nothing t now Gone goal = refl
-goal_nothing t now (Body digest length) (Serve content) = refl
 goal_nothing t now (Body digest length) (Store by key wanted) = stores_nothing (end_refusal t key length) t now key digest length
+goal_nothing t now outcome goal = refl
 
 ticket_nothing : (t : Tables) (now : ℕ) (outcome : Outcome) (ticket : Option Ticket) → GrantsNothing (ends_ticket t now outcome ticket)
 ticket_nothing t now outcome None = refl
@@ -157,16 +151,9 @@ put_grants_nothing None goal = λ is. cc
 put_grants_nothing (Some node) goal = λ is. cc
 
 goal_of_reply : (act : Allowed) (goal : Goal) → reply_to act ≡ Granted goal → goal_of act ≡ Some goal
-goal_of_reply (allowed.Get node content) goal is = cc
-goal_of_reply (allowed.List listing) goal is = cc
-goal_of_reply (allowed.Put by key length) goal is = cc
-goal_of_reply (allowed.StoreNew row blob) goal is = cc
-goal_of_reply (allowed.StoreOver node content blob) goal is = cc
-goal_of_reply (allowed.Mkcol row) goal is = cc
-goal_of_reply (allowed.Delete node) goal is = cc
 goal_of_reply (allowed.Move transfer name) goal is = absurd (put_grants_nothing transfer.replaced goal is)
 goal_of_reply (allowed.Copy rows replaced) goal is = absurd (put_grants_nothing replaced goal is)
-goal_of_reply allowed.Close goal is = cc
+goal_of_reply act goal is = cc
 
 ok_reply : (x y : Reply) → ◌≡◌ {A = Result Reply Denial} (Ok x) (Ok y) → x ≡ y
 ok_reply x y e = cc
@@ -187,10 +174,7 @@ granted_decided s seat now (Ok act) goal none is =
 granted_decided s seat now (Err refusal) goal none is = cc
 
 pub never_granted : (decision : Result Allowed Denial) (goal : Goal) → GrantsNothing decision → answered_by decision ≡ Ok (Granted goal) → ⊥
-never_granted (Ok act) goal nothing is = none_some goal (sym nothing ∙ granted_goal act goal is)
-  where
-    none_some : (goal : Goal) → ◌≡◌ {A = Option Goal} None (Some goal) → ⊥
-    none_some goal e = cc
+never_granted (Ok act) goal nothing is = let granted = granted_goal act goal is in absurd (cc)
 never_granted (Err refusal) goal nothing is = cc
 
 pub granted_step : (s : State) (seat now : ℕ) (event : Event) (goal : Goal)
@@ -233,8 +217,7 @@ differ_failed s seat now (End outcome) h = differ_without s seat h
 
 differ_after : (s : State) (e : Entry) (mark : Mark) → MayAsk s e.seat e.event → Differ s → Differ (after_mark s e mark)
 differ_after s e mark.Answered asked h = differ_step s e.seat e.moment e.event asked h
-differ_after s e mark.Store asked h = differ_failed s e.seat e.moment e.event h
-differ_after s e mark.Memory asked h = differ_failed s e.seat e.moment e.event h
+differ_after s e failure asked h = differ_failed s e.seat e.moment e.event h
 
 pub differ_replay : (n : ℕ) (s : State) (es : List Entry) → Differ s → IsLegalFrom n s es → Differ (replay s es)
 differ_replay n s [] h legal = h

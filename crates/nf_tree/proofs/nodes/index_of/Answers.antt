@@ -1,4 +1,4 @@
-use Rattle.std.proofs.Common.{rules, sym}
+use Rattle.std.proofs.Common.{rules}
 use Rattle.std.proofs.lemmas.List.Sorted.{answers_always}
 use Rattle.nf_tree.proofs.Positions.{no_row, searched}
 use Rattle.nf_tree.proofs.nodes.index_of.Goals as goal
@@ -6,9 +6,9 @@ use Rattle.nf_tree.proofs.nodes.index_of.Goals as goal
 pub returns-in-Ok : goal.returns-in-Ok
 returns-in-Ok c =
     let by_key = c.binary_search_by_key.ensures.position (λ row. row.id) (answers_always _ _ _ (λ f a r g called. search rules)) in
-    sym (rw c.in-Ok.is at (searched c.args.rows.now c.args.node no_row _ c.requires c.binary_search_by_key.ensures.bound by_key))
+    rw c.in-Ok.is at (searched c.args.rows.now c.args.node no_row _ c.requires c.binary_search_by_key.ensures.bound by_key)
 
 pub returns-in-Err : goal.returns-in-Err
 returns-in-Err c =
     let by_key = c.binary_search_by_key.ensures.position (λ row. row.id) (answers_always _ _ _ (λ f a r g called. search rules)) in
-    sym (rw c.in-Err.is at (searched c.args.rows.now c.args.node no_row _ c.requires c.binary_search_by_key.ensures.bound by_key))
+    rw c.in-Err.is at (searched c.args.rows.now c.args.node no_row _ c.requires c.binary_search_by_key.ensures.bound by_key)

@@ -2,7 +2,7 @@ use Rattle.std.proofs.Common.{rules, ◌+◌, ◌≤◌, ◌≡◌, not, length,
 use Rattle.std.proofs.lemmas.List.{length-take-le}
 use Rattle.nf_base.specs.NodeValue.{NodeValue}
 use Rattle.nf_tree.specs.Order.{stays}
-use Rattle.nf_tree.proofs.Fates.{fewer, one_more, no_more, fates_more, none_yet}
+use Rattle.nf_tree.proofs.Fates.{fewer, one_more, fates_more, none_yet}
 use Rattle.nf_tree.proofs.nodes.settle.Goals as goal
 use Rattle.nf_tree.proofs.nodes.settle.Goals.{then-is_under, else-is_under}
 
@@ -34,14 +34,14 @@ loop-row-preserved c =
           let goes = passes ∙ ap not w.if-is_under.true in
           record {
             fates = fates_more p rows n (length rows) c.loop-row.fates.items row i.fates c.loop-row-test.true c.row-item.is (λ stay. absurd (cc)) (λ go. refl);
-            kept = i.kept ∙ sym (no_more p rows n row c.loop-row-test.true c.row-item.is goes);
+            kept = let more = one_more p rows n row c.loop-row-test.true c.row-item.is in grind (arith, i.kept, rw goes at more);
             room = w.push_reserved.ensures.capacity ∙ i.room;
           })
       | else-is_under w ↦ rw (w.fates-is, w.kept-is, w.push_reserved-else-is_under.ensures.items) (
           let stay = passes ∙ ap not w.if-is_under.false in
           record {
             fates = fates_more p rows n c.loop-row.kept c.loop-row.fates.items row i.fates c.loop-row-test.true c.row-item.is (λ stay. i.kept) (λ go. absurd (cc));
-            kept = ap (λ k. k + 1) i.kept ∙ sym (one_more p rows n row c.loop-row-test.true c.row-item.is stay);
+            kept = let more = one_more p rows n row c.loop-row-test.true c.row-item.is in grind (arith, i.kept, rw stay at more);
             room = w.push_reserved-else-is_under.ensures.capacity ∙ i.room;
           })
     ]

@@ -4,9 +4,6 @@ use Rattle.nf_tree.proofs.Childs.{child_read, child_past, child_other}
 use Rattle.nf_tree.proofs.order.child_of.Goals as goal
 use Rattle.nf_tree.proofs.order.child_of.Goals.{then-at-order+else-is_child, else-at-order}
 
-pub cut-at-requires-clause-within : goal.cut-at-requires-clause-within
-cut-at-requires-clause-within c = c.requires.index.within
-
 pub offset_bounds-rows-order : goal.offset_bounds-rows-order
 offset_bounds-rows-order c =
     let there : get_or c.args.order.now c.cut-at.result 0 < length c.args.rows.now = c.requires.index.within c.cut-at.result 0 c.if-at-order.true in

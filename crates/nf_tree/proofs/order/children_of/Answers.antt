@@ -4,9 +4,6 @@ use Rattle.nf_defs.specs.Tree.{is_in}
 use Rattle.nf_tree.proofs.Children.{row_read, part_more, all_more, children_all}
 use Rattle.nf_tree.proofs.order.children_of.Goals as goal
 
-pub cut-at-requires-clause-within : goal.cut-at-requires-clause-within
-cut-at-requires-clause-within c = c.requires.index.within
-
 pub offset_bounds-rows-order : goal.offset_bounds-rows-order
 offset_bounds-rows-order c =
     let there : get_or c.args.order.now c.loop-at.at 0 < length c.args.rows.now = c.requires.index.within c.loop-at.at 0 c.loop-at-test.true in

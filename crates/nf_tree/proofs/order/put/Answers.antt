@@ -3,9 +3,6 @@ use Rattle.nf_tree.specs.Order.{IsIndex}
 use Rattle.nf_tree.proofs.Orders.{own_cut, put_in}
 use Rattle.nf_tree.proofs.order.put.Goals as goal
 
-pub cut_at-to-requires-clause-within : goal.cut_at-to-requires-clause-within
-cut_at-to-requires-clause-within c = rw c.deref.ensures.value c.requires.lacks.within
-
 pub returns-clause-index : goal.returns-clause-index
 returns-clause-index c =
     let cuts = own_cut c.args.rows.now c.args.order.now.items c.deref.result.now c.args.at c.cut_at-to.result c.index-rows-at.result c.deref.ensures.value c.requires.there c.index-rows-at.is c.cut_at-to.ensures in

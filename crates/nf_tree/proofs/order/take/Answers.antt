@@ -3,9 +3,6 @@ use Rattle.nf_tree.specs.Order.{LacksOnly}
 use Rattle.nf_tree.proofs.Orders.{own_cut, cut_is, take_out}
 use Rattle.nf_tree.proofs.order.take.Goals as goal
 
-pub cut_at-from-requires-clause-within : goal.cut_at-from-requires-clause-within
-cut_at-from-requires-clause-within c = rw c.deref.ensures.value c.requires.index.within
-
 pub remove-requires : goal.remove-requires
 remove-requires c =
     let cuts = own_cut c.args.rows.now c.args.order.now.items c.deref.result.now c.args.at c.cut_at-from.result c.index-rows-at.result c.deref.ensures.value c.requires.there c.index-rows-at.is c.cut_at-from.ensures in

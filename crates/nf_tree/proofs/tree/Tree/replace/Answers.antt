@@ -1,15 +1,15 @@
-use Rattle.std.proofs.Common.{length, ap, sym, refl, ◌∙◌, arith}
+use Rattle.std.proofs.Common.{◌==◌, length, ap, refl, ◌∙◌, arith}
 use Rattle.nf_base.specs.declared.rows.NodeRow.{NodeRow}
 use Rattle.nf_defs.specs.Tree.{content_of, is_file}
 use Rattle.nf_tree.specs.Held.{Held}
-use Rattle.nf_tree.proofs.Positions.{row_there}
+use Rattle.nf_defs.proofs.Lookups.{find_there}
 use Rattle.nf_tree.proofs.Trees.{changed_tree, changed_held, node_within, counted_there, same_index, pieces_few, file_row, content_row}
 use Rattle.nf_tree.proofs.tree.Tree.replace.Goals as goal
 
 pub refill-old-requires : goal.refill-old-requires
 refill-old-requires c =
     let view = ap (λ (h : Held). h.rows) c.self.view_is in
-    let there = row_there _ c.args.file c.place_of-at.result c.index_mut.result.now (sym (rw (← view) at c.place_of-at.ensures)) c.index_mut.ensures.value in
+    let there = find_there (λ (row : NodeRow). row.id == c.args.file) _ c.place_of-at.result c.index_mut.result.now (rw (← view) at c.place_of-at.ensures) c.index_mut.ensures.value in
     file_row _ c.args.file _ there (ap (λ rows. is_file rows c.args.file) view ∙ c.requires)
 
 pub overflow_add-self : goal.overflow_add-self
@@ -42,5 +42,5 @@ returns-clause-rows c = changed_held _ _ _ _ _ _ _ _ c.self.view_is c.place_of-a
 pub returns-clause-content : goal.returns-clause-content
 returns-clause-content c =
     let view = ap (λ (h : Held). h.rows) c.self.view_is in
-    let there = row_there _ c.args.file c.place_of-at.result c.index_mut.result.now (sym (rw (← view) at c.place_of-at.ensures)) c.index_mut.ensures.value in
+    let there = find_there (λ (row : NodeRow). row.id == c.args.file) _ c.place_of-at.result c.index_mut.result.now (rw (← view) at c.place_of-at.ensures) c.index_mut.ensures.value in
     c.refill-old.ensures.content ∙ content_row _ c.args.file _ there ∙ ap (λ rows. content_of rows c.args.file) view
