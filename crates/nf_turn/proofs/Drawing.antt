@@ -56,8 +56,8 @@ module _ {E O W : Type 0} (book : Meanings E O W) (seats : ℕ) (origin : W) whe
       let h = mine.0 in
       let new = drawing line n in
       let found : x ≡ line.drawn % 2 ^ 64 = ap (λ ws. get_or ws 0 0) rule.words in
-      let words : set s.words 0 ((x + 1) % 2 ^ 64) ≡ new.drawn % 2 ^ 64 ∷ new.passed_on % 2 ^ 64 ∷ [] =
-      ap (λ ws. set ws 0 ((get_or ws 0 0 + 1) % 2 ^ 64)) rule.words ∙ ap (λ (z : ℕ). z ∷ line.passed_on % 2 ^ 64 ∷ []) (next_modulo line.drawn) in (
+      let words : set s.words 0 ((x + 1) % 2 ^ 64) ≡ new.drawn % 2 ^ 64 ∷ new.passed_on % 2 ^ 64 ∷ rule.bells =
+      ap (λ ws. set ws 0 ((get_or ws 0 0 + 1) % 2 ^ 64)) rule.words ∙ ap (λ (z : ℕ). z ∷ line.passed_on % 2 ^ 64 ∷ rule.bells) (next_modulo line.drawn) in (
         Waiting x k,
         keeps,
         tt,

@@ -125,6 +125,7 @@ module _ {E O W : Type 0} (book : Meanings E O W) where
         let known : Knows book seats origin new id both = (known_of_both line id other k q apart theirs.1 mine.0 theirs.0, mine.1) in record {
           fresh = rule.fresh;
           line = new;
+          bells = rule.bells;
           words = rule.words;
           home = rule.home;
           order = record { few = order.few; count = order.count; once = order.once; within = order.within; apart = order.apart; served = order.served; unused = order.unused };

@@ -83,8 +83,8 @@ module _ {E O W : Type 0} (book : Meanings E O W) (seats : ℕ) (origin : W) whe
       let h = mine.0 in
       let added' : AddsAlone book n line.value value = subst (λ (z : W). AddsAlone book n z value) mine.2 added in
       let new = passing line n value in
-      let words : set s.words 1 ((x + 1) % 2 ^ 64) ≡ new.drawn % 2 ^ 64 ∷ new.passed_on % 2 ^ 64 ∷ [] =
-      ap (λ ws. set ws 1 ((get_or ws 1 0 + 1) % 2 ^ 64)) rule.words ∙ ap (λ (z : ℕ). line.drawn % 2 ^ 64 ∷ z ∷ []) (next_modulo line.passed_on) in
+      let words : set s.words 1 ((x + 1) % 2 ^ 64) ≡ new.drawn % 2 ^ 64 ∷ new.passed_on % 2 ^ 64 ∷ rule.bells =
+      ap (λ ws. set ws 1 ((get_or ws 1 0 + 1) % 2 ^ 64)) rule.words ∙ ap (λ (z : ℕ). line.drawn % 2 ^ 64 ∷ z ∷ rule.bells) (next_modulo line.passed_on) in
       let home : set s.homes 0 (some (Some value)) ≡ some (Some value) ∷ [] = ap (λ hs. set hs 0 (some (Some value))) rule.home ∙ filled line.holder line.value value in (
         Idle (having_passed value k),
         gives,

@@ -72,6 +72,7 @@ module _ {E O W : Type 0} (book : Meanings E O W) (seats : ℕ) (origin : W) whe
       let others = λ (j : ℕ) (view : View W) (other : j ≢ id) (there : get_elem? s.views j ≡ some view). others_stay book seats origin line new j (leaves_others line id added (sym has.0) j other) view (rule.views j view there) in record {
         fresh = rule.fresh;
         line = new;
+        bells = rule.bells;
         words = rule.words;
         home = rule.home;
         order = in_order line added rule.order (omega arith);

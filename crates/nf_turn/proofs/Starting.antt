@@ -1,5 +1,5 @@
 -- Making the lock.
-use Rattle.std.proofs.Common.{rules, ◌≡◌, ◌≢◌, ℕ, zero, suc, ◌%◌, ◌^◌, ◌<◌, ◌≤◌, [], ◌∷◌, Some, refl, sym, arith}
+use Rattle.std.proofs.Common.{rules, ◌≡◌, ◌≢◌, ℕ, zero, suc, ◌%◌, ◌^◌, ◌<◌, ◌≤◌, List, [], ◌∷◌, Some, refl, sym, arith}
 use mathlib.Core.Option.{some, some-ne-none}
 use lib.ListN.{get_elem?}
 use Rattle.atomic_table.specs.Table.{opening}
@@ -26,11 +26,12 @@ module _ {E O W : Type 0} (book : Meanings E O W) (seats : ℕ) (origin : W) whe
       let grows = Grows-refl book origin in let own = GrowsWithout-refl book 1 origin in let last = Precedes-refl book origin in
       search (rules, grows, own, last)
 
-  pub starts : (turn : ℕ) → turn < 2 ^ 64 → IsFresh book origin → (0 < seats) × (seats ≤ 64) → IsInTurn book seats origin (opening (turn ∷ turn ∷ []) (Some origin ∷ []) (Idle (of_the_first seats origin)))
-  starts turn fits fresh few = let same : turn ≡ turn % 2 ^ 64 = omega arith in let low = few.0 in let up = few.1 in let first : View W = Idle (of_the_first seats origin) in record {
+  pub starts : (turn : ℕ) (bells : List ℕ) → turn < 2 ^ 64 → IsFresh book origin → (0 < seats) × (seats ≤ 64) → IsInTurn book seats origin (opening (turn ∷ turn ∷ bells) (Some origin ∷ []) (Idle (of_the_first seats origin)))
+  starts turn bells fits fresh few = let same : turn ≡ turn % 2 ^ 64 = omega arith in let low = few.0 in let up = few.1 in let first : View W = Idle (of_the_first seats origin) in record {
     fresh = fresh;
     line = opening_line turn;
-    words = (λ i. same i ∷ same i ∷ []);
+    bells = bells;
+    words = (λ i. same i ∷ same i ∷ bells);
     home = refl;
     order = (let none = total_zero seats in let unused = λ (n : ℕ). GrowsWithout-refl book n origin in search (rules, none, unused));
     views = views_stay (Knows book seats origin (opening_line turn)) (first ∷ []) 0 first (first_knows turn low) (λ j v other at. absurd (none_beyond first j v other at));

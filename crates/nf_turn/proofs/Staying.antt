@@ -1,15 +1,16 @@
 -- What a seat knows stays so while others step.
-use Rattle.std.proofs.Common.{rules, ◌≡◌, ◌≢◌, ⊎_elim, ℕ, ◌%◌, ◌^◌, ◌<◌, ◌≤◌, List, [], ◌∷◌, set, get_or, Option, sym, ap, ◌∙◌, subst, arith}
+use Rattle.std.proofs.Common.{◌≡◌, ◌≢◌, ⊎_elim, ℕ, zero, suc, ◌%◌, ◌^◌, ◌<◌, ◌≤◌, List, [], ◌∷◌, set, get_or, Option, refl, sym, ap, ◌∙◌, subst, arith}
 use mathlib.Core.Option as maybe
 use mathlib.Core.Option.{some, none}
 use lib.ListN.{get_elem?}
 use lib.Seq.{set-get_or}
-use Rattle.atomic_table.specs.Table.{State}
+use Rattle.atomic_table.specs.Table.{State, step, keeps, Allows}
 use Rattle.atomic_table.proofs.Lists.{at_set}
 use Rattle.nf_turn.specs.Book.{Meanings, Grows, GrowsWithout}
 use Rattle.nf_turn.specs.declared.view.Memory.{Memory}
 use Rattle.nf_turn.specs.declared.view.View.{View}
 use Rattle.nf_turn.specs.declared.view.View.TheVariants.{Spent, Idle, Waiting, Holding}
+use Rattle.nf_turn.specs.Steps.{Place, SetsBell}
 use Rattle.nf_turn.specs.Turns.{home_of, Line, GrewFrom, IsJoined, AreJoined, IsKnown, Knows, InOrder, IsInTurn}
 
 -- what holds of a seat's new view, and of each other view, holds of each
@@ -72,28 +73,43 @@ module _ {E O W : Type 0} (book : Meanings E O W) where
 
     -- the table after a step on the word i by the seat id, which leaves all others alone
     pub steps : (s : State (Option W) (View W)) (rule : IsInTurn book seats origin s) (new : Line W) (id i word : ℕ) (homes : List (maybe.Option (Option W))) (view : View W)
-        → set s.words i word ≡ new.drawn % 2 ^ 64 ∷ new.passed_on % 2 ^ 64 ∷ [] → homes ≡ home_of new.holder new.value → InOrder book seats origin new → Knows book seats origin new id view
+        → set s.words i word ≡ new.drawn % 2 ^ 64 ∷ new.passed_on % 2 ^ 64 ∷ rule.bells → homes ≡ home_of new.holder new.value → InOrder book seats origin new → Knows book seats origin new id view
         → ((j : ℕ) → j ≢ id → LeavesAlone rule.line new j) → IsInTurn book seats origin record { words = set s.words i word; homes = homes; views = set s.views id view }
     steps s rule new id i word homes view words home order mine leaves = record {
       fresh = rule.fresh;
       line = new;
+      bells = rule.bells;
       words = words;
       home = home;
       order = order;
       views = views_stay (Knows book seats origin new) s.views id view mine (λ j v other at. others_stay rule.line new j (leaves j other) v (rule.views j v at));
     }
 
-    -- a step that only reads a word
-    pub reads : (s : State (Option W) (View W)) (rule : IsInTurn book seats origin s) (i id : ℕ) (view : View W) → get_elem? s.views id ≡ some view
-        → IsInTurn book seats origin record { words = set s.words i (get_or s.words i 0); homes = s.homes; views = set s.views id view }
-    reads s rule i id view at = record {
+    -- a step that leaves both turn numbers, and may set a bell
+    pub leaves_numbers : (s : State (Option W) (View W)) (rule : IsInTurn book seats origin s) (bells : List ℕ) (id i word : ℕ) (view : View W)
+        → set s.words i word ≡ rule.line.drawn % 2 ^ 64 ∷ rule.line.passed_on % 2 ^ 64 ∷ bells → get_elem? s.views id ≡ some view
+        → IsInTurn book seats origin record { words = set s.words i word; homes = s.homes; views = set s.views id view }
+    leaves_numbers s rule bells id i word view words at = record {
       fresh = rule.fresh;
       line = rule.line;
-      words = set-get_or s.words i 0 ∙ rule.words;
+      bells = bells;
+      words = words;
       home = rule.home;
       order = rule.order;
       views = views_stay (Knows book seats origin rule.line) s.views id view (rule.views id view at) (λ j v _. rule.views j v);
     }
+
+    -- one that only reads a word
+    pub reads : (s : State (Option W) (View W)) (rule : IsInTurn book seats origin s) (i id : ℕ) (view : View W) → get_elem? s.views id ≡ some view
+        → IsInTurn book seats origin record { words = set s.words i (get_or s.words i 0); homes = s.homes; views = set s.views id view }
+    reads s rule i id view at = leaves_numbers s rule rule.bells id i (get_or s.words i 0) view (set-get_or s.words i 0 ∙ rule.words) at
+
+    -- any seat may set a bell
+    pub may_set : (slots id i word : ℕ) (me : Place W) → 1 < i → Allows (IsInTurn book seats origin) slots id me i (λ _. word) (SetsBell (step slots i word 0 none) me)
+    may_set slots id zero word me bell s rule _ at _ = absurd (omega arith)
+    may_set slots id (suc zero) word me bell s rule _ at _ = absurd (omega arith)
+    may_set slots id (suc (suc j)) word me bell s rule _ at _ =
+        (me.0, keeps, tt, leaves_numbers s rule (set rule.bells j word) id (suc (suc j)) word me.0 (ap (λ ws. set ws (suc (suc j)) word) rule.words) at, refl)
 
 -- another seat's number is not this one's
 pub other_number : {W : Type 0} (line : Line W) (id j n m : ℕ) → line.place n ≡ id → j ≢ id → line.place m ≡ j → m ≢ n

@@ -19,6 +19,9 @@ module _ {W : Type 0} where
   abbrev pub PassesOn : Step (Option W) → Place W → ℕ → Place W → Type 0
   PassesOn step old found new = (k : Memory W) (taken value : W) → old ≡ (Holding taken k, (0, Some value) ∷ []) → new ≡ (Idle (having_passed value k), [])
 
+  abbrev pub SetsBell : Step (Option W) → Place W → ℕ → Place W → Type 0
+  SetsBell step old found new = new ≡ old
+
   abbrev pub after_split : View W → View W
   after_split (Idle k) = Idle (having_split k)
   after_split view = view

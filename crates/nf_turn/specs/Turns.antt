@@ -1,5 +1,5 @@
 -- The rule of the table.
--- Word 0 is how many turn numbers were drawn, word 1 how many turns were passed on, each modulo 2 ^ 64. Slot 0 has the value.
+-- Word 0 is how many turn numbers were drawn, word 1 how many turns were passed on, each modulo 2 ^ 64. The others are bells, of which nothing is said. Slot 0 has the value.
 use Rattle.std.specs.Prelude.{◌≡◌, ◌≢◌, ◌⊎◌, ℕ, zero, suc, ◌+◌, ◌%◌, ◌^◌, ◌<◌, ◌≤◌, List, [], ◌∷◌, Option, Some}
 use mathlib.Core.Option.{some, none}
 use mathlib.Core.Option as maybe
@@ -91,7 +91,8 @@ pub record InOrder {E O W : Type 0} (book : Meanings E O W) (seats : ℕ) (origi
 pub record IsInTurn {E O W : Type 0} (book : Meanings E O W) (seats : ℕ) (origin : W) (s : State (Option W) (View W)) : Type 0 where
   pub fresh : IsFresh book origin
   pub line : Line W
-  pub words : s.words ≡ line.drawn % 2 ^ 64 ∷ line.passed_on % 2 ^ 64 ∷ []
+  pub bells : List ℕ
+  pub words : s.words ≡ line.drawn % 2 ^ 64 ∷ line.passed_on % 2 ^ 64 ∷ bells
   pub home : s.homes ≡ home_of line.holder line.value
   pub order : InOrder book seats origin line
   pub views : (id : ℕ) (view : View W) → get_elem? s.views id ≡ some view → Knows book seats origin line id view

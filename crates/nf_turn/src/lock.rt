@@ -1,10 +1,11 @@
 //! The lock.
 ghost use Rattle.std.specs.Prelude.{◌≡◌, ◌≤◌, ◌==◌, if◌then◌else◌};
+ghost use Rattle.nf_turn.specs.declared.turns.TheConstants.{WORDS};
 
 use crate::book::Book;
 use crate::plays::{Count, JoinIn, SplitOff};
 use crate::seat::Seat;
-use crate::turns::{Counter, DRAWN, pass_on, wait_for_turn};
+use crate::turns::{Counter, DRAWN, first_words, pass_on, wait_for_turn};
 use crate::view::{Start, TurnRule, View};
 use atomic_table::{Refused, Table};
 use std::alloc::Global;
@@ -15,7 +16,7 @@ use std::sync::Wait;
 #[derive(Drop)]
 pub struct TurnLock<W: Book> {
     table: Table<Option<W>, View<W>, Start<W>, TurnRule, Global>,
-    ghost sized: { (table.shared.table_id.words ≡ 2) × (table.shared.table_id.slots ≡ 1) },
+    ghost sized: { (table.shared.table_id.words ≡ WORDS) × (table.shared.table_id.slots ≡ 1) },
 }
 
 impl<W: Book> TurnLock<W> {
@@ -59,7 +60,7 @@ impl<W: Book> TurnLock<W> {
             return Err(value);
         }
         slots.push_reserved(Some(value));
-        match Table::new(alloc, &[turn, turn], slots, &start) {
+        match Table::new(alloc, &first_words(turn), slots, &start) {
             Ok((table, place)) => {
                 let seat = Seat {
                     place,

@@ -1,6 +1,6 @@
 //! What each step on the table tells.
 ghost use Rattle.nf_turn.specs.Memory.{longer};
-ghost use Rattle.nf_turn.specs.Steps.{Draws, Looks, PassesOn, Counts, after_split, split_off, after_join};
+ghost use Rattle.nf_turn.specs.Steps.{Draws, Looks, PassesOn, SetsBell, Counts, after_split, split_off, after_join};
 ghost use Rattle.nf_turn.specs.declared.view.View.TheVariants.{Spent};
 
 use crate::book::Book;
@@ -26,6 +26,13 @@ pub(crate) struct PassOn;
 
 impl<W> Play<Option<W>, View<W>> for PassOn {
     ghost then = { PassesOn };
+}
+
+/// Sets a bell, which changes nothing for the seat.
+pub(crate) struct SetBell;
+
+impl<W> Play<Option<W>, View<W>> for SetBell {
+    ghost then = { SetsBell };
 }
 
 /// Changes nothing, and tells what the rule says of an idle seat.

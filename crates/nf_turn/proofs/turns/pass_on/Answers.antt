@@ -12,8 +12,5 @@ fetch_add-passed-requires g c =
     let holds = c.exchange-empty.ensures.3 ∙ ap (λ m. (m.0, (0, Some value) ∷ rest m.1)) c.requires.turn in
     (search rules, search rules, may_pass g.W.Book.book key.seats key.first.value _ _ _ (taken_in key.first.value c.args.place.now.me) value (memory_in key.first.value c.args.place.now.me) holds (subst (λ (n : ℕ). AddsAlone g.W.Book.book n (taken_in key.first.value c.args.place.now.me) value) (ap (λ m. m.number) (sym (numbers_known key.first.value c.args.place.now.me))) c.requires.value))
 
-pub returns-then-peek-passed-clause-idle : goal.returns-then-peek-passed-clause-idle
-returns-then-peek-passed-clause-idle g c = c.fetch_add-passed.ensures.2 _ _ _ (c.exchange-empty.ensures.3 ∙ ap (λ m. (m.0, (0, Some c.args.value) ∷ rest m.1)) c.requires.turn)
-
-pub returns-else-peek-passed-clause-idle : goal.returns-else-peek-passed-clause-idle
-returns-else-peek-passed-clause-idle g c = c.fetch_add-passed.ensures.2 _ _ _ (c.exchange-empty.ensures.3 ∙ ap (λ m. (m.0, (0, Some c.args.value) ∷ rest m.1)) c.requires.turn)
+pub returns-clause-idle : goal.returns-clause-idle
+returns-clause-idle g c = c.ring_next.ensures.2 ∙ c.fetch_add-passed.ensures.2 _ _ _ (c.exchange-empty.ensures.3 ∙ ap (λ m. (m.0, (0, Some c.args.value) ∷ rest m.1)) c.requires.turn)

@@ -27,7 +27,8 @@ load-served-requires g c =
 pub loop-preserved : goal.loop-preserved
 loop-preserved g c =
     let missed = (c.load-served.ensures.2 _ _ c.loop.invariant.waits).1 c.if-served-mine.false in
-    record { table = c.load-served.ensures.0 ∙ c.loop.invariant.table; id = c.load-served.ensures.1 ∙ c.loop.invariant.id; waits = missed ∙ c.loop.invariant.waits }
+    let kept = c.wait_for_bell.ensures in
+    record { table = kept.0 ∙ c.load-served.ensures.0 ∙ c.loop.invariant.table; id = kept.1 ∙ c.load-served.ensures.1 ∙ c.loop.invariant.id; waits = kept.2 ∙ missed ∙ c.loop.invariant.waits }
 
 -- its own is served: the value is in the seat's hand
 pub exchange-requires : goal.exchange-requires
