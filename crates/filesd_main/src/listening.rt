@@ -1,5 +1,6 @@
 //! Where connections come from: the doors of a server.
 
+use crate::access_log::LoggedDoor;
 use filesd::Status;
 use nf_outside::RealClock;
 use nf_server::{TcpDoor, Worker};
@@ -8,7 +9,7 @@ use std::net::TcpListener;
 use std::time::Duration;
 
 /// A thread that serves connections of the one socket.
-pub type SocketWorker = Worker<TcpDoor<TcpListener>, RealClock<HostRuntime>>;
+pub type SocketWorker = Worker<LoggedDoor<TcpDoor<TcpListener>>, RealClock<HostRuntime>>;
 
 /// How many threads serve, if FILESD_WORKERS doesn't say it.
 const WORKERS: u64 = 4;
@@ -63,7 +64,7 @@ fn listen(rt: &HostRuntime, address: &str) -> Result<Vec<SocketWorker>, Status> 
             return Err(Status::DoorFault);
         };
         let worker = Worker {
-            door: TcpDoor::new(listener, limit),
+            door: LoggedDoor::new(TcpDoor::new(listener, limit), log(rt)),
             clock: RealClock::new(clock),
         };
         if workers.push(worker).is_err() {
@@ -74,6 +75,16 @@ fn listen(rt: &HostRuntime, address: &str) -> Result<Vec<SocketWorker>, Status> 
         let _ = eprintln!(rt; "filesd: listening on {address}");
     }
     Ok(workers)
+}
+
+// The runtime to log by, where FILESD_LOG is 1.
+fn log(rt: &HostRuntime) -> Option<HostRuntime> {
+    let says = env::var(rt, "FILESD_LOG").ok()?;
+    if says.as_str() != "1" {
+        return None;
+    }
+    let rt: Result<_, _> = rt.clone();
+    rt.ok()
 }
 
 // The number from 1 up to the most that the variable has; the other one where it has none.

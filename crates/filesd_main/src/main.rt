@@ -12,6 +12,7 @@ use std::process::ExitCode;
 use std::sync::Wait;
 use std::thread::Threads;
 
+mod access_log;
 mod file;
 mod listening;
 #[cfg(test)]

@@ -1,4 +1,4 @@
-//! Two seats of one hub in two threads, and a run that becomes full.
+//! Two seats of one hub in two threads, a run that becomes full, and each call of a keeper that fails.
 
 ghost use Rattle.std.specs.Prelude.{◌≡◌, None, Some, IfOk, IfSome};
 ghost use Rattle.nf_desk.specs.Opened.{MayBegin};
@@ -179,8 +179,6 @@ fn what_two_seats_do_to_each_other(rt: HostRuntime) -> Result<(), Fail> {
     assert!(rt; matches!(both, (Err(Denial::NotFound), Ok(Reply::Made))));
     let both = put_amid(&rt, &shared, &["x"], Act::Delete, &["x"], &mut b, &mut a);
     assert!(rt; matches!(both, (Err(Denial::NotFound), Ok(Reply::Done))));
-    let read = ask(&rt, &shared, (0, 0), Act::Get, &["hello.txt"], &mut b);
-    assert!(rt; matches!(read, Ok(Reply::Closed)));
     let _ = ask(&rt, &shared, (0, 0), Act::Mkcol, &["d"], &mut b);
     let both = put_amid(
         &rt,
@@ -194,7 +192,7 @@ fn what_two_seats_do_to_each_other(rt: HostRuntime) -> Result<(), Fail> {
     assert!(rt; matches!(both, (Err(Denial::NotFound), Ok(Reply::Done))));
     shared.hub.join(&mut a, b);
     assert!(rt; a.whole());
-    assert_eq!(rt; shared.hub.close(a).0.history().len(), 13);
+    assert_eq!(rt; shared.hub.close(a).0.history().len(), 11);
     Ok(())
 }
 
@@ -210,4 +208,41 @@ fn a_run_becomes_full(rt: HostRuntime) -> Result<(), Fail> {
     let refused = ask(&rt, &shared, (0, 0), Act::Get, &[], &mut seat);
     assert!(rt; matches!(refused, Err(Denial::RunFull)));
     Ok(())
+}
+
+#[test]
+fn each_call_of_the_keeper_fails(rt: HostRuntime) -> Result<(), Fail> {
+    let alloc = rt.alloc();
+    // `load` and `apply` at the start, then `apply`, `blob` and `apply`, and there is no sixth call.
+    for failing in 1..7 {
+        let keeper = MemKeeper::new(alloc, &[failing])?;
+        let keeper = match start(alloc, keeper, demonstration(alloc)?) {
+            Ok((shared, mut seat)) if failing > 2 => {
+                let put = ask(&rt, &shared, (0, 0), Act::Put, &["hello.txt"], &mut seat);
+                let get = ask(&rt, &shared, (0, 0), Act::Get, &["hello.txt"], &mut seat);
+                let delete = ask(&rt, &shared, (0, 0), Act::Delete, &["hello.txt"], &mut seat);
+                assert!(rt; is_answered(&put, failing == 3), "PUT, at call {failing}");
+                assert!(rt; is_answered(&get, failing == 4), "GET, at call {failing}");
+                assert!(rt;
+                    is_answered(&delete, failing == 5),
+                    "DELETE, at call {failing}"
+                );
+                assert!(rt; seat.whole());
+                shared.hub.close(seat).1
+            }
+            Err(unopened) if failing < 3 => unopened.keeper,
+            _ => return Err("the start")?,
+        };
+        assert_eq!(rt; keeper.faults(), u64::from(failing < 6));
+    }
+    Ok(())
+}
+
+/// Whether the store failed it where it has to, and else nothing refused it.
+fn is_answered(answer: &Answer, fails: bool) -> bool {
+    if fails {
+        matches!(answer, Err(Denial::Store))
+    } else {
+        answer.is_ok()
+    }
 }
