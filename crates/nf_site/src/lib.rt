@@ -5,8 +5,6 @@ mod demo;
 pub mod laws;
 mod plan;
 mod site;
-#[cfg(test)]
-mod tests;
 
 pub use demo::demo_rows;
 pub use nf_opening::{Broken, SiteFault};
