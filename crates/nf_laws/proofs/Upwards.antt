@@ -22,6 +22,9 @@ use Rattle.nf_laws.specs.Tree.{DepthIsClimbed, NamesAreTaken, NoRings, NodesAreP
 use Rattle.nf_words.specs.Limits.{deepest}
 use Rattle.nf_words.specs.Sound.{AreSound, IsNodeSound, root_of_user}
 
+-- ---- climbs
+
+-- a node that is there leads to its owner's root
 pub rooted : (t : Tables) (node : ℕ) (row : NodeRow) → AreSound t → node_row t.nodes node ≡ Some row → IsRooted t node row
 rooted t node row sound there =
     let h = row_is t node row sound there in
