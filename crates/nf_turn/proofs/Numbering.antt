@@ -1,10 +1,9 @@
 -- The numbers of a seat stay distinct through the calls.
-use Rattle.std.proofs.Common.{rules, ℕ, ◌+◌, ◌-◌, ◌^◌, ◌<◌, ◌≤◌, true, ltb, List, [], ◌∷◌, refl, arith}
+use Rattle.std.proofs.Common.{ℕ, ◌+◌, ◌-◌, ◌^◌, ◌<◌, true, ltb, List, [], ◌∷◌, arith}
 use mathlib.Core.Bool.{Bool-set}
 use Rattle.std.proofs.Math.Logic.{∥∥₁_elim}
 use Rattle.std.proofs.lemmas.Bool.{ltb-true, lt-ltb}
-use Rattle.nf_turn.specs.Memory.{of_the_first}
-use Rattle.nf_turn.specs.Numbers.{Numbers, numbers_of, AreApart, AreSound}
+use Rattle.nf_turn.specs.Numbers.{Numbers, AreApart, AreSound}
 
 module _ {W : Type 0} where
   apart_below_more : (n top : ℕ) (joined : List (ℕ × W)) → AreApart n top joined → AreApart n (top + 1) joined

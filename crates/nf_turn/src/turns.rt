@@ -20,7 +20,7 @@ pub(crate) const DRAWN: usize = 0;
 /// The word with the turn number that is served.
 const SERVED: usize = 1;
 
-/// The first bell. A bell is the word that the thread with a turn number sleeps on: it is 1 from when the thread sets it, until it is rung.
+/// The first bell: the word that the thread with a turn number sleeps on, 1 from when that thread sets it until it is rung.
 const BELLS: usize = 2;
 
 /// A lock has at most 64 seats, so no two that wait have the same bell.
@@ -84,7 +84,8 @@ fn wait_for_bell<W: Book, R: Wait>(
     }
     let bell = bell_of(mine);
     set_bell(counter, place, bell, 1);
-    // Where SERVED changes after this, whoever changes it sees the bell, since all steps are in one order.
+    // Who passes on raises SERVED, and then looks at the bell. All steps are in one order: either this look sees the
+    // number raised, or that one sees the bell set. A bell that is left set costs a needless wake later, and no more.
     if counter.peek(SERVED) == served {
         counter.park(rt, bell, 1);
     }
