@@ -1,7 +1,6 @@
 //! Words that are a command, and words that aren't.
 
-use crate::{Command, command_of, init_rows};
-use nf_base::{Digest, Row};
+use crate::{Command, command_of};
 use std::alloc::{AllocError, Global};
 use std::test::Fail;
 
@@ -94,35 +93,5 @@ fn reads_commands(rt: HostRuntime) -> Result<(), Fail> {
     }
     let none: [String; 0] = [];
     assert!(rt; command_of(rt.alloc(), &none)?.is_none());
-    Ok(())
-}
-
-#[test]
-fn tokens_have_up_to_128_bytes(rt: HostRuntime) -> Result<(), Fail> {
-    for (length, wanted) in [(0, "none"), (1, "init"), (128, "init"), (129, "none")] {
-        let token = "x".repeat(rt.alloc(), length)?;
-        let line = format!(in rt.alloc(); "init|alice|{token}|5")?;
-        assert_eq!(rt; kind(rt.alloc(), line.as_str())?, wanted, "at {length}");
-    }
-    Ok(())
-}
-
-#[test]
-fn makes_an_administrator(rt: HostRuntime) -> Result<(), Fail> {
-    let words = words_of(rt.alloc(), "init|root|s3cret|4096")?;
-    let Some(Command::Init(init)) = command_of(rt.alloc(), &words)? else {
-        return Err("no init".into());
-    };
-    let rows = init_rows(rt.alloc(), &init)?;
-    assert_eq!(rt; rows.rows().len(), 6);
-    let Some(Row::User(user)) = rows.rows().get(1) else {
-        return Err("no user".into());
-    };
-    assert_eq!(rt; user.name.as_bytes(), b"root".as_slice());
-    assert_eq!(rt; user.quota, 4096);
-    let Some(Row::Token(token)) = rows.rows().get(2) else {
-        return Err("no token".into());
-    };
-    assert_eq!(rt; token.digest, Digest::of(b"s3cret"));
     Ok(())
 }
