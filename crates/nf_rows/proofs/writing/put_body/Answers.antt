@@ -16,16 +16,13 @@ returns-in_ok-put_u64-in-Share-2 c = rw c.in-Share.is (
     c.in_ok-put_u32-in-Share.ensures.0,
     c.in_ok-put_u64-in-Share.ensures.0,
     c.in_ok-put_share_kind-in-Share.ensures.0,
-  ) (
-      rw (
-        c.number-in-Share.ensures,
-        c.number-in-Share-2.ensures,
-        c.number-in-Share-3.ensures,
-        c.share_number.ensures,
-        c.seconds-in-Share.ensures,
-        c.seconds-in-Share-2.ensures,
-      ) (simp (append_assoc, append-nil))
-      ),
+    c.number-in-Share.ensures,
+    c.number-in-Share-2.ensures,
+    c.number-in-Share-3.ensures,
+    c.share_number.ensures,
+    c.seconds-in-Share.ensures,
+    c.seconds-in-Share-2.ensures,
+  ) (simp (append_assoc, append-nil)),
   search rules,
 )
 
