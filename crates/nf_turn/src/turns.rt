@@ -29,7 +29,10 @@ pub(crate) const WORDS: usize = 66;
 /// The one slot, which has the value.
 const VALUE: usize = 0;
 
-/// How often a thread whose turn is next looks whether it has come, before it sleeps.
+/// How many of those that wait look for a while whether their turn has come: the next ones. All others sleep.
+const NEAR: u64 = 1;
+
+/// How often a thread looks whether the turn is passed on, before it sleeps.
 const LOOKS: u32 = 2_000;
 
 /// What the threads share.
@@ -68,7 +71,7 @@ pub(crate) fn wait_for_turn<W: Book, R: Wait>(
     unreachable!()
 }
 
-/// Waits until another turn number than `served` may be served. Whose turn is next looks for a while; all others sleep.
+/// Waits until another turn number than `served` may be served.
 fn wait_for_bell<W: Book, R: Wait>(
     rt: &R,
     counter: &Counter<W>,
@@ -79,7 +82,7 @@ fn wait_for_bell<W: Book, R: Wait>(
     requires own { (place.old.table_id ≡ counter.now.table_id) × (counter.now.table_id.words ≡ WORDS) }
     ensures { (place.new.table_id ≡ place.old.table_id) × (place.new.id ≡ place.old.id) × (place.new.me ≡ place.old.me) }
 {
-    if mine.wrapping_sub(served) == 1 && moves_on(counter, served) {
+    if mine.wrapping_sub(served) <= NEAR && moves_on(counter, served) {
         return;
     }
     let bell = bell_of(mine);
@@ -118,18 +121,15 @@ pub(crate) fn pass_on<W: Book>(counter: &Counter<W>, place: &mut Place<W>, value
     ring_next(counter, place, passed.wrapping_add(1));
 }
 
-/// Rings for the turn number that is served, and for the next one, whose thread then is awake when its turn comes.
+/// Rings for the turn number that is served, and for the next ones, whose threads then are awake when their turns come.
 fn ring_next<W: Book>(counter: &Counter<W>, place: &mut Place<W>, served: u64)
     requires own { (place.old.table_id ≡ counter.now.table_id) × (counter.now.table_id.words ≡ WORDS) }
     ensures { (place.new.table_id ≡ place.old.table_id) × (place.new.id ≡ place.old.id) × (place.new.me ≡ place.old.me) }
 {
     // A thread that draws later finds its number served already.
     let waiting = counter.peek(DRAWN).wrapping_sub(served);
-    if waiting >= 1 {
-        ring(counter, place, bell_of(served));
-    }
-    if waiting >= 2 {
-        ring(counter, place, bell_of(served.wrapping_add(1)));
+    for ahead in 0..waiting.min(NEAR + 1) {
+        ring(counter, place, bell_of(served.wrapping_add(ahead)));
     }
 }
 
