@@ -2,12 +2,12 @@
 use Rattle.std.proofs.Common.{◌≡◌, ◌⊎◌, ⊎_elim, inl, inr, ℕ, ◌+◌, ◌-◌, ◌<◌, ◌≤◌, Bool, true, false, true≢false, ◌||◌, ◌==◌, eq-eqb, List, [], ◌∷◌, ◌++◌, if◌then◌else◌, refl, sym, ◌∙◌, ap, subst, arith}
 use mathlib.Core.Logic.{dite}
 use native.Mathlib.Decide.{ℕ_discrete}
-use Rattle.std.proofs.lemmas.Bool.{ne_eqb}
+use Rattle.std.proofs.lemmas.Bool.{ne_eqb, or_right}
 use Rattle.nf_desk.specs.Desk.{Served, meanings}
 use Rattle.nf_keeper.specs.declared.keeper.Keeper.{Ghosts as KeeperOf}
 use Rattle.nf_outside.specs.declared.traits.Ends.{Ghosts as EndsOf}
 use Rattle.nf_turn.proofs.Left.{IsLeft, left_tests}
-use Rattle.nf_turn.proofs.Whole.{ways}
+use Rattle.nf_turn.proofs.Whole.{has_so, ways}
 use Rattle.nf_turn.specs.Memory.{having_joined, having_split, longer, split_from}
 use Rattle.nf_turn.specs.Numbers.{IsWhole, Numbers, has_number, is_joined, is_left, numbers_of}
 use Rattle.nf_turn.specs.declared.view.Memory.{Memory}
@@ -29,30 +29,11 @@ left_still : (left next other n : ℕ) → next ≤ n → n < next + left → (i
 left_still left next other n low up = simp (ne_eqb left 0 (λ none. absurd (omega arith))) refl
 
 module _ {W : Type 0} where
-  has_so : (k : Numbers W) (n : ℕ) → (n ≡ k.number) ⊎ (IsLeft k n ⊎ (is_joined n k.joined ≡ true)) → has_number k n ≡ true
-  has_so k n (inl own) = simp (eq-eqb n k.number own) refl
-  has_so k n (inr (inl left)) = let is = left_tests k n left in go (n == k.number) (is_left k n) (is_joined n k.joined) is
-    where
-      go : (a b c : Bool) → b ≡ true → (a || (b || c)) ≡ true
-      go true b c is = refl
-      go false true c is = refl
-      go false false c is = absurd (true≢false (sym is))
-  has_so k n (inr (inr joined)) = go (n == k.number) (is_left k n) (is_joined n k.joined) joined
-    where
-      go : (a b c : Bool) → c ≡ true → (a || (b || c)) ≡ true
-      go true b c is = refl
-      go false true c is = refl
-      go false false c is = is
-
   joined_first : (n number : ℕ) (value : W) (rest : List (ℕ × W)) → n ≡ number → is_joined n ((number, value) ∷ rest) ≡ true
   joined_first n number value rest same = simp (eq-eqb number n (sym same)) refl
 
   joined_behind : (n number : ℕ) (value : W) (rest : List (ℕ × W)) → is_joined n rest ≡ true → is_joined n ((number, value) ∷ rest) ≡ true
-  joined_behind n number value rest is = go (number == n) (is_joined n rest) is
-    where
-      go : (a b : Bool) → b ≡ true → (a || b) ≡ true
-      go true b is = refl
-      go false b is = is
+  joined_behind n number value rest is = or_right (number == n) (is_joined n rest) is
 
   module _ (pick : W → W → W) (m mine others : Memory W) (its : numbers_of mine ≡ numbers_of (split_from m))
       (spans : Spans (numbers_of (having_split m)) (numbers_of others)) where
