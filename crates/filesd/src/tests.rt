@@ -1,4 +1,4 @@
-//! What no case of the suite can say: other words, faults of the outside, a PUT that is cut and read again, and the longest body.
+//! What no case of the suite can say: faults of the outside, a PUT that is cut and read again, and the longest body.
 
 use crate::running::{Finished, run};
 use crate::status::Status;
@@ -63,39 +63,6 @@ fn batch<R: Threads + Wait + Sync>(
         &mut no_workers(),
     );
     Ok((finished, output.bytes().to_vec(alloc)?))
-}
-
-#[test]
-fn other_words_are_no_command(rt: HostRuntime) -> Result<(), Fail> {
-    let alloc = rt.alloc();
-    let cases: [&[&str]; 6] = [
-        &[],
-        &[""],
-        &["Batch"],
-        &["batch", "batch"],
-        &["init", "ann", "secret", "01"],
-        &["--help"],
-    ];
-    for case in cases {
-        let words = words_of(alloc, case)?;
-        let mut input = source(alloc, GET_HELLO)?;
-        let mut output = MemSink::new(alloc, Vec::new(alloc));
-        let mut clock = ListClock::new(Vec::new(alloc));
-        let keeper = MemKeeper::new(alloc, &[])?;
-        let finished = run(
-            &rt,
-            alloc,
-            &words,
-            &mut input,
-            &mut output,
-            keeper,
-            &mut clock,
-            &mut no_workers(),
-        );
-        assert!(rt; finished.status == Status::Words, "at {case:?}");
-        assert!(rt; finished.site.is_none());
-    }
-    Ok(())
 }
 
 /// The calls of the input and of the output that fail, the status, and how many bytes are written all the same.

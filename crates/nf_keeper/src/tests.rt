@@ -2,7 +2,6 @@
 
 use crate::*;
 use nf_base::{BlobId, Change, Changes, GroupId, MemberRow, Row, RowKey, UserId};
-use nf_rows::RawRow;
 use std::alloc::{AllocError, Global};
 use std::process::Abort;
 use std::test::Fail;
@@ -64,29 +63,5 @@ fn keeps_what_is_applied(rt: HostRuntime) -> Result<(), Fail> {
     assert!(rt; keeper.sweep(&[BlobId::new(8)]) == Ok(()));
     assert!(rt; has(&mut keeper, 7, None));
     assert_eq!(rt; keeper.faults(), 2);
-    Ok(())
-}
-
-#[test]
-fn holds_what_it_is_given(rt: HostRuntime) -> Result<(), Fail> {
-    let alloc = rt.alloc();
-    let mut rows = RawRows::new(alloc);
-    for (key, body) in [(2, 1), (1, 2), (2, 3)] {
-        let key = vec![in alloc; key]?;
-        rows.push(RawRow::from_parts(5, key, vec![in alloc; body]?))?;
-    }
-    let mut blobs = BlobList::new(alloc);
-    for (id, byte) in [(9, b'a'), (4, b'b'), (9, b'c')] {
-        blobs.put(BlobId::new(id), vec![in alloc; byte]?)?;
-    }
-    let mut keeper = MemKeeper::holding(alloc, rows, blobs, &[])?;
-    assert_eq!(rt;
-        told(alloc, &mut keeper)?.as_slice(),
-        [(1, 2), (2, 3)].as_slice()
-    );
-    assert!(rt; has(&mut keeper, 9, Some(b"c")));
-    keeper.set_blob(BlobId::new(4), b"other".to_vec(alloc)?)?;
-    assert!(rt; has(&mut keeper, 4, Some(b"other")));
-    assert_eq!(rt; keeper.faults(), 0);
     Ok(())
 }

@@ -4,7 +4,7 @@ ghost use Rattle.std.specs.Prelude.{◌≡◌, None};
 
 use crate::door::Door;
 use crate::link::Link;
-use nf_outside::{Ends, Failed, Sink, Source};
+use nf_outside::{Failed, Input, Output};
 use std::io::{Read, Write};
 use std::net::{OpenListener, OpenStream, Shutdown};
 use std::time::Duration;
@@ -16,62 +16,10 @@ const MOST_BROKEN: u32 = 1_000;
 const MOST_LEFT: u32 = 64;
 
 /// The end of a connection that is read. A read that waits longer than the door's limit is a fault.
-#[derive(Drop)]
-pub struct TcpSource<T: Drop> {
-    stream: T,
-    faults: u64,
-}
-
-impl<T: Drop> Ends for TcpSource<T> {
-    ghost left = { λ _. None };
-
-    ghost written = { λ _. None };
-
-    ghost read_faults = { λ end. end.faults };
-
-    ghost write_faults = { λ _. 0 };
-}
-
-impl<T: Read + Drop> Source for TcpSource<T> {
-    fn read(&mut self, room: &mut [u8]) -> Result<usize, Failed> {
-        match self.stream.read(room) {
-            Ok(count) => Ok(count),
-            Err(_) => {
-                self.faults = self.faults.saturating_add(1);
-                Err(Failed)
-            }
-        }
-    }
-}
+pub type TcpSource<T> = Input<T>;
 
 /// The end of a connection that is written.
-#[derive(Drop)]
-pub struct TcpSink<T: Drop> {
-    stream: T,
-    faults: u64,
-}
-
-impl<T: Drop> Ends for TcpSink<T> {
-    ghost left = { λ _. None };
-
-    ghost written = { λ _. None };
-
-    ghost read_faults = { λ _. 0 };
-
-    ghost write_faults = { λ end. end.faults };
-}
-
-impl<T: Write + Drop> Sink for TcpSink<T> {
-    fn write(&mut self, bytes: &[u8]) -> Result<usize, Failed> {
-        match self.stream.write(bytes) {
-            Ok(count) if count > 0 || bytes.is_empty() => Ok(count),
-            _ => {
-                self.faults = self.faults.saturating_add(1);
-                Err(Failed)
-            }
-        }
-    }
-}
+pub type TcpSink<T> = Output<T>;
 
 /// A door over a listener. Several may share its socket, each with a listener of its own.
 #[derive(Drop)]
@@ -101,11 +49,8 @@ impl<T: Read + Write + OpenStream + Drop, L: OpenListener<Stream = T> + Drop> Tc
         stream.set_nodelay(true).ok()?;
         let other = stream.try_clone().ok()?;
         Some(Link {
-            source: TcpSource { stream, faults: 0 },
-            sink: TcpSink {
-                stream: other,
-                faults: 0,
-            },
+            source: Input::new(stream),
+            sink: Output::new(other),
         })
     }
 }
@@ -138,8 +83,8 @@ impl<T: Read + Write + OpenStream + Drop, L: OpenListener<Stream = T> + Drop> Do
     fn back(&mut self, link: Link<TcpSource<T>, TcpSink<T>>)
         ensures same { self.new ≡ self.old }
     {
-        let Link { mut source, sink } = link;
-        close(&mut source.stream, &sink.stream);
+        let Link { source, sink } = link;
+        close(&mut source.into_inner(), &sink.into_inner());
     }
 }
 
