@@ -6,7 +6,7 @@ use Rattle.sqlite_disk.proofs.modelled.Modelled.TheSendSync as disk
 use Rattle.sqlite_store.proofs.store.FileStore.TheSendSync as store
 use Rattle.sqlite_std_file.specs.contracts.host.Host as Host
 use Rattle.filesd_main.specs.contracts.file.FileKeeper as FileKeeper
-use Rattle.filesd_main.proofs.main.Goals as goal
+use Rattle.filesd_main.proofs.serve_file.Goals as goal
 
 host_send : IsSend Host.the_row
 host_send = search (sendable, crosses) depth 60 fits 20000
