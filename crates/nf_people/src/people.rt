@@ -3,10 +3,8 @@
 ghost use Rattle.std.specs.Prelude.{◌≡◌, ◌≢◌, ◌<◌, ◌==◌, [], ◌∷◌, ◌++◌, map, filter, length, nat_le, All, IfOk, OnOk, Err, option_copied};
 ghost use Rattle.std.specs.List.{take_while};
 ghost use Rattle.std.specs.List.Sorted.{IsStrictlyIncreasing};
-ghost use Rattle.nf_defs.specs.Keys.{user_key, token_key, group_key, member_key};
-ghost use Rattle.nf_defs.specs.People.{user_row, user_named, holder_of, group_row, group_named, is_member_of, members_of, is_admin, with_quota};
-ghost use Rattle.nf_defs.specs.Puts.{put, dropped};
-ghost use Rattle.nf_defs.specs.Rising.{IsRising};
+ghost use Rattle.nf_defs.specs.Prelude.{dropped, group_key, group_named, group_row, holder_of, is_member_of, IsRising, member_key, members_of, put, token_key, user_key, user_named, user_row, with_quota};
+ghost use Rattle.nf_defs.specs.People.{is_admin};
 ghost use Rattle.nf_people.specs.Faults.{Adds, is_full, fault_of_user, fault_of_group, fault_of_token, fault_of_member, fault_of_quota};
 ghost use Rattle.nf_people.specs.People.{ArePeople, FitsUser, FitsToken, FitsGroup, FitsMember, HasRoom, rows_of_people};
 ghost use Rattle.nf_people.specs.declared.faults.PeopleFault.TheVariants.{Memory};
@@ -30,8 +28,7 @@ pub struct People {
 
 impl Model for People {
     ghost use Rattle.std.specs.Prelude.{vec_capacity};
-    ghost use Rattle.nf_defs.specs.Keys.{token_key, member_key};
-    ghost use Rattle.nf_defs.specs.Rising.{IsRising};
+    ghost use Rattle.nf_defs.specs.Prelude.{IsRising, member_key, token_key};
     ghost use Rattle.nf_people.specs.People.{PeopleValue};
 
     ghost Value = { PeopleValue };
