@@ -309,34 +309,87 @@ fn workers_run_beside_each_other(rt: HostRuntime) -> Result<(), Fail> {
     Ok(())
 }
 
-/// What a server on loopback answers to these bytes.
-fn ask(rt: &HostRuntime, address: SocketAddr, bytes: &[u8]) -> io::Result<Vec<u8>> {
+/// What a server on loopback answers to these bytes. It is told that no more come, or waits for them.
+fn ask(rt: &HostRuntime, address: SocketAddr, bytes: &[u8], ends: bool) -> io::Result<Vec<u8>> {
     let mut stream = TcpStream::connect(rt, address)?;
     stream.write_all(bytes)?;
-    stream.shutdown(Shutdown::Write)?;
+    if ends {
+        stream.shutdown(Shutdown::Write)?;
+    }
     let mut answer = Vec::new(rt.alloc());
     stream.read_to_end(&mut answer)?;
     Ok(answer)
 }
 
+/// The answer of a server that serves one connection, whose reads wait no longer than the limit; and its status.
+fn asked(
+    rt: &HostRuntime,
+    limit: Duration,
+    bytes: &[u8],
+    ends: bool,
+) -> Result<(Vec<u8>, Status), Fail> {
+    let alloc = rt.alloc();
+    let listener = TcpListener::bind(rt, SocketAddr::from((Ipv4Addr::LOCALHOST, 0)))?;
+    let address = listener.local_addr()?;
+    let keeper = demo_keeper(rt, alloc)?;
+    let mut workers = [Worker {
+        door: TcpDoor::new(listener, limit),
+        clock: ListClock::new(Vec::new(alloc)),
+    }];
+    let workers = &mut workers;
+    let (answer, finished) = join(
+        rt,
+        move || ask(rt, address, bytes, ends),
+        move || run_with(rt, alloc, &["serve", "--connections", "1"], keeper, workers),
+    );
+    let status = finished?.status;
+    Ok((answer?, status))
+}
+
 #[test]
 fn a_file_is_served_over_tcp(rt: HostRuntime) -> Result<(), Fail> {
+    let (answer, status) = asked(&rt, Duration::from_secs(5), GET_HELLO.as_bytes(), true)?;
+    assert_eq!(rt; answer.as_slice(), HELLO.as_bytes());
+    assert!(rt; status == Status::Done);
+    Ok(())
+}
+
+#[test]
+fn a_silent_connection_is_given_up(rt: HostRuntime) -> Result<(), Fail> {
+    let half = b"GET /remote.php/dav/files/alice/hello.txt HTTP/1.1\r\n";
+    let (answer, status) = asked(&rt, Duration::from_millis(200), half, false)?;
+    assert!(rt; answer.is_empty());
+    assert!(rt; status == Status::Done);
+    Ok(())
+}
+
+const PUT_LONG: &str =
+    "PUT /remote.php/dav/files/alice/p HTTP/1.1\r\nAuthorization: Bearer alice-1\r\nContent-Length: 20000000\r\n\r\n";
+
+// Were the connection closed with bytes unread, it would be reset, and the answer could be lost.
+#[test]
+fn an_answer_reaches_who_still_sends(rt: HostRuntime) -> Result<(), Fail> {
+    let alloc = rt.alloc();
+    let mut bytes = PUT_LONG.as_bytes().to_vec(alloc)?;
+    bytes.extend_from_slice(&vec![in alloc; b'x'; 300_000]?)?;
+    let (answer, status) = asked(&rt, Duration::from_secs(5), &bytes, true)?;
+    assert!(rt; answer.starts_with(b"HTTP/1.1 413 "));
+    assert!(rt; status == Status::Done);
+    Ok(())
+}
+
+#[test]
+fn a_listener_that_fails_is_told(rt: HostRuntime) -> Result<(), Fail> {
     let alloc = rt.alloc();
     let listener = TcpListener::bind(&rt, SocketAddr::from((Ipv4Addr::LOCALHOST, 0)))?;
-    let address = listener.local_addr()?;
+    // Nobody connects, and it doesn't wait.
+    listener.set_nonblocking(true)?;
     let keeper = demo_keeper(&rt, alloc)?;
     let mut workers = [Worker {
         door: TcpDoor::new(listener, Duration::from_secs(5)),
         clock: ListClock::new(Vec::new(alloc)),
     }];
-    let (rt, workers) = (&rt, &mut workers);
-    let (answer, finished) = join(
-        rt,
-        move || ask(rt, address, GET_HELLO.as_bytes()),
-        move || run_with(rt, alloc, &["serve", "--connections", "1"], keeper, workers),
-    );
-    let status = finished?.status;
-    assert_eq!(rt; answer?.as_slice(), HELLO.as_bytes());
-    assert!(rt; status == Status::Done);
+    let finished = run_with(&rt, alloc, &["serve"], keeper, &mut workers)?;
+    assert!(rt; finished.status == Status::DoorFault);
     Ok(())
 }

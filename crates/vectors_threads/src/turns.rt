@@ -5,6 +5,7 @@ ghost use Rattle.nf_turn.specs.Seats.{IsIdle, IsSeatOf};
 
 use nf_turn::{Book, Seat, TurnLock};
 use std::alloc::{AllocError, Global};
+use std::hint;
 use std::sync::Wait;
 use std::test::Fail;
 use std::thread::{Threads, join_mut};
@@ -25,14 +26,29 @@ impl Book for Total {
     ghost book = { record { seat_of = λ e. e; entries = λ _. []; strikes = λ _ _. 0; opening = λ _. 0; shelf = λ _. None } };
 }
 
-fn count<R: Wait>(rt: &R, lock: &TurnLock<Total>, seat: &mut Seat<Total>, times: u32)
+/// How often a seat takes a turn, and how long at most it keeps one, in looks at a number.
+#[derive(Clone, Copy)]
+struct Pace {
+    times: u32,
+    longest: u64,
+}
+
+/// Takes some time, another at each turn.
+fn linger(turn: u64, longest: u64) {
+    for _ in 0..turn.wrapping_mul(7_919).checked_rem(longest).unwrap_or(0) {
+        hint::spin_loop();
+    }
+}
+
+fn count<R: Wait>(rt: &R, lock: &TurnLock<Total>, seat: &mut Seat<Total>, pace: Pace)
     requires own { IsSeatOf lock.now seat.old }
     requires idle { IsIdle lock.now seat.old }
     ensures own { IsSeatOf lock.now seat.new }
     ensures idle { IsIdle lock.now seat.new }
 {
-    for _ in 0..times {
+    for _ in 0..pace.times {
         let total = lock.take(rt, seat);
+        linger(total.turns, pace.longest);
         lock.give(
             seat,
             Total {
@@ -48,7 +64,7 @@ fn count_by<R: Threads + Wait + Sync>(
     lock: &TurnLock<Total>,
     seat: &mut Seat<Total>,
     others: usize,
-    times: u32,
+    pace: Pace,
 )
     requires own { IsSeatOf lock.now seat.old }
     requires idle { IsIdle lock.now seat.old }
@@ -56,7 +72,7 @@ fn count_by<R: Threads + Wait + Sync>(
     ensures idle { IsIdle lock.now seat.new }
 {
     if others == 0 {
-        count(rt, lock, seat, times);
+        count(rt, lock, seat, pace);
         return;
     }
     let Some(mut other) = lock.split(seat) else {
@@ -66,11 +82,11 @@ fn count_by<R: Threads + Wait + Sync>(
     let mut rest = || -> ()
         requires { IsSync R.row × IsSeatOf lock.now seat.now × IsIdle lock.now seat.now }
         ensures { IsSeatOf lock.entry.now seat.exit.now × IsIdle lock.entry.now seat.exit.now }
-    { count_by(rt, lock, seat, fewer, times) };
+    { count_by(rt, lock, seat, fewer, pace) };
     let mut one = || -> ()
         requires { IsSeatOf lock.now other × IsIdle lock.now other }
         ensures { IsSeatOf lock.entry.now other.exit × IsIdle lock.entry.now other.exit }
-    { count(rt, lock, &mut other, times) };
+    { count(rt, lock, &mut other, pace) };
     join_mut(rt, &mut rest, &mut one);
     lock.join(seat, other);
 }
@@ -81,12 +97,12 @@ fn turns_of<R: Threads + Wait + Sync>(
     alloc: Global,
     seats: usize,
     turn: u64,
-    times: u32,
+    pace: Pace,
 ) -> Option<u64>
     requires { (0 < seats) × (seats ≤ 64) }
 {
     let (lock, mut first) = TurnLock::at_turn(alloc, Total { turns: 0 }, seats, turn).ok()?;
-    count_by(rt, &lock, &mut first, seats - 1, times);
+    count_by(rt, &lock, &mut first, seats - 1, pace);
     if !first.whole() {
         return None;
     }
@@ -95,12 +111,43 @@ fn turns_of<R: Threads + Wait + Sync>(
 
 #[test]
 fn four_threads_lose_no_turn(rt: HostRuntime) {
-    assert_eq!(rt; turns_of(&rt, rt.alloc(), 4, 0, 20_000), Some(80_000));
+    let pace = Pace {
+        times: 20_000,
+        longest: 0,
+    };
+    assert_eq!(rt; turns_of(&rt, rt.alloc(), 4, 0, pace), Some(80_000));
+}
+
+// A waiting thread looks 2,000 times before it sleeps: here some turns end while the next one looks, some while it falls asleep, and
+// some while it sleeps.
+#[test]
+fn turns_that_outlast_the_looks_wake_who_is_next(rt: HostRuntime) {
+    let pace = Pace {
+        times: 5_000,
+        longest: 5_000,
+    };
+    assert_eq!(rt; turns_of(&rt, rt.alloc(), 2, 0, pace), Some(10_000));
+}
+
+#[test]
+fn sixty_four_threads_sleep_and_wake(rt: HostRuntime) {
+    let pace = Pace {
+        times: 50,
+        longest: 5_000,
+    };
+    assert_eq!(rt; turns_of(&rt, rt.alloc(), 64, 0, pace), Some(3_200));
 }
 
 #[test]
 fn turn_numbers_go_on_from_zero(rt: HostRuntime) {
-    assert_eq!(rt; turns_of(&rt, rt.alloc(), 2, u64::MAX - 99, 200), Some(400));
+    let pace = Pace {
+        times: 200,
+        longest: 0,
+    };
+    assert_eq!(rt;
+        turns_of(&rt, rt.alloc(), 2, u64::MAX - 99, pace),
+        Some(400)
+    );
 }
 
 /// The seats that took turns, in that order.
