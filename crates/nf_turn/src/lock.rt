@@ -38,8 +38,8 @@ impl<W: Book> TurnLock<W> {
         TurnLock::at_turn(alloc, value, seats, 0)
     }
 
-    // A lock whose first turn has this number.
-    pub(crate) fn at_turn(
+    /// A lock whose first turn has this number. Turn numbers go on from 0 behind 2^64 - 1, and by this it can be tried.
+    pub fn at_turn(
         alloc: Global,
         value: W,
         seats: usize,
