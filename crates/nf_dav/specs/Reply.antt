@@ -122,21 +122,36 @@ head_bytes status close own kind n =
     codes "HTTP/1.1 " ++ status ++ codes "\r\n" ++ close_line close ++ own
     ++ codes "Content-Type: " ++ kind ++ codes "\r\nContent-Length: " ++ decimal n ++ codes "\r\n\r\n"
 
+-- the objects of refusals, by rising key
+abbrev pub name_object : List ℕ → Data
+name_object fault = object (member (codes "fault") (string fault) (member (codes "reason") (string (codes "bad-name")) no_members))
+
+abbrev pub field_object : List ℕ → Data
+field_object field = object (member (codes "field") (string field) (member (codes "reason") (string (codes "bad-parameter")) no_members))
+
+abbrev pub target_object : List ℕ → Data
+target_object cause = object (member (codes "cause") (string cause) (member (codes "reason") (string (codes "bad-target")) no_members))
+
+abbrev pub damage_object : ℕ → Data
+damage_object blob = object (member (codes "blob") (number (unsigned blob)) (member (codes "reason") (string (codes "damaged")) no_members))
+
+abbrev pub limit_object : ℕ → List ℕ → Data
+limit_object count which =
+    object
+    (member (codes "count") (number (unsigned count))
+    (member (codes "reason") (string (codes "limit")) (member (codes "which") (string which) no_members)))
+
+abbrev pub reason_object : List ℕ → Data
+reason_object reason = object (member (codes "reason") (string reason) no_members)
+
 -- the object of a denial: its reason and what only some denials say, by rising key
 abbrev pub refusal_object : Denial → Data
-refusal_object (denial.BadName f) =
-    object (member (codes "fault") (string (fault_word f)) (member (codes "reason") (string (codes "bad-name")) no_members))
-refusal_object (denial.BadParameter field) =
-    object (member (codes "field") (string (field_word field)) (member (codes "reason") (string (codes "bad-parameter")) no_members))
-refusal_object (denial.BadTarget cause) =
-    object (member (codes "cause") (string (cause_word cause)) (member (codes "reason") (string (codes "bad-target")) no_members))
-refusal_object (denial.Damaged damage) =
-    object (member (codes "blob") (number (unsigned damage.blob)) (member (codes "reason") (string (codes "damaged")) no_members))
-refusal_object (denial.Limit l) =
-    object
-    (member (codes "count") (number (unsigned (count_of l)))
-    (member (codes "reason") (string (codes "limit")) (member (codes "which") (string (limit_word l)) no_members)))
-refusal_object other = object (member (codes "reason") (string (reason_of other)) no_members)
+refusal_object (denial.BadName f) = name_object (fault_word f)
+refusal_object (denial.BadParameter field) = field_object (field_word field)
+refusal_object (denial.BadTarget cause) = target_object (cause_word cause)
+refusal_object (denial.Damaged damage) = damage_object damage.blob
+refusal_object (denial.Limit l) = limit_object (count_of l) (limit_word l)
+refusal_object other = reason_object (reason_of other)
 
 -- the number of its status
 abbrev pub code_of : Denial → ℕ
@@ -164,14 +179,17 @@ code_of denial.Memory = 503
 code_of (denial.Limit limit) = 507
 
 -- the envelope of an answer to an OCS request that is refused
+abbrev pub meta_object : List ℕ → ℕ → Data
+meta_object message statuscode =
+    object
+    (member (codes "message") (string message)
+    (member (codes "status") (string (codes "failure")) (member (codes "statuscode") (number (unsigned statuscode)) no_members)))
+
 abbrev pub envelope : Denial → Data
 envelope d =
-    object (member (codes "ocs") (object
-    (member (codes "data") (refusal_object d)
-    (member (codes "meta") (object
-    (member (codes "message") (string (reason_of d))
-    (member (codes "status") (string (codes "failure"))
-    (member (codes "statuscode") (number (unsigned (code_of d))) no_members)))) no_members))) no_members)
+    object
+    (member (codes "ocs")
+    (object (member (codes "data") (refusal_object d) (member (codes "meta") (meta_object (reason_of d) (code_of d)) no_members))) no_members)
 
 abbrev pub refusal_body : Bool → Denial → List ℕ
 refusal_body ocs d = compact_text (if ocs then envelope d else refusal_object d)

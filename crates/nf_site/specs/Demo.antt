@@ -39,12 +39,21 @@ hello_file = row.Node (record {
   changed = 0;
 })
 
+abbrev pub demo_users : List Row
+demo_users =
+    user 1 (codes "alice") ∷ user 2 (codes "bob") ∷ user 3 (codes "carol")
+    ∷ token 1 (codes "alice-1") ∷ token 2 (codes "bob-1") ∷ token 3 (codes "carol-1") ∷ []
+
+abbrev pub demo_groups : List Row
+demo_groups =
+    row.Group (record { id = 1; name = codes "admin" }) ∷ row.Group (record { id = 2; name = codes "board" })
+    ∷ row.Member (record { group = 1; user = 1 }) ∷ []
+
+abbrev pub demo_nodes : List Row
+demo_nodes = root 1 (codes "alice") ∷ root 2 (codes "bob") ∷ root 3 (codes "carol") ∷ hello_file ∷ []
+
 -- by rising kind and key
 abbrev pub demo_rows : List Row
 demo_rows =
     row.Meta (record { next_user = 4; next_group = 3; next_node = 5; next_share = 1; next_blob = 2; last = 0 })
-    ∷ user 1 (codes "alice") ∷ user 2 (codes "bob") ∷ user 3 (codes "carol")
-    ∷ token 1 (codes "alice-1") ∷ token 2 (codes "bob-1") ∷ token 3 (codes "carol-1")
-    ∷ row.Group (record { id = 1; name = codes "admin" }) ∷ row.Group (record { id = 2; name = codes "board" })
-    ∷ row.Member (record { group = 1; user = 1 })
-    ∷ root 1 (codes "alice") ∷ root 2 (codes "bob") ∷ root 3 (codes "carol") ∷ hello_file ∷ []
+    ∷ (demo_users ++ demo_groups ++ demo_nodes)

@@ -1,8 +1,8 @@
 //! The demonstration rows.
 
-ghost use Rattle.std.specs.Prelude.{◌≡◌, IfOk};
+ghost use Rattle.std.specs.Prelude.{◌≡◌, ◌++◌, IfOk, OnOk};
 ghost use Rattle.nf_base.specs.declared.rows.Row.TheVariants as row;
-ghost use Rattle.nf_site.specs.Demo.{demo_rows, hello_file, root, token, user};
+ghost use Rattle.nf_site.specs.Demo.{demo_groups, demo_nodes, demo_rows, demo_users, hello_file, root, token, user};
 
 use nf_base::{
     BlobId, Content, Digest, GroupId, GroupRow, MemberRow, MetaRow, Moment, Name, NodeId, NodeKind,
@@ -23,23 +23,41 @@ pub fn demo_rows(alloc: Global) -> Result<RowList, AllocError>
         next_blob: BlobId::new(2),
         last: Moment::new(0),
     }))?;
+    push_users(alloc, &mut rows)?;
+    push_groups(alloc, &mut rows)?;
+    push_nodes(alloc, &mut rows)?;
+    Ok(rows)
+}
+
+fn push_users(alloc: Global, rows: &mut RowList) -> Result<(), AllocError>
+    ensures { OnOk result (rows.new ≡ rows.old ++ demo_users) }
+{
     rows.push(user(alloc, 1, "alice")?)?;
     rows.push(user(alloc, 2, "bob")?)?;
     rows.push(user(alloc, 3, "carol")?)?;
     rows.push(token(1, "alice-1"))?;
     rows.push(token(2, "bob-1"))?;
-    rows.push(token(3, "carol-1"))?;
+    rows.push(token(3, "carol-1"))
+}
+
+fn push_groups(alloc: Global, rows: &mut RowList) -> Result<(), AllocError>
+    ensures { OnOk result (rows.new ≡ rows.old ++ demo_groups) }
+{
     rows.push(group(alloc, 1, "admin")?)?;
     rows.push(group(alloc, 2, "board")?)?;
     rows.push(Row::Member(MemberRow {
         group: GroupId::new(1),
         user: UserId::new(1),
-    }))?;
+    }))
+}
+
+fn push_nodes(alloc: Global, rows: &mut RowList) -> Result<(), AllocError>
+    ensures { OnOk result (rows.new ≡ rows.old ++ demo_nodes) }
+{
     rows.push(root(alloc, 1, "alice")?)?;
     rows.push(root(alloc, 2, "bob")?)?;
     rows.push(root(alloc, 3, "carol")?)?;
-    rows.push(hello_file(alloc)?)?;
-    Ok(rows)
+    rows.push(hello_file(alloc)?)
 }
 
 // The texts below are names, so only memory can be wanting.

@@ -6,8 +6,9 @@ ghost use Rattle.nf_rules.specs.Ruled.{AreRuled};
 ghost use Rattle.nf_site.specs.Built.{IsBuilt};
 ghost use Rattle.nf_site.specs.Held.{HasEntryRoom, HasRoom, entries_wanted};
 ghost use Rattle.nf_site.specs.Kept.{IsHistory, entry, entered, moment_of, stepped};
+ghost use Rattle.nf_site.specs.PlanView.{decision_in};
 ghost use Rattle.nf_site.specs.Plans.{IsPlannedAtEnd, IsReady, plan_at, plan_of};
-ghost use Rattle.nf_words.specs.Prelude.{answer_to, decision_of, end_decision, IsSound, MayAsk, MayBear, most_entries};
+ghost use Rattle.nf_words.specs.Prelude.{answer_to, changes_to, decision_of, end_decision, IsSound, MayAsk, MayBear, most_entries};
 ghost use Rattle.nf_words.specs.declared.history.Event.TheVariants.{Begin, End};
 ghost use Rattle.nf_words.specs.declared.history.Mark.TheVariants.{Answered};
 ghost use Rattle.nf_site.specs.declared.site.RoomFault.TheVariants.{Full};
@@ -120,6 +121,7 @@ impl Site {
         Ok(plan)
     }
 
+    // The step of an event at a moment.
     fn plan_step(
         &self,
         alloc: Global,
@@ -130,16 +132,28 @@ impl Site {
         requires { MayAsk self.now.kept.state seat event }
         ensures { IfOk result (λ plan. plan ≡ plan_at self.entry.now.kept.state seat moment event) }
     {
-        match self.decide(alloc, seat, moment, &event)? {
+        let (decided, changes) = self.decided(alloc, seat, moment, &event)?;
+        Ok(Plan::new(seat, moment, event, decided, changes))
+    }
+
+    // What is decided of an event, and the changes that this makes.
+    fn decided(
+        &self,
+        alloc: Global,
+        seat: u64,
+        moment: Moment,
+        event: &Event,
+    ) -> Result<(Result<Deed, Denial>, Changes), AllocError>
+        requires { MayAsk self.now.kept.state seat event.now }
+        ensures decision { IfOk result (λ made. decision_in made.0 ≡ decision_of self.now.kept.state seat moment event.now) }
+        ensures changes { IfOk result (λ made. made.1 ≡ changes_to self.now.kept.state seat moment event.now) }
+    {
+        match self.decide(alloc, seat, moment, event)? {
             Ok(act) => {
                 let changes = changes(alloc, self.current.tables(), moment, &act)?;
-                let deed = Deed::new(alloc, act)?;
-                Ok(Plan::new(seat, moment, event, Ok(deed), changes))
+                Ok((Ok(Deed::new(alloc, act)?), changes))
             }
-            Err(refusal) => {
-                let changes = Changes::new(alloc);
-                Ok(Plan::new(seat, moment, event, Err(refusal), changes))
-            }
+            Err(refusal) => Ok((Err(refusal), Changes::new(alloc))),
         }
     }
 
