@@ -23,6 +23,7 @@ use Rattle.nf_laws.proofs.Moved.{folder_owner}
 use Rattle.nf_laws.proofs.OneRow.{filter_with}
 use Rattle.nf_laws.proofs.Paths.{climb_own, found_leads, leads_own, path_own, root_own}
 use Rattle.nf_laws.proofs.Rows.{folder_there, found_is, row_id, stamp}
+use Rattle.nf_laws.proofs.Upwards.{owners_there}
 use Rattle.nf_laws.specs.Owners.{ChangesOnlyOwn, ChangesOwn, IsServed, ListsAll, ListsOwn, ServesOwn, nodes_of_others}
 use Rattle.nf_words.proofs.Known.{Known, KnownCopies, KnownNew, KnownPath, call_known, call_passes}
 use Rattle.nf_words.specs.Prelude.{actor_of, altered, answered_by, AreSound, asker_of, Call, call_decision, call_of, cleared, found, given, line_of, listing_of, node_found, reply_by, root_of, served, source_of, target_of, user_of}
@@ -189,7 +190,7 @@ children_there rows folder =
     (All-by_name found (filter (is_in folder) rows) (All-filter (is_in folder) found rows (row_there rows)))
 
 pub lists_all : ListsAll
-lists_all t folder owners = lines_of t owners (children_of t.nodes folder) (children_there t.nodes folder)
+lists_all t folder sound = lines_of t (owners_there t sound) (children_of t.nodes folder) (children_there t.nodes folder)
 
 -- ---- what is changed
 

@@ -1,10 +1,10 @@
 -- Whose is what a step serves or changes: nobody is shown or changes what isn't the own, since nothing is shared yet.
-use Rattle.std.specs.Prelude.{◌≡◌, ℕ, All, true, false, ◌==◌, not, List, filter, map, Option, Some, IsSome, Ok}
+use Rattle.std.specs.Prelude.{◌≡◌, ℕ, true, false, ◌==◌, not, List, filter, map, Option, Some, Ok}
 use Rattle.std.specs.Option.{option_map_or}
 use Rattle.nf_base.specs.declared.content.Piece.{Piece}
 use Rattle.nf_base.specs.declared.rows.NodeRow.{NodeRow}
-use Rattle.nf_defs.specs.Prelude.{children_of, is_folder_kind, Leads, node_row, Tables, user_row}
-use Rattle.nf_words.specs.Prelude.{actor_of, after, answer_to, Call, call_of, IsSound, listing_of, MayCome, MayWant, root_of, State, user_of}
+use Rattle.nf_defs.specs.Prelude.{children_of, is_folder_kind, Leads, node_row, Tables}
+use Rattle.nf_words.specs.Prelude.{actor_of, after, answer_to, AreSound, Call, call_of, IsSound, listing_of, MayCome, MayWant, root_of, State, user_of}
 use Rattle.nf_words.specs.declared.answer.Goal.TheVariants.{Serve}
 use Rattle.nf_words.specs.declared.answer.Reply.TheVariants.{Granted, Listing}
 use Rattle.nf_words.specs.declared.history.Entry.{Entry}
@@ -58,9 +58,7 @@ ListsOwn =
 -- a line for each node that is in a folder, and for no other, by name
 abbrev pub ListsAll : Type 0
 ListsAll =
-    (t : Tables) (folder : ℕ)
-    → All (λ (row : NodeRow). IsSome (user_row t.users row.owner)) t.nodes
-    → map (λ line. line.id) (listing_of t folder) ≡ children_of t.nodes folder
+    (t : Tables) (folder : ℕ) → AreSound t → map (λ line. line.id) (listing_of t folder) ≡ children_of t.nodes folder
 
 -- ---- what is changed
 
