@@ -1,3 +1,4 @@
+pub mod Acting
 pub mod Added
 pub mod Blobs
 pub mod Climbs

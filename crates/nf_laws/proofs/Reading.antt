@@ -142,7 +142,7 @@ stored_file t now who (Slot folder name) digest size root path sound known (fron
     subst (λ (names : List (List ℕ)). HasFile (t.nodes ++ new_node t now folder name File content ∷ []) root names content) (sym parts)
     (new_file t now folder root name front content blob sound known.new led)
 
-none_refused : (refusal : Option Denial) (act : Allowed) → IsOk (answered_by (unless_refused refusal act)) → unless_refused refusal act ≡ Ok act
+pub none_refused : (refusal : Option Denial) (act : Allowed) → IsOk (answered_by (unless_refused refusal act)) → unless_refused refusal act ≡ Ok act
 none_refused None act ok = refl
 none_refused (Some refusal) act ok = absurd (false≢true ok)
 

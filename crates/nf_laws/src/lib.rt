@@ -1,6 +1,7 @@
 //! Laws of the site's states and histories. The functions do nothing: each stands for the fact that it ensures.
 #![tactic(auto)]
 
+mod acts;
 mod history;
 mod owners;
 mod reads;
@@ -10,6 +11,7 @@ mod tree;
 mod walks;
 mod wholes;
 
+pub use acts::{deletes_keep, folders_are_made, puts_keep};
 pub use history::{counters_rise, numbers_are_new, stays_sound};
 pub use owners::{changes_only_own, lists_only_own, serves_only_own};
 pub use reads::stored_is_read;
