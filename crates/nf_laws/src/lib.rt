@@ -13,7 +13,7 @@ mod wholes;
 
 pub use acts::{deletes_keep, folders_are_made, puts_keep};
 pub use history::{counters_rise, numbers_are_new, stays_sound};
-pub use owners::{changes_only_own, lists_only_own, serves_only_own};
+pub use owners::{changes_only_own, lists_only_own, own_is_listed, own_is_served, serves_only_own};
 pub use reads::stored_is_read;
 pub use tells::changes_tell;
 pub use transfers::{copies_mirror, moves_keep};
