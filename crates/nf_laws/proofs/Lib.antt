@@ -14,10 +14,12 @@ pub mod Opening
 pub mod Owned
 pub mod Owning
 pub mod Paths
+pub mod Presence
 pub mod Puts
 pub mod Reading
 pub mod Replaced
 pub mod Rows
+pub mod Sizes
 pub mod Stays
 pub mod Telling
 pub mod Transferred

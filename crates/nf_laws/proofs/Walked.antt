@@ -149,7 +149,7 @@ distinct_walk (suc k) t node sound =
     (above t node sound i d (omega arith)) (above t node sound j d within)
     (children_distinct t node sound i j d before within) first.2 second.2))
 
-walk_distinct : (t : Tables) (top : ℕ) → AreSound t → AreDistinct (walk_of t.nodes top)
+pub walk_distinct : (t : Tables) (top : ℕ) → AreSound t → AreDistinct (walk_of t.nodes top)
 unfolding walk_of
 walk_distinct t top sound = distinct_walk 64 t top sound
 

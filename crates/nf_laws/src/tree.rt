@@ -1,6 +1,6 @@
 //! Laws of the tree of nodes.
 
-ghost use Rattle.nf_laws.specs.Tree.{UnderIsDerived, NodesArePresent, NamesAreTaken, DepthIsClimbed, NoRings, WalksTakeAllUnder};
+ghost use Rattle.nf_laws.specs.Tree.{UnderIsDerived, NodesArePresent, PresentIsThere, NamesAreTaken, DepthIsClimbed, NoRings, WalksTakeAllUnder, SizesAreSums};
 
 /// A node is under a top where folders lead up to it, however many.
 #[tactic(auto, using(crate::proofs::Upwards::under_derived))]
@@ -12,6 +12,12 @@ pub fn under_is_derived()
 #[tactic(auto, using(crate::proofs::Upwards::nodes_present))]
 pub fn nodes_are_present()
     ensures { NodesArePresent }
+{}
+
+/// A node is under a user's root, and so under a root, exactly where it is there.
+#[tactic(auto, using(crate::proofs::Presence::present_there))]
+pub fn present_is_there()
+    ensures { PresentIsThere }
 {}
 
 /// A folder's taken names are those by which it has a child.
@@ -35,4 +41,10 @@ pub fn no_rings()
 #[tactic(auto, using(crate::proofs::Walked::walks_take))]
 pub fn walks_take_all_under()
     ensures { WalksTakeAllUnder }
+{}
+
+/// A folder's size is the sum of the bytes of all files under it, however large the site.
+#[tactic(auto, using(crate::proofs::Sizes::sizes_sum))]
+pub fn sizes_are_sums()
+    ensures { SizesAreSums }
 {}
