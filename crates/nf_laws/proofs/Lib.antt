@@ -1,6 +1,7 @@
 pub mod Acting
 pub mod Added
 pub mod Blobs
+pub mod Children
 pub mod Climbs
 pub mod Copied
 pub mod Counters

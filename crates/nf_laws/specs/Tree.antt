@@ -1,8 +1,12 @@
 -- What the words about the tree of nodes mean.
-use Rattle.std.specs.Prelude.{◌≡◌, ◌≢◌, ◌↔◌, ℕ, ◌≤◌, All, AllPairs, Contains, true, false, List, Some, is_some, sum_by}
+use Rattle.std.specs.Prelude.{◌≡◌, ◌≢◌, ◌↔◌, ℕ, ◌≤◌, All, AllPairs, Contains, true, false, List, [], Some, is_some, sum_by}
+use Rattle.std.specs.Cmp.Lexicographic.{slice_cmp}
+use Rattle.std.specs.Option.{option_map_or}
+use Rattle.std.specs.Ordering.{nat_cmp}
+use Rattle.std.specs.declared.cmp.Ordering.TheVariants.{Less}
 use Rattle.nf_base.specs.FreeNames.{is_taken}
 use Rattle.nf_base.specs.declared.rows.NodeRow.{NodeRow}
-use Rattle.nf_defs.specs.Prelude.{child_of, climb, depth, is_present, is_rooted, is_under, node_row, parent_of, Tables, taken_names, walk_of}
+use Rattle.nf_defs.specs.Prelude.{child_of, children_of, climb, depth, is_present, is_rooted, is_under, node_row, parent_of, Tables, taken_names, walk_of}
 use Rattle.nf_words.specs.Listing.{size_of}
 use Rattle.nf_words.specs.Prelude.{AreSound, bytes_of, root_of_user}
 
@@ -46,6 +50,17 @@ NoRings = (t : Tables) (node parent : ℕ) → AreSound t → parent_of t.nodes 
 pub record WalksTakeAllUnder : Type 0 where
   pub those : (t : Tables) (top node : ℕ) → AreSound t → Contains (walk_of t.nodes top) node ↔ Under t.nodes top node
   pub once : (t : Tables) (top : ℕ) → AreSound t → AllPairs (λ (a b : ℕ). a ≢ b) (walk_of t.nodes top)
+
+-- the name of a node
+abbrev pub name_of : List NodeRow → ℕ → List ℕ
+name_of rows node = option_map_or (λ row. row.name) (node_row rows node) []
+
+-- a folder's children are just the nodes in it, in the order of their names, and so each once
+pub record ChildrenAreByName : Type 0 where
+  pub those : (t : Tables) (folder node : ℕ) → AreSound t → Contains (children_of t.nodes folder) node ↔ (parent_of t.nodes node ≡ Some folder)
+  pub sorted : (t : Tables) (folder : ℕ) → AreSound t
+      → AllPairs (λ (a b : ℕ). slice_cmp nat_cmp (name_of t.nodes a) (name_of t.nodes b) ≡ Less) (children_of t.nodes folder)
+  pub once : (t : Tables) (folder : ℕ) → AreSound t → AllPairs (λ (a b : ℕ). a ≢ b) (children_of t.nodes folder)
 
 -- the size of a node is the sum of the bytes of all that is under it: 1,048,576 pieces of 16,777,216 bytes are within what can be told
 abbrev pub SizesAreSums : Type 0

@@ -1,6 +1,6 @@
 //! Laws of the tree of nodes.
 
-ghost use Rattle.nf_laws.specs.Tree.{UnderIsDerived, NodesArePresent, PresentIsThere, NamesAreTaken, DepthIsClimbed, NoRings, WalksTakeAllUnder, SizesAreSums};
+ghost use Rattle.nf_laws.specs.Tree.{UnderIsDerived, NodesArePresent, PresentIsThere, NamesAreTaken, DepthIsClimbed, NoRings, ChildrenAreByName, WalksTakeAllUnder, SizesAreSums};
 
 /// A node is under a top where folders lead up to it, however many.
 #[tactic(auto, using(crate::proofs::Upwards::under_derived))]
@@ -35,6 +35,12 @@ pub fn depth_is_climbed()
 #[tactic(auto, using(crate::proofs::Upwards::no_rings))]
 pub fn no_rings()
     ensures { NoRings }
+{}
+
+/// A folder's children are the nodes in it, by name, each once.
+#[tactic(auto, using(crate::proofs::Children::children_by_name))]
+pub fn children_are_by_name()
+    ensures { ChildrenAreByName }
 {}
 
 /// A walk from a top has just the nodes under it, each once: they are what a DELETE drops, and what a COPY copies.
