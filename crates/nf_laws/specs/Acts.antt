@@ -9,13 +9,15 @@ use Rattle.nf_defs.specs.declared.Seeker.{Seeker}
 use Rattle.nf_defs.specs.declared.Seeker.TheVariants.{User}
 use Rattle.nf_laws.specs.Reads.{LeadsToKey}
 use Rattle.nf_laws.specs.Tree.{Under}
-use Rattle.nf_words.specs.Prelude.{answer_to, blob_for, call_of, content_in, IsSound, MayAsk, new_node, root_of, State, step, ticket_for, ticket_of, user_of}
+use Rattle.nf_laws.specs.Wholes.{blob_in}
+use Rattle.nf_words.specs.Prelude.{after, answer_to, blob_for, call_of, content_in, IsSound, MayAsk, new_node, root_of, State, step, ticket_for, ticket_of, user_of, without_ticket}
 use Rattle.nf_words.specs.declared.answer.Goal.TheVariants.{Store}
 use Rattle.nf_words.specs.declared.answer.LockKey.{LockKey}
 use Rattle.nf_words.specs.declared.answer.LockKey.TheVariants.{Node, Slot}
 use Rattle.nf_words.specs.declared.answer.Reply.TheVariants.{Granted}
+use Rattle.nf_words.specs.declared.history.Entry.{Entry}
 use Rattle.nf_words.specs.declared.history.Event.TheVariants.{Begin, End}
-use Rattle.nf_words.specs.declared.history.Outcome.TheVariants.{Body}
+use Rattle.nf_words.specs.declared.history.Outcome.TheVariants.{Body, Gone}
 use Rattle.nf_words.specs.declared.request.Request.{Request}
 use Rattle.nf_words.specs.declared.request.Spot.{Spot}
 use Rattle.nf_words.specs.declared.request.Wanted.TheVariants.{Delete, Mkcol, Put}
@@ -113,3 +115,14 @@ PutsKeep =
     → ticket_of s seat ≡ Some (ticket_for seat (Store who key size))
     → IsOk (answer_to s seat now (End (Body digest size)))
     → IsPut s.tables (step s seat now (End (Body digest size))).tables now key (content_in (blob_for s.tables.meta.next_blob size) digest size)
+
+-- ---- a body that is cut
+
+-- what was granted goes, and the moment is seen: nothing else of the state is another, and no blob is stored
+pub record IsGone (s : State) (e : Entry) : Type 0 where
+  pub state : after s e ≡ record (without_ticket s e.seat) { seen = e.moment }
+  pub blob : blob_in s e ≡ None
+
+-- however the End of a body that never came whole, or of a content that wasn't sent, is marked
+abbrev pub CutBodiesKeep : Type 0
+CutBodiesKeep = (s : State) (e : Entry) → e.event ≡ End Gone → IsGone s e

@@ -1,6 +1,6 @@
 //! What DELETE, MKCOL and PUT change, and nothing else.
 
-ghost use Rattle.nf_laws.specs.Acts.{DeletesKeep, FoldersAreMade, PutsAreGranted, PutsKeep};
+ghost use Rattle.nf_laws.specs.Acts.{CutBodiesKeep, DeletesKeep, FoldersAreMade, PutsAreGranted, PutsKeep};
 
 /// A DELETE takes out the node to which its path leads and all under it, and touches no other node.
 #[tactic(auto, using(crate::proofs::Acting::deletes_keep))]
@@ -20,4 +20,9 @@ pub fn folders_are_made()
 pub fn puts_keep()
     ensures begin { PutsAreGranted }
     ensures body { PutsKeep }
+{}
+
+/// A body that is cut changes no row and stores no blob.
+pub fn cut_bodies_keep()
+    ensures { CutBodiesKeep }
 {}

@@ -11,7 +11,7 @@ mod tree;
 mod walks;
 mod wholes;
 
-pub use acts::{deletes_keep, folders_are_made, puts_keep};
+pub use acts::{cut_bodies_keep, deletes_keep, folders_are_made, puts_keep};
 pub use history::{counters_rise, numbers_are_new, stays_sound};
 pub use owners::{changes_only_own, lists_only_own, own_is_listed, own_is_served, serves_only_own};
 pub use reads::stored_is_read;
