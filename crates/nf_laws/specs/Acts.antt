@@ -4,13 +4,14 @@ use Rattle.nf_base.specs.declared.content.Piece.{Piece}
 use Rattle.nf_base.specs.declared.rows.NodeKind.{NodeKind}
 use Rattle.nf_base.specs.declared.rows.NodeKind.TheVariants.{File, Folder}
 use Rattle.nf_base.specs.declared.rows.NodeRow.{NodeRow}
-use Rattle.nf_defs.specs.Prelude.{child_of, filled, is_folder, is_folder_kind, Leads, node_row, Tables}
+use Rattle.nf_base.specs.declared.rows.Place.TheVariants.{Inside}
+use Rattle.nf_defs.specs.Prelude.{child_of, is_folder, is_folder_kind, Leads, node_row, owner_of, Tables}
 use Rattle.nf_defs.specs.declared.Seeker.{Seeker}
 use Rattle.nf_defs.specs.declared.Seeker.TheVariants.{User}
 use Rattle.nf_laws.specs.Reads.{LeadsToKey}
 use Rattle.nf_laws.specs.Tree.{Under}
 use Rattle.nf_laws.specs.Wholes.{blob_in}
-use Rattle.nf_words.specs.Prelude.{after, answer_to, blob_for, call_of, content_in, IsSound, MayAsk, new_node, root_of, State, step, ticket_for, ticket_of, user_of, without_ticket}
+use Rattle.nf_words.specs.Prelude.{after, answer_to, blob_for, call_of, content_in, IsSound, MayAsk, root_of, State, step, ticket_for, ticket_of, user_of, without_ticket}
 use Rattle.nf_words.specs.declared.answer.Goal.TheVariants.{Store}
 use Rattle.nf_words.specs.declared.answer.LockKey.{LockKey}
 use Rattle.nf_words.specs.declared.answer.LockKey.TheVariants.{Node, Slot}
@@ -42,13 +43,22 @@ DeletesKeep =
 
 -- ---- a node more
 
--- the new node is in the folder, which had no child of its name; it has the number that was next. Every other node is as it was, and
--- of the meta row the next numbers of a node and of a blob, by one each or as many as the content has pieces, and the moment
+-- the new node is in the folder, which had no child of its name, under the number that was next, and is of the folder's owner; every
+-- other node is as it was. Of the meta row these alone are others: the moment, the next number of a node, which is one more, and that
+-- of a blob, which is as many more as the content has pieces
 pub record IsAdded (before after : Tables) (now folder : ℕ) (name : List ℕ) (kind : NodeKind) (content : List Piece) : Type 0 where
   pub folds : is_folder before.nodes folder ≡ true
   pub free : child_of before.nodes folder name ≡ None
   pub fresh : node_row before.nodes before.meta.next_node ≡ None
-  pub itself : node_row after.nodes before.meta.next_node ≡ Some (new_node before now folder name kind content)
+  pub itself : node_row after.nodes before.meta.next_node ≡ Some (record {
+    id = before.meta.next_node;
+    owner = owner_of before.nodes folder;
+    place = Inside folder;
+    name = name;
+    kind = kind;
+    content = content;
+    changed = now;
+  })
   pub others : (node : ℕ) → node ≢ before.meta.next_node → node_row after.nodes node ≡ node_row before.nodes node
   pub rest : after ≡ record before {
     meta = record before.meta {
@@ -91,13 +101,13 @@ PutsAreGranted =
     → request.wanted ≡ Put spot size → IsOk (answer_to s seat now (Begin words request))
     → IsGranted s seat now words request spot.path size
 
--- the file has the new content and its moment, and nothing else of it changes; every other node is as it was, and of the meta row the
--- next number of a blob, by as many as the content has pieces, and the moment
+-- the file has the new content, which became current at the moment, and nothing else of it is another; every other node is as it was.
+-- Of the meta row these alone are others: the moment, and the next number of a blob, which is as many more as the content has pieces
 pub record IsRefilled (before after : Tables) (now node : ℕ) (content : List Piece) : Type 0 where
   pub row : NodeRow
   pub there : node_row before.nodes node ≡ Some row
   pub file : is_folder_kind row.kind ≡ false
-  pub itself : node_row after.nodes node ≡ Some (filled content now row)
+  pub itself : node_row after.nodes node ≡ Some (record row { content = content; changed = now })
   pub others : (other : ℕ) → other ≢ node → node_row after.nodes other ≡ node_row before.nodes other
   pub rest : after ≡ record before {
     meta = record before.meta { next_blob = before.meta.next_blob + length content; last = after.meta.last };
