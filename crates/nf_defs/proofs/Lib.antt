@@ -5,3 +5,4 @@ pub mod Tables
 pub mod Lookups
 pub mod ByName
 pub mod Walks
+pub mod Sorted

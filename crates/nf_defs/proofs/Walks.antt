@@ -68,13 +68,13 @@ children_are rows folder rising =
     }))
 
 -- a child is in the folder, and what is in the folder is its child
-child_above : (rows : List NodeRow) (folder child : ℕ) → AreRising rows → Contains (children_of rows folder) child
+pub child_above : (rows : List NodeRow) (folder child : ℕ) → AreRising rows → Contains (children_of rows folder) child
     → parent_of rows child ≡ Some folder
 child_above rows folder child rising h =
     let is = All-contains (IsChildOf rows folder) (children_of rows folder) child (children_are rows folder rising) h in
     ap (option_and_then (λ (row : NodeRow). folder_of row.place)) is.there ∙ ap folder_of is.place
 
-child_among : (rows : List NodeRow) (folder child : ℕ) → parent_of rows child ≡ Some folder → Contains (children_of rows folder) child
+pub child_among : (rows : List NodeRow) (folder child : ℕ) → parent_of rows child ≡ Some folder → Contains (children_of rows folder) child
 child_among rows folder child above =
     option_and_then_some (λ (row : NodeRow). folder_of row.place) (node_row rows child) folder above (λ row there placed.
     let h = found_among (λ (row : NodeRow). row.id == child) rows row there in

@@ -1,5 +1,7 @@
+pub mod Acting
 pub mod Added
 pub mod Blobs
+pub mod Children
 pub mod Climbs
 pub mod Copied
 pub mod Counters
@@ -13,10 +15,12 @@ pub mod Opening
 pub mod Owned
 pub mod Owning
 pub mod Paths
+pub mod Presence
 pub mod Puts
 pub mod Reading
 pub mod Replaced
 pub mod Rows
+pub mod Sizes
 pub mod Stays
 pub mod Telling
 pub mod Transferred

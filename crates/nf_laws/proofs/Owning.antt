@@ -10,7 +10,7 @@ use Rattle.std.proofs.lemmas.Option.{same_Some}
 use Rattle.nf_base.specs.declared.content.Piece.{Piece}
 use Rattle.nf_base.specs.declared.rows.NodeRow.{NodeRow}
 use Rattle.nf_defs.proofs.ByName.{All-by_name}
-use Rattle.nf_defs.specs.Prelude.{by_name, children_of, content_of, filled, is_folder, is_in, is_under, Leads, node_row, owner_of, relinked, Tables, user_row}
+use Rattle.nf_defs.specs.Prelude.{by_name, children_of, content_of, filled, is_folder, is_in, is_under, Leads, node_row, owner_of, relinked, Tables, unshared, user_row}
 use Rattle.nf_defs.specs.declared.Found.{Found}
 use Rattle.nf_defs.specs.declared.Found.TheVariants.{At, Free, Missing}
 use Rattle.nf_laws.proofs.Blobs.{Alters, given_alters}
@@ -21,11 +21,14 @@ use Rattle.nf_laws.proofs.Gone.{row_cleared}
 use Rattle.nf_laws.proofs.Mirrored.{mirrored}
 use Rattle.nf_laws.proofs.Moved.{folder_owner}
 use Rattle.nf_laws.proofs.OneRow.{filter_with}
-use Rattle.nf_laws.proofs.Paths.{climb_own, found_leads, leads_own, path_own, root_own}
+use Rattle.nf_laws.proofs.Paths.{climb_own, found_leads, leads_found, leads_own, path_own, root_own}
+use Rattle.nf_laws.proofs.Reading.{granted, shows}
 use Rattle.nf_laws.proofs.Rows.{folder_there, found_is, row_id, stamp}
-use Rattle.nf_laws.specs.Owners.{ChangesOnlyOwn, ChangesOwn, IsServed, ListsAll, ListsOwn, ServesOwn, nodes_of_others}
+use Rattle.nf_laws.proofs.Upwards.{owners_there}
+use Rattle.nf_laws.specs.Owners.{ChangesOnlyOwn, ChangesOwn, IsFound, ListsAll, ListsOwn, OwnIsListed, OwnIsServed, ServesOwn, nodes_of_others}
+use Rattle.nf_laws.specs.Reads.{IsWellAsked}
 use Rattle.nf_words.proofs.Known.{Known, KnownCopies, KnownNew, KnownPath, call_known, call_passes}
-use Rattle.nf_words.specs.Prelude.{actor_of, altered, answered_by, AreSound, asker_of, Call, call_decision, call_of, cleared, found, given, line_of, listing_of, node_found, reply_by, root_of, served, source_of, target_of, user_of}
+use Rattle.nf_words.specs.Prelude.{actor_of, altered, answered_by, AreSound, asker_of, Call, call_decision, call_of, cleared, found, given, line_of, listing_of, node_found, Pass, reply_by, root_of, rules, served, source_of, target_of, user_of}
 use Rattle.nf_words.specs.declared.answer.Allowed.{Allowed}
 use Rattle.nf_words.specs.declared.answer.Allowed.TheVariants as allowed
 use Rattle.nf_words.specs.declared.answer.Denial.{Denial}
@@ -107,27 +110,31 @@ asked t now user wanted leads act is shown =
 
 -- a node to which the path of a GET leads from the caller's root is the caller's
 of_caller : (call : Call) (spot : Spot) (node : ℕ) (place : Found) → AreSound call.state.tables → KnownPath call.state.tables (user_of call) place
-    → call.request.wanted ≡ Get spot → found call spot ≡ At node
-    → (served : IsServed call (content_of call.state.tables.nodes node)) × (served.row.id ≡ node)
-of_caller call spot node place sound path wanted leads =
+    → IsWellAsked call → call.request.wanted ≡ Get spot → found call spot ≡ At node
+    → (row : NodeRow) × IsFound call row × (row.id ≡ node)
+of_caller call spot node place sound path well wanted leads =
     let t = call.state.tables in
     let root : root_of call ≡ path.row.root = rw (path.caller, path.there) refl in
     let led = found_leads t (root_of call) spot.path node sound leads in
     let own = leads_own t path.row.id (root_of call) spot.path node sound led (rw root (root_own t path.row sound path.there)) in
     let id = row_id t.nodes node own.row own.there in (
+      own.row,
       record {
         spot = spot;
         asked = wanted;
+        well = well;
         user = path.row.id;
         caller = path.caller;
-        row = own.row;
         there = subst (λ (n : ℕ). node_row t.nodes n ≡ Some own.row) (sym id) own.there;
         led = subst (Leads t.nodes (root_of call) spot.path) (sym id) led;
         own = own.owner;
-        sent = rw own.there refl;
       },
       id,
     )
+
+-- the rules of who asks and of names pass what all rules pass
+well_asked : (call : Call) → Pass rules unshared call → IsWellAsked call
+well_asked call pass = (pass.0, (pass.1.0, (pass.1.1.0, tt)))
 
 pub serves_own : ServesOwn
 serves_own s seat now words request content sound may is =
@@ -135,9 +142,12 @@ serves_own s seat now words request content sound may is =
     let get = got (call_decision call) content is in
     let act = allowed.Get get.0 content in
     let known = call_known call act sound may get.1 in
-    let spot = asked s.tables now (asker_of call) request.wanted (found call) act (call_passes call act get.1).1 (λ alters. alters) in
+    let passes = call_passes call act get.1 in
+    let spot = asked s.tables now (asker_of call) request.wanted (found call) act passes.1 (λ alters. alters) in
     let at = get_at s.tables (found call spot.0) get.0 content spot.2 in
-    subst (IsServed call) (sym at.1) (of_caller call spot.0 get.0 (At get.0) sound.rows known.path spot.1 at.0).0
+    let of = of_caller call spot.0 get.0 (At get.0) sound.rows known.path (well_asked call passes.0) spot.1 at.0 in
+    let there : node_row s.tables.nodes get.0 ≡ Some of.0 = ap (node_row s.tables.nodes) (sym of.2) ∙ of.1.there in
+    record { row = of.0; found = of.1; file = rw there at known.no_folder; sent = sym (at.1 ∙ rw there refl) }
 
 pub lists_own : ListsOwn
 lists_own s seat now words request listing sound may is =
@@ -145,23 +155,35 @@ lists_own s seat now words request listing sound may is =
     let act = allowed.List listing in
     let decides = got_listing (call_decision call) listing is in
     let known = call_known call act sound may decides in
-    let spot = asked s.tables now (asker_of call) request.wanted (found call) act (call_passes call act decides).1 (λ alters. alters) in
+    let passes = call_passes call act decides in
+    let spot = asked s.tables now (asker_of call) request.wanted (found call) act passes.1 (λ alters. alters) in
     let at = list_at s.tables (found call spot.0) listing spot.2 in
-    let of = of_caller call spot.0 at.0 (At known.folder) sound.rows known.path spot.1 at.1 in
-    let mine = of.0 in
-    let id = of.1 in
+    let of = of_caller call spot.0 at.0 (At known.folder) sound.rows known.path (well_asked call passes.0) spot.1 at.1 in
     record {
-      spot = mine.spot;
-      asked = mine.asked;
-      user = mine.user;
-      caller = mine.caller;
-      row = mine.row;
-      there = mine.there;
-      folder = rw mine.there at (ap (is_folder s.tables.nodes) id) ∙ at.2;
-      led = mine.led;
-      own = mine.own;
-      listed = at.3 ∙ ap (listing_of s.tables) (sym id);
+      row = of.0;
+      found = of.1;
+      folder = rw of.1.there at (ap (is_folder s.tables.nodes) of.2 ∙ at.2);
+      listed = at.3 ∙ ap (listing_of s.tables) (sym of.2);
     }
+
+-- ---- what is one's own
+
+-- what is found is where the path leads
+at_found : (call : Call) (row : NodeRow) → AreSound call.state.tables → (is : IsFound call row) → found call is.spot ≡ At row.id
+at_found call row sound is = leads_found call.state.tables 0 (root_of call) is.spot.path row.id sound is.led
+
+pub own_served : OwnIsServed
+own_served s seat now words request content sound is =
+    let call = call_of s seat now words request in
+    granted call is.found.spot is.row.id is.row is.found.asked (at_found call is.row sound.rows is.found) is.found.there is.file is.found.well
+    ∙ ap (λ (c : List Piece). answered_by (Ok (allowed.Get is.row.id c))) is.sent
+
+pub own_listed : OwnIsListed
+own_listed s seat now words request listing sound is =
+    let call = call_of s seat now words request in
+    let folder : is_folder s.tables.nodes is.row.id ≡ true = rw is.found.there is.folder in
+    ap answered_by (shows call is.found.spot is.row.id is.found.asked (at_found call is.row sound.rows is.found) is.found.well)
+    ∙ rw folder (ap (λ (lines : List ListingLine). answered_by (Ok (allowed.List lines))) (sym is.listed))
 
 -- ---- each node in a folder has a line
 
@@ -189,7 +211,7 @@ children_there rows folder =
     (All-by_name found (filter (is_in folder) rows) (All-filter (is_in folder) found rows (row_there rows)))
 
 pub lists_all : ListsAll
-lists_all t folder owners = lines_of t owners (children_of t.nodes folder) (children_there t.nodes folder)
+lists_all t folder sound = lines_of t (owners_there t sound) (children_of t.nodes folder) (children_there t.nodes folder)
 
 -- ---- what is changed
 

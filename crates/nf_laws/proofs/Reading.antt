@@ -22,10 +22,10 @@ use Rattle.nf_laws.proofs.Paths.{leads_found}
 use Rattle.nf_laws.proofs.Replaced.{content_decides, kept_replaced}
 use Rattle.nf_laws.proofs.Rows.{AreKept, folder_kept, kept_joined, row_id}
 use Rattle.nf_laws.proofs.Stays as states
-use Rattle.nf_laws.specs.Reads.{IsStored, LeadsToKey, PathStays, StoredIsRead}
+use Rattle.nf_laws.specs.Reads.{IsStored, IsWellAsked, LeadsToKey, PathStays, StoredIsRead}
 use Rattle.nf_words.proofs.Known.{Known, KnownNew, known_change}
 use Rattle.nf_words.proofs.Orders.{none_of}
-use Rattle.nf_words.specs.Prelude.{actor_of, after, after_mark, allowed_of, answered_by, AreSound, blob_for, Call, call_decision, call_of, changed, content_in, decision_of, end_refusal, ends_ticket, exists_rule, forbidden_rule, found, IsSound, limit_rule, new_node, not_you_rule, overwrite_rule, Pass, place_rule, refilled, replaced, replay, rules, stamped, State, stored_at, stores, target_rule, token_rule, unless_refused}
+use Rattle.nf_words.specs.Prelude.{actor_of, after, after_mark, allowed_of, answered_by, AreSound, blob_for, Call, call_decision, call_of, changed, content_in, decision_of, end_refusal, ends_ticket, exists_rule, found, IsSound, limit_rule, new_node, overwrite_rule, Pass, place_rule, refilled, replaced, replay, rules, shown, stamped, State, stored_at, stores, target_rule, unless_refused}
 use Rattle.nf_words.specs.declared.answer.Allowed.{Allowed}
 use Rattle.nf_words.specs.declared.answer.Allowed.TheVariants as allowed
 use Rattle.nf_words.specs.declared.answer.Denial.{Denial}
@@ -142,7 +142,7 @@ stored_file t now who (Slot folder name) digest size root path sound known (fron
     subst (λ (names : List (List ℕ)). HasFile (t.nodes ++ new_node t now folder name File content ∷ []) root names content) (sym parts)
     (new_file t now folder root name front content blob sound known.new led)
 
-none_refused : (refusal : Option Denial) (act : Allowed) → IsOk (answered_by (unless_refused refusal act)) → unless_refused refusal act ≡ Ok act
+pub none_refused : (refusal : Option Denial) (act : Allowed) → IsOk (answered_by (unless_refused refusal act)) → unless_refused refusal act ≡ Ok act
 none_refused None act ok = refl
 none_refused (Some refusal) act ok = absurd (false≢true ok)
 
@@ -165,18 +165,22 @@ entry_file n s e root path content is =
 
 -- ---- what is read
 
--- a call of a GET that the rules of who asks and of names pass is granted the content of the file to which its path leads
-granted : (call : Call) (spot : Spot) (node : ℕ) (row : NodeRow) → call.request.wanted ≡ Get spot → found call spot ≡ At node
-    → node_row call.state.tables.nodes node ≡ Some row → is_folder_kind row.kind ≡ false
-    → Pass (token_rule ∷ not_you_rule ∷ forbidden_rule ∷ []) unshared call
-    → answered_by (call_decision call) ≡ Ok (Granted (Serve row.content))
+-- a call of a GET that the rules of who asks and of names pass is shown what its path leads to
+pub shows : (call : Call) (spot : Spot) (node : ℕ) → call.request.wanted ≡ Get spot → found call spot ≡ At node → IsWellAsked call
+    → call_decision call ≡ Ok (shown call.state.tables node)
 unfolding place_rule exists_rule target_rule overwrite_rule limit_rule
-granted call spot node row wanted at there file asked =
-    let folder : is_folder call.state.tables.nodes node ≡ false = rw there file in
+shows call spot node wanted at asked =
     let pass : Pass rules unshared call =
     (asked.0, (asked.1.0, (asked.1.1.0, (rw (wanted, at) refl, (rw wanted refl, (rw wanted refl, (rw wanted refl, (rw wanted refl, tt)))))))) in
-    ap (λ (refusal : Option Denial). answered_by (unless_refused refusal (allowed_of call))) (none_of rules unshared call pass)
-    ∙ rw (wanted, at, folder, there) refl
+    ap (λ (refusal : Option Denial). unless_refused refusal (allowed_of call)) (none_of rules unshared call pass) ∙ rw (wanted, at) refl
+
+-- so it is granted the content of a file
+pub granted : (call : Call) (spot : Spot) (node : ℕ) (row : NodeRow) → call.request.wanted ≡ Get spot → found call spot ≡ At node
+    → node_row call.state.tables.nodes node ≡ Some row → is_folder_kind row.kind ≡ false → IsWellAsked call
+    → answered_by (call_decision call) ≡ Ok (Granted (Serve row.content))
+granted call spot node row wanted at there file asked =
+    let folder : is_folder call.state.tables.nodes node ≡ false = rw there file in
+    ap answered_by (shows call spot node wanted at asked) ∙ rw (folder, there) refl
 
 pub stored_is_read : StoredIsRead
 stored_is_read n s e es root path content seat now words request is legal same reads =

@@ -268,10 +268,14 @@ pub stamped_has : (P : Tables → Type 0) (t made : Tables) (now : ℕ) (changes
 stamped_has P t made now [] same stamps = same
 stamped_has P t made now (change ∷ changes) same stamps = stamps
 
--- where a row differs the nodes are those of the tables made
+-- where a row differs it is
+pub stamped_some : (t made : Tables) (now : ℕ) (changes : List Change) → 1 ≤ length changes → stamped t made now changes ≡ stamp made now
+stamped_some t made now [] some = absurd (omega arith)
+stamped_some t made now (change ∷ changes) some = refl
+
+-- and the nodes are those of the tables made
 pub stamped_nodes : (t made : Tables) (now : ℕ) (changes : List Change) → 1 ≤ length changes → (stamped t made now changes).nodes ≡ made.nodes
-stamped_nodes t made now [] some = absurd (omega arith)
-stamped_nodes t made now (change ∷ changes) some = refl
+stamped_nodes t made now changes some = ap (λ (u : Tables). u.nodes) (stamped_some t made now changes some)
 
 -- a later moment changes nothing else
 pub stamp_sound : (t : Tables) (now : ℕ) → AreSound t → t.meta.last ≤ now → AreSound (stamp t now)

@@ -3,7 +3,7 @@
 use Rattle.std.proofs.Common.{ℕ, suc, zero, ◌+◌, ◌≡◌, ◌≢◌, ◌≤◌, true, false, List, Option, None, Some, refl, ap, subst, ◌∙◌, arith, ◌==◌, Bool, [], ◌∷◌, get_or}
 use Rattle.std.specs.Option.{option_and_then, option_map_or}
 use Rattle.std.specs.List.{All, list_any}
-use Rattle.std.specs.Prelude.{bytes_eq, is_some}
+use Rattle.std.specs.Prelude.{bytes_eq, is_some, IsSome}
 use Rattle.std.proofs.lemmas.Bool.{both_ways, false_from_ne_true}
 use Rattle.std.proofs.lemmas.Option.{none-some, option_and_then_some, same_Some}
 use Rattle.std.proofs.lemmas.List.Recursion.{max_bounds}
@@ -13,8 +13,8 @@ use Rattle.nf_base.specs.declared.rows.Place.{Place}
 use Rattle.nf_base.specs.declared.rows.Place.TheVariants.{Inside, Root, Trash}
 use Rattle.nf_base.specs.FreeNames.{is_taken}
 use Rattle.nf_base.specs.declared.rows.UserRow.{UserRow}
-use Rattle.nf_defs.specs.Prelude.{child_of, climb, depth, folder_of, is_in, is_present, is_root, is_root_place, is_under, node_row, parent_of, Tables, taken_names, user_row}
-use Rattle.nf_laws.proofs.Climbs.{climb_under, climbs_no_further, depth_is, node_row_each, under_climb}
+use Rattle.nf_defs.specs.Prelude.{child_of, climb, depth, folder_of, is_in, is_root, is_root_place, is_under, node_row, parent_of, Tables, taken_names, user_row}
+use Rattle.nf_laws.proofs.Climbs.{climb_under, climbs_no_further, depth_is, node_row_each, some_there, under_climb}
 use Rattle.nf_laws.proofs.Rows.{IsRooted, found_is, none_above, parent_there, row_is}
 use Rattle.nf_laws.specs.Tree.{DepthIsClimbed, NamesAreTaken, NoRings, NodesArePresent, Under, UnderIsDerived, inside, itself}
 use Rattle.nf_words.specs.Prelude.{AreSound, deepest, IsNodeSound, root_of_user}
@@ -134,8 +134,9 @@ climb_ends (suc k) t node top sound some is =
     let folder = parent_there t node parent row sound there above in
     let h = row_is t parent folder.0 sound folder.1 in climb_ends k t parent top sound (omega (arith, h.0, h.1.some)) is))
 
-pub nodes_present : NodesArePresent
-nodes_present t sound k d within = here (user_row t.users row.owner) refl h.present
+-- so each node's owner is there: who isn't has 0 for a root
+pub owners_there : (t : Tables) → AreSound t → All (λ (row : NodeRow). IsSome (user_row t.users row.owner)) t.nodes
+owners_there t sound k d within = here (user_row t.users row.owner) h.present
   where
     row : NodeRow
     row = get_or t.nodes k d
@@ -143,16 +144,20 @@ nodes_present t sound k d within = here (user_row t.users row.owner) refl h.pres
     h : IsNodeSound t row
     h = sound.nodes k d within
 
-    passes : UserRow → Bool
-    passes user = is_under t.nodes row.id user.root
+    here : (o : Option UserRow) → climb t.nodes h.steps row.id ≡ Some (option_map_or (λ user. user.root) o 0) → IsSome o
+    here None is = absurd (omega (arith, climb_ends h.steps t row.id 0 sound h.some is))
+    here (Some user) is = refl
 
-    here : (o : Option UserRow) → user_row t.users row.owner ≡ o → climb t.nodes h.steps row.id ≡ Some (option_map_or (λ user. user.root) o 0)
-        → is_present t.users t.nodes row.id ≡ true
-    here None e is = absurd (omega (arith, climb_ends h.steps t row.id 0 sound h.some is))
-    here (Some user) e is =
-        (found_is (λ user. passes user ≡ true → list_any passes t.users ≡ true) (λ user. user.id == row.owner) t.users user
-        (λ k d within is. list_any_at passes t.users k d within is) e).1
-        (climb_under h.steps t.nodes row.id user.root h.shallow is)
+pub nodes_present : NodesArePresent
+nodes_present t sound k d within =
+    let row : NodeRow = get_or t.nodes k d in
+    let h : IsNodeSound t row = sound.nodes k d within in
+    let user = some_there (user_row t.users row.owner) (owners_there t sound k d within) in
+    let passes : UserRow → Bool = λ user. is_under t.nodes row.id user.root in
+    (found_is (λ user. passes user ≡ true → list_any passes t.users ≡ true) (λ user. user.id == row.owner) t.users user.0
+    (λ k d within is. list_any_at passes t.users k d within is) user.1).1
+    (climb_under h.steps t.nodes row.id user.0.root h.shallow
+    (h.present ∙ ap (λ (o : Option UserRow). Some (option_map_or (λ user. user.root) o 0)) user.1))
 
 -- ---- names
 

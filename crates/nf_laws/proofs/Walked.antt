@@ -82,18 +82,19 @@ distinct_flat f (x ∷ xs) each apart =
     let r = Contains-from_flat f xs n later in
     All-contains (λ (y : ℕ). AreDisjoint (f x) (f y)) xs r.0 (λ k d within. apart 0 (suc k) d (omega arith) (omega arith)) r.1 n has r.2)
 
-distinct_map : (f : NodeRow → ℕ) (rows : List NodeRow) → AllPairs (λ (a b : NodeRow). f a ≢ f b) rows → AreDistinct (map f rows)
-distinct_map f [] apart = λ i j d before within. absurd (omega arith)
-distinct_map f (x ∷ rows) apart =
-    AllPairs-cons (λ (a b : ℕ). a ≢ b) (f x) (map f rows)
-    (All-map (λ (b : ℕ). f x ≢ b) f rows (λ k d within. apart 0 (suc k) d (omega arith) (omega arith)))
-    (distinct_map f rows (λ i j d before within. apart (suc i) (suc j) d (omega arith) (omega arith)))
+-- what each two rows have of each other by a value of theirs, each two of these values have
+pub pairs_map : (R : ℕ → ℕ → Type 0) (f : NodeRow → ℕ) (rows : List NodeRow) → AllPairs (λ (a b : NodeRow). R (f a) (f b)) rows
+    → AllPairs R (map f rows)
+pairs_map R f [] pairs = λ i j d before within. absurd (omega arith)
+pairs_map R f (x ∷ rows) pairs =
+    AllPairs-cons R (f x) (map f rows) (All-map (R (f x)) f rows (λ k d within. pairs 0 (suc k) d (omega arith) (omega arith)))
+    (pairs_map R f rows (λ i j d before within. pairs (suc i) (suc j) d (omega arith) (omega arith)))
 
-children_distinct : (t : Tables) (folder : ℕ) → AreSound t → AreDistinct (children_of t.nodes folder)
+pub children_distinct : (t : Tables) (folder : ℕ) → AreSound t → AreDistinct (children_of t.nodes folder)
 children_distinct t folder sound =
     let inside = filter (is_in folder) t.nodes in
     let rising = AllPairs-filter (λ (a b : NodeRow). a.id < b.id) (is_in folder) t.nodes sound.rising in
-    distinct_map (λ (row : NodeRow). row.id) (by_name inside)
+    pairs_map (λ (a b : ℕ). a ≢ b) (λ (row : NodeRow). row.id) (by_name inside)
     (AllPairs-by_name (λ (a b : NodeRow). a.id ≢ b.id) (λ a b differ same. differ (sym same)) inside
     (λ i j d before within same. let less = rising i j d before within in omega arith))
 
@@ -149,7 +150,7 @@ distinct_walk (suc k) t node sound =
     (above t node sound i d (omega arith)) (above t node sound j d within)
     (children_distinct t node sound i j d before within) first.2 second.2))
 
-walk_distinct : (t : Tables) (top : ℕ) → AreSound t → AreDistinct (walk_of t.nodes top)
+pub walk_distinct : (t : Tables) (top : ℕ) → AreSound t → AreDistinct (walk_of t.nodes top)
 unfolding walk_of
 walk_distinct t top sound = distinct_walk 64 t top sound
 

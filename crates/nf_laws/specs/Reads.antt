@@ -4,7 +4,7 @@ use Rattle.nf_base.specs.declared.content.Piece.{Piece}
 use Rattle.nf_base.specs.declared.rows.NodeRow.{NodeRow}
 use Rattle.nf_defs.specs.Prelude.{Leads, node_row, unshared}
 use Rattle.nf_defs.specs.declared.Seeker.{Seeker}
-use Rattle.nf_words.specs.Prelude.{after, answer_to, blob_for, call_of, content_in, forbidden_rule, IsLegalFrom, IsSound, MayCome, not_you_rule, Pass, replay, root_of, State, ticket_for, ticket_of, token_rule}
+use Rattle.nf_words.specs.Prelude.{after, answer_to, blob_for, Call, call_of, content_in, forbidden_rule, IsLegalFrom, IsSound, MayCome, not_you_rule, Pass, replay, root_of, State, ticket_for, ticket_of, token_rule}
 use Rattle.nf_words.specs.declared.answer.Goal.TheVariants.{Serve, Store}
 use Rattle.nf_words.specs.declared.answer.LockKey.{LockKey}
 use Rattle.nf_words.specs.declared.answer.LockKey.TheVariants.{Node, Slot}
@@ -44,13 +44,17 @@ abbrev pub PathStays : List NodeRow → List NodeRow → ℕ → List (List ℕ)
 PathStays before after root path =
     (k node : ℕ) → k ≤ length path → Leads before root (take k path) node → node_row after node ≡ node_row before node
 
+-- no rule of who asks or of names refuses the call
+abbrev pub IsWellAsked : Call → Type 0
+IsWellAsked call = Pass (token_rule ∷ not_you_rule ∷ forbidden_rule ∷ []) unshared call
+
 -- a GET of a path by whose root it is, which no rule of who asks or of names refuses
 pub record IsReadBy (s : State) (seat now : ℕ) (words : Words) (request : Request) (root : ℕ) (path : List (List ℕ)) : Type 0 where
   pub spot : Spot
   pub wanted : request.wanted ≡ Get spot
   pub of_path : spot.path ≡ path
   pub from : root_of (call_of s seat now words request) ≡ root
-  pub asked : Pass (token_rule ∷ not_you_rule ∷ forbidden_rule ∷ []) unshared (call_of s seat now words request)
+  pub asked : IsWellAsked (call_of s seat now words request)
 
 -- what a PUT stored is what a later GET of the path is granted, while the nodes of its path stay as they are
 abbrev pub StoredIsRead : Type 0

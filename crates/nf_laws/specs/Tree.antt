@@ -1,9 +1,14 @@
 -- What the words about the tree of nodes mean.
-use Rattle.std.specs.Prelude.{◌≡◌, ◌≢◌, ◌↔◌, ℕ, ◌≤◌, All, AllPairs, Contains, true, false, List, Some, is_some}
+use Rattle.std.specs.Prelude.{◌≡◌, ◌≢◌, ◌↔◌, ℕ, ◌≤◌, All, AllPairs, Contains, true, false, List, [], Some, is_some, sum_by}
+use Rattle.std.specs.Cmp.Lexicographic.{slice_cmp}
+use Rattle.std.specs.Option.{option_map_or}
+use Rattle.std.specs.Ordering.{nat_cmp}
+use Rattle.std.specs.declared.cmp.Ordering.TheVariants.{Less}
 use Rattle.nf_base.specs.FreeNames.{is_taken}
 use Rattle.nf_base.specs.declared.rows.NodeRow.{NodeRow}
-use Rattle.nf_defs.specs.Prelude.{child_of, climb, depth, is_present, is_under, parent_of, Tables, taken_names, walk_of}
-use Rattle.nf_words.specs.Sound.{AreSound, root_of_user}
+use Rattle.nf_defs.specs.Prelude.{child_of, children_of, climb, depth, is_present, is_rooted, is_under, node_row, parent_of, Tables, taken_names, walk_of}
+use Rattle.nf_words.specs.Listing.{size_of}
+use Rattle.nf_words.specs.Prelude.{AreSound, bytes_of, root_of_user}
 
 -- a node under a top: the top itself, or a node inside one under it
 pub data Under (rows : List NodeRow) (top : ℕ) : ℕ → Type 0 where
@@ -19,6 +24,11 @@ UnderIsDerived =
 -- every node is under a user's root
 abbrev pub NodesArePresent : Type 0
 NodesArePresent = (t : Tables) → AreSound t → All (λ (row : NodeRow). is_present t.users t.nodes row.id ≡ true) t.nodes
+
+-- a node is present exactly where it is there; and it is then a root or under one, so all words for it are one
+pub record PresentIsThere : Type 0 where
+  pub there : (t : Tables) (node : ℕ) → AreSound t → is_present t.users t.nodes node ≡ is_some (node_row t.nodes node)
+  pub rooted : (t : Tables) (node : ℕ) → AreSound t → is_rooted t.nodes node ≡ is_present t.users t.nodes node
 
 -- a folder has a child of a name exactly where the name is among its taken ones
 abbrev pub NamesAreTaken : Type 0
@@ -40,3 +50,19 @@ NoRings = (t : Tables) (node parent : ℕ) → AreSound t → parent_of t.nodes 
 pub record WalksTakeAllUnder : Type 0 where
   pub those : (t : Tables) (top node : ℕ) → AreSound t → Contains (walk_of t.nodes top) node ↔ Under t.nodes top node
   pub once : (t : Tables) (top : ℕ) → AreSound t → AllPairs (λ (a b : ℕ). a ≢ b) (walk_of t.nodes top)
+
+-- the name of a node
+abbrev pub name_of : List NodeRow → ℕ → List ℕ
+name_of rows node = option_map_or (λ row. row.name) (node_row rows node) []
+
+-- a folder's children are just the nodes in it, in the order of their names, and so each once
+pub record ChildrenAreByName : Type 0 where
+  pub those : (t : Tables) (folder node : ℕ) → AreSound t → Contains (children_of t.nodes folder) node ↔ (parent_of t.nodes node ≡ Some folder)
+  pub sorted : (t : Tables) (folder : ℕ) → AreSound t
+      → AllPairs (λ (a b : ℕ). slice_cmp nat_cmp (name_of t.nodes a) (name_of t.nodes b) ≡ Less) (children_of t.nodes folder)
+  pub once : (t : Tables) (folder : ℕ) → AreSound t → AllPairs (λ (a b : ℕ). a ≢ b) (children_of t.nodes folder)
+
+-- the size of a node is the sum of the bytes of all that is under it: 1,048,576 pieces of 16,777,216 bytes are within what can be told
+abbrev pub SizesAreSums : Type 0
+SizesAreSums =
+    (t : Tables) (node : ℕ) → AreSound t → size_of t.nodes node ≡ sum_by (bytes_of t.nodes) (walk_of t.nodes node)

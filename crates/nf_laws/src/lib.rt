@@ -1,6 +1,7 @@
 //! Laws of the site's states and histories. The functions do nothing: each stands for the fact that it ensures.
 #![tactic(auto)]
 
+mod acts;
 mod history;
 mod owners;
 mod reads;
@@ -10,14 +11,15 @@ mod tree;
 mod walks;
 mod wholes;
 
+pub use acts::{cut_bodies_keep, deletes_keep, folders_are_made, puts_keep};
 pub use history::{counters_rise, numbers_are_new, stays_sound};
-pub use owners::{changes_only_own, lists_only_own, serves_only_own};
+pub use owners::{changes_only_own, lists_only_own, own_is_listed, own_is_served, serves_only_own};
 pub use reads::stored_is_read;
 pub use tells::changes_tell;
 pub use transfers::{copies_mirror, moves_keep};
 pub use tree::{
-    depth_is_climbed, names_are_taken, no_rings, nodes_are_present, under_is_derived,
-    walks_take_all_under,
+    children_are_by_name, depth_is_climbed, names_are_taken, no_rings, nodes_are_present,
+    present_is_there, sizes_are_sums, under_is_derived, walks_take_all_under,
 };
 pub use walks::walk_follows;
 pub use wholes::{blobs_are_new, opens_whole, stays_whole};

@@ -1,6 +1,6 @@
 //! Laws of the tree of nodes.
 
-ghost use Rattle.nf_laws.specs.Tree.{UnderIsDerived, NodesArePresent, NamesAreTaken, DepthIsClimbed, NoRings, WalksTakeAllUnder};
+ghost use Rattle.nf_laws.specs.Tree.{UnderIsDerived, NodesArePresent, PresentIsThere, NamesAreTaken, DepthIsClimbed, NoRings, ChildrenAreByName, WalksTakeAllUnder, SizesAreSums};
 
 /// A node is under a top where folders lead up to it, however many.
 #[tactic(auto, using(crate::proofs::Upwards::under_derived))]
@@ -12,6 +12,12 @@ pub fn under_is_derived()
 #[tactic(auto, using(crate::proofs::Upwards::nodes_present))]
 pub fn nodes_are_present()
     ensures { NodesArePresent }
+{}
+
+/// A node is under a user's root, and so under a root, exactly where it is there.
+#[tactic(auto, using(crate::proofs::Presence::present_there))]
+pub fn present_is_there()
+    ensures { PresentIsThere }
 {}
 
 /// A folder's taken names are those by which it has a child.
@@ -31,8 +37,20 @@ pub fn no_rings()
     ensures { NoRings }
 {}
 
+/// A folder's children are the nodes in it, by name, each once.
+#[tactic(auto, using(crate::proofs::Children::children_by_name))]
+pub fn children_are_by_name()
+    ensures { ChildrenAreByName }
+{}
+
 /// A walk from a top has just the nodes under it, each once: they are what a DELETE drops, and what a COPY copies.
 #[tactic(auto, using(crate::proofs::Walked::walks_take))]
 pub fn walks_take_all_under()
     ensures { WalksTakeAllUnder }
+{}
+
+/// A folder's size is the sum of the bytes of all files under it, however large the site.
+#[tactic(auto, using(crate::proofs::Sizes::sizes_sum))]
+pub fn sizes_are_sums()
+    ensures { SizesAreSums }
 {}

@@ -1,14 +1,14 @@
 -- The order of the keys is total, and keys that tie are equal.
-use Rattle.std.proofs.Common.{ℕ, ◌≡◌, Bool, true, false, List, Option, Some, None, refl, sym, ap, ◌∙◌, nat_cmp, Less, Equal, Greater}
+use Rattle.std.proofs.Common.{ℕ, ◌≡◌, false, List, Option, Some, None, refl, ap, ◌∙◌, nat_cmp, Less, Equal, Greater}
 use Rattle.std.specs.Cmp.{IsTotalOrder, IsStrictWeakOrder}
 use Rattle.std.specs.Cmp.Lexicographic.{slice_cmp, options_total}
 use Rattle.std.specs.declared.cmp.Ordering.{Ordering}
 use Rattle.std.specs.Option.{option_cmp}
 use Rattle.std.specs.Ordering.{ordering_then, ordering_reverse, is_lt, is_gt}
-use Rattle.std.proofs.lemmas.Cmp.{then_total, on_total, nat_list_cmp_total, nat_cmp_total, ranked}
-use Rattle.std.proofs.lemmas.Bool.{both_ways, false_from_ne_true, true_from_ne_false}
+use Rattle.std.proofs.lemmas.Cmp.{then_total, on_total, nat_list_cmp_total, nat_cmp_total}
 use Rattle.std.proofs.lemmas.List.Sorted.{ranks_by}
 use Rattle.nf_base.proofs.Naming.{slice_cmp-Equal}
+use Rattle.nf_defs.proofs.Sorted.{nat_tie, then_equal}
 use Rattle.nf_tree.specs.Order.{Key, key_cmp, key_lt}
 
 pub key_total : IsTotalOrder key_cmp
@@ -20,28 +20,7 @@ pub weak : IsStrictWeakOrder key_lt
 unfolding key_lt
 weak = ranks_by key_total (λ key. key)
 
--- ---- what follows of such a test
-
-module _ {X : Type 0} {lt : X → X → Bool} (order : IsStrictWeakOrder lt) where
-  pub lt_itself : (a : X) → lt a a ≡ false
-  lt_itself a = false_from_ne_true (lt a a) (λ less. both_ways (lt a a) (order.one_way a a less) less)
-
-  -- a < b and not c < b give a < c
-  lt_upto : (a b c : X) → lt a b ≡ true → lt c b ≡ false → lt a c ≡ true
-  lt_upto a b c less upto = true_from_ne_false (lt a c) (λ high. both_ways (lt a b) (order.chain a c b high upto) less)
-
-  pub lt_trans : (a b c : X) → lt a b ≡ true → lt b c ≡ true → lt a c ≡ true
-  lt_trans a b c less more = lt_upto a b c less (order.one_way b c more)
-
 -- ---- ties
-
-pub then_equal : (o p : Ordering) → ordering_then o p ≡ Equal → (o ≡ Equal) × (p ≡ Equal)
-then_equal Less p h = absurd (cc)
-then_equal Equal p h = (refl, h)
-then_equal Greater p h = absurd (cc)
-
-pub nat_tie : (x y : ℕ) → nat_cmp x y ≡ Equal → x ≡ y
-nat_tie x y h = ranked x y Equal (sym h)
 
 pub option_tie : (x y : Option ℕ) → option_cmp nat_cmp x y ≡ Equal → x ≡ y
 option_tie None None h = refl
