@@ -1,24 +1,16 @@
 //! Runs the cases of a folder through the server's top call, and by two seats of a hub, and tells which of them differ.
 #![tactic(auto)]
 
-mod case;
 mod folder;
-mod judging;
-mod reading;
 mod running;
 mod seats;
-mod showing;
-mod tally;
-mod texts;
 
-use judging::judge;
-use reading::case_of;
+use case_files::{Judged, Run, Tally, case_of, judge};
 use running::{Keepers, serve};
 use std::process::ExitCode;
 use std::sync::Wait;
 use std::thread::Threads;
 use std::{env, fs, io};
-use tally::{Judged, Tally};
 
 /// Where the cases lie if no argument names another folder: where the program is run.
 const HERE: &str = ".";
@@ -60,7 +52,7 @@ fn folder_named(rt: &HostRuntime) -> io::Result<String> {
     }
 }
 
-// Makes the runs of one case, each over what the one before it left, and prints a line for each that differs.
+// Makes the runs of one case, each over what the one before it left.
 fn check_case<W: Threads + Wait + Sync>(
     rt: &HostRuntime,
     turns: &W,
@@ -78,13 +70,27 @@ fn check_case<W: Threads + Wait + Sync>(
     };
     let mut keepers = Keepers::new(rt.alloc(), &case.failing)?;
     for (index, run) in case.runs.iter().enumerate() {
-        let served = serve(turns, rt.alloc(), run, keepers)?;
-        let line = judge(rt.alloc(), run, &served.whole, &served.cut, &served.seats)?;
-        judged.push(Judged::of(&line))?;
-        if let Some(line) = line {
-            println!(rt; "{name}: run {}, {line}", index + 1)?;
-        }
-        keepers = served.keepers;
+        let (made, left) = check_run(rt, turns, name, index + 1, run, keepers)?;
+        judged.push(made)?;
+        keepers = left;
     }
     Ok(())
+}
+
+// Makes a run, and prints a line if it differs.
+fn check_run<W: Threads + Wait + Sync>(
+    rt: &HostRuntime,
+    turns: &W,
+    name: &str,
+    number: usize,
+    run: &Run,
+    keepers: Keepers,
+) -> io::Result<(Judged, Keepers)> {
+    let served = serve(turns, rt.alloc(), run, keepers)?;
+    let line = judge(rt.alloc(), run, &served.whole, &served.cut, &served.seats)?;
+    let judged = Judged::of(&line);
+    if let Some(line) = line {
+        println!(rt; "{name}: run {number}, {line}")?;
+    }
+    Ok((judged, served.keepers))
 }

@@ -1,7 +1,7 @@
 //! A run of a case, with all that it depends on in memory.
 
-use crate::case::{Damage, Run};
 use crate::seats::serve_by_seats;
+use case_files::{Damage, Outcome, Run};
 use filesd::{Finished, run};
 use nf_base::BlobId;
 use nf_keeper::MemKeeper;
@@ -13,14 +13,6 @@ use std::thread::Threads;
 
 /// How many messages a session answers at most.
 const MOST_MESSAGES: usize = 10_000;
-
-/// What a run gave.
-#[derive(Drop)]
-pub struct Outcome {
-    pub output: Vec<u8>,
-    /// The exit status.
-    pub status: u8,
-}
 
 /// What a case's next run is over: what the runs before it left, where all input was read whole, where it was read byte by byte, and
 /// where two seats took turns.
@@ -59,8 +51,8 @@ pub fn serve<R: Threads + Wait + Sync>(
     keepers: Keepers,
 ) -> Result<Served, AllocError> {
     let Keepers { whole, cut, seats } = keepers;
-    let (whole, whole_left) = serve_in_pieces(rt, alloc, run, whole, Vec::new(alloc))?;
-    let (cut, cut_left) = serve_in_pieces(rt, alloc, run, cut, vec![in alloc; 1]?)?;
+    let (whole, whole_left) = serve_in_pieces(rt, alloc, run, whole, &[])?;
+    let (cut, cut_left) = serve_in_pieces(rt, alloc, run, cut, &[1])?;
     let (seats, seats_left) = serve_in_turn(rt, alloc, run, seats)?;
     Ok(Served {
         whole,
@@ -85,7 +77,7 @@ fn serve_in_turn<R: Threads + Wait + Sync>(
         put_damage(&mut keeper, &case.damage)?;
         return serve_by_seats(rt, alloc, case, keeper);
     }
-    let (outcome, keeper) = serve_in_pieces(rt, alloc, case, keeper, Vec::new(alloc))?;
+    let (outcome, keeper) = serve_in_pieces(rt, alloc, case, keeper, &[])?;
     Ok((outcome.output, keeper))
 }
 
@@ -94,33 +86,57 @@ fn serve_in_pieces<R: Threads + Wait + Sync>(
     alloc: Global,
     case: &Run,
     mut keeper: MemKeeper,
-    pieces: Vec<usize>,
+    pieces: &[usize],
 ) -> Result<(Outcome, MemKeeper), AllocError> {
     put_damage(&mut keeper, &case.damage)?;
-    let output_pieces = pieces.as_slice().to_vec(alloc)?;
-    let mut input = MemSource::new(input_of(alloc, case)?, pieces, Vec::new(alloc));
-    let mut output = MemSink::in_pieces(alloc, output_pieces, Vec::new(alloc));
-    let mut clock = ListClock::new(case.clock.as_slice().to_vec(alloc)?);
+    let mut ends = ends_of(alloc, case, pieces)?;
+    let finished = run_between(rt, alloc, case, keeper, &mut ends);
+    let outcome = Outcome {
+        output: ends.output.bytes().to_vec(alloc)?,
+        status: finished.status.code(),
+    };
+    Ok((outcome, finished.keeper))
+}
+
+/// What a run is lent beside its keeper.
+#[derive(Drop)]
+struct RunEnds {
+    input: MemSource,
+    output: MemSink,
+    clock: ListClock,
+}
+
+// Whole, where there are no pieces.
+fn ends_of(alloc: Global, case: &Run, pieces: &[usize]) -> Result<RunEnds, AllocError> {
+    let input = input_of(alloc, case)?;
+    let input = MemSource::new(input, pieces.to_vec(alloc)?, Vec::new(alloc));
+    let output = MemSink::in_pieces(alloc, pieces.to_vec(alloc)?, Vec::new(alloc));
+    let clock = ListClock::new(case.clock.as_slice().to_vec(alloc)?);
+    Ok(RunEnds {
+        input,
+        output,
+        clock,
+    })
+}
+
+fn run_between<R: Threads + Wait + Sync>(
+    rt: &R,
+    alloc: Global,
+    case: &Run,
+    keeper: MemKeeper,
+    ends: &mut RunEnds,
+) -> Finished<MemKeeper> {
     let mut nobody: [Worker<MemDoor<MemSource, MemSink>, ListClock>; 0] = [];
-    let Finished {
-        status,
-        keeper,
-        site: _site,
-    } = run(
+    run(
         rt,
         alloc,
         &case.words,
-        &mut input,
-        &mut output,
+        &mut ends.input,
+        &mut ends.output,
         keeper,
-        &mut clock,
+        &mut ends.clock,
         &mut nobody,
-    );
-    let outcome = Outcome {
-        output: output.bytes().to_vec(alloc)?,
-        status: status.code(),
-    };
-    Ok((outcome, keeper))
+    )
 }
 
 fn is_batch(words: &[String]) -> bool {

@@ -4,7 +4,7 @@ ghost use Rattle.std.specs.Prelude.{◌≡◌, IfOk, None};
 ghost use Rattle.nf_hub.specs.Seats.{IsSeat, book};
 ghost use Rattle.nf_session.specs.Book.{held};
 
-use crate::case::Run;
+use case_files::Run;
 use filesd::demonstration;
 use nf_desk::{Opening, Unopened};
 use nf_hub::{Hub, Seat};

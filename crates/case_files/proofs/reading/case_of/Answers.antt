@@ -1,7 +1,7 @@
 -- As many runs were read as the file lists.
 use Rattle.std.proofs.Common.{◌∙◌, sym}
-use Rattle.cases.proofs.Listed.{count_of-items_view}
-use Rattle.cases.proofs.reading.case_of.Goals as goal
+use Rattle.case_files.proofs.Listed.{count_of-items_view}
+use Rattle.case_files.proofs.reading.case_of.Goals as goal
 
 pub returns : goal.returns
 returns c = record {

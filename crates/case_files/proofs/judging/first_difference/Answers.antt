@@ -1,7 +1,7 @@
 -- The next answer was written, or not.
 use Rattle.std.proofs.Common.{◌∙◌, ◌++◌, ap, sym}
-use Rattle.cases.proofs.Answers.{matches, differs}
-use Rattle.cases.proofs.judging.first_difference.Goals as goal
+use Rattle.case_files.proofs.Answers.{matches, differs}
+use Rattle.case_files.proofs.judging.first_difference.Goals as goal
 
 pub returns-in-None-clause-none : goal.returns-in-None-clause-none
 returns-in-None-clause-none c = (

@@ -2,7 +2,7 @@
 
 ghost use Rattle.std.specs.Prelude.{◌≡◌, ◌≤◌, Any, IfOk, Err};
 ghost use Rattle.std.specs.Str.{chars};
-ghost use Rattle.cases.specs.declared.case.Unread.TheVariants.{NotBytes};
+ghost use Rattle.case_files.specs.declared.case.Unread.TheVariants.{NotBytes};
 
 use crate::case::Unread;
 use std::alloc::{AllocError, Global};

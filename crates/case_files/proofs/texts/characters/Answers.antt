@@ -1,7 +1,7 @@
 -- What was collected are the text's characters.
 use Rattle.std.proofs.Common.{rules}
 use Rattle.std.proofs.lemmas.Str.{chars_from_encodes}
-use Rattle.cases.proofs.texts.characters.Goals as goal
+use Rattle.case_files.proofs.texts.characters.Goals as goal
 
 pub returns : goal.returns
 returns c = search (rules, chars_from_encodes)

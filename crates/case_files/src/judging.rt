@@ -1,10 +1,9 @@
 //! Whether a run gave what its case wants.
 
 ghost use Rattle.std.specs.Prelude.{◌≡◌, ◌≢◌, ◌↔◌, ◌++◌, ℕ, List, IsNone, IfSome, IfOk, MatchOption};
-ghost use Rattle.cases.specs.Answers.{answers, IsFirstDifference, IsAsWanted};
+ghost use Rattle.case_files.specs.Answers.{answers, IsFirstDifference, IsAsWanted};
 
-use crate::case::{Exchange, Run};
-use crate::running::Outcome;
+use crate::case::{Exchange, Outcome, Run};
 use crate::showing::{line_of_answer, line_of_status};
 use std::alloc::{AllocError, Global};
 

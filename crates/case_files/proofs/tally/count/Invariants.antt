@@ -1,7 +1,7 @@
 -- The count so far is that of the runs so far, and no greater than their number.
 use Rattle.std.proofs.Common.{◌≡◌, ◌≤◌, count_by, take}
-use Rattle.cases.specs.Counts.{is}
-use Rattle.cases.proofs.tally.count.Given as goal
+use Rattle.case_files.specs.Counts.{is}
+use Rattle.case_files.proofs.tally.count.Given as goal
 
 abbrev pub invariant-loop-one : goal.invariant-loop-one
 invariant-loop-one l =

@@ -1,8 +1,8 @@
 -- What a run must write, and where what it wrote first differs.
 use Rattle.std.specs.Prelude.{◌≡◌, ◌≢◌, ℕ, List, [], ◌∷◌, ◌++◌, take, drop}
-use Rattle.cases.specs.declared.case.Exchange.{Exchange}
-use Rattle.cases.specs.declared.case.Run.{Run}
-use Rattle.cases.specs.declared.running.Outcome.{Outcome}
+use Rattle.case_files.specs.declared.case.Exchange.{Exchange}
+use Rattle.case_files.specs.declared.case.Run.{Run}
+use Rattle.case_files.specs.declared.case.Outcome.{Outcome}
 
 -- the answers one after the other
 abbrev pub answers : List Exchange → List ℕ

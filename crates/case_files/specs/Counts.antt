@@ -1,7 +1,7 @@
 -- How many runs came to what.
 use Rattle.std.specs.Prelude.{Bool, true, false}
-use Rattle.cases.specs.declared.tally.Judged.{Judged}
-use Rattle.cases.specs.declared.tally.Judged.TheVariants.{Passed, Differs, NotRun}
+use Rattle.case_files.specs.declared.tally.Judged.{Judged}
+use Rattle.case_files.specs.declared.tally.Judged.TheVariants.{Passed, Differs, NotRun}
 
 -- whether a run came to that
 abbrev pub is : Judged → Judged → Bool

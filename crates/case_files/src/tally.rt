@@ -1,8 +1,8 @@
 //! How many runs passed.
 
 ghost use Rattle.std.specs.Prelude.{◌≡◌, ◌↔◌, is_none, if◌then◌else◌, count_by};
-ghost use Rattle.cases.specs.declared.tally.Judged.TheVariants.{Passed, Differs, NotRun};
-ghost use Rattle.cases.specs.Counts.{is};
+ghost use Rattle.case_files.specs.declared.tally.Judged.TheVariants.{Passed, Differs, NotRun};
+ghost use Rattle.case_files.specs.Counts.{is};
 
 /// What became of a run.
 #[derive(Clone, Copy, PartialEq, Eq)]

@@ -3,8 +3,8 @@ use Rattle.std.proofs.Common.{◌≡◌, ◌≢◌, ◌∙◌, ◌++◌, ◌+◌
 use Rattle.std.proofs.lemmas.List.{append_cancel_left, take-append-drop}
 use Rattle.std.proofs.Math.ListN.{get_or}
 use Rattle.std.proofs.Math.Seq.{take-suc}
-use Rattle.cases.specs.declared.case.Exchange.{Exchange}
-use Rattle.cases.specs.Answers.{answers}
+use Rattle.case_files.specs.declared.case.Exchange.{Exchange}
+use Rattle.case_files.specs.Answers.{answers}
 
 answers-append : (xs ys : List Exchange) → answers (xs ++ ys) ≡ answers xs ++ answers ys
 answers-append [] ys = refl

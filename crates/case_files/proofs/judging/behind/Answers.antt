@@ -1,7 +1,7 @@
 -- A front is compared with as many bytes, one by one.
 use Rattle.std.proofs.lemmas.Bool.Decides.{Decides-eqb}
 use Rattle.std.proofs.lemmas.Slice.Eq.{strip_prefix_is}
-use Rattle.cases.proofs.judging.behind.Goals as goal
+use Rattle.case_files.proofs.judging.behind.Goals as goal
 
 pub returns : goal.returns
 returns c = strip_prefix_is Decides-eqb c.args.bytes.now c.args.front.now c.strip_prefix.result c.strip_prefix.ensures.cases

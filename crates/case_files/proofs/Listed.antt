@@ -2,7 +2,7 @@
 use Rattle.std.proofs.Common.{◌≡◌, List, [], ◌∷◌, length, suc, refl, ap}
 use Rattle.serde_json.specs.View.{items_view}
 use Rattle.serde_json.specs.declared.value.Value.{Value}
-use Rattle.cases.specs.Listed.{count_of}
+use Rattle.case_files.specs.Listed.{count_of}
 
 pub count_of-items_view : (values : List Value) → count_of (items_view values) ≡ length values
 count_of-items_view [] = refl

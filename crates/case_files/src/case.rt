@@ -71,7 +71,7 @@ impl Unread {
 
 impl From<AllocError> for Unread {
     ghost use Rattle.std.specs.Prelude.{◌≡◌};
-    ghost use Rattle.cases.specs.declared.case.Unread.TheVariants.{Memory};
+    ghost use Rattle.case_files.specs.declared.case.Unread.TheVariants.{Memory};
 
     ghost from_gives = { λ _ unread. unread ≡ Memory };
 
@@ -82,11 +82,19 @@ impl From<AllocError> for Unread {
 
 impl<T: Drop> From<AllocFailed<T>> for Unread {
     ghost use Rattle.std.specs.Prelude.{◌≡◌};
-    ghost use Rattle.cases.specs.declared.case.Unread.TheVariants.{Memory};
+    ghost use Rattle.case_files.specs.declared.case.Unread.TheVariants.{Memory};
 
     ghost from_gives = { λ _ unread. unread ≡ Memory };
 
     fn from(_: AllocFailed<T>) -> Self {
         Unread::Memory
     }
+}
+
+/// What a run gave.
+#[derive(Drop)]
+pub struct Outcome {
+    pub output: Vec<u8>,
+    /// The exit status.
+    pub status: u8,
 }

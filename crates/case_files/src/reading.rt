@@ -3,7 +3,7 @@
 ghost use Rattle.std.specs.Prelude.{◌≡◌, Some, length, IfOk};
 ghost use Rattle.serde_json.specs.Find.{get};
 ghost use Rattle.serde_json.specs.View.{items_view, view};
-ghost use Rattle.cases.specs.Listed.{ListsRuns, listed};
+ghost use Rattle.case_files.specs.Listed.{ListsRuns, listed};
 
 use crate::case::{Case, Damage, Exchange, Run, Unread};
 use crate::texts::bytes_of;
