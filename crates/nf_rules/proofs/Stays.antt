@@ -10,6 +10,7 @@ use Rattle.std.proofs.lemmas.Option.{option_and_then_some, same_Some}
 use Rattle.nf_base.specs.declared.rows.MetaRow.{MetaRow}
 use Rattle.nf_base.specs.declared.rows.NodeRow.{NodeRow}
 use Rattle.nf_base.specs.declared.rows.UserRow.{UserRow}
+use Rattle.nf_defs.proofs.Loads.{rises}
 use Rattle.nf_defs.specs.Prelude.{climb, folder_of, IsRising, key_cmp, node_key, node_row, parent_of, Tables, user_row}
 use Rattle.nf_laws.proofs.Climbs.{node_row_each}
 use Rattle.nf_laws.proofs.Counters.{after_up}
@@ -70,19 +71,8 @@ others_ruled t meta nodes h sound up =
     let made = with_nodes t meta nodes in
     record {
       sound = sound;
-      rising = record {
-        users = h.rising.users;
-        tokens = h.rising.tokens;
-        groups = h.rising.groups;
-        members = h.rising.members;
-        nodes = nodes_rise nodes sound.rising;
-        shares = h.rising.shares;
-        mounts = h.rising.mounts;
-        versions = h.rising.versions;
-        items = h.rising.items;
-        uploads = h.rising.uploads;
-        chunks = h.rising.chunks;
-      };
+      rising = rises made h.rising.users h.rising.tokens h.rising.groups h.rising.members (nodes_rise nodes sound.rising)
+          h.rising.shares h.rising.mounts h.rising.versions h.rising.items h.rising.uploads h.rising.chunks;
       owners = owners_there made sound;
       users = All-weaker (IsUserRuled t) (IsUserRuled made)
           (λ row own. record {

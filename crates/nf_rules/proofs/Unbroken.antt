@@ -24,6 +24,7 @@ use Rattle.nf_base.specs.declared.rows.NodeRow.{NodeRow}
 use Rattle.nf_base.specs.declared.rows.Place.{Place}
 use Rattle.nf_base.specs.declared.rows.Place.TheVariants.{Root, Inside, Trash}
 use Rattle.nf_base.specs.declared.rows.UserRow.{UserRow}
+use Rattle.nf_defs.proofs.Tables.{tables_rise}
 use Rattle.nf_defs.specs.Prelude.{group_key, is_folder_kind, is_root_place, IsRising, key_cmp, node_key, node_row, numbers_of, piece_count, Tables, tables_of, user_key}
 use Rattle.nf_laws.proofs.Climbs.{node_row_each}
 use Rattle.nf_words.specs.Prelude.{AreCounters, AreSound, count_of, HasRoot, IsNodeSound}
@@ -32,7 +33,7 @@ use Rattle.nf_rules.specs.Keys.{child_key, name_key}
 use Rattle.nf_rules.specs.Laws.{UnbrokenAreRuled}
 use Rattle.nf_rules.specs.Ruled.{IsGiven}
 use Rattle.nf_rules.specs.Rules.{AreUnbroken, are_counters, are_numbers, has_ungiven_blob, is_beyond, is_given, is_later, is_lavish, is_placed, is_root_of, lacks_meta, leads, most_groups, most_members, most_quota, most_tokens, most_users, names_are_there, rules}
-use Rattle.nf_rules.proofs.Among.{all_have, meta_has, tables_rise}
+use Rattle.nf_rules.proofs.Among.{all_have, meta_has}
 use Rattle.nf_rules.proofs.Firsts.{keep_each}
 use Rattle.nf_rules.proofs.Leading.{climbs, place_of_leading}
 use Rattle.nf_rules.proofs.Shared.{AreUnshared, IsAmong, each_among, one_has}
