@@ -63,7 +63,7 @@ Contains-by_name (row ∷ rows) y h =
     (elim (Contains-cases row y rows h) [ inl same ↦ inl same | inr later ↦ inr (Contains-by_name rows y later) ])
 
 -- what all rows have, all have by name
-All-put : (P : NodeRow → Type 0) (row : NodeRow) (rows : List NodeRow) → P row → All P rows → All P (put_by_name row rows)
+pub All-put : (P : NodeRow → Type 0) (row : NodeRow) (rows : List NodeRow) → P row → All P rows → All P (put_by_name row rows)
 All-put P row [] one all = All-cons P row [] one all
 All-put P row (first ∷ rows) one all = here (comes_before first row) refl (All-put P row rows one (All-tail P first rows all))
   where
