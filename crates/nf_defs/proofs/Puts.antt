@@ -1,6 +1,6 @@
 -- A row put among rows by rising key.
 use Rattle.std.proofs.Common.{ℕ, zero, suc, ◌<◌, ◌≤◌, ◌≡◌, List, [], ◌∷◌, ◌++◌, length, get_or, set, refl, sym, ap, subst, ◌+◌, ◌∙◌, inl, inr, arith, length-append, not, bytes_eq, Bool, true, false, cond}
-use Rattle.std.specs.Cmp.{IsTotalOrder, nat_cmp_total, alike_right}
+use Rattle.std.specs.Cmp.{IsTotalOrder, nat_cmp_is, nat_cmp_total, alike_right}
 use Rattle.std.proofs.lemmas.Cmp.{ranked}
 use Rattle.std.proofs.lemmas.Bool.{cases_lt}
 use Rattle.std.proofs.Math.Seq.{get_or-append_seam}
@@ -165,6 +165,13 @@ then_Equal : (r : Ordering) → ordering_then r Equal ≡ r
 then_Equal Less = refl
 then_Equal Equal = refl
 then_Equal Greater = refl
+
+-- two numbers, as keys
+pub compared : (a b : ℕ) (o : Ordering) → MatchOrdering o (a < b) (a ≡ b) (b < a) → key_cmp (a ∷ []) (b ∷ []) ≡ o
+compared a b o is = then_Equal (nat_cmp a b) ∙ sym (nat_cmp_is a b o is)
+
+pub below_one : (a b : ℕ) → key_cmp (a ∷ []) (b ∷ []) ≡ Less → a < b
+below_one a b less = ranked a b Less (sym less ∙ then_Equal (nat_cmp a b))
 
 pub then_then : (a b c : Ordering) → ordering_then (ordering_then a b) c ≡ ordering_then a (ordering_then b c)
 then_then Less b c = refl

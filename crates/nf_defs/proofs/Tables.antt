@@ -5,7 +5,7 @@ use Rattle.nf_base.specs.declared.rows.Row.{Row}
 use Rattle.nf_base.specs.declared.rows.Row.TheVariants as rows
 use Rattle.nf_defs.specs.Prelude.{AreRising, chunk_key, group_key, IsRising, item_key, member_key, mount_key, no_rows, node_key, put, put_row, put_rows, rows_of, share_key, Tables, tables_of, token_key, upload_key, user_key, version_key}
 use Rattle.nf_defs.proofs.Puts.{put_next}
-use Rattle.nf_defs.proofs.Loads.{rising_more}
+use Rattle.nf_defs.proofs.Loads.{rises, rising_more}
 
 -- ---- the rows of one kind
 
@@ -84,16 +84,7 @@ none_rise key = λ i j d before within. absurd (omega arith)
 
 -- they rise
 pub tables_rise : (all : List Row) → AreRising (tables_of all)
-tables_rise all = puts_rise no_rows all (record {
-  users = none_rise user_key;
-  tokens = none_rise token_key;
-  groups = none_rise group_key;
-  members = none_rise member_key;
-  nodes = none_rise node_key;
-  shares = none_rise share_key;
-  mounts = none_rise mount_key;
-  versions = none_rise version_key;
-  items = none_rise item_key;
-  uploads = none_rise upload_key;
-  chunks = none_rise chunk_key;
-})
+tables_rise all =
+    puts_rise no_rows all (rises no_rows (none_rise user_key) (none_rise token_key) (none_rise group_key) (none_rise member_key)
+    (none_rise node_key) (none_rise share_key) (none_rise mount_key) (none_rise version_key) (none_rise item_key)
+    (none_rise upload_key) (none_rise chunk_key))

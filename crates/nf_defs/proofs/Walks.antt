@@ -31,13 +31,13 @@ found_among test (x ∷ rows) row is = here (test x) refl is (λ is. found_among
     here false e is rest = let r = rest (rw e at is) in (Contains-later x row rows r.0, r.1)
 
 -- where the numbers rise, each row is found by its own
-found_by_number : (rows : List NodeRow) → AreRising rows → All (λ (row : NodeRow). node_row rows row.id ≡ Some row) rows
-found_by_number [] rising k d within = absurd (omega arith)
-found_by_number (x ∷ rows) rising zero d within = rw (eq-eqb x.id x.id refl)
-found_by_number (x ∷ rows) rising (suc k) d within =
+pub node_row_each : (rows : List NodeRow) → AreRising rows → All (λ (row : NodeRow). node_row rows row.id ≡ Some row) rows
+node_row_each [] rising k d within = absurd (omega arith)
+node_row_each (x ∷ rows) rising zero d within = rw (eq-eqb x.id x.id refl)
+node_row_each (x ∷ rows) rising (suc k) d within =
     let below : x.id < (get_or rows k d).id = rising 0 (suc k) d (omega arith) within in
     rw (ne_eqb x.id (get_or rows k d).id (λ e. absurd (omega arith)))
-    (found_by_number rows (λ i j d before within. rising (suc i) (suc j) d (omega arith) (omega arith)) k d (omega arith))
+    (node_row_each rows (λ i j d before within. rising (suc i) (suc j) d (omega arith) (omega arith)) k d (omega arith))
 
 -- ---- the children of a folder
 
@@ -46,7 +46,7 @@ inside_of folder Root is = absurd (false≢true is)
 inside_of folder (Inside parent) is = ap Inside (eqb-true parent folder is)
 inside_of folder Trash is = absurd (false≢true is)
 
-is_of_inside : (folder : ℕ) (place : Place) → folder_of place ≡ Some folder → is_place_in folder place ≡ true
+pub is_of_inside : (folder : ℕ) (place : Place) → folder_of place ≡ Some folder → is_place_in folder place ≡ true
 is_of_inside folder Root is = absurd (none-some folder is)
 is_of_inside folder (Inside parent) is = eq-eqb parent folder (same_Some parent folder is)
 is_of_inside folder Trash is = absurd (none-some folder is)
@@ -63,7 +63,7 @@ children_are rows folder rising =
     (All-by_name (λ (row : NodeRow). IsChildOf rows folder row.id) (filter (is_in folder) rows)
     (λ k d within. record {
       row = get_or (filter (is_in folder) rows) k d;
-      there = All-filter (is_in folder) (λ (row : NodeRow). node_row rows row.id ≡ Some row) rows (found_by_number rows rising) k d within;
+      there = All-filter (is_in folder) (λ (row : NodeRow). node_row rows row.id ≡ Some row) rows (node_row_each rows rising) k d within;
       place = inside_of folder _ (filter_passes (is_in folder) rows k d within);
     }))
 

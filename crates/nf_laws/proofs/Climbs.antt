@@ -1,14 +1,14 @@
 -- Rows by their numbers, and the folders that a climb passes.
-use Rattle.std.proofs.Common.{sym, option_map, if◌then◌else◌, ℕ, suc, zero, ◌+◌, ◌==◌, ◌≡◌, ◌<◌, ◌≤◌, Bool, true, false, List, [], ◌∷◌, Option, None, Some, filter, get_or, refl, ap, ◌∙◌, ⊎_elim, arith}
+use Rattle.std.proofs.Common.{sym, option_map, if◌then◌else◌, ℕ, suc, zero, ◌+◌, ◌==◌, ◌≡◌, ◌≤◌, Bool, true, false, List, [], ◌∷◌, Option, None, Some, filter, get_or, refl, ap, ◌∙◌, ⊎_elim, arith}
 use Rattle.std.specs.Prelude.{is_some}
-use Rattle.std.specs.List.{All, AllPairs}
+use Rattle.std.specs.List.{All}
 use Rattle.std.specs.Option.{option_and_then, option_map_or}
 use Rattle.std.proofs.lemmas.Bool.{both_ways, cond_both, eq-eqb, eqb-true, false≢true, ne_eqb, or_cases, or_left, or_right}
 use Rattle.std.proofs.lemmas.Option.{none-some, option_and_then_some, same_Some}
 use Rattle.nf_base.specs.declared.rows.NodeRow.{NodeRow}
 use Rattle.nf_base.specs.declared.rows.Place.TheVariants.{Inside}
+pub use Rattle.nf_defs.proofs.Walks.{node_row_each}
 use Rattle.nf_defs.specs.Tree.{climb, depth, depth_within, folder_of, is_under, is_under_within, node_row, parent_of}
-use Rattle.nf_words.proofs.Known as known
 
 -- ---- what is there
 
@@ -26,10 +26,6 @@ map_some f None y is = absurd (none-some y is)
 map_some f (Some x) y is = (x, refl, same_Some (f x) y is)
 
 -- ---- rows by their numbers
-
--- where the numbers rise, each row is found by its own
-pub node_row_each : (rows : List NodeRow) → AllPairs (λ (a b : NodeRow). a.id < b.id) rows → All (λ (row : NodeRow). node_row rows row.id ≡ Some row) rows
-node_row_each = known.node_row_each
 
 -- each row's node is there
 pub row_there : (rows : List NodeRow) → All (λ (row : NodeRow). is_some (node_row rows row.id) ≡ true) rows

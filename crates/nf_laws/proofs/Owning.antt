@@ -32,26 +32,18 @@ use Rattle.nf_words.specs.Prelude.{actor_of, altered, answered_by, AreSound, ask
 use Rattle.nf_words.specs.declared.answer.Allowed.{Allowed}
 use Rattle.nf_words.specs.declared.answer.Allowed.TheVariants as allowed
 use Rattle.nf_words.specs.declared.answer.Denial.{Denial}
-use Rattle.nf_words.specs.declared.answer.Goal.{Goal}
 use Rattle.nf_words.specs.declared.answer.Goal.TheVariants.{Serve}
-use Rattle.nf_words.specs.declared.answer.Reply.{Reply}
 use Rattle.nf_words.specs.declared.answer.Reply.TheVariants.{Granted, Listing}
 use Rattle.nf_words.specs.declared.listing.ListingLine.{ListingLine}
 use Rattle.nf_words.specs.declared.request.Places.{Places}
 use Rattle.nf_words.specs.declared.request.Spot.{Spot}
 use Rattle.nf_words.specs.declared.request.Wanted.{Wanted}
 use Rattle.nf_words.specs.declared.request.Wanted.TheVariants.{Get}
+use Rattle.nf_words.proofs.Steps.{ok_reply, put_grants_nothing}
 
 -- ---- what is served
 
-same_reply : (x y : Reply) → ◌≡◌ {A = Result Reply Denial} (Ok x) (Ok y) → x ≡ y
-same_reply x y e = cc
-
--- what is put at a place is answered neither a grant nor a listing
-grants_none : (replaced : Option ℕ) (goal : Goal) → reply_by replaced ≢ Granted goal
-grants_none None goal = λ is. cc
-grants_none (Some node) goal = λ is. cc
-
+-- what is put at a place is answered no listing
 lists_none : (replaced : Option ℕ) (listing : List ListingLine) → reply_by replaced ≢ Listing listing
 lists_none None listing = λ is. cc
 lists_none (Some node) listing = λ is. cc
@@ -60,16 +52,16 @@ lists_none (Some node) listing = λ is. cc
 got : (decision : Result Allowed Denial) (content : List Piece) → answered_by decision ≡ Ok (Granted (Serve content))
     → (node : ℕ) × (decision ≡ Ok (allowed.Get node content))
 got (Ok (allowed.Get node other)) content is = (node, cc)
-got (Ok (allowed.Move transfer name)) content is = absurd (grants_none transfer.replaced (Serve content) (same_reply _ _ is))
-got (Ok (allowed.Copy rows replaced)) content is = absurd (grants_none replaced (Serve content) (same_reply _ _ is))
+got (Ok (allowed.Move transfer name)) content is = absurd (put_grants_nothing transfer.replaced (Serve content) (ok_reply _ _ is))
+got (Ok (allowed.Copy rows replaced)) content is = absurd (put_grants_nothing replaced (Serve content) (ok_reply _ _ is))
 got decision content is = absurd (cc)
 
 -- only a GET is answered a listing
 got_listing : (decision : Result Allowed Denial) (listing : List ListingLine) → answered_by decision ≡ Ok (Listing listing)
     → decision ≡ Ok (allowed.List listing)
 got_listing (Ok (allowed.List other)) listing is = cc
-got_listing (Ok (allowed.Move transfer name)) listing is = absurd (lists_none transfer.replaced listing (same_reply _ _ is))
-got_listing (Ok (allowed.Copy rows replaced)) listing is = absurd (lists_none replaced listing (same_reply _ _ is))
+got_listing (Ok (allowed.Move transfer name)) listing is = absurd (lists_none transfer.replaced listing (ok_reply _ _ is))
+got_listing (Ok (allowed.Copy rows replaced)) listing is = absurd (lists_none replaced listing (ok_reply _ _ is))
 got_listing decision listing is = absurd (cc)
 
 -- a GET gives that of the node at its place

@@ -2,8 +2,6 @@
 use Rattle.std.proofs.Common.{if◌then◌else◌, inl, inr, ℕ, zero, suc, ◌+◌, ◌==◌, ◌≡◌, ◌≢◌, ◌<◌, Bool, true, false, not, List, [], ◌∷◌, ◌++◌, Option, None, Some, filter, map, length, get_or, refl, sym, ap, subst, ◌∙◌, arith, append_assoc}
 use Rattle.std.specs.Prelude.{is_some}
 use Rattle.std.specs.List.{All, AllPairs, list_any}
-use Rattle.std.specs.Ordering.{MatchOrdering, nat_cmp, ordering_then}
-use Rattle.std.specs.Cmp.{nat_cmp_is}
 use Rattle.std.specs.declared.cmp.Ordering.{Ordering}
 use Rattle.std.specs.declared.cmp.Ordering.TheVariants.{Equal, Greater, Less}
 use Rattle.std.proofs.lemmas.Bool.{both_ways, cases_Bool, eq-eqb, eqb-true}
@@ -16,22 +14,12 @@ use Rattle.nf_base.specs.declared.changes.Change.TheVariants.{Drop, Put}
 use Rattle.nf_base.specs.declared.changes.RowKey.TheVariants as keys
 use Rattle.nf_base.specs.declared.rows.NodeRow.{NodeRow}
 use Rattle.nf_base.specs.declared.rows.Row.TheVariants.{Node}
-use Rattle.nf_defs.proofs.Puts.{put_last}
+use Rattle.nf_defs.proofs.Puts.{compared, put_last}
 use Rattle.nf_defs.specs.Prelude.{by_order, climb, dropped, folder_of, is_under, key_cmp, node_key, node_row, parent_of, put, put_all, Tables, walk_of, with_node, without_under}
 use Rattle.nf_laws.proofs.Climbs.{some_there, those, under_climb}
 use Rattle.nf_laws.proofs.Rows.{found_is}
 use Rattle.nf_laws.proofs.Walked.{walk_among}
 use Rattle.nf_words.specs.Prelude.{AreSound, cleared, dropped_for, dropped_under}
-
--- ---- the order of the numbers of nodes
-
-then_equal : (o : Ordering) → ordering_then o Equal ≡ o
-then_equal Less = refl
-then_equal Equal = refl
-then_equal Greater = refl
-
-compared : (a b : ℕ) (o : Ordering) → MatchOrdering o (a < b) (a ≡ b) (b < a) → key_cmp (a ∷ []) (b ∷ []) ≡ o
-compared a b o is = then_equal (nat_cmp a b) ∙ sym (nat_cmp_is a b o is)
 
 -- ---- rows that are put
 

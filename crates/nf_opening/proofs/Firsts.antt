@@ -16,7 +16,7 @@ use Rattle.nf_opening.specs.Again.{first_again, ties, comes_again}
 
 -- ---- first indices
 
-zero_more : (o : Option ℕ) → option_map (λ k. 0 + k) o ≡ o
+pub zero_more : (o : Option ℕ) → option_map (λ k. 0 + k) o ≡ o
 zero_more None = refl
 zero_more (Some k) = ap Some (omega arith)
 

@@ -2,26 +2,17 @@
 use Rattle.std.proofs.Common.{◌≡◌, ◌≢◌, ℕ, zero, suc, ◌==◌, ◌<◌, ◌≤◌, false, List, [], ◌∷◌, None, Some, find, length, get_or, refl, sym, ap, inl, inr, arith}
 use Rattle.std.specs.List.{All, HoldsAt}
 use Rattle.std.specs.List.Sorted.{IsNonDecreasingBy}
-use Rattle.std.specs.Ordering.{MatchOrdering, nat_cmp, ordering_index, ordering_then}
+use Rattle.std.specs.Ordering.{MatchOrdering, nat_cmp, ordering_index}
 use Rattle.std.specs.declared.cmp.Ordering.{Ordering}
 use Rattle.std.specs.declared.cmp.Ordering.TheVariants.{Less, Equal, Greater}
 use Rattle.std.proofs.lemmas.Bool.{cases_lt, eq-eqb, ne_eqb}
 use Rattle.std.proofs.lemmas.Cmp.{ranked}
 use Rattle.std.proofs.lemmas.List.Elements.{All-head, All-tail}
+use Rattle.std.proofs.lemmas.Map.Lookups.{exact_unsigned}
+use Rattle.nf_defs.proofs.Puts.{below_one}
 use Rattle.nf_defs.specs.Rising.{IsRising}
 
 -- ---- two numbers
-
-is_less : (a b : ℕ) → ordering_then (nat_cmp a b) Equal ≡ Less → a < b
-is_less a b e = here (nat_cmp a b) (ranked a b _ refl) e
-  where
-    here : (r : Ordering) → MatchOrdering r (a < b) (a ≡ b) (b < a) → ordering_then r Equal ≡ Less → a < b
-    here Less h e = h
-    here Equal h e = absurd cc
-    here Greater h e = absurd cc
-
-is_equal : (a b : ℕ) → nat_cmp a b ≡ Equal → a ≡ b
-is_equal a b e = ranked a b Equal (sym e)
 
 is_apart : (a b : ℕ) (r : Ordering) → nat_cmp a b ≡ r → r ≢ Equal → (a == b) ≡ false
 is_apart a b Less e apart = let less : a < b = ranked a b Less (sym e) in ne_eqb a b (λ same. absurd (omega arith))
@@ -50,7 +41,7 @@ module _ {R : Type 0} (number : R → ℕ) (n : ℕ) where
   comparisons_rise rows rising i j d le within =
       elim (cases_lt i j) [
         | inl before ↦
-            let less : number (get_or rows i d) < number (get_or rows j d) = is_less _ _ (rising i j d before within) in
+            let less : number (get_or rows i d) < number (get_or rows j d) = below_one _ _ (rising i j d before within) in
             rises _ _ n (omega arith)
         | inr not_before ↦ let e : i ≡ j = omega arith in rw e (omega arith)
       ]
@@ -61,10 +52,10 @@ module _ {R : Type 0} (number : R → ℕ) (n : ℕ) where
       → Some row ≡ find (λ other. number other == n) rows
   finds [] i row within at equal rising = absurd (omega arith)
   finds (x ∷ xs) zero row within at equal rising =
-      rw (eq-eqb (number x) n (is_equal _ _ (equal row))) (ap Some at)
+      rw (eq-eqb (number x) n (exact_unsigned _ _ (equal row))) (ap Some at)
   finds (x ∷ xs) (suc i) row within at equal rising =
-      let less : number x < number (get_or xs i row) = is_less _ _ (rising zero (suc i) row (omega arith) within) in
-      let same : number (get_or xs i row) ≡ n = is_equal _ _ (equal row) in
+      let less : number x < number (get_or xs i row) = below_one _ _ (rising zero (suc i) row (omega arith) within) in
+      let same : number (get_or xs i row) ≡ n = exact_unsigned _ _ (equal row) in
       rw (ne_eqb (number x) n (λ e. absurd (omega arith)))
       (finds xs i row (omega arith) at (λ d. equal d) (λ j k d before within. rising (suc j) (suc k) d (omega arith) (omega arith)))
 

@@ -25,11 +25,6 @@ both a b r same e = here (nat_cmp a b) (ranked a b _ refl)
 -- keys tie where their numbers are the same
 pub same_names : (a b : NameKey) → eq_by_cmp ghosts.cmp a b ≡ bytes_eq (name_numbers a) (name_numbers b)
 same_names (User a) (User b) = is_eq-slice_cmp a b
-same_names (User a) (Group b) = refl
-same_names (User a) (Child folder b) = refl
-same_names (Group a) (User b) = refl
 same_names (Group a) (Group b) = is_eq-slice_cmp a b
-same_names (Group a) (Child folder b) = refl
-same_names (Child folder a) (User b) = refl
-same_names (Child folder a) (Group b) = refl
 same_names (Child folder a) (Child other b) = both folder other (slice_cmp nat_cmp a b) (bytes_eq a b) (is_eq-slice_cmp a b)
+same_names a b = refl

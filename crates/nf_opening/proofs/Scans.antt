@@ -6,6 +6,7 @@ use Rattle.std.specs.Cmp.{IsTotalOrder}
 use Rattle.std.specs.declared.cmp.Ordering.{Ordering}
 use Rattle.std.proofs.lemmas.List.{length-append, append-nil}
 use Rattle.std.proofs.lemmas.Cmp.{eq_by_cmp_equiv}
+use Rattle.nf_opening.proofs.Firsts.{zero_more}
 use Rattle.nf_opening.specs.Again.{first_again, ties, comes_again}
 
 -- how far the scan is: the keys before it, those it saw, and the least index whose key came again
@@ -32,10 +33,6 @@ unfolding first_again
 goes_by E before later key e =
     moved (length before) _ (first_again E later) (longer before key)
     ∙ sym (ap (λ (b : Bool). option_map (λ i. length before + i) (cond b (Some 0) (option_map suc (first_again E later)))) e)
-
-zero_more : (o : Option ℕ) → option_map (λ i. 0 + i) o ≡ o
-zero_more None = refl
-zero_more (Some i) = ap Some (omega arith)
 
 pub was_there : (b added : Bool) → added ≡ not b → added ≡ false → b ≡ true
 was_there true added e f = refl

@@ -8,7 +8,7 @@ use Rattle.std.specs.Ordering.{is_lt}
 use Rattle.std.specs.Result.{result_ok}
 use Rattle.std.specs.declared.cmp.Ordering.{Ordering}
 use Rattle.std.specs.declared.cmp.Ordering.TheVariants.{Less, Equal, Greater}
-use Rattle.std.proofs.lemmas.Bool.{cases_lt}
+use Rattle.std.proofs.lemmas.Bool.{cases_lt, false_from_ne_true}
 use Rattle.std.proofs.lemmas.Bool.Decides.{Decides-eqb}
 use Rattle.std.proofs.lemmas.Cmp.{nat_eq_equiv}
 use Rattle.std.proofs.lemmas.List.{get_or_default, length-set}
@@ -18,6 +18,7 @@ use Rattle.std.proofs.lemmas.List.FromFn.{get_or-range_with_len, length-range_wi
 use Rattle.std.proofs.lemmas.List.Kept.{AllPairs-cons}
 use Rattle.std.proofs.lemmas.List.Sorted.{All-permutation, Contains-permutation, length_permutation}
 use Rattle.std.proofs.lemmas.Map.Keys.{IsDistinct-IsPermutation}
+use Rattle.std.proofs.lemmas.Map.Lookups.{exact_bytes}
 use Rattle.std.proofs.lemmas.Map.Made.{AllPairs-from_IsDistinct, IsDistinct-from_AllPairs}
 use Rattle.std.proofs.lemmas.Option.{slice_get-get_or}
 use Rattle.std.proofs.lemmas.Slice.Eq.{bytes_eq-Decides}
@@ -25,13 +26,6 @@ use Rattle.nf_defs.specs.Prelude.{IsRising, key_cmp, put}
 use Rattle.nf_defs.proofs.Lookups.{equal_bytes, find_nowhere, find_there, position_at, position_none}
 use Rattle.nf_defs.proofs.Puts.{key_total, numbers_rise, put_between, put_last, put_rising, turned}
 use Rattle.nf_people.specs.Names.{AreNamedApart, IsAbove, IsNameIndex, PartsAt, name_at}
-
-not_true : (b : Bool) → (b ≡ true → ⊥) → b ≡ false
-not_true true never = absurd (never refl)
-not_true false never = refl
-
-same_bytes : (a b : List ℕ) → key_cmp a b ≡ Equal → a ≡ b
-same_bytes a b e = (bytes_eq-Decides a b).0 (equal_bytes a b Equal e)
 
 module _ {R : Type 0} (name : R → List ℕ) where
   abbrev pub has_name : List ℕ → R → Bool
@@ -84,10 +78,10 @@ module _ {R : Type 0} (name : R → List ℕ) where
     found_by_name wanted p x within equal is =
         let i = get_or places p 0 in
         let at : i < length rows = index.within p 0 within in
-        let same : stands p ≡ wanted = same_bytes (stands p) wanted (equal 0) in
+        let same : stands p ≡ wanted = exact_bytes (stands p) wanted (equal 0) in
         let first = position_at (has_name wanted) rows i x at
         ((bytes_eq-Decides (name (get_or rows i x)) wanted).1 (sym (name_is rows i x at) ∙ same))
-        (λ k less. not_true (has_name wanted (get_or rows k x)) (λ passes.
+        (λ k less. false_from_ne_true (has_name wanted (get_or rows k x)) (λ passes.
         let e = alone k i (omega arith) at
         (name_is rows k x (omega arith) ∙ ((bytes_eq-Decides (name (get_or rows k x)) wanted).0 passes ∙ sym same)) in
         omega arith)) in
@@ -252,7 +246,7 @@ module _ {R : Type 0} (name : R → List ℕ) where
     where
       here : (r : Ordering) → key_cmp a b ≡ r → r ≡ Less
       here Less e = refl
-      here Equal e = absurd (differ (same_bytes a b e))
+      here Equal e = absurd (differ (exact_bytes a b e))
       here Greater e = let t : is_lt (key_cmp b a) ≡ true = ap is_lt (turned a b Greater e) in absurd (cc)
 
   pub index_sorted : (rows : List R) (n : ℕ) (places : List ℕ) → n ≡ length rows → AreNamedApart name rows → IsPermutation (range_with_len 0 n) places

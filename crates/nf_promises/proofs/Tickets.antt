@@ -1,10 +1,8 @@
 -- How many tickets a history leaves: no more than it has entries.
-use Rattle.std.proofs.Common.{ℕ, ◌+◌, ◌==◌, ◌≤◌, Bool, not, List, [], ◌∷◌, length, Option, None, Some, Result, Ok, Err, arith, length-append}
+use Rattle.std.proofs.Common.{ℕ, ◌+◌, ◌==◌, ◌≤◌, Bool, not, List, [], ◌∷◌, length, arith}
 use Rattle.std.proofs.lemmas.List.Sums.{length-filter, count_by-le-length}
-use Rattle.nf_words.specs.Prelude.{after, after_mark, decided, decision_of, goal_of, replay, State, ticket_for, with_goal, without}
-use Rattle.nf_words.specs.declared.answer.Allowed.{Allowed}
-use Rattle.nf_words.specs.declared.answer.Denial.{Denial}
-use Rattle.nf_words.specs.declared.answer.Goal.{Goal}
+use Rattle.nf_words.proofs.Steps.{decided_tickets}
+use Rattle.nf_words.specs.Prelude.{after, after_mark, decision_of, replay, State, without}
 use Rattle.nf_words.specs.declared.history.Entry.{Entry}
 use Rattle.nf_words.specs.declared.history.Event.{Event}
 use Rattle.nf_words.specs.declared.history.Event.TheVariants.{Begin, End}
@@ -18,14 +16,6 @@ few_without s seat (End outcome) =
     let test : (Ticket → Bool) = λ (ticket : Ticket). not (ticket.seat == seat) in
     omega (arith, length-filter test s.tickets, count_by-le-length test s.tickets)
 
-few_with : (tickets : List Ticket) (seat : ℕ) (o : Option Goal) → length (with_goal tickets seat o) ≤ length tickets + 1
-few_with tickets seat None = omega arith
-few_with tickets seat (Some goal) = omega (arith, length-append tickets (ticket_for seat goal ∷ []))
-
-few_decided : (s : State) (seat now : ℕ) (decision : Result Allowed Denial) → length (decided s seat now decision).tickets ≤ length s.tickets + 1
-few_decided s seat now (Ok act) = few_with s.tickets seat (goal_of act)
-few_decided s seat now (Err refusal) = omega arith
-
 few_after : (s : State) (e : Entry) → length (after s e).tickets ≤ length s.tickets + 1
 few_after s e = here e.mark
   where
@@ -34,7 +24,7 @@ few_after s e = here e.mark
 
     here : (m : Mark) → length (after_mark s e m).tickets ≤ length s.tickets + 1
     here mark.Answered =
-        omega (arith, few_decided (without s e.seat e.event) e.seat e.moment (decision_of s e.seat e.moment e.event), less)
+        omega (arith, decided_tickets (without s e.seat e.event) e.seat e.moment (decision_of s e.seat e.moment e.event), less)
     here mark.Store = omega (arith, less)
     here mark.Memory = omega (arith, less)
 

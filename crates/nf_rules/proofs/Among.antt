@@ -1,5 +1,5 @@
 -- What the rows of tables have, where each row has it that was put into them.
-use Rattle.std.proofs.Common.{◌≡◌, ◌⊎◌, Bool, true, false, ◌||◌, List, [], ◌∷◌, refl, sym, subst, ◌∙◌, inl, inr, arith}
+use Rattle.std.proofs.Common.{◌≡◌, ◌⊎◌, Bool, true, false, ◌||◌, List, [], ◌∷◌, refl, sym, subst, ◌∙◌, inl, inr}
 use Rattle.std.specs.List.{All, list_any}
 use Rattle.std.proofs.lemmas.Bool.{false≢true, not-false}
 use Rattle.std.proofs.lemmas.List.Elements.{All-head, All-nil, All-tail}
@@ -11,8 +11,7 @@ use Rattle.nf_base.specs.declared.rows.TokenRow.{TokenRow}
 use Rattle.nf_base.specs.declared.rows.GroupRow.{GroupRow}
 use Rattle.nf_base.specs.declared.rows.MemberRow.{MemberRow}
 use Rattle.nf_base.specs.declared.rows.NodeRow.{NodeRow}
-use Rattle.nf_defs.specs.Prelude.{AreRising, group_key, member_key, no_rows, node_key, put, put_row, put_rows, Tables, tables_of, token_key, user_key}
-use Rattle.nf_defs.proofs.Loads.{rising_more}
+use Rattle.nf_defs.specs.Prelude.{group_key, member_key, no_rows, node_key, put, put_row, put_rows, Tables, tables_of, token_key, user_key}
 use Rattle.nf_defs.proofs.Puts.{all_put}
 use Rattle.nf_rules.specs.Ruled.{HasNoLater}
 use Rattle.nf_rules.specs.Rules.{is_later, is_meta, lacks_meta}
@@ -39,61 +38,31 @@ later_stays t meta users tokens groups members nodes h = record {
   chunks = h.chunks;
 }
 
+haves : (P : Row → Type 0) (t : Tables) → All (λ (row : UserRow). P (rows.User row)) t.users → All (λ (row : TokenRow). P (rows.Token row)) t.tokens
+    → All (λ (row : GroupRow). P (rows.Group row)) t.groups → All (λ (row : MemberRow). P (rows.Member row)) t.members
+    → All (λ (row : NodeRow). P (rows.Node row)) t.nodes → HasNoLater t → Have P t
+haves P t a b c d e none = record { users = a; tokens = b; groups = c; members = d; nodes = e; later = none }
+
 one_more : (P : Row → Type 0) (t : Tables) (row : Row) → is_later row ≡ false → P row → Have P t → Have P (put_row t row)
-one_more P t (rows.Meta row) early it h = record {
-  users = h.users;
-  tokens = h.tokens;
-  groups = h.groups;
-  members = h.members;
-  nodes = h.nodes;
-  later = later_stays t row t.users t.tokens t.groups t.members t.nodes h.later;
-}
-one_more P t (rows.User row) early it h = record {
-  users = all_put user_key (λ row. P (rows.User row)) row t.users it h.users;
-  tokens = h.tokens;
-  groups = h.groups;
-  members = h.members;
-  nodes = h.nodes;
-  later = later_stays t t.meta (put user_key row t.users) t.tokens t.groups t.members t.nodes h.later;
-}
-one_more P t (rows.Token row) early it h = record {
-  users = h.users;
-  tokens = all_put token_key (λ row. P (rows.Token row)) row t.tokens it h.tokens;
-  groups = h.groups;
-  members = h.members;
-  nodes = h.nodes;
-  later = later_stays t t.meta t.users (put token_key row t.tokens) t.groups t.members t.nodes h.later;
-}
-one_more P t (rows.Group row) early it h = record {
-  users = h.users;
-  tokens = h.tokens;
-  groups = all_put group_key (λ row. P (rows.Group row)) row t.groups it h.groups;
-  members = h.members;
-  nodes = h.nodes;
-  later = later_stays t t.meta t.users t.tokens (put group_key row t.groups) t.members t.nodes h.later;
-}
-one_more P t (rows.Member row) early it h = record {
-  users = h.users;
-  tokens = h.tokens;
-  groups = h.groups;
-  members = all_put member_key (λ row. P (rows.Member row)) row t.members it h.members;
-  nodes = h.nodes;
-  later = later_stays t t.meta t.users t.tokens t.groups (put member_key row t.members) t.nodes h.later;
-}
-one_more P t (rows.Node row) early it h = record {
-  users = h.users;
-  tokens = h.tokens;
-  groups = h.groups;
-  members = h.members;
-  nodes = all_put node_key (λ row. P (rows.Node row)) row t.nodes it h.nodes;
-  later = later_stays t t.meta t.users t.tokens t.groups t.members (put node_key row t.nodes) h.later;
-}
-one_more P t (rows.Share row) early it h = absurd (false≢true (sym early))
-one_more P t (rows.Mount row) early it h = absurd (false≢true (sym early))
-one_more P t (rows.Version row) early it h = absurd (false≢true (sym early))
-one_more P t (rows.Item row) early it h = absurd (false≢true (sym early))
-one_more P t (rows.Upload row) early it h = absurd (false≢true (sym early))
-one_more P t (rows.Chunk row) early it h = absurd (false≢true (sym early))
+one_more P t (rows.Meta row) early it h =
+    haves P (put_row t (rows.Meta row)) h.users h.tokens h.groups h.members h.nodes
+    (later_stays t row t.users t.tokens t.groups t.members t.nodes h.later)
+one_more P t (rows.User row) early it h =
+    haves P (put_row t (rows.User row)) (all_put user_key (λ row. P (rows.User row)) row t.users it h.users) h.tokens h.groups h.members h.nodes
+    (later_stays t t.meta (put user_key row t.users) t.tokens t.groups t.members t.nodes h.later)
+one_more P t (rows.Token row) early it h =
+    haves P (put_row t (rows.Token row)) h.users (all_put token_key (λ row. P (rows.Token row)) row t.tokens it h.tokens) h.groups h.members h.nodes
+    (later_stays t t.meta t.users (put token_key row t.tokens) t.groups t.members t.nodes h.later)
+one_more P t (rows.Group row) early it h =
+    haves P (put_row t (rows.Group row)) h.users h.tokens (all_put group_key (λ row. P (rows.Group row)) row t.groups it h.groups) h.members h.nodes
+    (later_stays t t.meta t.users t.tokens (put group_key row t.groups) t.members t.nodes h.later)
+one_more P t (rows.Member row) early it h =
+    haves P (put_row t (rows.Member row)) h.users h.tokens h.groups (all_put member_key (λ row. P (rows.Member row)) row t.members it h.members) h.nodes
+    (later_stays t t.meta t.users t.tokens t.groups (put member_key row t.members) t.nodes h.later)
+one_more P t (rows.Node row) early it h =
+    haves P (put_row t (rows.Node row)) h.users h.tokens h.groups h.members (all_put node_key (λ row. P (rows.Node row)) row t.nodes it h.nodes)
+    (later_stays t t.meta t.users t.tokens t.groups t.members (put node_key row t.nodes) h.later)
+one_more P t other early it h = absurd (false≢true (sym early))
 
 -- rows that aren't of a later kind, each with it, leave it with each
 had : (P : Row → Type 0) (t : Tables) (all : List Row) → All (λ row. is_later row ≡ false) all → All P all → Have P t
@@ -117,31 +86,11 @@ all_have P all early each = had P no_rows all early each (record {
 
 other_meta : (t : Tables) (row : Row) → is_meta row ≡ false → (put_row t row).meta ≡ t.meta
 other_meta t (rows.Meta row) other = absurd (false≢true (sym other))
-other_meta t (rows.User row) other = refl
-other_meta t (rows.Token row) other = refl
-other_meta t (rows.Group row) other = refl
-other_meta t (rows.Member row) other = refl
-other_meta t (rows.Node row) other = refl
-other_meta t (rows.Share row) other = refl
-other_meta t (rows.Mount row) other = refl
-other_meta t (rows.Version row) other = refl
-other_meta t (rows.Item row) other = refl
-other_meta t (rows.Upload row) other = refl
-other_meta t (rows.Chunk row) other = refl
+other_meta t row other = refl
 
 the_meta : (t : Tables) (row : Row) → is_meta row ≡ true → row ≡ rows.Meta (put_row t row).meta
 the_meta t (rows.Meta row) is = refl
-the_meta t (rows.User row) is = absurd (false≢true is)
-the_meta t (rows.Token row) is = absurd (false≢true is)
-the_meta t (rows.Group row) is = absurd (false≢true is)
-the_meta t (rows.Member row) is = absurd (false≢true is)
-the_meta t (rows.Node row) is = absurd (false≢true is)
-the_meta t (rows.Share row) is = absurd (false≢true is)
-the_meta t (rows.Mount row) is = absurd (false≢true is)
-the_meta t (rows.Version row) is = absurd (false≢true is)
-the_meta t (rows.Item row) is = absurd (false≢true is)
-the_meta t (rows.Upload row) is = absurd (false≢true is)
-the_meta t (rows.Chunk row) is = absurd (false≢true is)
+the_meta t row is = absurd (false≢true is)
 
 meta_had : (P : Row → Type 0) (t : Tables) (all : List Row) → All P all → P (rows.Meta t.meta) ⊎ (list_any is_meta all ≡ true)
     → P (rows.Meta (put_rows t all).meta)
@@ -164,24 +113,3 @@ meta_had P t (row ∷ all) each h =
 -- where a meta row is there, that of the tables has what each row has
 pub meta_has : (P : Row → Type 0) (all : List Row) → lacks_meta all ≡ false → All P all → P (rows.Meta (tables_of all).meta)
 meta_has P all there each = meta_had P no_rows all each (inr (not-false (list_any is_meta all) there))
-
--- ---- the order
-
-rising_all : (t : Tables) (all : List Row) → AreRising t → AreRising (put_rows t all)
-rising_all t [] rising = rising
-rising_all t (row ∷ all) rising = rising_all (put_row t row) all (rising_more t row rising)
-
-pub tables_rise : (all : List Row) → AreRising (tables_of all)
-tables_rise all = rising_all no_rows all (record {
-  users = λ i j d before within. absurd (omega arith);
-  tokens = λ i j d before within. absurd (omega arith);
-  groups = λ i j d before within. absurd (omega arith);
-  members = λ i j d before within. absurd (omega arith);
-  nodes = λ i j d before within. absurd (omega arith);
-  shares = λ i j d before within. absurd (omega arith);
-  mounts = λ i j d before within. absurd (omega arith);
-  versions = λ i j d before within. absurd (omega arith);
-  items = λ i j d before within. absurd (omega arith);
-  uploads = λ i j d before within. absurd (omega arith);
-  chunks = λ i j d before within. absurd (omega arith);
-})

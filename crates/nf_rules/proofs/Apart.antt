@@ -79,18 +79,10 @@ of_child (Inside folder) name key is = sym (ap first (same_Some (6 ∷ folder �
 of_child Trash name key is = absurd (none-some key is)
 
 of_kind : (row : Row) (key : List ℕ) → name_key row ≡ Some key → first key ≡ kind row
-of_kind (rows.Meta row) key is = absurd (none-some key is)
 of_kind (rows.User row) key is = sym (ap first (same_Some (2 ∷ row.name) key is))
-of_kind (rows.Token row) key is = absurd (none-some key is)
 of_kind (rows.Group row) key is = sym (ap first (same_Some (4 ∷ row.name) key is))
-of_kind (rows.Member row) key is = absurd (none-some key is)
 of_kind (rows.Node row) key is = of_child row.place row.name key is
-of_kind (rows.Share row) key is = absurd (none-some key is)
-of_kind (rows.Mount row) key is = absurd (none-some key is)
-of_kind (rows.Version row) key is = absurd (none-some key is)
-of_kind (rows.Item row) key is = absurd (none-some key is)
-of_kind (rows.Upload row) key is = absurd (none-some key is)
-of_kind (rows.Chunk row) key is = absurd (none-some key is)
+of_kind row key is = absurd (none-some key is)
 
 names_differ : (a b : Row) → kind a < kind b → AreApart name_key a b
 names_differ a b less key is same = absurd (omega (arith, of_kind a key is, of_kind b key same))

@@ -17,8 +17,8 @@ use Rattle.nf_base.specs.declared.rows.Row.{Row}
 use Rattle.nf_base.specs.declared.rows.Row.TheVariants as rows
 use Rattle.nf_base.specs.declared.rows.UserRow.{UserRow}
 use Rattle.nf_defs.proofs.Tables.{tables_again}
+use Rattle.nf_defs.proofs.Walks.{node_row_each}
 use Rattle.nf_defs.specs.Prelude.{is_root_place, piece_count, rows_of, Tables, tables_of, user_row}
-use Rattle.nf_laws.proofs.Climbs.{node_row_each}
 use Rattle.nf_laws.proofs.Rows.{folder_there, found_is}
 use Rattle.nf_rows.specs.Spelling.{Fits}
 use Rattle.nf_words.specs.Prelude.{AreCounters, count_of, HasRoot, IsNodeSound, IsPieceSound, IsPlaceSound}
@@ -188,28 +188,18 @@ each_kept t fits h again =
     let all : List Row = early_rows t in
     let numbers = fails (are_numbers t.meta) all (numbers_are t h) in
     let there = fails (names_are_there t) all (names_there t h) in
-    let placed = fails (is_placed t) all (all_placed t h) in (
-      (none_later t h, refl),
-      (
-        (keys_unshared t fits h.rising, refl),
-        (
-          (subst (λ (u : Tables). All (λ row. not (are_numbers u.meta row) ≡ false) all) (sym again) numbers, refl),
-          (
-            (subst (λ (u : Tables). All (λ row. not (names_are_there u row) ≡ false) all) (sym again) there, refl),
-            (
-              (names_unshared t h, refl),
-              (
-                (subst (λ (u : Tables). All (λ row. not (is_placed u row) ≡ false) all) (sym again) placed, refl),
-                (
-                  (subst (λ (u : Tables). All (λ row. is_beyond u row ≡ false) all) (sym again) (all_within t h), refl),
-                  ((none_lavish t h, refl), tt),
-                ),
-              ),
-            ),
-          ),
-        ),
-      ),
-    )
+    let placed = fails (is_placed t) all (all_placed t h) in
+    keep_more (none_later t h, refl)
+    (keep_more (keys_unshared t fits h.rising, refl)
+    (keep_more (subst (λ (u : Tables). All (λ row. not (are_numbers u.meta row) ≡ false) all) (sym again) numbers, refl)
+    (keep_more (subst (λ (u : Tables). All (λ row. not (names_are_there u row) ≡ false) all) (sym again) there, refl)
+    (keep_more (names_unshared t h, refl)
+    (keep_more (subst (λ (u : Tables). All (λ row. not (is_placed u row) ≡ false) all) (sym again) placed, refl)
+    (keep_more (subst (λ (u : Tables). All (λ row. is_beyond u row ≡ false) all) (sym again) (all_within t h), refl)
+    (keep_more (none_lavish t h, refl) tt)))))))
+  where
+    keep_more : {A B : Type 0} → A → B → A × B
+    keep_more one rest = (one, rest)
 
 pub ruled_are_unbroken : RuledAreUnbroken
 ruled_are_unbroken t fits h =

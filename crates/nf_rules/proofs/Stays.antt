@@ -4,14 +4,16 @@ use Rattle.std.specs.Prelude.{is_some}
 use Rattle.std.specs.List.{All, AllPairs}
 use Rattle.std.specs.Option.{option_and_then, option_map_or}
 use Rattle.std.specs.declared.cmp.Ordering.TheVariants.{Less}
-use Rattle.std.proofs.lemmas.Bool.{eqb-true, lt-ltb}
+use Rattle.std.proofs.lemmas.Bool.{eqb-true}
 use Rattle.std.proofs.lemmas.List.Elements.{All-weaker}
 use Rattle.std.proofs.lemmas.Option.{option_and_then_some, same_Some}
 use Rattle.nf_base.specs.declared.rows.MetaRow.{MetaRow}
 use Rattle.nf_base.specs.declared.rows.NodeRow.{NodeRow}
 use Rattle.nf_base.specs.declared.rows.UserRow.{UserRow}
-use Rattle.nf_defs.specs.Prelude.{climb, folder_of, IsRising, key_cmp, node_key, node_row, parent_of, Tables, user_row}
-use Rattle.nf_laws.proofs.Climbs.{node_row_each}
+use Rattle.nf_defs.proofs.Loads.{rises}
+use Rattle.nf_defs.proofs.Puts.{compared}
+use Rattle.nf_defs.proofs.Walks.{node_row_each}
+use Rattle.nf_defs.specs.Prelude.{climb, folder_of, IsRising, node_key, node_row, parent_of, Tables, user_row}
 use Rattle.nf_laws.proofs.Counters.{after_up}
 use Rattle.nf_laws.proofs.Owning.{changes_own}
 use Rattle.nf_laws.proofs.Rows.{child_folder, folder_there, found_is, inside_folder, with_nodes}
@@ -55,11 +57,8 @@ owners_there t sound k d within =
 
 -- ---- the tables with other nodes
 
-less_key : (a b : ℕ) → a < b → key_cmp (a ∷ []) (b ∷ []) ≡ Less
-less_key a b less = rw (lt-ltb a b less) refl
-
 nodes_rise : (some : List NodeRow) → AllPairs (λ (a b : NodeRow). a.id < b.id) some → IsRising node_key some
-nodes_rise some rising i j d before within = less_key (get_or some i d).id (get_or some j d).id (rising i j d before within)
+nodes_rise some rising i j d before within = compared (get_or some i d).id (get_or some j d).id Less (rising i j d before within)
 
 still_given : (next more id : ℕ) → next ≤ more → IsGiven next id → IsGiven more id
 still_given next more id up given = record { first = given.first; below = omega (arith, given.below) }
@@ -70,19 +69,8 @@ others_ruled t meta nodes h sound up =
     let made = with_nodes t meta nodes in
     record {
       sound = sound;
-      rising = record {
-        users = h.rising.users;
-        tokens = h.rising.tokens;
-        groups = h.rising.groups;
-        members = h.rising.members;
-        nodes = nodes_rise nodes sound.rising;
-        shares = h.rising.shares;
-        mounts = h.rising.mounts;
-        versions = h.rising.versions;
-        items = h.rising.items;
-        uploads = h.rising.uploads;
-        chunks = h.rising.chunks;
-      };
+      rising = rises made h.rising.users h.rising.tokens h.rising.groups h.rising.members (nodes_rise nodes sound.rising)
+          h.rising.shares h.rising.mounts h.rising.versions h.rising.items h.rising.uploads h.rising.chunks;
       owners = owners_there made sound;
       users = All-weaker (IsUserRuled t) (IsUserRuled made)
           (λ row own. record {

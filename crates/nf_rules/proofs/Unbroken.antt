@@ -3,11 +3,8 @@ use Rattle.std.proofs.Common.{◌≡◌, ℕ, ◌<◌, ◌≤◌, Bool, true, fa
 use Rattle.std.specs.Prelude.{nat_lt}
 use Rattle.std.specs.List.{All, AllPairs}
 use Rattle.std.specs.Option.{option_map_or}
-use Rattle.std.specs.Ordering.{MatchOrdering, nat_cmp, ordering_then}
-use Rattle.std.specs.declared.cmp.Ordering.{Ordering}
-use Rattle.std.specs.declared.cmp.Ordering.TheVariants.{Less, Equal, Greater}
+use Rattle.std.specs.declared.cmp.Ordering.TheVariants.{Less, Equal}
 use Rattle.std.proofs.lemmas.Bool.{and_cases, and_parts, cases_lt, eqb-true, false≢true, ltb-false, ltb-true, not-false, not-true, or_parts}
-use Rattle.std.proofs.lemmas.Cmp.{ranked}
 use Rattle.std.proofs.lemmas.List.Elements.{All-cons, All-head, All-nil, All-tail, All-weaker}
 use Rattle.std.proofs.lemmas.List.Sums.{sum_by-cons}
 use Rattle.std.proofs.lemmas.Slice.Eq.{bytes_eq-Decides}
@@ -24,15 +21,17 @@ use Rattle.nf_base.specs.declared.rows.NodeRow.{NodeRow}
 use Rattle.nf_base.specs.declared.rows.Place.{Place}
 use Rattle.nf_base.specs.declared.rows.Place.TheVariants.{Root, Inside, Trash}
 use Rattle.nf_base.specs.declared.rows.UserRow.{UserRow}
+use Rattle.nf_defs.proofs.Tables.{tables_rise}
+use Rattle.nf_defs.proofs.Puts.{below_one}
+use Rattle.nf_defs.proofs.Walks.{node_row_each}
 use Rattle.nf_defs.specs.Prelude.{group_key, is_folder_kind, is_root_place, IsRising, key_cmp, node_key, node_row, numbers_of, piece_count, Tables, tables_of, user_key}
-use Rattle.nf_laws.proofs.Climbs.{node_row_each}
 use Rattle.nf_words.specs.Prelude.{AreCounters, AreSound, count_of, HasRoot, IsNodeSound}
 use Rattle.nf_words.specs.declared.answer.Limit.TheVariants as limit
 use Rattle.nf_rules.specs.Keys.{child_key, name_key}
 use Rattle.nf_rules.specs.Laws.{UnbrokenAreRuled}
 use Rattle.nf_rules.specs.Ruled.{IsGiven}
 use Rattle.nf_rules.specs.Rules.{AreUnbroken, are_counters, are_numbers, has_ungiven_blob, is_beyond, is_given, is_later, is_lavish, is_placed, is_root_of, lacks_meta, leads, most_groups, most_members, most_quota, most_tokens, most_users, names_are_there, rules}
-use Rattle.nf_rules.proofs.Among.{all_have, meta_has, tables_rise}
+use Rattle.nf_rules.proofs.Among.{all_have, meta_has}
 use Rattle.nf_rules.proofs.Firsts.{keep_each}
 use Rattle.nf_rules.proofs.Leading.{climbs, place_of_leading}
 use Rattle.nf_rules.proofs.Shared.{AreUnshared, IsAmong, each_among, one_has}
@@ -71,14 +70,6 @@ none_ungiven next (piece ∷ content) none =
 
 pub not_below : (a b : List ℕ) → key_cmp a b ≡ Less → a ≡ b → ⊥
 not_below a b less same = let equal : key_cmp a b ≡ Equal = (slice_cmp-Equal a b).1 same in cc
-
-below_one : (a b : ℕ) → key_cmp (a ∷ []) (b ∷ []) ≡ Less → a < b
-below_one a b less = here (nat_cmp a b) (ranked a b _ refl) less
-  where
-    here : (r : Ordering) → MatchOrdering r (a < b) (a ≡ b) (b < a) → ordering_then r Equal ≡ Less → a < b
-    here Less h e = h
-    here Equal h e = absurd (cc)
-    here Greater h e = absurd (cc)
 
 -- rows of one kind share no name, since the rows that were put into the tables share none
 names_differ : {R : Type 0} (key : R → List ℕ) (row_of : R → Row) → ((row : R) → numbers_of (key_of (row_of row)) ≡ key row)

@@ -11,11 +11,11 @@ use Rattle.nf_base.specs.KeptRows.{IsKept}
 use Rattle.std.specs.Prelude.{All}
 use Rattle.std.proofs.lemmas.Bool.{false≢true}
 use Rattle.std.proofs.lemmas.List.Elements.{All-nil}
-use Rattle.nf_words.specs.Prelude.{actor_of, after, decided, decision_of, goal_of, IsSound, LeavesRoom, MayAsk, MayBear, MayCome, MayEnd, opened, replay, State, stepped_by, ticket_of, with_goal, without_ticket}
+use Rattle.std.proofs.lemmas.List.Sums.{count_by-le-length, length-filter}
+use Rattle.nf_words.specs.Prelude.{actor_of, after, decided, decision_of, goal_of, IsSound, LeavesRoom, MayAsk, MayBear, MayCome, MayEnd, opened, replay, State, stepped_by, ticket_of, without_ticket}
 use Rattle.nf_words.specs.declared.answer.Allowed.{Allowed}
 use Rattle.nf_words.specs.declared.answer.Allowed.TheVariants as allowed
 use Rattle.nf_words.specs.declared.answer.Denial.{Denial}
-use Rattle.nf_words.specs.declared.answer.Goal.{Goal}
 use Rattle.nf_words.specs.declared.history.Entry.{Entry}
 use Rattle.nf_words.specs.declared.history.Event.{Event}
 use Rattle.nf_words.specs.declared.history.Event.TheVariants.{Begin, End}
@@ -28,7 +28,7 @@ use Rattle.nf_words.specs.declared.request.Words.{Words}
 use Rattle.nf_laws.proofs.Stays.{sound_after}
 use Rattle.nf_words.proofs.Histories.{legal_more, replay_more}
 use Rattle.nf_words.proofs.Known.{known_change}
-use Rattle.nf_words.proofs.Steps.{GrantsNothing, end_nothing, end_tickets}
+use Rattle.nf_words.proofs.Steps.{GrantsNothing, decided_tickets, end_nothing, end_tickets}
 use Rattle.nf_decide.proofs.Bears.{known_bears, known_few, sound_given}
 use Rattle.nf_decide.specs.Current.{AreGiven, BearsAct, FitsAct, FitsTicket}
 use Rattle.nf_site.specs.Held.{FitsDecision, Held, HasEntryRoom, added_in}
@@ -42,32 +42,16 @@ use Rattle.nf_site.specs.declared.site.Site.TheInside.{Inside}
 -- ---- the tickets after an entry
 
 -- where a look-up finds something, a filter that loses all of it shortens the list
-length-filter : {X : Type 0} (p : X → Bool) (xs : List X) → length (filter (λ x. not (p x)) xs) ≤ length xs
-length-filter p [] = omega arith
-length-filter p (x ∷ xs) = here (p x) refl (length-filter p xs)
-  where
-    here : (a : Bool) → p x ≡ a → length (filter (λ x. not (p x)) xs) ≤ length xs → length (filter (λ x. not (p x)) (x ∷ xs)) ≤ length (x ∷ xs)
-    here true e rest = rw e (omega arith)
-    here false e rest = rw e (omega arith)
-
 length-found : {X : Type 0} (p : X → Bool) (xs : List X) → IsSome (find p xs) → length (filter (λ x. not (p x)) xs) + 1 ≤ length xs
 length-found p [] found = let h = found in cc
 length-found p (x ∷ xs) found = here (p x) refl found (length-found p xs)
   where
     here : (a : Bool) → p x ≡ a → IsSome (find p (x ∷ xs)) → (IsSome (find p xs) → length (filter (λ x. not (p x)) xs) + 1 ≤ length xs)
         → length (filter (λ x. not (p x)) (x ∷ xs)) + 1 ≤ length (x ∷ xs)
-    here true e found rest = rw e (omega (arith, length-filter p xs))
+    here true e found rest = rw e (omega (arith, length-filter (λ x. not (p x)) xs, count_by-le-length (λ x. not (p x)) xs))
     here false e found rest = let more = rest (rw e at found) in rw e (omega arith)
 
 -- a Begin adds one ticket at most
-goal_tickets : (tickets : List Ticket) (seat : ℕ) (goal : Option Goal) → length (with_goal tickets seat goal) ≤ length tickets + 1
-goal_tickets tickets seat None = omega arith
-goal_tickets tickets seat (Some goal) = simp length-append (omega arith)
-
-decided_tickets : (s : State) (seat now : ℕ) (decision : Result Allowed Denial) → length (decided s seat now decision).tickets ≤ length s.tickets + 1
-decided_tickets s seat now (Ok change) = goal_tickets s.tickets seat (goal_of change)
-decided_tickets s seat now (Err refusal) = omega arith
-
 begin_adds : (s : State) (seat moment : ℕ) (words : Words) (request : Request) (mark : Mark)
     → length (after s (entry seat moment (Begin words request) mark)).tickets ≤ length s.tickets + 1
 begin_adds s seat moment words request Answered = decided_tickets s seat moment (decision_of s seat moment (Begin words request))

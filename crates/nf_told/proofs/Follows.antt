@@ -100,7 +100,7 @@ puts_behind before (row ∷ all) rising =
     ∙ append_assoc before (spelling_of row ∷ []) (map spelling_of all)
 
 -- equal spellings are those of equal rows
-same_rows : (some others : List Row) → All Fits some → All Fits others → map spelling_of some ≡ map spelling_of others → some ≡ others
+pub same_rows : (some others : List Row) → All Fits some → All Fits others → map spelling_of some ≡ map spelling_of others → some ≡ others
 same_rows [] [] some_fit others_fit same = refl
 same_rows [] (y ∷ ys) some_fit others_fit same = absurd cc
 same_rows (x ∷ xs) [] some_fit others_fit same = absurd cc

@@ -16,7 +16,8 @@ use Rattle.nf_tree.specs.Order.{Key, key_lt, key_at, key_of, AreRisingNodes, IsI
 use Rattle.nf_tree.proofs.Positions.{no_row}
 use Rattle.nf_tree.proofs.Keys.{weak, squeezed_folder}
 use Rattle.nf_tree.proofs.Orders.{key_of_row, in_index}
-use Rattle.nf_tree.proofs.Childs.{folder_is, is_in_folder}
+use Rattle.nf_defs.proofs.Walks.{is_of_inside}
+use Rattle.nf_tree.proofs.Childs.{folder_is}
 use Rattle.nf_tree.proofs.ByName.{is_by_name}
 
 abbrev pub row_at : List NodeRow → ℕ → NodeRow
@@ -124,7 +125,7 @@ module _ (rows : List NodeRow) (order : List ℕ) (folder from at : ℕ) (rising
                   let low_key = cuts.behind at 0 start (omega arith) in
                   let e = squeezed_folder (key_at rows (get_or order at 0)) (record { folder = Some folder; name = []; id = 0 }) (key_at rows p) (sym (ap (λ (k : Key). k.folder) key)) low_key (weak.one_way _ _ f) in
                   let r = sym (ap (λ (k : Key). k.folder) (key_there at (omega arith))) ∙ e in
-                  let s = is_in_folder folder (row_at rows (get_or order at 0)).place r in
+                  let s = is_of_inside folder (row_at rows (get_or order at 0)).place r in
                   let t = stop (omega arith) in
                   cc)
             ]

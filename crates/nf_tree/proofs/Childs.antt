@@ -15,6 +15,7 @@ use Rattle.nf_base.specs.declared.rows.Place.{Place}
 use Rattle.nf_base.specs.declared.rows.Place.TheVariants.{Root, Inside, Trash}
 use Rattle.nf_defs.specs.Tree.{child_of, is_in, is_place_in, folder_of}
 use Rattle.nf_defs.proofs.Lookups.{position_at, position_nowhere, find_there, find_nowhere}
+use Rattle.nf_defs.proofs.Walks.{is_of_inside}
 use Rattle.nf_tree.specs.Order.{Key, key_lt, key_at, key_of, AreRisingNodes, IsIndex, IsCut}
 use Rattle.std.proofs.lemmas.List.{get_or_read}
 use Rattle.nf_tree.proofs.Positions.{no_row}
@@ -27,11 +28,6 @@ pub folder_is : (folder : ℕ) (place : Place) → is_place_in folder place ≡ 
 folder_is folder Root h = absurd (cc)
 folder_is folder (Inside parent) h = ap Some (grind (arith, nat_tests))
 folder_is folder Trash h = absurd (cc)
-
-pub is_in_folder : (folder : ℕ) (place : Place) → folder_of place ≡ Some folder → is_place_in folder place ≡ true
-is_in_folder folder Root h = absurd (cc)
-is_in_folder folder (Inside parent) h = let e : parent ≡ folder = cc in grind (arith, nat_tests)
-is_in_folder folder Trash h = absurd (cc)
 
 -- the row is the folder's child of that name
 pub is_child : ℕ → List ℕ → NodeRow → Bool
@@ -50,7 +46,7 @@ is_child_from : (rows : List NodeRow) (folder k : ℕ) (name : List ℕ) (d : No
 unfolding is_child
 is_child_from rows folder k name d within in_it named =
     let key = key_of_row rows k d within in
-    let e = is_in_folder folder (get_or rows k d).place (sym (ap (λ (key : Key). key.folder) key) ∙ in_it) in
+    let e = is_of_inside folder (get_or rows k d).place (sym (ap (λ (key : Key). key.folder) key) ∙ in_it) in
     let f = (bytes_eq-Decides (get_or rows k d).name name).1 (sym (ap (λ (key : Key). key.name) key) ∙ named) in
     rw e (rw f refl)
 

@@ -1,9 +1,9 @@
 -- What is known of a change that no rule refuses.
-use Rattle.std.proofs.Common.{◌≡◌, ℕ, zero, ◌+◌, ◌-◌, ◌<◌, ◌≤◌, ◌==◌, ◌||◌, ◌&&◌, bytes_eq, find, is_none, is_some, slice_get, unwrap_or, sym, Bool, true, false, List, [], ◌∷◌, ◌++◌, get_or, length, suc, ◌∙◌, Result, Ok, Option, option_map, if◌then◌else◌, refl, ap, subst, arith}
+use Rattle.std.proofs.Common.{◌≡◌, ℕ, ◌+◌, ◌-◌, ◌<◌, ◌≤◌, ◌==◌, ◌||◌, ◌&&◌, bytes_eq, find, is_none, is_some, slice_get, unwrap_or, sym, Bool, true, false, List, [], ◌∷◌, ◌++◌, length, suc, ◌∙◌, Result, Ok, Option, option_map, if◌then◌else◌, refl, ap, subst, arith}
 use Rattle.std.specs.Prelude.{None, Some}
 use Rattle.std.specs.List.{All, AllPairs, list_all}
 use Rattle.std.specs.Option.{IfSome, option_and_then, option_map_or, option_or}
-use Rattle.std.proofs.lemmas.Bool.{and_parts, eq-eqb, eqb-true, false≢true, ltb-false, ne_eqb}
+use Rattle.std.proofs.lemmas.Bool.{and_parts, eqb-true, false≢true, ltb-false}
 use Rattle.std.proofs.lemmas.List.Elements.{All-head, All-tail}
 use Rattle.std.proofs.lemmas.Option.{none-some, same_Some}
 use Rattle.std.proofs.lemmas.Bool.Decides.{nat_tests}
@@ -15,7 +15,7 @@ use Rattle.nf_base.specs.declared.rows.NodeRow.{NodeRow}
 use Rattle.nf_defs.specs.Prelude.{Access, child_of, content_of, depth, folder_of, found_from, is_file, is_folder, is_folder_kind, is_in, is_root, is_under, node_row, onward, parent_of, piece_count, Tables, unshared, user_row, walk_of}
 use Rattle.nf_defs.specs.declared.Found.{Found}
 use Rattle.nf_defs.specs.declared.Found.TheVariants.{At, Free, Missing}
-use Rattle.nf_defs.proofs.Walks.{inside_of}
+use Rattle.nf_defs.proofs.Walks.{inside_of, node_row_each}
 use Rattle.nf_words.specs.Prelude.{actor_of, allowed_of, AreSound, asker_of, blob_after, blob_for, Call, call_decision, call_of, caller_row, content_in, copied, copies_to, copy_limit, decision_of, deepest_in, deleted, end_refusal, ends_goal, ends_ticket, first_that_holds, folder_at, found, given, HasRoot, is_caller, is_there, IsGoalSound, IsOwn, IsSound, key_lost, last_name, last_number, limit_at, limit_passed, limit_rule, limited, listing_of, made_folder, MayAsk, MayBring, MayEnd, MayStoreAt, MayWant, misplaced, move_limit, moved, named_in, NamesUser, new_node, node_at, node_found, node_of_key, not_you_rule, Pass, pieces_in, pieces_of, place_of, refusal_of, root_of, Rule, rules, served, shown, source_of, State, stored, stored_at, target_of, target_rule, ticket_of, transfer_of, transfer_to, unfit, unfit_between, unless_refused, user_of, users_of}
 use Rattle.nf_words.specs.Actors.{holder, storer_of}
 use Rattle.nf_words.specs.History.{IsShort}
@@ -182,15 +182,6 @@ found_has {X = X} P test (x ∷ xs) all = here (test x) refl (found_has P test x
     here : (a : Bool) → test x ≡ a → IfSome (find test xs) P → IfSome (find test (x ∷ xs)) P
     here true e rest = simp e (All-head P x xs all)
     here false e rest = simp e rest
-
--- where the numbers rise, each row is found by its own
-pub node_row_each : (rows : List NodeRow) → AllPairs (λ (a b : NodeRow). a.id < b.id) rows → All (λ (row : NodeRow). node_row rows row.id ≡ Some row) rows
-node_row_each [] rising k d within = absurd (omega arith)
-node_row_each (x ∷ rows) rising zero d within = rw (eq-eqb x.id x.id refl)
-node_row_each (x ∷ rows) rising (suc k) d within =
-    let below : x.id < (get_or rows k d).id = rising 0 (suc k) d (omega arith) within in
-    rw (ne_eqb x.id (get_or rows k d).id (λ e. absurd (omega arith)))
-    (node_row_each rows (λ i j d before within. rising (suc i) (suc j) d (omega arith) (omega arith)) k d (omega arith))
 
 -- a folder's child is in it
 pub child_parent : (rows : List NodeRow) (folder : ℕ) (name : List ℕ) (node : ℕ) → AllPairs (λ (a b : NodeRow). a.id < b.id) rows
@@ -446,17 +437,12 @@ granted_known : (call : Call) (spot : Spot) (length : ℕ) (place : Found) (row 
     → found call spot ≡ place
     → Known call.state.tables call.now (user_of call) (stored (seeker.User (asker_of call)) (last_name spot) length (Some place))
 unfolding path_known
-granted_known call spot length (At node) row is short leads = record {
-  short = short;
-  path = path_known call spot (At node) row is leads;
-  storer = ap (λ (o : Option UserRow). seeker.User (option_map_or (λ row. row.id) o 0)) is;
-}
-granted_known call spot length (Free folder) row is short leads = record {
-  short = short;
-  path = path_known call spot (Free folder) row is leads;
-  storer = ap (λ (o : Option UserRow). seeker.User (option_map_or (λ row. row.id) o 0)) is;
-}
 granted_known call spot length (Missing depth) row is short leads = tt
+granted_known call spot length place row is short leads = record {
+  short = short;
+  path = path_known call spot place row is leads;
+  storer = ap (λ (o : Option UserRow). seeker.User (option_map_or (λ row. row.id) o 0)) is;
+}
 
 folder_known : (call : Call) (spot : Spot) (place : Found) (row : UserRow) → caller_row call ≡ Some row → found call spot ≡ place
     → limit_at call.state.tables 0 place ≡ None

@@ -30,12 +30,9 @@ use Rattle.nf_words.specs.declared.request.Words.{Words}
 use Rattle.nf_words.specs.declared.request.Wanted.{Wanted}
 use Rattle.nf_words.specs.declared.request.Wanted.TheVariants.{Get, Put, Mkcol, Delete, Move, Copy}
 use Rattle.nf_words.proofs.Known.{each_passes, no_fault, places_at}
-use Rattle.nf_words.proofs.Steps.{end_nothing, never_granted}
+use Rattle.nf_words.proofs.Steps.{end_nothing, never_granted, ok_reply}
 
 -- ---- never as the End of what stores nothing
-
-ok_reply : (x y : Reply) → ◌≡◌ {A = Result Reply Denial} (Ok x) (Ok y) → x ≡ y
-ok_reply x y e = cc
 
 put_opens : (replaced : Option ℕ) → reply_by replaced ≢ Closed
 put_opens None = λ is. cc

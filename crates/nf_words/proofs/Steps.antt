@@ -1,5 +1,5 @@
 -- What one step does to the tickets.
-use Rattle.std.proofs.Common.{ℕ, suc, zero, ◌+◌, ◌==◌, ◌≡◌, ◌≢◌, ◌<◌, Bool, true, false, not, List, [], ◌∷◌, Option, None, Some, IsNone, find, filter, length, get_or, Result, Ok, Err, refl, sym, ap, subst, ◌∙◌, arith}
+use Rattle.std.proofs.Common.{ℕ, suc, zero, ◌+◌, ◌==◌, ◌≡◌, ◌≢◌, ◌<◌, ◌≤◌, Bool, true, false, not, List, [], ◌∷◌, Option, None, Some, IsNone, find, filter, length, length-append, get_or, Result, Ok, Err, refl, sym, ap, subst, ◌∙◌, arith}
 use Rattle.std.specs.List.{AllPairs}
 use Rattle.std.proofs.lemmas.Bool.{eqb-false}
 use Rattle.std.proofs.lemmas.List.Folds.{find-append}
@@ -122,6 +122,15 @@ pub end_tickets : (s : State) (seat now : ℕ) (outcome : Outcome)
 end_tickets s seat now outcome =
     nothing_more (without_ticket s seat) seat now (end_decision s seat now outcome) (end_nothing s seat now outcome)
 
+-- whatever is decided adds one at most
+goal_tickets : (tickets : List Ticket) (seat : ℕ) (goal : Option Goal) → length (with_goal tickets seat goal) ≤ length tickets + 1
+goal_tickets tickets seat None = omega arith
+goal_tickets tickets seat (Some goal) = omega (arith, length-append tickets (ticket_for seat goal ∷ []))
+
+pub decided_tickets : (s : State) (seat now : ℕ) (decision : Result Allowed Denial) → length (decided s seat now decision).tickets ≤ length s.tickets + 1
+decided_tickets s seat now (Ok act) = goal_tickets s.tickets seat (goal_of act)
+decided_tickets s seat now (Err refusal) = omega arith
+
 pub end_frees : (s : State) (seat now : ℕ) (outcome : Outcome) → ticket_of (step s seat now (End outcome)) seat ≡ None
 end_frees s seat now outcome = ap (λ (ts : List Ticket). find (λ ticket. ticket.seat == seat) ts) (end_tickets s seat now outcome) ∙ freed s seat
 
@@ -151,7 +160,7 @@ goal_of_reply (allowed.Move transfer name) goal is = absurd (put_grants_nothing 
 goal_of_reply (allowed.Copy rows replaced) goal is = absurd (put_grants_nothing replaced goal is)
 goal_of_reply act goal is = cc
 
-ok_reply : (x y : Reply) → ◌≡◌ {A = Result Reply Denial} (Ok x) (Ok y) → x ≡ y
+pub ok_reply : (x y : Reply) → ◌≡◌ {A = Result Reply Denial} (Ok x) (Ok y) → x ≡ y
 ok_reply x y e = cc
 
 pub granted_goal : (act : Allowed) (goal : Goal) → answered_by (Ok act) ≡ Ok (Granted goal) → goal_of act ≡ Some goal
