@@ -1,9 +1,9 @@
 -- What is asked is asked of the files route, by one of its methods, in the files of some user.
-use Rattle.std.proofs.Common.{◌≡◌, ◌∙◌, ℕ, ◌+◌, ◌≤◌, List, [], ◌∷◌, length, map, take, drop, Bool, true, false, ◌&&◌, not, if◌then◌else◌, Option, None, Some, Result, Ok, Err, codes, bytes_eq, refl, sym, ap, subst, arith, lit≤}
+use Rattle.std.proofs.Common.{◌≡◌, ◌∙◌, ℕ, ◌+◌, ◌-◌, ◌≤◌, List, [], ◌∷◌, length, map, take, drop, Bool, true, false, ◌&&◌, not, if◌then◌else◌, Option, None, Some, Result, Ok, Err, codes, bytes_eq, option_map, refl, sym, ap, subst, arith, lit≤}
 use Rattle.std.specs.Prelude.{IsSome, IfOk, is_some, option_and_then}
 use Rattle.std.specs.List.{slice_split}
 use Rattle.std.specs.Option.{option_map_or, option_or}
-use Rattle.std.proofs.lemmas.List.{take-take}
+use Rattle.std.proofs.lemmas.List.{length-take, take-take}
 use Rattle.std.proofs.lemmas.List.Splits.{length-slice_split}
 use Rattle.std.proofs.lemmas.Option.{none-some, option_and_then_some, same_Some}
 use Rattle.std.proofs.lemmas.Slice.Eq.{bytes_eq-Decides}
@@ -11,7 +11,7 @@ use Rattle.nf_base.specs.declared.content.TheConstants.{MAX_BODY}
 use Rattle.nf_http.specs.Head.{Head, length_of}
 use Rattle.nf_routes.specs.Methods.{method_of, takes}
 use Rattle.nf_routes.specs.Mounts.{mount_of, route_at, route_below, route_in, route_of, words}
-use Rattle.nf_routes.specs.Targets.{behind, is_ocs, is_slash, segments_of, target_path}
+use Rattle.nf_routes.specs.Targets.{behind, is_ocs, is_slash, segments_of, target_path, whole_path, without_slash}
 use Rattle.nf_routes.specs.declared.methods.Method.{Method}
 use Rattle.nf_routes.specs.declared.methods.Method.TheVariants as method
 use Rattle.nf_routes.specs.declared.mounts.Mount.{Mount}
@@ -134,9 +134,18 @@ begins : (test : Bool) (rest : List ℕ) (cut : List ℕ) → (if test then Some
 begins true rest cut is = refl
 begins false rest cut is = absurd (cc)
 
+-- without its last slash a path begins as before
+front_kept : (n : ℕ) (path front : List ℕ) → take n (without_slash path) ≡ front → length front ≡ n → take n path ≡ front
+front_kept n path front is long = here (bytes_eq (drop (length path - 1) path) (codes "/")) is
+  where
+    here : (test : Bool) → take n (if test then take (length path - 1) path else path) ≡ front → take n path ≡ front
+    here true is =
+        let shorter : n ≤ length path - 1 = omega (arith, long, ap length is, length-take n (take (length path - 1) path), length-take (length path - 1) path) in
+        sym (take-take n (length path - 1) path shorter) ∙ is
+    here false is = is
+
 pub asked_no_ocs : (head : Head) (request : Request) → request_of head ≡ Ok request → is_ocs head.target ≡ false
-asked_no_ocs head request is =
-    rw there.at (ap (λ bytes. is_some (if bytes_eq bytes (codes "/ocs/v2.php/") then Some (drop 12 there.path) else None)) front)
+asked_no_ocs head request is = here (whole_path head.target) refl
   where
     there : IsInFiles head.target
     there = in_files head.target (asked_there head request is).place
@@ -145,6 +154,13 @@ asked_no_ocs head request is =
     front =
         sym (take-take 12 22 there.path (lit≤ tt))
         ∙ ap (take 12) ((bytes_eq-Decides (take 22 there.path) (codes "/remote.php/dav/files/")).0 (begins _ there.rest _ there.below))
+
+    here : (sent : Option (List ℕ)) → whole_path head.target ≡ sent → is_ocs head.target ≡ false
+    here None e = absurd (none-some there.path (ap (option_map without_slash) (sym e) ∙ there.at))
+    here (Some path) e =
+        let same : without_slash path ≡ there.path = same_Some _ _ (ap (option_map without_slash) (sym e) ∙ there.at) in
+        rw e (ap (λ bytes. is_some (if bytes_eq bytes (codes "/ocs/v2.php/") then Some (drop 12 path) else None))
+        (front_kept 12 path (codes "/remote.php/") (ap (take 12) same ∙ front) refl))
 
 pub asked_no_head : (head : Head) (request : Request) → request_of head ≡ Ok request → bytes_eq head.method (codes "HEAD") ≡ false
 asked_no_head head request is = here (bytes_eq head.method (codes "HEAD")) refl

@@ -10,7 +10,7 @@ use Rattle.nf_http.specs.Fields.{first_value}
 use Rattle.nf_http.specs.Head.{Head, length_of}
 use Rattle.nf_routes.specs.Methods.{method_of, takes}
 use Rattle.nf_routes.specs.Mounts.{route_of}
-use Rattle.nf_routes.specs.Targets.{segments_of}
+use Rattle.nf_routes.specs.Targets.{is_ocs, segments_of}
 use Rattle.nf_routes.specs.declared.methods.Method.{Method}
 use Rattle.nf_routes.specs.declared.methods.Method.TheVariants as method
 use Rattle.nf_words.specs.declared.answer.Denial.{Denial}
@@ -103,6 +103,12 @@ parameter_refusal method.Move head = transfer_refusal head
 parameter_refusal method.Copy head = transfer_refusal head
 parameter_refusal method.Delete head = depth_refusal head
 parameter_refusal other head = None
+
+-- ---- a body that is taken before the request is looked for
+
+-- the longest: the parameters of an OCS request may stand in its body
+abbrev pub wants_body : Head → ℕ
+wants_body head = if is_ocs head.target then 8192 else 0
 
 -- ---- the request
 

@@ -10,4 +10,4 @@ mod spots;
 mod words;
 
 pub use replies::{Manner, continue_answer, done, file_head, listing, made, refusal};
-pub use requests::{Unasked, request};
+pub use requests::{Unasked, request, wants_body};

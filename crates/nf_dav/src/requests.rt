@@ -5,13 +5,13 @@ ghost use Rattle.nf_base.specs.Naming.{same_ignoring_case};
 ghost use Rattle.nf_http.specs.Head.{length_of};
 ghost use Rattle.nf_words.specs.History.{MayWant};
 ghost use Rattle.nf_words.specs.declared.answer.Denial.TheVariants.{Body};
-ghost use Rattle.nf_dav.specs.Asked.{Gives, GivesRequest, body_refusal, caller_of_value, files_refusal, files_request as request_there, is_files as are_files, is_stray as strays, second_segments as second, spot_at, target_spot, wanted_of};
+ghost use Rattle.nf_dav.specs.Asked.{Gives, GivesRequest, body_refusal, caller_of_value, files_refusal, files_request as request_there, is_files as are_files, is_stray as strays, second_segments as second, spot_at, target_spot, wanted_of, wants_body as longest_wanted};
 
 use crate::fields::{overwrites, second_segments};
 use crate::spots::spot;
 use nf_base::Digest;
 use nf_http::Message;
-use nf_routes::{Method, Routes, method_of, segments, takes};
+use nf_routes::{Method, Routes, is_ocs, method_of, segments, takes};
 use nf_words::{Caller, Denial, Request, Route, Spot, Wanted};
 use std::alloc::{AllocError, Global};
 
@@ -32,6 +32,14 @@ impl From<AllocError> for Unasked {
     fn from(_: AllocError) -> Self {
         Unasked::Memory
     }
+}
+
+/// The longest body that is taken before the request of a message is looked for. Only parameters of an OCS request stand in a body; a
+/// longer one isn't looked at.
+pub fn wants_body(message: &Message) -> usize
+    ensures { result ≡ longest_wanted message.now }
+{
+    if is_ocs(message.target()) { 8_192 } else { 0 }
 }
 
 /// The request of a message; or why it has none, the first that holds of no such route, a method that the route doesn't have, not built, a

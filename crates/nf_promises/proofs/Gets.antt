@@ -1,6 +1,6 @@
 -- What a turn that took a GET writes, where the body of a PUT is kept.
-use Rattle.std.proofs.Common.{ℕ, ◌+◌, ◌≤◌, ◌==◌, ◌≡◌, ◌⊎◌, ◌||◌, Bool, true, false, List, [], ◌∷◌, ◌++◌, length, Option, None, Some, Result, Ok, Err, is_some, if◌then◌else◌, inl, inr, refl, sym, ap, subst, ◌∙◌, arith}
-use Rattle.std.specs.Prelude.{IfSome, MatchBool, Vec}
+use Rattle.std.proofs.Common.{ℕ, ◌+◌, ◌≤◌, ◌==◌, ◌≡◌, ◌⊎◌, ◌&&◌, ◌||◌, Bool, true, false, List, [], ◌∷◌, ◌++◌, length, Option, None, Some, Result, Ok, Err, is_some, if◌then◌else◌, inl, inr, refl, sym, ap, subst, ◌∙◌, arith}
+use Rattle.std.specs.Prelude.{IfSome, MatchBool, Vec, nat_lt}
 use Rattle.std.specs.Io.KnownBytes.{Appends}
 use Rattle.std.specs.declared.alloc.Global.{Global}
 use Rattle.std.proofs.lemmas.Bool.{eqb-true}
@@ -10,7 +10,7 @@ use Rattle.nf_base.specs.declared.content.Piece.{Piece}
 use Rattle.nf_dav.specs.Asked.{request_of}
 use Rattle.nf_dav.specs.Reply.{file_head, refusal_reply}
 use Rattle.nf_dav.specs.declared.replies.Manner.{Manner}
-use Rattle.nf_http.specs.Head.{Head, closes_session}
+use Rattle.nf_http.specs.Head.{Head, closes_session, expects_continue, length_of}
 use Rattle.nf_words.proofs.Steps.{put_grants_nothing}
 use Rattle.nf_words.specs.Prelude.{answer_at, answer_to, answered_by, blob_for, changes_by, changes_to, content_in, decision_of, MayBear, State}
 use Rattle.nf_words.specs.History.{HasBody}
@@ -35,6 +35,7 @@ use Rattle.nf_defs.specs.Prelude.{Blobs, Tables}
 use Rattle.nf_laws.specs.Wholes.{IsThere}
 use Rattle.nf_session.specs.Prelude.{Answer, AreGiven, Begins, Book, end_of, end_of_close, Enters, FailsPiece, file_front, is_invited, is_unmade, is_unsent, Judges, Lasts, manner_of, next_blob_of, no_words, Scene, SendsFile, Starts, StartsFile, state_of, TakesIn, TellsDamage, TellsPiece, TellsStill, Way, way_of, Writes}
 use Rattle.nf_session.specs.Book.{Passes as Unchanged}
+use Rattle.nf_session.specs.Steps.{holds_back}
 use Rattle.nf_session.specs.Turn.{says_close}
 use Rattle.nf_session.proofs.Moving.{begins_move, none_of}
 use Rattle.nf_session.proofs.Lasting.{lasts_same, lasts_then}
@@ -57,6 +58,10 @@ pub record IsPlain (way : Way) : Type 0 where
 
 pub asked_plain : (head : Head) (begun : Begun) (request : Request) → request_of head ≡ Ok request → IsPlain (way_of head begun)
 asked_plain head begun request asked = record { ocs = asked_no_ocs head request asked; head_only = asked_no_head head request asked }
+
+-- no body is taken before what is plain is looked for
+held_back : (head : Head) (begun : Begun) → IsPlain (way_of head begun) → holds_back head ≡ waits head
+held_back head begun plain = ap (λ (ocs : Bool). expects_continue head && nat_lt (if ocs then 8192 else 0) (length_of head)) plain.ocs
 
 -- ---- what its Begin is answered
 
@@ -310,9 +315,11 @@ granted_closes : (head : Head) (answer : Answer) (answered : Reply) → answer �
 granted_closes head answer answered is =
     ap (λ (w : Answer). closes_session head || is_unsent head (begun.Asked w)) is ∙ or_false (closes_session head)
 
-refused_closes : (head : Head) (answer : Answer) (refusal : Denial) → answer ≡ Err refusal
+refused_closes : (head : Head) (answer : Answer) (refusal : Denial) → IsPlain (way_of head (begun.Asked answer)) → answer ≡ Err refusal
     → (way_of head (begun.Asked answer)).closes ≡ (closes_session head || waits head)
-refused_closes head answer refusal is = ap (λ (w : Answer). closes_session head || is_unsent head (begun.Asked w)) is
+refused_closes head answer refusal plain is =
+    ap (λ (w : Answer). closes_session head || is_unsent head (begun.Asked w)) is
+    ∙ ap (λ (unsent : Bool). closes_session head || unsent) (held_back head (begun.Asked answer) plain)
 
 -- what was answered, by what it is
 answered_shown : {C : Type 0} (reads : C → ℕ → C → Type 0) (last : Bool) (head : Head) (caller : Caller) (spot : Spot) (body : List ℕ)
@@ -337,7 +344,7 @@ answered_shown {C} reads last head caller spot body k m a b v answer kept plain 
     let wanting : TakesIn reads head m a (begun.Asked (Err denial.Memory)) (Ok v) =
     subst (λ (w : Answer). TakesIn reads head m a (begun.Asked w) (Ok v)) is takes in
     denied_shown last (closes_session head) (waits head) (way_of head (begun.Asked answer)) plain body k a b v
-    (refused_closes head answer denial.Memory is) wanting.3.0 writes
+    (refused_closes head answer denial.Memory plain is) wanting.3.0 writes
 
 -- nobody is invited by a GET
 pub get_not_invited : {C : Type 0} (reads : C → ℕ → C → Type 0) (head : Head) (caller : Caller) (spot : Spot) (body : List ℕ) (begun : Begun) (k m : Scene C)
@@ -363,8 +370,9 @@ pub begun_shown : {C : Type 0} (reads : C → ℕ → C → Type 0) (last : Bool
     → Writes {T = Unit {0}} (manner_of last (way_of head begun) v) v a b (Ok tt) → Shown (last || closes_session head) (waits head) body k.book a b
 begun_shown reads last head caller spot body (begun.Unasked refusal) k m a b v asked (inl other, same) kept only takes written writes = absurd (cc)
 begun_shown reads last head caller spot body (begun.Unasked refusal) k m a b v asked (inr memory, same) kept only (x, other, bodies, passes) written writes =
-    denied_shown last (closes_session head) (waits head) (way_of head (begun.Unasked refusal)) (asked_plain head (begun.Unasked refusal) _ asked)
-    body k.book a b v refl (passes.0 ∙ ap response.Denied memory) writes
+    let plain = asked_plain head (begun.Unasked refusal) _ asked in
+    denied_shown last (closes_session head) (waits head) (way_of head (begun.Unasked refusal)) plain body k.book a b v
+    (ap (λ (unsent : Bool). closes_session head || unsent) (held_back head (begun.Unasked refusal) plain)) (passes.0 ∙ ap response.Denied memory) writes
 begun_shown {C} reads last head caller spot body (begun.Asked answer) k m a b v asked (r, now, is, read, begins, only) kept alone takes written writes =
     let same : r ≡ get_of caller spot = cc in
     let get : Begins k.book m.book now no_words (get_of caller spot) answer =

@@ -1,2 +1,3 @@
+mod Inserts
 mod MountLemmas
 mod PlainLemmas

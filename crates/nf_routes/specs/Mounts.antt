@@ -1,7 +1,6 @@
 -- Which route a target names: the mount that its path is in, and the segments behind the words of the mount.
-use Rattle.std.specs.Prelude.{ℕ, ◌&&◌, Bool, true, false, not, if◌then◌else◌, List, [], ◌∷◌, length, take, codes, bytes_eq, Option, None, Some, option_and_then}
+use Rattle.std.specs.Prelude.{ℕ, Bool, true, false, if◌then◌else◌, List, [], ◌∷◌, length, take, codes, bytes_eq, Option, None, Some, option_and_then}
 use Rattle.std.specs.List.{find, slice_split}
-use Rattle.std.specs.Str.{is_utf8}
 use Rattle.percent_encoding.specs.Percent.{percent_decode}
 use Rattle.nf_words.specs.declared.route.Route.{Route}
 use Rattle.nf_words.specs.declared.route.Route.TheVariants as route
@@ -24,26 +23,24 @@ words Users = codes "/ocs/v2.php/cloud/users"
 words User = codes "/ocs/v2.php/cloud/users/"
 words Groups = codes "/ocs/v2.php/cloud/groups"
 
--- whether something stands behind them
+-- whether something may stand behind them
 abbrev pub has_more : Mount → Bool
 has_more Shares = false
 has_more Users = false
 has_more Groups = false
 has_more _ = true
 
--- a path is in a mount that has its words, as they were sent, and something behind them where there must be
+-- the words, as they were sent, are the front of a path in the mount, and all of it where nothing stands behind them
 abbrev pub is_in : Mount → List ℕ → Bool
-is_in mount path =
-    if has_more mount then bytes_eq (take (length (words mount)) path) (words mount) && not (bytes_eq path (words mount))
-    else bytes_eq path (words mount)
+is_in mount path = bytes_eq (if has_more mount then take (length (words mount)) path else path) (words mount)
 
 -- by their words; no path is in two of them
 abbrev pub mounts : List Mount
 mounts = Share ∷ Shares ∷ Groups ∷ User ∷ Users ∷ Public ∷ Files ∷ Trashbin ∷ Uploads ∷ Versions ∷ []
 
--- the mount of a path; one that isn't UTF-8 has none
+-- the mount of a path, whatever bytes stand behind the words
 unfoldable pub mount_of : List ℕ → Option Mount
-mount_of path = if is_utf8 path then find (λ mount. is_in mount path) mounts else None
+mount_of path = find (λ mount. is_in mount path) mounts
 
 -- ---- the segments behind it
 

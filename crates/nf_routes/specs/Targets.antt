@@ -27,9 +27,13 @@ path_in target =
 abbrev pub without_slash : List ℕ → List ℕ
 without_slash path = if bytes_eq (drop (length path - 1) path) (codes "/") then take (length path - 1) path else path
 
--- the path of a target: before its query, behind its scheme and host, without one slash at its end; none where a host has no path
+-- the path of a target as it was sent: before its query, behind its scheme and host; none where a host has no path
+abbrev pub whole_path : List ℕ → Option (List ℕ)
+whole_path target = path_in (before_first is_question target)
+
+-- without one slash at its end: what is looked up
 abbrev pub target_path : List ℕ → Option (List ℕ)
-target_path target = option_map without_slash (path_in (before_first is_question target))
+target_path target = option_map without_slash (whole_path target)
 
 -- a path is cut at its slashes first, and each segment is decoded then: an escaped slash cuts nothing
 abbrev pub decoded_segments : List ℕ → List (List ℕ)
@@ -40,6 +44,6 @@ abbrev pub segments_of : List ℕ → List (List ℕ)
 segments_of target =
     option_map_or decoded_segments (option_and_then (behind (codes "/remote.php/dav/files/")) (target_path target)) []
 
--- whether the path of a target is in the part of the site that speaks of shares and people
+-- whether the path of a target, as it was sent, is in the part of the site that speaks of shares and people
 abbrev pub is_ocs : List ℕ → Bool
-is_ocs target = is_some (option_and_then (behind (codes "/ocs/v2.php/")) (target_path target))
+is_ocs target = is_some (option_and_then (behind (codes "/ocs/v2.php/")) (whole_path target))

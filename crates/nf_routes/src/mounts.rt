@@ -2,11 +2,12 @@
 
 ghost use Rattle.std.specs.Prelude.{◌≡◌, IfOk, OnOk, map};
 ghost use Rattle.nf_routes.specs.Mounts.{chunk_route, mount_of, route_below, route_of, share_route, trash_route, upload_route, user_route, version_route, words};
-ghost use Rattle.nf_routes.specs.Rows.{inserted, routes};
+ghost use Rattle.nf_routes.specs.Rows.{routes, with_more, with_words};
 
 use crate::targets::{decoded, pieces, target_path};
 use matchit::{InsertError, Router};
 use nf_words::Route;
+use percent_encoding::{CONTROLS, percent_encode};
 use std::alloc::{AllocError, Global};
 use std::marker::Model;
 
@@ -60,26 +61,24 @@ impl Routes {
         let Some(path) = target_path(target) else {
             return Ok(None);
         };
-        let Some(mount) = self.mount_of(path) else {
+        let Some(mount) = self.mount_of(alloc, path)? else {
             return Ok(None);
         };
-        let Some(rest) = path.strip_prefix(words(mount)) else {
+        let Some(rest) = path.strip_prefix(words(mount).as_bytes()) else {
             return Ok(None);
         };
         let segments = pieces(alloc, rest)?;
         route_below(alloc, mount, &segments)
     }
 
-    // The mount that a path is in.
-    fn mount_of(&self, path: &[u8]) -> Option<Mount>
-        ensures { result ≡ mount_of path.now }
+    // The mount that a path is in. A router takes text, and a path may be any bytes: those that no words have are escaped for it.
+    fn mount_of(&self, alloc: Global, path: &[u8]) -> Result<Option<Mount>, AllocError>
+        ensures { IfOk result (λ mount. mount ≡ mount_of path.now) }
     {
-        let Ok(text) = std::str::from_utf8(path) else {
-            return None;
-        };
-        match self.router.at(text) {
-            Ok(found) => Some(*found.value),
-            Err(_) => None,
+        let text = percent_encode(path, CONTROLS).into_cow(alloc)?;
+        match self.router.at(&text) {
+            Ok(found) => Ok(Some(*found.value)),
+            Err(_) => Ok(None),
         }
     }
 }
@@ -89,60 +88,64 @@ fn router(alloc: Global) -> Result<Router<Mount>, InsertError>
     ensures { IfOk result (λ router. router ≡ routes) }
 {
     let mut router = Router::new(alloc);
-    add(&mut router, "/remote.php/dav/files/{*rest}", Mount::Files)?;
-    add(&mut router, "/public.php/dav/files/{*rest}", Mount::Public)?;
-    add(
+    add_more(&mut router, Mount::Files, "/remote.php/dav/files/{*rest}")?;
+    add_more(&mut router, Mount::Public, "/public.php/dav/files/{*rest}")?;
+    add_more(
         &mut router,
-        "/remote.php/dav/uploads/{*rest}",
         Mount::Uploads,
+        "/remote.php/dav/uploads/{*rest}",
     )?;
-    add(
+    add_more(
         &mut router,
-        "/remote.php/dav/trashbin/{*rest}",
         Mount::Trashbin,
+        "/remote.php/dav/trashbin/{*rest}",
     )?;
-    add(
+    add_more(
         &mut router,
-        "/remote.php/dav/versions/{*rest}",
         Mount::Versions,
+        "/remote.php/dav/versions/{*rest}",
     )?;
-    add(
+    add_words(&mut router, Mount::Shares)?;
+    add_more(
         &mut router,
-        "/ocs/v2.php/apps/files_sharing/api/v1/shares",
-        Mount::Shares,
-    )?;
-    add(
-        &mut router,
-        "/ocs/v2.php/apps/files_sharing/api/v1/shares/{*rest}",
         Mount::Share,
+        "/ocs/v2.php/apps/files_sharing/api/v1/shares/{*rest}",
     )?;
-    add(&mut router, "/ocs/v2.php/cloud/users", Mount::Users)?;
-    add(&mut router, "/ocs/v2.php/cloud/users/{*rest}", Mount::User)?;
-    add(&mut router, "/ocs/v2.php/cloud/groups", Mount::Groups)?;
+    add_words(&mut router, Mount::Users)?;
+    add_more(&mut router, Mount::User, "/ocs/v2.php/cloud/users/{*rest}")?;
+    add_words(&mut router, Mount::Groups)?;
     Ok(router)
 }
 
-// Adds the route of a mount.
-fn add(router: &mut Router<Mount>, route: &str, mount: Mount) -> Result<(), InsertError>
-    ensures { OnOk result (router.new ≡ inserted route.now mount router.old) }
+// Adds a mount's words alone, which for a router are no front of what goes on.
+fn add_words(router: &mut Router<Mount>, mount: Mount) -> Result<(), InsertError>
+    ensures { OnOk result (router.new ≡ with_words mount router.old) }
 {
+    router.insert(words(mount), mount)
+}
+
+// Adds them, and a route for what stands behind them.
+fn add_more(router: &mut Router<Mount>, mount: Mount, route: &str) -> Result<(), InsertError>
+    ensures { OnOk result (router.new ≡ with_more mount route.now router.old) }
+{
+    add_words(router, mount)?;
     router.insert(route, mount)
 }
 
-fn words(mount: Mount) -> &'static [u8]
+fn words(mount: Mount) -> &'static str
     ensures { result.now ≡ words mount }
 {
     match mount {
-        Mount::Files => b"/remote.php/dav/files/",
-        Mount::Public => b"/public.php/dav/files/",
-        Mount::Uploads => b"/remote.php/dav/uploads/",
-        Mount::Trashbin => b"/remote.php/dav/trashbin/",
-        Mount::Versions => b"/remote.php/dav/versions/",
-        Mount::Shares => b"/ocs/v2.php/apps/files_sharing/api/v1/shares",
-        Mount::Share => b"/ocs/v2.php/apps/files_sharing/api/v1/shares/",
-        Mount::Users => b"/ocs/v2.php/cloud/users",
-        Mount::User => b"/ocs/v2.php/cloud/users/",
-        Mount::Groups => b"/ocs/v2.php/cloud/groups",
+        Mount::Files => "/remote.php/dav/files/",
+        Mount::Public => "/public.php/dav/files/",
+        Mount::Uploads => "/remote.php/dav/uploads/",
+        Mount::Trashbin => "/remote.php/dav/trashbin/",
+        Mount::Versions => "/remote.php/dav/versions/",
+        Mount::Shares => "/ocs/v2.php/apps/files_sharing/api/v1/shares",
+        Mount::Share => "/ocs/v2.php/apps/files_sharing/api/v1/shares/",
+        Mount::Users => "/ocs/v2.php/cloud/users",
+        Mount::User => "/ocs/v2.php/cloud/users/",
+        Mount::Groups => "/ocs/v2.php/cloud/groups",
     }
 }
 

@@ -3,7 +3,7 @@
 ghost use Rattle.std.specs.Prelude.{◌≡◌, ◌<◌, IfOk, IfSome, codes, length, map, option_and_then, option_copied, position};
 ghost use Rattle.std.specs.List.{before_first, slice_split};
 ghost use Rattle.percent_encoding.specs.Percent.{percent_decode};
-ghost use Rattle.nf_routes.specs.Targets.{behind, from_slash, is_ocs as begins_with_ocs, is_question, is_slash, path_in, segments_of, target_path, without_slash};
+ghost use Rattle.nf_routes.specs.Targets.{behind, from_slash, is_ocs as begins_with_ocs, is_question, is_slash, path_in, segments_of, target_path, whole_path, without_slash};
 
 use std::alloc::{AllocError, Global};
 
@@ -27,11 +27,11 @@ pub fn segments(alloc: Global, target: &[u8]) -> Result<Vec<Vec<u8>>, AllocError
     Ok(segments)
 }
 
-/// Whether the path of a target is in the part of the site that speaks of shares and people.
+/// Whether the path of a target, as it was sent, is in the part of the site that speaks of shares and people.
 pub fn is_ocs(target: &[u8]) -> bool
     ensures { result ≡ begins_with_ocs target.now }
 {
-    match target_path(target) {
+    match whole_path(target) {
         Some(path) => path.strip_prefix(OCS).is_some(),
         None => false,
     }
@@ -64,7 +64,14 @@ pub(crate) fn pieces<'a>(alloc: Global, bytes: &'a [u8]) -> Result<Vec<&'a [u8]>
 pub(crate) fn target_path(target: &[u8]) -> Option<&[u8]>
     ensures { option_copied result ≡ target_path target.now }
 {
-    Some(without_slash(path_in(before_query(target))?))
+    Some(without_slash(whole_path(target)?))
+}
+
+// The path of a target as it was sent.
+fn whole_path(target: &[u8]) -> Option<&[u8]>
+    ensures { option_copied result ≡ whole_path target.now }
+{
+    path_in(before_query(target))
 }
 
 fn before_query(target: &[u8]) -> &[u8]

@@ -16,7 +16,7 @@ use Rattle.nf_words.specs.declared.answer.Goal.TheVariants as goal
 use Rattle.nf_words.specs.declared.answer.Reply.TheVariants as reply
 use Rattle.nf_words.specs.declared.request.Request.{Request}
 use Rattle.nf_words.specs.declared.request.Words.{Words}
-use Rattle.nf_dav.specs.Asked.{request_of}
+use Rattle.nf_dav.specs.Asked.{request_of, wants_body}
 use Rattle.nf_dav.specs.Reply.{continue_reply, last_manner, refusal_reply}
 use Rattle.nf_session.specs.Book.{Answer, Book, Begins, Ends, EndsBody, FailsPiece, IsOfBegin, IsPiece, Waits, granted, held}
 use Rattle.nf_session.specs.declared.backend.Ending.{Ending}
@@ -150,9 +150,13 @@ is_refused (begun.Unasked refusal) = true
 is_refused (begun.Asked (Ok answered)) = false
 is_refused (begun.Asked (Err refusal)) = true
 
--- the sender of a refused message waits for its answer, and hasn't sent the body
+-- the sender waits for an answer with a body that isn't taken before the request is looked for
+abbrev pub holds_back : Head → Bool
+holds_back head = expects_continue head && nat_lt (wants_body head) (length_of head)
+
+-- so of a refused message the body hasn't been sent
 abbrev pub is_unsent : Head → Begun → Bool
-is_unsent head begun = is_refused begun && expects_continue head && nat_lt 0 (length_of head)
+is_unsent head begun = is_refused begun && holds_back head
 
 abbrev pub skipped_length : Head → Begun → ℕ
 skipped_length head begun = if is_unsent head begun then 0 else length_of head

@@ -2,8 +2,9 @@
 
 ghost use Rattle.std.specs.Prelude.{◌≡◌, ◌&&◌};
 ghost use Rattle.nf_http.specs.Head.{Head, expects_continue};
-ghost use Rattle.nf_session.specs.Steps.{is_granted as granted, is_invited as invited, is_refused as refused, is_unsent as unsent, skipped_length as skipped};
+ghost use Rattle.nf_session.specs.Steps.{holds_back as waits, is_granted as granted, is_invited as invited, is_refused as refused, is_unsent as unsent, skipped_length as skipped};
 
+use nf_dav::wants_body;
 use nf_http::Message;
 use nf_words::{Answer, Denial, Goal, Reply};
 
@@ -52,7 +53,7 @@ impl Begun {
     pub fn is_unsent(&self, message: &Message) -> bool
         ensures { result ≡ unsent message.now self.now }
     {
-        self.is_refused() && message.expects_continue() && message.length() > 0
+        self.is_refused() && holds_back(message)
     }
 
     /// How much of a body that isn't granted is skipped.
@@ -65,4 +66,11 @@ impl Begun {
             message.length()
         }
     }
+}
+
+// The sender waits for an answer with a body that isn't taken before the request is looked for.
+fn holds_back(message: &Message) -> bool
+    ensures { result ≡ waits message.now }
+{
+    message.expects_continue() && message.length() > wants_body(message)
 }

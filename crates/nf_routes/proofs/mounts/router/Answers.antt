@@ -3,15 +3,15 @@ use Rattle.nf_routes.proofs.mounts.router.Goals as goal
 pub returns : goal.returns
 returns c =
     cc (
-      c.in_ok-add-10.ensures,
-      c.in_ok-add-9.ensures,
-      c.in_ok-add-8.ensures,
-      c.in_ok-add-7.ensures,
-      c.in_ok-add-6.ensures,
-      c.in_ok-add-5.ensures,
-      c.in_ok-add-4.ensures,
-      c.in_ok-add-3.ensures,
-      c.in_ok-add-2.ensures,
-      c.in_ok-add.ensures,
+      c.in_ok-add_words-3.ensures,
+      c.in_ok-add_more-7.ensures,
+      c.in_ok-add_words-2.ensures,
+      c.in_ok-add_more-6.ensures,
+      c.in_ok-add_words.ensures,
+      c.in_ok-add_more-5.ensures,
+      c.in_ok-add_more-4.ensures,
+      c.in_ok-add_more-3.ensures,
+      c.in_ok-add_more-2.ensures,
+      c.in_ok-add_more.ensures,
       c.new-router.ensures,
     )
