@@ -7,8 +7,7 @@ use Rattle.nf_promises.specs.Room.{IsAlone}
 use Rattle.nf_session.specs.Book.{own_from}
 use Rattle.nf_site.specs.Kept.{Kept}
 use Rattle.nf_told.specs.Told.{Told}
-use Rattle.nf_words.specs.History.{after}
-use Rattle.nf_words.specs.State.{State, opened}
+use Rattle.nf_words.specs.Prelude.{after, opened, State}
 use Rattle.nf_words.specs.declared.history.Entry.{Entry}
 use Rattle.filesd.specs.Seat.{AreOwn, book_of, seat}
 

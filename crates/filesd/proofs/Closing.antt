@@ -11,16 +11,12 @@ use Rattle.nf_hub.specs.Seats.{book_in, memory_of, steady}
 use Rattle.nf_hub.specs.declared.hub.HubOf.{HubOf}
 use Rattle.nf_hub.specs.declared.seat.SeatOf.{SeatOf}
 use Rattle.nf_keeper.specs.declared.keeper.Keeper.{Ghosts as KeeperOf}
-use Rattle.nf_session.specs.Book.{Book}
-use Rattle.nf_session.specs.Session.{Session}
-use Rattle.nf_session.specs.Steps.{Scene}
+use Rattle.nf_session.specs.Prelude.{Book, Scene, Session}
 use Rattle.nf_session.specs.declared.ended.Ended.{Ended}
 use Rattle.nf_session.specs.declared.ended.Ended.TheVariants as ended
 use Rattle.nf_site.specs.Held.{Held}
 use Rattle.nf_turn.proofs.Poses.{numbers_known}
-use Rattle.nf_turn.specs.Memory.{of_the_first}
-use Rattle.nf_turn.specs.Numbers.{IsWhole, Numbers, numbers_of}
-use Rattle.nf_turn.specs.Seats.{numbers}
+use Rattle.nf_turn.specs.Prelude.{IsWhole, Numbers, numbers, numbers_of, of_the_first}
 use Rattle.nf_turn.specs.declared.view.Memory.{Memory}
 use Rattle.nf_words.specs.declared.history.Entry.{Entry}
 use Rattle.filesd.specs.Outside.{Outside}

@@ -41,8 +41,7 @@ use Rattle.nf_session.specs.declared.ended.Ended.TheVariants as ended
 use Rattle.nf_site.specs.Demo.{demo_rows, hello}
 use Rattle.nf_site.specs.Held.{Held}
 use Rattle.nf_told.specs.Told.{Told}
-use Rattle.nf_words.specs.History.{replay}
-use Rattle.nf_words.specs.State.{opened}
+use Rattle.nf_words.specs.Prelude.{opened, replay}
 use Rattle.nf_words.specs.declared.history.Entry.{Entry}
 use Rattle.filesd.specs.Doors.{OneRose, RunsDoors, ServesDesk, status_of_work}
 use Rattle.filesd.specs.Ending.{BatchEndsWell, InitEndsWell, IsEmptyStore, IsSafeStore, IsWell, NothingFails, ServeEndsWell}

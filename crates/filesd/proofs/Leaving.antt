@@ -10,9 +10,7 @@ use Rattle.nf_rules.proofs.Ruled.{ruled_are_unbroken}
 use Rattle.nf_rules.specs.Ruled.{AreRuled}
 use Rattle.nf_site.specs.Kept.{IsHistory, Kept}
 use Rattle.nf_told.specs.Told.{AreFit, Told}
-use Rattle.nf_words.specs.History.{replay}
-use Rattle.nf_words.specs.Sound.{IsSound}
-use Rattle.nf_words.specs.State.{State, opened}
+use Rattle.nf_words.specs.Prelude.{IsSound, opened, replay, State}
 use Rattle.nf_words.specs.declared.history.Entry.{Entry}
 use Rattle.filesd.specs.Reopening.{Leaves}
 

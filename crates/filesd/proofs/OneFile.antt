@@ -25,18 +25,13 @@ use Rattle.nf_promises.proofs.Puts.{IsKept, Keeps}
 use Rattle.nf_promises.proofs.Returning.{appends_by, cut_not_written, front_shown, meets_shown, stop_not_written, told_shown}
 use Rattle.nf_rows.specs.Spelling.{Raw}
 use Rattle.nf_promises.proofs.Touches.{closes_only, input_of, judges_only, passes_only, says_only}
-use Rattle.nf_session.specs.Book.{Book, denial_of_piece, next_blob_of, state_of}
-use Rattle.nf_session.specs.Files.{SendsFile}
-use Rattle.nf_session.specs.Session.{Session, Through}
-use Rattle.nf_session.specs.Steps.{Heads, OnlyWrites, Scene}
-use Rattle.nf_session.specs.Turn.{Meets, Responds, Turn, Way, Writes, how_of, manner_of, stays_granted, way_of}
+use Rattle.nf_session.specs.Prelude.{Book, denial_of_piece, Heads, how_of, manner_of, Meets, next_blob_of, OnlyWrites, Responds, Scene, SendsFile, Session, state_of, stays_granted, Through, Turn, Way, way_of, Writes}
 use Rattle.nf_session.proofs.Inviting.{invites_wrote, stops_sends}
 use Rattle.nf_session.specs.declared.ended.Ended.{Ended}
 use Rattle.nf_session.specs.declared.ended.Ended.TheVariants as ended
 use Rattle.nf_session.specs.declared.response.Response.{Response}
 use Rattle.nf_session.specs.declared.response.Response.TheVariants as response
-use Rattle.nf_words.specs.Endings.{blob_for}
-use Rattle.nf_words.specs.State.{State}
+use Rattle.nf_words.specs.Prelude.{blob_for, State}
 use Rattle.nf_words.specs.declared.answer.Denial.TheVariants as denial
 use Rattle.nf_words.specs.declared.request.Caller.{Caller}
 use Rattle.nf_words.specs.declared.request.Spot.{Spot}

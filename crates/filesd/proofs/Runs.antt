@@ -5,9 +5,7 @@ use Rattle.std.proofs.lemmas.Option.{none-some, same_Some}
 use Rattle.nf_outside.specs.Causes.{Rose}
 use Rattle.nf_promises.specs.Room.{IsAlone, IsFresh}
 use Rattle.nf_promises.proofs.Full.{never_full}
-use Rattle.nf_session.specs.Laws.{CountsFault}
-use Rattle.nf_session.specs.Session.{Session}
-use Rattle.nf_session.specs.Steps.{Scene}
+use Rattle.nf_session.specs.Prelude.{CountsFault, Scene, Session}
 use Rattle.nf_session.specs.declared.ended.Ended.{Ended}
 use Rattle.nf_session.specs.declared.ended.Ended.TheVariants as ended
 use Rattle.nf_session.proofs.Causes.{session_follows}

@@ -13,8 +13,7 @@ use Rattle.nf_outside.specs.Causes.{Rose}
 use Rattle.nf_rows.specs.Spelling.{Raw}
 use Rattle.nf_rules.specs.Rules.{AreUnbroken}
 use Rattle.nf_session.proofs.Causes.{session_follows}
-use Rattle.nf_session.specs.Book.{Book, own_from}
-use Rattle.nf_session.specs.Session.{Session}
+use Rattle.nf_session.specs.Prelude.{Book, own_from, Session}
 use Rattle.nf_site.specs.Demo.{demo_rows}
 use Rattle.nf_site.specs.Held.{Held}
 use Rattle.nf_site.specs.Kept.{Kept, opened_over}

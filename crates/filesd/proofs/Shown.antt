@@ -8,21 +8,10 @@ use Rattle.sha2.specs.Sha256.{sha256, digest_bytes, hash_after, compress, rounds
 use Rattle.nf_base.specs.declared.rows.TokenRow.{TokenRow}
 use Rattle.nf_base.specs.declared.rows.UserRow.{UserRow}
 use Rattle.nf_site.specs.Demo.{hello, demo_rows}
-use Rattle.nf_defs.specs.Access.{unshared}
-use Rattle.nf_defs.specs.People.{holder_of, user_row}
-use Rattle.nf_defs.specs.Tree.{found_from}
+use Rattle.nf_defs.specs.Prelude.{found_from, holder_of, unshared, user_row}
 use Rattle.nf_defs.specs.declared.Found.{Found}
 use Rattle.nf_defs.specs.declared.Found.TheVariants.{At}
-use Rattle.nf_words.specs.State.{opened}
-use Rattle.nf_words.specs.Callers.{token_rule, not_you_rule}
-use Rattle.nf_words.specs.Calls.{Call, asker_of, caller_row, found, places_of, root_of}
-use Rattle.nf_words.specs.Changes.{allowed_of, given}
-use Rattle.nf_words.specs.Endings.{blob_for, content_in, unless_refused}
-use Rattle.nf_words.specs.Laws.{Pass}
-use Rattle.nf_words.specs.Rules.{rules}
-use Rattle.nf_words.specs.Step.{answer_to, answered_by, call_of}
-use Rattle.nf_words.specs.Places.{forbidden_rule, place_rule, exists_rule, target_rule, overwrite_rule, lost}
-use Rattle.nf_words.specs.Limits.{limit_rule}
+use Rattle.nf_words.specs.Prelude.{allowed_of, answer_to, answered_by, asker_of, blob_for, Call, call_of, caller_row, content_in, exists_rule, forbidden_rule, found, given, limit_rule, lost, not_you_rule, opened, overwrite_rule, Pass, place_rule, places_of, root_of, rules, target_rule, token_rule, unless_refused}
 use Rattle.nf_words.specs.declared.answer.Denial.{Denial}
 use Rattle.nf_words.specs.declared.answer.Denial.TheVariants as denial
 use Rattle.nf_words.specs.declared.answer.Goal.TheVariants.{Serve}

@@ -9,10 +9,7 @@ use Rattle.nf_desk.specs.Desk.{IsDesk, Served, book_at, entries_by, failed_marks
 use Rattle.nf_hub.specs.Seats.{book_in}
 use Rattle.nf_keeper.specs.declared.keeper.Keeper.{Ghosts as KeeperOf}
 use Rattle.nf_session.specs.Book.{Book, held, held_after, own_from}
-use Rattle.nf_turn.specs.Agreeing.{Agrees}
-use Rattle.nf_turn.specs.Book.{HasNothing, IsFresh}
-use Rattle.nf_turn.specs.Memory.{of_the_first}
-use Rattle.nf_turn.specs.Numbers.{IsWhole, Numbers, is_left, numbers_of}
+use Rattle.nf_turn.specs.Prelude.{Agrees, HasNothing, is_left, IsFresh, IsWhole, Numbers, numbers_of, of_the_first}
 use Rattle.nf_turn.specs.declared.view.Memory.{Memory}
 use Rattle.nf_words.specs.State.{opened}
 use Rattle.nf_words.specs.declared.history.Entry.{Entry}

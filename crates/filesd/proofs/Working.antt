@@ -23,10 +23,7 @@ use Rattle.nf_server.specs.declared.workers.Worker.{Worker}
 use Rattle.nf_server.proofs.Spanning.{whole_still, work_spans}
 use Rattle.nf_site.specs.Held.{Held}
 use Rattle.nf_turn.proofs.Poses.{numbers_known}
-use Rattle.nf_turn.specs.Book.{IsFresh}
-use Rattle.nf_turn.specs.Memory.{having_split, longer, of_the_first}
-use Rattle.nf_turn.specs.Numbers.{IsWhole, Numbers, numbers_of}
-use Rattle.nf_turn.specs.Seats.{numbers}
+use Rattle.nf_turn.specs.Prelude.{having_split, IsFresh, IsWhole, longer, Numbers, numbers, numbers_of, of_the_first}
 use Rattle.nf_turn.specs.declared.view.Memory.{Memory}
 use Rattle.nf_words.specs.declared.history.Entry.{Entry}
 use Rattle.filesd.specs.Doors.{OneRose, RunsDoors, ServesDesk, status_of_work}

@@ -15,8 +15,7 @@ use Rattle.nf_server.specs.declared.workers.Worked.{Worked}
 use Rattle.nf_server.specs.declared.workers.Worked.TheVariants as worked
 use Rattle.nf_server.specs.declared.workers.Worker.{Worker}
 use Rattle.nf_site.specs.Held.{Held}
-use Rattle.nf_turn.specs.Book.{IsFresh}
-use Rattle.nf_turn.specs.Memory.{longer, of_the_first}
+use Rattle.nf_turn.specs.Prelude.{IsFresh, longer, of_the_first}
 use Rattle.nf_turn.specs.declared.view.Memory.{Memory}
 use Rattle.filesd.specs.Opening.{status_of_fault}
 use Rattle.filesd.specs.declared.status.Status.{Status}

@@ -9,8 +9,7 @@ use Rattle.nf_promises.specs.Kept.{Prints, get_of, plainly, waits}
 use Rattle.nf_session.specs.Book.{Book, state_of}
 use Rattle.nf_site.specs.Demo.{demo_rows, hello}
 use Rattle.nf_told.specs.Told.{Told}
-use Rattle.nf_words.specs.Endings.{blob_for, content_in}
-use Rattle.nf_words.specs.Step.{answer_to}
+use Rattle.nf_words.specs.Prelude.{answer_to, blob_for, content_in}
 use Rattle.nf_words.specs.declared.answer.Denial.TheVariants as denial
 use Rattle.nf_words.specs.declared.answer.Goal.TheVariants.{Serve}
 use Rattle.nf_words.specs.declared.answer.Reply.TheVariants.{Granted}

@@ -6,9 +6,7 @@ use Rattle.nf_desk.specs.Opening.{IsLoaded, OpensTo}
 use Rattle.nf_http.specs.Told.{stream}
 use Rattle.nf_rows.specs.Spelling.{Raw}
 use Rattle.nf_rules.specs.Rules.{AreUnbroken}
-use Rattle.nf_session.specs.Book.{Book}
-use Rattle.nf_session.specs.Session.{Session}
-use Rattle.nf_session.specs.Steps.{Scene}
+use Rattle.nf_session.specs.Prelude.{Book, Scene, Session}
 use Rattle.nf_session.specs.declared.ended.Ended.{Ended}
 use Rattle.nf_session.specs.declared.ended.Ended.TheVariants as ended
 use Rattle.nf_site.specs.Demo.{demo_rows}

@@ -1,15 +1,11 @@
 //! The top call: what the words of the command line ask for, over a keeper, from the bytes of requests to the bytes of answers.
 #![tactic(auto)]
 
-#[cfg(test)]
-mod door_tests;
 mod doors;
 pub mod laws;
 mod opening;
 mod running;
 mod status;
-#[cfg(test)]
-mod tests;
 
 pub use opening::demonstration;
 pub use running::{Finished, run};

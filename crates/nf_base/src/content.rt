@@ -137,33 +137,3 @@ impl PartialEq for Content {
 impl Eq for Content {
     ghost laws = { Prim.search (comparing, rules) };
 }
-
-#[cfg(test)]
-mod tests {
-    use super::*;
-    use std::test::Fail;
-
-    #[test]
-    fn sums_the_sizes(rt: HostRuntime) -> Result<(), Fail> {
-        let digest = Digest::new([7; 32]);
-        let pieces = vec![in rt.alloc();
-            Piece {
-                blob: BlobId::new(1),
-                size: 16_777_216,
-                digest
-            },
-            Piece {
-                blob: BlobId::new(2),
-                size: 1,
-                digest: Digest::new([8; 32])
-            },
-        ]?;
-        let content = Content::new(pieces);
-        assert_eq!(rt; content.size(), 16_777_217);
-        assert!(rt; content == content.clone()?);
-        assert!(rt; content != Content::empty(rt.alloc()));
-        assert!(rt; digest < content.pieces()[1].digest);
-        assert_eq!(rt; digest.as_bytes().len(), 32);
-        Ok(())
-    }
-}

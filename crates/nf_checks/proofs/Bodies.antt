@@ -14,8 +14,7 @@ use Rattle.nf_http.specs.declared.wire.WireFault.{WireFault}
 use Rattle.nf_http.specs.declared.wire.WireFault.TheVariants as wire
 use Rattle.nf_words.specs.declared.answer.Goal.TheVariants as goal
 use Rattle.nf_words.specs.declared.answer.Reply.TheVariants as reply
-use Rattle.nf_session.specs.Book.{Answer, Book, EndsBody, event_of_body}
-use Rattle.nf_session.specs.Steps.{Bodies, Cuts, IsResponse, OnlyReads, Passes, Scene, Starts, StartsFile, StoresBody, TakesIn, cutting, taken_length}
+use Rattle.nf_session.specs.Prelude.{Answer, Bodies, Book, Cuts, cutting, EndsBody, event_of_body, IsResponse, OnlyReads, Passes, Scene, Starts, StartsFile, StoresBody, taken_length, TakesIn}
 use Rattle.nf_session.specs.declared.begun.Begun.{Begun}
 use Rattle.nf_session.specs.declared.begun.Begun.TheVariants as begun
 use Rattle.nf_session.specs.declared.response.Response.{Response}

@@ -1,7 +1,6 @@
 -- What two books know after the same calls.
 use Rattle.std.proofs.Common.{◌≡◌, ℕ, ◌+◌, ◌<◌, ◌≤◌, [], ◌∷◌, ◌++◌, refl, sym, ◌∙◌, ap, subst, arith, length, max, Ok, Err, append-nil, length-append}
-use Rattle.nf_words.specs.History.{LeavesRoom, answer_at, most_entries, replay}
-use Rattle.nf_words.specs.State.{State, opened}
+use Rattle.nf_words.specs.Prelude.{answer_at, LeavesRoom, most_entries, opened, replay, State}
 use Rattle.nf_words.specs.declared.answer.Denial.TheVariants as denial
 use Rattle.nf_words.specs.declared.history.Entry.{Entry}
 use Rattle.nf_words.specs.declared.history.Event.{Event}

@@ -6,8 +6,7 @@ use Rattle.std.specs.Option.{IfSome}
 use Rattle.std.specs.declared.option.Option.{Option}
 use Rattle.std.specs.declared.option.Option.TheVariants.{Some}
 use Rattle.nf_defs.specs.Blobs.{blob_at}
-use Rattle.nf_session.specs.Book.{Lasts, TellsPiece}
-use Rattle.nf_session.specs.Steps.{Scene}
+use Rattle.nf_session.specs.Prelude.{Lasts, Scene, TellsPiece}
 use Rattle.nf_session.specs.declared.ended.Ended.{Ended}
 use Rattle.nf_session.proofs.Calm.{Goes as Step}
 use Rattle.nf_session.proofs.Lasting.{lasts_then, piece_lasts}

@@ -14,10 +14,7 @@ use Rattle.nf_http.specs.declared.wire.WireFault.TheVariants as wire
 use Rattle.nf_http.specs.Next.{IsOfBytes}
 use Rattle.nf_dav.specs.Reply.{file_head, last_manner, refusal_reply}
 use Rattle.nf_dav.specs.declared.replies.Manner.{Manner}
-use Rattle.nf_session.specs.Book.{Book, IsPiece}
-use Rattle.nf_session.specs.Files.{AreGiven, SendsFile, WritesPieces, file_front}
-use Rattle.nf_session.specs.Steps.{EndsBy, EndsSo, Scene, Sends, Wrote, denial_of}
-use Rattle.nf_session.specs.Turn.{Responds, Way, Writes, end_by, end_of, how_of, manner_of, stays_granted}
+use Rattle.nf_session.specs.Prelude.{AreGiven, Book, denial_of, end_by, end_of, EndsBy, EndsSo, file_front, how_of, IsPiece, manner_of, Responds, Scene, Sends, SendsFile, stays_granted, Way, Writes, WritesPieces, Wrote}
 use Rattle.nf_session.specs.declared.ended.Ended.{Ended}
 use Rattle.nf_session.specs.declared.ended.Ended.TheVariants as ended
 use Rattle.nf_session.specs.declared.response.Response.{Response}

@@ -12,8 +12,8 @@ use Rattle.nf_http.proofs.Agreement.{one_answer_and_rest}
 use Rattle.nf_words.specs.declared.answer.Denial.{Denial}
 use Rattle.nf_words.specs.declared.answer.Reply.TheVariants as reply
 use Rattle.nf_dav.specs.Asked.{request_of}
-use Rattle.nf_session.specs.Book.{Begins, Book, Ends}
-use Rattle.nf_session.specs.Steps.{Closes, Heads, IsUnasked, Judges, OnlyAsks, OnlyReads, Scene, Wrote, no_words}
+use Rattle.nf_session.specs.Prelude.{Begins, Book, Closes, Ends, Heads, Judges, no_words, OnlyAsks, OnlyReads, Scene, Wrote}
+use Rattle.nf_session.specs.Steps.{IsUnasked}
 use Rattle.nf_session.specs.declared.backend.Ending.{Ending}
 use Rattle.nf_session.specs.declared.backend.Ending.TheVariants as ending
 use Rattle.nf_session.specs.declared.begun.Begun.{Begun}

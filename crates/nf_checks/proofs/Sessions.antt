@@ -3,9 +3,7 @@ use Rattle.std.proofs.Common.{◌≡◌, ℕ, ◌+◌, ◌<◌, ◌≤◌, ◌==
 use Rattle.std.specs.declared.option.Option.{Option}
 use Rattle.std.specs.declared.option.Option.TheVariants.{None}
 use Rattle.std.proofs.lemmas.Bool.{ne_eqb}
-use Rattle.nf_session.specs.Session.{Session, Through}
-use Rattle.nf_session.specs.Steps.{Scene}
-use Rattle.nf_session.specs.Turn.{Turn}
+use Rattle.nf_session.specs.Prelude.{Scene, Session, Through, Turn}
 use Rattle.nf_session.specs.declared.ended.Ended.{Ended}
 use Rattle.nf_session.proofs.Calm.{goes_then, same_goes}
 use Rattle.nf_session.proofs.Causes.{through_goes, turn_goes}

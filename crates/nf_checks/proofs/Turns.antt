@@ -8,8 +8,7 @@ use Rattle.nf_http.specs.declared.wire.WireFault.{WireFault}
 use Rattle.nf_words.specs.declared.answer.Denial.TheVariants as denial
 use Rattle.nf_dav.specs.Reply.{continue_reply, last_manner, refusal_reply}
 use Rattle.nf_dav.specs.declared.replies.Manner.{Manner}
-use Rattle.nf_session.specs.Steps.{Closes, Heads, Invites, Judges, Scene, Wrote, denial_of, is_granted, taken_length}
-use Rattle.nf_session.specs.Turn.{Answers, CutsShort, Turn, Way, Writes, end_of, how_of, manner_of, stays_granted, way_of}
+use Rattle.nf_session.specs.Prelude.{Answers, Closes, CutsShort, denial_of, end_of, Heads, how_of, Invites, is_granted, Judges, manner_of, Scene, stays_granted, taken_length, Turn, Way, way_of, Writes, Wrote}
 use Rattle.nf_session.specs.declared.backend.Ending.TheVariants as ending
 use Rattle.nf_session.specs.declared.begun.Begun.{Begun}
 use Rattle.nf_session.specs.declared.ended.Ended.{Ended}

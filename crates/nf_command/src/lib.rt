@@ -5,8 +5,6 @@ mod command;
 mod first;
 pub mod laws;
 mod number;
-#[cfg(test)]
-mod tests;
 
 pub use command::{Command, Init, command_of};
 pub use first::init_rows;

@@ -6,13 +6,9 @@ use Rattle.std.proofs.lemmas.Bool.{eqb-true}
 use Rattle.std.proofs.lemmas.Option.{none-some, same_Some}
 use Rattle.nf_base.specs.declared.rows.NodeRow.{NodeRow}
 use Rattle.nf_base.specs.declared.rows.UserRow.{UserRow}
-use Rattle.nf_defs.specs.Tables.{Tables}
-use Rattle.nf_defs.specs.Tree.{child_of, found_from, is_folder, is_under, node_row, onward, folder_of, parent_of}
+use Rattle.nf_defs.specs.Prelude.{child_of, folder_of, found_from, is_folder, is_under, node_row, onward, parent_of, Tables}
 use Rattle.nf_defs.specs.declared.Found.TheVariants.{At, Missing}
-use Rattle.nf_words.specs.Changes.{blob_after, cleared}
-use Rattle.nf_words.specs.Copies.{copies_to}
-use Rattle.nf_words.specs.Limits.{last_number}
-use Rattle.nf_words.specs.Sound.{AreSound, HasRoot}
+use Rattle.nf_words.specs.Prelude.{AreSound, blob_after, cleared, copies_to, HasRoot, last_number}
 use Rattle.nf_words.specs.declared.answer.Allowed.{Allowed}
 use Rattle.nf_words.specs.declared.answer.Allowed.TheVariants as allowed
 use Rattle.nf_words.proofs.Known.{Known, KnownCopies, KnownPath, child_parent, found_has, found_passes}

@@ -5,8 +5,7 @@ use Rattle.std.specs.Option.{option_map_or}
 use Rattle.std.proofs.lemmas.List.{append-nil, length-append}
 use Rattle.std.proofs.lemmas.Option.{same_Some}
 use Rattle.nf_base.specs.declared.rows.NodeRow.{NodeRow}
-use Rattle.nf_defs.specs.Tables.{Tables}
-use Rattle.nf_defs.specs.Tree.{children_of, node_row, owner_of, walk_of, walk_within}
+use Rattle.nf_defs.specs.Prelude.{children_of, node_row, owner_of, Tables, walk_of, walk_within}
 use Rattle.nf_words.specs.Copies.{copied_row, copies_of_all, copies_to, copies_within, renamed}
 use Rattle.nf_words.specs.declared.request.Transfer.{Transfer}
 

@@ -2,12 +2,7 @@
 use Rattle.std.proofs.Common.{◌≡◌, List, [], ◌∷◌, ◌++◌, Option, None, Some, Ok, Err, option_map, refl, sym, ap, ◌∙◌}
 use Rattle.std.specs.Option.{option_or}
 use Rattle.nf_defs.specs.Access.{Access, unshared}
-use Rattle.nf_words.specs.Calls.{Call, places_of}
-use Rattle.nf_words.specs.Changes.{allowed_of}
-use Rattle.nf_words.specs.Endings.{unless_refused}
-use Rattle.nf_words.specs.Limits.{limit_rule, limited}
-use Rattle.nf_words.specs.Rules.{Rule, first_that_holds, refusal_of}
-use Rattle.nf_words.specs.Step.{call_decision}
+use Rattle.nf_words.specs.Prelude.{allowed_of, Call, call_decision, first_that_holds, limit_rule, limited, places_of, refusal_of, Rule, unless_refused}
 use Rattle.nf_words.specs.declared.answer.Allowed.{Allowed}
 use Rattle.nf_words.specs.declared.answer.Denial.{Denial}
 use Rattle.nf_words.specs.declared.answer.Denial.TheVariants as denial

@@ -3,13 +3,11 @@ use Rattle.std.proofs.Common.{ℕ, zero, suc, ◌+◌, ◌≤◌, ◌==◌, ◌�
 use Rattle.std.specs.Option.{option_map_or}
 use Rattle.std.proofs.lemmas.Bool.{eq-eqb, eqb-true, false≢true}
 use Rattle.nf_base.specs.declared.rows.NodeRow.{NodeRow}
-use Rattle.nf_defs.specs.Access.{unshared}
-use Rattle.nf_defs.specs.Tree.{child_of, found_from, is_folder, is_root, is_under, is_under_within, onward, parent_of}
+use Rattle.nf_defs.specs.Prelude.{child_of, found_from, is_folder, is_root, is_under, is_under_within, onward, parent_of, unshared}
 use Rattle.nf_defs.specs.declared.Found.{Found}
 use Rattle.nf_defs.specs.declared.Found.TheVariants.{At, Free, Missing}
 use Rattle.nf_tree.specs.Order.{AreRisingNodes}
-use Rattle.nf_words.specs.Calls.{Call, found, root_of, source_of, target_of}
-use Rattle.nf_words.specs.Places.{target_rule, transfer_of, unfit, unfit_between}
+use Rattle.nf_words.specs.Prelude.{Call, found, root_of, source_of, target_of, target_rule, transfer_of, unfit, unfit_between}
 use Rattle.nf_words.specs.declared.answer.TargetFault.TheVariants as target
 use Rattle.nf_words.specs.declared.request.Spot.{Spot}
 use Rattle.nf_words.specs.declared.request.Wanted.{Wanted}

@@ -4,8 +4,7 @@ use Rattle.nf_base.specs.declared.changes.Change.{Change}
 use Rattle.nf_base.specs.declared.changes.Change.TheVariants as change
 use Rattle.nf_base.specs.declared.rows.NodeRow.{NodeRow}
 use Rattle.nf_base.specs.declared.rows.Row.TheVariants as kinds
-use Rattle.nf_defs.specs.Tables.{Tables}
-use Rattle.nf_defs.specs.Tree.{children_of, node_row, walk_of, walk_within}
+use Rattle.nf_defs.specs.Prelude.{children_of, node_row, Tables, walk_of, walk_within}
 use Rattle.std.specs.List.{flat_map}
 use Rattle.nf_tree.proofs.Walks.{walk_down}
 use Rattle.nf_words.specs.Changes.{cleared, dropped_for, dropped_under, stamped, transferred_row}

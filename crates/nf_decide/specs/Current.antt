@@ -2,11 +2,8 @@
 use Rattle.std.specs.Prelude.{◌≡◌, ℕ, ◌+◌, ◌<◌, ◌≤◌, All, AllPairs, true, List, [], ◌∷◌, length, slice_get, Option, None, Some, IsSome}
 use Rattle.std.specs.Option.{ForSome}
 use Rattle.nf_base.specs.declared.rows.NodeRow.{NodeRow}
-use Rattle.nf_defs.specs.Tables.{Tables}
-use Rattle.nf_defs.specs.Tree.{is_file, node_row}
-use Rattle.nf_words.specs.Changes.{blob_after, cleared, goal_of}
-use Rattle.nf_words.specs.Limits.{last_number}
-use Rattle.nf_words.specs.State.{State}
+use Rattle.nf_defs.specs.Prelude.{is_file, node_row, Tables}
+use Rattle.nf_words.specs.Prelude.{blob_after, cleared, goal_of, last_number, State}
 use Rattle.nf_words.specs.declared.answer.Allowed.{Allowed}
 use Rattle.nf_words.specs.declared.answer.Allowed.TheVariants as allowed
 use Rattle.nf_words.specs.declared.request.Transfer.{Transfer}

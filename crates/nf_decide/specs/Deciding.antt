@@ -1,10 +1,7 @@
 -- Tests that answer exactly as rules do.
 use Rattle.std.specs.Prelude.{◌≡◌, ◌≢◌, List, [], ◌∷◌, Option, None, Some, IsSome, IfSome, Result, Ok, Err}
 use Rattle.nf_defs.specs.Access.{Access}
-use Rattle.nf_words.specs.Calls.{Call, places_of, target_of}
-use Rattle.nf_words.specs.Callers.{token_rule, not_you_rule}
-use Rattle.nf_words.specs.Places.{forbidden_rule, place_rule, exists_rule, target_rule, overwrite_rule, transfer_of}
-use Rattle.nf_words.specs.Rules.{Rule, first_that_holds}
+use Rattle.nf_words.specs.Prelude.{Call, exists_rule, first_that_holds, forbidden_rule, not_you_rule, overwrite_rule, place_rule, places_of, Rule, target_of, target_rule, token_rule, transfer_of}
 use Rattle.nf_words.specs.declared.answer.Denial.{Denial}
 
 -- the test refuses as the rule does, and passes where the rule is silent

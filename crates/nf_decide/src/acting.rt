@@ -3,9 +3,7 @@
 ghost use Rattle.std.specs.Prelude.{◌≡◌, ◌≢◌, ℕ, IfOk, IfSome, IsSome, None, Some, []};
 ghost use Rattle.nf_base.specs.Kept.{IsPlain};
 ghost use Rattle.nf_defs.specs.declared.Found.TheVariants.{Free};
-ghost use Rattle.nf_words.specs.Calls.{last_name};
-ghost use Rattle.nf_words.specs.Changes.{copied, deleted, made_folder, moved, new_node, served, shown, stored};
-ghost use Rattle.nf_words.specs.Limits.{copy_limit};
+ghost use Rattle.nf_words.specs.Prelude.{copied, copy_limit, deleted, last_name, made_folder, moved, new_node, served, shown, stored};
 
 use crate::copying::copies_to;
 use crate::listing::listing_of;

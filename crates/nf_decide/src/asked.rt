@@ -1,8 +1,7 @@
 //! What a request names, and what its paths lead to.
 
 ghost use Rattle.std.specs.Prelude.{◌≡◌, option_copied};
-ghost use Rattle.nf_words.specs.Calls.{source_of, target_of};
-ghost use Rattle.nf_words.specs.Places.{is_kept, lost, node_at, node_found};
+ghost use Rattle.nf_words.specs.Prelude.{is_kept, lost, node_at, node_found, source_of, target_of};
 
 use nf_base::NodeId;
 use nf_defs::Found;

@@ -2,8 +2,7 @@
 
 ghost use Rattle.std.specs.Prelude.{◌≡◌, ◌+◌, ◌≤◌, ◌++◌, None, length, vec_len, IfOk, OnOk};
 ghost use Rattle.nf_defs.specs.Tree.{walk_within};
-ghost use Rattle.nf_words.specs.Copies.{copied_row, copies_to, copies_within, renamed};
-ghost use Rattle.nf_words.specs.Limits.{copy_limit, last_number};
+ghost use Rattle.nf_words.specs.Prelude.{copied_row, copies_to, copies_within, copy_limit, last_number, renamed};
 
 use crate::nodes::owner_of;
 use crate::tables::Tables;

@@ -2,15 +2,8 @@
 
 ghost use Rattle.std.specs.Prelude.{◌≡◌, ◌≤◌, IfOk, IfSome, None, Some, false, length, option_and_then, option_copied, option_map};
 ghost use Rattle.std.specs.Option.{option_map_or};
-ghost use Rattle.nf_defs.specs.Access.{unshared};
-ghost use Rattle.nf_defs.specs.People.{user_row};
-ghost use Rattle.nf_defs.specs.Tree.{found_from, is_folder};
-ghost use Rattle.nf_words.specs.Calls.{asker_of, caller_row, places_of, source_of, user_of};
-ghost use Rattle.nf_words.specs.Callers.{not_you_rule, token_rule};
-ghost use Rattle.nf_words.specs.Changes.{allowed_of};
-ghost use Rattle.nf_words.specs.Limits.{limit_at, limited};
-ghost use Rattle.nf_words.specs.Places.{exists_rule, forbidden_rule, has_forbidden, is_there, overwrite_rule, place_rule, target_rule, unfit};
-ghost use Rattle.nf_words.specs.Step.{call_decision};
+ghost use Rattle.nf_defs.specs.Prelude.{found_from, is_folder, unshared, user_row};
+ghost use Rattle.nf_words.specs.Prelude.{allowed_of, asker_of, call_decision, caller_row, exists_rule, forbidden_rule, has_forbidden, is_there, limit_at, limited, not_you_rule, overwrite_rule, place_rule, places_of, source_of, target_rule, token_rule, unfit, user_of};
 ghost use Rattle.nf_decide.specs.Asked.{is_called, is_forbidden, names_caller};
 ghost use Rattle.nf_decide.specs.Deciding.{Follows, IsNamed, early_refusal};
 ghost use Rattle.nf_tree.specs.Order.{AreRisingNodes};

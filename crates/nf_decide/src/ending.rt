@@ -3,9 +3,7 @@
 ghost use Rattle.std.specs.Prelude.{◌≡◌, ◌≤◌, IfOk, None, Some, if◌then◌else◌, option_copied};
 ghost use Rattle.std.specs.Option.{ForSome};
 ghost use Rattle.nf_base.specs.declared.content.TheConstants.{MAX_BODY};
-ghost use Rattle.nf_words.specs.Endings.{blob_for, content_in, end_refusal, ends_goal, key_lost, place_of, stored_at, stores};
-ghost use Rattle.nf_words.specs.History.{MayBring};
-ghost use Rattle.nf_words.specs.Sound.{IsGoalSound};
+ghost use Rattle.nf_words.specs.Prelude.{blob_for, content_in, end_refusal, ends_goal, IsGoalSound, key_lost, MayBring, place_of, stored_at, stores};
 ghost use Rattle.nf_words.specs.declared.answer.Denial.TheVariants.{NotFound};
 
 use crate::acting::new_node;

@@ -2,8 +2,8 @@
 
 ghost use Rattle.std.specs.Prelude.{◌≡◌, ◌∷◌, ◌++◌, [], min, sum_by, filter_map, option_and_then, IfOk, OnOk};
 ghost use Rattle.nf_defs.specs.Tree.{node_row};
-ghost use Rattle.nf_words.specs.Limits.{last_number};
-ghost use Rattle.nf_words.specs.Listing.{all_permissions, bytes_of, line_of, listing_of, size_of};
+ghost use Rattle.nf_words.specs.Prelude.{bytes_of, last_number, line_of, listing_of};
+ghost use Rattle.nf_words.specs.Listing.{all_permissions, size_of};
 
 use crate::tables::Tables;
 use nf_base::{NodeId, NodeRow, Perms, UserRow};

@@ -3,9 +3,7 @@
 ghost use Rattle.std.specs.Prelude.{◌≡◌, ◌+◌, ◌≤◌, ◌==◌, not, filter, vec_capacity, length, [], ◌∷◌, ◌++◌, find, IfOk, OnOk, Ok, option_copied};
 ghost use Rattle.nf_defs.specs.Tables.{rows_of};
 ghost use Rattle.nf_words.specs.Changes.{applied};
-ghost use Rattle.nf_words.specs.History.{failed};
-ghost use Rattle.nf_words.specs.State.{ticket_for, ticket_of};
-ghost use Rattle.nf_words.specs.Step.{stepped_by};
+ghost use Rattle.nf_words.specs.Prelude.{failed, stepped_by, ticket_for, ticket_of};
 ghost use Rattle.nf_decide.specs.Current.{AreGiven, BearsAct, FitsAct, FitsTicket};
 ghost use Rattle.nf_rules.specs.Ruled.{AreRuled};
 ghost use Rattle.nf_decide.specs.Rows.{FitsNodes};

@@ -7,8 +7,7 @@ use Rattle.std.specs.declared.cmp.Ordering.TheVariants.{Less, Equal, Greater}
 use Rattle.std.proofs.lemmas.Bool.{eq-eqb, ne_eqb}
 use Rattle.std.proofs.lemmas.Cmp.{ranked}
 use Rattle.std.proofs.lemmas.Option.{none-some, same_Some}
-use Rattle.nf_defs.specs.Blobs.{Blobs, blob_at, put_blob, with_blob}
-use Rattle.nf_defs.specs.Puts.{by_order}
+use Rattle.nf_defs.specs.Prelude.{blob_at, Blobs, by_order, put_blob, with_blob}
 
 -- the bytes under the number are the new ones
 pub put_at : (blobs : Blobs) (id : ℕ) (bytes : List ℕ) → blob_at (put_blob blobs id bytes) id ≡ Some bytes

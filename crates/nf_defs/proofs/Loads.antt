@@ -7,10 +7,7 @@ use Rattle.nf_base.specs.declared.changes.RowKey.{RowKey}
 use Rattle.nf_base.specs.declared.changes.RowKey.TheVariants as keys
 use Rattle.nf_base.specs.declared.rows.Row.{Row}
 use Rattle.nf_base.specs.declared.rows.Row.TheVariants as rows
-use Rattle.nf_defs.specs.Changes.{drop_row, numbers_of}
-use Rattle.nf_defs.specs.Keys.{user_key, token_key, group_key, member_key, node_key, share_key, mount_key, version_key, item_key, upload_key, chunk_key}
-use Rattle.nf_defs.specs.Tables.{Tables, no_rows, put_row, put_rows, tables_of}
-use Rattle.nf_defs.specs.Rising.{AreRising}
+use Rattle.nf_defs.specs.Prelude.{AreRising, chunk_key, drop_row, group_key, item_key, member_key, mount_key, no_rows, node_key, numbers_of, put_row, put_rows, share_key, Tables, tables_of, token_key, upload_key, user_key, version_key}
 use Rattle.nf_defs.proofs.Puts.{all_put, dropped_rising, put_rising}
 
 -- one row more

@@ -17,8 +17,7 @@ use Rattle.std.proofs.lemmas.List.Sums.{fails_before_first, position_or_len_is}
 use Rattle.std.proofs.lemmas.Map.Text.{is_eq-slice_cmp}
 use Rattle.std.proofs.lemmas.Option.{slice_get-get_or, slice_get_past}
 use Rattle.std.proofs.lemmas.Slice.Eq.{bytes_eq-Decides}
-use Rattle.nf_defs.specs.Puts.{dropped, key_cmp}
-use Rattle.nf_defs.specs.Rising.{IsRising}
+use Rattle.nf_defs.specs.Prelude.{dropped, IsRising, key_cmp}
 use Rattle.nf_defs.proofs.Puts.{below_rest, key_total, numbers_rise, tail_rising}
 
 -- ---- the first that passes a test

@@ -12,8 +12,7 @@ use Rattle.std.specs.declared.cmp.Ordering.{Ordering}
 use Rattle.std.specs.declared.cmp.Ordering.TheVariants.{Less, Equal, Greater}
 use Rattle.std.proofs.lemmas.List.Elements.{All-cons, All-head, All-tail, All-weaker}
 use Rattle.std.proofs.lemmas.List.Kept.{AllPairs-cons, AllPairs-filter}
-use Rattle.nf_defs.specs.Puts.{by_order, dropped, key_cmp, put}
-use Rattle.nf_defs.specs.Rising.{IsRising}
+use Rattle.nf_defs.specs.Prelude.{by_order, dropped, IsRising, key_cmp, put}
 
 -- ---- the order of keys
 

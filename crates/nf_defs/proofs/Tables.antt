@@ -3,10 +3,7 @@ use Rattle.std.proofs.Common.{ℕ, ◌≡◌, List, [], ◌∷◌, ◌++◌, map
 use Rattle.std.proofs.lemmas.List.{append-nil}
 use Rattle.nf_base.specs.declared.rows.Row.{Row}
 use Rattle.nf_base.specs.declared.rows.Row.TheVariants as rows
-use Rattle.nf_defs.specs.Keys.{user_key, token_key, group_key, member_key, node_key, share_key, mount_key, version_key, item_key, upload_key, chunk_key}
-use Rattle.nf_defs.specs.Puts.{put}
-use Rattle.nf_defs.specs.Tables.{Tables, no_rows, put_row, put_rows, rows_of, tables_of}
-use Rattle.nf_defs.specs.Rising.{AreRising, IsRising}
+use Rattle.nf_defs.specs.Prelude.{AreRising, chunk_key, group_key, IsRising, item_key, member_key, mount_key, no_rows, node_key, put, put_row, put_rows, rows_of, share_key, Tables, tables_of, token_key, upload_key, user_key, version_key}
 use Rattle.nf_defs.proofs.Puts.{put_next}
 use Rattle.nf_defs.proofs.Loads.{rising_more}
 

@@ -7,3 +7,4 @@ pub mod Changes
 pub mod Access
 pub mod People
 pub mod Tree
+pub mod Prelude

@@ -9,8 +9,7 @@ use Rattle.std.proofs.lemmas.List.Folds.{list_any_at}
 use Rattle.nf_base.specs.declared.content.Piece.{Piece}
 use Rattle.nf_base.specs.declared.rows.Row.{Row}
 use Rattle.nf_base.specs.declared.rows.Row.TheVariants.{Node}
-use Rattle.nf_defs.specs.Blobs.{Blobs}
-use Rattle.nf_defs.specs.Tables.{tables_of}
+use Rattle.nf_defs.specs.Prelude.{Blobs, tables_of}
 use Rattle.nf_laws.specs.Wholes.{IsDamaged, IsNamed}
 use Rattle.nf_rules.proofs.Firsts.{keep_each}
 use Rattle.nf_rules.specs.Rules.{AreUnbroken, are_numbers, has_ungiven_blob, is_given, rules}

@@ -8,14 +8,9 @@ use Rattle.std.proofs.lemmas.Option.{none-some, same_Some}
 use Rattle.nf_base.specs.declared.content.TheConstants.{MAX_BODY}
 use Rattle.nf_defs.specs.Tables.{Tables}
 use Rattle.nf_defs.specs.declared.Seeker.{Seeker}
-use Rattle.nf_words.specs.Actors.{actor_of}
-use Rattle.nf_words.specs.Changes.{reply_to}
+use Rattle.nf_words.specs.Prelude.{actor_of, answer_at, answer_to, answered_by, blob_to, decision_of, end_refusal, ends_goal, ends_ticket, IsSound, MayAsk, MayBring, MayCome, MayEnd, MayWant, most_entries, reply_to, State, ticket_for, ticket_of, unless_refused}
+use Rattle.nf_words.specs.Endings.{stored_at as stores_at}
 use Rattle.nf_words.proofs.Steps.{put_grants_nothing}
-use Rattle.nf_words.specs.Endings.{end_refusal, ends_goal, ends_ticket, stored_at as stores_at, unless_refused}
-use Rattle.nf_words.specs.History.{MayAsk, MayBring, MayEnd, MayCome, MayWant, answer_at, most_entries}
-use Rattle.nf_words.specs.Sound.{IsSound}
-use Rattle.nf_words.specs.State.{State, ticket_for, ticket_of}
-use Rattle.nf_words.specs.Step.{answer_to, answered_by, blob_to, decision_of}
 use Rattle.nf_words.specs.declared.answer.Allowed.{Allowed}
 use Rattle.nf_words.specs.declared.answer.Allowed.TheVariants as allowed
 use Rattle.nf_words.specs.declared.answer.LockKey.{LockKey}

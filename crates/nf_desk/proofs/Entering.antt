@@ -9,9 +9,7 @@ use Rattle.nf_session.specs.Book.{Answer, Book, Enters, Lasts, Strikes, TellsSti
 use Rattle.nf_site.specs.Kept.{Kept, IsHistory, entered}
 use Rattle.nf_told.specs.Told.{Told}
 use Rattle.nf_words.proofs.Histories.{replay_more}
-use Rattle.nf_words.specs.History.{MayCome, after, answer_at, replay}
-use Rattle.nf_words.specs.Sound.{IsSound}
-use Rattle.nf_words.specs.State.{State, opened}
+use Rattle.nf_words.specs.Prelude.{after, answer_at, IsSound, MayCome, opened, replay, State}
 use Rattle.nf_words.specs.declared.history.Entry.{Entry}
 use Rattle.nf_words.specs.declared.history.Event.{Event}
 use Rattle.nf_desk.specs.Desk.{IsCounted, Shown, blobs_in, book_at}

@@ -4,9 +4,7 @@ use Rattle.std.specs.Prelude.{Option, None, Some, option_map}
 use Rattle.std.specs.Option.{IfSome}
 use Rattle.std.proofs.lemmas.List.Elements.{All-nil}
 use Rattle.nf_base.specs.declared.changes.Change.{Change}
-use Rattle.nf_defs.specs.Blobs.{Blobs, with_blob}
-use Rattle.nf_defs.specs.Rising.{AreRising}
-use Rattle.nf_defs.specs.Tables.{Tables}
+use Rattle.nf_defs.specs.Prelude.{AreRising, Blobs, Tables, with_blob}
 use Rattle.nf_keeper.specs.Keeping.{Stored, applied, with_stored}
 use Rattle.nf_laws.proofs.Blobs.{blobs_are_new, stays_whole}
 use Rattle.nf_laws.proofs.Telling.{changes_tell}
@@ -15,11 +13,7 @@ use Rattle.nf_session.specs.Book.{Answer, TellsStill}
 use Rattle.nf_site.specs.Kept.{Kept, answered, entered, entry, moment_of}
 use Rattle.nf_told.proofs.Follows.{told_follows}
 use Rattle.nf_told.specs.Told.{AreFit, FitsChange, Told, told_all, told_of}
-use Rattle.nf_words.specs.Endings.{ends_ticket}
-use Rattle.nf_words.specs.History.{MayCome, after_mark, failed}
-use Rattle.nf_words.specs.Sound.{IsSound}
-use Rattle.nf_words.specs.State.{State, ticket_of}
-use Rattle.nf_words.specs.Step.{blob_to, changes_by, changes_to, step}
+use Rattle.nf_words.specs.Prelude.{after_mark, blob_to, changes_by, changes_to, ends_ticket, failed, IsSound, MayCome, State, step, ticket_of}
 use Rattle.nf_words.specs.declared.history.Entry.{Entry}
 use Rattle.nf_words.specs.declared.history.Event.{Event}
 use Rattle.nf_words.specs.declared.history.Event.TheVariants.{Begin, End}

@@ -6,8 +6,7 @@ use Rattle.std.specs.declared.snapshot.Snapshot.{Snapshot}
 use Rattle.std.specs.List.{All}
 use Rattle.std.proofs.lemmas.List.Elements.{All-cons, All-nil}
 use Rattle.nf_base.specs.declared.content.Piece.{Piece}
-use Rattle.nf_defs.specs.Blobs.{Blobs}
-use Rattle.nf_defs.specs.Rising.{AreRising}
+use Rattle.nf_defs.specs.Prelude.{AreRising, Blobs}
 use Rattle.nf_keeper.specs.Keeping.{Counts, IsTold}
 use Rattle.nf_keeper.specs.Views.{bytes_in}
 use Rattle.nf_keeper.specs.declared.keeper.KeepFault.{KeepFault}
@@ -20,8 +19,7 @@ use Rattle.nf_site.specs.Held.{Held}
 use Rattle.nf_site.specs.Kept.{IsHistory, Kept}
 use Rattle.nf_told.specs.Told.{Told}
 use Rattle.nf_turn.specs.Book.{KeepsShelf}
-use Rattle.nf_words.specs.Sound.{IsSound}
-use Rattle.nf_words.specs.State.{opened}
+use Rattle.nf_words.specs.Prelude.{IsSound, opened}
 use Rattle.nf_words.specs.declared.answer.Goal.TheVariants.{Serve}
 use Rattle.nf_words.specs.declared.history.Entry.{Entry}
 use Rattle.nf_words.specs.declared.history.Event.{Event}

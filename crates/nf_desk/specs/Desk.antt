@@ -12,8 +12,7 @@ use Rattle.nf_site.specs.Held.{Held}
 use Rattle.nf_site.specs.Kept.{IsHistory, Kept}
 use Rattle.nf_told.specs.Told.{AreFit, Told, told_of}
 use Rattle.nf_turn.specs.Book.{AddsAlone, Meanings, Shelf}
-use Rattle.nf_words.specs.History.{replay}
-use Rattle.nf_words.specs.State.{opened}
+use Rattle.nf_words.specs.Prelude.{opened, replay}
 use Rattle.nf_words.specs.declared.history.Entry.{Entry}
 use Rattle.nf_words.specs.declared.history.Mark.{Mark}
 use Rattle.nf_words.specs.declared.history.Mark.TheVariants as mark

@@ -6,8 +6,7 @@ use Rattle.nf_session.specs.Book.{Answer, Strikes}
 use Rattle.nf_site.specs.Held.{entries_wanted}
 use Rattle.nf_site.specs.Kept.{Kept, entered, entry, moment_of}
 use Rattle.nf_told.specs.Told.{FitsChange, Told}
-use Rattle.nf_words.specs.History.{MayBring, MayCome, answer_at, most_entries}
-use Rattle.nf_words.specs.Step.{blob_to, changes_to}
+use Rattle.nf_words.specs.Prelude.{answer_at, blob_to, changes_to, MayBring, MayCome, most_entries}
 use Rattle.nf_words.specs.declared.answer.Denial.TheVariants as denial
 use Rattle.nf_words.specs.declared.answer.Goal.{Goal}
 use Rattle.nf_words.specs.declared.history.Entry.{Entry}

@@ -11,8 +11,7 @@ ghost use Rattle.nf_rules.specs.Rules.{AreUnbroken};
 ghost use Rattle.nf_session.specs.Book.{Begins, EndsBody, EndsEmpty, held};
 ghost use Rattle.nf_site.specs.Kept.{IsHistory};
 ghost use Rattle.nf_turn.specs.Book.{IsFresh};
-ghost use Rattle.nf_words.specs.History.{MayWant};
-ghost use Rattle.nf_words.specs.Sound.{IsSound};
+ghost use Rattle.nf_words.specs.Prelude.{IsSound, MayWant};
 ghost use Rattle.nf_words.specs.declared.answer.Goal.TheVariants.{Serve};
 ghost use Rattle.nf_words.specs.declared.history.Outcome.TheVariants.{Body};
 

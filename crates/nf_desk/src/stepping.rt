@@ -8,8 +8,7 @@ ghost use Rattle.nf_keeper.specs.Views.{stored_in};
 ghost use Rattle.nf_session.specs.Book.{event_of_body};
 ghost use Rattle.nf_site.specs.Held.{HasEntryRoom};
 ghost use Rattle.nf_told.specs.Told.{FitsChange};
-ghost use Rattle.nf_words.specs.History.{MayAsk};
-ghost use Rattle.nf_words.specs.Step.{blob_by};
+ghost use Rattle.nf_words.specs.Prelude.{blob_by, MayAsk};
 ghost use Rattle.nf_words.specs.declared.history.Event.TheVariants.{Begin, End};
 ghost use Rattle.nf_words.specs.declared.history.Mark.TheVariants as mark;
 

@@ -19,8 +19,7 @@ use Rattle.nf_laws.specs.Wholes.{IsDamaged}
 use Rattle.nf_session.specs.Book.{Book, GivesOrFails, GivesPiece, Struck, TellsDamage, TellsPiece, TellsStill}
 use Rattle.nf_session.specs.declared.backend.PieceFault.{PieceFault}
 use Rattle.nf_session.specs.declared.backend.PieceFault.TheVariants as fault
-use Rattle.nf_turn.specs.Agreeing.{Agrees, seen_shelf}
-use Rattle.nf_turn.specs.Memory.{having_passed}
+use Rattle.nf_turn.specs.Prelude.{Agrees, having_passed, seen_shelf}
 use Rattle.nf_turn.specs.declared.view.Memory.{Memory as MemoryOf}
 use Rattle.nf_words.specs.declared.answer.Damage.{Damage}
 use Rattle.nf_hub.specs.Calls.{AsksPiece, Shelves, ShelvesPiece, StrikesPiece, WasDamaged}

@@ -6,9 +6,7 @@ use Rattle.nf_desk.specs.Desk.{Served, book_at, meanings, shown}
 use Rattle.nf_keeper.specs.declared.keeper.Keeper.{Ghosts as KeeperOf}
 use Rattle.nf_session.specs.Book.{held, held_after}
 use Rattle.nf_site.specs.Kept.{IsHistory}
-use Rattle.nf_turn.specs.Agreeing.{Agrees, AllAreKept}
-use Rattle.nf_turn.specs.Book.{HasNothing}
-use Rattle.nf_turn.specs.Numbers.{IsWhole, is_joined, numbers_of}
+use Rattle.nf_turn.specs.Prelude.{Agrees, AllAreKept, HasNothing, is_joined, IsWhole, numbers_of}
 use Rattle.nf_turn.specs.declared.view.Memory.{Memory}
 use Rattle.nf_turn.proofs.Left.{IsLeft, left_tests}
 use Rattle.nf_turn.proofs.Whole.{ways}

@@ -9,13 +9,10 @@ use Rattle.nf_defs.specs.Blobs.{Blobs}
 use Rattle.nf_desk.specs.Desk.{Served, blobs_in, book_at, meanings, shown}
 use Rattle.nf_keeper.specs.declared.keeper.Keeper.{Ghosts as KeeperOf}
 use Rattle.nf_session.specs.Book.{Answer, EndsBody, IsOfBody, Stores, granted, state_after}
-use Rattle.nf_turn.specs.Agreeing.{Agrees, seen_shelf}
-use Rattle.nf_turn.specs.Memory.{having_passed}
+use Rattle.nf_turn.specs.Prelude.{Agrees, having_passed, seen_shelf}
 use Rattle.nf_turn.specs.declared.view.Memory.{Memory}
 use Rattle.nf_words.proofs.Histories.{replay_more}
-use Rattle.nf_words.specs.History.{after, replay}
-use Rattle.nf_words.specs.State.{State, opened}
-use Rattle.nf_words.specs.Step.{blob_to}
+use Rattle.nf_words.specs.Prelude.{after, blob_to, opened, replay, State}
 use Rattle.nf_words.specs.declared.answer.Reply.TheVariants as reply
 use Rattle.nf_words.specs.declared.history.Entry.{Entry}
 use Rattle.nf_hub.specs.Calls.{ShelvesBody}

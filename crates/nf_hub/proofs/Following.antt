@@ -7,8 +7,7 @@ use Rattle.nf_session.specs.Book.{Answer, Begins, Book, EndsBody, EndsEmpty, Ent
 use Rattle.nf_session.specs.declared.backend.PieceFault.{PieceFault}
 use Rattle.nf_session.specs.declared.backend.PieceFault.TheVariants as fault
 use Rattle.nf_session.proofs.Lasting.{lasts_then, waits_then}
-use Rattle.nf_words.specs.History.{MayCome, answer_at, replay}
-use Rattle.nf_words.specs.State.{State, opened}
+use Rattle.nf_words.specs.Prelude.{answer_at, MayCome, opened, replay, State}
 use Rattle.nf_words.specs.declared.history.Entry.{Entry}
 use Rattle.nf_words.specs.declared.history.Event.{Event}
 use Rattle.nf_words.specs.declared.history.Event.TheVariants.{Begin}

@@ -6,11 +6,9 @@ use Rattle.nf_base.specs.declared.rows.Row.{Row}
 use Rattle.nf_desk.specs.Desk.{Served, book_at, meanings, shown, entries_by}
 use Rattle.nf_keeper.specs.declared.keeper.Keeper.{Ghosts as KeeperOf}
 use Rattle.nf_session.specs.Book.{held, held_after}
-use Rattle.nf_turn.specs.Agreeing.{HasHeard}
-use Rattle.nf_turn.specs.Memory.{having_joined, longer, split_from}
+use Rattle.nf_turn.specs.Prelude.{HasHeard, having_joined, longer, split_from}
 use Rattle.nf_turn.specs.declared.view.Memory.{Memory}
-use Rattle.nf_words.specs.History.{IsLegal}
-use Rattle.nf_words.specs.State.{opened}
+use Rattle.nf_words.specs.Prelude.{IsLegal, opened}
 use Rattle.nf_hub.specs.Seats.{AllWereIdle, book_in}
 use Rattle.nf_hub.proofs.Knowing.{Knows}
 use Rattle.nf_hub.proofs.Owning.{own_same, none_own}

@@ -4,9 +4,7 @@ use Rattle.std.specs.Prelude.{Bool, is_none}
 use Rattle.nf_desk.specs.Desk.{Served, TakesTurn, book_at, meanings, most_seats, shown}
 use Rattle.nf_keeper.specs.declared.keeper.Keeper.{Ghosts as KeeperOf}
 use Rattle.nf_session.specs.Book.{IsBook, held}
-use Rattle.nf_turn.specs.Agreeing.{Agrees, HasHeard}
-use Rattle.nf_turn.specs.Book.{Precedes}
-use Rattle.nf_turn.specs.Memory.{having_passed}
+use Rattle.nf_turn.specs.Prelude.{Agrees, HasHeard, having_passed, Precedes}
 use Rattle.nf_turn.specs.declared.view.Memory.{Memory}
 use Rattle.nf_turn.proofs.Preceding.{AllPrecede-trans, Precedes-refl, Precedes-trans}
 use Rattle.nf_hub.specs.Seats.{AllWereIdle, book_in}

@@ -6,8 +6,7 @@ use Rattle.std.specs.Prelude.{Bool, true, false, ◌==◌, if◌then◌else◌}
 use Rattle.nf_base.specs.declared.rows.Row.{Row}
 use Rattle.nf_desk.specs.Desk.{entries_by}
 use Rattle.nf_session.specs.Book.{Answer, own_from}
-use Rattle.nf_words.specs.History.{after, answer_at}
-use Rattle.nf_words.specs.State.{State, opened}
+use Rattle.nf_words.specs.Prelude.{after, answer_at, opened, State}
 use Rattle.nf_words.specs.declared.history.Entry.{Entry}
 
 -- where the entries of a seat stay as they were, none of it came

@@ -10,12 +10,10 @@ use Rattle.nf_laws.proofs.Counters.{counters_go_on}
 use Rattle.nf_session.specs.Book.{Passes, TellsStill, held, held_after, next_blob_of, own_from}
 use Rattle.nf_site.specs.Kept.{Kept}
 use Rattle.nf_told.specs.Told.{Told}
-use Rattle.nf_turn.specs.Agreeing.{Agrees}
-use Rattle.nf_turn.specs.Book.{Grows, KeepsShelf}
+use Rattle.nf_turn.specs.Prelude.{Agrees, Grows, KeepsShelf}
 use Rattle.nf_turn.specs.declared.view.Memory.{Memory}
 use Rattle.nf_turn.proofs.Growing.{entries_of-more}
-use Rattle.nf_words.specs.History.{replay}
-use Rattle.nf_words.specs.State.{State, opened}
+use Rattle.nf_words.specs.Prelude.{opened, replay, State}
 use Rattle.nf_hub.specs.Seats.{book_in}
 use Rattle.nf_hub.proofs.Owning.{own_stays}
 

@@ -10,8 +10,7 @@ use Rattle.nf_session.specs.Book.{TellsStill}
 use Rattle.nf_site.specs.Kept.{Kept}
 use Rattle.nf_told.specs.Told.{Told}
 use Rattle.nf_turn.specs.Agreeing.{HasOrLacks, bytes_under}
-use Rattle.nf_words.specs.History.{replay}
-use Rattle.nf_words.specs.State.{opened}
+use Rattle.nf_words.specs.Prelude.{opened, replay}
 
 -- the number of the next blob
 abbrev pub next_of : Kept → ℕ

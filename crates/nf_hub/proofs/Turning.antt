@@ -6,10 +6,7 @@ use Rattle.nf_base.specs.declared.rows.Row.{Row}
 use Rattle.nf_desk.specs.Desk.{Served, TakesTurn, book_at, meanings, most_seats, shown}
 use Rattle.nf_keeper.specs.declared.keeper.Keeper.{Ghosts as KeeperOf}
 use Rattle.nf_session.specs.Book.{Book, Passes, held}
-use Rattle.nf_turn.specs.Agreeing.{Agrees}
-use Rattle.nf_turn.specs.Memory.{having_passed}
-use Rattle.nf_turn.specs.Numbers.{Numbers, numbers_of}
-use Rattle.nf_turn.specs.Seats.{IsIdle, IsSeatOf, numbers}
+use Rattle.nf_turn.specs.Prelude.{Agrees, having_passed, IsIdle, IsSeatOf, Numbers, numbers, numbers_of}
 use Rattle.nf_turn.specs.declared.view.Memory.{Memory}
 use Rattle.nf_turn.proofs.Poses.{numbers_known}
 use Rattle.nf_words.specs.declared.history.Entry.{Entry}

@@ -21,15 +21,12 @@ use Rattle.nf_session.specs.declared.backend.PieceFault.{PieceFault}
 use Rattle.nf_session.specs.declared.backend.PieceFault.TheVariants as fault
 use Rattle.nf_site.specs.Kept.{IsHistory, Kept}
 use Rattle.nf_told.specs.Told.{Told}
-use Rattle.nf_turn.specs.Agreeing.{Agrees, seen_shelf}
-use Rattle.nf_turn.specs.Memory.{having_passed}
+use Rattle.nf_turn.specs.Prelude.{Agrees, having_passed, seen_shelf}
 use Rattle.nf_turn.specs.declared.view.Memory.{Memory as MemoryOf}
 use Rattle.nf_words.specs.declared.answer.Goal.{Goal}
 use Rattle.nf_words.specs.declared.answer.Goal.TheVariants.{Serve, Store}
 use Rattle.nf_words.specs.declared.answer.Reply.TheVariants.{Granted}
-use Rattle.nf_words.specs.History.{replay}
-use Rattle.nf_words.specs.State.{opened, ticket_for, ticket_of}
-use Rattle.nf_words.specs.Step.{blob_to}
+use Rattle.nf_words.specs.Prelude.{blob_to, opened, replay, ticket_for, ticket_of}
 use Rattle.nf_words.specs.declared.history.Entry.{Entry}
 use Rattle.nf_hub.specs.declared.seat.Began.{Began}
 use Rattle.nf_hub.specs.declared.seat.Began.TheVariants as began

@@ -9,9 +9,7 @@ use Rattle.nf_desk.specs.declared.first.Opening.{Opening}
 use Rattle.nf_keeper.specs.declared.keeper.Keeper.{Ghosts as KeeperOf}
 use Rattle.nf_rules.specs.Rules.{AreUnbroken}
 use Rattle.nf_session.specs.Book.{Book, IsBook, held}
-use Rattle.nf_turn.specs.Agreeing.{HasHeard}
-use Rattle.nf_turn.specs.Memory.{of_the_first}
-use Rattle.nf_turn.specs.Seats.{IsIdle, IsSeatOf, memory, numbers}
+use Rattle.nf_turn.specs.Prelude.{HasHeard, IsIdle, IsSeatOf, memory, numbers, of_the_first}
 use Rattle.nf_turn.specs.declared.view.Memory.{Memory}
 use Rattle.nf_words.specs.declared.history.Entry.{Entry}
 use Rattle.nf_hub.specs.declared.hub.HubOf.{HubOf}

@@ -9,10 +9,7 @@ ghost use Rattle.nf_hub.specs.Calls.{AsksGoal, AsksPiece, GivesGoal, HasPiece, H
 ghost use Rattle.nf_hub.specs.Seats.{IsSeat, Starts, book, memory_of, steady};
 ghost use Rattle.nf_hub.specs.Closing.{Closes};
 ghost use Rattle.nf_session.specs.Book.{Begins, EndsBody, EndsEmpty, Ends, GivesPiece, MayEnd, granted, held};
-ghost use Rattle.nf_turn.specs.Book.{IsFresh};
-ghost use Rattle.nf_turn.specs.Memory.{having_joined, having_split, longer, of_the_first, split_from};
-ghost use Rattle.nf_turn.specs.Numbers.{IsWhole};
-ghost use Rattle.nf_turn.specs.Seats.{numbers};
+ghost use Rattle.nf_turn.specs.Prelude.{having_joined, having_split, IsFresh, IsWhole, longer, numbers, of_the_first, split_from};
 ghost use Rattle.nf_words.specs.History.{MayWant};
 ghost use Rattle.nf_words.specs.declared.answer.Goal.TheVariants.{Serve};
 ghost use Rattle.nf_words.specs.declared.history.Outcome.TheVariants.{Body};

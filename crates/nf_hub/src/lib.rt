@@ -4,8 +4,6 @@
 
 mod hub;
 mod seat;
-#[cfg(test)]
-mod tests;
 mod visit;
 
 pub use hub::{Hub, HubOf};

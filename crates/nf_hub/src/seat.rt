@@ -1,8 +1,7 @@
 //! Seats and tickets: what a caller holds of a hub.
 
 ghost use Rattle.std.specs.Prelude.{◌≡◌};
-ghost use Rattle.nf_turn.specs.Numbers.{IsWhole};
-ghost use Rattle.nf_turn.specs.Seats.{numbers};
+ghost use Rattle.nf_turn.specs.Prelude.{IsWhole, numbers};
 
 use nf_desk::Desk;
 use nf_turn::Book;

@@ -1,8 +1,7 @@
 //! Blobs in memory, by their numbers.
 
 ghost use Rattle.std.specs.Prelude.{◌≡◌, ◌∷◌, ◌<◌, [], ℕ, IfOk, OnOk, OnErr, filter, length, option_copied, vec_capacity};
-ghost use Rattle.nf_defs.specs.Blobs.{blob_at, blob_key, put_blob};
-ghost use Rattle.nf_defs.specs.Rising.{IsRising};
+ghost use Rattle.nf_defs.specs.Prelude.{blob_at, blob_key, IsRising, put_blob};
 ghost use Rattle.nf_keeper.specs.Keeping.{is_kept, with_stored};
 ghost use Rattle.nf_keeper.specs.Views.{blob_in, bytes_in, stored_in};
 
@@ -51,8 +50,7 @@ pub struct BlobList {
 }
 
 impl Model for BlobList {
-    ghost use Rattle.nf_defs.specs.Blobs.{Blobs, blob_key};
-    ghost use Rattle.nf_defs.specs.Rising.{IsRising};
+    ghost use Rattle.nf_defs.specs.Prelude.{blob_key, Blobs, IsRising};
 
     ghost Value = { Blobs };
 

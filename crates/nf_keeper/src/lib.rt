@@ -11,6 +11,3 @@ pub use blobs::BlobList;
 pub use keeper::{KeepFault, Keeper, NewBlob};
 pub use memory::MemKeeper;
 pub use raws::RawRows;
-
-#[cfg(test)]
-mod tests;

@@ -30,8 +30,7 @@ pub struct MemKeeper {
 }
 
 impl Model for MemKeeper {
-    ghost use Rattle.nf_defs.specs.Blobs.{blob_key};
-    ghost use Rattle.nf_defs.specs.Rising.{IsRising};
+    ghost use Rattle.nf_defs.specs.Prelude.{blob_key, IsRising};
     ghost use Rattle.nf_told.specs.Told.{AreRisingRaws};
     ghost use Rattle.nf_keeper.specs.Memory.{Memory};
 

@@ -6,6 +6,3 @@ mod pieces;
 mod rows;
 
 pub use keeper::SqlKeeper;
-
-#[cfg(test)]
-mod tests;

@@ -11,14 +11,12 @@ use Rattle.std.proofs.lemmas.Slice.Eq.{bytes_eq-Decides}
 use Rattle.nf_base.specs.declared.rows.NodeRow.{NodeRow}
 use Rattle.nf_base.specs.declared.rows.Place.{Place}
 use Rattle.nf_base.specs.declared.rows.Place.TheVariants.{Inside}
-use Rattle.nf_defs.specs.Tables.{Tables}
-use Rattle.nf_defs.specs.Tree.{child_of, climb, depth, is_in, is_place_in, node_row, owner_of}
+use Rattle.nf_defs.specs.Prelude.{child_of, climb, depth, is_in, is_place_in, node_row, owner_of, Tables}
 use Rattle.nf_laws.proofs.Climbs.{parent_at}
 use Rattle.nf_laws.proofs.Rows.{blob_up, body_sound, climb_kept, counters_up, each_fails, finds_none, folder_kept, folder_there, kept_joined, no_value, node_kept, root_kept, row_is, stamp}
 use Rattle.nf_laws.proofs.Upwards.{climbs_depth}
 use Rattle.nf_words.proofs.Known.{KnownNew}
-use Rattle.nf_words.specs.Changes.{blob_after, created}
-use Rattle.nf_words.specs.Sound.{AreApart, AreSound, HasRoot, IsNodeSound, IsPlaceSound, root_of_user}
+use Rattle.nf_words.specs.Prelude.{AreApart, AreSound, blob_after, created, HasRoot, IsNodeSound, IsPlaceSound, root_of_user}
 
 -- ---- the rows with one more
 

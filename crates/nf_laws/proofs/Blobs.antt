@@ -15,11 +15,8 @@ use Rattle.nf_base.specs.declared.rows.Row.{Row}
 use Rattle.nf_base.specs.Content.{content_eq}
 use Rattle.nf_base.specs.declared.changes.Change.TheVariants.{Put}
 use Rattle.nf_base.specs.declared.rows.Row.TheVariants as rows
-use Rattle.nf_defs.specs.Blobs.{Blobs, blob_at, put_blob, with_blob}
-use Rattle.nf_defs.specs.Tables.{Tables}
+use Rattle.nf_defs.specs.Prelude.{blob_at, Blobs, content_of, filled, is_folder, is_folder_kind, node_row, put_blob, relinked, Tables, unshared, with_blob}
 use Rattle.nf_defs.proofs.Blobs.{new_at, put_at, put_elsewhere, still_at}
-use Rattle.nf_defs.specs.Tree.{content_of, filled, is_folder, is_folder_kind, node_row, relinked}
-use Rattle.nf_defs.specs.Access.{unshared}
 use Rattle.nf_defs.specs.declared.Found.{Found}
 use Rattle.nf_defs.specs.declared.Found.TheVariants.{At, Free}
 use Rattle.nf_defs.specs.declared.Seeker.{Seeker}
@@ -32,12 +29,7 @@ use Rattle.nf_laws.proofs.OneRow.{with_all}
 use Rattle.nf_laws.proofs.Replaced.{content_decides}
 use Rattle.nf_laws.proofs.Rows.{content_has, found_is, row_is, stamped_has}
 use Rattle.nf_laws.specs.Wholes.{BlobsAreNew, Brings, IsGoalHeld, IsHeld, IsThere, StaysWhole, blob_in, blob_under}
-use Rattle.nf_words.specs.Changes.{allowed_of, altered, blob_after, blob_of, changed, cleared, given, goal_of, made_folder, refilled, served, stamped, stored, told, with_goal}
-use Rattle.nf_words.specs.Endings.{blob_for, content_in, end_refusal, ends_goal, ends_ticket, stored_at, unless_refused}
-use Rattle.nf_words.specs.History.{MayAsk, after_mark}
-use Rattle.nf_words.specs.Sound.{AreSound, IsGoalSound, IsNodeSound, IsPieceSound, IsSound}
-use Rattle.nf_words.specs.State.{State, ticket_of}
-use Rattle.nf_words.specs.Step.{call_of, decision_of, without}
+use Rattle.nf_words.specs.Prelude.{after_mark, allowed_of, altered, AreSound, asker_of, blob_after, blob_for, blob_of, call_of, changed, cleared, content_in, copies_to, decision_of, end_refusal, ends_goal, ends_ticket, given, goal_of, IsGoalSound, IsNodeSound, IsPieceSound, IsSound, last_name, listing_of, made_folder, MayAsk, node_at, places_of, refilled, refusal_of, served, stamped, State, stored, stored_at, ticket_of, told, transfer_of, unless_refused, with_goal, without}
 use Rattle.nf_words.specs.declared.answer.Allowed.{Allowed}
 use Rattle.nf_words.specs.declared.answer.Allowed.TheVariants as allowed
 use Rattle.nf_words.specs.declared.answer.Goal.{Goal}
@@ -46,11 +38,6 @@ use Rattle.nf_words.specs.declared.history.Entry.{Entry}
 use Rattle.nf_words.specs.declared.history.Mark.{Mark}
 use Rattle.nf_words.specs.declared.history.Ticket.{Ticket}
 use Rattle.nf_words.proofs.Known.{IsOfBody, Known, KnownCopies, known_change}
-use Rattle.nf_words.specs.Calls.{asker_of, last_name, places_of}
-use Rattle.nf_words.specs.Copies.{copies_to}
-use Rattle.nf_words.specs.Listing.{listing_of}
-use Rattle.nf_words.specs.Places.{node_at, transfer_of}
-use Rattle.nf_words.specs.Rules.{refusal_of}
 use Rattle.nf_words.specs.declared.answer.Denial.{Denial}
 use Rattle.nf_words.specs.declared.answer.LockKey.{LockKey}
 use Rattle.nf_words.specs.declared.answer.LockKey.TheVariants.{Node, Slot}

@@ -10,8 +10,7 @@ use Rattle.nf_base.specs.declared.content.Piece.{Piece}
 use Rattle.nf_base.specs.declared.rows.NodeRow.{NodeRow}
 use Rattle.nf_base.specs.declared.rows.Place.{Place}
 use Rattle.nf_base.specs.declared.rows.Place.TheVariants.{Inside}
-use Rattle.nf_defs.specs.Tables.{Tables}
-use Rattle.nf_defs.specs.Tree.{child_of, climb, content_of, depth, is_folder, is_folder_kind, node_row, owner_of, piece_count, walk_of, walk_within}
+use Rattle.nf_defs.specs.Prelude.{child_of, climb, content_of, depth, is_folder, is_folder_kind, node_row, owner_of, piece_count, Tables, walk_of, walk_within}
 use Rattle.nf_laws.proofs.Added.{new_apart}
 use Rattle.nf_laws.proofs.Climbs.{node_row_each, parent_at}
 use Rattle.nf_laws.proofs.Gone.{clearing_sound, climb_cleared, counts_cleared, folder_stays, free_cleared, row_cleared}
@@ -22,9 +21,7 @@ use Rattle.nf_laws.proofs.Upwards.{climbs_depth, deepest_among, depth_up}
 use Rattle.nf_laws.proofs.Walked.{AllPairs-append, walks_take}
 use Rattle.nf_laws.specs.Transfers.{IsCopyOf, Mirrors, is_replaced}
 use Rattle.nf_words.proofs.Known.{KnownCopies, KnownTransfer}
-use Rattle.nf_words.specs.Changes.{cleared, joined}
-use Rattle.nf_words.specs.Limits.{pieces_in}
-use Rattle.nf_words.specs.Sound.{AreApart, AreSound, HasRoot, IsNodeSound, IsPieceSound, IsPlaceSound, root_of_user}
+use Rattle.nf_words.specs.Prelude.{AreApart, AreSound, cleared, HasRoot, IsNodeSound, IsPieceSound, IsPlaceSound, joined, pieces_in, root_of_user}
 use Rattle.nf_words.specs.declared.request.Transfer.{Transfer}
 
 -- ---- lists

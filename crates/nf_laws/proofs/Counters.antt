@@ -5,9 +5,7 @@ use Rattle.nf_defs.specs.Tables.{Tables}
 use Rattle.nf_laws.proofs.Entries.{entry_has}
 use Rattle.nf_laws.proofs.Rows.{blob_up, stamp, stamped_has}
 use Rattle.nf_laws.specs.Numbers.{AreHigher, CountersRise}
-use Rattle.nf_words.specs.Changes.{altered, blob_after, changed, told}
-use Rattle.nf_words.specs.History.{after, after_mark, replay}
-use Rattle.nf_words.specs.State.{State}
+use Rattle.nf_words.specs.Prelude.{after, after_mark, altered, blob_after, changed, replay, State, told}
 use Rattle.nf_words.specs.declared.answer.Allowed.{Allowed}
 use Rattle.nf_words.specs.declared.answer.Allowed.TheVariants as allowed
 use Rattle.nf_words.specs.declared.history.Entry.{Entry}

@@ -7,12 +7,7 @@ use Rattle.nf_defs.specs.Tables.{Tables}
 use Rattle.nf_laws.proofs.Rows.{stamp, stamped_has}
 use Rattle.nf_laws.specs.Wholes.{blob_under}
 use Rattle.nf_words.proofs.Known.{Known, known_change}
-use Rattle.nf_words.specs.Actors.{actor_of}
-use Rattle.nf_words.specs.Changes.{altered, blob_of, changed, goal_of, told, with_goal}
-use Rattle.nf_words.specs.History.{MayCome, after, after_mark}
-use Rattle.nf_words.specs.Sound.{IsSound}
-use Rattle.nf_words.specs.State.{State, ticket_for}
-use Rattle.nf_words.specs.Step.{blob_by, decided, decision_of, step, without}
+use Rattle.nf_words.specs.Prelude.{actor_of, after, after_mark, altered, blob_by, blob_of, changed, decided, decision_of, goal_of, IsSound, MayCome, State, step, ticket_for, told, with_goal, without}
 use Rattle.nf_words.specs.declared.answer.Allowed.{Allowed}
 use Rattle.nf_words.specs.declared.answer.Denial.{Denial}
 use Rattle.nf_words.specs.declared.answer.Goal.{Goal}

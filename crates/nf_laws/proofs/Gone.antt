@@ -11,16 +11,14 @@ use Rattle.nf_base.specs.declared.rows.NodeRow.{NodeRow}
 use Rattle.nf_base.specs.declared.rows.Place.{Place}
 use Rattle.nf_base.specs.declared.rows.Place.TheVariants.{Inside, Root, Trash}
 use Rattle.nf_base.specs.declared.rows.UserRow.{UserRow}
-use Rattle.nf_defs.specs.Tables.{Tables}
-use Rattle.nf_defs.specs.Tree.{child_of, climb, folder_of, is_root, is_root_place, is_under, node_row, parent_of, piece_count}
+use Rattle.nf_defs.specs.Prelude.{child_of, climb, folder_of, is_root, is_root_place, is_under, node_row, parent_of, piece_count, Tables}
 use Rattle.nf_laws.proofs.Climbs.{climb_those, climb_under, climbs_no_further, node_row_each, parent_at, row_of_those, those, under_climb}
 use Rattle.nf_laws.proofs.Paths.{child_is, child_there}
 use Rattle.nf_laws.proofs.Rows.{finds_none, kept_row, node_still, root_still}
 use Rattle.nf_laws.proofs.Upwards.{inside_no_root, never_climbs, no_rings}
 use Rattle.nf_laws.specs.Transfers.{is_replaced}
 use Rattle.nf_words.proofs.Known.{KnownTransfer, child_parent}
-use Rattle.nf_words.specs.Changes.{cleared, removed}
-use Rattle.nf_words.specs.Sound.{AreApart, AreSound, HasRoot, IsNodeSound, IsPlaceSound}
+use Rattle.nf_words.specs.Prelude.{AreApart, AreSound, cleared, HasRoot, IsNodeSound, IsPlaceSound, removed}
 use Rattle.nf_words.specs.declared.request.Transfer.{Transfer}
 
 -- ---- the tables with the nodes alone whose numbers pass a test

@@ -7,14 +7,12 @@ use Rattle.std.proofs.lemmas.Option.{none-some, same_Some}
 use Rattle.nf_base.specs.declared.rows.NodeRow.{NodeRow}
 use Rattle.nf_base.specs.declared.rows.Place.TheVariants.{Inside}
 use Rattle.nf_defs.proofs.Walks.{AreRising, IsChildOf, children_are}
-use Rattle.nf_defs.specs.Tables.{Tables}
-use Rattle.nf_defs.specs.Tree.{children_of, node_row, owner_of, walk_of, walk_within}
+use Rattle.nf_defs.specs.Prelude.{children_of, node_row, owner_of, Tables, walk_of, walk_within}
 use Rattle.nf_defs.specs.declared.Found.TheVariants.{At}
 use Rattle.nf_laws.proofs.Paths.{path_own}
 use Rattle.nf_laws.specs.Transfers.{IsCopyOf, IsPlacedCopy, Mirrors}
 use Rattle.nf_words.proofs.Known.{KnownCopies}
-use Rattle.nf_words.specs.Copies.{copied_row, copies_of_all, copies_within, renamed}
-use Rattle.nf_words.specs.Sound.{AreSound}
+use Rattle.nf_words.specs.Prelude.{AreSound, copied_row, copies_of_all, copies_within, renamed}
 use Rattle.nf_words.specs.declared.request.Transfer.{Transfer}
 
 -- ---- places in two lists, one behind the other

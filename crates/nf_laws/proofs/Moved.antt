@@ -9,9 +9,8 @@ use Rattle.nf_base.specs.declared.rows.Place.{Place}
 use Rattle.nf_base.specs.declared.rows.Place.TheVariants.{Inside, Root, Trash}
 use Rattle.nf_base.specs.declared.rows.UserRow.{UserRow}
 use Rattle.nf_defs.proofs.Walks.{climbs_walk}
-use Rattle.nf_defs.specs.Tables.{Tables}
+use Rattle.nf_defs.specs.Prelude.{child_of, climb, depth, folder_of, is_folder, is_folder_kind, is_root, is_root_place, is_under, node_row, owner_of, parent_of, relinked, Tables, walk_of, with_node}
 use Rattle.nf_defs.specs.declared.Found.TheVariants.{At, Free}
-use Rattle.nf_defs.specs.Tree.{child_of, climb, depth, folder_of, is_folder, is_folder_kind, is_root, is_root_place, is_under, node_row, owner_of, parent_of, relinked, walk_of, with_node}
 use Rattle.nf_laws.proofs.Added.{new_apart}
 use Rattle.nf_laws.proofs.Climbs.{climb_on, climb_same, depth_is, node_row_each, under_climb}
 use Rattle.nf_laws.proofs.Gone.{clearing_sound, climb_cleared, folder_stays, free_cleared, kept_cleared, row_cleared}
@@ -20,9 +19,7 @@ use Rattle.nf_laws.proofs.Paths.{climb_own, path_own}
 use Rattle.nf_laws.proofs.Rows.{IsRooted, folder_there, kept_row, node_still, none_above, parent_there, root_still}
 use Rattle.nf_laws.proofs.Upwards.{climb_short, climbs_depth, climbs_is_under, deepest_among, depth_climb, never_climbs, rooted}
 use Rattle.nf_words.proofs.Known.{KnownPath, KnownTransfer, child_parent}
-use Rattle.nf_words.specs.Changes.{cleared, transferred}
-use Rattle.nf_words.specs.Limits.{deepest}
-use Rattle.nf_words.specs.Sound.{AreApart, AreSound, HasRoot, IsNodeSound, IsPlaceSound, root_of_user}
+use Rattle.nf_words.specs.Prelude.{AreApart, AreSound, cleared, deepest, HasRoot, IsNodeSound, IsPlaceSound, root_of_user, transferred}
 use Rattle.nf_words.specs.declared.request.Transfer.{Transfer}
 
 -- ---- climbs where a node is put into a folder

@@ -4,8 +4,7 @@ use Rattle.std.specs.Prelude.{is_some}
 use Rattle.std.specs.List.{All}
 use Rattle.std.proofs.lemmas.List.Elements.{All-append, All-push, All-weaker}
 use Rattle.nf_base.specs.declared.rows.NodeRow.{NodeRow}
-use Rattle.nf_defs.specs.Tables.{Tables}
-use Rattle.nf_defs.specs.Tree.{filled, node_row, relinked}
+use Rattle.nf_defs.specs.Prelude.{filled, node_row, relinked, Tables}
 use Rattle.nf_laws.proofs.Climbs.{row_there}
 use Rattle.nf_laws.proofs.Counters.{after_up}
 use Rattle.nf_laws.proofs.Entries.{after_has}
@@ -15,10 +14,7 @@ use Rattle.nf_laws.proofs.Owned.{copies_new}
 use Rattle.nf_laws.proofs.Stays.{sound_after}
 use Rattle.nf_laws.specs.Numbers.{NumbersAreNew}
 use Rattle.nf_words.proofs.Known.{Known, KnownNew}
-use Rattle.nf_words.specs.Changes.{altered, cleared}
-use Rattle.nf_words.specs.History.{IsLegalFrom, after, replay}
-use Rattle.nf_words.specs.Sound.{AreSound, IsSound}
-use Rattle.nf_words.specs.State.{State}
+use Rattle.nf_words.specs.Prelude.{after, altered, AreSound, cleared, IsLegalFrom, IsSound, replay, State}
 use Rattle.nf_words.specs.declared.answer.Allowed.{Allowed}
 use Rattle.nf_words.specs.declared.answer.Allowed.TheVariants as allowed
 use Rattle.nf_words.specs.declared.history.Entry.{Entry}

@@ -12,8 +12,7 @@ use Rattle.nf_base.specs.declared.content.Piece.{Piece}
 use Rattle.nf_base.specs.declared.rows.NodeRow.{NodeRow}
 use Rattle.nf_base.specs.declared.rows.Row.{Row}
 use Rattle.nf_defs.proofs.Loads.{nodes_given}
-use Rattle.nf_defs.specs.Blobs.{Blobs, blob_at}
-use Rattle.nf_defs.specs.Tables.{tables_of}
+use Rattle.nf_defs.specs.Prelude.{blob_at, Blobs, tables_of}
 use Rattle.nf_laws.specs.Wholes.{IsGoalHeld, IsHeld, IsNamed, IsThere, OpensWhole}
 use Rattle.nf_words.specs.declared.history.Ticket.{Ticket}
 

@@ -3,8 +3,7 @@ use Rattle.std.proofs.Common.{inl, inr, zero, suc, ◌≢◌, ℕ, ◌==◌, ◌
 use Rattle.std.specs.List.{All}
 use Rattle.std.proofs.lemmas.Bool.{cases_Bool, eqb-true}
 use Rattle.nf_base.specs.declared.rows.NodeRow.{NodeRow}
-use Rattle.nf_defs.specs.Tables.{Tables}
-use Rattle.nf_defs.specs.Tree.{filled, node_row, relinked, with_node}
+use Rattle.nf_defs.specs.Prelude.{filled, node_row, relinked, Tables, with_node}
 use Rattle.nf_laws.proofs.Climbs.{map_some}
 use Rattle.nf_laws.proofs.Copied.{copies_numbered, old_joined}
 use Rattle.nf_laws.proofs.Gone.{kept_cleared}
@@ -12,8 +11,7 @@ use Rattle.nf_laws.proofs.Mirrored.{mirrored}
 use Rattle.nf_laws.proofs.OneRow.{KeepsId, row_itself, row_other}
 use Rattle.nf_laws.proofs.Rows.{row_joined, stamped_has}
 use Rattle.nf_words.proofs.Known.{Known, KnownCopies, KnownNew}
-use Rattle.nf_words.specs.Changes.{altered, changed, cleared, created, joined, replaced, told, transferred}
-use Rattle.nf_words.specs.Sound.{AreSound}
+use Rattle.nf_words.specs.Prelude.{altered, AreSound, changed, cleared, created, joined, replaced, told, transferred}
 use Rattle.nf_words.specs.declared.answer.Allowed.{Allowed}
 use Rattle.nf_words.specs.declared.answer.Allowed.TheVariants as allowed
 

@@ -10,9 +10,7 @@ use Rattle.std.proofs.lemmas.Option.{same_Some}
 use Rattle.nf_base.specs.declared.content.Piece.{Piece}
 use Rattle.nf_base.specs.declared.rows.NodeRow.{NodeRow}
 use Rattle.nf_defs.proofs.ByName.{All-by_name}
-use Rattle.nf_defs.specs.People.{user_row}
-use Rattle.nf_defs.specs.Tables.{Tables}
-use Rattle.nf_defs.specs.Tree.{Leads, by_name, children_of, content_of, filled, is_folder, is_in, is_under, node_row, owner_of, relinked}
+use Rattle.nf_defs.specs.Prelude.{by_name, children_of, content_of, filled, is_folder, is_in, is_under, Leads, node_row, owner_of, relinked, Tables, user_row}
 use Rattle.nf_defs.specs.declared.Found.{Found}
 use Rattle.nf_defs.specs.declared.Found.TheVariants.{At, Free, Missing}
 use Rattle.nf_laws.proofs.Blobs.{Alters, given_alters}
@@ -27,13 +25,7 @@ use Rattle.nf_laws.proofs.Paths.{climb_own, found_leads, leads_own, path_own, ro
 use Rattle.nf_laws.proofs.Rows.{folder_there, found_is, row_id, stamp}
 use Rattle.nf_laws.specs.Owners.{ChangesOnlyOwn, ChangesOwn, IsServed, ListsAll, ListsOwn, ServesOwn, nodes_of_others}
 use Rattle.nf_words.proofs.Known.{Known, KnownCopies, KnownNew, KnownPath, call_known, call_passes}
-use Rattle.nf_words.specs.Actors.{actor_of}
-use Rattle.nf_words.specs.Calls.{Call, asker_of, found, root_of, source_of, target_of, user_of}
-use Rattle.nf_words.specs.Changes.{altered, cleared, given, reply_by, served}
-use Rattle.nf_words.specs.Listing.{line_of, listing_of}
-use Rattle.nf_words.specs.Places.{node_found}
-use Rattle.nf_words.specs.Sound.{AreSound}
-use Rattle.nf_words.specs.Step.{answered_by, call_decision, call_of}
+use Rattle.nf_words.specs.Prelude.{actor_of, altered, answered_by, AreSound, asker_of, Call, call_decision, call_of, cleared, found, given, line_of, listing_of, node_found, reply_by, root_of, served, source_of, target_of, user_of}
 use Rattle.nf_words.specs.declared.answer.Allowed.{Allowed}
 use Rattle.nf_words.specs.declared.answer.Allowed.TheVariants as allowed
 use Rattle.nf_words.specs.declared.answer.Denial.{Denial}

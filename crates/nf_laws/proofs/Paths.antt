@@ -10,9 +10,7 @@ use Rattle.nf_base.specs.declared.rows.NodeRow.{NodeRow}
 use Rattle.nf_base.specs.declared.rows.Place.TheVariants.{Inside}
 use Rattle.nf_base.specs.declared.rows.UserRow.{UserRow}
 use Rattle.nf_defs.proofs.Walks.{AreRising, inside_of}
-use Rattle.nf_defs.specs.People.{user_row}
-use Rattle.nf_defs.specs.Tables.{Tables}
-use Rattle.nf_defs.specs.Tree.{Leads, child_of, climb, found_from, is_folder, is_in, leads_on, node_row, onward, parent_of, stays}
+use Rattle.nf_defs.specs.Prelude.{child_of, climb, found_from, is_folder, is_in, Leads, leads_on, node_row, onward, parent_of, stays, Tables, user_row}
 use Rattle.nf_defs.specs.declared.Found.{Found}
 use Rattle.nf_defs.specs.declared.Found.TheVariants.{At, Free, Missing}
 use Rattle.nf_laws.proofs.Climbs.{map_some, node_row_each}

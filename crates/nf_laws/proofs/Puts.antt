@@ -17,16 +17,11 @@ use Rattle.nf_base.specs.declared.changes.RowKey.TheVariants as keys
 use Rattle.nf_base.specs.declared.rows.NodeRow.{NodeRow}
 use Rattle.nf_base.specs.declared.rows.Row.TheVariants.{Node}
 use Rattle.nf_defs.proofs.Puts.{put_last}
-use Rattle.nf_defs.specs.Changes.{put_all}
-use Rattle.nf_defs.specs.Keys.{node_key}
-use Rattle.nf_defs.specs.Puts.{by_order, dropped, key_cmp, put}
-use Rattle.nf_defs.specs.Tables.{Tables}
-use Rattle.nf_defs.specs.Tree.{climb, folder_of, is_under, node_row, parent_of, walk_of, with_node, without_under}
+use Rattle.nf_defs.specs.Prelude.{by_order, climb, dropped, folder_of, is_under, key_cmp, node_key, node_row, parent_of, put, put_all, Tables, walk_of, with_node, without_under}
 use Rattle.nf_laws.proofs.Climbs.{some_there, those, under_climb}
 use Rattle.nf_laws.proofs.Rows.{found_is}
 use Rattle.nf_laws.proofs.Walked.{walk_among}
-use Rattle.nf_words.specs.Changes.{cleared, dropped_for, dropped_under}
-use Rattle.nf_words.specs.Sound.{AreSound}
+use Rattle.nf_words.specs.Prelude.{AreSound, cleared, dropped_for, dropped_under}
 
 -- ---- the order of the numbers of nodes
 

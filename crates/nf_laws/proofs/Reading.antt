@@ -12,9 +12,7 @@ use Rattle.nf_base.specs.declared.rows.NodeKind.TheVariants.{File}
 use Rattle.nf_base.specs.declared.rows.NodeRow.{NodeRow}
 use Rattle.nf_base.specs.declared.rows.Place.TheVariants.{Inside}
 use Rattle.nf_base.specs.declared.rows.Row.TheVariants as rows
-use Rattle.nf_defs.specs.Access.{unshared}
-use Rattle.nf_defs.specs.Tables.{Tables}
-use Rattle.nf_defs.specs.Tree.{Leads, filled, found_from, is_folder, is_folder_kind, leads_on, node_row, stays}
+use Rattle.nf_defs.specs.Prelude.{filled, found_from, is_folder, is_folder_kind, Leads, leads_on, node_row, stays, Tables, unshared}
 use Rattle.nf_defs.specs.declared.Found.TheVariants.{At}
 use Rattle.nf_laws.proofs.Added.{less_than_new, new_there}
 use Rattle.nf_laws.proofs.Climbs.{holds_some}
@@ -27,19 +25,7 @@ use Rattle.nf_laws.proofs.Stays as states
 use Rattle.nf_laws.specs.Reads.{IsStored, LeadsToKey, PathStays, StoredIsRead}
 use Rattle.nf_words.proofs.Known.{Known, KnownNew, known_change}
 use Rattle.nf_words.proofs.Orders.{none_of}
-use Rattle.nf_words.specs.Actors.{actor_of}
-use Rattle.nf_words.specs.Calls.{Call, found}
-use Rattle.nf_words.specs.Changes.{allowed_of, changed, new_node, refilled, replaced, stamped}
-use Rattle.nf_words.specs.Endings.{blob_for, content_in, end_refusal, ends_ticket, stored_at, stores, unless_refused}
-use Rattle.nf_words.specs.History.{after, after_mark, replay}
-use Rattle.nf_words.specs.Laws.{Pass}
-use Rattle.nf_words.specs.Limits.{limit_rule}
-use Rattle.nf_words.specs.Callers.{not_you_rule, token_rule}
-use Rattle.nf_words.specs.Places.{exists_rule, forbidden_rule, overwrite_rule, place_rule, target_rule}
-use Rattle.nf_words.specs.Rules.{rules}
-use Rattle.nf_words.specs.Sound.{AreSound, IsSound}
-use Rattle.nf_words.specs.State.{State}
-use Rattle.nf_words.specs.Step.{answered_by, call_decision, call_of, decision_of}
+use Rattle.nf_words.specs.Prelude.{actor_of, after, after_mark, allowed_of, answered_by, AreSound, blob_for, Call, call_decision, call_of, changed, content_in, decision_of, end_refusal, ends_ticket, exists_rule, forbidden_rule, found, IsSound, limit_rule, new_node, not_you_rule, overwrite_rule, Pass, place_rule, refilled, replaced, replay, rules, stamped, State, stored_at, stores, target_rule, token_rule, unless_refused}
 use Rattle.nf_words.specs.declared.answer.Allowed.{Allowed}
 use Rattle.nf_words.specs.declared.answer.Allowed.TheVariants as allowed
 use Rattle.nf_words.specs.declared.answer.Denial.{Denial}

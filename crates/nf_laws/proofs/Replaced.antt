@@ -9,13 +9,11 @@ use Rattle.std.proofs.lemmas.List.Elements.{All-weaker}
 use Rattle.nf_base.specs.Content.{content_eq, piece_eq}
 use Rattle.nf_base.specs.declared.content.Piece.{Piece}
 use Rattle.nf_base.specs.declared.rows.NodeRow.{NodeRow}
-use Rattle.nf_defs.specs.Tables.{Tables}
-use Rattle.nf_defs.specs.Tree.{filled, is_folder_kind, node_row, with_node}
+use Rattle.nf_defs.specs.Prelude.{filled, is_folder_kind, node_row, Tables, with_node}
 use Rattle.nf_laws.proofs.OneRow.{IsEither, each_either, length_with, pieces_with, rising_with, row_with, same_either, with_each}
 use Rattle.nf_laws.proofs.Rows.{AreKept, Kept, blob_up, body_sound, counters_up, kept_row, node_kept, root_kept, stamp}
 use Rattle.nf_words.proofs.Known.{KnownContent}
-use Rattle.nf_words.specs.Changes.{blob_after, replaced}
-use Rattle.nf_words.specs.Sound.{AreSound, HasRoot, IsNodeSound}
+use Rattle.nf_words.specs.Prelude.{AreSound, blob_after, HasRoot, IsNodeSound, replaced}
 
 -- ---- whether a content is another
 

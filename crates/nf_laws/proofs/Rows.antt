@@ -13,13 +13,10 @@ use Rattle.nf_base.specs.declared.rows.NodeRow.{NodeRow}
 use Rattle.nf_base.specs.declared.rows.Place.{Place}
 use Rattle.nf_base.specs.declared.rows.Place.TheVariants.{Inside, Root, Trash}
 use Rattle.nf_base.specs.declared.rows.UserRow.{UserRow}
-use Rattle.nf_defs.specs.People.{user_row}
-use Rattle.nf_defs.specs.Tables.{Tables}
-use Rattle.nf_defs.specs.Tree.{climb, content_of, folder_of, is_folder, is_folder_kind, node_row, owner_of, parent_of}
+use Rattle.nf_defs.specs.Prelude.{climb, content_of, folder_of, is_folder, is_folder_kind, node_row, owner_of, parent_of, Tables, user_row}
 use Rattle.nf_laws.proofs.Climbs.{climb_same, holds_some}
 use Rattle.nf_words.proofs.Known.{IsOfBody, found_has, found_passes}
-use Rattle.nf_words.specs.Changes.{blob_after, stamped}
-use Rattle.nf_words.specs.Sound.{AreCounters, AreSound, HasRoot, IsNodeSound, IsPieceSound, IsPlaceSound, root_of_user}
+use Rattle.nf_words.specs.Prelude.{AreCounters, AreSound, blob_after, HasRoot, IsNodeSound, IsPieceSound, IsPlaceSound, root_of_user, stamped}
 
 -- ---- what a look-up finds
 

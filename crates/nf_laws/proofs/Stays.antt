@@ -17,12 +17,7 @@ use Rattle.nf_laws.proofs.Owned.{KeepsOwners, owners_kept}
 use Rattle.nf_laws.proofs.Paths.{IsFor, is_own, path_own}
 use Rattle.nf_laws.proofs.Replaced.{replaced_sound}
 use Rattle.nf_laws.proofs.Rows.{content_has, pieces_kept, stamp, stamp_sound, stamped_has}
-use Rattle.nf_words.specs.Changes.{altered, changed, goal_of, removed, told, transferred, with_goal}
-use Rattle.nf_words.specs.Endings.{place_of}
-use Rattle.nf_words.specs.History.{IsLegalFrom, MayCome, after, after_mark, replay}
-use Rattle.nf_words.specs.Sound.{AreSound, IsGoalSound, IsPieceSound, IsSound, MayStoreAt, node_of_key}
-use Rattle.nf_words.specs.State.{State}
-use Rattle.nf_words.specs.Step.{without}
+use Rattle.nf_words.specs.Prelude.{after, after_mark, altered, AreSound, changed, goal_of, IsGoalSound, IsLegalFrom, IsPieceSound, IsSound, MayCome, MayStoreAt, node_of_key, place_of, removed, replay, State, told, transferred, with_goal, without}
 use Rattle.nf_words.specs.declared.answer.Allowed.{Allowed}
 use Rattle.nf_words.specs.declared.answer.Allowed.TheVariants as allowed
 use Rattle.nf_words.specs.declared.answer.Goal.{Goal}

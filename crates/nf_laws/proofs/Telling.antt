@@ -17,9 +17,7 @@ use Rattle.nf_base.specs.declared.rows.NodeRow.{NodeRow}
 use Rattle.nf_base.specs.declared.rows.Place.TheVariants.{Inside}
 use Rattle.nf_base.specs.declared.rows.Row.{Row}
 use Rattle.nf_base.specs.declared.rows.Row.TheVariants as rows
-use Rattle.nf_defs.specs.Changes.{IsDroppable, made, put_all}
-use Rattle.nf_defs.specs.Tables.{Tables}
-use Rattle.nf_defs.specs.Tree.{child_of, filled, is_folder_kind, is_under, node_row, relinked, walk_of, with_node, without_under}
+use Rattle.nf_defs.specs.Prelude.{child_of, filled, is_folder_kind, is_under, IsDroppable, made, node_row, put_all, relinked, Tables, walk_of, with_node, without_under}
 use Rattle.nf_defs.specs.declared.Found.TheVariants.{At, Free}
 use Rattle.nf_laws.proofs.Climbs.{climb_under, holds_some}
 use Rattle.nf_laws.proofs.Copied.{walk_first}
@@ -33,11 +31,8 @@ use Rattle.nf_laws.proofs.Replaced.{content_decides}
 use Rattle.nf_laws.proofs.Rows.{row_id}
 use Rattle.nf_laws.specs.Tells.{ChangesTell}
 use Rattle.nf_words.proofs.Known.{Known, KnownContent, KnownCopies, KnownGone, KnownNew, KnownPath, KnownTransfer, known_change}
-use Rattle.nf_words.specs.Changes.{changed, changes_of, cleared, created, dropped_for, dropped_under, joined, meta_after, new_meta, refilled, replaced, same_meta, stamped, told, transferred, transferred_row, with_meta}
-use Rattle.nf_words.specs.History.{MayAsk}
-use Rattle.nf_words.specs.Sound.{AreSound, IsSound}
-use Rattle.nf_words.specs.State.{State}
-use Rattle.nf_words.specs.Step.{changes_by, changes_to, decision_of, step}
+use Rattle.nf_words.specs.Prelude.{AreSound, changed, changes_by, changes_of, changes_to, cleared, created, decision_of, dropped_for, dropped_under, IsSound, joined, MayAsk, meta_after, refilled, replaced, stamped, State, step, told, transferred, transferred_row, with_meta}
+use Rattle.nf_words.specs.Changes.{new_meta, same_meta}
 use Rattle.nf_words.specs.declared.answer.Allowed.{Allowed}
 use Rattle.nf_words.specs.declared.answer.Allowed.TheVariants as allowed
 use Rattle.nf_words.specs.declared.answer.Denial.{Denial}

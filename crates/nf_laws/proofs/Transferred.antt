@@ -11,8 +11,7 @@ use Rattle.nf_base.specs.declared.changes.Change.TheVariants.{Put}
 use Rattle.nf_base.specs.declared.rows.NodeRow.{NodeRow}
 use Rattle.nf_base.specs.declared.rows.Row.TheVariants as rows
 use Rattle.nf_defs.proofs.Walks.{IsChildOf, children_are, climbs_walk, inside_of}
-use Rattle.nf_defs.specs.Tables.{Tables}
-use Rattle.nf_defs.specs.Tree.{by_name, child_of, children_of, climb, folder_of, is_in, is_under, node_row, parent_of, relinked, walk_of, walk_within, with_node}
+use Rattle.nf_defs.specs.Prelude.{by_name, child_of, children_of, climb, folder_of, is_in, is_under, node_row, parent_of, relinked, Tables, walk_of, walk_within, with_node}
 use Rattle.nf_defs.specs.declared.Found.TheVariants.{At}
 use Rattle.nf_laws.proofs.Climbs.{climb_rest, node_row_each, parent_at, some_there, under_climb}
 use Rattle.nf_laws.proofs.Copied.{copies_there, old_joined}
@@ -28,12 +27,9 @@ use Rattle.nf_laws.proofs.Upwards.{climbs_is_under, never_climbs}
 use Rattle.nf_laws.proofs.Walked.{no_ring}
 use Rattle.nf_laws.specs.Transfers.{AreCopied, CopiesMirror, IsMoved, Mirrors, MovesKeep, is_replaced}
 use Rattle.nf_words.proofs.Known.{KnownCopies, KnownTransfer, child_parent, known_change}
-use Rattle.nf_words.specs.Actors.{actor_of}
-use Rattle.nf_words.specs.Changes.{altered, changed, cleared, dropped_for, joined, told, transferred_row}
-use Rattle.nf_words.specs.Sound.{AreSound}
+use Rattle.nf_words.specs.Prelude.{actor_of, altered, AreSound, changed, cleared, dropped_for, joined, step, told, transferred_row}
 use Rattle.nf_words.specs.declared.answer.Allowed.TheVariants as allowed
 use Rattle.nf_words.specs.declared.request.Transfer.{Transfer}
-use Rattle.nf_words.specs.Step.{step}
 
 -- ---- nodes that are there
 

@@ -13,14 +13,11 @@ use Rattle.nf_base.specs.declared.rows.Place.{Place}
 use Rattle.nf_base.specs.declared.rows.Place.TheVariants.{Inside, Root, Trash}
 use Rattle.nf_base.specs.FreeNames.{is_taken}
 use Rattle.nf_base.specs.declared.rows.UserRow.{UserRow}
-use Rattle.nf_defs.specs.Tables.{Tables}
-use Rattle.nf_defs.specs.Tree.{child_of, climb, depth, folder_of, is_in, is_present, is_root, is_root_place, is_under, node_row, parent_of, taken_names}
-use Rattle.nf_defs.specs.People.{user_row}
+use Rattle.nf_defs.specs.Prelude.{child_of, climb, depth, folder_of, is_in, is_present, is_root, is_root_place, is_under, node_row, parent_of, Tables, taken_names, user_row}
 use Rattle.nf_laws.proofs.Climbs.{climb_under, climbs_no_further, depth_is, node_row_each, under_climb}
 use Rattle.nf_laws.proofs.Rows.{IsRooted, found_is, none_above, parent_there, row_is}
 use Rattle.nf_laws.specs.Tree.{DepthIsClimbed, NamesAreTaken, NoRings, NodesArePresent, Under, UnderIsDerived, inside, itself}
-use Rattle.nf_words.specs.Limits.{deepest}
-use Rattle.nf_words.specs.Sound.{AreSound, IsNodeSound, root_of_user}
+use Rattle.nf_words.specs.Prelude.{AreSound, deepest, IsNodeSound, root_of_user}
 
 -- ---- climbs
 

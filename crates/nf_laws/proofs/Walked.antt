@@ -9,8 +9,7 @@ use Rattle.std.proofs.lemmas.Option.{same_Some}
 use Rattle.nf_base.specs.declared.rows.NodeRow.{NodeRow}
 use Rattle.nf_defs.proofs.ByName.{AllPairs-by_name}
 use Rattle.nf_defs.proofs.Walks.{Contains-from_flat, children_are, climbs_walk, walk_climbs, walk_within_climbs}
-use Rattle.nf_defs.specs.Tables.{Tables}
-use Rattle.nf_defs.specs.Tree.{by_name, children_of, climb, is_in, is_under, parent_of, walk_of, walk_within}
+use Rattle.nf_defs.specs.Prelude.{by_name, children_of, climb, is_in, is_under, parent_of, Tables, walk_of, walk_within}
 use Rattle.nf_laws.proofs.Climbs.{climb_on, climb_rest, climb_under, parent_at, under_climb}
 use Rattle.nf_laws.proofs.Upwards.{climb_short, climbed, depth_climb, derived}
 use Rattle.nf_laws.specs.Tree.{WalksTakeAllUnder}

@@ -3,9 +3,7 @@ use Rattle.std.specs.Prelude.{◌≡◌, ◌⊎◌, ℕ, ◌≤◌, true, All, L
 use Rattle.nf_base.specs.declared.rows.MetaRow.{MetaRow}
 use Rattle.nf_base.specs.declared.rows.NodeRow.{NodeRow}
 use Rattle.nf_defs.specs.Tree.{node_row}
-use Rattle.nf_words.specs.History.{IsLegalFrom, replay}
-use Rattle.nf_words.specs.Sound.{IsSound}
-use Rattle.nf_words.specs.State.{State}
+use Rattle.nf_words.specs.Prelude.{IsLegalFrom, IsSound, replay, State}
 use Rattle.nf_words.specs.declared.history.Entry.{Entry}
 
 -- no counter is lower than it was

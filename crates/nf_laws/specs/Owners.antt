@@ -3,16 +3,8 @@ use Rattle.std.specs.Prelude.{◌≡◌, ℕ, All, true, false, ◌==◌, not, L
 use Rattle.std.specs.Option.{option_map_or}
 use Rattle.nf_base.specs.declared.content.Piece.{Piece}
 use Rattle.nf_base.specs.declared.rows.NodeRow.{NodeRow}
-use Rattle.nf_defs.specs.Tables.{Tables}
-use Rattle.nf_defs.specs.People.{user_row}
-use Rattle.nf_defs.specs.Tree.{Leads, children_of, is_folder_kind, node_row}
-use Rattle.nf_words.specs.Actors.{actor_of}
-use Rattle.nf_words.specs.Calls.{Call, root_of, user_of}
-use Rattle.nf_words.specs.Listing.{listing_of}
-use Rattle.nf_words.specs.History.{MayCome, MayWant, after}
-use Rattle.nf_words.specs.Sound.{IsSound}
-use Rattle.nf_words.specs.State.{State}
-use Rattle.nf_words.specs.Step.{answer_to, call_of}
+use Rattle.nf_defs.specs.Prelude.{children_of, is_folder_kind, Leads, node_row, Tables, user_row}
+use Rattle.nf_words.specs.Prelude.{actor_of, after, answer_to, Call, call_of, IsSound, listing_of, MayCome, MayWant, root_of, State, user_of}
 use Rattle.nf_words.specs.declared.answer.Goal.TheVariants.{Serve}
 use Rattle.nf_words.specs.declared.answer.Reply.TheVariants.{Granted, Listing}
 use Rattle.nf_words.specs.declared.history.Entry.{Entry}

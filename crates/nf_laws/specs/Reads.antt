@@ -2,18 +2,9 @@
 use Rattle.std.specs.Prelude.{◌≡◌, ℕ, ◌+◌, ◌≤◌, List, [], ◌∷◌, ◌++◌, length, take, Some, Ok, IsOk}
 use Rattle.nf_base.specs.declared.content.Piece.{Piece}
 use Rattle.nf_base.specs.declared.rows.NodeRow.{NodeRow}
-use Rattle.nf_defs.specs.Access.{unshared}
-use Rattle.nf_defs.specs.Tree.{Leads, node_row}
+use Rattle.nf_defs.specs.Prelude.{Leads, node_row, unshared}
 use Rattle.nf_defs.specs.declared.Seeker.{Seeker}
-use Rattle.nf_words.specs.Callers.{not_you_rule, token_rule}
-use Rattle.nf_words.specs.Calls.{root_of}
-use Rattle.nf_words.specs.Endings.{blob_for, content_in}
-use Rattle.nf_words.specs.History.{IsLegalFrom, MayCome, after, replay}
-use Rattle.nf_words.specs.Laws.{Pass}
-use Rattle.nf_words.specs.Places.{forbidden_rule}
-use Rattle.nf_words.specs.Sound.{IsSound}
-use Rattle.nf_words.specs.State.{State, ticket_for, ticket_of}
-use Rattle.nf_words.specs.Step.{answer_to, call_of}
+use Rattle.nf_words.specs.Prelude.{after, answer_to, blob_for, call_of, content_in, forbidden_rule, IsLegalFrom, IsSound, MayCome, not_you_rule, Pass, replay, root_of, State, ticket_for, ticket_of, token_rule}
 use Rattle.nf_words.specs.declared.answer.Goal.TheVariants.{Serve, Store}
 use Rattle.nf_words.specs.declared.answer.LockKey.{LockKey}
 use Rattle.nf_words.specs.declared.answer.LockKey.TheVariants.{Node, Slot}

@@ -1,8 +1,6 @@
 -- A sound state stays sound.
 use Rattle.std.specs.Prelude.{ℕ, List}
-use Rattle.nf_words.specs.History.{IsLegalFrom, replay}
-use Rattle.nf_words.specs.Sound.{IsSound}
-use Rattle.nf_words.specs.State.{State}
+use Rattle.nf_words.specs.Prelude.{IsLegalFrom, IsSound, replay, State}
 use Rattle.nf_words.specs.declared.history.Entry.{Entry}
 
 -- over every history that is legal from it, after whatever others

@@ -2,10 +2,7 @@
 use Rattle.std.specs.Prelude.{◌≡◌, ◌≢◌, ◌↔◌, ℕ, All, []}
 use Rattle.nf_base.specs.declared.changes.Change.{Change}
 use Rattle.nf_defs.specs.Changes.{IsDroppable, made, put_all}
-use Rattle.nf_words.specs.History.{MayAsk}
-use Rattle.nf_words.specs.Sound.{IsSound}
-use Rattle.nf_words.specs.State.{State}
-use Rattle.nf_words.specs.Step.{changes_to, step}
+use Rattle.nf_words.specs.Prelude.{changes_to, IsSound, MayAsk, State, step}
 use Rattle.nf_words.specs.declared.history.Event.{Event}
 
 -- in sound states, where the event may come, at whatever moment

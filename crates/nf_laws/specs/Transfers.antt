@@ -3,12 +3,8 @@ use Rattle.std.specs.Prelude.{◌≡◌, ◌≢◌, ℕ, zero, suc, ◌+◌, ◌
 use Rattle.std.specs.Option.{option_map_or}
 use Rattle.nf_base.specs.declared.rows.NodeRow.{NodeRow}
 use Rattle.nf_base.specs.declared.rows.Place.TheVariants.{Inside}
-use Rattle.nf_defs.specs.Tables.{Tables}
-use Rattle.nf_defs.specs.Tree.{is_under, node_row, owner_of, relinked, walk_of}
-use Rattle.nf_words.specs.History.{MayAsk}
-use Rattle.nf_words.specs.Sound.{IsSound}
-use Rattle.nf_words.specs.State.{State}
-use Rattle.nf_words.specs.Step.{decision_of, step}
+use Rattle.nf_defs.specs.Prelude.{is_under, node_row, owner_of, relinked, Tables, walk_of}
+use Rattle.nf_words.specs.Prelude.{decision_of, IsSound, MayAsk, State, step}
 use Rattle.nf_words.specs.declared.answer.Allowed.TheVariants as allowed
 use Rattle.nf_words.specs.declared.history.Event.{Event}
 use Rattle.nf_words.specs.declared.request.Transfer.{Transfer}

@@ -2,8 +2,7 @@
 use Rattle.std.specs.Prelude.{◌≡◌, ◌≢◌, ◌↔◌, ℕ, ◌≤◌, All, AllPairs, Contains, true, false, List, Some, is_some}
 use Rattle.nf_base.specs.FreeNames.{is_taken}
 use Rattle.nf_base.specs.declared.rows.NodeRow.{NodeRow}
-use Rattle.nf_defs.specs.Tables.{Tables}
-use Rattle.nf_defs.specs.Tree.{child_of, climb, depth, is_present, is_under, parent_of, taken_names, walk_of}
+use Rattle.nf_defs.specs.Prelude.{child_of, climb, depth, is_present, is_under, parent_of, Tables, taken_names, walk_of}
 use Rattle.nf_words.specs.Sound.{AreSound, root_of_user}
 
 -- a node under a top: the top itself, or a node inside one under it

@@ -1,8 +1,7 @@
 -- Where a path leads: the walk against the derivation, folder by folder.
 use Rattle.std.specs.Prelude.{◌≡◌, ◌↔◌, ◌⊎◌, ℕ, ◌+◌, ◌<◌, false, true, List, [], ◌∷◌, ◌++◌, length, take, get_or, None}
 use Rattle.nf_base.specs.declared.rows.NodeRow.{NodeRow}
-use Rattle.nf_defs.specs.Tables.{Tables}
-use Rattle.nf_defs.specs.Tree.{Leads, child_of, found_from, is_folder}
+use Rattle.nf_defs.specs.Prelude.{child_of, found_from, is_folder, Leads, Tables}
 use Rattle.nf_defs.specs.declared.Found.TheVariants.{At, Free, Missing}
 use Rattle.nf_words.specs.Sound.{AreSound}
 

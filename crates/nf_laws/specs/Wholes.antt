@@ -6,10 +6,7 @@ use Rattle.nf_base.specs.declared.rows.NodeRow.{NodeRow}
 use Rattle.nf_base.specs.declared.rows.Row.{Row}
 use Rattle.nf_base.specs.declared.rows.Row.TheVariants.{Node}
 use Rattle.nf_defs.specs.Blobs.{Blobs, blob_at, with_blob}
-use Rattle.nf_words.specs.History.{MayCome, after}
-use Rattle.nf_words.specs.Sound.{IsSound}
-use Rattle.nf_words.specs.State.{State, opened}
-use Rattle.nf_words.specs.Step.{blob_to}
+use Rattle.nf_words.specs.Prelude.{after, blob_to, IsSound, MayCome, opened, State}
 use Rattle.nf_words.specs.declared.answer.Goal.{Goal}
 use Rattle.nf_words.specs.declared.answer.Goal.TheVariants.{Serve, Store}
 use Rattle.nf_words.specs.declared.history.Entry.{Entry}

@@ -4,8 +4,7 @@ use Rattle.std.specs.Option.{option_and_then}
 use Rattle.nf_base.specs.declared.rows.NodeRow.{NodeRow}
 use Rattle.nf_base.specs.declared.rows.Place.{Place}
 use Rattle.nf_base.specs.declared.rows.Place.TheVariants.{Root, Inside, Trash}
-use Rattle.nf_defs.specs.Tables.{Tables}
-use Rattle.nf_defs.specs.Tree.{is_folder_kind, is_root_place, node_row}
+use Rattle.nf_defs.specs.Prelude.{is_folder_kind, is_root_place, node_row, Tables}
 use Rattle.nf_words.specs.Sound.{root_of_user}
 
 -- the row of a folder of that owner

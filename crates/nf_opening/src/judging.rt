@@ -2,8 +2,7 @@
 
 ghost use Rattle.std.specs.Prelude.{◌≡◌, IfOk};
 ghost use Rattle.std.specs.Option.{option_map_or};
-ghost use Rattle.nf_defs.specs.Rising.{AreRising};
-ghost use Rattle.nf_defs.specs.Tables.{tables_of};
+ghost use Rattle.nf_defs.specs.Prelude.{AreRising, tables_of};
 ghost use Rattle.nf_opening.specs.Judged.{AreJudged, IsFaultAt};
 
 use crate::alone::{first_later, first_lavish, first_ungiven};

@@ -13,8 +13,6 @@ mod names;
 mod numbered;
 mod placed;
 mod present;
-#[cfg(test)]
-mod tests;
 
 pub use fault::{Broken, SiteFault};
 pub use judging::judge;

@@ -1,8 +1,7 @@
 //! The limits.
 
 ghost use Rattle.std.specs.Prelude.{◌≡◌};
-ghost use Rattle.nf_defs.specs.Tables.{tables_of};
-ghost use Rattle.nf_defs.specs.Tree.{piece_count};
+ghost use Rattle.nf_defs.specs.Prelude.{piece_count, tables_of};
 ghost use Rattle.nf_rules.specs.Rules.{first_index, is_beyond};
 
 use crate::Loaded;

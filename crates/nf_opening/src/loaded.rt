@@ -1,10 +1,7 @@
 //! The tables of stored rows.
 
 ghost use Rattle.std.specs.Prelude.{◌≡◌, IfOk, OnOk, option_copied};
-ghost use Rattle.nf_defs.specs.People.{user_row};
-ghost use Rattle.nf_defs.specs.Rising.{AreRising};
-ghost use Rattle.nf_defs.specs.Tables.{no_rows, put_row, tables_of};
-ghost use Rattle.nf_defs.specs.Tree.{node_row};
+ghost use Rattle.nf_defs.specs.Prelude.{AreRising, no_rows, node_row, put_row, tables_of, user_row};
 ghost use Rattle.nf_rules.specs.Rules.{is_group};
 
 use crate::numbered::find_row;

@@ -2,8 +2,7 @@
 
 ghost use Rattle.std.specs.Prelude.{◌≡◌, not, option_copied};
 ghost use Rattle.nf_base.specs.declared.rows.Row.TheVariants as rows;
-ghost use Rattle.nf_defs.specs.Rising.{AreRising};
-ghost use Rattle.nf_defs.specs.Tables.{tables_of};
+ghost use Rattle.nf_defs.specs.Prelude.{AreRising, tables_of};
 ghost use Rattle.nf_rules.specs.Rules.{first_index, is_placed, is_root_of, leads};
 ghost use Rattle.nf_opening.specs.Ways.{folder_above, is_own_root};
 

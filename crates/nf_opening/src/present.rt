@@ -1,8 +1,7 @@
 //! The rule that what a row names is there.
 
 ghost use Rattle.std.specs.Prelude.{◌≡◌, not};
-ghost use Rattle.nf_defs.specs.Rising.{AreRising};
-ghost use Rattle.nf_defs.specs.Tables.{tables_of};
+ghost use Rattle.nf_defs.specs.Prelude.{AreRising, tables_of};
 ghost use Rattle.nf_rules.specs.Rules.{first_index, is_place_there, names_are_there};
 
 use crate::Loaded;

@@ -12,10 +12,7 @@ use Rattle.std.proofs.lemmas.List.{get_or_default, length-map}
 use Rattle.std.proofs.lemmas.List.Elements.{filter_passes}
 use Rattle.std.proofs.lemmas.List.Kept.{AllPairs-filter}
 use Rattle.nf_base.specs.declared.rows.MemberRow.{MemberRow}
-use Rattle.nf_defs.specs.Keys.{member_key}
-use Rattle.nf_defs.specs.People.{members_of}
-use Rattle.nf_defs.specs.Puts.{key_cmp}
-use Rattle.nf_defs.specs.Rising.{IsRising}
+use Rattle.nf_defs.specs.Prelude.{IsRising, key_cmp, member_key, members_of}
 use Rattle.nf_defs.proofs.Puts.{below_rest, tail_rising}
 
 abbrev Below : MemberRow → MemberRow → Type 0

@@ -21,8 +21,7 @@ use Rattle.std.proofs.lemmas.Map.Keys.{IsDistinct-IsPermutation}
 use Rattle.std.proofs.lemmas.Map.Made.{AllPairs-from_IsDistinct, IsDistinct-from_AllPairs}
 use Rattle.std.proofs.lemmas.Option.{slice_get-get_or}
 use Rattle.std.proofs.lemmas.Slice.Eq.{bytes_eq-Decides}
-use Rattle.nf_defs.specs.Puts.{key_cmp, put}
-use Rattle.nf_defs.specs.Rising.{IsRising}
+use Rattle.nf_defs.specs.Prelude.{IsRising, key_cmp, put}
 use Rattle.nf_defs.proofs.Lookups.{equal_bytes, find_nowhere, find_there, position_at, position_none}
 use Rattle.nf_defs.proofs.Puts.{key_total, numbers_rise, put_between, put_last, put_rising, turned}
 use Rattle.nf_people.specs.Names.{AreNamedApart, IsAbove, IsNameIndex, PartsAt, name_at}

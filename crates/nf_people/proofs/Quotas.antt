@@ -5,10 +5,7 @@ use Rattle.std.specs.List.{find, position}
 use Rattle.std.proofs.lemmas.List.{get_or_default}
 use Rattle.std.proofs.lemmas.List.Quantifiers.{position-Some}
 use Rattle.nf_base.specs.declared.rows.UserRow.{UserRow}
-use Rattle.nf_defs.specs.Keys.{user_key}
-use Rattle.nf_defs.specs.People.{user_row, with_quota}
-use Rattle.nf_defs.specs.Puts.{key_cmp, put}
-use Rattle.nf_defs.specs.Rising.{IsRising}
+use Rattle.nf_defs.specs.Prelude.{IsRising, key_cmp, put, user_key, user_row, with_quota}
 use Rattle.nf_defs.proofs.Lookups.{find_nowhere, find_there, is_sought}
 use Rattle.nf_defs.proofs.Puts.{key_total, put_over, put_rising}
 

@@ -4,8 +4,7 @@ use Rattle.std.specs.List.{AllPairs, slice_get}
 use Rattle.std.specs.List.Sorted.{IsPartitionPoint}
 use Rattle.std.specs.Option.{option_map_or}
 use Rattle.std.specs.declared.cmp.Ordering.TheVariants.{Less, Greater}
-use Rattle.nf_defs.specs.Puts.{key_cmp}
-use Rattle.nf_defs.specs.Rising.{IsRising}
+use Rattle.nf_defs.specs.Prelude.{IsRising, key_cmp}
 
 -- rows, and how many of them fit without more memory
 pub record NamedValue (R : Type 0) : Type 0 where

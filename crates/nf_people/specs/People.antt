@@ -6,8 +6,7 @@ use Rattle.nf_base.specs.declared.rows.UserRow.{UserRow}
 use Rattle.nf_base.specs.declared.rows.TokenRow.{TokenRow}
 use Rattle.nf_base.specs.declared.rows.GroupRow.{GroupRow}
 use Rattle.nf_base.specs.declared.rows.MemberRow.{MemberRow}
-use Rattle.nf_defs.specs.Keys.{user_key, token_key, group_key, member_key}
-use Rattle.nf_defs.specs.Rising.{IsRising}
+use Rattle.nf_defs.specs.Prelude.{group_key, IsRising, member_key, token_key, user_key}
 use Rattle.nf_people.specs.Names.{AreNamedApart}
 
 -- how many of each kind fit without more memory

@@ -2,9 +2,7 @@
 
 ghost use Rattle.std.specs.Prelude.{◌≡◌, ◌+◌, ◌≤◌, [], ℕ, List, find, length, bytes_eq, None, IsOk, IfOk, OnOk, OnErr, is_some, option_copied};
 ghost use Rattle.std.specs.List.Sorted.{IsBinarySearchResult, IsSearchInRange};
-ghost use Rattle.nf_defs.specs.People.{with_quota, user_row};
-ghost use Rattle.nf_defs.specs.Puts.{key_cmp, put};
-ghost use Rattle.nf_defs.specs.Rising.{IsRising};
+ghost use Rattle.nf_defs.specs.Prelude.{IsRising, key_cmp, put, user_row, with_quota};
 ghost use Rattle.nf_people.specs.Names.{AreNamedApart, IsAbove, IsNameIndex, PartsAt, name_at};
 
 use nf_base::{GroupRow, Name, UserId, UserRow};

@@ -3,10 +3,8 @@
 ghost use Rattle.std.specs.Prelude.{◌≡◌, ◌≢◌, ◌<◌, ◌==◌, [], ◌∷◌, ◌++◌, map, filter, length, nat_le, All, IfOk, OnOk, Err, option_copied};
 ghost use Rattle.std.specs.List.{take_while};
 ghost use Rattle.std.specs.List.Sorted.{IsStrictlyIncreasing};
-ghost use Rattle.nf_defs.specs.Keys.{user_key, token_key, group_key, member_key};
-ghost use Rattle.nf_defs.specs.People.{user_row, user_named, holder_of, group_row, group_named, is_member_of, members_of, is_admin, with_quota};
-ghost use Rattle.nf_defs.specs.Puts.{put, dropped};
-ghost use Rattle.nf_defs.specs.Rising.{IsRising};
+ghost use Rattle.nf_defs.specs.Prelude.{dropped, group_key, group_named, group_row, holder_of, is_member_of, IsRising, member_key, members_of, put, token_key, user_key, user_named, user_row, with_quota};
+ghost use Rattle.nf_defs.specs.People.{is_admin};
 ghost use Rattle.nf_people.specs.Faults.{Adds, is_full, fault_of_user, fault_of_group, fault_of_token, fault_of_member, fault_of_quota};
 ghost use Rattle.nf_people.specs.People.{ArePeople, FitsUser, FitsToken, FitsGroup, FitsMember, HasRoom, rows_of_people};
 ghost use Rattle.nf_people.specs.declared.faults.PeopleFault.TheVariants.{Memory};
@@ -30,8 +28,7 @@ pub struct People {
 
 impl Model for People {
     ghost use Rattle.std.specs.Prelude.{vec_capacity};
-    ghost use Rattle.nf_defs.specs.Keys.{token_key, member_key};
-    ghost use Rattle.nf_defs.specs.Rising.{IsRising};
+    ghost use Rattle.nf_defs.specs.Prelude.{IsRising, member_key, token_key};
     ghost use Rattle.nf_people.specs.People.{PeopleValue};
 
     ghost Value = { PeopleValue };
@@ -318,84 +315,4 @@ fn first_users(alloc: Global, rows: &[MemberRow], group: GroupId) -> Result<Vec<
         .take_while(|row| row.group == group)
         .map(|row| row.user)
         .collect(alloc)
-}
-
-#[cfg(test)]
-mod tests {
-    use super::*;
-    use nf_base::NodeId;
-    use std::test::Fail;
-
-    #[test]
-    fn finds_people(rt: HostRuntime) -> Result<(), Fail> {
-        let ann = UserId::new(2);
-        let admin = GroupId::new(1);
-        let digest = Digest::of(b"secret");
-        let mut people = People::new(rt.alloc());
-        people.reserve()?;
-        people.add_user(UserRow {
-            id: UserId::new(1),
-            name: Name::read(rt.alloc(), b"bob")?,
-            quota: 5,
-            root: NodeId::new(1),
-        })?;
-        people.add_user(UserRow {
-            id: ann,
-            name: Name::read(rt.alloc(), b"ann")?,
-            quota: 6,
-            root: NodeId::new(2),
-        })?;
-        people.add_group(GroupRow {
-            id: admin,
-            name: Name::read(rt.alloc(), b"admin")?,
-        })?;
-        people.add_token(TokenRow { digest, user: ann })?;
-        people.add_member(MemberRow {
-            group: admin,
-            user: ann,
-        })?;
-        people.set_quota(ann, 7)?;
-        assert!(rt; people.caller(&digest) == Some(ann));
-        assert!(rt; people.user(&Name::read(rt.alloc(), b"ann")?) == Some(ann));
-        assert!(rt; people.group(&Name::read(rt.alloc(), b"admin")?) == Some(admin));
-        assert!(rt; people.row(ann).map(|row| row.quota) == Some(7));
-        assert!(rt; people.group_row(admin).is_some());
-        assert!(rt; people.is_member(admin, ann));
-        assert!(rt; people.is_admin(ann));
-        assert!(rt; people.members(rt.alloc(), admin)?.as_slice() == [ann].as_slice());
-        assert_eq!(rt; people.rows(rt.alloc())?.rows().len(), 5);
-        assert!(rt; people.drop_member(admin, ann));
-        assert!(rt;
-            people.counts()
-                == PeopleCounts {
-                    users: 2,
-                    tokens: 1,
-                    groups: 1,
-                    members: 0
-                }
-        );
-        Ok(())
-    }
-
-    #[test]
-    fn loads_people(rt: HostRuntime) -> Result<(), Fail> {
-        let digest = Digest::of(b"secret");
-        let people = People::load(
-            rt.alloc(),
-            PeopleRows {
-                users: Vec::new(rt.alloc()),
-                tokens: vec![in rt.alloc();
-                    TokenRow {
-                        digest,
-                        user: UserId::new(1)
-                    },
-                ]?,
-                groups: Vec::new(rt.alloc()),
-                members: Vec::new(rt.alloc()),
-            },
-        )?;
-        people.keeps();
-        assert!(rt; people.caller(&digest) == Some(UserId::new(1)));
-        Ok(())
-    }
 }

@@ -17,8 +17,7 @@ use Rattle.nf_words.specs.declared.answer.Reply.TheVariants as reply
 use Rattle.nf_words.specs.declared.request.Caller.{Caller}
 use Rattle.nf_words.specs.declared.request.Request.{Request}
 use Rattle.nf_words.specs.declared.request.Spot.{Spot}
-use Rattle.nf_session.specs.Steps.{Bodies, Heads, Invites, Judges, Scene, Sends, is_granted, is_invited, taken_length}
-use Rattle.nf_session.specs.Turn.{Answers, CutsShort, StopsShort, Turn, how_of, stays_granted, way_of}
+use Rattle.nf_session.specs.Prelude.{Answers, Bodies, CutsShort, Heads, how_of, Invites, is_granted, is_invited, Judges, Scene, Sends, stays_granted, StopsShort, taken_length, Turn, way_of}
 use Rattle.nf_session.specs.declared.backend.Ending.TheVariants as ending
 use Rattle.nf_session.specs.declared.begun.Begun.{Begun}
 use Rattle.nf_session.specs.declared.begun.Begun.TheVariants as begun

@@ -18,10 +18,8 @@ use Rattle.nf_words.specs.declared.answer.LockKey.{LockKey}
 use Rattle.nf_words.specs.declared.answer.Reply.TheVariants as reply
 use Rattle.nf_words.specs.declared.history.Event.TheVariants.{Begin}
 use Rattle.nf_words.specs.declared.request.Request.{Request}
-use Rattle.nf_session.specs.Book.{Answer, Begins, Book, IsOfBody, denial_of_piece, event_of_body, Enters, Strikes, is_unmade, state_after, Passes as Unchanged}
-use Rattle.nf_session.specs.Files.{AreGiven}
-use Rattle.nf_session.specs.Steps.{Invites, IsResponse, Judges, Passes, Scene, Starts, StartsFile, StoresBody, no_words, taken_length}
-use Rattle.nf_session.specs.Turn.{Answers, Meets, Way, Writes, end_by, end_of, end_of_close, how_of, manner_of, stays_granted, way_of}
+use Rattle.nf_session.specs.Prelude.{Answer, Answers, AreGiven, Begins, Book, denial_of_piece, end_by, end_of, end_of_close, Enters, event_of_body, how_of, Invites, is_unmade, IsOfBody, IsResponse, Judges, manner_of, Meets, no_words, Passes, Scene, Starts, StartsFile, state_after, stays_granted, StoresBody, Strikes, taken_length, Way, way_of, Writes}
+use Rattle.nf_session.specs.Book.{Passes as Unchanged}
 use Rattle.nf_session.specs.declared.backend.PieceFault.{PieceFault}
 use Rattle.nf_session.specs.declared.backend.PieceFault.TheVariants as fault
 use Rattle.nf_session.specs.declared.begun.Begun.{Begun}
@@ -42,9 +40,7 @@ use Rattle.nf_promises.specs.Complete.{Completes, IsAnswerOf, IsMet, IsUnrisen, 
 use Rattle.nf_promises.specs.Kept.{invitation}
 use Rattle.nf_words.specs.declared.answer.Reply.{Reply}
 use Rattle.std.specs.Prelude.{MatchBool}
-use Rattle.nf_words.specs.History.{answer_at, replay}
-use Rattle.nf_words.specs.State.{State, opened}
-use Rattle.nf_words.specs.Step.{answer_to}
+use Rattle.nf_words.specs.Prelude.{answer_at, answer_to, opened, replay, State}
 use Rattle.nf_words.specs.declared.history.Entry.{Entry}
 use Rattle.nf_words.specs.declared.history.Event.{Event}
 use Rattle.nf_words.specs.declared.history.Mark.{Mark}

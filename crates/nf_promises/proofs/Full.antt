@@ -5,16 +5,12 @@ use Rattle.nf_dav.specs.Reply.{continue_reply}
 use Rattle.nf_http.specs.Head.{Head}
 use Rattle.nf_http.specs.declared.wire.WireFault.{WireFault}
 use Rattle.nf_http.specs.declared.wire.WireFault.TheVariants as wire
-use Rattle.nf_words.specs.History.{most_entries}
-use Rattle.nf_words.specs.State.{opened}
+use Rattle.nf_words.specs.Prelude.{most_entries, opened}
 use Rattle.nf_words.specs.declared.answer.Denial.{Denial}
 use Rattle.nf_words.specs.declared.answer.Denial.TheVariants as denial
 use Rattle.nf_words.specs.declared.answer.Goal.TheVariants as goal
 use Rattle.nf_words.specs.declared.answer.Reply.TheVariants as reply
-use Rattle.nf_session.specs.Book.{Answer, Book, entries_wanted, state_after}
-use Rattle.nf_session.specs.Session.{Session}
-use Rattle.nf_session.specs.Steps.{Closes, EndsBy, Invites, IsResponse, Judges, Passes, Scene, Starts, TakesIn}
-use Rattle.nf_session.specs.Turn.{Answers, CutsShort, Responds, StopsShort, Turn, Way, end_by, end_of, end_of_close, end_of_denial, how_of, stays_granted, way_of}
+use Rattle.nf_session.specs.Prelude.{Answer, Answers, Book, Closes, CutsShort, end_by, end_of, end_of_close, end_of_denial, EndsBy, entries_wanted, how_of, Invites, IsResponse, Judges, Passes, Responds, Scene, Session, Starts, state_after, stays_granted, StopsShort, TakesIn, Turn, Way, way_of}
 use Rattle.nf_session.specs.declared.begun.Begun.{Begun}
 use Rattle.nf_session.specs.declared.begun.Begun.TheVariants as begun
 use Rattle.nf_session.specs.declared.ended.Ended.{Ended}

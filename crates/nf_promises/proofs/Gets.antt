@@ -12,10 +12,8 @@ use Rattle.nf_dav.specs.Reply.{file_head, refusal_reply}
 use Rattle.nf_dav.specs.declared.replies.Manner.{Manner}
 use Rattle.nf_http.specs.Head.{Head, closes_session}
 use Rattle.nf_words.proofs.Steps.{put_grants_nothing}
-use Rattle.nf_words.specs.Endings.{blob_for, content_in}
-use Rattle.nf_words.specs.History.{HasBody, MayBear, answer_at}
-use Rattle.nf_words.specs.State.{State}
-use Rattle.nf_words.specs.Step.{answer_to, answered_by, changes_by, changes_to, decision_of}
+use Rattle.nf_words.specs.Prelude.{answer_at, answer_to, answered_by, blob_for, changes_by, changes_to, content_in, decision_of, MayBear, State}
+use Rattle.nf_words.specs.History.{HasBody}
 use Rattle.nf_words.specs.declared.answer.Allowed.{Allowed}
 use Rattle.nf_words.specs.declared.answer.Allowed.TheVariants as allowed
 use Rattle.nf_words.specs.declared.answer.Damage.{Damage}
@@ -33,15 +31,13 @@ use Rattle.nf_words.specs.declared.request.Caller.{Caller}
 use Rattle.nf_words.specs.declared.request.Request.{Request}
 use Rattle.nf_words.specs.declared.request.Spot.{Spot}
 use Rattle.nf_words.specs.declared.request.Words.{Words}
-use Rattle.nf_defs.specs.Tables.{Tables}
-use Rattle.nf_defs.specs.Blobs.{Blobs}
+use Rattle.nf_defs.specs.Prelude.{Blobs, Tables}
 use Rattle.nf_laws.specs.Wholes.{IsThere}
-use Rattle.nf_session.specs.Book.{Answer, Begins, Book, Enters, FailsPiece, Lasts, TellsDamage, TellsPiece, TellsStill, is_unmade, next_blob_of, state_of, Passes as Unchanged}
+use Rattle.nf_session.specs.Prelude.{Answer, AreGiven, Begins, Book, end_of, end_of_close, Enters, FailsPiece, file_front, is_invited, is_unmade, is_unsent, Judges, Lasts, manner_of, next_blob_of, no_words, Scene, SendsFile, Starts, StartsFile, state_of, TakesIn, TellsDamage, TellsPiece, TellsStill, Way, way_of, Writes}
+use Rattle.nf_session.specs.Book.{Passes as Unchanged}
+use Rattle.nf_session.specs.Turn.{says_close}
 use Rattle.nf_session.proofs.Moving.{begins_move, none_of}
 use Rattle.nf_session.proofs.Lasting.{lasts_same, lasts_then}
-use Rattle.nf_session.specs.Files.{AreGiven, SendsFile, file_front}
-use Rattle.nf_session.specs.Steps.{Judges, Scene, Starts, StartsFile, TakesIn, is_invited, is_unsent, no_words}
-use Rattle.nf_session.specs.Turn.{Way, Writes, end_of, end_of_close, manner_of, says_close, way_of}
 use Rattle.nf_session.specs.declared.backend.PieceFault.{PieceFault}
 use Rattle.nf_session.specs.declared.backend.PieceFault.TheVariants as fault
 use Rattle.nf_session.specs.declared.begun.Begun.{Begun}

@@ -2,14 +2,12 @@
 use Rattle.std.proofs.Common.{ℕ, ◌≡◌, Option, Result, ap, arith, List, [], ◌++◌, length, sym, subst, ◌∙◌}
 use Rattle.nf_http.specs.Head.{Head}
 use Rattle.nf_http.specs.declared.wire.WireFault.{WireFault}
-use Rattle.nf_session.specs.Book.{Book, Answer, Enters, state_after, state_of}
-use Rattle.nf_session.specs.Steps.{Heads, Scene}
+use Rattle.nf_session.specs.Prelude.{Answer, Book, Enters, Heads, Scene, state_after, state_of}
 use Rattle.nf_session.proofs.Moving.{Moves, no_others}
 use Rattle.nf_promises.specs.Kept.{OnlyOwn}
 use Rattle.std.proofs.lemmas.List.{append-nil}
 use Rattle.nf_words.proofs.Histories.{replay_more}
-use Rattle.nf_words.specs.History.{MayCome, after, answer_at, replay}
-use Rattle.nf_words.specs.State.{State, opened}
+use Rattle.nf_words.specs.Prelude.{after, answer_at, MayCome, opened, replay, State}
 use Rattle.nf_words.specs.declared.history.Entry.{Entry}
 use Rattle.nf_words.specs.declared.history.Event.{Event}
 use Rattle.nf_base.specs.declared.rows.Row.{Row}

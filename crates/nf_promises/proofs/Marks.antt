@@ -17,10 +17,7 @@ use Rattle.nf_http.specs.declared.wire.WireFault.TheVariants as wire
 use Rattle.nf_words.specs.declared.answer.Denial.{Denial}
 use Rattle.nf_words.specs.declared.answer.Denial.TheVariants as denial
 use Rattle.nf_words.specs.declared.listing.ListingLine.{ListingLine}
-use Rattle.nf_session.specs.Book.{denial_of_piece}
-use Rattle.nf_session.specs.Files.{SendsFile, file_front}
-use Rattle.nf_session.specs.Steps.{EndsBy, EndsSo, Says, Scene, denial_of}
-use Rattle.nf_session.specs.Turn.{Responds, Way, Writes, manner_of}
+use Rattle.nf_session.specs.Prelude.{denial_of, denial_of_piece, EndsBy, EndsSo, file_front, manner_of, Responds, Says, Scene, SendsFile, Way, Writes}
 use Rattle.nf_session.specs.declared.ended.Ended.{Ended}
 use Rattle.nf_session.specs.declared.ended.Ended.TheVariants as ended
 use Rattle.nf_session.specs.declared.response.Response.{Response}

@@ -4,11 +4,7 @@ use Rattle.std.specs.Prelude.{IfSome, IsOk, OnOk}
 use Rattle.nf_base.specs.declared.content.Piece.{Piece}
 use Rattle.nf_dav.specs.Asked.{request_of}
 use Rattle.nf_http.specs.Head.{Head}
-use Rattle.nf_words.specs.Endings.{blob_for}
-use Rattle.nf_words.specs.History.{MayCome, after, answer_at}
-use Rattle.nf_words.specs.Sound.{IsSound}
-use Rattle.nf_words.specs.State.{State}
-use Rattle.nf_words.specs.Step.{answer_to, blob_to}
+use Rattle.nf_words.specs.Prelude.{after, answer_at, answer_to, blob_for, blob_to, IsSound, MayCome, State}
 use Rattle.nf_words.specs.declared.answer.Denial.{Denial}
 use Rattle.nf_words.specs.declared.answer.Goal.TheVariants as goal
 use Rattle.nf_words.specs.declared.answer.LockKey.{LockKey}
@@ -22,9 +18,7 @@ use Rattle.nf_words.specs.declared.request.Spot.{Spot}
 use Rattle.nf_words.specs.declared.request.Words.{Words}
 use Rattle.nf_defs.specs.declared.Seeker.{Seeker}
 use Rattle.nf_defs.specs.Blobs.{Blobs, blob_at}
-use Rattle.nf_session.specs.Book.{Answer, Book, EndsBody, Enters, Stores, event_of_body, next_blob_of, state_after, state_of}
-use Rattle.nf_session.specs.Steps.{Bodies, Closes, IsResponse, Judges, Passes, Scene, Starts, StoresBody, no_words, taken_length}
-use Rattle.nf_session.specs.Turn.{how_of, stays_granted, way_of}
+use Rattle.nf_session.specs.Prelude.{Answer, Bodies, Book, Closes, EndsBody, Enters, event_of_body, how_of, IsResponse, Judges, next_blob_of, no_words, Passes, Scene, Starts, state_after, state_of, stays_granted, Stores, StoresBody, taken_length, way_of}
 use Rattle.nf_session.specs.declared.begun.Begun.{Begun}
 use Rattle.nf_session.specs.declared.begun.Begun.TheVariants as begun
 use Rattle.nf_session.specs.declared.ended.Ended.{Ended}

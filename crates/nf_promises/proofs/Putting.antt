@@ -8,10 +8,7 @@ use Rattle.std.proofs.lemmas.Option.{unwrap_or-slice_get}
 use Rattle.sha2.specs.Sha256.{sha256}
 use Rattle.nf_base.specs.declared.content.Piece.{Piece}
 use Rattle.nf_base.specs.declared.rows.UserRow.{UserRow}
-use Rattle.nf_defs.specs.Access.{unshared}
-use Rattle.nf_defs.specs.People.{holder_of, user_row}
-use Rattle.nf_defs.specs.Tables.{Tables}
-use Rattle.nf_defs.specs.Tree.{found_from}
+use Rattle.nf_defs.specs.Prelude.{found_from, holder_of, Tables, unshared, user_row}
 use Rattle.nf_defs.specs.declared.Found.{Found}
 use Rattle.nf_defs.specs.declared.Found.TheVariants.{At, Free, Missing}
 use Rattle.nf_defs.specs.declared.Seeker.{Seeker}
@@ -23,17 +20,8 @@ use Rattle.nf_laws.proofs.Stays.{sound_after}
 use Rattle.nf_laws.specs.Reads.{IsReadBy, IsStored, LeadsToKey}
 use Rattle.nf_words.proofs.Known.{call_passes}
 use Rattle.nf_words.proofs.Steps.{granted_step, put_grants_nothing}
-use Rattle.nf_words.specs.Callers.{not_you_rule, token_rule}
-use Rattle.nf_words.specs.Calls.{asker_of, caller_of, found, last_name, named_in, root_of}
-use Rattle.nf_words.specs.Changes.{blob_of, reply_to, stored}
-use Rattle.nf_words.specs.Endings.{blob_for, content_in, end_refusal, ends_ticket, stored_at, stores, unless_refused}
-use Rattle.nf_words.specs.History.{MayAsk, MayCome, after, after_mark, answer_at}
-use Rattle.nf_words.specs.Laws.{Pass}
-use Rattle.nf_words.specs.Places.{forbidden_rule}
-use Rattle.nf_words.specs.Rules.{refusal_of, rules}
-use Rattle.nf_words.specs.Sound.{AreSound, IsSound}
-use Rattle.nf_words.specs.State.{State, ticket_for, ticket_of}
-use Rattle.nf_words.specs.Step.{answer_to, answered_by, blob_by, blob_to, call_of, decided, decision_of, step}
+use Rattle.nf_words.specs.Prelude.{after, after_mark, answer_at, answer_to, answered_by, AreSound, asker_of, blob_by, blob_for, blob_of, blob_to, call_of, content_in, decided, decision_of, end_refusal, ends_ticket, forbidden_rule, found, IsSound, last_name, MayAsk, MayCome, named_in, not_you_rule, Pass, refusal_of, reply_to, root_of, rules, State, step, stored, stored_at, stores, ticket_for, ticket_of, token_rule, unless_refused}
+use Rattle.nf_words.specs.Calls.{caller_of}
 use Rattle.nf_words.specs.declared.answer.Allowed.{Allowed}
 use Rattle.nf_words.specs.declared.answer.Allowed.TheVariants as allowed
 use Rattle.nf_words.specs.declared.answer.Denial.{Denial}

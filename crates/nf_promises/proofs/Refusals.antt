@@ -2,16 +2,11 @@
 use Rattle.std.proofs.Common.{ℕ, ◌≡◌, ◌⊎◌, ◌&&◌, Bool, true, false, Option, None, Some, Err, is_none, option_map, if◌then◌else◌, inl, inr, sym, ap, ◌∙◌}
 use Rattle.std.specs.Option.{option_or}
 use Rattle.std.proofs.lemmas.Bool.{false≢true}
-use Rattle.nf_defs.specs.Tables.{Tables}
-use Rattle.nf_defs.specs.Tree.{child_of, is_file, is_folder}
+use Rattle.nf_defs.specs.Prelude.{child_of, is_file, is_folder, Tables}
 use Rattle.nf_dav.specs.Asked.{request_of}
 use Rattle.nf_dav.proofs.NotAsked.{unasked_refusal}
 use Rattle.nf_http.specs.Head.{Head}
-use Rattle.nf_words.specs.Endings.{end_refusal, ends_goal, ends_ticket, key_lost, place_of, stored_at, unless_refused}
-use Rattle.nf_words.specs.History.{answer_at}
-use Rattle.nf_words.specs.Limits.{limit_at, pieces_of}
-use Rattle.nf_words.specs.State.{State, ticket_of}
-use Rattle.nf_words.specs.Step.{answer_to, answered_by}
+use Rattle.nf_words.specs.Prelude.{answer_at, answer_to, answered_by, end_refusal, ends_goal, ends_ticket, key_lost, limit_at, pieces_of, place_of, State, stored_at, ticket_of, unless_refused}
 use Rattle.nf_words.specs.declared.answer.Allowed.{Allowed}
 use Rattle.nf_words.specs.declared.answer.Denial.{Denial}
 use Rattle.nf_words.specs.declared.answer.Denial.TheVariants as denial

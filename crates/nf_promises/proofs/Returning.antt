@@ -11,9 +11,7 @@ use Rattle.nf_http.specs.declared.wire.WireFault.TheVariants as wire
 use Rattle.nf_words.specs.declared.answer.Denial.TheVariants as denial
 use Rattle.nf_words.specs.declared.request.Caller.{Caller}
 use Rattle.nf_words.specs.declared.request.Spot.{Spot}
-use Rattle.nf_session.specs.Book.{Book}
-use Rattle.nf_session.specs.Steps.{EndsBy, Invites, Judges, Scene, Sends, TakesIn, is_invited}
-use Rattle.nf_session.specs.Turn.{Answers, Meets, Responds, Way, Writes, end_by, end_of, how_of, manner_of, stays_granted, way_of}
+use Rattle.nf_session.specs.Prelude.{Answers, Book, end_by, end_of, EndsBy, how_of, Invites, is_invited, Judges, manner_of, Meets, Responds, Scene, Sends, stays_granted, TakesIn, Way, way_of, Writes}
 use Rattle.nf_session.specs.declared.begun.Begun.{Begun}
 use Rattle.nf_session.specs.declared.ended.Ended.{Ended}
 use Rattle.nf_session.specs.declared.ended.Ended.TheVariants as ended

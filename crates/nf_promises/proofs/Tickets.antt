@@ -1,10 +1,7 @@
 -- How many tickets a history leaves: no more than it has entries.
 use Rattle.std.proofs.Common.{ℕ, ◌+◌, ◌==◌, ◌≤◌, Bool, not, List, [], ◌∷◌, length, Option, None, Some, Result, Ok, Err, arith, length-append}
 use Rattle.std.proofs.lemmas.List.Sums.{length-filter, count_by-le-length}
-use Rattle.nf_words.specs.Changes.{goal_of, with_goal}
-use Rattle.nf_words.specs.History.{after, after_mark, replay}
-use Rattle.nf_words.specs.State.{State, ticket_for}
-use Rattle.nf_words.specs.Step.{decided, decision_of, without}
+use Rattle.nf_words.specs.Prelude.{after, after_mark, decided, decision_of, goal_of, replay, State, ticket_for, with_goal, without}
 use Rattle.nf_words.specs.declared.answer.Allowed.{Allowed}
 use Rattle.nf_words.specs.declared.answer.Denial.{Denial}
 use Rattle.nf_words.specs.declared.answer.Goal.{Goal}

@@ -4,9 +4,7 @@ use Rattle.nf_http.specs.Head.{Head}
 use Rattle.nf_words.specs.declared.answer.Goal.TheVariants as goal
 use Rattle.nf_words.specs.declared.answer.Reply.TheVariants as reply
 use Rattle.nf_base.specs.declared.content.Piece.{Piece}
-use Rattle.nf_session.specs.Book.{Book}
-use Rattle.nf_session.specs.Steps.{Closes, Judges, OnlyAsks, OnlyWrites, Passes, Says, Scene, Starts}
-use Rattle.nf_session.specs.Turn.{Responds, Way}
+use Rattle.nf_session.specs.Prelude.{Book, Closes, Judges, OnlyAsks, OnlyWrites, Passes, Responds, Says, Scene, Starts, Way}
 use Rattle.nf_session.specs.declared.backend.Ending.{Ending}
 use Rattle.nf_session.specs.declared.begun.Begun.{Begun}
 use Rattle.nf_session.specs.declared.begun.Begun.TheVariants as begun

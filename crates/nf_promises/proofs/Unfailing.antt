@@ -14,10 +14,7 @@ use Rattle.nf_outside.specs.Causes.{Rose}
 use Rattle.nf_words.specs.declared.answer.Damage.{Damage}
 use Rattle.nf_words.specs.declared.answer.Denial.{Denial}
 use Rattle.nf_words.specs.declared.answer.Denial.TheVariants as denial
-use Rattle.nf_session.specs.Book.{Book, FailsPiece, Lasts, Struck, TellsDamage, TellsStill, next_blob_of}
-use Rattle.nf_session.specs.Files.{SendsFile}
-use Rattle.nf_session.specs.Steps.{EndsBy, EndsSo, OnlyReads, Says, Scene, denial_of}
-use Rattle.nf_session.specs.Turn.{Answers, CutsShort, Meets, Responds, StopsShort, Turn, Way, Writes, end_by, end_of, end_of_close, end_of_denial, how_of, manner_of, stays_granted, way_of}
+use Rattle.nf_session.specs.Prelude.{Answers, Book, CutsShort, denial_of, end_by, end_of, end_of_close, end_of_denial, EndsBy, EndsSo, FailsPiece, how_of, Lasts, manner_of, Meets, next_blob_of, OnlyReads, Responds, Says, Scene, SendsFile, stays_granted, StopsShort, Struck, TellsDamage, TellsStill, Turn, Way, way_of, Writes}
 use Rattle.nf_session.specs.declared.backend.Ending.TheVariants as ending
 use Rattle.nf_session.specs.declared.backend.PieceFault.{PieceFault}
 use Rattle.nf_session.specs.declared.backend.PieceFault.TheVariants as fault

@@ -12,15 +12,10 @@ use Rattle.nf_dav.specs.declared.replies.Manner.{Manner}
 use Rattle.nf_http.specs.Bodies.{TakesBody}
 use Rattle.nf_http.specs.Head.{Head, closes_session}
 use Rattle.nf_laws.specs.Wholes.{IsDamaged}
-use Rattle.nf_session.specs.Book.{Answer, Book, Lasts, entries_wanted, state_after}
-use Rattle.nf_session.specs.Files.{AreGiven}
-use Rattle.nf_session.specs.Session.{Session}
-use Rattle.nf_session.specs.Steps.{Heads, Scene, no_words}
-use Rattle.nf_session.specs.Turn.{Meets}
+use Rattle.nf_session.specs.Prelude.{Answer, AreGiven, Book, entries_wanted, Heads, Lasts, Meets, no_words, Scene, Session, state_after}
 use Rattle.nf_session.specs.declared.ended.Ended.{Ended}
 use Rattle.nf_session.specs.declared.ended.Ended.TheVariants as ended
-use Rattle.nf_words.specs.History.{most_entries}
-use Rattle.nf_words.specs.Step.{answer_to}
+use Rattle.nf_words.specs.Prelude.{answer_to, most_entries}
 use Rattle.nf_words.specs.declared.answer.Denial.TheVariants as denial
 use Rattle.nf_words.specs.declared.answer.Goal.TheVariants.{Serve, Store}
 use Rattle.nf_words.specs.declared.answer.Reply.TheVariants as reply

@@ -8,9 +8,7 @@ use Rattle.nf_dav.specs.Reply.{continue_reply, done_reply, file_head, made_reply
 use Rattle.nf_dav.specs.declared.replies.Manner.{Manner}
 use Rattle.httparse.specs.Grammar.{IsRequestHead, RequestHead, print_request}
 use Rattle.nf_http.specs.Head.{Head, closes_session, expects_continue, head_fault, head_of, length_of}
-use Rattle.nf_session.specs.Book.{Book, state_of}
-use Rattle.nf_session.specs.Steps.{Heads, Invites, Judges, Scene}
-use Rattle.nf_session.specs.Turn.{Answers, Meets, Turn}
+use Rattle.nf_session.specs.Prelude.{Answers, Book, Heads, Invites, Judges, Meets, Scene, state_of, Turn}
 use Rattle.nf_session.specs.declared.begun.Begun.{Begun}
 use Rattle.nf_session.specs.declared.ended.Ended.{Ended}
 use Rattle.nf_session.specs.declared.ended.Ended.TheVariants as ended

@@ -1,9 +1,7 @@
 -- When a session finds the run full.
 use Rattle.std.specs.Prelude.{◌≡◌, ◌≢◌, ℕ, ◌<◌, [], length, Option, Some}
 use Rattle.nf_words.specs.History.{most_entries}
-use Rattle.nf_session.specs.Book.{Book, entries_wanted}
-use Rattle.nf_session.specs.Session.{Session}
-use Rattle.nf_session.specs.Steps.{Scene}
+use Rattle.nf_session.specs.Prelude.{Book, entries_wanted, Scene, Session}
 use Rattle.nf_session.specs.declared.ended.Ended.{Ended}
 use Rattle.nf_session.specs.declared.ended.Ended.TheVariants as ended
 

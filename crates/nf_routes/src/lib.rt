@@ -4,8 +4,6 @@
 mod methods;
 mod mounts;
 mod targets;
-#[cfg(test)]
-mod tests;
 
 pub use methods::{Method, allow, method_of, takes};
 pub use mounts::Routes;

@@ -11,10 +11,7 @@ use Rattle.nf_base.specs.declared.rows.TokenRow.{TokenRow}
 use Rattle.nf_base.specs.declared.rows.GroupRow.{GroupRow}
 use Rattle.nf_base.specs.declared.rows.MemberRow.{MemberRow}
 use Rattle.nf_base.specs.declared.rows.NodeRow.{NodeRow}
-use Rattle.nf_defs.specs.Keys.{user_key, token_key, group_key, member_key, node_key}
-use Rattle.nf_defs.specs.Puts.{put}
-use Rattle.nf_defs.specs.Tables.{Tables, no_rows, put_row, put_rows, tables_of}
-use Rattle.nf_defs.specs.Rising.{AreRising}
+use Rattle.nf_defs.specs.Prelude.{AreRising, group_key, member_key, no_rows, node_key, put, put_row, put_rows, Tables, tables_of, token_key, user_key}
 use Rattle.nf_defs.proofs.Loads.{rising_more}
 use Rattle.nf_defs.proofs.Puts.{all_put}
 use Rattle.nf_rules.specs.Ruled.{HasNoLater}

@@ -9,10 +9,7 @@ use Rattle.nf_base.specs.declared.rows.Place.{Place}
 use Rattle.nf_base.specs.declared.rows.Place.TheVariants.{Root, Inside, Trash}
 use Rattle.nf_base.specs.declared.rows.Row.{Row}
 use Rattle.nf_base.specs.declared.rows.Row.TheVariants as rows
-use Rattle.nf_defs.specs.Changes.{numbers_of}
-use Rattle.nf_defs.specs.Keys.{group_key, member_key, node_key, token_key, user_key}
-use Rattle.nf_defs.specs.Rising.{AreRising, IsRising}
-use Rattle.nf_defs.specs.Tables.{Tables}
+use Rattle.nf_defs.specs.Prelude.{AreRising, group_key, IsRising, member_key, node_key, numbers_of, Tables, token_key, user_key}
 use Rattle.nf_rows.proofs.Whole.{one_key}
 use Rattle.nf_rows.specs.Spelling.{Fits, Keyed, key_spelling, kind_of, spelled}
 use Rattle.nf_told.specs.Told.{numbers_of_key}

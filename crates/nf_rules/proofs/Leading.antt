@@ -6,8 +6,7 @@ use Rattle.std.proofs.lemmas.Option.{none-some, same_Some}
 use Rattle.nf_base.specs.declared.rows.NodeRow.{NodeRow}
 use Rattle.nf_base.specs.declared.rows.Place.{Place}
 use Rattle.nf_base.specs.declared.rows.Place.TheVariants.{Root, Inside, Trash}
-use Rattle.nf_defs.specs.Tables.{Tables}
-use Rattle.nf_defs.specs.Tree.{climb, folder_of, is_folder_kind, node_row, parent_of}
+use Rattle.nf_defs.specs.Prelude.{climb, folder_of, is_folder_kind, node_row, parent_of, Tables}
 use Rattle.nf_laws.proofs.Rows.{folder_there, found_is, none_above}
 use Rattle.nf_words.proofs.Known.{found_passes}
 use Rattle.nf_words.specs.Sound.{AreSound, IsNodeSound, IsPlaceSound, root_of_user}

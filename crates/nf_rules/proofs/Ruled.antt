@@ -17,14 +17,11 @@ use Rattle.nf_base.specs.declared.rows.Row.{Row}
 use Rattle.nf_base.specs.declared.rows.Row.TheVariants as rows
 use Rattle.nf_base.specs.declared.rows.UserRow.{UserRow}
 use Rattle.nf_defs.proofs.Tables.{tables_again}
-use Rattle.nf_defs.specs.People.{user_row}
-use Rattle.nf_defs.specs.Tables.{Tables, rows_of, tables_of}
-use Rattle.nf_defs.specs.Tree.{is_root_place, piece_count}
+use Rattle.nf_defs.specs.Prelude.{is_root_place, piece_count, rows_of, Tables, tables_of, user_row}
 use Rattle.nf_laws.proofs.Climbs.{node_row_each}
 use Rattle.nf_laws.proofs.Rows.{folder_there, found_is}
 use Rattle.nf_rows.specs.Spelling.{Fits}
-use Rattle.nf_words.specs.Limits.{count_of}
-use Rattle.nf_words.specs.Sound.{AreCounters, HasRoot, IsNodeSound, IsPieceSound, IsPlaceSound}
+use Rattle.nf_words.specs.Prelude.{AreCounters, count_of, HasRoot, IsNodeSound, IsPieceSound, IsPlaceSound}
 use Rattle.nf_words.specs.declared.answer.Limit.TheVariants as limit
 use Rattle.nf_rules.specs.Laws.{RuledAreUnbroken}
 use Rattle.nf_rules.specs.Ruled.{AreRuled, IsGiven, IsMemberRuled, IsUserRuled}

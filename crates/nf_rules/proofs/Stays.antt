@@ -10,21 +10,14 @@ use Rattle.std.proofs.lemmas.Option.{option_and_then_some, same_Some}
 use Rattle.nf_base.specs.declared.rows.MetaRow.{MetaRow}
 use Rattle.nf_base.specs.declared.rows.NodeRow.{NodeRow}
 use Rattle.nf_base.specs.declared.rows.UserRow.{UserRow}
-use Rattle.nf_defs.specs.Keys.{node_key}
-use Rattle.nf_defs.specs.People.{user_row}
-use Rattle.nf_defs.specs.Puts.{key_cmp}
-use Rattle.nf_defs.specs.Rising.{IsRising}
-use Rattle.nf_defs.specs.Tables.{Tables}
-use Rattle.nf_defs.specs.Tree.{climb, folder_of, node_row, parent_of}
+use Rattle.nf_defs.specs.Prelude.{climb, folder_of, IsRising, key_cmp, node_key, node_row, parent_of, Tables, user_row}
 use Rattle.nf_laws.proofs.Climbs.{node_row_each}
 use Rattle.nf_laws.proofs.Counters.{after_up}
 use Rattle.nf_laws.proofs.Owning.{changes_own}
 use Rattle.nf_laws.proofs.Rows.{child_folder, folder_there, found_is, inside_folder, with_nodes}
 use Rattle.nf_laws.proofs.Stays.{sound_after}
 use Rattle.nf_laws.specs.Numbers.{AreHigher}
-use Rattle.nf_words.specs.History.{MayCome, after}
-use Rattle.nf_words.specs.Sound.{AreSound, IsNodeSound, IsSound, root_of_user}
-use Rattle.nf_words.specs.State.{State}
+use Rattle.nf_words.specs.Prelude.{after, AreSound, IsNodeSound, IsSound, MayCome, root_of_user, State}
 use Rattle.nf_words.specs.declared.history.Entry.{Entry}
 use Rattle.nf_rules.proofs.Among.{later_stays}
 use Rattle.nf_rules.specs.Laws.{StaysRuled}

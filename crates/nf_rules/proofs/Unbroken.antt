@@ -24,15 +24,9 @@ use Rattle.nf_base.specs.declared.rows.NodeRow.{NodeRow}
 use Rattle.nf_base.specs.declared.rows.Place.{Place}
 use Rattle.nf_base.specs.declared.rows.Place.TheVariants.{Root, Inside, Trash}
 use Rattle.nf_base.specs.declared.rows.UserRow.{UserRow}
-use Rattle.nf_defs.specs.Changes.{numbers_of}
-use Rattle.nf_defs.specs.Keys.{group_key, node_key, user_key}
-use Rattle.nf_defs.specs.Puts.{key_cmp}
-use Rattle.nf_defs.specs.Rising.{IsRising}
-use Rattle.nf_defs.specs.Tables.{Tables, tables_of}
-use Rattle.nf_defs.specs.Tree.{is_folder_kind, is_root_place, node_row, piece_count}
+use Rattle.nf_defs.specs.Prelude.{group_key, is_folder_kind, is_root_place, IsRising, key_cmp, node_key, node_row, numbers_of, piece_count, Tables, tables_of, user_key}
 use Rattle.nf_laws.proofs.Climbs.{node_row_each}
-use Rattle.nf_words.specs.Limits.{count_of}
-use Rattle.nf_words.specs.Sound.{AreCounters, AreSound, HasRoot, IsNodeSound}
+use Rattle.nf_words.specs.Prelude.{AreCounters, AreSound, count_of, HasRoot, IsNodeSound}
 use Rattle.nf_words.specs.declared.answer.Limit.TheVariants as limit
 use Rattle.nf_rules.specs.Keys.{child_key, name_key}
 use Rattle.nf_rules.specs.Laws.{UnbrokenAreRuled}

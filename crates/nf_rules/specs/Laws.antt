@@ -4,9 +4,7 @@ use Rattle.nf_base.specs.KeptRows.{IsKept}
 use Rattle.nf_base.specs.declared.rows.Row.{Row}
 use Rattle.nf_defs.specs.Tables.{Tables, rows_of, tables_of}
 use Rattle.nf_told.specs.Told.{AreFit}
-use Rattle.nf_words.specs.History.{IsLegalFrom, replay}
-use Rattle.nf_words.specs.Sound.{IsSound}
-use Rattle.nf_words.specs.State.{State, opened}
+use Rattle.nf_words.specs.Prelude.{IsLegalFrom, IsSound, opened, replay, State}
 use Rattle.nf_words.specs.declared.history.Entry.{Entry}
 use Rattle.nf_rules.specs.Ruled.{AreRuled}
 use Rattle.nf_rules.specs.Rules.{AreUnbroken, Broken, first_broken, lacks_meta, rules}

@@ -6,8 +6,7 @@ use Rattle.nf_base.specs.declared.rows.TokenRow.{TokenRow}
 use Rattle.nf_base.specs.declared.rows.GroupRow.{GroupRow}
 use Rattle.nf_base.specs.declared.rows.MemberRow.{MemberRow}
 use Rattle.nf_base.specs.declared.rows.NodeRow.{NodeRow}
-use Rattle.nf_defs.specs.Rising.{AreRising}
-use Rattle.nf_defs.specs.Tables.{Tables}
+use Rattle.nf_defs.specs.Prelude.{AreRising, Tables}
 use Rattle.nf_words.specs.Sound.{AreSound}
 use Rattle.nf_rules.specs.Rules.{is_group, is_user, most_groups, most_members, most_quota, most_tokens, most_users}
 

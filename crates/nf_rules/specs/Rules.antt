@@ -12,11 +12,8 @@ use Rattle.nf_base.specs.declared.rows.Row.{Row}
 use Rattle.nf_base.specs.declared.rows.Row.TheVariants as rows
 use Rattle.nf_base.specs.declared.rows.Place.{Place}
 use Rattle.nf_base.specs.declared.rows.Place.TheVariants.{Root, Inside, Trash}
-use Rattle.nf_defs.specs.People.{user_row}
-use Rattle.nf_defs.specs.Tables.{Tables, tables_of}
-use Rattle.nf_defs.specs.Tree.{is_folder_kind, is_root_place, node_row, piece_count}
-use Rattle.nf_words.specs.Limits.{count_of}
-use Rattle.nf_words.specs.Sound.{root_of_user}
+use Rattle.nf_defs.specs.Prelude.{is_folder_kind, is_root_place, node_row, piece_count, Tables, tables_of, user_row}
+use Rattle.nf_words.specs.Prelude.{count_of, root_of_user}
 use Rattle.nf_words.specs.declared.answer.Limit.TheVariants as limit
 use Rattle.nf_rules.specs.Keys.{is_shared, name_key, spelled_key}
 

@@ -8,8 +8,7 @@ use Rattle.nf_keeper.specs.declared.keeper.Keeper.{Ghosts as KeeperOf}
 use Rattle.nf_outside.specs.declared.traits.Ends.{Ghosts as EndsOf}
 use Rattle.nf_turn.proofs.Left.{IsLeft, left_tests}
 use Rattle.nf_turn.proofs.Whole.{has_so, ways}
-use Rattle.nf_turn.specs.Memory.{having_joined, having_split, longer, split_from}
-use Rattle.nf_turn.specs.Numbers.{IsWhole, Numbers, has_number, is_joined, is_left, numbers_of}
+use Rattle.nf_turn.specs.Prelude.{has_number, having_joined, having_split, is_joined, is_left, IsWhole, longer, Numbers, numbers_of, split_from}
 use Rattle.nf_turn.specs.declared.view.Memory.{Memory}
 use Rattle.nf_server.specs.Work.{InTurn, Visited, WorkBeside, Works}
 use Rattle.nf_server.specs.declared.door.Door.{Ghosts as DoorOf}

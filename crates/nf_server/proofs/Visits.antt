@@ -11,9 +11,7 @@ use Rattle.nf_hub.specs.declared.hub.HubOf.{HubOf}
 use Rattle.nf_hub.specs.declared.seat.SeatOf.{SeatOf}
 use Rattle.nf_keeper.specs.declared.keeper.Keeper.{Ghosts as KeeperOf}
 use Rattle.nf_promises.proofs.Full.{full_is_seen}
-use Rattle.nf_session.specs.Book.{entries_wanted}
-use Rattle.nf_session.specs.Session.{Session}
-use Rattle.nf_session.specs.Steps.{Scene}
+use Rattle.nf_session.specs.Prelude.{entries_wanted, Scene, Session}
 use Rattle.nf_session.specs.declared.ended.Ended.{Ended}
 use Rattle.nf_session.specs.declared.ended.Ended.TheVariants as ended
 use Rattle.nf_turn.specs.declared.view.Memory.{Memory}

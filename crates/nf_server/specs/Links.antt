@@ -2,8 +2,7 @@
 use Rattle.std.specs.Prelude.{ℕ, List}
 use Rattle.nf_http.specs.Told.{stream}
 use Rattle.nf_outside.specs.declared.traits.Ends.{Ghosts as EndsOf}
-use Rattle.nf_session.specs.Book.{Book}
-use Rattle.nf_session.specs.Steps.{Scene}
+use Rattle.nf_session.specs.Prelude.{Book, Scene}
 
 -- two ends and a clock, where these bytes were read and not yet taken, and the seat knows that
 abbrev pub scene_at : {S O C : Type 0} → EndsOf S → EndsOf O → Book → List ℕ → S → O → C → Scene C

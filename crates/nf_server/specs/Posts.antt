@@ -9,8 +9,7 @@ use Rattle.nf_hub.specs.declared.hub.HubOf.{HubOf}
 use Rattle.nf_hub.specs.declared.seat.SeatOf.{SeatOf}
 use Rattle.nf_keeper.specs.declared.keeper.Keeper.{Ghosts as KeeperOf}
 use Rattle.nf_session.specs.Book.{held}
-use Rattle.nf_turn.specs.Memory.{having_joined, having_split, longer, split_from}
-use Rattle.nf_turn.specs.Seats.{numbers}
+use Rattle.nf_turn.specs.Prelude.{having_joined, having_split, longer, numbers, split_from}
 use Rattle.nf_turn.specs.declared.view.Memory.{Memory}
 use Rattle.nf_words.specs.declared.history.Entry.{Entry}
 use Rattle.nf_server.specs.Work.{both}

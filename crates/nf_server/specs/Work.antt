@@ -6,8 +6,7 @@ use Rattle.nf_hub.specs.Seats.{book_in, steady}
 use Rattle.nf_keeper.specs.declared.keeper.Keeper.{Ghosts as KeeperOf}
 use Rattle.nf_outside.specs.Causes.{Rose}
 use Rattle.nf_outside.specs.declared.traits.Ends.{Ghosts as EndsOf}
-use Rattle.nf_session.specs.Book.{entries_wanted}
-use Rattle.nf_session.specs.Session.{Session}
+use Rattle.nf_session.specs.Prelude.{entries_wanted, Session}
 use Rattle.nf_session.specs.declared.ended.Ended.{Ended}
 use Rattle.nf_session.specs.declared.ended.Ended.TheVariants.{RunFull as EndedFull}
 use Rattle.nf_turn.specs.Memory.{having_joined, having_split, split_from}

@@ -3,8 +3,7 @@
 ghost use Rattle.std.specs.Prelude.{◌≡◌, ◌<◌, ◌≤◌, ℕ, List, [], length, None, Some};
 ghost use Rattle.nf_hub.specs.Seats.{IsSeat, book, memory_of, steady};
 ghost use Rattle.nf_server.specs.Links.{scene_at};
-ghost use Rattle.nf_session.specs.Book.{entries_wanted, held};
-ghost use Rattle.nf_session.specs.Session.{Session};
+ghost use Rattle.nf_session.specs.Prelude.{entries_wanted, held, Session};
 ghost use Rattle.nf_session.specs.declared.ended.Ended.TheVariants as ended;
 ghost use Rattle.nf_words.specs.History.{most_entries};
 

@@ -7,8 +7,7 @@ ghost use Rattle.nf_server.specs.Work.{ServesNext, WorkBeside, Works, both as of
 ghost use Rattle.nf_server.specs.declared.workers.Worked.{Worked};
 ghost use Rattle.nf_session.specs.Book.{held};
 ghost use Rattle.nf_session.specs.declared.ended.Ended.TheVariants as ends;
-ghost use Rattle.nf_turn.specs.Memory.{longer};
-ghost use Rattle.nf_turn.specs.Seats.{numbers};
+ghost use Rattle.nf_turn.specs.Prelude.{longer, numbers};
 ghost use Rattle.nf_desk.specs.Desk.{meanings};
 ghost use denote.Param.Send.{IsSend, IsSync};
 

@@ -2,9 +2,7 @@
 use Rattle.std.proofs.Common.{◌≡◌, ℕ, ◌+◌, List, [], ◌∷◌, ◌++◌, refl, sym, ◌∙◌, ap, subst, Ok}
 use Rattle.std.proofs.lemmas.Bool.{eqb-true, eqb-false}
 use Rattle.std.specs.Prelude.{Bool, true, false, ◌==◌, if◌then◌else◌, Option, None, Some, IsNone, find, option_map}
-use Rattle.nf_words.specs.State.{State, opened, ticket_of}
-use Rattle.nf_words.specs.Step.{answer_to, step}
-use Rattle.nf_words.specs.History.{IsLegalFrom, MayAsk, after, after_mark, answer_at, failed, replay}
+use Rattle.nf_words.specs.Prelude.{after, after_mark, answer_at, answer_to, failed, IsLegalFrom, MayAsk, opened, replay, State, step, ticket_of}
 use Rattle.nf_words.specs.declared.answer.Goal.{Goal}
 use Rattle.nf_words.specs.declared.answer.Reply.TheVariants as reply
 use Rattle.nf_words.specs.declared.history.Entry.{Entry}

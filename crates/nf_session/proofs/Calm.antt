@@ -10,11 +10,7 @@ use Rattle.nf_dav.specs.declared.replies.Manner.{Manner}
 use Rattle.nf_http.specs.Head.{Head}
 use Rattle.nf_words.specs.declared.answer.Goal.TheVariants as goal
 use Rattle.nf_words.specs.declared.answer.Reply.TheVariants as reply
-use Rattle.nf_session.specs.Book.{Answer}
-use Rattle.nf_session.specs.Files.{WritesPieces, file_front}
-use Rattle.nf_session.specs.Laws.{CountsFault, failed_first}
-use Rattle.nf_session.specs.Steps.{Bodies, Closes, Heads, Invites, IsResponse, Judges, OnlyAsks, OnlyReads, Passes, Scene, TakesIn, Wrote, taken_length}
-use Rattle.nf_session.specs.Turn.{Writes}
+use Rattle.nf_session.specs.Prelude.{Answer, Bodies, Closes, CountsFault, failed_first, file_front, Heads, Invites, IsResponse, Judges, OnlyAsks, OnlyReads, Passes, Scene, taken_length, TakesIn, Writes, WritesPieces, Wrote}
 use Rattle.nf_session.specs.declared.backend.Ending.{Ending}
 use Rattle.nf_session.specs.declared.begun.Begun.{Begun}
 use Rattle.nf_session.specs.declared.begun.Begun.TheVariants as begun

@@ -11,11 +11,8 @@ use Rattle.nf_words.specs.declared.answer.Denial.{Denial}
 use Rattle.nf_words.specs.declared.answer.Denial.TheVariants as denial
 use Rattle.nf_dav.specs.Reply.{continue_reply}
 use Rattle.nf_dav.specs.declared.replies.Manner.{Manner}
-use Rattle.nf_session.specs.Files.{SendsFile, file_front}
-use Rattle.nf_session.specs.Laws.{CountsFault, SessionsFollow, failed_behind, failed_by, failed_first, failed_in, failed_pieces, failed_through}
-use Rattle.nf_session.specs.Session.{Session, Through}
-use Rattle.nf_session.specs.Steps.{Scene, OnlyReads, EndsBy, EndsSo, Says, WrotePart, denial_of}
-use Rattle.nf_session.specs.Turn.{Answers, CutsShort, Responds, StopsShort, Turn, Way, Writes, end_by, end_of, end_of_close, end_of_denial, manner_of, way_of}
+use Rattle.nf_session.specs.Prelude.{Answers, CountsFault, CutsShort, denial_of, end_by, end_of, end_of_close, end_of_denial, EndsBy, EndsSo, failed_by, failed_first, failed_in, file_front, manner_of, OnlyReads, Responds, Says, Scene, SendsFile, Session, StopsShort, Through, Turn, Way, way_of, Writes, WrotePart}
+use Rattle.nf_session.specs.Laws.{SessionsFollow, failed_behind, failed_pieces, failed_through}
 use Rattle.nf_session.specs.declared.backend.Ending.TheVariants as ending
 use Rattle.nf_session.specs.declared.begun.Begun.{Begun}
 use Rattle.nf_session.specs.declared.ended.Ended.{Ended}

@@ -5,8 +5,7 @@ use Rattle.nf_http.specs.declared.wire.WireFault.{WireFault}
 use Rattle.nf_http.specs.declared.wire.WireFault.TheVariants as wire
 use Rattle.nf_dav.specs.Reply.{continue_reply}
 use Rattle.nf_session.specs.Laws.{ReadFaultsStoreNothing}
-use Rattle.nf_session.specs.Steps.{Scene, Heads, Cuts, Closes, EndsBy, Sends, cutting, is_granted, taken_length}
-use Rattle.nf_session.specs.Turn.{Responds, Way, end_by, end_of, way_of}
+use Rattle.nf_session.specs.Prelude.{Closes, Cuts, cutting, end_by, end_of, EndsBy, Heads, is_granted, Responds, Scene, Sends, taken_length, Way, way_of}
 use Rattle.nf_session.specs.declared.backend.Ending.TheVariants as ending
 use Rattle.nf_session.specs.declared.response.Response.{Response}
 use Rattle.nf_session.specs.declared.ended.Ended.{Ended}

@@ -8,9 +8,10 @@ use Rattle.nf_words.specs.declared.history.Event.{Event}
 use Rattle.nf_words.specs.declared.history.Event.TheVariants.{Begin}
 use Rattle.nf_words.specs.declared.request.Request.{Request}
 use Rattle.nf_words.specs.declared.request.Words.{Words}
-use Rattle.nf_session.specs.Book.{Answer, Book, Begins, Ends, EndsBody, Enters, Passes, Waits, granted, held, held_after, is_unmade, is_unmade_by}
+use Rattle.nf_session.specs.Prelude.{Answer, Begins, Book, Ends, EndsBody, Enters, granted, held, held_after, is_unmade, is_unmade_by, IsResponse, Waits}
+use Rattle.nf_session.specs.Book.{Passes}
+use Rattle.nf_session.specs.Steps.{IsBegun, IsClosing}
 use Rattle.nf_session.specs.Files.{IsResponding}
-use Rattle.nf_session.specs.Steps.{IsBegun, IsClosing, IsResponse}
 use Rattle.nf_session.specs.declared.backend.Ending.{Ending}
 use Rattle.nf_session.specs.declared.backend.Ending.TheVariants as ending
 use Rattle.nf_session.specs.declared.begun.Begun.TheVariants as begun

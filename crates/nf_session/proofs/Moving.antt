@@ -11,10 +11,9 @@ use Rattle.nf_words.specs.declared.history.Mark.TheVariants as mark
 use Rattle.nf_words.specs.declared.request.Request.{Request}
 use Rattle.nf_words.specs.declared.request.Words.{Words}
 use Rattle.nf_words.proofs.Marks.{marked_store}
-use Rattle.nf_session.specs.Book.{Answer, Begins, Book, Ends, Enters, FailsPiece, Lasts, Strikes, Struck, Waits, is_unmade, state_after}
+use Rattle.nf_session.specs.Prelude.{Answer, Begins, Book, Ends, Enters, failed_by, failed_entries, failed_first, FailsPiece, is_unmade, Lasts, Starts, state_after, Strikes, Struck, Waits}
+use Rattle.nf_session.specs.Laws.{is_failed}
 use Rattle.nf_session.specs.Book.{Passes as Unchanged}
-use Rattle.nf_session.specs.Laws.{failed_by, failed_entries, failed_first, is_failed}
-use Rattle.nf_session.specs.Steps.{Starts}
 use Rattle.nf_session.specs.declared.backend.Ending.{Ending}
 use Rattle.nf_session.specs.declared.backend.Ending.TheVariants as ending
 use Rattle.nf_session.specs.declared.backend.PieceFault.{PieceFault}

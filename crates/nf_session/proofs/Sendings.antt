@@ -13,9 +13,8 @@ use Rattle.nf_outside.specs.Causes.{Rose}
 use Rattle.nf_base.specs.Content.{size_of}
 use Rattle.nf_base.specs.declared.content.Piece.{Piece}
 use Rattle.nf_dav.specs.Reply.{file_head}
-use Rattle.nf_session.specs.Book.{Book, FailsPiece, IsPiece, Lasts, Waits, held}
-use Rattle.nf_session.specs.Files.{AreGiven, IsStarted, Lacks, SendsFile, SendsPiece, SendsPieces, TakesPiece, WritesPieces, file_front, taken_first}
-use Rattle.nf_session.specs.Steps.{Scene, Says, Sends, Wrote, WrotePart}
+use Rattle.nf_session.specs.Prelude.{AreGiven, Book, FailsPiece, file_front, held, IsPiece, Lasts, Says, Scene, Sends, SendsFile, Waits, WritesPieces, Wrote, WrotePart}
+use Rattle.nf_session.specs.Files.{IsStarted, Lacks, SendsPiece, SendsPieces, TakesPiece, taken_first}
 use Rattle.nf_session.specs.declared.backend.PieceFault.{PieceFault}
 use Rattle.nf_session.specs.declared.backend.PieceFault.TheVariants as fault
 use Rattle.nf_session.specs.declared.ended.Ended.{Ended}

@@ -2,8 +2,8 @@
 use Rattle.std.proofs.Common.{◌≡◌, ℕ, List, sym, ◌∙◌, ap, subst, Ok}
 use Rattle.nf_http.specs.Head.{Head}
 use Rattle.nf_words.specs.declared.answer.Reply.{Reply}
-use Rattle.nf_session.specs.Book.{Answer}
-use Rattle.nf_session.specs.Steps.{Scene, Bodies, Passes, Skips, TakesIn, skipped_length, taken_length}
+use Rattle.nf_session.specs.Prelude.{Answer, Bodies, Passes, Scene, taken_length, TakesIn}
+use Rattle.nf_session.specs.Steps.{Skips, skipped_length}
 use Rattle.nf_session.specs.declared.begun.Begun.{Begun}
 use Rattle.nf_session.specs.declared.begun.Begun.TheVariants as begun
 use Rattle.nf_session.specs.declared.response.Response.{Response}

@@ -4,9 +4,8 @@ use Rattle.std.proofs.lemmas.Bool.Decides.{nat_tests}
 use Rattle.std.specs.Prelude.{Bool, true, false, ◌||◌, ◌==◌, Option, None, Some, IfOk, OnErr}
 use Rattle.nf_http.specs.Head.{Head, closes_session}
 use Rattle.nf_http.specs.declared.wire.WireFault.{WireFault}
-use Rattle.nf_session.specs.Session.{Session, Through}
-use Rattle.nf_session.specs.Steps.{Scene, Heads, Invites, Judges, TakesIn, Closes, EndsBy, Says, Sends, WrotePart, is_granted, is_unsent}
-use Rattle.nf_session.specs.Turn.{Answers, CutsShort, Meets, Responds, StopsShort, Turn, end_by, how_of, stays_granted, way_by}
+use Rattle.nf_session.specs.Prelude.{Answers, Closes, CutsShort, end_by, EndsBy, Heads, how_of, Invites, is_granted, is_unsent, Judges, Meets, Responds, Says, Scene, Sends, Session, stays_granted, StopsShort, TakesIn, Through, Turn, WrotePart}
+use Rattle.nf_session.specs.Turn.{way_by}
 use Rattle.nf_session.specs.declared.backend.Ending.{Ending}
 use Rattle.nf_session.specs.declared.backend.Ending.TheVariants as ending
 use Rattle.nf_session.specs.declared.begun.Begun.{Begun}

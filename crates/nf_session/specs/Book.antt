@@ -7,9 +7,7 @@ use Rattle.nf_base.specs.declared.content.TheConstants.{MAX_BODY}
 use Rattle.nf_base.specs.declared.rows.Row.{Row}
 use Rattle.nf_defs.specs.Blobs.{Blobs, blob_at}
 use Rattle.nf_laws.specs.Wholes.{IsDamaged}
-use Rattle.nf_words.specs.State.{State, opened}
-use Rattle.nf_words.specs.Step.{blob_to}
-use Rattle.nf_words.specs.History.{IsLegal, MayBring, MayCome, after, answer_at, most_entries, replay}
+use Rattle.nf_words.specs.Prelude.{after, answer_at, blob_to, IsLegal, MayBring, MayCome, most_entries, opened, replay, State}
 use Rattle.nf_words.specs.declared.answer.Damage.{Damage}
 use Rattle.nf_words.specs.declared.answer.Denial.{Denial}
 use Rattle.nf_words.specs.declared.answer.Measure.{Measure}

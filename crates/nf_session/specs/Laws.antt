@@ -4,8 +4,7 @@ use mathlib.Core.Logic.{inl, inr}
 use Rattle.nf_http.specs.Head.{Head}
 use Rattle.nf_http.specs.declared.wire.WireFault.{WireFault}
 use Rattle.nf_http.specs.declared.wire.WireFault.TheVariants as wire
-use Rattle.nf_words.specs.State.{State, ticket_of}
-use Rattle.nf_words.specs.History.{answer_at, replay}
+use Rattle.nf_words.specs.Prelude.{answer_at, replay, State, ticket_of}
 use Rattle.nf_words.specs.declared.answer.Denial.TheVariants as denial
 use Rattle.nf_words.specs.declared.answer.Goal.{Goal}
 use Rattle.nf_words.specs.declared.history.Entry.{Entry}

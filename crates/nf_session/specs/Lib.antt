@@ -5,3 +5,4 @@ pub mod Turn
 pub mod Session
 pub mod Connections
 pub mod Laws
+pub mod Prelude

@@ -11,10 +11,7 @@ use Rattle.nf_base.specs.KeptRows.{IsKept}
 use Rattle.std.specs.Prelude.{All}
 use Rattle.std.proofs.lemmas.Bool.{false≢true}
 use Rattle.std.proofs.lemmas.List.Elements.{All-nil}
-use Rattle.nf_words.specs.Changes.{with_goal, goal_of}
-use Rattle.nf_words.specs.History.{MayAsk, MayBear, MayCome, MayEnd, LeavesRoom, after, replay}
-use Rattle.nf_words.specs.State.{State, opened, ticket_of, without_ticket}
-use Rattle.nf_words.specs.Step.{decision_of, decided, stepped_by}
+use Rattle.nf_words.specs.Prelude.{actor_of, after, decided, decision_of, goal_of, IsSound, LeavesRoom, MayAsk, MayBear, MayCome, MayEnd, opened, replay, State, stepped_by, ticket_of, with_goal, without_ticket}
 use Rattle.nf_words.specs.declared.answer.Allowed.{Allowed}
 use Rattle.nf_words.specs.declared.answer.Allowed.TheVariants as allowed
 use Rattle.nf_words.specs.declared.answer.Denial.{Denial}
@@ -28,8 +25,6 @@ use Rattle.nf_words.specs.declared.history.Outcome.{Outcome}
 use Rattle.nf_words.specs.declared.history.Ticket.{Ticket}
 use Rattle.nf_words.specs.declared.request.Request.{Request}
 use Rattle.nf_words.specs.declared.request.Words.{Words}
-use Rattle.nf_words.specs.Actors.{actor_of}
-use Rattle.nf_words.specs.Sound.{IsSound}
 use Rattle.nf_laws.proofs.Stays.{sound_after}
 use Rattle.nf_words.proofs.Histories.{legal_more, replay_more}
 use Rattle.nf_words.proofs.Known.{known_change}

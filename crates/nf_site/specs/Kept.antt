@@ -1,8 +1,7 @@
 -- What a site keeps: the rows that it was opened with, its state, and the entries that led there.
 use Rattle.std.specs.Prelude.{◌≡◌, ℕ, max, List, [], ◌∷◌, ◌++◌}
 use Rattle.nf_base.specs.declared.rows.Row.{Row}
-use Rattle.nf_words.specs.State.{State, opened}
-use Rattle.nf_words.specs.History.{IsLegal, after, replay}
+use Rattle.nf_words.specs.Prelude.{after, IsLegal, opened, replay, State}
 use Rattle.nf_words.specs.declared.history.Entry.{Entry}
 use Rattle.nf_words.specs.declared.history.Event.{Event}
 use Rattle.nf_words.specs.declared.history.Mark.{Mark}

@@ -1,9 +1,7 @@
 -- Plans: a step before it is made.
 use Rattle.std.specs.Prelude.{◌≡◌, ℕ, ◌≤◌, List, Result, IsOk, ⊤}
 use Rattle.nf_base.specs.declared.changes.Change.{Change}
-use Rattle.nf_words.specs.History.{MayAsk}
-use Rattle.nf_words.specs.State.{State}
-use Rattle.nf_words.specs.Step.{changes_to, decision_of}
+use Rattle.nf_words.specs.Prelude.{changes_to, decision_of, MayAsk, State}
 use Rattle.nf_words.specs.declared.answer.Allowed.{Allowed}
 use Rattle.nf_words.specs.declared.answer.Denial.{Denial}
 use Rattle.nf_words.specs.declared.history.Event.{Event}

@@ -2,8 +2,7 @@
 
 ghost use Rattle.std.specs.Prelude.{◌≡◌, [], IfOk, Ok};
 ghost use Rattle.nf_site.specs.Held.{added_in};
-ghost use Rattle.nf_words.specs.Changes.{reply_by, reply_to};
-ghost use Rattle.nf_words.specs.Step.{blob_by};
+ghost use Rattle.nf_words.specs.Prelude.{blob_by, reply_by, reply_to};
 ghost use Rattle.nf_words.specs.declared.answer.Allowed.TheVariants.{Close};
 
 use nf_base::{BlobId, Changes, Moment, NodeId};

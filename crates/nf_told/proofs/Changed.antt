@@ -15,11 +15,7 @@ use Rattle.nf_base.specs.declared.changes.RowKey.{RowKey}
 use Rattle.nf_base.specs.declared.changes.RowKey.TheVariants as keys
 use Rattle.nf_base.specs.declared.rows.Row.{Row}
 use Rattle.nf_base.specs.declared.rows.Row.TheVariants as rows
-use Rattle.nf_defs.specs.Changes.{IsDroppable, drop_row, made, numbers_of}
-use Rattle.nf_defs.specs.Keys.{user_key, token_key, group_key, member_key, node_key, share_key, mount_key, version_key, item_key, upload_key, chunk_key}
-use Rattle.nf_defs.specs.Puts.{dropped, key_cmp, put}
-use Rattle.nf_defs.specs.Rising.{AreRising, IsRising}
-use Rattle.nf_defs.specs.Tables.{Tables, put_row, rows_of}
+use Rattle.nf_defs.specs.Prelude.{AreRising, chunk_key, drop_row, dropped, group_key, IsDroppable, IsRising, item_key, key_cmp, made, member_key, mount_key, node_key, numbers_of, put, put_row, rows_of, share_key, Tables, token_key, upload_key, user_key, version_key}
 use Rattle.nf_rows.specs.Spelling.{Fits, FitsKey, key_spelling, kind_of}
 use Rattle.nf_told.specs.Told.{AreFit, FitsChange, numbers_of_key}
 use Rattle.nf_told.proofs.Mapped.{Agree, Alike, All-from_map, dropped_map, map_rising, put_map}

@@ -12,10 +12,7 @@ use Rattle.nf_base.specs.declared.changes.Change.TheVariants.{Put, Drop}
 use Rattle.nf_base.specs.declared.rows.MetaRow.{MetaRow}
 use Rattle.nf_base.specs.declared.rows.Row.{Row}
 use Rattle.nf_base.specs.declared.rows.Row.TheVariants as rows
-use Rattle.nf_defs.specs.Changes.{IsDroppable, made, put_all}
-use Rattle.nf_defs.specs.Puts.{key_cmp}
-use Rattle.nf_defs.specs.Rising.{AreRising}
-use Rattle.nf_defs.specs.Tables.{Tables, no_rows, put_row, put_rows, rows_of, tables_of}
+use Rattle.nf_defs.specs.Prelude.{AreRising, IsDroppable, key_cmp, made, no_rows, put_all, put_row, put_rows, rows_of, Tables, tables_of}
 use Rattle.nf_defs.proofs.Loads.{rising_fewer, rising_more}
 use Rattle.nf_defs.proofs.Puts.{all_put, put_next}
 use Rattle.nf_defs.proofs.Tables.{tables_rise}

@@ -8,8 +8,7 @@ use Rattle.std.specs.declared.cmp.Ordering.TheVariants.{Less, Equal, Greater}
 use Rattle.std.proofs.lemmas.List.Elements.{All-cons, All-head, All-map, All-nil, All-tail}
 use Rattle.std.proofs.lemmas.List.Kept.{AllPairs-cons}
 use Rattle.std.proofs.lemmas.Map.Text.{is_eq-slice_cmp}
-use Rattle.nf_defs.specs.Puts.{by_order, dropped, key_cmp, put}
-use Rattle.nf_defs.specs.Rising.{IsRising}
+use Rattle.nf_defs.specs.Prelude.{by_order, dropped, IsRising, key_cmp, put}
 use Rattle.nf_defs.proofs.Puts.{below_rest, tail_rising}
 
 -- what holds of all that stand for some rows holds of what each of these stands for

@@ -10,8 +10,7 @@ use Rattle.std.proofs.lemmas.List.Kept.{AllPairs-cons}
 use Rattle.std.proofs.lemmas.Slice.Eq.{bytes_eq-Decides}
 use Rattle.nf_base.specs.Keys.{key_of}
 use Rattle.nf_base.specs.declared.rows.Row.{Row}
-use Rattle.nf_defs.specs.Puts.{by_order, dropped, key_cmp, put}
-use Rattle.nf_defs.specs.Rising.{IsRising}
+use Rattle.nf_defs.specs.Prelude.{by_order, dropped, IsRising, key_cmp, put}
 use Rattle.nf_defs.proofs.Puts.{below_rest, tail_rising}
 use Rattle.nf_rows.specs.Spelling.{kind_of, spelling_of}
 use Rattle.nf_told.specs.Told.{raw_key}

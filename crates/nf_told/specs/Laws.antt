@@ -6,10 +6,7 @@ use Rattle.nf_base.specs.declared.changes.Change.{Change}
 use Rattle.nf_base.specs.declared.changes.Change.TheVariants.{Put}
 use Rattle.nf_base.specs.declared.changes.RowKey.{RowKey}
 use Rattle.nf_base.specs.declared.rows.Row.{Row}
-use Rattle.nf_defs.specs.Changes.{numbers_of, put_all}
-use Rattle.nf_defs.specs.Puts.{key_cmp}
-use Rattle.nf_defs.specs.Rising.{AreRising}
-use Rattle.nf_defs.specs.Tables.{Tables, rows_of, tables_of}
+use Rattle.nf_defs.specs.Prelude.{AreRising, key_cmp, numbers_of, put_all, rows_of, Tables, tables_of}
 use Rattle.nf_rows.specs.Spelling.{key_spelling, spelling_of}
 use Rattle.nf_told.specs.Told.{AreFit, told_all, told_of}
 

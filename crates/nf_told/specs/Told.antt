@@ -2,10 +2,7 @@
 use Rattle.std.specs.Prelude.{ℕ, List, [], ◌∷◌, map, All}
 use Rattle.nf_base.specs.declared.changes.Change.{Change}
 use Rattle.nf_base.specs.declared.changes.Change.TheVariants.{Put, Drop}
-use Rattle.nf_defs.specs.Blobs.{Blobs}
-use Rattle.nf_defs.specs.Puts.{dropped, put}
-use Rattle.nf_defs.specs.Rising.{IsRising}
-use Rattle.nf_defs.specs.Tables.{Tables, rows_of}
+use Rattle.nf_defs.specs.Prelude.{Blobs, dropped, IsRising, put, rows_of, Tables}
 use Rattle.nf_rows.specs.Spelling.{Fits, FitsKey, Keyed, Raw, key_spelling, spelling_of}
 
 -- ---- rows

@@ -7,11 +7,9 @@ ghost use Rattle.nf_base.specs.declared.changes.RowKey.{RowKey};
 ghost use Rattle.nf_base.specs.declared.rows.MetaRow.{MetaRow};
 ghost use Rattle.nf_base.specs.declared.rows.Row.{Row};
 ghost use Rattle.nf_base.specs.declared.rows.Row.TheVariants.{Meta};
-ghost use Rattle.nf_defs.specs.Rising.{AreRising};
-ghost use Rattle.nf_defs.specs.Tables.{Tables, rows_of, tables_of};
+ghost use Rattle.nf_defs.specs.Prelude.{AreRising, IsDroppable, rows_of, Tables, tables_of};
 ghost use Rattle.nf_rows.specs.Spelling.{Fits, FitsKey, kind_of, spelling_of};
 ghost use Rattle.nf_told.specs.Laws.{AreOrderedAlike, AreTheirTables, Begin, Follows};
-ghost use Rattle.nf_defs.specs.Changes.{IsDroppable};
 ghost use Rattle.nf_told.specs.Told.{AreFit, AreRisingRaws, FitsChange, told_of};
 
 /// The numbers of keys of one kind are in the order of their spelled bytes.

@@ -11,9 +11,8 @@ use Rattle.std.proofs.lemmas.List.{get_or_default, get_or-map, length-map, get_o
 use Rattle.std.proofs.lemmas.List.Edits.{length-between, get_or-between, between_more}
 use Rattle.std.proofs.lemmas.List.Elements.{Contains-get_or}
 use Rattle.nf_base.specs.declared.rows.NodeRow.{NodeRow}
-use Rattle.nf_defs.specs.Tree.{is_in, folder_of}
+use Rattle.nf_defs.specs.Prelude.{children_of, comes_before, folder_of, is_in}
 use Rattle.nf_tree.specs.Order.{Key, key_lt, key_at, key_of, AreRisingNodes, IsIndex, IsCut}
-use Rattle.nf_defs.specs.Tree.{comes_before, children_of}
 use Rattle.nf_tree.proofs.Positions.{no_row}
 use Rattle.nf_tree.proofs.Keys.{weak, squeezed_folder}
 use Rattle.nf_tree.proofs.Orders.{key_of_row, in_index}

@@ -1,8 +1,7 @@
 -- The way up from a node, folder by folder.
 use Rattle.std.proofs.Common.{ℕ, zero, suc, ◌+◌, ◌≡◌, true, false, ◌==◌, List, None, Some, refl, arith}
 use Rattle.nf_base.specs.declared.rows.NodeRow.{NodeRow}
-use Rattle.nf_defs.specs.Tree.{is_rooted_within}
-use Rattle.nf_defs.specs.Tree.{parent_of, is_root, depth_within, is_under_within}
+use Rattle.nf_defs.specs.Prelude.{depth_within, is_root, is_rooted_within, is_under_within, parent_of}
 
 -- the depth of a node with no folder, and of one in a folder
 pub depth_top : (k : ℕ) (rows : List NodeRow) (at : ℕ) → parent_of rows at ≡ None → depth_within k rows at ≡ 0

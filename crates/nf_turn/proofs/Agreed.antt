@@ -3,11 +3,9 @@ use Rattle.std.proofs.Common.{◌≡◌, ⊎_elim, inl, inr, ℕ, ◌<◌, List,
 use Rattle.std.proofs.lemmas.List.{append_cancel_left}
 use mathlib.Core.Logic.{dite}
 use native.Mathlib.Decide.{ℕ_discrete}
-use Rattle.nf_turn.specs.Book.{Meanings, entries_of, HasNothing, IsFresh, GrowsWithout}
+use Rattle.nf_turn.specs.Prelude.{Agrees, AllAreKept, AreJoined, entries_of, GrowsWithout, HasHeard, HasNothing, InOrder, IsFresh, IsKnown, Line, Meanings, numbers_of}
+use Rattle.nf_turn.specs.Agreeing.{opening}
 use Rattle.nf_turn.specs.declared.view.Memory.{Memory}
-use Rattle.nf_turn.specs.Numbers.{numbers_of}
-use Rattle.nf_turn.specs.Agreeing.{opening, AllAreKept, Agrees, HasHeard}
-use Rattle.nf_turn.specs.Turns.{Line, AreJoined, IsKnown, InOrder}
 use Rattle.nf_turn.proofs.Growing.{none_in_parts, entries_of-more, entries_stay}
 use Rattle.nf_turn.proofs.Left.{left_test}
 use Rattle.nf_turn.proofs.Shelves.{tells_alike, grew_append, last_bytes_stay, gone_stays}

@@ -4,12 +4,10 @@ use mathlib.Core.Logic.{dite}
 use mathlib.Core.Option.{none}
 use native.Mathlib.Decide.{ℕ_discrete}
 use Rattle.atomic_table.specs.Table.{step, keeps, Allows}
-use Rattle.nf_turn.specs.Book.{Meanings}
+use Rattle.nf_turn.specs.Prelude.{InOrder, IsInTurn, Line, Meanings, memory_in, Place}
+use Rattle.nf_turn.specs.Steps.{Draws}
 use Rattle.nf_turn.specs.declared.view.Memory.{Memory}
 use Rattle.nf_turn.specs.declared.view.View.TheVariants.{Idle, Waiting}
-use Rattle.nf_turn.specs.Turns.{Line, InOrder, IsInTurn}
-use Rattle.nf_turn.specs.Steps.{Place, Draws}
-use Rattle.nf_turn.specs.Views.{memory_in}
 use Rattle.nf_turn.proofs.Numbers.{put, put_at, put_here, put_else, put_small, total_put, next_modulo}
 use Rattle.nf_turn.proofs.Staying.{LeavesAlone, joined_stay, steps, other_number}
 

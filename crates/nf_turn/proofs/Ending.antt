@@ -6,20 +6,16 @@ use native.Mathlib.Decide.{ℕ_discrete}
 use lib.ListN.{get_elem?}
 use Rattle.std.proofs.lemmas.Bool.{eqb-true, or_cases}
 use Rattle.atomic_table.specs.Table.{State}
-use Rattle.nf_turn.specs.Book.{Meanings}
+use Rattle.nf_turn.specs.Prelude.{Agrees, AreJoined, is_joined, IsInTurn, IsWhole, Line, Meanings, memory_in, Numbers, numbers_in, numbers_of, Place}
+use Rattle.nf_turn.specs.Views.{Rests}
 use Rattle.nf_turn.specs.declared.view.Memory.{Memory}
 use Rattle.nf_turn.specs.declared.view.View.{View}
 use Rattle.nf_turn.specs.declared.view.View.TheVariants.{Idle}
-use Rattle.nf_turn.specs.Numbers.{Numbers, numbers_of, IsWhole, is_joined}
-use Rattle.nf_turn.specs.Agreeing.{Agrees}
-use Rattle.nf_turn.specs.Turns.{Line, AreJoined, IsInTurn}
 use Rattle.nf_turn.proofs.Agreed.{agrees}
 use Rattle.nf_turn.proofs.Left.{IsLeft}
 use Rattle.nf_turn.proofs.Looking.{value_at_home}
 use Rattle.nf_turn.proofs.Poses.{numbers_known}
 use Rattle.nf_turn.proofs.Whole.{ways}
-use Rattle.nf_turn.specs.Steps.{Place}
-use Rattle.nf_turn.specs.Views.{numbers_in, memory_in, Rests}
 
 module _ {E O W : Type 0} (book : Meanings E O W) where
   joined_dont_wait : (line : Line W) (id n m : ℕ) (joined : List (ℕ × W)) → AreJoined book line id n joined → is_joined m joined ≡ true → line.waits m ≡ 0

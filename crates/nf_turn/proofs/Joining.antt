@@ -7,14 +7,11 @@ use lib.ListN.{get_elem?}
 use Rattle.std.proofs.lemmas.Bool.{cases_lt, lt-ltb, le-ltb, eq-eqb, ne_eqb, cond-true, cond-false}
 use Rattle.atomic_table.specs.Table.{Joins}
 use Rattle.atomic_table.proofs.Lists.{at_set}
-use Rattle.nf_turn.specs.Book.{Meanings, Grows, Precedes}
+use Rattle.nf_turn.specs.Prelude.{AreJoined, AreSound, Grows, having_joined, IsInTurn, IsKnown, IsOther, Knows, Line, longer, Meanings, numbers_of, Place, Precedes}
+use Rattle.nf_turn.specs.Steps.{after_join}
 use Rattle.nf_turn.specs.declared.view.Memory.{Memory}
 use Rattle.nf_turn.specs.declared.view.View.{View}
 use Rattle.nf_turn.specs.declared.view.View.TheVariants.{Spent, Idle}
-use Rattle.nf_turn.specs.Memory.{having_joined, longer}
-use Rattle.nf_turn.specs.Turns.{Line, AreJoined, IsKnown, Knows, IsInTurn}
-use Rattle.nf_turn.specs.Numbers.{IsOther, numbers_of, AreSound}
-use Rattle.nf_turn.specs.Steps.{Place, after_join}
 use Rattle.nf_turn.proofs.Numbers.{put, put_at, put_else}
 use Rattle.nf_turn.proofs.Preceding.{Precedes-refl, Precedes-trans, AllPrecede-trans, AllPrecede-append, shorter_precedes}
 use Rattle.nf_turn.proofs.Sounding.{few_numbers}

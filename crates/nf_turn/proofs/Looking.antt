@@ -6,14 +6,11 @@ use native.Mathlib.Decide.{ℕ_discrete}
 use lib.ListN.{get_elem?}
 use lib.Seq.{set-get_or}
 use Rattle.atomic_table.specs.Table.{State, step, keeps, takes, Allows}
-use Rattle.nf_turn.specs.Book.{Meanings}
+use Rattle.nf_turn.specs.Prelude.{Agrees, home_of, InOrder, IsInTurn, Line, Meanings, memory_in, Place}
+use Rattle.nf_turn.specs.Steps.{Looks}
 use Rattle.nf_turn.specs.declared.view.Memory.{Memory}
 use Rattle.nf_turn.specs.declared.view.View.{View}
 use Rattle.nf_turn.specs.declared.view.View.TheVariants.{Waiting, Holding}
-use Rattle.nf_turn.specs.Agreeing.{Agrees}
-use Rattle.nf_turn.specs.Turns.{home_of, Line, InOrder, IsInTurn}
-use Rattle.nf_turn.specs.Steps.{Place, Looks}
-use Rattle.nf_turn.specs.Views.{memory_in}
 use Rattle.nf_turn.proofs.Numbers.{total_le}
 use Rattle.nf_turn.proofs.Staying.{LeavesAlone, joined_stay, steps, reads, other_number}
 use Rattle.nf_turn.proofs.Agreed.{agrees}

@@ -2,13 +2,10 @@
 use Rattle.std.proofs.Common.{rules, ◌≡◌, ◌≢◌, ⊎_elim, ℕ, zero, suc, ◌+◌, ◌%◌, ◌^◌, ◌<◌, ◌≤◌, [], ◌∷◌, set, get_or, Some, None, refl, sym, ap, ◌∙◌, subst, arith}
 use mathlib.Core.Option.{none, some}
 use Rattle.atomic_table.specs.Table.{step, gives, Allows}
-use Rattle.nf_turn.specs.Book.{Meanings, AddsAlone, Grows}
+use Rattle.nf_turn.specs.Prelude.{AddsAlone, Grows, having_passed, home_of, InOrder, IsInTurn, IsKnown, Line, Meanings, memory_in, Place}
+use Rattle.nf_turn.specs.Steps.{PassesOn}
 use Rattle.nf_turn.specs.declared.view.Memory.{Memory}
 use Rattle.nf_turn.specs.declared.view.View.TheVariants.{Idle, Holding}
-use Rattle.nf_turn.specs.Memory.{having_passed}
-use Rattle.nf_turn.specs.Turns.{home_of, Line, IsKnown, InOrder, IsInTurn}
-use Rattle.nf_turn.specs.Steps.{Place, PassesOn}
-use Rattle.nf_turn.specs.Views.{memory_in}
 use Rattle.nf_turn.proofs.Numbers.{put, put_at, put_here, put_else, put_small, total_put, next_modulo}
 use Rattle.nf_turn.proofs.Growing.{Grows-refl, Grows-AddsAlone, GrowsWithout-refl, GrowsWithout-AddsAlone}
 use Rattle.nf_turn.proofs.Preceding.{Precedes-refl, grown_precedes, AllPrecede-trans}

@@ -1,12 +1,10 @@
 -- Views with different values at hand for a spent seat.
 use Rattle.std.proofs.Common.{◌≡◌, ℕ, List, [], ◌∷◌, length, Option, Some, sym, refl, ap, ◌∙◌}
 use Rattle.atomic_table.specs.Table.{rest}
-use Rattle.nf_turn.specs.Steps.{Place}
+use Rattle.nf_turn.specs.Prelude.{memory_in, Numbers, numbers_in, numbers_of, Place}
 use Rattle.nf_turn.specs.declared.seat.Seat.{Seat}
 use Rattle.nf_turn.specs.declared.view.Memory.{Memory}
 use Rattle.nf_turn.specs.declared.view.View.TheVariants.{Spent, Idle, Waiting, Holding}
-use Rattle.nf_turn.specs.Numbers.{Numbers, numbers_of}
-use Rattle.nf_turn.specs.Views.{numbers_in, memory_in}
 
 abbrev first_out : {W : Type 0} → Option W → List (ℕ × Option W) → Option W
 first_out found [] = found

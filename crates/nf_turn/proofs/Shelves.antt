@@ -4,9 +4,8 @@ use Rattle.std.specs.Option.{option_or}
 use Rattle.std.specs.Prelude.{is_some}
 use Rattle.std.proofs.lemmas.Bool.{cases_lt, lt-ltb, le-ltb}
 use Rattle.std.proofs.Common.{arith}
-use Rattle.nf_turn.specs.Book.{Shelf, Meanings, KeepsShelf}
-use Rattle.nf_turn.specs.Turns.{GrewFrom}
-use Rattle.nf_turn.specs.Agreeing.{bytes_under, Lacks, HasOrLacks, last_bytes, OneLacks}
+use Rattle.nf_turn.specs.Prelude.{bytes_under, GrewFrom, HasOrLacks, KeepsShelf, Meanings, Shelf}
+use Rattle.nf_turn.specs.Agreeing.{Lacks, last_bytes, OneLacks}
 
 pub tells_alike : (old new : Option Shelf) → KeepsShelf old new → is_some new ≡ is_some old
 tells_alike None None h = refl

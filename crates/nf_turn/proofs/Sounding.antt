@@ -5,14 +5,10 @@ use mathlib.Core.Logic.{dite}
 use mathlib.Core.Option.{none}
 use native.Mathlib.Decide.{ℕ_discrete}
 use Rattle.atomic_table.specs.Table.{step, keeps, Allows}
-use Rattle.nf_turn.specs.Book.{Meanings}
+use Rattle.nf_turn.specs.Prelude.{AreApart, AreJoined, AreSound, HasHeard, InOrder, is_joined, IsInTurn, IsKnown, IsOther, Line, Meanings, memory_in, Numbers, numbers_of, Place}
+use Rattle.nf_turn.specs.Steps.{Counts}
 use Rattle.nf_turn.specs.declared.view.Memory.{Memory}
 use Rattle.nf_turn.specs.declared.view.View.TheVariants.{Idle}
-use Rattle.nf_turn.specs.Numbers.{Numbers, numbers_of, is_joined, IsOther, AreApart, AreSound}
-use Rattle.nf_turn.specs.Agreeing.{HasHeard}
-use Rattle.nf_turn.specs.Turns.{Line, AreJoined, IsKnown, InOrder, IsInTurn}
-use Rattle.nf_turn.specs.Steps.{Place, Counts}
-use Rattle.nf_turn.specs.Views.{memory_in}
 use Rattle.nf_turn.proofs.Numbers.{total_zero, count, count_le, count_more}
 use Rattle.nf_turn.proofs.Agreed.{has_heard}
 use Rattle.nf_turn.proofs.Staying.{reads}

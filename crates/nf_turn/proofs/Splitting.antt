@@ -5,13 +5,10 @@ use mathlib.Core.Option.{some, some-ne-none, some-injective}
 use native.Mathlib.Decide.{ℕ_discrete}
 use lib.ListN.{get_elem?}
 use Rattle.atomic_table.specs.Table.{Splits}
-use Rattle.nf_turn.specs.Book.{Meanings, IsFresh, GrowsWithout}
+use Rattle.nf_turn.specs.Prelude.{after_split, GrowsWithout, having_split, InOrder, IsFresh, IsInTurn, IsKnown, Knows, Line, Meanings, split_from, split_off}
 use Rattle.nf_turn.specs.declared.view.Memory.{Memory}
 use Rattle.nf_turn.specs.declared.view.View.{View}
 use Rattle.nf_turn.specs.declared.view.View.TheVariants.{Idle}
-use Rattle.nf_turn.specs.Memory.{having_split, split_from}
-use Rattle.nf_turn.specs.Turns.{Line, IsKnown, Knows, InOrder, IsInTurn}
-use Rattle.nf_turn.specs.Steps.{after_split, split_off}
 use Rattle.nf_turn.proofs.Numbers.{put, put_here, put_else}
 use Rattle.nf_turn.proofs.Preceding.{fresh_precedes}
 use Rattle.nf_turn.proofs.Shelves.{grew_append}

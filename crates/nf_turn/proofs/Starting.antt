@@ -3,11 +3,9 @@ use Rattle.std.proofs.Common.{rules, ◌≡◌, ◌≢◌, ℕ, zero, suc, ◌%�
 use mathlib.Core.Option.{some, some-ne-none}
 use lib.ListN.{get_elem?}
 use Rattle.atomic_table.specs.Table.{opening}
-use Rattle.nf_turn.specs.Book.{Meanings, IsFresh}
+use Rattle.nf_turn.specs.Prelude.{IsFresh, IsInTurn, Knows, Line, Meanings, of_the_first}
 use Rattle.nf_turn.specs.declared.view.View.{View}
 use Rattle.nf_turn.specs.declared.view.View.TheVariants.{Idle}
-use Rattle.nf_turn.specs.Memory.{of_the_first}
-use Rattle.nf_turn.specs.Turns.{Line, Knows, IsInTurn}
 use Rattle.nf_turn.proofs.Numbers.{total_zero}
 use Rattle.nf_turn.proofs.Growing.{Grows-refl, GrowsWithout-refl}
 use Rattle.nf_turn.proofs.Preceding.{Precedes-refl}

@@ -6,12 +6,12 @@ use lib.ListN.{get_elem?}
 use lib.Seq.{set-get_or}
 use Rattle.atomic_table.specs.Table.{State, step, keeps, Allows}
 use Rattle.atomic_table.proofs.Lists.{at_set}
-use Rattle.nf_turn.specs.Book.{Meanings, Grows, GrowsWithout}
+use Rattle.nf_turn.specs.Prelude.{AreJoined, GrewFrom, Grows, GrowsWithout, home_of, InOrder, IsInTurn, IsKnown, Knows, Line, Meanings, Place}
+use Rattle.nf_turn.specs.Steps.{SetsBell}
+use Rattle.nf_turn.specs.Turns.{IsJoined}
 use Rattle.nf_turn.specs.declared.view.Memory.{Memory}
 use Rattle.nf_turn.specs.declared.view.View.{View}
 use Rattle.nf_turn.specs.declared.view.View.TheVariants.{Spent, Idle, Waiting, Holding}
-use Rattle.nf_turn.specs.Steps.{Place, SetsBell}
-use Rattle.nf_turn.specs.Turns.{home_of, Line, GrewFrom, IsJoined, AreJoined, IsKnown, Knows, InOrder, IsInTurn}
 
 -- what holds of a seat's new view, and of each other view, holds of each
 pub views_stay : {V : Type 0} (P : ℕ → V → Type 0) (views : List V) (id : ℕ) (view : V) → P id view → ((j : ℕ) (v : V) → j ≢ id → get_elem? views j ≡ some v → P j v)

@@ -6,3 +6,4 @@ pub mod Turns
 pub mod Steps
 pub mod Views
 pub mod Seats
+pub mod Prelude

@@ -6,8 +6,6 @@ mod book;
 mod lock;
 mod plays;
 mod seat;
-#[cfg(test)]
-mod tests;
 mod turns;
 mod view;
 

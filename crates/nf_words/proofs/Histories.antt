@@ -1,7 +1,6 @@
 -- A legal history goes on by one entry.
 use Rattle.std.proofs.Common.{ℕ, ◌+◌, ◌≡◌, List, [], ◌∷◌, ◌++◌, length, refl, subst, arith}
-use Rattle.nf_words.specs.State.{State}
-use Rattle.nf_words.specs.History.{MayCome, IsLegalFrom, replay, after}
+use Rattle.nf_words.specs.Prelude.{after, IsLegalFrom, MayCome, replay, State}
 use Rattle.nf_words.specs.declared.history.Entry.{Entry}
 
 pub legal_more : (n : ℕ) (s : State) (es : List Entry) (e : Entry)

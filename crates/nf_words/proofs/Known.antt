@@ -12,26 +12,13 @@ use Rattle.nf_base.specs.declared.rows.MetaRow.{MetaRow}
 use Rattle.nf_base.specs.declared.rows.NodeKind.{NodeKind}
 use Rattle.nf_base.specs.declared.rows.NodeKind.TheVariants.{Folder, File}
 use Rattle.nf_base.specs.declared.rows.NodeRow.{NodeRow}
-use Rattle.nf_defs.specs.Tables.{Tables}
-use Rattle.nf_defs.specs.Tree.{child_of, content_of, depth, folder_of, found_from, is_file, is_folder, is_folder_kind, is_in, is_root, is_under, node_row, onward, parent_of, piece_count, walk_of}
+use Rattle.nf_defs.specs.Prelude.{Access, child_of, content_of, depth, folder_of, found_from, is_file, is_folder, is_folder_kind, is_in, is_root, is_under, node_row, onward, parent_of, piece_count, Tables, unshared, user_row, walk_of}
 use Rattle.nf_defs.specs.declared.Found.{Found}
 use Rattle.nf_defs.specs.declared.Found.TheVariants.{At, Free, Missing}
 use Rattle.nf_defs.proofs.Walks.{inside_of}
-use Rattle.nf_words.specs.Actors.{actor_of, holder, storer_of}
-use Rattle.nf_words.specs.Callers.{is_caller, not_you_rule}
-use Rattle.nf_words.specs.Calls.{Call, asker_of, caller_row, found, last_name, named_in, root_of, source_of, target_of, user_of, users_of}
-use Rattle.nf_words.specs.Changes.{allowed_of, blob_after, copied, deleted, given, made_folder, moved, new_node, served, shown, stored}
-use Rattle.nf_words.specs.Copies.{copies_to}
-use Rattle.nf_words.specs.Endings.{blob_for, content_in, end_refusal, ends_goal, ends_ticket, key_lost, place_of, stored_at, unless_refused}
-use Rattle.nf_words.specs.History.{IsShort, MayAsk, MayBring, MayEnd, MayWant, NamesUser}
-use Rattle.nf_words.specs.Laws.{Pass}
-use Rattle.nf_words.specs.Limits.{copy_limit, deepest_in, last_number, limit_at, limit_passed, limit_rule, limited, move_limit, pieces_in, pieces_of}
-use Rattle.nf_words.specs.Listing.{listing_of}
-use Rattle.nf_words.specs.Places.{folder_at, is_there, misplaced, node_at, node_found, target_rule, transfer_of, transfer_to, unfit, unfit_between}
-use Rattle.nf_words.specs.Rules.{Rule, first_that_holds, refusal_of, rules}
-use Rattle.nf_words.specs.State.{State, ticket_of}
-use Rattle.nf_words.specs.Sound.{AreSound, HasRoot, IsGoalSound, IsOwn, IsSound, MayStoreAt, node_of_key}
-use Rattle.nf_words.specs.Step.{call_decision, call_of, decision_of}
+use Rattle.nf_words.specs.Prelude.{actor_of, allowed_of, AreSound, asker_of, blob_after, blob_for, Call, call_decision, call_of, caller_row, content_in, copied, copies_to, copy_limit, decision_of, deepest_in, deleted, end_refusal, ends_goal, ends_ticket, first_that_holds, folder_at, found, given, HasRoot, is_caller, is_there, IsGoalSound, IsOwn, IsSound, key_lost, last_name, last_number, limit_at, limit_passed, limit_rule, limited, listing_of, made_folder, MayAsk, MayBring, MayEnd, MayStoreAt, MayWant, misplaced, move_limit, moved, named_in, NamesUser, new_node, node_at, node_found, node_of_key, not_you_rule, Pass, pieces_in, pieces_of, place_of, refusal_of, root_of, Rule, rules, served, shown, source_of, State, stored, stored_at, target_of, target_rule, ticket_of, transfer_of, transfer_to, unfit, unfit_between, unless_refused, user_of, users_of}
+use Rattle.nf_words.specs.Actors.{holder, storer_of}
+use Rattle.nf_words.specs.History.{IsShort}
 use Rattle.nf_words.specs.declared.answer.Allowed.{Allowed}
 use Rattle.nf_words.specs.declared.answer.Allowed.TheVariants as allowed
 use Rattle.nf_words.specs.declared.answer.Denial.{Denial}
@@ -59,8 +46,6 @@ use Rattle.nf_words.specs.declared.request.Wanted.{Wanted}
 use Rattle.nf_words.specs.declared.request.Wanted.TheVariants.{Get, Put, Mkcol, Delete, Move, Copy}
 use Rattle.nf_base.specs.declared.content.TheConstants.{MAX_BODY}
 use Rattle.nf_base.specs.declared.rows.UserRow.{UserRow}
-use Rattle.nf_defs.specs.Access.{Access, unshared}
-use Rattle.nf_defs.specs.People.{user_row}
 use Rattle.nf_defs.specs.declared.Seeker.{Seeker}
 use Rattle.nf_defs.specs.declared.Seeker.TheVariants as seeker
 

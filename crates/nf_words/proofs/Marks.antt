@@ -5,20 +5,12 @@ use Rattle.std.specs.List.{list_all, list_any}
 use Rattle.std.proofs.lemmas.Bool.{both_ways}
 use Rattle.std.specs.Option.{IfSome, option_or}
 use Rattle.nf_base.specs.declared.rows.NodeRow.{NodeRow}
-use Rattle.nf_defs.specs.Access.{Access, unshared}
-use Rattle.nf_defs.specs.Tables.{Tables}
+use Rattle.nf_defs.specs.Prelude.{Access, Tables, unshared}
 use Rattle.nf_defs.specs.declared.Found.{Found}
 use Rattle.nf_defs.specs.declared.Found.TheVariants.{At, Missing}
-use Rattle.nf_words.specs.Callers.{is_caller, not_you_rule, token_rule}
-use Rattle.nf_words.specs.Calls.{Call, paths_of, places_of, user_of, users_of}
-use Rattle.nf_words.specs.Changes.{allowed_of}
-use Rattle.nf_words.specs.Endings.{end_refusal, ends_goal, ends_ticket, key_lost, place_of, stored_at, unless_refused}
-use Rattle.nf_words.specs.History.{answer_at}
-use Rattle.nf_words.specs.Limits.{limit_at, limit_rule, limited, pieces_of}
-use Rattle.nf_words.specs.Places.{exists_rule, forbidden_rule, has_forbidden, is_kept, overwrite_rule, place_rule, source_lost, taken, target_lost, target_rule, unfit, unreplaced}
-use Rattle.nf_words.specs.Rules.{Rule, first_that_holds, refusal_of, rules}
-use Rattle.nf_words.specs.State.{State, ticket_of}
-use Rattle.nf_words.specs.Step.{answer_to, answered_by, call_of, decision_of}
+use Rattle.nf_words.specs.Prelude.{allowed_of, answer_at, answer_to, answered_by, Call, call_of, decision_of, end_refusal, ends_goal, ends_ticket, exists_rule, first_that_holds, forbidden_rule, has_forbidden, is_caller, is_kept, key_lost, limit_at, limit_rule, limited, not_you_rule, overwrite_rule, pieces_of, place_of, place_rule, places_of, refusal_of, Rule, rules, source_lost, State, stored_at, taken, target_lost, target_rule, ticket_of, token_rule, unfit, unless_refused, user_of, users_of}
+use Rattle.nf_words.specs.Calls.{paths_of}
+use Rattle.nf_words.specs.Places.{unreplaced}
 use Rattle.nf_words.specs.declared.answer.Allowed.{Allowed}
 use Rattle.nf_words.specs.declared.answer.Denial.{Denial}
 use Rattle.nf_words.specs.declared.answer.Denial.TheVariants as denial

@@ -3,21 +3,12 @@ use Rattle.std.proofs.Common.{◌≡◌, ◌≢◌, ℕ, Bool, true, false, List
 use Rattle.std.specs.Prelude.{Option, None, Some, is_some, if◌then◌else◌}
 use Rattle.std.specs.Option.{option_map_or, option_or}
 use Rattle.nf_base.specs.declared.rows.NodeRow.{NodeRow}
-use Rattle.nf_defs.specs.Tables.{Tables}
-use Rattle.nf_defs.specs.Tree.{content_of, is_folder, is_root}
+use Rattle.nf_defs.specs.Prelude.{content_of, is_folder, is_root, Tables, unshared}
 use Rattle.nf_defs.specs.declared.Found.{Found}
 use Rattle.nf_defs.specs.declared.Found.TheVariants.{At, Free, Missing}
-use Rattle.nf_defs.specs.Access.{unshared}
 use Rattle.nf_defs.specs.declared.Seeker.{Seeker}
 use Rattle.nf_defs.specs.declared.Seeker.TheVariants as seeker
-use Rattle.nf_words.specs.Calls.{Call, asker_of, found, last_name}
-use Rattle.nf_words.specs.Changes.{allowed_of, copied, deleted, given, goal_of, made_folder, moved, reply_by, reply_to, served, shown, stored, with_goal}
-use Rattle.nf_words.specs.Endings.{end_refusal, ends_ticket, stored_at, unless_refused}
-use Rattle.nf_words.specs.Listing.{listing_of}
-use Rattle.nf_words.specs.Places.{exists_rule, is_there, lost, misplaced, node_found, place_rule, source_lost, taken, target_lost, target_rule, transfer_of, unfit}
-use Rattle.nf_words.specs.Rules.{refusal_of, rules}
-use Rattle.nf_words.specs.State.{State, ticket_for, ticket_of}
-use Rattle.nf_words.specs.Step.{answer_to, answered_by, call_of, decided, decision_of, step}
+use Rattle.nf_words.specs.Prelude.{allowed_of, answer_to, answered_by, asker_of, Call, call_of, copied, decided, decision_of, deleted, end_refusal, ends_ticket, exists_rule, found, given, goal_of, is_there, last_name, listing_of, lost, made_folder, misplaced, moved, node_found, place_rule, refusal_of, reply_by, reply_to, rules, served, shown, source_lost, State, step, stored, stored_at, taken, target_lost, target_rule, ticket_for, ticket_of, transfer_of, unfit, unless_refused, with_goal}
 use Rattle.nf_words.specs.declared.answer.Allowed.{Allowed}
 use Rattle.nf_words.specs.declared.answer.Allowed.TheVariants as allowed
 use Rattle.nf_words.specs.declared.answer.Denial.{Denial}

@@ -3,9 +3,7 @@ use Rattle.std.proofs.Common.{◌≡◌, List, [], ◌∷◌, ◌++◌, refl, ap
 use Rattle.std.specs.Prelude.{Option, None, Some}
 use Rattle.std.specs.Option.{option_or}
 use Rattle.nf_defs.specs.Access.{Access}
-use Rattle.nf_words.specs.Calls.{Call}
-use Rattle.nf_words.specs.Laws.{Pass}
-use Rattle.nf_words.specs.Rules.{Rule, first_that_holds}
+use Rattle.nf_words.specs.Prelude.{Call, first_that_holds, Pass, Rule}
 use Rattle.nf_words.specs.declared.answer.Denial.{Denial}
 
 pub first_of : (before : List Rule) (rule : Rule) (behind : List Rule) (access : Access) (call : Call) (refusal : Denial)

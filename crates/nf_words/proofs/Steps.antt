@@ -7,11 +7,7 @@ use Rattle.std.proofs.lemmas.List.Kept.{AllPairs-filter}
 use Rattle.std.proofs.lemmas.List.Quantifiers.{all_pairs_push}
 use Rattle.std.proofs.lemmas.Grind.{common_steps}
 use Rattle.nf_defs.specs.Tables.{Tables}
-use Rattle.nf_words.specs.State.{State, ticket_for, ticket_of, without_ticket}
-use Rattle.nf_words.specs.Step.{step, without, decision_of, decided, answered_by, answer_to}
-use Rattle.nf_words.specs.Changes.{goal_of, reply_by, reply_to, with_goal}
-use Rattle.nf_words.specs.Endings.{unless_refused, stored_at, end_refusal, ends_goal, ends_ticket, end_decision}
-use Rattle.nf_words.specs.History.{failed, after, after_mark, replay, MayAsk, IsLegalFrom}
+use Rattle.nf_words.specs.Prelude.{after, after_mark, answer_to, answered_by, decided, decision_of, end_decision, end_refusal, ends_goal, ends_ticket, failed, goal_of, IsLegalFrom, MayAsk, replay, reply_by, reply_to, State, step, stored_at, ticket_for, ticket_of, unless_refused, with_goal, without, without_ticket}
 use Rattle.nf_words.specs.declared.answer.Allowed.{Allowed}
 use Rattle.nf_words.specs.declared.answer.Allowed.TheVariants as allowed
 use Rattle.nf_words.specs.declared.answer.Denial.{Denial}

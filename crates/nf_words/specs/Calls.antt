@@ -2,8 +2,7 @@
 use Rattle.std.specs.Prelude.{ℕ, ◌-◌, List, [], ◌∷◌, ◌++◌, length, Option, None, Some, option_map, option_and_then, slice_get, unwrap_or}
 use Rattle.std.specs.Option.{option_map_or}
 use Rattle.nf_base.specs.declared.rows.UserRow.{UserRow}
-use Rattle.nf_defs.specs.People.{holder_of, user_row}
-use Rattle.nf_defs.specs.Tree.{found_from}
+use Rattle.nf_defs.specs.Prelude.{found_from, holder_of, user_row}
 use Rattle.nf_defs.specs.declared.Found.{Found}
 use Rattle.nf_words.specs.State.{State}
 use Rattle.nf_words.specs.declared.request.Caller.{Caller}

@@ -3,8 +3,7 @@ use Rattle.std.specs.Prelude.{ℕ, zero, suc, ◌+◌, List, [], ◌∷◌, ◌+
 use Rattle.std.specs.Option.{option_map_or}
 use Rattle.nf_base.specs.declared.rows.NodeRow.{NodeRow}
 use Rattle.nf_base.specs.declared.rows.Place.TheVariants.{Inside}
-use Rattle.nf_defs.specs.Tables.{Tables}
-use Rattle.nf_defs.specs.Tree.{children_of, node_row, owner_of}
+use Rattle.nf_defs.specs.Prelude.{children_of, node_row, owner_of, Tables}
 use Rattle.nf_words.specs.declared.request.Transfer.{Transfer}
 
 -- a row as that of its copy, with that number and in that folder

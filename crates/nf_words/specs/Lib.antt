@@ -13,3 +13,4 @@ pub mod Actors
 pub mod History
 pub mod Laws
 pub mod Sound
+pub mod Prelude

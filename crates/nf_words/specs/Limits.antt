@@ -1,9 +1,7 @@
 -- The limits of the site, and the rule that none is passed.
 use Rattle.std.specs.Prelude.{ℕ, ◌+◌, ◌-◌, ◌==◌, ◌||◌, nat_lt, max, List, [], ◌∷◌, length, sum_by, Option, None, Some, option_map, option_and_then, if◌then◌else◌}
-use Rattle.nf_defs.specs.Access.{Access}
-use Rattle.nf_defs.specs.Tables.{Tables}
+use Rattle.nf_defs.specs.Prelude.{Access, content_of, depth, piece_count, Tables, walk_of}
 use Rattle.nf_base.specs.declared.rows.NodeRow.{NodeRow}
-use Rattle.nf_defs.specs.Tree.{content_of, depth, piece_count, walk_of}
 use Rattle.nf_defs.specs.declared.Found.{Found}
 use Rattle.nf_defs.specs.declared.Found.TheVariants.{At, Free, Missing}
 use Rattle.nf_words.specs.Calls.{Call, places_of}

@@ -1,9 +1,7 @@
 -- What is listed of a folder.
 use Rattle.std.specs.Prelude.{ℕ, min, List, Option, sum_by, filter_map, option_map, option_and_then}
 use Rattle.nf_base.specs.declared.rows.NodeRow.{NodeRow}
-use Rattle.nf_defs.specs.People.{user_row}
-use Rattle.nf_defs.specs.Tables.{Tables}
-use Rattle.nf_defs.specs.Tree.{children_of, content_of, node_row, walk_of}
+use Rattle.nf_defs.specs.Prelude.{children_of, content_of, node_row, Tables, user_row, walk_of}
 use Rattle.nf_words.specs.Limits.{last_number}
 use Rattle.nf_words.specs.declared.listing.ListingLine.{ListingLine}
 

@@ -4,8 +4,7 @@ use Rattle.std.specs.List.{list_any}
 use Rattle.std.specs.Option.{option_map_or, option_or}
 use Rattle.nf_base.specs.Naming.{is_forbidden}
 use Rattle.nf_base.specs.declared.rows.NodeRow.{NodeRow}
-use Rattle.nf_defs.specs.Access.{Access}
-use Rattle.nf_defs.specs.Tree.{is_folder, is_root, is_under, parent_of}
+use Rattle.nf_defs.specs.Prelude.{Access, is_folder, is_root, is_under, parent_of}
 use Rattle.nf_defs.specs.declared.Found.{Found}
 use Rattle.nf_defs.specs.declared.Found.TheVariants.{At, Free, Missing}
 use Rattle.nf_words.specs.Calls.{Call, paths_of, places_of}

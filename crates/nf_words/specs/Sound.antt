@@ -9,9 +9,7 @@ use Rattle.nf_base.specs.declared.rows.NodeRow.{NodeRow}
 use Rattle.nf_base.specs.declared.rows.Place.{Place}
 use Rattle.nf_base.specs.declared.rows.Place.TheVariants.{Root, Inside, Trash}
 use Rattle.nf_base.specs.declared.rows.UserRow.{UserRow}
-use Rattle.nf_defs.specs.People.{user_row}
-use Rattle.nf_defs.specs.Tables.{Tables}
-use Rattle.nf_defs.specs.Tree.{climb, is_folder, is_folder_kind, node_row, owner_of, piece_count}
+use Rattle.nf_defs.specs.Prelude.{climb, is_folder, is_folder_kind, node_row, owner_of, piece_count, Tables, user_row}
 use Rattle.nf_defs.specs.declared.Seeker.{Seeker}
 use Rattle.nf_defs.specs.declared.Seeker.TheVariants as seeker
 use Rattle.nf_words.specs.Limits.{count_of}

@@ -1,8 +1,7 @@
 -- One step of the site: a Begin is refused by the first rule that holds, or allowed; an End frees the seat's ticket, whatever it answers.
 use Rattle.std.specs.Prelude.{ℕ, List, [], Option, None, Result, Ok, Err}
 use Rattle.nf_base.specs.declared.changes.Change.{Change}
-use Rattle.nf_defs.specs.Access.{unshared}
-use Rattle.nf_defs.specs.Tables.{Tables}
+use Rattle.nf_defs.specs.Prelude.{Tables, unshared}
 use Rattle.nf_words.specs.State.{State, without_ticket}
 use Rattle.nf_words.specs.Calls.{Call}
 use Rattle.nf_words.specs.Rules.{refusal_of}

@@ -2,8 +2,7 @@ use Rattle.std.proofs.Common.{◌+◌, ◌≤◌, ◌≡◌, ◌||◌, Bool, tru
 use Rattle.std.proofs.lemmas.Bool.Decides.{nat_tests}
 use Rattle.nf_base.specs.declared.rows.MetaRow.{MetaRow}
 use Rattle.nf_base.specs.declared.rows.NodeRow.{NodeRow}
-use Rattle.nf_defs.specs.Tables.{Tables}
-use Rattle.nf_defs.specs.Tree.{walk_of, walk_within}
+use Rattle.nf_defs.specs.Prelude.{Tables, walk_of, walk_within}
 use Rattle.nf_words.specs.Limits.{copy_limit, last_number}
 use Rattle.nf_words.specs.declared.answer.Limit.{Limit}
 use Rattle.nf_words.specs.declared.answer.Limit.TheVariants.{Nodes}

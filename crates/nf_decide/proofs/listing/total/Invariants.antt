@@ -1,7 +1,6 @@
 use Rattle.std.proofs.Common.{◌≡◌, min, take}
 use Rattle.std.specs.Prelude.{sum_by}
-use Rattle.nf_words.specs.Limits.{last_number}
-use Rattle.nf_words.specs.Listing.{bytes_of}
+use Rattle.nf_words.specs.Prelude.{bytes_of, last_number}
 use Rattle.nf_decide.proofs.listing.total.Given as goal
 
 -- the bytes of the nodes so far

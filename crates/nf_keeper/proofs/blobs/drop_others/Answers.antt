@@ -2,9 +2,7 @@ use Rattle.std.proofs.Common.{◌≡◌, ℕ, List, rules, sym, subst}
 use Rattle.std.proofs.lemmas.Fn.{filter_same}
 use Rattle.std.proofs.lemmas.List.Kept.{AllPairs-filter}
 use Rattle.std.specs.declared.cmp.Ordering.TheVariants.{Less}
-use Rattle.nf_defs.specs.Blobs.{blob_key}
-use Rattle.nf_defs.specs.Puts.{key_cmp}
-use Rattle.nf_defs.specs.Rising.{IsRising}
+use Rattle.nf_defs.specs.Prelude.{blob_key, IsRising, key_cmp}
 use Rattle.nf_keeper.specs.Keeping.{is_kept}
 use Rattle.nf_keeper.proofs.blobs.drop_others.Goals as goal
 

@@ -1,7 +1,7 @@
 use Rattle.std.proofs.Common.{rules, ℕ, ◌∷◌, Some, sym, ap, ◌∙◌, subst}
 use Rattle.atomic_table.specs.Table.{rest}
-use Rattle.nf_turn.specs.Views.{memory_in, taken_in}
-use Rattle.nf_turn.specs.Book.{AddsAlone}
+use Rattle.nf_turn.specs.Prelude.{AddsAlone, memory_in}
+use Rattle.nf_turn.specs.Views.{taken_in}
 use Rattle.nf_turn.proofs.Poses.{numbers_known}
 use Rattle.nf_turn.proofs.Passing.{may_pass}
 use Rattle.nf_turn.proofs.turns.pass_on.Goals as goal

@@ -1,9 +1,7 @@
 use Rattle.std.proofs.Common.{rules, ◌≡◌, [], ◌∷◌, Option, Some, None, refl, sym, ap, ◌∙◌, subst}
 use Rattle.std.specs.Option.{IsSome}
 use Rattle.atomic_table.specs.Table.{rest}
-use Rattle.nf_turn.specs.Agreeing.{Agrees}
-use Rattle.nf_turn.specs.Steps.{Place}
-use Rattle.nf_turn.specs.Views.{memory_in}
+use Rattle.nf_turn.specs.Prelude.{Agrees, memory_in, Place}
 use Rattle.nf_turn.specs.declared.view.View.TheVariants.{Holding}
 use Rattle.nf_turn.proofs.Drawing.{may_draw}
 use Rattle.nf_turn.proofs.Looking.{may_look}

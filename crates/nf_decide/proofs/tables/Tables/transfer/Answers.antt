@@ -1,6 +1,5 @@
 use Rattle.std.proofs.Common.{◌++◌, ap, sym, ◌∙◌}
-use Rattle.nf_defs.specs.Tables.{Tables}
-use Rattle.nf_defs.specs.Tree.{node_row, relinked, with_node}
+use Rattle.nf_defs.specs.Prelude.{node_row, relinked, Tables, with_node}
 use Rattle.nf_words.specs.Changes.{dropped_for, transferred, transferred_row}
 use Rattle.nf_decide.specs.Rows.{Rows}
 use Rattle.nf_decide.proofs.Stamps.{stamped_some, transferred_some}

@@ -1,8 +1,7 @@
 use Rattle.std.proofs.Common.{ap, ◌∙◌, subst}
 use Rattle.nf_desk.specs.Desk.{Served, meanings}
 use Rattle.nf_session.specs.Book.{held}
-use Rattle.nf_turn.specs.Agreeing.{HasHeard}
-use Rattle.nf_turn.specs.Memory.{having_joined, longer}
+use Rattle.nf_turn.specs.Prelude.{HasHeard, having_joined, longer}
 use Rattle.nf_turn.specs.declared.view.Memory.{Memory}
 use Rattle.nf_hub.specs.Seats.{book_in, memory_of}
 use Rattle.nf_hub.proofs.Joining.{joined_held, joined_knows}

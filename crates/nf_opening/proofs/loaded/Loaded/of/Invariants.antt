@@ -1,6 +1,5 @@
 use Rattle.std.proofs.Common.{◌≡◌, drop}
-use Rattle.nf_defs.specs.Tables.{put_rows, tables_of}
-use Rattle.nf_defs.specs.Rising.{AreRising}
+use Rattle.nf_defs.specs.Prelude.{AreRising, put_rows, tables_of}
 use Rattle.nf_opening.proofs.loaded.Loaded.of.Given as goal
 
 -- the rows that are left complete the tables, which are in order

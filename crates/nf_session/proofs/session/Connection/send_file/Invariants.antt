@@ -1,6 +1,5 @@
 use Rattle.std.proofs.Common.{◌≡◌}
-use Rattle.nf_session.specs.Book.{held}
-use Rattle.nf_session.specs.Connections.{scene, IsSame}
+use Rattle.nf_session.specs.Prelude.{held, IsSame, scene}
 use Rattle.nf_session.proofs.Sendings.{SentSome}
 use Rattle.nf_session.proofs.session.Connection.send_file.Given as goal
 

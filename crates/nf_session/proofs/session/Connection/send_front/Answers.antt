@@ -1,7 +1,6 @@
 use Rattle.std.proofs.Common.{List, ℕ, Err, subst}
 use Rattle.std.proofs.lemmas.Result.{err_from_is_err_and}
-use Rattle.nf_session.specs.Connections.{scene}
-use Rattle.nf_session.specs.Steps.{Sends, Wrote}
+use Rattle.nf_session.specs.Prelude.{scene, Sends, Wrote}
 use Rattle.nf_session.proofs.Sendings.{front_is, part_failed, parts_written}
 use Rattle.nf_session.proofs.session.Connection.send_front.Goals as goal
 

@@ -1,6 +1,5 @@
 use Rattle.std.proofs.Common.{List, ℕ, subst}
-use Rattle.nf_session.specs.Connections.{scene}
-use Rattle.nf_session.specs.Steps.{Sends}
+use Rattle.nf_session.specs.Prelude.{scene, Sends}
 use Rattle.nf_session.proofs.Sendings.{piece_written}
 use Rattle.nf_session.proofs.session.Connection.send_piece.Goals as goal
 

@@ -1,7 +1,6 @@
 use Rattle.std.proofs.Common.{◌≡◌}
 use Rattle.std.specs.Prelude.{None}
-use Rattle.nf_session.specs.Book.{held}
-use Rattle.nf_session.specs.Connections.{scene, IsSame}
+use Rattle.nf_session.specs.Prelude.{held, IsSame, scene}
 use Rattle.nf_session.proofs.Turns.{SoFar}
 use Rattle.nf_session.proofs.session.Connection.session.Given as goal
 

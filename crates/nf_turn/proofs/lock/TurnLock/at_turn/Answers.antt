@@ -1,9 +1,7 @@
 use Rattle.std.proofs.Common.{rules, arith, ◌≡◌, ℕ, List, [], ◌∷◌, Option, Some, replicate, sym, subst}
 use Rattle.std.proofs.lemmas.Grind.{common_steps}
 use Rattle.atomic_table.specs.Table.{opening}
-use Rattle.nf_turn.specs.Book.{IsFresh}
-use Rattle.nf_turn.specs.Memory.{of_the_first}
-use Rattle.nf_turn.specs.Turns.{IsInTurn}
+use Rattle.nf_turn.specs.Prelude.{IsFresh, IsInTurn, of_the_first}
 use Rattle.nf_turn.specs.declared.view.View.TheVariants.{Idle}
 use Rattle.nf_turn.proofs.Starting.{starts}
 use Rattle.nf_turn.proofs.lock.TurnLock.at_turn.Goals as goal

@@ -1,8 +1,7 @@
 use Rattle.std.proofs.Common.{◌≡◌, Option, Some, refl, sym, ◌∙◌, subst}
 use Rattle.std.specs.Option.{IsSome}
 use mathlib.Core.Option.{some-injective}
-use Rattle.nf_turn.specs.Agreeing.{Agrees}
-use Rattle.nf_turn.specs.Seats.{memory}
+use Rattle.nf_turn.specs.Prelude.{Agrees, memory}
 use Rattle.nf_turn.proofs.Ending.{ends}
 use Rattle.nf_turn.proofs.lock.TurnLock.close.Goals as goal
 

@@ -2,12 +2,7 @@ use Rattle.std.proofs.Common.{rules, ◌≡◌, ◌+◌, ◌^◌, ◌<◌, ◌==
 use Rattle.nf_turn.specs.declared.seat.Seat.{Seat}
 use Rattle.nf_turn.specs.declared.view.Memory.{Memory}
 use Rattle.nf_turn.specs.declared.view.View.TheVariants.{Idle}
-use Rattle.nf_turn.specs.Agreeing.{HasHeard}
-use Rattle.nf_turn.specs.Memory.{having_joined, longer}
-use Rattle.nf_turn.specs.Numbers.{numbers_of, AreSound}
-use Rattle.nf_turn.specs.Seats.{memory}
-use Rattle.nf_turn.specs.Steps.{Place}
-use Rattle.nf_turn.specs.Views.{numbers_in, memory_in}
+use Rattle.nf_turn.specs.Prelude.{AreSound, HasHeard, having_joined, longer, memory, memory_in, numbers_in, numbers_of, Place}
 use Rattle.nf_turn.proofs.Joining.{may_join, both_known, both_are_few, both_joined_count}
 use Rattle.nf_turn.proofs.Poses.{shows}
 use Rattle.nf_turn.proofs.Sounding.{may_count}

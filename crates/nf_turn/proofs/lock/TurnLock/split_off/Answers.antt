@@ -1,12 +1,7 @@
 use Rattle.std.proofs.Common.{rules, ◌≡◌, ◌<◌, [], sym, ap, ◌∙◌, subst, arith}
 use Rattle.std.proofs.Math.Logic.{∥∥₁_map}
 use Rattle.nf_turn.specs.declared.view.Memory.{Memory}
-use Rattle.nf_turn.specs.Agreeing.{HasHeard}
-use Rattle.nf_turn.specs.Memory.{split_from}
-use Rattle.nf_turn.specs.Numbers.{Numbers}
-use Rattle.nf_turn.specs.Seats.{memory}
-use Rattle.nf_turn.specs.Steps.{Place, after_split, split_off}
-use Rattle.nf_turn.specs.Views.{numbers_in, memory_in}
+use Rattle.nf_turn.specs.Prelude.{after_split, HasHeard, memory, memory_in, Numbers, numbers_in, Place, split_from, split_off}
 use Rattle.nf_turn.proofs.Numbering as numbers
 use Rattle.nf_turn.proofs.Numbering.{kept_is_sound, split_is_sound, next_is_small}
 use Rattle.nf_turn.proofs.Sounding.{may_count}

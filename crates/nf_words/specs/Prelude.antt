@@ -1,0 +1,20 @@
+-- The words of this layer that other files use, in one place to import them from.
+pub use Rattle.nf_words.specs.Actors.{actor_of}
+pub use Rattle.nf_words.specs.Callers.{is_caller}
+unfoldable pub use Rattle.nf_words.specs.Callers.{not_you_rule, token_rule}
+pub use Rattle.nf_words.specs.Calls.{Call, asker_of, caller_row, found, last_name, named_in, places_of, root_of, source_of, target_of, user_of, users_of}
+pub use Rattle.nf_words.specs.Changes.{allowed_of, altered, blob_after, blob_of, changed, changes_of, cleared, copied, created, deleted, dropped_for, dropped_under, given, goal_of, joined, made_folder, meta_after, moved, new_node, refilled, removed, replaced, reply_by, reply_to, served, shown, stamped, stored, told, transferred, transferred_row, with_goal, with_meta}
+pub use Rattle.nf_words.specs.Copies.{copied_row, copies_of_all, copies_to, renamed}
+unfoldable pub use Rattle.nf_words.specs.Copies.{copies_within}
+pub use Rattle.nf_words.specs.Endings.{blob_for, content_in, end_decision, end_refusal, ends_goal, ends_ticket, key_lost, place_of, stored_at, stores, unless_refused}
+pub use Rattle.nf_words.specs.History.{IsLegal, IsLegalFrom, LeavesRoom, MayAsk, MayBear, MayBring, MayCome, MayEnd, MayWant, NamesUser, after, after_mark, answer_at, failed, most_entries, replay}
+pub use Rattle.nf_words.specs.Laws.{Pass}
+pub use Rattle.nf_words.specs.Limits.{copy_limit, count_of, deepest, deepest_in, last_number, limit_at, limit_passed, limited, move_limit, pieces_in, pieces_of}
+unfoldable pub use Rattle.nf_words.specs.Limits.{limit_rule}
+pub use Rattle.nf_words.specs.Listing.{bytes_of, line_of, listing_of}
+pub use Rattle.nf_words.specs.Places.{folder_at, has_forbidden, is_kept, is_there, lost, misplaced, node_at, node_found, source_lost, taken, target_lost, transfer_of, transfer_to, unfit, unfit_between}
+unfoldable pub use Rattle.nf_words.specs.Places.{exists_rule, forbidden_rule, overwrite_rule, place_rule, target_rule}
+pub use Rattle.nf_words.specs.Rules.{Rule, first_that_holds, refusal_of, rules}
+pub use Rattle.nf_words.specs.Sound.{AreApart, AreCounters, AreSound, HasRoot, IsGoalSound, IsNodeSound, IsOwn, IsPieceSound, IsPlaceSound, IsSound, MayStoreAt, node_of_key, root_of_user}
+pub use Rattle.nf_words.specs.State.{State, opened, ticket_for, ticket_of, without_ticket}
+pub use Rattle.nf_words.specs.Step.{answer_to, answered_by, blob_by, blob_to, call_decision, call_of, changes_by, changes_to, decided, decision_of, step, stepped_by, without}
