@@ -7,7 +7,7 @@ use nf_rows::RowFault;
 /// Which words are commands, and what the environment may say.
 const USAGE: &str = "
 usage: filesd serve [--connections M]   answers over TCP, M connections of each thread (1 to 1000000; 1000)
-       filesd init NAME TOKEN QUOTA     begins a store with one administrator, who may have QUOTA bytes
+       filesd init NAME TOKEN QUOTA     begins a store with one administrator; QUOTA is in bytes
        filesd batch                     answers the requests of standard input on standard output
 
 What the environment says:
