@@ -54,13 +54,18 @@ fn token(user: u32) -> Row {
     })
 }
 
-/// The meta row, the first user and that user's root, and then some rows.
+/// The meta row, the first user and that user's root.
+fn first(alloc: Global) -> Result<Vec<Row>, Fail> {
+    let mut rows = Vec::new(alloc);
+    rows.push(meta())?;
+    rows.push(user(alloc, 1, b"ann", 1)?)?;
+    rows.push(folder(alloc, 1, 1, Place::Root, b"ann")?)?;
+    Ok(rows)
+}
+
+/// These, and then some rows.
 fn with(alloc: Global, more: Vec<Row>) -> Result<Vec<Row>, Fail> {
-    let mut rows = vec![in alloc;
-        meta(),
-        user(alloc, 1, b"ann", 1)?,
-        folder(alloc, 1, 1, Place::Root, b"ann")?,
-    ]?;
+    let mut rows = first(alloc)?;
     rows.extend(more)?;
     Ok(rows)
 }
