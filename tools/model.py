@@ -1,4 +1,4 @@
-"""A model of what a client has stored, for the tools that try `filesd serve`: by docs/GUIDE.md it says what each step is answered."""
+"""A model of what a client has stored, for the tools that try `filesd serve`: by docs/HTTP.md it says what each step is answered."""
 import json
 from collections import namedtuple
 

@@ -1,7 +1,8 @@
-//! The log of what is answered: a line on standard error for each answer, where FILESD_LOG asks for it.
+//! The log, on standard error: where the program listens, and a line for each answer where FILESD_LOG asks for it.
 
 ghost use Rattle.std.specs.Prelude.{◌≡◌, None};
 
+use crate::version::VERSION;
 use bstr::ByteSlice;
 use jiff::Timestamp;
 use nf_outside::{Ends, Failed, Sink};
@@ -10,6 +11,7 @@ use percent_encoding::{AsciiSet, CONTROLS, ascii_set, percent_encode};
 use std::alloc::{AllocError, Global};
 use std::fmt::Write as WriteText;
 use std::io::Write;
+use std::net::SocketAddr;
 use std::time::{Duration, Instant};
 
 /// The most bytes of a method or a target that are shown.
@@ -21,16 +23,36 @@ const BEFORE_TOKEN: &[u8] = b"/public.php/dav/files/";
 /// What is escaped where it is shown, beside all that isn't ASCII: so nothing that is asked for ends a line, or begins another field.
 const ESCAPED: AsciiSet = ascii_set!(CONTROLS.add(b' ').add(b'"').add(b'\\'));
 
-/// A door whose connections are logged, where there is a runtime to log them by.
+/// The log's first line: which program listens, and where.
+#[derive(Drop)]
+pub struct Greeting {
+    pub rt: HostRuntime,
+    pub address: SocketAddr,
+}
+
+impl Greeting {
+    fn say(&self) {
+        let address = self.address;
+        let _ = eprintln!(self.rt; "filesd: version {VERSION}, listening on {address}");
+    }
+}
+
+/// A door that says its greeting when it is first asked, if it has one, and whose connections are logged, where there is a runtime to
+/// log them by.
 #[derive(Drop)]
 pub struct LoggedDoor<D: Drop> {
     inner: D,
     log: Option<HostRuntime>,
+    greeting: Option<Greeting>,
 }
 
 impl<D: Drop> LoggedDoor<D> {
-    pub fn new(inner: D, log: Option<HostRuntime>) -> LoggedDoor<D> {
-        LoggedDoor { inner, log }
+    pub fn new(inner: D, log: Option<HostRuntime>, greeting: Option<Greeting>) -> LoggedDoor<D> {
+        LoggedDoor {
+            inner,
+            log,
+            greeting,
+        }
     }
 }
 
@@ -48,6 +70,9 @@ impl<D: Door + Drop> Door for LoggedDoor<D> {
     ghost has_room = { λ door. D.has_room door.inner };
 
     fn next(&mut self) -> Result<Option<Link<D::Source, LoggedSink<D::Sink>>>, Failed> {
+        if let Some(greeting) = self.greeting.take() {
+            greeting.say();
+        }
         match self.inner.next()? {
             Some(link) => {
                 let Link { source, sink } = link;

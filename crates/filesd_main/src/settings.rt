@@ -1,0 +1,77 @@
+//! What the environment says. A setting that says what isn't allowed is told, and refused.
+
+use filesd::Status;
+use std::env::{self, VarError};
+use std::time::Duration;
+
+/// The most threads that may serve.
+pub const MOST_WORKERS: u64 = 63;
+
+/// How many threads serve, where nothing is said.
+const WORKERS: u64 = 4;
+
+/// The longest that a read or a write may wait, in seconds.
+const MOST_TIMEOUT: u64 = 3_600;
+
+/// How long it may where nothing is said.
+const TIMEOUT: u64 = 30;
+
+/// How `serve` works.
+#[derive(Drop)]
+pub struct Serving {
+    pub address: String,
+    pub workers: u64,
+    pub limit: Duration,
+    pub is_logged: bool,
+}
+
+/// The path of the store, where one is named.
+pub fn store(rt: &HostRuntime) -> Result<Option<String>, Status> {
+    match env::var(rt, "FILESD_STORE") {
+        Ok(path) => Ok(Some(path)),
+        Err(VarError::NotPresent) => Ok(None),
+        Err(VarError::NotUnicode) => {
+            let _ = eprintln!(rt; "filesd: FILESD_STORE is no text");
+            Err(Status::StoreFault)
+        }
+        Err(VarError::OutOfMemory) => Err(Status::Memory),
+    }
+}
+
+/// What `serve` is told.
+pub fn serving(rt: &HostRuntime) -> Result<Serving, Status> {
+    Ok(Serving {
+        address: address(rt)?,
+        workers: number(rt, "FILESD_WORKERS", 1, MOST_WORKERS, WORKERS)?,
+        limit: Duration::from_secs(number(rt, "FILESD_TIMEOUT", 1, MOST_TIMEOUT, TIMEOUT)?),
+        is_logged: number(rt, "FILESD_LOG", 0, 1, 0)? == 1,
+    })
+}
+
+fn address(rt: &HostRuntime) -> Result<String, Status> {
+    match env::var(rt, "FILESD_LISTEN") {
+        Ok(address) => Ok(address),
+        Err(VarError::OutOfMemory) => Err(Status::Memory),
+        Err(_) => {
+            let _ = eprintln!(rt;
+                "filesd: FILESD_LISTEN has to be an address and a port, as 127.0.0.1:8080"
+            );
+            Err(Status::DoorFault)
+        }
+    }
+}
+
+// The number that the variable has, or the other one where it isn't set.
+fn number(rt: &HostRuntime, name: &str, least: u64, most: u64, other: u64) -> Result<u64, Status> {
+    match env::var(rt, name) {
+        Ok(text) => match text.parse::<u64>() {
+            Ok(number) if least <= number && number <= most => return Ok(number),
+            _ => {}
+        },
+        Err(VarError::NotPresent) => return Ok(other),
+        Err(VarError::NotUnicode) => {}
+        Err(VarError::OutOfMemory) => return Err(Status::Memory),
+    }
+    let _ = eprintln!(rt; "filesd: {name} has to be a number from {least} to {most}");
+    Err(Status::Words)
+}
