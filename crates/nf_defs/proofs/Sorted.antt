@@ -72,21 +72,26 @@ pairs_tail R x xs pairs = λ i j d less within. pairs (suc i) (suc j) d (omega a
 
 -- ---- by name
 
-put_rises : (row : NodeRow) (rows : List NodeRow) → AllPairs Before rows → All (λ (other : NodeRow). row.id < other.id) rows → AllPairs Before (put_by_name row rows)
+put_rises : (row : NodeRow) (rows : List NodeRow) → AllPairs Before rows → All (λ (other : NodeRow). row.id < other.id) rows
+    → AllPairs Before (put_by_name row rows)
 put_rises row [] up below = AllPairs-cons Before row [] (λ k d within. absurd (omega arith)) up
 put_rises row (first ∷ rows) up below =
-    here (comes_before first row) refl (put_rises row rows (pairs_tail Before first rows up) (All-tail (λ (other : NodeRow). row.id < other.id) first rows below))
+    here (comes_before first row) refl
+    (put_rises row rows (pairs_tail Before first rows up) (All-tail (λ (other : NodeRow). row.id < other.id) first rows below))
   where
     here : (b : Bool) → comes_before first row ≡ b → AllPairs Before (put_by_name row rows) → AllPairs Before (put_by_name row (first ∷ rows))
-    here true e rest = rw e (AllPairs-cons Before first (put_by_name row rows) (All-put (Before first) row rows e (pairs_head Before first rows up)) rest)
+    here true e rest =
+        rw e (AllPairs-cons Before first (put_by_name row rows) (All-put (Before first) row rows e (pairs_head Before first rows up)) rest)
     here false e rest =
         let lower = below 0 first (omega arith) in
         let less = strictly first row (λ same. omega arith) e in
-        rw e (AllPairs-cons Before row (first ∷ rows) (All-cons (Before row) first rows less (λ k d within. lt_trans name_weak row first (get_or rows k d) less (pairs_head Before first rows up k d within))) up)
+        rw e (AllPairs-cons Before row (first ∷ rows) (All-cons (Before row) first rows less
+        (λ k d within. lt_trans name_weak row first (get_or rows k d) less (pairs_head Before first rows up k d within))) up)
 
 -- by name they rise, where their numbers differ
 pub by_name_rises : (rows : List NodeRow) → AllPairs (λ (a b : NodeRow). a.id < b.id) rows → AllPairs Before (by_name rows)
 by_name_rises [] rising = λ i j d less within. absurd (omega arith)
 by_name_rises (row ∷ rows) rising =
     let below = pairs_head (λ (a b : NodeRow). a.id < b.id) row rows rising in
-    put_rises row (by_name rows) (by_name_rises rows (pairs_tail (λ (a b : NodeRow). a.id < b.id) row rows rising)) (All-by_name (λ (other : NodeRow). row.id < other.id) rows below)
+    put_rises row (by_name rows) (by_name_rises rows (pairs_tail (λ (a b : NodeRow). a.id < b.id) row rows rising))
+    (All-by_name (λ (other : NodeRow). row.id < other.id) rows below)

@@ -1,5 +1,5 @@
 -- What a DELETE, a MKCOL and a PUT change.
-use Rattle.std.proofs.Common.{ℕ, ◌+◌, ◌-◌, ◌==◌, ◌&&◌, ◌≡◌, ◌≢◌, ◌<◌, ◌≤◌, Bool, true, false, not, List, [], ◌∷◌, ◌++◌, Option, None, Some, Result, Ok, if◌then◌else◌, length, get_or, map, option_map, slice_get, unwrap_or, refl, sym, ap, subst, ◌∙◌, arith, length-append}
+use Rattle.std.proofs.Common.{ℕ, ◌+◌, ◌-◌, ◌==◌, ◌&&◌, ◌≡◌, ◌≢◌, ◌<◌, ◌≤◌, Bool, true, false, not, List, [], ◌∷◌, ◌++◌, Option, None, Some, Result, Ok, if◌then◌else◌, length, get_or, map, option_map, slice_get, unwrap_or, inl, inr, refl, sym, ap, subst, ◌∙◌, arith, length-append}
 use Rattle.std.specs.Prelude.{IsOk}
 use Rattle.std.proofs.Math.Seq.{get_or-append_seam}
 use Rattle.std.proofs.lemmas.Bool.{and_parts, cond_both, eqb-true, false_from_ne_true, ne_eqb, not-true}
@@ -73,7 +73,8 @@ deleted_rows t now top root path sound led = record {
   gone = λ node under. let c = climbed t.nodes top node under in row_gone t.nodes (Some top) node (climbs_is_under c.0 t node top sound c.1);
   others = λ node outside.
       row_cleared t.nodes (Some top) node
-      (false_from_ne_true (is_under t.nodes node top) (λ is. let c = under_climb t.nodes node top is in outside (derived c.0 t.nodes top node c.2)));
+      (false_from_ne_true (is_under t.nodes node top) (λ is.
+      let c = under_climb t.nodes node top is in outside (derived c.0 t.nodes top node c.2)));
   rest = refl;
 }
 
@@ -131,7 +132,8 @@ added_rows t now folder name kind content blob sound known counted =
 -- ---- MKCOL
 
 -- a MKCOL that is accepted makes a folder under the free name at the end of its path
-makes_at : (call : Call) (spot : Spot) → call.request.wanted ≡ wanted.Mkcol spot → place_rule unshared call ≡ None → exists_rule unshared call ≡ None
+makes_at : (call : Call) (spot : Spot) → call.request.wanted ≡ wanted.Mkcol spot
+    → place_rule unshared call ≡ None → exists_rule unshared call ≡ None
     → (folder : ℕ) × (found call spot ≡ Free folder)
     × (allowed_of call ≡ allowed.Mkcol (new_node call.state.tables call.now folder (last_name spot) Folder []))
 unfolding place_rule exists_rule
@@ -142,7 +144,8 @@ makes_at call spot asked passes free = here (found call spot) refl (rw asked at 
 
     here : (place : Found) → found call spot ≡ place → lost (record { source = None; target = Some place }) ≡ None
         → taken t.nodes (wanted.Mkcol spot) (record { source = None; target = Some place }) ≡ None
-        → (folder : ℕ) × (found call spot ≡ Free folder) × (allowed_of call ≡ allowed.Mkcol (new_node t call.now folder (last_name spot) Folder []))
+        → (folder : ℕ) × (found call spot ≡ Free folder)
+        × (allowed_of call ≡ allowed.Mkcol (new_node t call.now folder (last_name spot) Folder []))
     here (At node) e there free = absurd (cc)
     here (Free folder) e there free = (folder, e, rw (asked, e) refl)
     here (Missing depth) e there free = absurd (cc)
@@ -229,7 +232,8 @@ blobs_counted : (next size : ℕ) (digest : List ℕ)
     → blob_after next (blob_for next size) ≡ next + length (content_in (blob_for next size) digest size)
 blobs_counted next size digest = here (size == 0)
   where
-    here : (empty : Bool) → blob_after next (if empty then None else Some next) ≡ next + length (content_in (if empty then None else Some next) digest size)
+    here : (empty : Bool)
+        → blob_after next (if empty then None else Some next) ≡ next + length (content_in (if empty then None else Some next) digest size)
     here true = omega arith
     here false = omega arith
 
@@ -241,8 +245,8 @@ over_rows : (t : Tables) (now : ℕ) (who : Option ℕ) (node : ℕ) (content : 
     → KnownOver t who node content blob → blob_after t.meta.next_blob blob ≡ t.meta.next_blob + length content
     → IsRefilled t (changed t now (allowed.StoreOver node content blob)) now node content
 over_rows t now who node content blob sound known counted =
-    subst HasIt (sym there)
-    (cond_both (content_eq row.content content && row.changed == now) [] (Put (rows.Node (filled content now row)) ∷ []) HasIt2
+    subst IsTold (sym there)
+    (cond_both (content_eq row.content content && row.changed == now) [] (Put (rows.Node (filled content now row)) ∷ []) IsAfter
     (λ same.
     let parts = and_parts (content_eq row.content content) (row.changed == now) same in
     let none : blob ≡ None = told_blob t now who (allowed.StoreOver node content blob) sound known (rw (there, same) refl) in
@@ -254,6 +258,7 @@ over_rows t now who node content blob sound known counted =
           (filled_same row content now ((content_decides row.content content).0 parts.0) (eqb-true row.changed now parts.1));
       others = λ other differs. refl;
       rest = λ i. record t { meta = record t.meta { next_blob = (ap (blob_after t.meta.next_blob) (sym none) ∙ counted) i } };
+      moment = inl refl;
     })
     (λ other. record {
       row = row;
@@ -265,16 +270,17 @@ over_rows t now who node content blob sound known counted =
         meta = record t.meta { next_blob = counted i; last = now };
         nodes = with_node t.nodes node (filled content now);
       };
+      moment = inr refl;
     }))
   where
     after : Tables
     after = replaced t now node content blob
 
-    HasIt2 : List Change → Type 0
-    HasIt2 changes = IsRefilled t (stamped t after now changes) now node content
+    IsAfter : List Change → Type 0
+    IsAfter changes = IsRefilled t (stamped t after now changes) now node content
 
-    HasIt : Option NodeRow → Type 0
-    HasIt o = HasIt2 (refilled o now content)
+    IsTold : Option NodeRow → Type 0
+    IsTold o = IsAfter (refilled o now content)
 
     found_file : (row : NodeRow) × (node_row t.nodes node ≡ Some row) × (not (is_folder_kind row.kind) ≡ true)
     found_file = holds_some (λ row. not (is_folder_kind row.kind)) (node_row t.nodes node) known.brought.file

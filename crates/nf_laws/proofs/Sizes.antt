@@ -25,7 +25,8 @@ weight_if w id node = if id == node then w else 0
 nothing : (f : ℕ → ℕ) (nodes : List ℕ) → All (λ (node : ℕ). f node ≡ 0) nodes → sum_by f nodes ≡ 0
 nothing f [] none = refl
 nothing f (n ∷ nodes) none =
-    omega (arith, sum_by-cons f n nodes, All-head (λ (node : ℕ). f node ≡ 0) n nodes none, nothing f nodes (All-tail (λ (node : ℕ). f node ≡ 0) n nodes none))
+    let rest = nothing f nodes (All-tail (λ (node : ℕ). f node ≡ 0) n nodes none) in
+    omega (arith, sum_by-cons f n nodes, All-head (λ (node : ℕ). f node ≡ 0) n nodes none, rest)
 
 -- one node counts once
 counts_once : (w id : ℕ) (nodes : List ℕ) → AreDistinct nodes → sum_by (weight_if w id) nodes ≤ w

@@ -1,5 +1,5 @@
 -- What a DELETE, a MKCOL and a PUT change, and that they change nothing else.
-use Rattle.std.specs.Prelude.{◌≡◌, ◌≢◌, ℕ, ◌+◌, true, false, List, [], length, None, Some, Ok, IsOk}
+use Rattle.std.specs.Prelude.{◌≡◌, ◌≢◌, ◌⊎◌, ℕ, ◌+◌, true, false, List, [], length, None, Some, Ok, IsOk}
 use Rattle.nf_base.specs.declared.content.Piece.{Piece}
 use Rattle.nf_base.specs.declared.rows.NodeKind.{NodeKind}
 use Rattle.nf_base.specs.declared.rows.NodeKind.TheVariants.{File, Folder}
@@ -97,12 +97,13 @@ pub record IsGranted (s : State) (seat now : ℕ) (words : Words) (request : Req
 
 abbrev pub PutsAreGranted : Type 0
 PutsAreGranted =
-    (s : State) (seat now : ℕ) (words : Words) (request : Request) (spot : Spot) (size : ℕ) → IsSound s → MayAsk s seat (Begin words request)
-    → request.wanted ≡ Put spot size → IsOk (answer_to s seat now (Begin words request))
+    (s : State) (seat now : ℕ) (words : Words) (request : Request) (spot : Spot) (size : ℕ) → IsSound s
+    → MayAsk s seat (Begin words request) → request.wanted ≡ Put spot size → IsOk (answer_to s seat now (Begin words request))
     → IsGranted s seat now words request spot.path size
 
 -- the file has the new content, which became current at the moment, and nothing else of it is another; every other node is as it was.
--- Of the meta row these alone are others: the moment, and the next number of a blob, which is as many more as the content has pieces
+-- Of the meta row these alone are others: the next number of a blob, which is as many more as the content has pieces, and the moment,
+-- unless the file was just so before
 pub record IsRefilled (before after : Tables) (now node : ℕ) (content : List Piece) : Type 0 where
   pub row : NodeRow
   pub there : node_row before.nodes node ≡ Some row
@@ -113,6 +114,7 @@ pub record IsRefilled (before after : Tables) (now node : ℕ) (content : List P
     meta = record before.meta { next_blob = before.meta.next_blob + length content; last = after.meta.last };
     nodes = after.nodes;
   }
+  pub moment : (after ≡ before) ⊎ (after.meta.last ≡ now)
 
 -- what is stored over is refilled, and under a free name a file is added
 abbrev pub IsPut : Tables → Tables → ℕ → LockKey → List Piece → Type 0

@@ -57,7 +57,8 @@ name_of rows node = option_map_or (λ row. row.name) (node_row rows node) []
 
 -- a folder's children are just the nodes in it, in the order of their names, and so each once
 pub record ChildrenAreByName : Type 0 where
-  pub those : (t : Tables) (folder node : ℕ) → AreSound t → Contains (children_of t.nodes folder) node ↔ (parent_of t.nodes node ≡ Some folder)
+  pub those : (t : Tables) (folder node : ℕ) → AreSound t
+      → Contains (children_of t.nodes folder) node ↔ (parent_of t.nodes node ≡ Some folder)
   pub sorted : (t : Tables) (folder : ℕ) → AreSound t
       → AllPairs (λ (a b : ℕ). slice_cmp nat_cmp (name_of t.nodes a) (name_of t.nodes b) ≡ Less) (children_of t.nodes folder)
   pub once : (t : Tables) (folder : ℕ) → AreSound t → AllPairs (λ (a b : ℕ). a ≢ b) (children_of t.nodes folder)
