@@ -5,7 +5,11 @@ pub mod Ending
 pub mod Leaving
 pub mod OneFile
 pub mod Runs
+pub mod Safe
 pub mod Serving
 pub mod Shown
+pub mod Spelled
 pub mod Sole
+pub mod Together
+pub mod Whole
 pub mod Working

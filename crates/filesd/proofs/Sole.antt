@@ -20,11 +20,11 @@ use Rattle.filesd.specs.Seat.{AreOwn, book_of, seat}
 abbrev IsOwn : Entry → Type 0
 IsOwn e = e.seat ≡ seat
 
-its_entry : (e : Entry) (es : List Entry) → entries_by e.seat (e ∷ es) ≡ [] → ⊥
+pub its_entry : (e : Entry) (es : List Entry) → entries_by e.seat (e ∷ es) ≡ [] → ⊥
 its_entry e es none =
     let some : e ∷ entries_by e.seat es ≡ [] = simp (eq-eqb e.seat e.seat refl) at none in cc
 
-none_behind : (n : ℕ) (e : Entry) (es : List Entry) → entries_by n (e ∷ es) ≡ [] → entries_by n es ≡ []
+pub none_behind : (n : ℕ) (e : Entry) (es : List Entry) → entries_by n (e ∷ es) ≡ [] → entries_by n es ≡ []
 none_behind n e es none = here (e.seat == n) none
   where
     here : (its : Bool) → (if its then e ∷ entries_by n es else entries_by n es) ≡ [] → entries_by n es ≡ []

@@ -20,17 +20,15 @@ use Rattle.nf_server.specs.declared.door.Door.{Ghosts as DoorOf}
 use Rattle.nf_server.specs.declared.workers.Worked.{Worked}
 use Rattle.nf_server.specs.declared.workers.Worked.TheVariants as worked
 use Rattle.nf_server.specs.declared.workers.Worker.{Worker}
-use Rattle.nf_server.proofs.Spanning.{whole_still, work_spans}
 use Rattle.nf_site.specs.Held.{Held}
 use Rattle.nf_turn.proofs.Poses.{numbers_known}
-use Rattle.nf_turn.specs.Prelude.{having_split, IsFresh, IsWhole, longer, Numbers, numbers, numbers_of, of_the_first}
+use Rattle.nf_turn.specs.Prelude.{having_split, IsFresh, longer, Numbers, numbers, numbers_of, of_the_first}
 use Rattle.nf_turn.specs.declared.view.Memory.{Memory}
 use Rattle.nf_words.specs.declared.history.Entry.{Entry}
 use Rattle.filesd.specs.Doors.{OneRose, RunsDoors, ServesDesk, status_of_work}
 use Rattle.filesd.specs.Opening.{status_of_fault}
 use Rattle.filesd.specs.declared.status.Status.{Status}
 use Rattle.filesd.specs.declared.status.Status.TheVariants as exit
-use Rattle.filesd.proofs.Sole.{all_numbers, is_whole}
 
 both_door : (one rest : Worked) → both one rest ≡ worked.DoorFault → (one ≡ worked.DoorFault) ⊎ (rest ≡ worked.DoorFault)
 both_door worked.DoorFault rest is = inl refl
@@ -119,16 +117,6 @@ module _ {K I A C D : Type 0} (k : KeeperOf K) (i : EndsOf I) (a : EndsOf A) (re
       → WorkBeside (longer (meanings k)) (Works k i a reads door connections) (of_the_first 64 desk) n before after result
   work_of connections m n desk before after result first work =
       subst (λ (x : Memory (Served K)). WorkBeside (longer (meanings k)) (Works k i a reads door connections) x n before after result) first work
-
-  -- leaves it all numbers
-  pub whole_again : (connections : ℕ) (hub : HubOf (Served K) Entry (List Row × Snapshot K)) (seat : SeatOf (Served K) Entry (List Row × Snapshot K))
-      (desk : Served K) (before after : List (Worker D C)) (result : Worked)
-      → WorkBeside (longer (meanings k)) (Works k i a reads door connections) (of_the_first 64 desk) (memory_of k hub seat) before after result
-      → IsWhole (numbers seat.turns)
-  whole_again connections hub seat desk before after result work =
-      subst (λ (n : Numbers (Served K)). IsWhole n) (numbers_known _ seat.turns.place.me)
-      (whole_still (all_numbers desk) (numbers_of (memory_of k hub seat))
-      (work_spans k i a reads door connections (of_the_first 64 desk) (memory_of k hub seat) before after result work) (is_whole desk))
 
 -- the first seat has numbers left for all workers
 pub has_left : {K : Type 0} (k : KeeperOf K) (hub : HubOf (Served K) Entry (List Row × Snapshot K))

@@ -15,7 +15,7 @@ use Rattle.nf_server.specs.declared.workers.Worked.{Worked}
 use Rattle.nf_server.specs.declared.workers.Worked.TheVariants as worked
 use Rattle.nf_server.specs.declared.workers.Worker.{Worker}
 use Rattle.nf_site.specs.Held.{Held}
-use Rattle.nf_turn.specs.Prelude.{IsFresh, longer, of_the_first}
+use Rattle.nf_turn.specs.Prelude.{HasHeard, IsFresh, longer, of_the_first}
 use Rattle.nf_turn.specs.declared.view.Memory.{Memory}
 use Rattle.filesd.specs.Opening.{status_of_fault}
 use Rattle.filesd.specs.declared.status.Status.{Status}
@@ -50,6 +50,8 @@ module _ {K I A C D : Type 0} (k : KeeperOf K) (i : EndsOf I) (a : EndsOf A) (re
     pub memory : Memory (Served K)
     pub result : Worked
     pub work : WorkBeside (longer (meanings k)) (Works k i a reads door connections) (of_the_first 64 desk) memory before after result
+    -- what it knows of begins with what each worker's seat knew of
+    pub heard : HasHeard (meanings k) memory
     pub closes : Closes k memory site left
     pub status_is : status ≡ status_of_work result
 

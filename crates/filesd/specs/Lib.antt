@@ -8,3 +8,5 @@ pub mod Init
 pub mod Reopening
 pub mod OneFile
 pub mod Ending
+pub mod Next
+pub mod Together

@@ -13,6 +13,7 @@ ghost use Rattle.nf_turn.specs.Book.{IsFresh};
 ghost use Rattle.filesd.specs.Doors.{OneRose, RunsDoors};
 ghost use Rattle.filesd.specs.Ending.{BatchEndsWell, InitEndsWell, ServeEndsWell};
 ghost use Rattle.filesd.specs.Init.{Inits, IsSomeDigest};
+ghost use Rattle.filesd.specs.Next.{KeepsSafe};
 ghost use Rattle.filesd.specs.OneFile.{ServesOneFile};
 ghost use Rattle.filesd.specs.Outside.{outlet, outside};
 ghost use Rattle.filesd.specs.Reopening.{Leaves, Pays};
@@ -97,6 +98,8 @@ where
     // The site at the end, and what the keeper tells then: its rows, and blobs that are whole for it.
     ensures leaves { IfSome result.site (λ site. Leaves site.kept (K.told result.keeper)) }
     ensures paid { IfSome result.site (λ site. Pays site.kept (K.faults keeper) (K.faults result.keeper)) }
+    // A safe store is left safe, so all of this holds of the next run, too.
+    ensures safe { KeepsSafe (K.told keeper) (K.told result.keeper) }
     // But for a `serve`, all entries are those of the one seat.
     ensures alone { (IsSomeServe (map string_bytes words.now) → ⊥) → IfSome result.site (λ site. AreOwn site.kept.history) }
     ensures room { IsBatch (map string_bytes words.now) → result.status ≢ exit.RunFull }

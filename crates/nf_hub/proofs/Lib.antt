@@ -1,4 +1,4 @@
-mod Owning
+pub mod Owning
 mod Seeing
 mod Following
 mod Knowing

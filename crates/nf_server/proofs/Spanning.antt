@@ -1,14 +1,14 @@
 -- A seat that was whole is whole again once all that were split off from it were joined into it.
-use Rattle.std.proofs.Common.{◌≡◌, ◌⊎◌, ⊎_elim, inl, inr, ℕ, ◌+◌, ◌-◌, ◌<◌, ◌≤◌, Bool, true, false, true≢false, ◌||◌, ◌==◌, eq-eqb, List, [], ◌∷◌, ◌++◌, if◌then◌else◌, refl, sym, ◌∙◌, ap, subst, arith}
+use Rattle.std.proofs.Common.{◌≡◌, ◌⊎◌, ⊎_elim, inl, inr, ℕ, suc, ◌+◌, ◌-◌, ◌<◌, ◌≤◌, true, ◌==◌, eq-eqb, List, [], ◌∷◌, ◌++◌, if◌then◌else◌, refl, sym, ◌∙◌, ap, subst, arith, length}
 use mathlib.Core.Logic.{dite}
 use native.Mathlib.Decide.{ℕ_discrete}
 use Rattle.std.proofs.lemmas.Bool.{ne_eqb, or_right}
 use Rattle.nf_desk.specs.Desk.{Served, meanings}
 use Rattle.nf_keeper.specs.declared.keeper.Keeper.{Ghosts as KeeperOf}
 use Rattle.nf_outside.specs.declared.traits.Ends.{Ghosts as EndsOf}
-use Rattle.nf_turn.proofs.Left.{IsLeft, left_tests}
+use Rattle.nf_turn.proofs.Left.{IsLeft}
 use Rattle.nf_turn.proofs.Whole.{has_so, ways}
-use Rattle.nf_turn.specs.Prelude.{has_number, having_joined, having_split, is_joined, is_left, IsWhole, longer, Numbers, numbers_of, split_from}
+use Rattle.nf_turn.specs.Prelude.{has_number, having_joined, having_split, is_joined, IsWhole, longer, Numbers, numbers_of, split_from}
 use Rattle.nf_turn.specs.declared.view.Memory.{Memory}
 use Rattle.nf_server.specs.Work.{InTurn, Visited, WorkBeside, Works}
 use Rattle.nf_server.specs.declared.door.Door.{Ghosts as DoorOf}
@@ -74,6 +74,32 @@ module _ {W : Type 0} where
           (ways (numbers_of m) n has);
     }
 
+-- what is left to a seat from which so many were split off and joined into it again: its own number, what it passed on last, and the
+-- numbers behind theirs
+pub record Numbered {W : Type 0} (m n : Memory W) (count : ℕ) : Type 0 where
+  pub number : n.number ≡ m.number
+  pub last : n.last ≡ m.last
+  pub left : n.left + count ≡ m.left
+  pub next : 0 < n.left → n.next ≡ m.next + count
+
+module _ {W : Type 0} (pick : W → W → W) (m mine others : Memory W) (count : ℕ) (its : numbers_of mine ≡ numbers_of (split_from m))
+    (rest : Numbered (having_split m) others count) (some : 0 < m.left) where
+  joined_numbers : Numbered m (having_joined pick others mine) (suc count)
+  joined_numbers =
+      let none : mine.left ≡ 0 = ap (λ (k : Numbers W). k.left) its in
+      let left : others.left + count ≡ m.left - 1 = rest.left in
+      record {
+        number = rest.number;
+        last = rest.last;
+        left = omega (arith, none, left, some);
+        next = λ more.
+            let all : 0 < others.left = omega (arith, more, none) in
+            let same : (if others.left == 0 then mine.next else others.next) ≡ others.next =
+            left_still others.left others.next mine.next others.next (omega arith) (omega (arith, all)) in
+            let behind : others.next ≡ (m.next + 1) + count = rest.next all in
+            omega (arith, same, behind);
+      }
+
 module _ {K S O C D : Type 0} (k : KeeperOf K) (s : EndsOf S) (o : EndsOf O) (reads : C → ℕ → C → Type 0) (door : DoorOf D S O) where
   numbers_stay : (m : Memory (Served K)) (c : C) (visits : List (Visited K S O C)) (n : Memory (Served K)) (d : C)
       → InTurn k s o reads m c visits n d → numbers_of n ≡ numbers_of m
@@ -101,3 +127,17 @@ module _ {K S O C D : Type 0} (k : KeeperOf K) (s : EndsOf S) (o : EndsOf O) (re
   work_begins connections m n (a ∷ before) [] result so = absurd so
   work_begins connections m n (a ∷ before) (b ∷ after) result (mine, others, one, rest, works, beside, is, ends) =
       ap (λ (x : Memory (Served K)). x.first) is ∙ work_begins connections (having_split m) others before after rest beside
+
+  pub work_numbers : (connections : ℕ) (m n : Memory (Served K)) (before after : List (Worker D C)) (result : Worked)
+      → WorkBeside (longer (meanings k)) (Works k s o reads door connections) m n before after result → length before ≤ m.left
+      → Numbered m n (length before)
+  work_numbers connections m n [] [] result so few =
+      subst (λ (x : Memory (Served K)). Numbered m x 0) (sym so.0)
+      (record { number = refl; last = refl; left = omega arith; next = λ some. omega arith })
+  work_numbers connections m n [] (b ∷ after) result so few = absurd so
+  work_numbers connections m n (a ∷ before) [] result so few = absurd so
+  work_numbers connections m n (a ∷ before) (b ∷ after) result (mine, others, one, rest, works, beside, is, ends) few =
+      subst (λ (x : Memory (Served K)). Numbered m x (suc (length before))) (sym is)
+      (joined_numbers (longer (meanings k)) m mine others (length before)
+      (numbers_stay (split_from m) a.clock works.visits mine b.clock works.in_turn)
+      (work_numbers connections (having_split m) others before after rest beside (omega (arith, few))) (omega (arith, few)))

@@ -1,5 +1,5 @@
 -- One worker's work, link by link.
-use Rattle.std.proofs.Common.{◌≡◌, ◌≢◌, ℕ, ◌+◌, ◌<◌, ◌≤◌, List, [], ◌∷◌, ◌++◌, refl, sym, ◌∙◌, ap, subst, inl, inr, arith, length, length-append, map, append-nil, append_assoc, Result, Ok, Err}
+use Rattle.std.proofs.Common.{◌≡◌, ◌≢◌, ℕ, ◌+◌, ◌<◌, List, [], ◌∷◌, ◌++◌, refl, sym, ◌∙◌, ap, subst, inl, inr, arith, length, length-append, map, append-nil, append_assoc, Ok}
 use Rattle.std.proofs.lemmas.List.{map-append}
 use Rattle.std.proofs.lemmas.List.Elements.{All-nil, All-push}
 use Rattle.std.specs.Prelude.{Option, None, Some, option_map}
@@ -11,7 +11,7 @@ use Rattle.nf_session.specs.declared.ended.Ended.{Ended}
 use Rattle.nf_session.specs.declared.ended.Ended.TheVariants.{RunFull as EndedFull}
 use Rattle.nf_turn.specs.declared.view.Memory.{Memory}
 use Rattle.nf_server.specs.Doors.{GivesLink, behind}
-use Rattle.nf_server.specs.Work.{EndsWork, GaveAndTook, HasNone, InTurn, NoneFull, ServesEnds, ServesNext, Visited, Works}
+use Rattle.nf_server.specs.Work.{GaveAndTook, HasNone, InTurn, NoneFull, ServesEnds, ServesNext, Visited, Works}
 use Rattle.nf_server.specs.declared.door.Door.{Ghosts as DoorOf}
 use Rattle.nf_server.specs.declared.link.Link.{Link}
 use Rattle.nf_server.specs.declared.workers.Worked.TheVariants as worked

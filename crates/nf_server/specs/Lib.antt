@@ -1,4 +1,5 @@
 pub mod Doors
 pub mod Links
 pub mod Posts
+pub mod Together
 pub mod Work

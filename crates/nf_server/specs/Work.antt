@@ -1,7 +1,6 @@
 -- What workers do: each serves the links of its door, one after the other, through a seat of its own.
 use Rattle.std.specs.Prelude.{◌≡◌, ◌⊎◌, ℕ, ◌<◌, ◌≤◌, All, ◌≢◌, List, [], ◌∷◌, ◌++◌, length, map, Option, None, Some, option_map}
-use Rattle.std.specs.declared.snapshot.Snapshot.{Snapshot}
-use Rattle.nf_desk.specs.Desk.{Served}
+use Rattle.nf_desk.specs.Desk.{Served, meanings}
 use Rattle.nf_hub.specs.Seats.{book_in, steady}
 use Rattle.nf_keeper.specs.declared.keeper.Keeper.{Ghosts as KeeperOf}
 use Rattle.nf_outside.specs.Causes.{Rose}
@@ -9,7 +8,7 @@ use Rattle.nf_outside.specs.declared.traits.Ends.{Ghosts as EndsOf}
 use Rattle.nf_session.specs.Prelude.{entries_wanted, Session}
 use Rattle.nf_session.specs.declared.ended.Ended.{Ended}
 use Rattle.nf_session.specs.declared.ended.Ended.TheVariants.{RunFull as EndedFull}
-use Rattle.nf_turn.specs.Memory.{having_joined, having_split, split_from}
+use Rattle.nf_turn.specs.Prelude.{HasHeard, having_joined, having_split, split_from}
 use Rattle.nf_turn.specs.declared.view.Memory.{Memory}
 use Rattle.nf_words.specs.History.{most_entries}
 use Rattle.nf_server.specs.Links.{scene_at}
@@ -35,6 +34,8 @@ module _ {K S O C : Type 0} (k : KeeperOf K) (s : EndsOf S) (o : EndsOf O) (read
     pub few : length kept ≤ 8192
     pub session : Session reads (scene_at s o (book_in k m) [] before.source before.sink c) (scene_at s o (book_in k n) kept after.source after.sink d) ended
     pub full : ended ≡ Some EndedFull → most_entries < entries_wanted (book_in k n)
+    -- what the seat knows begins with what it passed on last, and has all its entries
+    pub told : HasHeard (meanings k) n
 
   -- these links were served one after the other, each from what the one before it left
   abbrev pub InTurn : Memory (Served K) → C → List (Visited K S O C) → Memory (Served K) → C → Type 0

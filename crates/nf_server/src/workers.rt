@@ -7,7 +7,7 @@ ghost use Rattle.nf_server.specs.Work.{ServesNext, WorkBeside, Works, both as of
 ghost use Rattle.nf_server.specs.declared.workers.Worked.{Worked};
 ghost use Rattle.nf_session.specs.Book.{held};
 ghost use Rattle.nf_session.specs.declared.ended.Ended.TheVariants as ends;
-ghost use Rattle.nf_turn.specs.Prelude.{longer, numbers};
+ghost use Rattle.nf_turn.specs.Prelude.{IsWhole, longer, numbers};
 ghost use Rattle.nf_desk.specs.Desk.{meanings};
 ghost use denote.Param.Send.{IsSend, IsSync};
 
@@ -82,6 +82,8 @@ where
     ensures idle { held (book K.Keeper hub.now result.1) ≡ None }
     ensures work { WorkBeside (longer (meanings K.Keeper)) (Works K.Keeper D.Source.Ends D.Sink.Ends C.reads D.Door connections)
         (memory_of K.Keeper hub.now seat) (memory_of K.Keeper hub.now result.1) workers.old workers.new result.0 }
+    // A seat from which no other was out has all numbers again.
+    ensures whole { IsWhole (numbers seat.turns) → IsWhole (numbers result.1.turns) }
 {
     let mut post = Post {
         rt,

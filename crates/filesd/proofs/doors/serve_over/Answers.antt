@@ -3,10 +3,10 @@ use Rattle.nf_desk.specs.Desk.{Served}
 use Rattle.nf_hub.specs.Seats.{book_in, memory_of}
 use Rattle.nf_server.proofs.Spanning.{work_begins}
 use Rattle.nf_session.specs.Book.{held}
-use Rattle.nf_turn.specs.Memory.{of_the_first}
+use Rattle.nf_turn.specs.Prelude.{numbers_of, of_the_first}
 use Rattle.nf_turn.specs.declared.view.Memory.{Memory}
-use Rattle.filesd.proofs.Closing.{closing_leaves, closing_pays}
-use Rattle.filesd.proofs.Working.{has_left, whole_again, work_of}
+use Rattle.filesd.proofs.Closing.{closing_leaves, closing_pays, seat_is_whole}
+use Rattle.filesd.proofs.Working.{has_left, work_of}
 use Rattle.filesd.proofs.Sole.{first_idle}
 use Rattle.filesd.proofs.doors.serve_over.Goals as goal
 
@@ -21,10 +21,9 @@ serve-worked-requires-clause-few g c = λ κs within.
 
 pub close-site-requires-clause-whole : goal.close-site-requires-clause-whole
 close-site-requires-clause-whole g c =
-    let work = work_of g.K.Keeper g.D.Source.Ends g.D.Sink.Ends g.W.Clock.reads g.D.Door c.args.connections _ _ c.args.desk _ _
-    c.serve-worked.result.0 c.in-Ok.ensures.memory c.serve-worked.ensures.work in
-    whole_again g.K.Keeper g.D.Source.Ends g.D.Sink.Ends g.W.Clock.reads g.D.Door c.args.connections c.in-Ok.hub c.serve-worked.result.1
-    c.args.desk _ _ c.serve-worked.result.0 work
+    c.serve-worked.ensures.whole
+    (seat_is_whole g.K.Keeper c.in-Ok.hub c.in-Ok.seat c.args.desk
+    (ap (λ (m : Memory (Served g.row.K.Denot)). numbers_of m) c.in-Ok.ensures.memory))
 
 pub returns-in-Ok-clause-serves : goal.returns-in-Ok-clause-serves
 returns-in-Ok-clause-serves g c =
@@ -33,6 +32,7 @@ returns-in-Ok-clause-serves g c =
       result = c.serve-worked.result.0;
       work = work_of g.K.Keeper g.D.Source.Ends g.D.Sink.Ends g.W.Clock.reads g.D.Door c.args.connections _ _ c.args.desk _ _
           c.serve-worked.result.0 c.in-Ok.ensures.memory c.serve-worked.ensures.work;
+      heard = c.serve-worked.ensures.seat.told;
       closes = c.close-site.ensures.closes;
       status_is = c.status_of_workers.ensures;
     })

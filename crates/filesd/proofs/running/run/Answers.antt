@@ -16,6 +16,7 @@ use Rattle.filesd.proofs.Beginning.{inits_beside, rows_are}
 use Rattle.filesd.proofs.Ending.{batch_well, init_well, serve_well}
 use Rattle.filesd.proofs.Working.{Says, runs_say}
 use Rattle.filesd.proofs.OneFile.{serves_one}
+use Rattle.filesd.proofs.Safe.{batch_keeps, init_keeps, serve_keeps}
 use Rattle.filesd.proofs.Serving.{runs_read, runs_write}
 use Rattle.filesd.proofs.running.run.Goals as goal
 
@@ -81,3 +82,19 @@ returns-in-Ok-Some-Serve-clause-door g c = λ is.
     c.args.workers.now c.serve_doors.new.workers s) is
     (runs_say g.K.Keeper g.D.Source.Ends g.D.Sink.Ends g.W.Clock.reads g.D.Door c.in-Ok-Some-Serve.connections c.args.keeper
     c.serve_doors.result.keeper _ _ c.serve_doors.result.status c.serve_doors.result.site c.serve_doors.ensures.runs)
+
+pub returns-in-Ok-Some-Batch-clause-safe : goal.returns-in-Ok-Some-Batch-clause-safe
+returns-in-Ok-Some-Batch-clause-safe g c =
+    batch_keeps g.C.Clock.reads _ _ c.batch.result.status c.batch.result.site c.batch.ensures.runs c.batch.ensures.leaves
+
+pub returns-in-Ok-Some-Init-clause-safe : goal.returns-in-Ok-Some-Init-clause-safe
+returns-in-Ok-Some-Init-clause-safe g c =
+    let init = c.in-Ok-Some-Init.init in
+    init_keeps init.name init.token init.quota _ _ c.initialize.result.status c.initialize.result.site c.initialize.ensures.inits
+    c.initialize.ensures.leaves
+
+pub returns-in-Ok-Some-Serve-clause-safe : goal.returns-in-Ok-Some-Serve-clause-safe
+returns-in-Ok-Some-Serve-clause-safe g c =
+    serve_keeps g.K.Keeper g.D.Source.Ends g.D.Sink.Ends g.W.Clock.reads g.D.Door c.in-Ok-Some-Serve.connections c.args.keeper
+    c.serve_doors.result.keeper c.args.workers.now c.serve_doors.new.workers c.serve_doors.result.status c.serve_doors.result.site
+    c.serve_doors.ensures.runs c.serve_doors.ensures.leaves

@@ -10,7 +10,9 @@ use Rattle.nf_keeper.specs.declared.keeper.Keeper.{Ghosts}
 use Rattle.nf_server.specs.contracts.workers.Post as Post
 use Rattle.nf_server.specs.Work.{WorkBeside, Works}
 use Rattle.nf_server.proofs.Posting.{LentHub, beside_seats, knew_once, posted}
-use Rattle.nf_turn.specs.Memory.{longer}
+use Rattle.nf_server.proofs.Spanning.{whole_still, work_spans}
+use Rattle.nf_turn.proofs.Poses.{numbers_known}
+use Rattle.nf_turn.specs.Prelude.{IsWhole, longer, Numbers, numbers_of}
 use Rattle.nf_turn.specs.declared.view.Memory.{Memory}
 use Rattle.nf_server.proofs.workers.serve.Goals as goal
 
@@ -40,3 +42,13 @@ returns-clause-work g c =
     (knew_once g.K.Keeper place down.0 (memory_of g.K.Keeper place.hub.now c.into_seat.result) down.1 (c.into_seat.result, c.into_seat.ensures.same, refl)
     ∙ ap (λ (h : LentHub g.K.Keeper). memory_of g.K.Keeper h.now c.into_seat.result) down.2.hub)
     down.3
+
+pub returns-clause-whole : goal.returns-clause-whole
+returns-clause-whole g c = λ whole.
+    let m = memory_of g.K.Keeper c.args.hub.now c.args.seat in
+    let n = memory_of g.K.Keeper c.args.hub.now c.into_seat.result in
+    subst (λ (all : Numbers (Served g.row.K.Denot)). IsWhole all) (numbers_known _ c.into_seat.result.turns.place.me)
+    (whole_still (numbers_of m) (numbers_of n)
+    (work_spans g.K.Keeper g.D.Source.Ends g.D.Sink.Ends g.C.Clock.reads g.D.Door c.args.connections m n c.args.workers.now c.all-worked.new.workers
+    c.all-worked.result (returns-clause-work g c))
+    (subst (λ (all : Numbers (Served g.row.K.Denot)). IsWhole all) (sym (numbers_known _ c.args.seat.turns.place.me)) whole))

@@ -11,6 +11,7 @@ returns-clause-serves g c =
         few = said.session.1;
         session = said.session.2;
         full = said.full;
+        told = said.seat.told;
       };
       back = c.back.ensures.served;
       coming = c.back.ensures.coming;

@@ -1,0 +1,198 @@
+-- A run over a safe store leaves a safe one, and nothing is damaged at any of its messages.
+use Rattle.std.proofs.Common.{◌≡◌, ◌≢◌, ◌⊎◌, ⊎_elim, ℕ, List, [], ◌∷◌, refl, sym, ◌∙◌, ap, subst, inl, inr, arith}
+use Rattle.std.specs.Prelude.{Option, None, Some, IfSome, length}
+use Rattle.std.specs.declared.snapshot.Snapshot.{Snapshot}
+use Rattle.std.proofs.lemmas.List.Elements.{All-nil}
+use Rattle.std.proofs.lemmas.Option.{same_Some}
+use Rattle.nf_base.specs.declared.content.Piece.{Piece}
+use Rattle.nf_base.specs.declared.rows.Row.{Row}
+use Rattle.nf_command.specs.First.{first_rows}
+use Rattle.nf_defs.specs.Prelude.{Blobs}
+use Rattle.nf_desk.specs.Desk.{Served, blobs_in, first_blob_of, meanings}
+use Rattle.nf_desk.specs.Opened.{Opens, first_of, told_first}
+use Rattle.nf_desk.specs.declared.first.First.{First}
+use Rattle.nf_desk.specs.declared.first.Opening.TheVariants.{Kept as OverKept}
+use Rattle.nf_hub.specs.Seats.{book_in}
+use Rattle.nf_keeper.specs.declared.keeper.Keeper.{Ghosts as KeeperOf}
+use Rattle.nf_laws.specs.Wholes.{IsDamaged, IsNamed, IsSafe, IsThere}
+use Rattle.nf_outside.specs.declared.traits.Ends.{Ghosts as EndsOf}
+use Rattle.nf_rows.specs.Spelling.{Raw}
+use Rattle.nf_rules.specs.Rules.{AreUnbroken}
+use Rattle.nf_server.proofs.Spanning.{work_begins}
+use Rattle.nf_server.specs.Work.{InTurn, Visited, WorkBeside, Works}
+use Rattle.nf_server.specs.declared.door.Door.{Ghosts as DoorOf}
+use Rattle.nf_server.specs.declared.workers.Worked.{Worked}
+use Rattle.nf_server.specs.declared.workers.Worked.TheVariants as worked
+use Rattle.nf_server.specs.declared.workers.Worker.{Worker}
+use Rattle.nf_session.proofs.Causes.{session_follows}
+use Rattle.nf_session.specs.Prelude.{Book, TellsStill}
+use Rattle.nf_site.specs.Held.{Held}
+use Rattle.nf_site.specs.Kept.{Kept, opened_over}
+use Rattle.nf_told.specs.Told.{Told}
+use Rattle.nf_turn.specs.Prelude.{having_split, longer, of_the_first, split_from}
+use Rattle.nf_turn.specs.declared.view.Memory.{Memory}
+use Rattle.nf_words.specs.Prelude.{IsLegal, opened, replay, State}
+use Rattle.nf_words.specs.declared.history.Entry.{Entry}
+use Rattle.nf_words.specs.declared.history.Ticket.{Ticket}
+use Rattle.filesd.specs.Doors.{IsServed, IsShut, RunsDoors, ServesDesk, ServesDoors, status_of_work}
+use Rattle.filesd.specs.Ending.{IsEmptyStore, IsSafeStore}
+use Rattle.filesd.specs.Init.{Inits}
+use Rattle.filesd.specs.Next.{AreUndamaged, BatchBeginsWhole, IsGoodStore, IsUndamaged, KeepsSafe, ServeBeginsWhole, VisitsBeginWhole, WorkBeginsWhole}
+use Rattle.filesd.specs.Opening.{told_opened}
+use Rattle.filesd.specs.Opening as opening
+use Rattle.filesd.specs.Outside.{Outside}
+use Rattle.filesd.specs.Reopening.{Leaves}
+use Rattle.filesd.specs.Seat.{book_of}
+use Rattle.filesd.specs.Session.{Runs, Serves, first_book, scene_of}
+use Rattle.filesd.specs.declared.status.Status.{Status}
+use Rattle.filesd.specs.declared.status.Status.TheVariants as exit
+use Rattle.filesd.proofs.Spelled.{loaded_is, missing_never, opened_so}
+use Rattle.filesd.proofs.Whole.{each_has, has_safe, left_is_safe, opened_safe, stay_whole, undamaged, undamaged_on, undamaged_still}
+
+-- ---- what is left
+
+pub same_keeps : (before after : Option Told) → after ≡ before → KeepsSafe before after
+same_keeps before after same = record {
+  safe = λ good. subst (λ (told : Option Told). IsSafeStore told) (sym same) good;
+  empty = λ none. inl (subst (λ (told : Option Told). IsEmptyStore told) (sym same) none);
+}
+
+leaves_safe : (k : Kept) (told : Option Told) → Leaves k told → (shelf : Blobs) → blobs_in told ≡ Some shelf
+    → ((piece : Piece) → IsDamaged k.opening shelf piece → ⊥) → IsSafeStore told
+leaves_safe k None leaves shelf tells none = absurd (cc)
+leaves_safe k (Some it) leaves shelf tells none =
+    left_is_safe k it leaves (λ piece damaged. none piece (subst (λ (z : Blobs). IsDamaged k.opening z piece) (same_Some it.blobs shelf tells) damaged))
+
+undamaged_safe : (k : Kept) (told : Option Told) → Leaves k told → AreUndamaged k.opening (blobs_in told) → IsSafeStore told
+undamaged_safe k told leaves are = leaves_safe k told leaves are.shelf are.tells are.none
+
+-- ---- `batch`
+
+pub batch_begins : {C : Type 0} (reads : C → ℕ → C → Type 0) → BatchBeginsWhole reads
+batch_begins reads a b status site serves good =
+    let begun : (shelf : Blobs) × ((blobs_in (told_opened serves.raws a.told) ≡ Some shelf) × IsSafe serves.rows shelf) =
+    opened_safe a.told serves.raws serves.rows good serves.loaded serves.opens in
+    undamaged serves.rows (blobs_in (told_opened serves.raws a.told)) begun.0 serves.unbroken begun.1.0 begun.1.1
+
+pub batch_keeps : {C : Type 0} (reads : C → ℕ → C → Type 0) (a b : Outside C) (status : Status) (site : Option Held)
+    → Runs reads a b status site → IfSome site (λ site. Leaves site.kept b.told) → KeepsSafe a.told b.told
+batch_keeps {C} reads a b status None unopened leaves = same_keeps a.told b.told (ap (λ (o : Outside C). o.told) unopened.untouched)
+batch_keeps reads a b status (Some site) serves leaves = record {
+  safe = λ good. here (inr good);
+  empty = λ none. inr (here (inl none));
+}
+  where
+    here : IsGoodStore a.told → IsSafeStore b.told
+    here good =
+        let first = first_book serves.rows (told_opened serves.raws a.told) a.faults in
+        let last = book_of site.kept b.told b.faults in
+        undamaged_safe site.kept b.told leaves
+        ((stay_whole reads).1 (scene_of a [] first) (scene_of b serves.kept last) serves.end serves.session (batch_begins reads a b status site serves good))
+
+-- ---- `init`
+
+init_undamaged : (name digest : List ℕ) (quota : ℕ) (shelf : Blobs) (piece : Piece) → IsDamaged (first_rows name digest quota) shelf piece → ⊥
+init_undamaged name digest quota shelf piece damaged =
+    damaged.broken (has_safe (first_rows name digest quota) shelf
+    (each_has shelf (first_rows name digest quota) (tt, (tt, (tt, (tt, (tt, (All-nil (IsThere shelf), tt))))))) piece damaged.named)
+
+pub init_keeps : {C : Type 0} (name digest : List ℕ) (quota : ℕ) (a b : Outside C) (status : Status) (site : Option Held)
+    → Inits (first_rows name digest quota) a b status site → IfSome site (λ site. Leaves site.kept b.told) → KeepsSafe a.told b.told
+init_keeps {C} name digest quota a b status None unopened leaves = same_keeps a.told b.told (ap (λ (o : Outside C). o.told) unopened.untouched)
+init_keeps name digest quota a b status (Some site) begins leaves = record {
+  safe = λ good. absurd (missing_never a.told good.it good.rows good.tells good.spelled good.unbroken [] begins.loaded refl);
+  empty = λ none. inr (here none.0 none.1);
+}
+  where
+    here : (it : Told) → a.told ≡ Some it → IsSafeStore b.told
+    here it tells =
+        let told = begins.told ∙ ap (λ (t : Option Told). opening.told_first (first_rows name digest quota) None t) tells in
+        leaves_safe site.kept b.told leaves it.blobs (ap blobs_in told)
+        (λ piece damaged. init_undamaged name digest quota it.blobs piece
+        (subst (λ (k : Kept). IsDamaged k.opening it.blobs piece) begins.site damaged))
+
+-- ---- `serve`
+
+module _ {K I A C D : Type 0} (k : KeeperOf K) (i : EndsOf I) (a : EndsOf A) (reads : C → ℕ → C → Type 0) (door : DoorOf D I A) where
+  -- what a desk is opened over is what the keeper tells
+  told_kept : (raws : List Raw) (first : First) (told : Option Told) → raws ≢ [] → told_first first raws told ≡ told
+  told_kept [] first told some = absurd (some refl)
+  told_kept (raw ∷ raws) first told some = refl
+
+  module _ (connections : ℕ) (keeper left : K) (before after : List (Worker D C)) (status : Status) (site : Held)
+      (runs : ServesDoors k i a reads door connections keeper left before after status site) where
+    opened_told : k.told runs.desk.keeper ≡ k.told keeper
+    opened_told = runs.opens.told ∙ told_kept runs.opens.raws (first_of OverKept) (k.told keeper) (runs.opens.kept tt)
+
+    desk_undamaged : IsSafeStore (k.told keeper) → AreUndamaged runs.desk.site.kept.opening (blobs_in (k.told runs.desk.keeper))
+    desk_undamaged good =
+        let same : runs.desk.site.kept.opening ≡ good.rows =
+        opened_so (k.told keeper) good.it good.rows good.tells good.spelled good.unbroken [] runs.opens.raws runs.desk.site.kept.opening
+        runs.opens.loaded runs.opens.rows in
+        undamaged runs.desk.site.kept.opening (blobs_in (k.told runs.desk.keeper)) good.it.blobs runs.unbroken
+        (ap blobs_in (opened_told ∙ good.tells)) (λ piece named. good.safe piece (subst (λ (rows : List Row). IsNamed rows piece) same named))
+
+    module _ (served : IsServed k i a reads door connections runs.desk left before after status site) where
+      pub first_is : served.memory.first ≡ runs.desk
+      first_is = work_begins k i a reads door connections (of_the_first 64 runs.desk) served.memory before after served.result served.work
+
+      pub opening_same : (meanings k).opening served.closes.desk ≡ (meanings k).opening runs.desk
+      opening_same = served.closes.agrees.opening ∙ ap (meanings k).opening first_is
+
+      -- the rows stay, and what was told at the opening is told still
+      site_undamaged : IsSafeStore (k.told keeper) → AreUndamaged site.kept.opening (blobs_in (k.told left))
+      site_undamaged good =
+          let desk = served.closes.desk in
+          let rows : desk.site.kept.opening ≡ runs.desk.site.kept.opening = ap (λ (o : List Row × Snapshot K). o.0) opening_same in
+          let start : desk.start.value ≡ runs.desk.keeper = ap (λ (o : List Row × Snapshot K). o.1.value) opening_same ∙ runs.start in
+          let begun : AreUndamaged desk.site.kept.opening (blobs_in (k.told desk.start.value)) =
+          subst (λ (z : K). AreUndamaged desk.site.kept.opening (blobs_in (k.told z))) (sym start)
+          (subst (λ (these : List Row). AreUndamaged these (blobs_in (k.told runs.desk.keeper))) (sym rows) (desk_undamaged good)) in
+          let now : AreUndamaged desk.site.kept.opening (blobs_in (k.told desk.keeper)) =
+          undamaged_still desk.site.kept.opening (first_blob_of desk.site.kept.opening) (blobs_in (k.told desk.start.value)) (blobs_in (k.told desk.keeper))
+          (omega arith) served.closes.is_desk.since begun in
+          subst (λ (z : K). AreUndamaged site.kept.opening (blobs_in (k.told z))) (sym served.closes.keeper_is)
+          (subst (λ (h : Held). AreUndamaged h.kept.opening (blobs_in (k.told desk.keeper))) (sym served.closes.site_is) now)
+
+    desk_keeps : IsSafeStore (k.told keeper) → Leaves site.kept (k.told left)
+        → ServesDesk k i a reads door connections runs.desk left before after status (Some site) → IsSafeStore (k.told left)
+    desk_keeps good leaves (inl none) =
+        subst (λ (told : Option Told). IsSafeStore told) (sym (ap (λ (z : K). k.told z) none.keeper_is ∙ opened_told)) good
+    desk_keeps good leaves (inr served) = undamaged_safe site.kept (k.told left) leaves (site_undamaged served good)
+
+  pub serve_keeps : (connections : ℕ) (keeper left : K) (before after : List (Worker D C)) (status : Status) (site : Option Held)
+      → RunsDoors k i a reads door connections keeper left before after status site → IfSome site (λ site. Leaves site.kept (k.told left))
+      → KeepsSafe (k.told keeper) (k.told left)
+  serve_keeps connections keeper left before after status None shut leaves = same_keeps (k.told keeper) (k.told left) shut.told
+  serve_keeps connections keeper left before after status (Some site) runs leaves = record {
+    safe = λ good. desk_keeps connections keeper left before after status site runs good leaves runs.serves;
+    empty = λ none. absurd (runs.opens.kept tt (loaded_is (k.told keeper) none.0 runs.opens.raws none.1 runs.opens.loaded ∙ none.2));
+  }
+
+  -- ---- at each of its sessions
+
+  visits_whole : (m : Memory (Served K)) (c : C) (visits : List (Visited K I A C)) (n : Memory (Served K)) (d : C)
+      → InTurn k i a reads m c visits n d → IsUndamaged (book_in k m) → VisitsBeginWhole k i a reads door (book_in k m) visits
+  visits_whole m c [] n d so are = tt
+  visits_whole m c (v ∷ visits) n d so are = (
+    are,
+    visits_whole v.memory v.clock visits n d so.1 ((stay_whole reads).1 _ _ v.ended so.0.session are),
+  )
+
+  work_whole : (connections : ℕ) (first : Served K) → AreUndamaged first.site.kept.opening (blobs_in (k.told first.keeper))
+      → (m n : Memory (Served K)) (before after : List (Worker D C)) (result : Worked)
+      (work : WorkBeside (longer (meanings k)) (Works k i a reads door connections) m n before after result) → m.known ≡ first
+      → WorkBeginsWhole k i a reads door connections m n before after result work
+  work_whole connections first are m n [] [] result work known = tt
+  work_whole connections first are m n [] (w ∷ after) result work known = work
+  work_whole connections first are m n (v ∷ before) [] result work known = work
+  work_whole connections first are m n (v ∷ before) (w ∷ after) result (mine, others, one, rest, works, beside, knows, ends) known = (
+    visits_whole (split_from m) v.clock works.visits mine w.clock works.in_turn
+        (subst (λ (x : Served K). AreUndamaged x.site.kept.opening (blobs_in (k.told x.keeper))) (sym known) are),
+    work_whole connections first are (having_split m) others before after rest beside known,
+  )
+
+  pub serve_begins : ServeBeginsWhole k i a reads door
+  serve_begins connections keeper left before after status site runs served good =
+      work_whole connections runs.desk (desk_undamaged connections keeper left before after status site runs good) (of_the_first 64 runs.desk)
+      served.memory before after served.result served.work refl

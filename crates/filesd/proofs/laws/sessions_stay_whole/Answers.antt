@@ -1,0 +1,5 @@
+use Rattle.filesd.proofs.Whole.{stay_whole}
+use Rattle.filesd.proofs.laws.sessions_stay_whole.Goals as goal
+
+pub returns : goal.returns
+returns g c = stay_whole g.C.Clock.reads
