@@ -8,6 +8,7 @@ use Rattle.nf_session.specs.Prelude.{Book, Scene}
 abbrev pub scene_at : {S O C : Type 0} → EndsOf S → EndsOf O → Book → List ℕ → S → O → C → Scene C
 scene_at s o book kept input output clock = record {
   input = stream kept (s.left input);
+  kept = kept;
   output = o.written output;
   book = book;
   clock = clock;

@@ -6,7 +6,7 @@ use Rattle.nf_base.specs.declared.content.Piece.{Piece}
 use Rattle.nf_http.specs.Bodies.{TakesBody, CutsBody, CutsRead}
 use Rattle.nf_http.specs.Filling.{HasReadCause}
 use Rattle.nf_http.specs.Head.{Head, length_of, expects_continue}
-use Rattle.nf_http.specs.Next.{IsNext}
+use Rattle.nf_http.specs.Next.{IsNext, IsShownBy}
 use Rattle.nf_http.specs.declared.wire.WireFault.{WireFault}
 use Rattle.nf_http.specs.declared.wire.WireFault.TheVariants as wire
 use Rattle.nf_words.specs.declared.answer.Denial.{Denial}
@@ -29,9 +29,10 @@ use Rattle.nf_session.specs.declared.response.Response.{Response}
 use Rattle.nf_session.specs.declared.response.Response.TheVariants as response
 
 -- all that a session touches: the bytes that are left to read and those that were written, where they are told, what the
--- seat knows, the clock, and how often each end failed
+-- seat knows, the clock, and how often each end failed; and of the bytes that are left, those that were read and not yet taken
 pub record Scene (C : Type 0) : Type 0 where
   pub input : Option (List ℕ)
+  pub kept : List ℕ
   pub output : Option (List ℕ)
   pub book : Book
   pub clock : C
@@ -39,7 +40,7 @@ pub record Scene (C : Type 0) : Type 0 where
   pub write_faults : ℕ
 
 abbrev pub OnlyReads : {C : Type 0} → Scene C → Scene C → Type 0
-OnlyReads a b = b ≡ record a { input = b.input; read_faults = b.read_faults }
+OnlyReads a b = b ≡ record a { input = b.input; kept = b.kept; read_faults = b.read_faults }
 
 abbrev pub OnlyWrites : {C : Type 0} → Scene C → Scene C → Type 0
 OnlyWrites a b = b ≡ record a { output = b.output; write_faults = b.write_faults }
@@ -49,15 +50,16 @@ OnlyAsks a b = b ≡ record a { book = b.book; clock = b.clock }
 
 -- ---- reading
 
--- what stands at the front of the input was taken, or told
+-- what stands at the front of the input was taken, or told; what is kept then shows a fault, also where the input isn't told
 pub record Heads {C : Type 0} (a b : Scene C) (result : Result (Option Head) WireFault) : Type 0 where
   pub only : OnlyReads a b
   pub next : IsNext a.input b.input result
+  pub shown : IsShownBy b.kept result
   pub cause : HasReadCause a.read_faults b.read_faults result
 
 -- a body of n bytes was taken
 pub record Bodies {C : Type 0} (a b : Scene C) (n : ℕ) (body : List ℕ) : Type 0 where
-  pub only : b ≡ record a { input = b.input }
+  pub only : b ≡ record a { input = b.input; kept = b.kept }
   pub taken : TakesBody a.input b.input n body
 
 abbrev pub Skips : {C : Type 0} → Scene C → Scene C → ℕ → Type 0
