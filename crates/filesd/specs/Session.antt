@@ -25,6 +25,7 @@ scene_of outside kept book = record {
   input = stream kept outside.left;
   kept = kept;
   output = outside.written;
+  answers = outside.begun;
   book = book;
   clock = outside.clock;
   read_faults = outside.read_faults;

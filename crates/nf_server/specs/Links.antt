@@ -10,6 +10,7 @@ scene_at s o book kept input output clock = record {
   input = stream kept (s.left input);
   kept = kept;
   output = o.written output;
+  answers = o.begun output;
   book = book;
   clock = clock;
   read_faults = s.read_faults input;

@@ -13,6 +13,7 @@ between s o b kept input output clock backend = record {
   input = stream kept (s.left input);
   kept = kept;
   output = o.written output;
+  answers = o.begun output;
   book = b.book backend;
   clock = clock;
   read_faults = s.read_faults input;
