@@ -34,6 +34,7 @@ abbrev pub beside : {C : Type 0} → Option (List ℕ) → ℕ → C → Outside
 beside left faults clock a = record {
   left = left;
   written = a.written;
+  begun = a.begun;
   read_faults = faults;
   write_faults = a.write_faults;
   clock = clock;
@@ -60,6 +61,7 @@ inits_beside left faults clock rows a b status (Some site) begins = record {
   site = begins.site;
   writes = writes_beside left faults clock a b status begins.writes;
   left = refl;
+  begun = begins.begun;
   read_faults = refl;
   clock = refl;
 }

@@ -35,6 +35,7 @@ pub record Begins {C : Type 0} (rows : List Row) (a b : Outside C) (status : Sta
   pub site : held.kept ≡ opened_over rows
   pub writes : Writes a b status
   pub left : b.left ≡ a.left
+  pub begun : b.begun ≡ a.begun
   pub read_faults : b.read_faults ≡ a.read_faults
   pub clock : b.clock ≡ a.clock
 

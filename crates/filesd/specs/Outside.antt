@@ -4,11 +4,12 @@ use Rattle.nf_keeper.specs.declared.keeper.Keeper.{Ghosts as KeeperOf}
 use Rattle.nf_outside.specs.declared.traits.Ends.{Ghosts as EndsOf}
 use Rattle.nf_told.specs.Told.{Told}
 
--- the bytes that are left and those that were written, and the rows and blobs that are kept, where they are told; how often each
--- failed; and the clock
+-- the bytes that are left and those that were written, the method and target of each answer that was begun, and the rows and blobs
+-- that are kept, where they are told; how often each failed; and the clock
 pub record Outside (C : Type 0) : Type 0 where
   pub left : Option (List ℕ)
   pub written : Option (List ℕ)
+  pub begun : Option (List (List ℕ × List ℕ))
   pub read_faults : ℕ
   pub write_faults : ℕ
   pub clock : C
@@ -20,6 +21,7 @@ abbrev pub outside : {S O K C : Type 0} → EndsOf S → EndsOf O → KeeperOf K
 outside s o k input output keeper clock = record {
   left = s.left input;
   written = o.written output;
+  begun = o.begun output;
   read_faults = s.read_faults input;
   write_faults = o.write_faults output;
   clock = clock;
@@ -36,6 +38,7 @@ abbrev pub outlet : {O K : Type 0} → EndsOf O → KeeperOf K → O → K → O
 outlet o k output keeper = record {
   left = None;
   written = o.written output;
+  begun = o.begun output;
   read_faults = 0;
   write_faults = o.write_faults output;
   clock = tt;

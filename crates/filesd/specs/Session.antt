@@ -23,7 +23,9 @@ use Rattle.filesd.specs.declared.status.Status.TheVariants as exit
 abbrev pub scene_of : {C : Type 0} → Outside C → List ℕ → Book → Scene C
 scene_of outside kept book = record {
   input = stream kept outside.left;
+  kept = kept;
   output = outside.written;
+  answers = outside.begun;
   book = book;
   clock = outside.clock;
   read_faults = outside.read_faults;

@@ -119,6 +119,8 @@ impl<O: Sink + Drop> Ends for LoggedSink<O> {
 
     ghost written = { λ sink. O.written sink.inner };
 
+    ghost begun = { λ sink. O.begun sink.inner };
+
     ghost read_faults = { λ sink. O.read_faults sink.inner };
 
     ghost write_faults = { λ sink. O.write_faults sink.inner };

@@ -34,6 +34,8 @@ impl Keeper for FileKeeper {
 
     ghost faults = { λ keeper. ⟦<SqlKeeper<FileStore<File>> as Keeper>⟧.faults keeper.inner.value };
 
+    ghost calls = { λ keeper. ⟦<SqlKeeper<FileStore<File>> as Keeper>⟧.calls keeper.inner.value };
+
     fn load(&mut self) -> Result<RawRows, KeepFault> {
         self.inner.load()
     }

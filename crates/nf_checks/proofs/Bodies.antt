@@ -97,7 +97,7 @@ pub bodies_same : {C : Type 0} (a b c d : Scene C) (n : ℕ) (p q : List ℕ)
 bodies_same a b c d n p q s x y =
     let taken : (p ≡ q) × TellSame b.input d.input = told_taken a.input b.input c.input d.input n p q s.input x.taken y.taken in (
       taken.0,
-      same_self (record a { input = b.input }) b (record c { input = d.input }) d
+      same_self (record a { input = b.input; kept = b.kept }) b (record c { input = d.input; kept = d.kept }) d
           (record { input = taken.1; output = s.output; book = s.book; clock = s.clock }) x.only y.only,
     )
 

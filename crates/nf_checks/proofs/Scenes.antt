@@ -37,8 +37,9 @@ same_back a c s = record {
 
 -- nothing but the input was touched
 pub same_reads : {C : Type 0} (a b c d : Scene C) → AreSame a c → OnlyReads a b → OnlyReads c d → TellSame b.input d.input → AreSame b d
-same_reads a b c d s p q input = same_self (record a { input = b.input; read_faults = b.read_faults }) b
-    (record c { input = d.input; read_faults = d.read_faults }) d
+same_reads a b c d s p q input =
+    same_self (record a { input = b.input; kept = b.kept; answers = b.answers; read_faults = b.read_faults }) b
+    (record c { input = d.input; kept = d.kept; answers = d.answers; read_faults = d.read_faults }) d
     (record { input = input; output = s.output; book = s.book; clock = s.clock }) p q
 
 -- ---- heads

@@ -16,7 +16,7 @@ use Rattle.nf_keeper.specs.declared.keeper.KeepFault.{KeepFault}
 use Rattle.nf_keeper.specs.declared.keeper.KeepFault.TheVariants.{Failed, Memory}
 use Rattle.nf_laws.specs.Wholes.{IsDamaged, IsGoalHeld, IsHeld, IsThere}
 use Rattle.nf_rules.specs.Rules.{AreUnbroken}
-use Rattle.nf_session.specs.Book.{Book, GivesOrFails, GivesPiece, TellsDamage, TellsPiece, TellsStill, held, measured, next_blob_of}
+use Rattle.nf_session.specs.Book.{Book, GivesOrFails, GivesPiece, IsDamage, TellsDamage, TellsPiece, TellsStill, held, measured, next_blob_of}
 use Rattle.nf_session.specs.declared.backend.PieceFault.{PieceFault}
 use Rattle.nf_session.specs.declared.backend.PieceFault.TheVariants as fault
 use Rattle.nf_site.specs.Kept.{IsHistory}
@@ -29,7 +29,7 @@ use Rattle.nf_words.specs.declared.answer.Goal.TheVariants.{Serve}
 use Rattle.nf_words.specs.declared.answer.Measure.{Measure}
 use Rattle.nf_words.specs.declared.history.Ticket.{Ticket}
 use Rattle.nf_desk.specs.Desk.{IsCounted, IsDesk, Shown, TellsSite, blobs_in, book_at, failures, failures_of, first_blob_of}
-use Rattle.nf_desk.specs.Pieces.{IsDamage, IsRead, IsTested, Reads, StrikesBy, StrikesSeat, TellsFound}
+use Rattle.nf_desk.specs.Pieces.{IsRead, IsTested, Reads, StrikesBy, StrikesSeat, TellsFound}
 use Rattle.nf_desk.proofs.Counting.{GoesOn, failed, failures_of_struck, failures_struck, risen_struck, strike, unfailed}
 use Rattle.nf_desk.proofs.Damages.{damaged_since}
 use Rattle.nf_desk.proofs.Desks.{ticket_is}
@@ -181,7 +181,7 @@ gives_or_fails a b start piece (Ok found) (Ok bytes) read tested = (
   read.0,
 )
 gives_or_fails a b start piece (Ok found) (Err (fault.Damaged damage)) read tested =
-    (read.0, tested.differs, IfSome_then b.told read.1 (tells_damage b start piece (bytes_in found) damage tested))
+    (read.0, (bytes_in found, tested), IfSome_then b.told read.1 (tells_damage b start piece (bytes_in found) damage tested))
 gives_or_fails a b start piece (Ok found) (Err other) read tested = absurd tested
 gives_or_fails a b start piece (Err Failed) result read tested = subst (GivesOrFails a b piece) (sym tested) read
 gives_or_fails a b start piece (Err Memory) result read tested = subst (GivesOrFails a b piece) (sym tested) read

@@ -1,8 +1,8 @@
 -- What an opening gives, or why it gives nothing.
-use Rattle.std.specs.Prelude.{◌≡◌, ◌≢◌, ℕ, ◌≤◌, List, [], ◌∷◌, map, Option, None, Some, option_map, Result, Ok, Err}
+use Rattle.std.specs.Prelude.{◌≡◌, ◌≢◌, ◌⊎◌, ℕ, ◌≤◌, List, [], ◌∷◌, map, Option, None, Some, option_map, Result, Ok, Err}
 use Rattle.nf_base.specs.declared.changes.Change.TheVariants.{Put}
 use Rattle.nf_base.specs.declared.rows.Row.{Row}
-use Rattle.nf_keeper.specs.Keeping.{Stored, applied}
+use Rattle.nf_keeper.specs.Keeping.{Stored, applied, one_more}
 use Rattle.nf_outside.specs.Causes.{Rose}
 use Rattle.nf_rows.specs.Faults.{reading}
 use Rattle.nf_rows.specs.Spelling.{Fits, Raw, spelling_of}
@@ -111,13 +111,27 @@ abbrev pub CountsOpening : {T : Type 0} → ℕ → ℕ → Result T OpenFault �
 CountsOpening before now (Ok site) = now ≡ before
 CountsOpening before now (Err fault) = CountsFault before now fault
 
--- ---- its parts
-
 -- rows that break no rule are stored, or the keeper fails, or there is no memory
 abbrev pub IsBegunFault : OpenFault → Type 0
 IsBegunFault fault.Failed = Unit {0}
 IsBegunFault fault.Memory = Unit {0}
 IsBegunFault other = ⊥
+
+-- the first rows may have been stored, or not, for a failure or for want of memory
+abbrev pub MayHaveStored : Option OpenFault → Type 0
+MayHaveStored None = Unit {0}
+MayHaveStored (Some fault) = IsBegunFault fault
+
+-- the keeper is asked for its rows once, and where it has none, at most once more: to store the first ones
+abbrev pub AsksOnce : Option Told → Option ℕ → Option ℕ → Option OpenFault → Type 0
+AsksOnce told before after why =
+    (after ≡ one_more before) ⊎ ((after ≡ one_more (one_more before)) × IsLoaded told [] × MayHaveStored why)
+
+-- it isn't asked, or once, to store the first rows
+abbrev pub AsksToStore : Option ℕ → Option ℕ → Type 0
+AsksToStore before after = (after ≡ before) ⊎ (after ≡ one_more before)
+
+-- ---- its parts
 
 -- the row is spelled so
 pub record IsSpelled (raw : Raw) (row : Row) : Type 0 where

@@ -9,7 +9,7 @@ use Rattle.nf_keeper.specs.Views.{bytes_in}
 use Rattle.nf_keeper.specs.declared.keeper.KeepFault.{KeepFault}
 use Rattle.nf_keeper.specs.declared.keeper.KeepFault.TheVariants.{Failed, Memory}
 use Rattle.nf_laws.specs.Wholes.{IsDamaged, IsHeld}
-use Rattle.nf_session.specs.Book.{Book, Differs, Struck, Waits, measured, next_blob_of}
+use Rattle.nf_session.specs.Book.{Book, IsDamage, Struck, Waits, next_blob_of}
 use Rattle.nf_session.specs.declared.backend.PieceFault.{PieceFault}
 use Rattle.nf_session.specs.declared.backend.PieceFault.TheVariants as fault
 use Rattle.nf_words.specs.declared.answer.Damage.{Damage}
@@ -24,11 +24,6 @@ pub record IsOfPiece (piece : Piece) (found : Option (List ℕ)) (bytes : List �
   pub found_are : found ≡ Some bytes
   pub size : length bytes ≡ piece.size
   pub digest : sha256 bytes ≡ piece.digest
-
--- what was found isn't what the piece says
-pub record IsDamage (piece : Piece) (found : Option (List ℕ)) (damage : Damage) : Type 0 where
-  pub differs : Differs piece damage
-  pub found_is : damage.found ≡ measured found
 
 abbrev pub IsMeasured : Piece → Option (List ℕ) → Result (Vec ℕ Global) Damage → Type 0
 IsMeasured piece found (Ok bytes) = IsOfPiece piece found bytes.items

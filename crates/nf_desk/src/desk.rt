@@ -3,7 +3,7 @@
 ghost use Rattle.std.specs.Prelude.{◌≡◌, ◌<◌, ◌≤◌, length, replicate, IfErr, IfOk, None, Some};
 ghost use Rattle.sha2.specs.Sha256.{sha256};
 ghost use Rattle.nf_desk.specs.Desk.{IsDesk, TakesTurn, book_at, meanings, most_seats, shown};
-ghost use Rattle.nf_desk.specs.Opened.{CountsFault, IsFault, MayBegin, Opens};
+ghost use Rattle.nf_desk.specs.Opened.{AsksOnce, CountsFault, IsFault, MayBegin, Opens};
 ghost use Rattle.nf_desk.specs.Pieces.{Reads, StrikesBy};
 ghost use Rattle.nf_desk.specs.Stepping.{HeldMayEnd, IsEmpty};
 ghost use Rattle.nf_rules.specs.Ruled.{AreRuled};
@@ -75,6 +75,8 @@ impl<K: Keeper + Drop> Desk<K> {
         ensures err { IfErr result (λ unopened. IsFault opening (K.told keeper) unopened.fault) }
         ensures same { IfErr result (λ unopened. K.told unopened.keeper ≡ K.told keeper) }
         ensures counted { IfErr result (λ unopened. CountsFault (K.faults keeper) (K.faults unopened.keeper) unopened.fault) }
+        ensures asked { IfOk result (λ desk. AsksOnce (K.told keeper) (K.calls keeper) (K.calls desk.keeper) None) }
+        ensures in_vain { IfErr result (λ unopened. AsksOnce (K.told keeper) (K.calls keeper) (K.calls unopened.keeper) (Some unopened.fault)) }
     {
         let mut keeper = keeper;
         match site_over(alloc, &mut keeper, opening) {

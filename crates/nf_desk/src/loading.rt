@@ -1,9 +1,9 @@
 //! A site over what a keeper has.
 
-ghost use Rattle.std.specs.Prelude.{◌≡◌, All, map, option_map, IfOk, IfErr, OnOk, OnErr};
+ghost use Rattle.std.specs.Prelude.{◌≡◌, All, map, option_map, None, Some, IfOk, IfErr, OnOk, OnErr};
 ghost use Rattle.nf_base.specs.declared.changes.Change.TheVariants.{Put};
 ghost use Rattle.nf_desk.specs.Faults.{unread_by};
-ghost use Rattle.nf_desk.specs.Opened.{CountsOpening, IsBegunFault, IsFault, IsSpelled, IsUnreadAt, MayBegin, Opens, ReadsRows, first_blob, stored_first};
+ghost use Rattle.nf_desk.specs.Opened.{AsksOnce, AsksToStore, CountsOpening, IsBegunFault, IsFault, IsSpelled, IsUnreadAt, MayBegin, Opens, ReadsRows, first_blob, stored_first};
 ghost use Rattle.nf_keeper.specs.Keeping.{applied};
 ghost use Rattle.nf_keeper.specs.Views.{stored_in};
 ghost use Rattle.nf_rows.specs.Spelling.{Fits};
@@ -31,6 +31,8 @@ pub(crate) fn site_over<K: Keeper>(
     ensures err { IfErr result (IsFault opening (K.told keeper.old)) }
     ensures same { OnErr result (K.told keeper.new ≡ K.told keeper.old) }
     ensures count { CountsOpening (K.faults keeper.old) (K.faults keeper.new) result }
+    ensures asked { IfOk result (λ _. AsksOnce (K.told keeper.old) (K.calls keeper.old) (K.calls keeper.new) None) }
+    ensures in_vain { IfErr result (λ fault. AsksOnce (K.told keeper.old) (K.calls keeper.old) (K.calls keeper.new) (Some fault)) }
 {
     let raws = keeper.load()?;
     if raws.rows().is_empty() {
@@ -57,6 +59,7 @@ fn begin<K: Keeper>(alloc: Global, keeper: &mut K, first: First) -> Result<Site,
     ensures err { IfErr result IsBegunFault }
     ensures same { OnErr result (K.told keeper.new ≡ K.told keeper.old) }
     ensures count { CountsOpening (K.faults keeper.old) (K.faults keeper.new) result }
+    ensures asked { AsksToStore (K.calls keeper.old) (K.calls keeper.new) }
 {
     let First { rows, blob } = first;
     let changes = puts(alloc, &rows)?;

@@ -4,7 +4,7 @@ use Rattle.std.specs.declared.snapshot.Snapshot.{Snapshot}
 use Rattle.nf_base.specs.declared.rows.Row.{Row}
 use Rattle.nf_defs.specs.Blobs.{Blobs}
 use Rattle.nf_desk.specs.Desk.{Served, blobs_in, book_at, entries_by, failed_marks, meanings, most_seats, risen, shown, strikes_of}
-use Rattle.nf_desk.specs.Opened.{Opens}
+use Rattle.nf_desk.specs.Opened.{AsksOnce, Opens}
 use Rattle.nf_desk.specs.declared.first.Opening.{Opening}
 use Rattle.nf_keeper.specs.declared.keeper.Keeper.{Ghosts as KeeperOf}
 use Rattle.nf_rules.specs.Rules.{AreUnbroken}
@@ -78,3 +78,4 @@ pub record Starts {K : Type 0} (k : KeeperOf K) (opening : Opening) (keeper : K)
   pub unbroken : AreUnbroken desk.site.kept.opening
   pub faults : k.faults desk.keeper ≡ k.faults keeper
   pub start : desk.start.value ≡ desk.keeper
+  pub asked : AsksOnce (k.told keeper) (k.calls keeper) (k.calls desk.keeper) None

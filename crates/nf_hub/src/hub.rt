@@ -3,7 +3,7 @@
 ghost use Rattle.std.specs.Prelude.{◌≡◌, ◌↔◌, ◌<◌, ◌≤◌, length, IfErr, IfOk, IfSome, IfNone, IsNone, None, Some, is_some};
 ghost use Rattle.sha2.specs.Sha256.{sha256};
 ghost use Rattle.nf_desk.specs.Desk.{meanings, most_seats};
-ghost use Rattle.nf_desk.specs.Opened.{CountsFault, IsFault, MayBegin};
+ghost use Rattle.nf_desk.specs.Opened.{AsksOnce, CountsFault, IsFault, MayBegin};
 ghost use Rattle.nf_desk.specs.Stepping.{HeldMayEnd, IsEmpty};
 ghost use Rattle.nf_hub.specs.Calls.{AsksGoal, AsksPiece, GivesGoal, HasPiece, HasTicket, IsBegan, LeavesKeeper, ShelvesBody, ShelvesEnding, answer_of};
 ghost use Rattle.nf_hub.specs.Seats.{IsSeat, Starts, book, memory_of, steady};
@@ -67,6 +67,7 @@ impl<K: Keeper + Drop> Hub<K> {
         // Where there was no memory for the hub, the first rows may be stored.
         ensures same { IfErr result (λ unopened. LeavesKeeper opening (K.told keeper) (K.told unopened.keeper) unopened.fault) }
         ensures counted { IfErr result (λ unopened. CountsFault (K.faults keeper) (K.faults unopened.keeper) unopened.fault) }
+        ensures in_vain { IfErr result (λ unopened. AsksOnce (K.told keeper) (K.calls keeper) (K.calls unopened.keeper) (Some unopened.fault)) }
     {
         let desk = Desk::open(alloc, keeper, opening)?;
         match Hub::over(alloc, desk, seats) {

@@ -1,5 +1,5 @@
 -- What the calls of a keeper give and change.
-use Rattle.std.specs.Prelude.{◌≡◌, ℕ, ◌≤◌, ◌==◌, Bool, List, filter, Option, None, Some, Result, Ok, Err}
+use Rattle.std.specs.Prelude.{◌≡◌, ℕ, ◌+◌, ◌-◌, ◌^◌, ◌≤◌, ◌==◌, Bool, List, filter, min, Option, None, Some, option_map, Result, Ok, Err}
 use Rattle.std.specs.List.{list_any}
 use Rattle.nf_base.specs.declared.changes.Change.{Change}
 use Rattle.nf_defs.specs.Blobs.{Blobs, blob_at, put_blob}
@@ -14,6 +14,10 @@ abbrev pub Counts : {T : Type 0} → ℕ → ℕ → Result T KeepFault → Type
 Counts before now (Ok value) = now ≡ before
 Counts before now (Err Failed) = Rose before now × (before ≤ now)
 Counts before now (Err Memory) = now ≡ before
+
+-- one call more was made of it, where calls are counted; at most 2^64 - 1 are
+abbrev pub one_more : Option ℕ → Option ℕ
+one_more calls = option_map (λ (n : ℕ). min (n + 1) (2 ^ 64 - 1)) calls
 
 -- a blob that a step stores: its number and its bytes
 pub record Stored : Type 0 where

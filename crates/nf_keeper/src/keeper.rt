@@ -2,7 +2,7 @@
 
 ghost use Rattle.std.specs.Prelude.{◌≡◌, ℕ, All, Option, option_map, IfOk, OnOk, OnErr, option_copied};
 ghost use Rattle.nf_told.specs.Told.{AreRisingRaws, FitsChange, Told};
-ghost use Rattle.nf_keeper.specs.Keeping.{AreTold, Counts, IsTold, applied, swept};
+ghost use Rattle.nf_keeper.specs.Keeping.{AreTold, Counts, IsTold, applied, one_more, swept};
 ghost use Rattle.nf_keeper.specs.Views.{bytes_in, stored_in};
 
 use crate::raws::RawRows;
@@ -43,29 +43,36 @@ pub trait Keeper {
     /// How often it failed.
     ghost faults: { Self → ℕ };
 
+    /// How many calls were made of it, where it counts them.
+    ghost calls: { Self → Option ℕ };
+
     /// The rows, by rising kind and key.
     fn load(&mut self) -> Result<RawRows, KeepFault>
         ensures rows { IfOk result (λ raws. AreTold (told self.old) raws) }
         ensures rising { IfOk result (λ raws. AreRisingRaws raws) }
         ensures same { told self.new ≡ told self.old }
-        ensures count { Counts (faults self.old) (faults self.new) result };
+        ensures count { Counts (faults self.old) (faults self.new) result }
+        ensures called { calls self.new ≡ one_more (calls self.old) };
 
     /// Makes the changes, in their order, and keeps the blob. At a fault nothing is changed.
     fn apply(&mut self, changes: &Changes, blob: Option<&NewBlob<'_>>) -> Result<(), KeepFault>
         ensures made { OnOk result (told self.new ≡ option_map (applied changes.now (stored_in (option_copied blob.entry))) (told self.old)) }
         ensures fits { OnOk result (All FitsChange changes.now) }
         ensures same { OnErr result (told self.new ≡ told self.old) }
-        ensures count { Counts (faults self.old) (faults self.new) result };
+        ensures count { Counts (faults self.old) (faults self.new) result }
+        ensures called { calls self.new ≡ one_more (calls self.old) };
 
     /// The bytes of a blob, if it has it.
     fn blob(&mut self, id: BlobId) -> Result<Option<Vec<u8>>, KeepFault>
         ensures bytes { IfOk result (λ bytes. IsTold (told self.old) id (bytes_in bytes)) }
         ensures same { told self.new ≡ told self.old }
-        ensures count { Counts (faults self.old) (faults self.new) result };
+        ensures count { Counts (faults self.old) (faults self.new) result }
+        ensures called { calls self.new ≡ one_more (calls self.old) };
 
     /// Drops the blobs that aren't among these. At a fault nothing is changed.
     fn sweep(&mut self, keep: &[BlobId]) -> Result<(), KeepFault>
         ensures made { OnOk result (told self.new ≡ option_map (swept keep.now) (told self.old)) }
         ensures same { OnErr result (told self.new ≡ told self.old) }
-        ensures count { Counts (faults self.old) (faults self.new) result };
+        ensures count { Counts (faults self.old) (faults self.new) result }
+        ensures called { calls self.new ≡ one_more (calls self.old) };
 }

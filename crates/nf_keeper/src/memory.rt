@@ -4,7 +4,7 @@ ghost use Rattle.std.specs.Prelude.{◌≡◌, [], All, IfOk, OnOk, OnErr, Some,
 ghost use Rattle.nf_defs.specs.Blobs.{put_blob};
 ghost use Rattle.nf_outside.specs.Calls.{IsNextCall, first_calls};
 ghost use Rattle.nf_told.specs.Told.{AreRisingRaws, FitsChange};
-ghost use Rattle.nf_keeper.specs.Keeping.{AreTold, Counts, IsTold, applied, swept};
+ghost use Rattle.nf_keeper.specs.Keeping.{AreTold, Counts, IsTold, applied, one_more, swept};
 ghost use Rattle.nf_keeper.specs.Memory.{FailsAsListed, put_raws};
 ghost use Rattle.nf_keeper.specs.Views.{bytes_in, stored_in};
 
@@ -92,12 +92,15 @@ impl Keeper for MemKeeper {
 
     ghost faults = { λ keeper. keeper.calls.faults };
 
+    ghost calls = { λ keeper. Some keeper.calls.made };
+
     /// Answers `Failed` where it is listed as a call that fails, and only there.
     fn load(&mut self) -> Result<RawRows, KeepFault>
         ensures rows { IfOk result (λ raws. AreTold (Some self.old.told) raws) }
         ensures rising { IfOk result (λ raws. AreRisingRaws raws) }
         ensures same { self.new.told ≡ self.old.told }
         ensures count { Counts self.old.calls.faults self.new.calls.faults result }
+        ensures called { Some self.new.calls.made ≡ one_more (Some self.old.calls.made) }
         ensures next { IsNextCall self.old.calls self.new.calls }
         ensures fails { FailsAsListed self.new.calls result }
     {
@@ -113,6 +116,7 @@ impl Keeper for MemKeeper {
         ensures fits { OnOk result (All FitsChange changes.now) }
         ensures same { OnErr result (self.new.told ≡ self.old.told) }
         ensures count { Counts self.old.calls.faults self.new.calls.faults result }
+        ensures called { Some self.new.calls.made ≡ one_more (Some self.old.calls.made) }
         ensures next { IsNextCall self.old.calls self.new.calls }
         ensures fails { FailsAsListed self.new.calls result }
     {
@@ -133,6 +137,7 @@ impl Keeper for MemKeeper {
         ensures bytes { IfOk result (λ bytes. IsTold (Some self.old.told) id (bytes_in bytes)) }
         ensures same { self.new.told ≡ self.old.told }
         ensures count { Counts self.old.calls.faults self.new.calls.faults result }
+        ensures called { Some self.new.calls.made ≡ one_more (Some self.old.calls.made) }
         ensures next { IsNextCall self.old.calls self.new.calls }
         ensures fails { FailsAsListed self.new.calls result }
     {
@@ -147,6 +152,7 @@ impl Keeper for MemKeeper {
         ensures made { OnOk result (self.new.told ≡ swept keep.now self.old.told) }
         ensures same { OnErr result (self.new.told ≡ self.old.told) }
         ensures count { Counts self.old.calls.faults self.new.calls.faults result }
+        ensures called { Some self.new.calls.made ≡ one_more (Some self.old.calls.made) }
         ensures next { IsNextCall self.old.calls self.new.calls }
         ensures fails { FailsAsListed self.new.calls result }
     {

@@ -72,6 +72,8 @@ impl<S: Alter> Keeper for SqlKeeper<S> {
 
     ghost faults = { λ keeper. keeper.faults };
 
+    ghost calls = { λ _. None };
+
     fn load(&mut self) -> Result<RawRows, KeepFault> {
         let loaded = load(self.alloc, &mut self.connection);
         self.counted(loaded)

@@ -8,7 +8,9 @@ use Rattle.nf_session.specs.Prelude.{Book, Scene}
 abbrev pub scene_at : {S O C : Type 0} → EndsOf S → EndsOf O → Book → List ℕ → S → O → C → Scene C
 scene_at s o book kept input output clock = record {
   input = stream kept (s.left input);
+  kept = kept;
   output = o.written output;
+  answers = o.begun output;
   book = book;
   clock = clock;
   read_faults = s.read_faults input;

@@ -85,11 +85,10 @@ module _ {C : Type 0} (reads : C → ℕ → C → Type 0) (last : Bool) (head :
       } in
       (m, begun, judged, inr (n, invites, inr cuts))
 
-pub turn_met : {C : Type 0} (reads : C → ℕ → C → Type 0) (last : Bool) (a m n t b : Scene C) (head : Head) (found : Option Head)
-    (end : Option Ended) → found ≡ Some head → Heads a m (Ok found) → n ≡ m → Meets reads last head n t end → b ≡ t → Turn reads last a b end
-turn_met {C} reads last a m n t b head found end is heads begun meets ended =
-    let to_end = subst (λ (z : Scene C). Meets reads last head n z end) (sym ended) meets in
-    let whole = subst (λ (z : Scene C). Meets reads last head z b end) begun to_end in
+pub turn_met : {C : Type 0} (reads : C → ℕ → C → Type 0) (last : Bool) (a m t b : Scene C) (head : Head) (found : Option Head)
+    (end : Option Ended) → found ≡ Some head → Heads a m (Ok found) → Meets reads last head m t end → b ≡ t → Turn reads last a b end
+turn_met {C} reads last a m t b head found end is heads meets ended =
+    let whole = subst (λ (z : Scene C). Meets reads last head m z end) (sym ended) meets in
     inr (inr (m, head, subst (λ (z : Option Head). Heads a m (Ok z)) is heads, whole))
 
 pub turn_failed : {C : Type 0} (reads : C → ℕ → C → Type 0) (last : Bool) (a m t b : Scene C) (fault : WireFault) (by : Ended)

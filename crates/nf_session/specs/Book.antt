@@ -188,21 +188,29 @@ Differs piece damage =
     (damage.blob ≡ piece.blob) × (damage.wanted.length ≡ piece.size) × (damage.wanted.digest ≡ piece.digest)
     × (damage.found ≢ Some damage.wanted)
 
--- what the store tells there is what the damage says
 abbrev pub measured : Option (List ℕ) → Option Measure
 measured bytes = option_map (λ bytes. record { length = length bytes; digest = sha256 bytes }) bytes
+
+-- what was found isn't what the piece says, and is named by its length and digest
+pub record IsDamage (piece : Piece) (found : Option (List ℕ)) (damage : Damage) : Type 0 where
+  pub differs : Differs piece damage
+  pub found_is : damage.found ≡ measured found
+
+-- something was found, or nothing, also where the store tells nothing
+abbrev pub NamesFound : Piece → Damage → Type 0
+NamesFound piece damage = (found : Option (List ℕ)) × IsDamage piece found damage
 
 -- the piece was damaged at the opening
 pub record TellsDamage (b : Book) (piece : Piece) (damage : Damage) (shelf : Blobs) : Type 0 where
   pub damaged : IsDamaged b.opening shelf piece
   pub found : damage.found ≡ measured (blob_at shelf piece.blob)
 
--- why a piece isn't given: the store failed, which is a strike; or it has other bytes, and where it tells, had them at the
--- opening; want of memory is free
+-- why a piece isn't given: the store failed, which is a strike; or it has other bytes, which are named, and where it tells, had
+-- them at the opening; want of memory is free
 abbrev pub FailsPiece : Book → Book → Piece → PieceFault → Type 0
 FailsPiece a b piece fault.Store = Struck a.strikes b.strikes
 FailsPiece a b piece (fault.Damaged damage) =
-    (b.strikes ≡ a.strikes) × Differs piece damage × IfSome b.told (TellsDamage b piece damage)
+    (b.strikes ≡ a.strikes) × NamesFound piece damage × IfSome b.told (TellsDamage b piece damage)
 FailsPiece a b piece fault.Memory = b.strikes ≡ a.strikes
 
 abbrev pub GivesOrFails : Book → Book → Piece → Result (Vec ℕ Global) PieceFault → Type 0

@@ -11,7 +11,9 @@ abbrev pub between : {S O C B L : Type 0} → EndsOf S → EndsOf O → BackendO
     → List ℕ → S → O → C → B → Scene C
 between s o b kept input output clock backend = record {
   input = stream kept (s.left input);
+  kept = kept;
   output = o.written output;
+  answers = o.begun output;
   book = b.book backend;
   clock = clock;
   read_faults = s.read_faults input;

@@ -1,12 +1,13 @@
 -- Scenes, and the steps of a turn, each from one scene to the next.
 use Rattle.std.specs.Prelude.{◌≡◌, ◌⊎◌, ℕ, ◌<◌, Bool, true, false, ◌&&◌, MatchBool, nat_lt, List, [], ◌∷◌, length, take, if◌then◌else◌, Option, None, Some, Result, Ok, Err, IsOk}
 use Rattle.std.specs.Io.KnownBytes.{Appends}
+use Rattle.nf_outside.specs.Begun.{with_answer}
 use Rattle.nf_outside.specs.Causes.{Rose}
 use Rattle.nf_base.specs.declared.content.Piece.{Piece}
 use Rattle.nf_http.specs.Bodies.{TakesBody, CutsBody, CutsRead}
 use Rattle.nf_http.specs.Filling.{HasReadCause}
 use Rattle.nf_http.specs.Head.{Head, length_of, expects_continue}
-use Rattle.nf_http.specs.Next.{IsNext}
+use Rattle.nf_http.specs.Next.{IsNext, IsShownBy}
 use Rattle.nf_http.specs.declared.wire.WireFault.{WireFault}
 use Rattle.nf_http.specs.declared.wire.WireFault.TheVariants as wire
 use Rattle.nf_words.specs.declared.answer.Denial.{Denial}
@@ -29,17 +30,21 @@ use Rattle.nf_session.specs.declared.response.Response.{Response}
 use Rattle.nf_session.specs.declared.response.Response.TheVariants as response
 
 -- all that a session touches: the bytes that are left to read and those that were written, where they are told, what the
--- seat knows, the clock, and how often each end failed
+-- seat knows, the clock, and how often each end failed; of the bytes that are left, those that were read and not yet taken; and
+-- the method and target of each answer that the output was told of, where it tells them
 pub record Scene (C : Type 0) : Type 0 where
   pub input : Option (List ℕ)
+  pub kept : List ℕ
   pub output : Option (List ℕ)
+  pub answers : Option (List (List ℕ × List ℕ))
   pub book : Book
   pub clock : C
   pub read_faults : ℕ
   pub write_faults : ℕ
 
+-- nothing was touched but the input, and what the output was told of answers
 abbrev pub OnlyReads : {C : Type 0} → Scene C → Scene C → Type 0
-OnlyReads a b = b ≡ record a { input = b.input; read_faults = b.read_faults }
+OnlyReads a b = b ≡ record a { input = b.input; kept = b.kept; answers = b.answers; read_faults = b.read_faults }
 
 abbrev pub OnlyWrites : {C : Type 0} → Scene C → Scene C → Type 0
 OnlyWrites a b = b ≡ record a { output = b.output; write_faults = b.write_faults }
@@ -49,15 +54,23 @@ OnlyAsks a b = b ≡ record a { book = b.book; clock = b.clock }
 
 -- ---- reading
 
--- what stands at the front of the input was taken, or told
+-- the output is told of the answer to a head that was taken, and of nothing else
+abbrev pub TellsHead : Option (List (List ℕ × List ℕ)) → Option (List (List ℕ × List ℕ))
+    → Result (Option Head) WireFault → Type 0
+TellsHead before now (Ok (Some head)) = now ≡ with_answer head.method head.target before
+TellsHead before now other = now ≡ before
+
+-- what stands at the front of the input was taken, or told; what is kept then shows a fault, also where the input isn't told
 pub record Heads {C : Type 0} (a b : Scene C) (result : Result (Option Head) WireFault) : Type 0 where
   pub only : OnlyReads a b
   pub next : IsNext a.input b.input result
+  pub shown : IsShownBy b.kept result
+  pub told : TellsHead a.answers b.answers result
   pub cause : HasReadCause a.read_faults b.read_faults result
 
 -- a body of n bytes was taken
 pub record Bodies {C : Type 0} (a b : Scene C) (n : ℕ) (body : List ℕ) : Type 0 where
-  pub only : b ≡ record a { input = b.input }
+  pub only : b ≡ record a { input = b.input; kept = b.kept }
   pub taken : TakesBody a.input b.input n body
 
 abbrev pub Skips : {C : Type 0} → Scene C → Scene C → ℕ → Type 0
@@ -67,6 +80,7 @@ Skips a b n = (body : List ℕ) × Bodies a b n body
 pub record Cuts {C : Type 0} (cuts : Option (List ℕ) → Option (List ℕ) → ℕ → WireFault → Type 0)
     (a b : Scene C) (n : ℕ) (fault : WireFault) : Type 0 where
   pub only : OnlyReads a b
+  pub told : b.answers ≡ a.answers
   pub cut : cuts a.input b.input n fault
   pub cause : HasReadCause {T = ℕ} a.read_faults b.read_faults (Err fault)
 

@@ -62,11 +62,19 @@ where
     C: Clock,
     B: Backend,
 {
+    // Takes the head at the front of the input, and tells the output of its answer.
     fn next(&mut self) -> Result<Option<Message>, WireFault>
         ensures same { IsSame B.Backend self.old self.new }
         ensures heads { Heads (scene S.Ends O.Ends B.Backend self.old) (scene S.Ends O.Ends B.Backend self.new) result }
     {
-        next_message(self.alloc, self.input, self.buffer)
+        match next_message(self.alloc, self.input, self.buffer) {
+            Ok(Some(message)) => {
+                self.output.begin_answer(message.method(), message.target());
+                Ok(Some(message))
+            }
+            Ok(None) => Ok(None),
+            Err(fault) => Err(fault),
+        }
     }
 
     // Reads a body of that many bytes.
@@ -408,15 +416,6 @@ where
         }
     }
 
-    // Tells the output that what is written from here on answers a message.
-    fn begin_answer(&mut self, message: &Message)
-        ensures same { IsSame B.Backend self.old self.new }
-        ensures scene { scene S.Ends O.Ends B.Backend self.new ≡ scene S.Ends O.Ends B.Backend self.old }
-        ensures backend { self.new.backend.now ≡ self.old.backend.now }
-    {
-        self.output.begin_answer(message.method(), message.target());
-    }
-
     // Tells the output that the answer was written, or broke off.
     fn end_answer(&mut self)
         ensures same { IsSame B.Backend self.old self.new }
@@ -437,7 +436,6 @@ where
         match self.next() {
             Ok(None) => Some(Ended::Closed),
             Ok(Some(message)) => {
-                self.begin_answer(&message);
                 let ended = self.answer(&message, last);
                 self.end_answer();
                 ended

@@ -173,6 +173,8 @@ impl<'f> Ends for Gate<'f> {
 
     ghost written = { λ _. None };
 
+    ghost begun = { λ _. None };
+
     ghost read_faults = { λ gate. gate.faults };
 
     ghost write_faults = { λ _. 0 };
@@ -219,6 +221,8 @@ impl<'f> Ends for Bell<'f> {
 
     ghost written = { λ _. None };
 
+    ghost begun = { λ _. None };
+
     ghost read_faults = { λ _. 0 };
 
     ghost write_faults = { λ bell. bell.faults };
@@ -237,6 +241,8 @@ impl<'f> Sink for Bell<'f> {
             }
         }
     }
+
+    fn begin_answer(&mut self, _method: &[u8], _target: &[u8]) {}
 }
 
 type GateWorker<'f> = Worker<MemDoor<Gate<'f>, Bell<'f>>, ListClock>;

@@ -19,6 +19,7 @@ loop-at-init g c = record {
   same = search rules;
   other_bytes = search rules;
   other_faults = search rules;
+  begun = search rules;
 }
 
 pub loop-at-preserved : goal.loop-at-preserved
@@ -31,4 +32,5 @@ loop-at-preserved g c =
       same = search rules;
       other_bytes = search rules;
       other_faults = search rules;
+      begun = search rules;
     }

@@ -9,6 +9,7 @@ invariant-loop-at g l = record {
   same : g.O.Ends.write_faults l.sink ≡ g.O.Ends.write_faults l.fn.sink;
   other_bytes : g.O.Ends.left l.sink ≡ g.O.Ends.left l.fn.sink;
   other_faults : g.O.Ends.read_faults l.sink ≡ g.O.Ends.read_faults l.fn.sink;
+  begun : g.O.Ends.begun l.sink ≡ g.O.Ends.begun l.fn.sink;
 }
 
 abbrev pub decreases-loop-at : goal.decreases-loop-at

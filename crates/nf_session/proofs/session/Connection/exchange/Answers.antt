@@ -5,9 +5,8 @@ use Rattle.nf_session.proofs.session.Connection.exchange.Goals as goal
 pub returns-in-Ok-Some-clause-turn : goal.returns-in-Ok-Some-clause-turn
 returns-in-Ok-Some-clause-turn g c =
     turn_met g.C.Clock.reads c.args.last (scene g.S.Ends g.O.Ends g.B.Backend c.args.self.now) (scene g.S.Ends g.O.Ends g.B.Backend c.next.new.self)
-    (scene g.S.Ends g.O.Ends g.B.Backend c.begin_answer.new.self) (scene g.S.Ends g.O.Ends g.B.Backend c.answer-ended.new.self)
-    (scene g.S.Ends g.O.Ends g.B.Backend c.end_answer.new.self) c.in-Ok-Some.message c.in-Ok-Some.field-0 c.answer-ended.result
-    c.in-Ok-Some.field-0-is c.in-Ok-Some.ensures.heads c.begin_answer.ensures.scene c.answer-ended.ensures.meets c.end_answer.ensures.scene
+    (scene g.S.Ends g.O.Ends g.B.Backend c.answer-ended.new.self) (scene g.S.Ends g.O.Ends g.B.Backend c.end_answer.new.self) c.in-Ok-Some.message c.in-Ok-Some.field-0 c.answer-ended.result
+    c.in-Ok-Some.field-0-is c.in-Ok-Some.ensures.heads c.answer-ended.ensures.meets c.end_answer.ensures.scene
 
 pub returns-in-Err-clause-turn : goal.returns-in-Err-clause-turn
 returns-in-Err-clause-turn g c =
