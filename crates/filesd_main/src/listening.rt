@@ -28,7 +28,7 @@ fn listen(rt: &HostRuntime, serving: &Serving) -> Result<Vec<SocketWorker>, Stat
         }
     };
     // The first worker's door has it, which is asked once the rows are judged and the store is served.
-    let mut greeting = greeting(rt, &listener);
+    let mut greeting = greeting_of(rt, &listener);
     let mut workers = Vec::new(rt.alloc());
     for _ in 0..serving.workers {
         let clock: Result<_, _> = rt.clone();
@@ -48,7 +48,7 @@ fn listen(rt: &HostRuntime, serving: &Serving) -> Result<Vec<SocketWorker>, Stat
 }
 
 // That the socket listens, and where.
-fn greeting(rt: &HostRuntime, listener: &TcpListener) -> Option<Greeting> {
+fn greeting_of(rt: &HostRuntime, listener: &TcpListener) -> Option<Greeting> {
     let address = listener.local_addr().ok()?;
     let rt: Result<_, _> = rt.clone();
     Some(Greeting {

@@ -3,7 +3,7 @@
 
 use crate::file::FileKeeper;
 use crate::listening::workers;
-use crate::settings::{MOST_WORKERS, Serving, serving, store};
+use crate::settings::{MOST_WORKERS, Serving, read_serving, store};
 use crate::telling::{tell_rows, tell_usage};
 use filesd::{Finished, Status, run};
 use nf_command::{Command, command_of};
@@ -35,7 +35,7 @@ struct Order {
 
 /// Does what the words ask for, and says on standard error how it ended, if not well.
 fn main(rt: HostRuntime) -> ExitCode {
-    let status = match order(&rt) {
+    let status = match read_order(&rt) {
         Ok(order) => obey(&rt, &rt, &order),
         Err(status) => status,
     };
@@ -50,10 +50,10 @@ fn main(rt: HostRuntime) -> ExitCode {
 }
 
 // Words and settings are judged here, before a store is opened or made.
-fn order(rt: &HostRuntime) -> Result<Order, Status> {
+fn read_order(rt: &HostRuntime) -> Result<Order, Status> {
     let words = words(rt)?;
     let serving = match command_of(rt.alloc(), &words) {
-        Ok(Some(Command::Serve { .. })) => Some(serving(rt)?),
+        Ok(Some(Command::Serve { .. })) => Some(read_serving(rt)?),
         Ok(Some(_)) => None,
         Ok(None) => {
             tell_usage(rt);

@@ -39,7 +39,7 @@ pub fn store(rt: &HostRuntime) -> Result<Option<String>, Status> {
 }
 
 /// What `serve` is told.
-pub fn serving(rt: &HostRuntime) -> Result<Serving, Status> {
+pub fn read_serving(rt: &HostRuntime) -> Result<Serving, Status> {
     Ok(Serving {
         address: address(rt)?,
         workers: number(rt, "FILESD_WORKERS", 1, MOST_WORKERS, WORKERS)?,
