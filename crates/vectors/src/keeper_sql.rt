@@ -57,7 +57,7 @@ fn stores(keeper: &mut SqlKeeper<MemStore>, changes: &Changes, id: u64, bytes: &
 }
 
 #[test]
-fn keeps_what_is_applied(rt: HostRuntime) -> Result<(), Fail> {
+fn a_database_keeps_what_is_applied(rt: HostRuntime) -> Result<(), Fail> {
     let alloc = rt.alloc();
     let mut keeper = keeper_after(alloc, "")?;
     assert_eq!(rt; keys(alloc, &mut keeper)?.as_slice(), [].as_slice());

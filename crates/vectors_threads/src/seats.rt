@@ -197,7 +197,7 @@ fn what_two_seats_do_to_each_other(rt: HostRuntime) -> Result<(), Fail> {
 }
 
 #[test]
-fn a_run_becomes_full(rt: HostRuntime) -> Result<(), Fail> {
+fn a_hub_becomes_full(rt: HostRuntime) -> Result<(), Fail> {
     let alloc = rt.alloc();
     let started = start(alloc, MemKeeper::new(alloc, &[])?, demonstration(alloc)?);
     let (shared, mut seat) = started.ok().ok_or("no hub")?;
