@@ -92,7 +92,7 @@ none_served reads a = record {
   before = a;
   through = refl;
   few = omega arith;
-  turn = inr (inl (a, wire.Memory, ended.Memory, record { only = refl; next = Keeps-refl a.input; cause = refl }, (refl, refl), refl));
+  turn = inr (inl (a, wire.Memory, ended.Memory, record { only = refl; next = Keeps-refl a.input; shown = tt; told = refl; cause = refl }, (refl, refl), refl));
   full = λ is. absurd (cc);
 }
 
