@@ -327,9 +327,11 @@ fn ask(rt: &HostRuntime, address: SocketAddr, bytes: &[u8], ends: bool) -> io::R
     Ok(answer)
 }
 
-/// The answer of a server that serves one connection, whose reads wait no longer than the limit; and its status.
-fn asked(
+/// The answer of a server that serves one connection, whose reads wait no longer than the limit; and its status. `threads` is the same
+/// runtime, as what may start them.
+fn asked<R: Threads + Wait + Sync>(
     rt: &HostRuntime,
+    threads: &R,
     limit: Duration,
     bytes: &[u8],
     ends: bool,
@@ -337,16 +339,24 @@ fn asked(
     let alloc = rt.alloc();
     let listener = TcpListener::bind(rt, SocketAddr::from((Ipv4Addr::LOCALHOST, 0)))?;
     let address = listener.local_addr()?;
-    let keeper = demo_keeper(rt, alloc)?;
+    let keeper = demo_keeper(threads, alloc)?;
     let mut workers = [Worker {
         door: TcpDoor::new(listener, limit),
         clock: ListClock::new(Vec::new(alloc)),
     }];
     let workers = &mut workers;
     let (answer, finished) = join(
-        rt,
+        threads,
         move || ask(rt, address, bytes, ends),
-        move || run_with(rt, alloc, &["serve", "--connections", "1"], keeper, workers),
+        move || {
+            run_with(
+                threads,
+                alloc,
+                &["serve", "--connections", "1"],
+                keeper,
+                workers,
+            )
+        },
     );
     let status = finished?.status;
     Ok((answer?, status))
@@ -354,7 +364,7 @@ fn asked(
 
 #[test]
 fn a_file_is_served_over_tcp(rt: HostRuntime) -> Result<(), Fail> {
-    let (answer, status) = asked(&rt, Duration::from_secs(5), GET_HELLO.as_bytes(), true)?;
+    let (answer, status) = asked(&rt, &rt, Duration::from_secs(5), GET_HELLO.as_bytes(), true)?;
     assert_eq!(rt; answer.as_slice(), HELLO.as_bytes());
     assert!(rt; status == Status::Done);
     Ok(())
@@ -363,7 +373,7 @@ fn a_file_is_served_over_tcp(rt: HostRuntime) -> Result<(), Fail> {
 #[test]
 fn a_silent_connection_is_given_up(rt: HostRuntime) -> Result<(), Fail> {
     let half = b"GET /remote.php/dav/files/alice/hello.txt HTTP/1.1\r\n";
-    let (answer, status) = asked(&rt, Duration::from_millis(200), half, false)?;
+    let (answer, status) = asked(&rt, &rt, Duration::from_millis(200), half, false)?;
     assert!(rt; answer.is_empty());
     assert!(rt; status == Status::Done);
     Ok(())
@@ -378,7 +388,7 @@ fn an_answer_reaches_who_still_sends(rt: HostRuntime) -> Result<(), Fail> {
     let alloc = rt.alloc();
     let mut bytes = PUT_LONG.as_bytes().to_vec(alloc)?;
     bytes.extend_from_slice(&vec![in alloc; b'x'; 300_000]?)?;
-    let (answer, status) = asked(&rt, Duration::from_secs(5), &bytes, true)?;
+    let (answer, status) = asked(&rt, &rt, Duration::from_secs(5), &bytes, true)?;
     assert!(rt; answer.starts_with(b"HTTP/1.1 413 "));
     assert!(rt; status == Status::Done);
     Ok(())
