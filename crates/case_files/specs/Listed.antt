@@ -13,10 +13,14 @@ count_of (item d ds) = suc (count_of ds)
 abbrev pub listed : List ℕ → Data → Option Items
 listed name d = option_and_then as_array (get name d)
 
+-- a case's file lists so many runs
+pub record Lists (file : Data) (runs : ℕ) : Type 0 where
+  pub list : Items
+  pub lists : listed (codes "runs") file ≡ Some list
+  pub all : count_of list ≡ runs
+
 -- the text is that of a case with so many runs
 pub record ListsRuns (text : List ℕ) (runs : ℕ) : Type 0 where
   pub file : Data
-  pub list : Items
   pub reads : read text ≡ Some file
-  pub lists : listed (codes "runs") file ≡ Some list
-  pub all : count_of list ≡ runs
+  pub lists : Lists file runs

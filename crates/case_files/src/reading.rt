@@ -1,9 +1,9 @@
 //! Reads a case from its file.
 
 ghost use Rattle.std.specs.Prelude.{◌≡◌, Some, length, IfOk};
-ghost use Rattle.serde_json.specs.Find.{get};
+ghost use Rattle.serde_json.specs.Find.{as_array, get};
 ghost use Rattle.serde_json.specs.View.{items_view, view};
-ghost use Rattle.case_files.specs.Listed.{ListsRuns, listed};
+ghost use Rattle.case_files.specs.Listed.{Lists, ListsRuns, listed};
 
 use crate::case::{Case, Damage, Exchange, Run, Unread};
 use crate::texts::bytes_of;
@@ -14,13 +14,18 @@ use std::alloc::Global;
 pub fn case_of(alloc: Global, text: &str) -> Result<Case, Unread>
     ensures { IfOk result (λ case. ListsRuns text.now (length case.runs.items)) }
 {
-    let case = match Value::from_str(alloc, text) {
-        Ok(case) => case,
-        Err(error) if error.is_memory() => return Err(Unread::Memory),
-        Err(_) => return Err(Unread::NotJson),
-    };
-    has_only(&case, &["case", "runs"])?;
-    let runs = list(&case, "runs")?;
+    match Value::from_str(alloc, text) {
+        Ok(file) => case_in(alloc, &file),
+        Err(error) if error.is_memory() => Err(Unread::Memory),
+        Err(_) => Err(Unread::NotJson),
+    }
+}
+
+fn case_in(alloc: Global, file: &Value) -> Result<Case, Unread>
+    ensures { IfOk result (λ case. Lists (view file.now) (length case.runs.items)) }
+{
+    has_only(file, &["case", "runs"])?;
+    let runs = list(file, "runs")?;
     Ok(Case {
         failing: failing_in(alloc, runs)?,
         runs: runs_of(alloc, runs)?,
@@ -37,7 +42,7 @@ fn failing_in(alloc: Global, runs: &[Value]) -> Result<Vec<u64>, Unread> {
     }
     match first.get("failing") {
         None => Ok(Vec::new(alloc)),
-        Some(_) => numbers(alloc, list(first, "failing")?),
+        Some(failing) => numbers(alloc, items(failing)?),
     }
 }
 
@@ -66,111 +71,120 @@ fn run_of(alloc: Global, run: &Value) -> Result<Run, Unread> {
             "status",
         ],
     )?;
+    let status = small_number(member(run, "status")?)?;
     Ok(Run {
         words: words(alloc, list(run, "words")?)?,
         clock: numbers(alloc, list(run, "clock")?)?,
         damage: damage_of(alloc, run)?,
         exchanges: exchanges_of(alloc, run)?,
-        status: small_number(member(run, "status")?)?,
+        status,
     })
 }
 
 // None where it isn't said.
 fn damage_of(alloc: Global, run: &Value) -> Result<Vec<Damage>, Unread> {
     let mut damage = Vec::new(alloc);
-    let Some(said) = run.get("damage") else {
-        return Ok(damage);
-    };
-    for (blob, text) in said.as_object().ok_or(Unread::Malformed)? {
-        damage.push(Damage {
-            blob: blob.as_str().parse().map_err(|_| Unread::Malformed)?,
-            bytes: bytes_of(alloc, text.as_str().ok_or(Unread::Malformed)?)?,
-        })?;
+    if let Some(said) = run.get("damage") {
+        for (blob, text) in said.as_object().ok_or(Unread::Malformed)? {
+            damage.push(one_damage(alloc, blob.as_str(), text)?)?;
+        }
     }
     Ok(damage)
 }
 
+fn one_damage(alloc: Global, blob: &str, text: &Value) -> Result<Damage, Unread> {
+    Ok(Damage {
+        blob: blob.parse().map_err(|_| Unread::Malformed)?,
+        bytes: bytes(alloc, text)?,
+    })
+}
+
 // The exchanges, or the whole input and output as one.
 fn exchanges_of(alloc: Global, run: &Value) -> Result<Vec<Exchange>, Unread> {
-    if run.get("exchanges").is_some() {
-        return match run.get("input").or(run.get("output")) {
-            None => exchanges(alloc, list(run, "exchanges")?),
+    match run.get("exchanges") {
+        None => Ok(vec![in alloc; exchange_of(alloc, run, "input", "output")?]?),
+        Some(listed) => match run.get("input").or(run.get("output")) {
+            None => exchanges(alloc, items(listed)?),
             Some(_) => Err(Unread::Malformed),
-        };
+        },
     }
-    let whole = Exchange {
-        send: bytes(alloc, run, "input")?,
-        answer: bytes(alloc, run, "output")?,
-    };
-    Ok(vec![in alloc; whole]?)
 }
 
 fn exchanges(alloc: Global, listed: &[Value]) -> Result<Vec<Exchange>, Unread> {
     let mut exchanges = Vec::new(alloc);
     for exchange in listed {
-        has_only(exchange, &["send", "answer", "times"])?;
-        repeat(alloc, exchange, times(exchange)?, &mut exchanges)?;
+        repeat(alloc, exchange, &mut exchanges)?;
     }
     Ok(exchanges)
+}
+
+fn repeat(alloc: Global, exchange: &Value, exchanges: &mut Vec<Exchange>) -> Result<(), Unread> {
+    has_only(exchange, &["send", "answer", "times"])?;
+    for _ in 0..times(exchange)? {
+        exchanges.push(exchange_of(alloc, exchange, "send", "answer")?)?;
+    }
+    Ok(())
 }
 
 // Once where it isn't said.
 fn times(exchange: &Value) -> Result<u64, Unread> {
     match exchange.get("times") {
         None => Ok(1),
-        Some(times) => times.as_u64().ok_or(Unread::Malformed),
+        Some(times) => number(times),
     }
 }
 
-fn repeat(
-    alloc: Global,
-    exchange: &Value,
-    times: u64,
-    exchanges: &mut Vec<Exchange>,
-) -> Result<(), Unread> {
-    for _ in 0..times {
-        exchanges.push(Exchange {
-            send: bytes(alloc, exchange, "send")?,
-            answer: bytes(alloc, exchange, "answer")?,
-        })?;
-    }
-    Ok(())
+// The exchange of the members of these names.
+fn exchange_of(alloc: Global, value: &Value, send: &str, answer: &str) -> Result<Exchange, Unread> {
+    Ok(Exchange {
+        send: bytes(alloc, member(value, send)?)?,
+        answer: bytes(alloc, member(value, answer)?)?,
+    })
 }
 
 fn words(alloc: Global, listed: &[Value]) -> Result<Vec<String>, Unread> {
     let mut words = Vec::new(alloc);
     for word in listed {
-        let word = word.as_str().ok_or(Unread::Malformed)?;
-        words.push(String::from_str(alloc, word)?)?;
+        words.push(String::from_str(alloc, text(word)?)?)?;
     }
     Ok(words)
 }
 
 fn numbers(alloc: Global, listed: &[Value]) -> Result<Vec<u64>, Unread> {
     let mut numbers = Vec::new(alloc);
-    for number in listed {
-        numbers.push(number.as_u64().ok_or(Unread::Malformed)?)?;
+    for one in listed {
+        numbers.push(number(one)?)?;
     }
     Ok(numbers)
 }
 
 fn small_number(value: &Value) -> Result<u8, Unread> {
-    let number = value.as_u64().ok_or(Unread::Malformed)?;
-    u8::try_from(number).map_err(|_| Unread::Malformed)
+    u8::try_from(number(value)?).map_err(|_| Unread::Malformed)
 }
 
-fn bytes(alloc: Global, value: &Value, name: &str) -> Result<Vec<u8>, Unread> {
-    bytes_of(
-        alloc,
-        member(value, name)?.as_str().ok_or(Unread::Malformed)?,
-    )
+fn number(value: &Value) -> Result<u64, Unread> {
+    value.as_u64().ok_or(Unread::Malformed)
+}
+
+fn bytes(alloc: Global, value: &Value) -> Result<Vec<u8>, Unread> {
+    bytes_of(alloc, text(value)?)
+}
+
+fn text(value: &Value) -> Result<&str, Unread> {
+    value.as_str().ok_or(Unread::Malformed)
 }
 
 fn list<'a>(value: &'a Value, name: &str) -> Result<&'a [Value], Unread>
     ensures { IfOk result (λ list. listed name.now (view value.now) ≡ Some (items_view list.now)) }
 {
-    match member(value, name)?.as_array() {
-        Some(list) => Ok(list.as_slice()),
+    items(member(value, name)?)
+}
+
+fn items(value: &Value) -> Result<&[Value], Unread>
+    ensures { IfOk result (λ items. as_array (view value.now) ≡ Some (items_view items.now)) }
+{
+    match value.as_array() {
+        Some(items) => Ok(items.as_slice()),
         None => Err(Unread::Malformed),
     }
 }

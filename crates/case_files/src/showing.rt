@@ -3,6 +3,7 @@
 use crate::case::Run;
 use crate::judging::Difference;
 use std::alloc::{AllocError, Global};
+use std::fmt;
 
 /// How many bytes of a message or an answer are shown.
 const SHOWN: usize = 240;
@@ -14,16 +15,18 @@ pub fn line_of_answer(
     difference: &Difference<'_>,
     cut: &str,
 ) -> Result<String, AllocError> {
-    let got = shown(alloc, difference.got)?;
-    let Some(exchange) = run.exchanges.get(difference.index) else {
-        return format!(in alloc; "{cut}, behind the last answer: got \"{got}\"");
-    };
-    let sent = shown(alloc, &exchange.send)?;
-    let wanted = shown(alloc, &exchange.answer)?;
-    let number = difference.index + 1;
-    format!(in alloc;
-        "{cut}, exchange {number}: sent \"{sent}\", wanted \"{wanted}\", got \"{got}\""
-    )
+    let got = Shown(difference.got);
+    match run.exchanges.get(difference.index) {
+        None => format!(in alloc; "{cut}, behind the last answer: got \"{got}\""),
+        Some(exchange) => {
+            let number = difference.index + 1;
+            let sent = Shown(&exchange.send);
+            let wanted = Shown(&exchange.answer);
+            format!(in alloc;
+                "{cut}, exchange {number}: sent \"{sent}\", wanted \"{wanted}\", got \"{got}\""
+            )
+        }
+    }
 }
 
 /// That the answers are right and the exit status isn't.
@@ -31,25 +34,30 @@ pub fn line_of_status(alloc: Global, wanted: u8, got: u8, cut: &str) -> Result<S
     format!(in alloc; "{cut}: wanted status {wanted}, got {got}")
 }
 
-// The first bytes, escaped, and how many more there are.
-fn shown(alloc: Global, bytes: &[u8]) -> Result<String, AllocError> {
-    let mut text = String::new(alloc);
-    for byte in bytes.iter().take(SHOWN) {
-        push_escaped(alloc, &mut text, *byte)?;
+// The first bytes of a message or an answer, escaped, and how many more there are.
+#[derive(Clone, Copy)]
+struct Shown<'a>(&'a [u8]);
+
+impl fmt::Display for Shown<'_> {
+    fn fmt<W: fmt::Write>(&self, f: &mut fmt::Formatter<W>) -> fmt::Result {
+        let bytes = self.0;
+        for byte in bytes.iter().take(SHOWN) {
+            write_escaped(f, *byte)?;
+        }
+        if bytes.len() > SHOWN {
+            write!(f, "... ({} bytes)", bytes.len())?;
+        }
+        Ok(())
     }
-    if bytes.len() > SHOWN {
-        text.push_str(format!(in alloc; "... ({} bytes)", bytes.len())?.as_str())?;
-    }
-    Ok(text)
 }
 
-fn push_escaped(alloc: Global, text: &mut String, byte: u8) -> Result<(), AllocError> {
+fn write_escaped<W: fmt::Write>(f: &mut fmt::Formatter<W>, byte: u8) -> fmt::Result {
     match byte {
-        b'\r' => text.push_str("\\r"),
-        b'\n' => text.push_str("\\n"),
-        b'"' => text.push_str("\\\""),
-        b'\\' => text.push_str("\\\\"),
-        b' '..=b'~' => text.push(byte as char),
-        _ => text.push_str(format!(in alloc; "\\x{byte:02x}")?.as_str()),
+        b'\r' => f.write_str("\\r"),
+        b'\n' => f.write_str("\\n"),
+        b'"' => f.write_str("\\\""),
+        b'\\' => f.write_str("\\\\"),
+        b' '..=b'~' => f.write_char(byte as char),
+        _ => write!(f, "\\x{byte:02x}"),
     }
 }

@@ -3,16 +3,13 @@
 use crate::seats::serve_by_seats;
 use case_files::{Damage, Outcome, Run};
 use filesd::{Finished, run};
-use nf_base::BlobId;
+use nf_base::{BlobId, MAX_MESSAGES};
 use nf_keeper::MemKeeper;
 use nf_outside::{ListClock, MemSink, MemSource};
 use nf_server::{MemDoor, Worker};
 use std::alloc::{AllocError, Global};
 use std::sync::Wait;
 use std::thread::Threads;
-
-/// How many messages a session answers at most.
-const MOST_MESSAGES: usize = 10_000;
 
 /// What a case's next run is over: what the runs before it left, where all input was read whole, where it was read byte by byte, and
 /// where two seats took turns.
@@ -73,7 +70,7 @@ fn serve_in_turn<R: Threads + Wait + Sync>(
     case: &Run,
     mut keeper: MemKeeper,
 ) -> Result<(Vec<u8>, MemKeeper), AllocError> {
-    if is_batch(&case.words) && case.exchanges.len() < MOST_MESSAGES {
+    if is_batch(&case.words) && case.exchanges.len() < MAX_MESSAGES {
         put_damage(&mut keeper, &case.damage)?;
         return serve_by_seats(rt, alloc, case, keeper);
     }

@@ -18,5 +18,5 @@ all_own s (e ∷ es) own =
     simp (eq-eqb e.seat seat (All-head (λ (x : Entry). x.seat ≡ seat) e es own))
     (let rest = all_own (after s e) es (All-tail (λ (x : Entry). x.seat ≡ seat) e es own) in cc)
 
-pub is_alone : (k : Kept) (told : Option Told) (faults : ℕ) → AreOwn k.history → IsAlone (book_of k told faults)
-is_alone k told faults own = all_own (opened k.opening) k.history own
+pub is_alone : (k : Kept) (start told : Option Told) (faults : ℕ) → AreOwn k.history → IsAlone (book_of k start told faults)
+is_alone k start told faults own = all_own (opened k.opening) k.history own

@@ -1,12 +1,12 @@
 -- What a run begins with, and what a run of `init` says by its parts.
 use Rattle.std.proofs.Common.{◌≡◌, ℕ, ◌≤◌, List, refl, sym, ap, subst, ◌∙◌}
 use Rattle.std.specs.Prelude.{Option, None, Some}
+use Rattle.nf_base.specs.declared.limits.TheConstants.{MAX_QUOTA}
 use Rattle.nf_base.specs.declared.rows.Row.{Row}
 use Rattle.nf_base.specs.Naming.{IsName}
 use Rattle.nf_command.proofs.Unbroken.{init_unbroken}
 use Rattle.nf_command.specs.First.{first_rows, init_rows}
 use Rattle.nf_desk.specs.Opened.{AreFirst}
-use Rattle.nf_rules.specs.Rules.{most_quota}
 use Rattle.nf_site.proofs.DemoRows.{demo_unbroken}
 use Rattle.nf_site.specs.Demo.{demo_rows}
 use Rattle.nf_site.specs.Held.{Held}
@@ -22,7 +22,7 @@ pub demo_first : (rows : List Row) → rows ≡ demo_rows → AreFirst rows
 demo_first rows is = subst AreFirst (sym is) (record { unbroken = demo_unbroken; meta = (_, _, refl) })
 
 pub init_first : (rows : List Row) (name digest : List ℕ) (quota : ℕ) → rows ≡ first_rows name digest quota → IsName name
-    → quota ≤ most_quota → IsSomeDigest digest → AreFirst rows
+    → quota ≤ MAX_QUOTA → IsSomeDigest digest → AreFirst rows
 init_first rows name digest quota is named fits (token, of_token) = subst AreFirst
     (sym (is ∙ ap (λ (d : List ℕ). first_rows name d quota) of_token))
     (record { unbroken = init_unbroken name token quota named fits; meta = (_, _, refl) })

@@ -3,19 +3,16 @@ use Rattle.std.proofs.Common.{◌≡◌, ◌≢◌, ◌⊎◌, ℕ, List, [], re
 use Rattle.std.specs.Prelude.{Option, None, Some}
 use Rattle.std.proofs.lemmas.List.Elements.{All-nil}
 use Rattle.nf_base.specs.declared.rows.Row.{Row}
-use Rattle.nf_defs.specs.Blobs.{Blobs}
-use Rattle.nf_desk.specs.Desk.{blobs_in}
 use Rattle.nf_desk.specs.Opened.{CountsFault, IsBroken, IsFault}
 use Rattle.nf_desk.specs.Opening.{IsLoaded, IsUnread}
 use Rattle.nf_desk.specs.declared.first.OpenFault.{OpenFault}
 use Rattle.nf_desk.specs.declared.first.OpenFault.TheVariants as fault
 use Rattle.nf_desk.specs.declared.first.Opening.TheVariants.{Kept}
 use Rattle.nf_keeper.specs.declared.keeper.Keeper.{Ghosts as KeeperOf}
-use Rattle.nf_laws.specs.Wholes.{IsSafe}
 use Rattle.nf_outside.specs.Causes.{Rose}
 use Rattle.nf_outside.specs.declared.traits.Ends.{Ghosts as EndsOf}
 use Rattle.nf_promises.proofs.Unfailing.{ends_well}
-use Rattle.nf_promises.specs.Complete.{IsUnrisen, StaysWhole}
+use Rattle.nf_promises.specs.Complete.{IsUnrisen}
 use Rattle.nf_promises.specs.Complete as session
 use Rattle.nf_rows.specs.Spelling.{Fits, Raw}
 use Rattle.nf_rows.specs.declared.fault.RowFault.{RowFault}
@@ -41,7 +38,8 @@ use Rattle.filesd.specs.declared.status.RowsFault.TheVariants as bad
 use Rattle.filesd.specs.declared.status.Status.{Status}
 use Rattle.filesd.specs.declared.status.Status.TheVariants as exit
 use Rattle.filesd.proofs.Spelled.{broken_never, loaded_is, missing_never, unread_never}
-use Rattle.filesd.proofs.Whole.{opened_safe, stays_whole, undamaged}
+use Rattle.filesd.proofs.Safe.{batch_begins}
+use Rattle.filesd.proofs.Whole.{stays_whole}
 use Rattle.filesd.proofs.Working.{Says, runs_say}
 
 -- ---- what isn't opened
@@ -93,13 +91,11 @@ pub batch_well : {C : Type 0} (reads : C → ℕ → C → Type 0) (a b : Outsid
     → Runs reads a b status site → status ≢ exit.RunFull → BatchEndsWell a b status
 batch_well reads a b status None unopened room = λ fits nothing. unopened_well a b status fits nothing.keeper unopened.why
 batch_well {C} reads a b status (Some site) serves room = λ fits nothing.
-    let begun : (shelf : Blobs) × ((blobs_in (told_opened serves.raws a.told) ≡ Some shelf) × IsSafe serves.rows shelf) = opened_safe a.told serves.raws serves.rows fits serves.loaded serves.opens in
     let first = first_book serves.rows (told_opened serves.raws a.told) a.faults in
-    let whole : StaysWhole first (book_of site.kept b.told b.faults) =
-    stays_whole first (book_of site.kept b.told b.faults)
-    (undamaged serves.rows (blobs_in (told_opened serves.raws a.told)) begun.0 serves.unbroken begun.1.0 begun.1.1) in
-    let ends = ends_well reads (scene_of a [] first) (scene_of b serves.kept (book_of site.kept b.told b.faults)) serves.end serves.session
-    (record { store = nothing.keeper; read = nothing.read; write = nothing.write }) whole in
+    let last = book_of site.kept (told_opened serves.raws a.told) b.told b.faults in
+    let ends = ends_well reads (scene_of a [] first) (scene_of b serves.kept last) serves.end serves.session
+    (record { store = nothing.keeper; read = nothing.read; write = nothing.write })
+    (stays_whole first (batch_begins reads a b status site serves fits)) in
     subst (λ (s : Status). IsWell s) (sym serves.ended)
     (end_well serves.end ends (subst (λ (s : Status). s ≢ exit.RunFull) serves.ended room))
 

@@ -13,3 +13,4 @@ pub mod Sole
 pub mod Together
 pub mod Whole
 pub mod Working
+pub mod Behind

@@ -1,11 +1,12 @@
 -- One GET of a file that is there, from what a session says.
-use Rattle.std.proofs.Common.{◌≡◌, ◌⊎◌, ℕ, ◌<◌, ◌==◌, ◌||◌, Bool, true, false, List, [], ◌∷◌, ◌++◌, length, refl, sym, ◌∙◌, ap, subst, inl, inr, arith, append-nil, length-append, if◌then◌else◌, Result, Ok, Err}
+use Rattle.std.proofs.Common.{◌≡◌, ◌⊎◌, ℕ, ◌<◌, ◌==◌, ◌-◌, ◌||◌, Bool, true, false, List, [], ◌∷◌, ◌++◌, length, refl, sym, ◌∙◌, ap, subst, inl, inr, arith, append-nil, length-append, if◌then◌else◌, Result, Ok, Err}
 use Rattle.std.specs.Prelude.{Option, None, Some, IfSome, Vec}
 use Rattle.std.specs.Io.KnownBytes.{Appends, Consumes}
 use Rattle.std.specs.declared.alloc.Global.{Global}
 use Rattle.std.proofs.lemmas.Bool.{eqb-false}
 use Rattle.std.proofs.lemmas.Option.{none-some, same_Some}
 use Rattle.httparse.specs.Grammar.{RequestHead, print_request, IsRequestHead}
+use Rattle.nf_base.specs.declared.limits.TheConstants.{MAX_MESSAGES}
 use Rattle.nf_base.specs.declared.content.Piece.{Piece}
 use Rattle.nf_dav.specs.Reply.{done_reply, file_head, listing_reply, made_reply, refusal_reply}
 use Rattle.nf_dav.specs.declared.replies.Manner.{Manner}
@@ -205,7 +206,7 @@ back_shown close unsent body a m b out book (inr (inr (inr (is, fails)))) =
 through_shown : {C : Type 0} (reads : C → ℕ → C → Type 0) (caller : Caller) (spot : Spot) (h : RequestHead) (body : List ℕ) (shelf : Blobs)
     (a : Scene C) (scenes : List (Scene C)) (p b : Scene C) → Prints h (get_of caller spot) → a.input ≡ Some (print_request h)
     → a.book.told ≡ Some shelf → IsKept a.book caller spot body → OnlyOwn a.book b.book
-    → Through reads a scenes p → Turn reads (length scenes == 9999) p b (Some ended.Closed) → Shows (closes_session (head_of h)) (waits (head_of h)) body a b
+    → Through reads a scenes p → Turn reads (length scenes == MAX_MESSAGES - 1) p b (Some ended.Closed) → Shows (closes_session (head_of h)) (waits (head_of h)) body a b
 through_shown {C} reads caller spot h body shelf a [] p b prints input told kept only through turn =
     told_shown (closes_session (head_of h)) (waits (head_of h)) body shelf a b told
     (one_shown reads caller spot h body a b (Some ended.Closed) prints input tt
@@ -293,6 +294,7 @@ serves_one {C} reads a b status (Some site) runs own =
     let end : runs.end ≡ Some ended.Closed = done_is runs.end (sym done ∙ runs.ended) in
     closed_one reads told a.faults _ _ input before output
     (subst (λ (e : Option Ended). Session reads (scene_of a [] (first_book runs.rows (told_opened runs.raws a.told) a.faults))
-    (scene_of b runs.kept (book_of site.kept b.told b.faults)) e) end runs.session)
-    (ap (λ (o : Option (List ℕ)). stream [] o) left) first last fresh (is_alone site.kept b.told b.faults own)
+    (scene_of b runs.kept (book_of site.kept (told_opened runs.raws a.told) b.told b.faults)) e) end runs.session)
+    (ap (λ (o : Option (List ℕ)). stream [] o) left) first last fresh
+    (is_alone site.kept (told_opened runs.raws a.told) b.told b.faults own)
     h caller spot body prints file is

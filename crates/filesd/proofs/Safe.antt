@@ -1,14 +1,15 @@
 -- A run over a safe store leaves a safe one, and nothing is damaged at any of its messages.
 use Rattle.std.proofs.Common.{◌≡◌, ◌≢◌, ◌⊎◌, ⊎_elim, ℕ, List, [], ◌∷◌, refl, sym, ◌∙◌, ap, subst, inl, inr, arith}
-use Rattle.std.specs.Prelude.{Option, None, Some, IfSome, length}
+use Rattle.std.specs.Prelude.{Option, None, Some, IfSome, IsSome, length}
 use Rattle.std.specs.declared.snapshot.Snapshot.{Snapshot}
 use Rattle.std.proofs.lemmas.List.Elements.{All-nil}
 use Rattle.std.proofs.lemmas.Option.{same_Some}
+use Rattle.nf_base.specs.declared.limits.TheConstants.{MAX_SEATS}
 use Rattle.nf_base.specs.declared.content.Piece.{Piece}
 use Rattle.nf_base.specs.declared.rows.Row.{Row}
 use Rattle.nf_command.specs.First.{first_rows}
 use Rattle.nf_defs.specs.Prelude.{Blobs}
-use Rattle.nf_desk.specs.Desk.{Served, blobs_in, first_blob_of, meanings}
+use Rattle.nf_desk.specs.Desk.{Served, TellsSite, blobs_in, meanings}
 use Rattle.nf_desk.specs.Opened.{Opens, first_of, told_first}
 use Rattle.nf_desk.specs.declared.first.First.{First}
 use Rattle.nf_desk.specs.declared.first.Opening.TheVariants.{Kept as OverKept}
@@ -25,7 +26,7 @@ use Rattle.nf_server.specs.declared.workers.Worked.{Worked}
 use Rattle.nf_server.specs.declared.workers.Worked.TheVariants as worked
 use Rattle.nf_server.specs.declared.workers.Worker.{Worker}
 use Rattle.nf_session.proofs.Causes.{session_follows}
-use Rattle.nf_session.specs.Prelude.{Book, TellsStill}
+use Rattle.nf_session.specs.Prelude.{Book}
 use Rattle.nf_site.specs.Held.{Held}
 use Rattle.nf_site.specs.Kept.{Kept, opened_over}
 use Rattle.nf_told.specs.Told.{Told}
@@ -46,8 +47,9 @@ use Rattle.filesd.specs.Seat.{book_of}
 use Rattle.filesd.specs.Session.{Runs, Serves, first_book, scene_of}
 use Rattle.filesd.specs.declared.status.Status.{Status}
 use Rattle.filesd.specs.declared.status.Status.TheVariants as exit
+use Rattle.filesd.proofs.Closing.{closing_tells}
 use Rattle.filesd.proofs.Spelled.{loaded_is, missing_never, opened_so}
-use Rattle.filesd.proofs.Whole.{each_has, has_safe, left_is_safe, opened_safe, stay_whole, undamaged, undamaged_on, undamaged_still}
+use Rattle.filesd.proofs.Whole.{each_has, has_safe, left_is_safe, opened_safe, stay_whole, tells_some, undamaged}
 
 -- ---- what is left
 
@@ -57,14 +59,19 @@ same_keeps before after same = record {
   empty = λ none. inl (subst (λ (told : Option Told). IsEmptyStore told) (sym same) none);
 }
 
-leaves_safe : (k : Kept) (told : Option Told) → Leaves k told → (shelf : Blobs) → blobs_in told ≡ Some shelf
-    → ((piece : Piece) → IsDamaged k.opening shelf piece → ⊥) → IsSafeStore told
-leaves_safe k None leaves shelf tells none = absurd (cc)
-leaves_safe k (Some it) leaves shelf tells none =
-    left_is_safe k it leaves (λ piece damaged. none piece (subst (λ (z : Blobs). IsDamaged k.opening z piece) (same_Some it.blobs shelf tells) damaged))
+leaves_safe : (k : Kept) (start : Option Blobs) (told : Option Told) → Leaves k told → IfSome told (TellsSite start k)
+    → IsSome (blobs_in told)
+    → (shelf : Blobs) → start ≡ Some shelf → ((piece : Piece) → IsDamaged k.opening shelf piece → ⊥) → IsSafeStore told
+leaves_safe k start None leaves site some shelf tells none = absurd (cc)
+leaves_safe k start (Some it) leaves site some shelf tells none =
+    left_is_safe k it leaves start site
+    (λ piece damaged.
+    none piece (subst (λ (z : Blobs). IsDamaged k.opening z piece) (same_Some site.begun shelf (sym site.at_start ∙ tells)) damaged))
 
-undamaged_safe : (k : Kept) (told : Option Told) → Leaves k told → AreUndamaged k.opening (blobs_in told) → IsSafeStore told
-undamaged_safe k told leaves are = leaves_safe k told leaves are.shelf are.tells are.none
+undamaged_safe : (k : Kept) (start : Option Blobs) (told : Option Told) → Leaves k told → IfSome told (TellsSite start k)
+    → IsSome (blobs_in told)
+    → AreUndamaged k.opening start → IsSafeStore told
+undamaged_safe k start told leaves site some are = leaves_safe k start told leaves site some are.shelf are.tells are.none
 
 -- ---- `batch`
 
@@ -72,7 +79,10 @@ pub batch_begins : {C : Type 0} (reads : C → ℕ → C → Type 0) → BatchBe
 batch_begins reads a b status site serves good =
     let begun : (shelf : Blobs) × ((blobs_in (told_opened serves.raws a.told) ≡ Some shelf) × IsSafe serves.rows shelf) =
     opened_safe a.told serves.raws serves.rows good serves.loaded serves.opens in
-    undamaged serves.rows (blobs_in (told_opened serves.raws a.told)) begun.0 serves.unbroken begun.1.0 begun.1.1
+    record {
+      tells = subst (λ (o : Option Blobs). IsSome o) (sym begun.1.0) refl;
+      start = undamaged serves.rows (blobs_in (told_opened serves.raws a.told)) begun.0 serves.unbroken begun.1.0 begun.1.1;
+    }
 
 pub batch_keeps : {C : Type 0} (reads : C → ℕ → C → Type 0) (a b : Outside C) (status : Status) (site : Option Held)
     → Runs reads a b status site → IfSome site (λ site. Leaves site.kept b.told) → KeepsSafe a.told b.told
@@ -85,9 +95,10 @@ batch_keeps reads a b status (Some site) serves leaves = record {
     here : IsGoodStore a.told → IsSafeStore b.told
     here good =
         let first = first_book serves.rows (told_opened serves.raws a.told) a.faults in
-        let last = book_of site.kept b.told b.faults in
-        undamaged_safe site.kept b.told leaves
-        ((stay_whole reads).1 (scene_of a [] first) (scene_of b serves.kept last) serves.end serves.session (batch_begins reads a b status site serves good))
+        let last = book_of site.kept (told_opened serves.raws a.told) b.told b.faults in
+        let are : IsUndamaged last = (stay_whole reads).1 (scene_of a [] first) (scene_of b serves.kept last) serves.end serves.session
+        (batch_begins reads a b status site serves good) in
+        undamaged_safe site.kept (blobs_in (told_opened serves.raws a.told)) b.told leaves serves.told are.tells are.start
 
 -- ---- `init`
 
@@ -107,7 +118,9 @@ init_keeps name digest quota a b status (Some site) begins leaves = record {
     here : (it : Told) → a.told ≡ Some it → IsSafeStore b.told
     here it tells =
         let told = begins.told ∙ ap (λ (t : Option Told). opening.told_first (first_rows name digest quota) None t) tells in
-        leaves_safe site.kept b.told leaves it.blobs (ap blobs_in told)
+        let blobs : blobs_in b.told ≡ Some it.blobs = ap blobs_in told in
+        leaves_safe site.kept (blobs_in b.told) b.told leaves leaves.told
+        (subst (λ (o : Option Blobs). IsSome o) (sym blobs) refl) it.blobs blobs
         (λ piece damaged. init_undamaged name digest quota it.blobs piece
         (subst (λ (k : Kept). IsDamaged k.opening it.blobs piece) begins.site damaged))
 
@@ -134,31 +147,34 @@ module _ {K I A C D : Type 0} (k : KeeperOf K) (i : EndsOf I) (a : EndsOf A) (re
 
     module _ (served : IsServed k i a reads door connections runs.desk left before after status site) where
       pub first_is : served.memory.first ≡ runs.desk
-      first_is = work_begins k i a reads door connections (of_the_first 64 runs.desk) served.memory before after served.result served.work
+      first_is =
+          work_begins k i a reads door connections (of_the_first MAX_SEATS runs.desk) served.memory before after served.result served.work
 
       pub opening_same : (meanings k).opening served.closes.desk ≡ (meanings k).opening runs.desk
       opening_same = served.closes.agrees.opening ∙ ap (meanings k).opening first_is
 
-      -- the rows stay, and what was told at the opening is told still
-      site_undamaged : IsSafeStore (k.told keeper) → AreUndamaged site.kept.opening (blobs_in (k.told left))
-      site_undamaged good =
+      -- the rows stay, and the keeper of the start, and what tells tells still
+      site_safe : IsSafeStore (k.told keeper) → Leaves site.kept (k.told left) → IsSafeStore (k.told left)
+      site_safe good leaves =
           let desk = served.closes.desk in
           let rows : desk.site.kept.opening ≡ runs.desk.site.kept.opening = ap (λ (o : List Row × Snapshot K). o.0) opening_same in
           let start : desk.start.value ≡ runs.desk.keeper = ap (λ (o : List Row × Snapshot K). o.1.value) opening_same ∙ runs.start in
           let begun : AreUndamaged desk.site.kept.opening (blobs_in (k.told desk.start.value)) =
           subst (λ (z : K). AreUndamaged desk.site.kept.opening (blobs_in (k.told z))) (sym start)
           (subst (λ (these : List Row). AreUndamaged these (blobs_in (k.told runs.desk.keeper))) (sym rows) (desk_undamaged good)) in
-          let now : AreUndamaged desk.site.kept.opening (blobs_in (k.told desk.keeper)) =
-          undamaged_still desk.site.kept.opening (first_blob_of desk.site.kept.opening) (blobs_in (k.told desk.start.value)) (blobs_in (k.told desk.keeper))
-          (omega arith) served.closes.is_desk.since begun in
-          subst (λ (z : K). AreUndamaged site.kept.opening (blobs_in (k.told z))) (sym served.closes.keeper_is)
-          (subst (λ (h : Held). AreUndamaged h.kept.opening (blobs_in (k.told desk.keeper))) (sym served.closes.site_is) now)
+          let some : IsSome (blobs_in (k.told desk.keeper)) =
+          tells_some _ _ (blobs_in (k.told desk.start.value)) (blobs_in (k.told desk.keeper)) served.closes.is_desk.since
+          (subst (λ (o : Option Blobs). IsSome o) (sym begun.tells) refl) in
+          undamaged_safe site.kept (blobs_in (k.told desk.start.value)) (k.told left) leaves
+          (closing_tells k served.memory site left served.closes)
+          (subst (λ (z : K). IsSome (blobs_in (k.told z))) (sym served.closes.keeper_is) some)
+          (subst (λ (h : Held). AreUndamaged h.kept.opening (blobs_in (k.told desk.start.value))) (sym served.closes.site_is) begun)
 
     desk_keeps : IsSafeStore (k.told keeper) → Leaves site.kept (k.told left)
         → ServesDesk k i a reads door connections runs.desk left before after status (Some site) → IsSafeStore (k.told left)
     desk_keeps good leaves (inl none) =
         subst (λ (told : Option Told). IsSafeStore told) (sym (ap (λ (z : K). k.told z) none.keeper_is ∙ opened_told)) good
-    desk_keeps good leaves (inr served) = undamaged_safe site.kept (k.told left) leaves (site_undamaged served good)
+    desk_keeps good leaves (inr served) = site_safe served good leaves
 
   pub serve_keeps : (connections : ℕ) (keeper left : K) (before after : List (Worker D C)) (status : Status) (site : Option Held)
       → RunsDoors k i a reads door connections keeper left before after status site → IfSome site (λ site. Leaves site.kept (k.told left))
@@ -179,20 +195,31 @@ module _ {K I A C D : Type 0} (k : KeeperOf K) (i : EndsOf I) (a : EndsOf A) (re
     visits_whole v.memory v.clock visits n d so.1 ((stay_whole reads).1 _ _ v.ended so.0.session are),
   )
 
-  work_whole : (connections : ℕ) (first : Served K) → AreUndamaged first.site.kept.opening (blobs_in (k.told first.keeper))
+  -- a desk that was just opened
+  begun_whole : (first : Served K) (m : Memory (Served K)) → first.start.value ≡ first.keeper
+      → AreUndamaged first.site.kept.opening (blobs_in (k.told first.keeper)) → m.known ≡ first → IsUndamaged (book_in k m)
+  begun_whole first m start are known = record {
+    tells = subst (λ (x : Served K). IsSome (blobs_in (k.told x.keeper))) (sym known)
+        (subst (λ (o : Option Blobs). IsSome o) (sym are.tells) refl);
+    start = subst (λ (x : Served K). AreUndamaged x.site.kept.opening (blobs_in (k.told x.start.value))) (sym known)
+        (subst (λ (z : K). AreUndamaged first.site.kept.opening (blobs_in (k.told z))) (sym start) are);
+  }
+
+  work_whole : (connections : ℕ) (first : Served K) → first.start.value ≡ first.keeper
+      → AreUndamaged first.site.kept.opening (blobs_in (k.told first.keeper))
       → (m n : Memory (Served K)) (before after : List (Worker D C)) (result : Worked)
       (work : WorkBeside (longer (meanings k)) (Works k i a reads door connections) m n before after result) → m.known ≡ first
       → WorkBeginsWhole k i a reads door connections m n before after result work
-  work_whole connections first are m n [] [] result work known = tt
-  work_whole connections first are m n [] (w ∷ after) result work known = work
-  work_whole connections first are m n (v ∷ before) [] result work known = work
-  work_whole connections first are m n (v ∷ before) (w ∷ after) result (mine, others, one, rest, works, beside, knows, ends) known = (
-    visits_whole (split_from m) v.clock works.visits mine w.clock works.in_turn
-        (subst (λ (x : Served K). AreUndamaged x.site.kept.opening (blobs_in (k.told x.keeper))) (sym known) are),
-    work_whole connections first are (having_split m) others before after rest beside known,
+  work_whole connections first start are m n [] [] result work known = tt
+  work_whole connections first start are m n [] (w ∷ after) result work known = work
+  work_whole connections first start are m n (v ∷ before) [] result work known = work
+  work_whole connections first start are m n (v ∷ before) (w ∷ after) result (mine, others, one, rest, works, beside, knows, ends) known = (
+    visits_whole (split_from m) v.clock works.visits mine w.clock works.in_turn (begun_whole first (split_from m) start are known),
+    work_whole connections first start are (having_split m) others before after rest beside known,
   )
 
   pub serve_begins : ServeBeginsWhole k i a reads door
   serve_begins connections keeper left before after status site runs served good =
-      work_whole connections runs.desk (desk_undamaged connections keeper left before after status site runs good) (of_the_first 64 runs.desk)
+      work_whole connections runs.desk runs.start (desk_undamaged connections keeper left before after status site runs good)
+      (of_the_first MAX_SEATS runs.desk)
       served.memory before after served.result served.work refl

@@ -3,7 +3,7 @@ use Rattle.std.proofs.Common.{◌≡◌, ℕ, List, [], ◌∷◌, refl, ◌∙�
 use Rattle.std.specs.Option.{IfSome}
 use Rattle.std.specs.Prelude.{Option, None, Some}
 use Rattle.nf_base.specs.declared.rows.Row.{Row}
-use Rattle.nf_desk.specs.Desk.{Shown}
+use Rattle.nf_desk.specs.Desk.{Shown, TellsSite, blobs_in}
 use Rattle.nf_desk.specs.Opened.{Opens, first_blob, told_first}
 use Rattle.nf_desk.specs.Opening.{OpensTo}
 use Rattle.nf_desk.specs.declared.first.First.{First}
@@ -13,7 +13,7 @@ use Rattle.nf_outside.specs.Causes.{Rose}
 use Rattle.nf_rows.specs.Spelling.{Raw}
 use Rattle.nf_rules.specs.Rules.{AreUnbroken}
 use Rattle.nf_session.proofs.Causes.{session_follows}
-use Rattle.nf_session.specs.Prelude.{Book, own_from, Session}
+use Rattle.nf_session.specs.Prelude.{own_from}
 use Rattle.nf_site.specs.Demo.{demo_rows}
 use Rattle.nf_site.specs.Held.{Held}
 use Rattle.nf_site.specs.Kept.{Kept, opened_over}
@@ -24,10 +24,11 @@ use Rattle.filesd.specs.Opening.{IsUnopened, WhyUnopened, demo_blob, over_any, t
 use Rattle.filesd.specs.Opening as opening
 use Rattle.filesd.specs.Outside.{Outside}
 use Rattle.filesd.specs.Seat.{AreOwn, book_of, seat}
-use Rattle.filesd.specs.Session.{Runs, ServesDesk, first_book, scene_of}
+use Rattle.filesd.specs.Session.{Runs, ServesDesk, first_book}
 use Rattle.filesd.specs.declared.status.Status.{Status}
 use Rattle.filesd.specs.declared.status.Status.TheVariants as exit
 use Rattle.filesd.proofs.Alone.{is_alone}
+use Rattle.filesd.proofs.Closing.{session_between}
 use Rattle.filesd.proofs.Runs.{has_room, read_rose, write_rose}
 
 -- what is told once the demonstration rows are the first
@@ -43,41 +44,44 @@ none_own : (k : Kept) → k.history ≡ [] → own_from seat (opened k.opening) 
 none_own k none = ap (λ (es : List Entry). own_from seat (opened k.opening) es) none
 
 -- the book with which the session begins
-book_is : (k : Kept) (rows : List Row) (told now : Option Told) (before faults : ℕ) → k ≡ opened_over rows → told ≡ now → faults ≡ before
-    → book_of k told faults ≡ first_book rows now before
-book_is k rows told now before faults begun tells same =
-    ap (λ (z : Kept). book_of z told faults) begun ∙ ap (λ (o : Option Told). book_of (opened_over rows) o faults) tells
-    ∙ ap (λ (n : ℕ). book_of (opened_over rows) now n) same
+book_is : (k : Kept) (rows : List Row) (start told now : Option Told) (before faults : ℕ) → k ≡ opened_over rows → start ≡ told → told ≡ now
+    → faults ≡ before → book_of k start told faults ≡ first_book rows now before
+book_is k rows start told now before faults begun first tells same =
+    ap (λ (z : Kept). book_of z start told faults) begun ∙ ap (λ (o : Option Told). book_of (opened_over rows) o told faults) first
+    ∙ ap (λ (o : Option Told). book_of (opened_over rows) o o faults) tells ∙ ap (λ (n : ℕ). book_of (opened_over rows) now now n) same
 
 module _ {C : Type 0} (reads : C → ℕ → C → Type 0) (a b : Outside C) (status : Status) (desk : Shown) where
   -- a session over a desk that was opened so
   pub serves : (site : Option Held) (first : First)
       → Opens (Either first) a.told desk.told desk.site → first.rows ≡ demo_rows → first_blob first ≡ demo_blob
-      → AreUnbroken desk.site.opening → desk.faults ≡ a.faults → ServesDesk reads desk a b status site → Runs reads a b status site
-  serves None first opens rows blob unbroken same never = absurd never
-  serves (Some site) first opens rows blob unbroken same (end, kept, ended, few, session) = record {
-    raws = opens.raws;
-    loaded = opens.loaded;
-    rows = desk.site.opening;
-    opens = subst (λ (these : List Row). OpensTo these opens.raws desk.site.opening) rows opens.rows;
-    unbroken = unbroken;
-    end = end;
-    ended = ended;
-    kept = kept;
-    few = few;
-    session = subst (λ (book : Book). Session reads (scene_of a [] book) (scene_of b kept (book_of site.kept b.told b.faults)) end)
-        (book_is desk.site desk.site.opening desk.told (told_opened opens.raws a.told) a.faults desk.faults opens.begun
-        (opens.told ∙ told_is first opens.raws a.told rows blob) same) session;
-    opening = (session_follows reads _ _ end session).lasts.opening;
-  }
+      → AreUnbroken desk.site.opening → desk.faults ≡ a.faults → desk.start.told ≡ desk.told → ServesDesk reads desk a b status site
+      → Runs reads a b status site
+  serves None first opens rows blob unbroken same begun never = absurd never
+  serves (Some site) first opens rows blob unbroken same begun (end, kept, ended, few, session, told) =
+      let tells = opens.told ∙ told_is first opens.raws a.told rows blob in record {
+        raws = opens.raws;
+        loaded = opens.loaded;
+        rows = desk.site.opening;
+        opens = subst (λ (these : List Row). OpensTo these opens.raws desk.site.opening) rows opens.rows;
+        unbroken = unbroken;
+        end = end;
+        ended = ended;
+        kept = kept;
+        few = few;
+        session = session_between reads a b kept end _ _ _ _
+            (book_is desk.site desk.site.opening desk.start.told desk.told (told_opened opens.raws a.told) a.faults desk.faults opens.begun
+            begun tells same) (ap (λ (start : Option Told). book_of site.kept start b.told b.faults) (begun ∙ tells)) session;
+        opening = (session_follows reads _ _ end session).lasts.opening;
+        told = subst (λ (start : Option Told). IfSome b.told (TellsSite (blobs_in start) site.kept)) (begun ∙ tells) told;
+      }
 
   -- it never finds the run full
   pub serving_has_room : (site : Option Held) → desk.site.history ≡ [] → ServesDesk reads desk a b status site
       → IfSome site (λ site. AreOwn site.kept.history) → status ≡ exit.RunFull → ⊥
   serving_has_room None none never own full = never
-  serving_has_room (Some site) none (end, kept, ended, few, session) own full =
+  serving_has_room (Some site) none (end, kept, ended, few, session, told) own full =
       has_room reads _ _ end status session ended (record { known = none; own = none_own desk.site none })
-      (is_alone site.kept b.told b.faults own) full
+      (is_alone site.kept desk.start.told b.told b.faults own) full
 
 -- ---- faults of the ends
 

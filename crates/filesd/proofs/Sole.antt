@@ -1,10 +1,11 @@
 -- The one seat of a hub: all entries and strikes are its own, and what it knows is the desk.
-use Rattle.std.proofs.Common.{◌≡◌, ◌≢◌, ℕ, zero, suc, ◌+◌, ◌<◌, ◌≤◌, Bool, true, false, ◌==◌, ◌||◌, ◌&&◌, if◌then◌else◌, List, [], ◌∷◌, refl, sym, ◌∙◌, ap, subst, inl, inr, arith}
+use Rattle.std.proofs.Common.{◌≡◌, ◌≢◌, ℕ, zero, suc, ◌+◌, ◌-◌, ◌<◌, ◌≤◌, Bool, true, false, ◌==◌, ◌||◌, ◌&&◌, if◌then◌else◌, List, [], ◌∷◌, refl, sym, ◌∙◌, ap, subst, inl, inr, arith}
 use Rattle.std.specs.Prelude.{None, get_or, nat_le, nat_lt, sum, IsTrue}
 use Rattle.std.proofs.lemmas.Bool.{eqb-false, eqb-true, eq-eqb}
 use Rattle.std.proofs.lemmas.Bool.Decides.{nat_tests}
 use Rattle.std.proofs.lemmas.List.Elements.{All-cons, All-head, All-nil, All-tail}
 use Rattle.std.proofs.lemmas.List.Sums.{sum_by-cons}
+use Rattle.nf_base.specs.declared.limits.TheConstants.{MAX_SEATS}
 use Rattle.nf_desk.specs.Desk.{IsDesk, Served, book_at, entries_by, failed_marks, meanings, risen, shown, strikes_of}
 use Rattle.nf_hub.specs.Seats.{book_in}
 use Rattle.nf_keeper.specs.declared.keeper.Keeper.{Ghosts as KeeperOf}
@@ -67,15 +68,15 @@ sum_first (x ∷ xs) none = let rest : sum xs ≡ 0 = sum_none xs none in omega 
 
 -- those of a seat from which no other was split off
 abbrev pub all_numbers : {K : Type 0} → Served K → Numbers (Served K)
-all_numbers desk = numbers_of (of_the_first 64 desk)
+all_numbers desk = numbers_of (of_the_first MAX_SEATS desk)
 
-whole_by : (n : ℕ) → 0 < n → n ≤ 64 → ((n == 1) || ((nat_le 2 n && nat_lt n 65) || false)) ≡ true
+whole_by : (n : ℕ) → 0 < n → n ≤ MAX_SEATS → ((n == 1) || ((nat_le 2 n && nat_lt n (MAX_SEATS + 1)) || false)) ≡ true
 whole_by n low high = grind (arith, nat_tests)
 
 pub is_whole : {K : Type 0} (desk : Served K) → IsWhole (all_numbers desk)
 is_whole desk n low high = whole_by n low high
 
-left_by : (n : ℕ) → 0 < n → n ≢ seat → n ≤ 64 → (nat_le 2 n && nat_lt n 65) ≡ true
+left_by : (n : ℕ) → 0 < n → n ≢ seat → n ≤ MAX_SEATS → (nat_le 2 n && nat_lt n (MAX_SEATS + 1)) ≡ true
 left_by n low other high = grind (arith, nat_tests)
 
 -- ---- what the seat knows
@@ -88,11 +89,11 @@ module _ {K : Type 0} (k : KeeperOf K) where
   }
 
   abbrev book_with : Served K → ℕ → Book
-  book_with desk strikes = book_of desk.site.kept (k.told desk.keeper) strikes
+  book_with desk strikes = book_of desk.site.kept (k.told desk.start.value) (k.told desk.keeper) strikes
 
   -- of a desk that was just opened
   pub first_book_is : (desk : Served K) → IsFresh (meanings k) desk → desk.start.value ≡ desk.keeper
-      → book_in k (of_the_first 64 desk) ≡ book_with desk (k.faults desk.keeper)
+      → book_in k (of_the_first MAX_SEATS desk) ≡ book_with desk (k.faults desk.keeper)
   first_book_is desk fresh start =
       let marks : failed_marks (entries_by seat desk.site.kept.history) ≡ 0 =
       ap (λ (es : List Entry). failed_marks (entries_by seat es)) fresh.no_entries in
@@ -105,10 +106,10 @@ module _ {K : Type 0} (k : KeeperOf K) where
 
   module _ (m : Memory (Served K)) (first desk : Served K) (numbers : numbers_of m ≡ all_numbers first)
       (agrees : Agrees (meanings k) m desk) where
-    seats_are : m.seats ≡ 64
+    seats_are : m.seats ≡ MAX_SEATS
     seats_are = ap (λ (n : Numbers (Served K)). n.seats) numbers
 
-    left_are : m.left ≡ 63
+    left_are : m.left ≡ MAX_SEATS - 1
     left_are = ap (λ (n : Numbers (Served K)). n.left) numbers
 
     number_is : m.number ≡ seat
@@ -120,9 +121,9 @@ module _ {K : Type 0} (k : KeeperOf K) where
     -- no other seat did anything
     others : (n : ℕ) → n ≢ seat → HasNothing (meanings k) n desk
     others zero other = agrees.outside zero (inl refl)
-    others (suc n) other = here (nat_lt 64 (suc n)) refl
+    others (suc n) other = here (nat_lt MAX_SEATS (suc n)) refl
       where
-        here : (out : Bool) → nat_lt 64 (suc n) ≡ out → HasNothing (meanings k) (suc n) desk
+        here : (out : Bool) → nat_lt MAX_SEATS (suc n) ≡ out → HasNothing (meanings k) (suc n) desk
         here true is = agrees.outside (suc n) (inr (rw seats_are (grind (arith, nat_tests))))
         here false is =
             agrees.left (suc n) (subst (λ (numbers : Numbers (Served K)). IsTrue (is_left numbers (suc n))) (sym numbers)

@@ -4,6 +4,7 @@ use Rattle.std.proofs.lemmas.Bool.{cases_lt}
 use Rattle.std.proofs.lemmas.List.Elements.{All-cons, All-nil}
 use Rattle.std.specs.List.{All}
 use Rattle.std.specs.declared.snapshot.Snapshot.{Snapshot}
+use Rattle.nf_base.specs.declared.limits.TheConstants.{MAX_SEATS}
 use Rattle.nf_base.specs.declared.rows.Row.{Row}
 use Rattle.nf_desk.specs.Desk.{Served, entries_by, meanings}
 use Rattle.nf_keeper.specs.declared.keeper.Keeper.{Ghosts as KeeperOf}
@@ -42,16 +43,16 @@ all_of first count (e ∷ es) none =
     high = ⊎_elim (λ (below : e.seat < first + count). below) (λ (up : first + count ≤ e.seat). absurd (its_entry e es (none e.seat (inr up))))
         (cases_lt e.seat (first + count))
 
-module _ {K : Type 0} (k : KeeperOf K) (m : Memory (Served K)) (first last : Served K) (count : ℕ) (few : count < 64)
-    (fresh : IsFresh (meanings k) first) (seats : m.seats ≡ 64) (numbered : Numbered (of_the_first 64 first) m count)
+module _ {K : Type 0} (k : KeeperOf K) (m : Memory (Served K)) (first last : Served K) (count : ℕ) (few : count < MAX_SEATS)
+    (fresh : IsFresh (meanings k) first) (seats : m.seats ≡ MAX_SEATS) (numbered : Numbered (of_the_first MAX_SEATS first) m count)
     (agrees : Agrees (meanings k) m last) where
   abbrev HasNone : ℕ → Type 0
   HasNone n = entries_by n last.site.kept.history ≡ []
 
-  left_is : m.left + count ≡ 63
+  left_is : m.left + count ≡ MAX_SEATS - 1
   left_is = numbered.left
 
-  none_left : (n : ℕ) → 2 + count ≤ n → n ≤ 64 → HasNone n
+  none_left : (n : ℕ) → 2 + count ≤ n → n ≤ MAX_SEATS → HasNone n
   none_left n low up =
       let next : m.next ≡ 2 + count = numbered.next (omega (arith, left_is, low, up)) in
       (agrees.left n (left_tests (numbers_of m) n (omega (arith, next, low), omega (arith, next, left_is, up)))).0
@@ -66,9 +67,9 @@ module _ {K : Type 0} (k : KeeperOf K) (m : Memory (Served K)) (first last : Ser
   none_else zero out = (agrees.outside zero (inl refl)).0
   none_else (suc zero) out = none_first
   none_else (suc (suc n)) out = ⊎_elim
-      (λ (above : 64 < suc (suc n)). (agrees.outside (suc (suc n)) (inr (omega (arith, above, seats)))).0)
-      (λ (within : suc (suc n) ≤ 64). none_left (suc (suc n)) (behind out) within)
-      (cases_lt 64 (suc (suc n)))
+      (λ (above : MAX_SEATS < suc (suc n)). (agrees.outside (suc (suc n)) (inr (omega (arith, above, seats)))).0)
+      (λ (within : suc (suc n) ≤ MAX_SEATS). none_left (suc (suc n)) (behind out) within)
+      (cases_lt MAX_SEATS (suc (suc n)))
     where
       behind : (suc (suc n) < 2) ⊎ (2 + count ≤ suc (suc n)) → 2 + count ≤ suc (suc n)
       behind (inl below) = absurd (omega (arith, below))
@@ -100,15 +101,16 @@ module _ {K I A C D : Type 0} (k : KeeperOf K) (i : EndsOf I) (a : EndsOf A) (re
       (ap (λ (s : State). s.tickets) (sym served.closes.history.replayed) ∙ served.closes.idle) in
       let history = ap (λ (h : Held). h.kept.history) same in
       let all = all_stand k i a reads door connections site.kept.opening site.kept.history legal none runs.desk served.memory.known desk runs.fresh rows
-      (served.closes.agrees.known.added, history ∙ served.closes.agrees.known.entries) (sym history) 2 (of_the_first 64 runs.desk) served.memory
+      (served.closes.agrees.known.added, history ∙ served.closes.agrees.known.entries) (sym history) 2 (of_the_first MAX_SEATS runs.desk) served.memory
       before after served.result served.work refl refl refl served.heard.heard served.closes.agrees.joined in
       record {
         stand = all;
         whose = subst (λ (h : Held). All (IsOfSeats 2 (length before)) h.kept.history) (sym same)
             (whose_are k served.memory runs.desk desk (length before) few runs.fresh
-            (work_spans k i a reads door connections (of_the_first 64 runs.desk) served.memory before after served.result served.work).seats
-            (work_numbers k i a reads door connections (of_the_first 64 runs.desk) served.memory before after served.result served.work (omega (arith, few)))
+            (work_spans k i a reads door connections (of_the_first MAX_SEATS runs.desk) served.memory before after served.result served.work).seats
+            (work_numbers k i a reads door connections (of_the_first MAX_SEATS runs.desk)
+            served.memory before after served.result served.work (omega (arith, few)))
             served.closes.agrees);
-        full = λ is. full_long k i a reads door connections site.kept.opening site.kept.history 2 (of_the_first 64 runs.desk) served.memory before after
+        full = λ is. full_long k i a reads door connections site.kept.opening site.kept.history 2 (of_the_first MAX_SEATS runs.desk) served.memory before after
             served.result served.work all (was_full served.result (sym served.status_is ∙ is));
       }

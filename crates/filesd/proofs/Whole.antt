@@ -1,5 +1,5 @@
 -- The bytes of each piece that rows name: they are there when a run begins over a safe store, at each message, and when it ends.
-use Rattle.std.proofs.Common.{◌≡◌, ◌≢◌, ◌⊎◌, ⊎_elim, ℕ, ◌≤◌, List, [], ◌∷◌, map, refl, sym, ◌∙◌, ap, subst, inl, inr}
+use Rattle.std.proofs.Common.{◌≡◌, ◌≢◌, ◌⊎◌, ⊎_elim, ℕ, List, [], ◌∷◌, map, refl, sym, ◌∙◌, ap, subst, inl, inr}
 use Rattle.std.specs.Prelude.{Option, None, Some, IsSome}
 use Rattle.std.specs.List.{All, AllByRecursion}
 use Rattle.std.proofs.lemmas.List.Elements.{All-append, All-cons, All-contains, All-map, All-nil}
@@ -11,31 +11,28 @@ use Rattle.nf_base.specs.declared.rows.Row.{Row}
 use Rattle.nf_base.specs.declared.rows.Row.TheVariants as row
 use Rattle.nf_defs.proofs.Blobs.{put_at}
 use Rattle.nf_defs.specs.Prelude.{Blobs, put_blob, rows_of, Tables, tables_of}
-use Rattle.nf_desk.proofs.Damages.{damaged_since}
-use Rattle.nf_desk.specs.Desk.{TellsSite, blobs_in, first_blob_of}
+use Rattle.nf_desk.specs.Desk.{TellsSite, blobs_in}
 use Rattle.nf_desk.specs.Opened.{IsFault, Opens, first_of, told_first}
 use Rattle.nf_desk.specs.Opening.{AreSpelled, IsLoaded, OpensTo}
 use Rattle.nf_desk.specs.declared.first.OpenFault.TheVariants as fault
 use Rattle.nf_desk.specs.declared.first.First.{First}
 use Rattle.nf_desk.specs.declared.first.Opening.{Opening}
-use Rattle.nf_laws.proofs.Counters.{counters_go_on}
 use Rattle.nf_laws.specs.Wholes.{IsDamaged, IsNamed, IsSafe, IsThere}
 use Rattle.nf_promises.specs.Complete.{StaysWhole}
 use Rattle.nf_rows.specs.Spelling.{Raw}
 use Rattle.nf_rows.specs.declared.fault.RowFault.{RowFault}
 use Rattle.nf_rules.specs.Rules.{AreUnbroken, Broken}
 use Rattle.nf_session.proofs.Causes.{session_follows, through_goes}
-use Rattle.nf_session.proofs.Lasting.{tells_refl, tells_then}
-use Rattle.nf_session.specs.Prelude.{Book, Lasts, next_blob_of, Scene, Session, TellsStill, Through}
+use Rattle.nf_session.specs.Prelude.{Book, Lasts, next_blob_of, OthersCame, Scene, Session, TellsStill, Through}
 use Rattle.nf_session.specs.declared.ended.Ended.{Ended}
 use Rattle.nf_site.specs.Demo.{demo_rows, hello}
 use Rattle.nf_site.specs.Kept.{Kept}
-use Rattle.nf_told.specs.Told.{Told}
-use Rattle.nf_words.specs.Prelude.{opened, State}
+use Rattle.nf_told.specs.Told.{Told, told_of}
+use Rattle.nf_words.specs.Prelude.{State}
 use Rattle.filesd.specs.Ending.{IsEmptyStore, IsSafeStore}
 use Rattle.filesd.specs.Next.{AreUndamaged, IsUndamaged, LeftIsThere, OpensOnward, OpensTables, StayWhole}
 use Rattle.filesd.specs.Opening.{told_opened}
-use Rattle.filesd.specs.Reopening.{Leaves}
+use Rattle.filesd.specs.Reopening.{Leaves, OpensAgain}
 use Rattle.filesd.proofs.Spelled.{broken_never, loaded_is, missing_never, opened_so, unread_never}
 
 -- ---- rows whose pieces are there
@@ -97,45 +94,74 @@ undamaged rows told shelf unbroken tells safe = record {
   none = λ piece damaged. damaged.broken (safe piece damaged.named);
 }
 
--- while what was told under the numbers that were given by then is told still
-pub undamaged_still : (rows : List Row) (next : ℕ) (old new : Option Blobs) → first_blob_of rows ≤ next → TellsStill next old new
-    → AreUndamaged rows old → AreUndamaged rows new
-undamaged_still rows next None new fits still are = absurd (let tells = are.tells in cc)
-undamaged_still rows next (Some old) None fits still are = absurd still
-undamaged_still rows next (Some old) (Some now) fits still are = record {
-  shelf = now;
-  tells = refl;
-  unbroken = are.unbroken;
-  none = λ piece damaged.
-      let first : TellsStill (first_blob_of rows) (Some old) (Some now) =
-      tells_then (first_blob_of rows) next (Some old) (Some old) (Some now) fits (tells_refl (first_blob_of rows) (Some old)) still in
-      are.none piece
-      (subst (λ (shelf : Blobs). IsDamaged rows shelf piece) (same_Some old are.shelf are.tells)
-      (damaged_since rows (Some old) now piece are.unbroken first damaged));
-}
+pub tells_some : (cause : Type 0) (next : ℕ) (old new : Option Blobs) → TellsStill cause next old new → IsSome old → IsSome new
+tells_some cause next None new still some = absurd (cc)
+tells_some cause next (Some old) None still some = absurd still
+tells_some cause next (Some old) (Some new) still some = refl
 
 pub undamaged_on : (a b : Book) → Lasts a b → IsUndamaged a → IsUndamaged b
-undamaged_on a b lasts are =
-    subst (λ (rows : List Row). AreUndamaged rows b.told) (sym lasts.opening)
-    (undamaged_still a.opening (next_blob_of a) a.told b.told (counters_go_on (opened a.opening) [] a.known).blobs lasts.told are)
+undamaged_on a b lasts are = record {
+  tells = tells_some (OthersCame a b) (next_blob_of a) a.told b.told lasts.told are.tells;
+  start = subst (λ (rows : List Row). AreUndamaged rows b.start) (sym lasts.opening)
+      (subst (λ (o : Option Blobs). AreUndamaged a.opening o) (sym lasts.start) are.start);
+}
 
-pub stays_whole : (a b : Book) → IsUndamaged a → StaysWhole a b
-stays_whole a b are = record {
-  tells = subst (λ (o : Option Blobs). IsSome o) (sym are.tells) refl;
-  whole = λ x shelf piece before behind told damaged.
-      let its = undamaged_on a x before are in
-      its.none piece (subst (λ (z : Blobs). IsDamaged x.opening z piece) (same_Some shelf its.shelf (sym told ∙ its.tells)) damaged);
+pub stays_whole : (b : Book) → IsUndamaged b → StaysWhole b
+stays_whole b are = record {
+  tells = are.tells;
+  whole = λ piece was.
+      are.start.none piece
+      (subst (λ (z : Blobs). IsDamaged b.opening z piece) (same_Some was.begun are.start.shelf (sym was.tells ∙ are.start.tells))
+      was.damaged);
 }
 
 pub stay_whole : {C : Type 0} (reads : C → ℕ → C → Type 0) → StayWhole reads
 stay_whole {C} reads = (messages, sessions)
   where
-    messages : (a x : Scene C) (front : List (Scene C)) → Through reads a front x → IsUndamaged a.book → (y : Book) → StaysWhole x.book y
-    messages a x front through are y =
-        stays_whole x.book y (undamaged_on a.book x.book (through_goes reads a front x through).book.onward.lasts are)
+    messages : (a x : Scene C) (front : List (Scene C)) → Through reads a front x → IsUndamaged a.book → StaysWhole x.book
+    messages a x front through are =
+        stays_whole x.book (undamaged_on a.book x.book (through_goes reads a front x through).book.onward.lasts are)
 
     sessions : (a b : Scene C) (end : Option Ended) → Session reads a b end → IsUndamaged a.book → IsUndamaged b.book
     sessions a b end session are = undamaged_on a.book b.book (session_follows reads a b end session).lasts are
+
+-- ---- the next opening
+
+module _ (t : Tables) (it : Told) (rows : it.rows ≡ told_of t) (again : OpensAgain t) where
+  pub told_spelled : AreSpelled it.rows (rows_of t)
+  told_spelled = record { spelled = sym rows; fit = again.fit }
+
+  opening_is : (opening : Opening) (after : Option Told) (site : Kept) → Opens opening (Some it) after site → site.opening ≡ rows_of t
+  opening_is opening after site opens =
+      opened_so (Some it) it (rows_of t) refl told_spelled again.unbroken (first_of opening).rows opens.raws site.opening opens.loaded
+      opens.rows
+
+  read_never : (opening : Opening) (index : ℕ) (why : RowFault) → IsFault opening (Some it) (fault.Unread index why) → ⊥
+  read_never opening index why (may, (raws, loaded, is)) = unread_never (Some it) it (rows_of t) refl told_spelled raws index why loaded is
+
+  break_never : (opening : Opening) (broken : Broken) → IsFault opening (Some it) (fault.Broken broken) → ⊥
+  break_never opening broken (may, (raws, loaded, is)) =
+      broken_never (Some it) it (rows_of t) refl told_spelled again.unbroken raws broken loaded is
+
+  miss_never : (opening : Opening) → IsFault opening (Some it) fault.Missing → ⊥
+  miss_never opening (kept, (raws, loaded, none)) =
+      missing_never (Some it) it (rows_of t) refl told_spelled again.unbroken raws loaded none
+
+  told_same : (first : First) (raws : List Raw) → IsLoaded (Some it) raws → told_first first raws (Some it) ≡ Some it
+  told_same first [] loaded = absurd (missing_never (Some it) it (rows_of t) refl told_spelled again.unbroken [] loaded refl)
+  told_same first (raw ∷ raws) loaded = refl
+
+  pub opens_tables : OpensTables t (Some it)
+  opens_tables = record {
+    read = read_never;
+    unbroken = break_never;
+    there = miss_never;
+    rows = opening_is;
+    tables =
+        λ opening after site opens.
+        ap (λ (s : Kept). s.state.tables) opens.begun ∙ ap tables_of (opening_is opening after site opens) ∙ again.same;
+    same = λ opening after site opens. opens.told ∙ told_same (first_of opening) opens.raws opens.loaded;
+  }
 
 -- ---- what a run leaves
 
@@ -143,19 +169,14 @@ module _ (k : Kept) (it : Told) (leaves : Leaves k (Some it)) where
   abbrev t : Tables
   t = k.state.tables
 
-  tells_site : TellsSite k it
-  tells_site = leaves.told
-
-  pub left_spelled : AreSpelled it.rows (rows_of t)
-  left_spelled = record { spelled = sym tells_site.rows; fit = leaves.again.fit }
-
   -- ---- its pieces
 
   plain : {X : Type 0} (f : X → Row) (xs : List X) → ((x : X) → HasPieces it.blobs (f x)) → All (HasPieces it.blobs) (map f xs)
   plain f xs each = All-map (HasPieces it.blobs) f xs (λ i d within. each _)
 
-  left_safe : ((piece : Piece) → IsDamaged k.opening it.blobs piece → ⊥) → IsSafe (rows_of t) it.blobs
-  left_safe none = has_safe (rows_of t) it.blobs
+  left_safe : (start : Option Blobs) (tells : TellsSite start k it) → ((piece : Piece) → IsDamaged k.opening tells.begun piece → ⊥)
+      → IsSafe (rows_of t) it.blobs
+  left_safe start tells none = has_safe (rows_of t) it.blobs
       (All-cons Has (row.Meta t.meta) _ tt
       (All-append Has (map row.User t.users) _ (plain row.User t.users (λ x. tt))
       (All-append Has (map row.Token t.tokens) _ (plain row.Token t.tokens (λ x. tt))
@@ -173,60 +194,32 @@ module _ (k : Kept) (it : Told) (leaves : Leaves k (Some it)) where
       Has row = HasPieces it.blobs row
 
       nodes : All (λ (node : NodeRow). All (IsThere it.blobs) node.content) t.nodes
-      nodes = λ i d within j e inside. ⊎_elim (λ there. there) (λ damaged. absurd (none _ damaged)) (tells_site.whole.nodes i d within j e inside)
+      nodes = λ i d within j e inside.
+          ⊎_elim (λ there. there) (λ damaged. absurd (none _ damaged)) (tells.whole.nodes i d within j e inside)
 
-  pub left_is_safe : ((piece : Piece) → IsDamaged k.opening it.blobs piece → ⊥) → IsSafeStore (Some it)
-  left_is_safe none = record {
+  pub left_is_safe : (start : Option Blobs) (tells : TellsSite start k it) → ((piece : Piece) → IsDamaged k.opening tells.begun piece → ⊥)
+      → IsSafeStore (Some it)
+  left_is_safe start tells none = record {
     it = it;
     tells = refl;
     rows = rows_of t;
-    spelled = left_spelled;
+    spelled = told_spelled t it leaves.told.rows leaves.again;
     unbroken = leaves.again.unbroken;
-    safe = left_safe none;
+    safe = left_safe start tells none;
   }
 
-  -- ---- the next opening
-
-  opening_is : (opening : Opening) (after : Option Told) (site : Kept) → Opens opening (Some it) after site → site.opening ≡ rows_of t
-  opening_is opening after site opens =
-      opened_so (Some it) it (rows_of t) refl left_spelled leaves.again.unbroken (first_of opening).rows opens.raws site.opening opens.loaded opens.rows
-
-  read_never : (opening : Opening) (index : ℕ) (why : RowFault) → IsFault opening (Some it) (fault.Unread index why) → ⊥
-  read_never opening index why (may, (raws, loaded, is)) = unread_never (Some it) it (rows_of t) refl left_spelled raws index why loaded is
-
-  break_never : (opening : Opening) (broken : Broken) → IsFault opening (Some it) (fault.Broken broken) → ⊥
-  break_never opening broken (may, (raws, loaded, is)) =
-      broken_never (Some it) it (rows_of t) refl left_spelled leaves.again.unbroken raws broken loaded is
-
-  miss_never : (opening : Opening) → IsFault opening (Some it) fault.Missing → ⊥
-  miss_never opening (kept, (raws, loaded, none)) =
-      missing_never (Some it) it (rows_of t) refl left_spelled leaves.again.unbroken raws loaded none
-
-  told_same : (first : First) (raws : List Raw) → IsLoaded (Some it) raws → told_first first raws (Some it) ≡ Some it
-  told_same first [] loaded = absurd (missing_never (Some it) it (rows_of t) refl left_spelled leaves.again.unbroken [] loaded refl)
-  told_same first (raw ∷ raws) loaded = refl
-
-  pub opens_tables : OpensTables t (Some it)
-  opens_tables = record {
-    read = read_never;
-    unbroken = break_never;
-    there = miss_never;
-    rows = opening_is;
-    tables =
-        λ opening after site opens.
-        ap (λ (s : Kept). s.state.tables) opens.begun ∙ ap tables_of (opening_is opening after site opens) ∙ leaves.again.same;
-    same = λ opening after site opens. opens.told ∙ told_same (first_of opening) opens.raws opens.loaded;
-  }
+  pub left_opens : OpensTables t (Some it)
+  left_opens = opens_tables t it leaves.told.rows leaves.again
 
 pub opens_onward : OpensOnward
 opens_onward k None leaves some = absurd (cc)
 opens_onward k (Some it) leaves some =
-    subst (λ (s : State). OpensTables s.tables (Some it)) leaves.history.replayed (opens_tables k it leaves)
+    subst (λ (s : State). OpensTables s.tables (Some it)) leaves.history.replayed (left_opens k it leaves)
 
 pub left_is_there : LeftIsThere
 left_is_there k site None after opening leaves good opens = absurd (let tells = good.tells in cc)
 left_is_there k site (Some it) after opening leaves good opens =
-    let next = opens_tables k it leaves in
+    let next = left_opens k it leaves in
     let its : site.opening ≡ good.rows =
     opened_so (Some it) good.it good.rows good.tells good.spelled good.unbroken (first_of opening).rows opens.raws site.opening opens.loaded opens.rows in
     record {

@@ -1,7 +1,8 @@
 -- A run of `serve`, from what its parts say.
-use Rattle.std.proofs.Common.{◌≡◌, ◌⊎◌, ⊎_elim, ℕ, ◌<◌, ◌≤◌, List, [], ◌∷◌, refl, sym, ◌∙◌, ap, subst, inl, inr, arith}
+use Rattle.std.proofs.Common.{◌≡◌, ◌⊎◌, ⊎_elim, ℕ, ◌<◌, ◌≤◌, ◌-◌, List, [], ◌∷◌, refl, sym, ◌∙◌, ap, subst, inl, inr, arith}
 use Rattle.std.specs.Prelude.{Option, None, Some}
 use Rattle.std.specs.declared.snapshot.Snapshot.{Snapshot}
+use Rattle.nf_base.specs.declared.limits.TheConstants.{MAX_SEATS}
 use Rattle.nf_base.specs.declared.rows.Row.{Row}
 use Rattle.nf_desk.specs.Desk.{Served, meanings}
 use Rattle.nf_desk.specs.Opened.{CountsFault, Opens}
@@ -109,21 +110,21 @@ module _ {K I A C D : Type 0} (k : KeeperOf K) (i : EndsOf I) (a : EndsOf A) (re
       here (inr served) =
           subst (λ (s : Status). Says keeper left before after s) (sym served.status_is)
           (work_says keeper left before after served.result
-          (work_rose connections (of_the_first 64 runs.desk) served.memory before after served.result served.work))
+          (work_rose connections (of_the_first MAX_SEATS runs.desk) served.memory before after served.result served.work))
 
   -- the work that began with the first seat
   pub work_of : (connections : ℕ) (m n : Memory (Served K)) (desk : Served K) (before after : List (Worker D C)) (result : Worked)
-      → m ≡ of_the_first 64 desk → WorkBeside (longer (meanings k)) (Works k i a reads door connections) m n before after result
-      → WorkBeside (longer (meanings k)) (Works k i a reads door connections) (of_the_first 64 desk) n before after result
+      → m ≡ of_the_first MAX_SEATS desk → WorkBeside (longer (meanings k)) (Works k i a reads door connections) m n before after result
+      → WorkBeside (longer (meanings k)) (Works k i a reads door connections) (of_the_first MAX_SEATS desk) n before after result
   work_of connections m n desk before after result first work =
       subst (λ (x : Memory (Served K)). WorkBeside (longer (meanings k)) (Works k i a reads door connections) x n before after result) first work
 
 -- the first seat has numbers left for all workers
 pub has_left : {K : Type 0} (k : KeeperOf K) (hub : HubOf (Served K) Entry (List Row × Snapshot K))
-    (seat : SeatOf (Served K) Entry (List Row × Snapshot K)) (desk : Served K) (count : ℕ) → count < 64
-    → memory_of k hub seat ≡ of_the_first 64 desk → count ≤ (numbers seat.turns).left
+    (seat : SeatOf (Served K) Entry (List Row × Snapshot K)) (desk : Served K) (count : ℕ) → count < MAX_SEATS
+    → memory_of k hub seat ≡ of_the_first MAX_SEATS desk → count ≤ (numbers seat.turns).left
 has_left {K} k hub seat desk count few first =
-    let left : (numbers seat.turns).left ≡ 63 =
+    let left : (numbers seat.turns).left ≡ MAX_SEATS - 1 =
     ap (λ (n : Numbers (Served K)). n.left)
     (sym (numbers_known _ seat.turns.place.me) ∙ ap (λ (m : Memory (Served K)). numbers_of m) first) in
     omega (arith, few, left)

@@ -1,5 +1,6 @@
 -- A run of `serve`: workers serve the connections of their doors over the rows that the keeper has.
 use Rattle.std.specs.Prelude.{◌≡◌, ◌⊎◌, ℕ, List, [], ◌∷◌, Option, None, Some}
+use Rattle.nf_base.specs.declared.limits.TheConstants.{MAX_SEATS}
 use Rattle.nf_desk.specs.Desk.{Served, meanings}
 use Rattle.nf_desk.specs.Opened.{CountsFault, IsFault, Opens}
 use Rattle.nf_desk.specs.declared.first.OpenFault.{OpenFault}
@@ -45,11 +46,12 @@ module _ {K I A C D : Type 0} (k : KeeperOf K) (i : EndsOf I) (a : EndsOf A) (re
     pub keeper_is : left ≡ desk.keeper
     pub status_is : status ≡ exit.Memory
 
-  -- it was served by the workers, whose seats were split from the first of 64, and joined into it again
+  -- it was served by the workers, whose seats were split from the first of `MAX_SEATS`, and joined into it again
   pub record IsServed (connections : ℕ) (desk : Served K) (left : K) (before after : List (Worker D C)) (status : Status) (site : Held) : Type 0 where
     pub memory : Memory (Served K)
     pub result : Worked
-    pub work : WorkBeside (longer (meanings k)) (Works k i a reads door connections) (of_the_first 64 desk) memory before after result
+    pub work : WorkBeside (longer (meanings k)) (Works k i a reads door connections) (of_the_first MAX_SEATS desk)
+        memory before after result
     -- what it knows of begins with what each worker's seat knew of
     pub heard : HasHeard (meanings k) memory
     pub closes : Closes k memory site left

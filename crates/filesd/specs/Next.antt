@@ -1,5 +1,6 @@
 -- One run after the other: the next is opened over what this one left.
-use Rattle.std.specs.Prelude.{◌≡◌, ◌⊎◌, ℕ, List, [], ◌∷◌, Option, None, Some, IsSome}
+use Rattle.std.specs.Prelude.{◌≡◌, ◌⊎◌, ℕ, All, List, [], ◌∷◌, ◌++◌, Option, None, Some, IsSome}
+use Rattle.nf_base.specs.declared.limits.TheConstants.{MAX_SEATS}
 use Rattle.nf_base.specs.declared.content.Piece.{Piece}
 use Rattle.nf_base.specs.declared.rows.Row.{Row}
 use Rattle.nf_defs.specs.Prelude.{Blobs, rows_of, Tables}
@@ -12,20 +13,22 @@ use Rattle.nf_keeper.specs.declared.keeper.Keeper.{Ghosts as KeeperOf}
 use Rattle.nf_laws.specs.Wholes.{IsDamaged, IsNamed, IsThere}
 use Rattle.nf_outside.specs.declared.traits.Ends.{Ghosts as EndsOf}
 use Rattle.nf_promises.specs.Complete.{StaysWhole}
+use Rattle.nf_rows.specs.Spelling.{Fits}
 use Rattle.nf_rows.specs.declared.fault.RowFault.{RowFault}
 use Rattle.nf_rules.specs.Rules.{AreUnbroken, Broken}
 use Rattle.nf_server.specs.Work.{Visited, WorkBeside, Works}
 use Rattle.nf_server.specs.declared.door.Door.{Ghosts as DoorOf}
 use Rattle.nf_server.specs.declared.workers.Worked.{Worked}
 use Rattle.nf_server.specs.declared.workers.Worker.{Worker}
-use Rattle.nf_session.specs.Prelude.{Book, Scene, Session, Through}
+use Rattle.nf_session.specs.Prelude.{Book, Scene, Session, TellsRows, Through, state_of}
 use Rattle.nf_session.specs.declared.ended.Ended.{Ended}
 use Rattle.nf_site.specs.Held.{Held}
-use Rattle.nf_site.specs.Kept.{Kept}
+use Rattle.nf_site.specs.Kept.{IsHistory, Kept}
 use Rattle.nf_told.specs.Told.{Told}
 use Rattle.nf_turn.specs.Prelude.{having_split, longer, of_the_first, split_from}
 use Rattle.nf_turn.specs.declared.view.Memory.{Memory}
 use Rattle.nf_words.specs.Prelude.{opened, replay}
+use Rattle.nf_words.specs.declared.history.Entry.{Entry}
 use Rattle.filesd.specs.Doors.{IsServed, ServesDoors}
 use Rattle.filesd.specs.Ending.{IsEmptyStore, IsSafeStore}
 use Rattle.filesd.specs.Opening.{told_opened}
@@ -51,6 +54,13 @@ abbrev pub OpensOnward : Type 0
 OpensOnward =
     (k : Kept) (told : Option Told) → Leaves k told → IsSome told → OpensTables (replay (opened k.opening) k.history).tables told
 
+-- so it is over a keeper that tells the rows that a seat knew at an answer, where what it had seen is a front of a run's history: also of a
+-- run that was cut off behind that answer
+abbrev pub OpensBehindAnswers : Type 0
+OpensBehindAnswers =
+    (k : Kept) (b : Book) (later : List Entry) (it : Told) → IsHistory k → AreUnbroken k.opening → All Fits k.opening
+    → b.opening ≡ k.opening → k.history ≡ b.known ++ later → TellsRows b → b.rows ≡ Some it.rows → OpensTables (state_of b).tables (Some it)
+
 -- ---- the bytes
 
 -- rows that break no rule, and a store that tells, in which none of the pieces that they name is damaged
@@ -60,14 +70,15 @@ pub record AreUndamaged (rows : List Row) (told : Option Blobs) : Type 0 where
   pub unbroken : AreUnbroken rows
   pub none : (piece : Piece) → IsDamaged rows shelf piece → ⊥
 
--- the store that a seat knows is so for the rows of the opening
-abbrev pub IsUndamaged : Book → Type 0
-IsUndamaged b = AreUndamaged b.opening b.told
+-- the store that a seat knows tells, and was so for the rows of the opening when the run began
+pub record IsUndamaged (b : Book) : Type 0 where
+  pub tells : IsSome b.told
+  pub start : AreUndamaged b.opening b.start
 
--- where a session begins so, nothing is damaged at any message of it, however many were answered before; and it ends so
+-- where a session begins so, nothing that is named is damaged at any message of it, however many were answered before; and it ends so
 abbrev pub StayWhole : {C : Type 0} → (C → ℕ → C → Type 0) → Type 0
 StayWhole {C} reads =
-    ((a x : Scene C) (front : List (Scene C)) → Through reads a front x → IsUndamaged a.book → (y : Book) → StaysWhole x.book y)
+    ((a x : Scene C) (front : List (Scene C)) → Through reads a front x → IsUndamaged a.book → StaysWhole x.book)
     × ((a b : Scene C) (end : Option Ended) → Session reads a b end → IsUndamaged a.book → IsUndamaged b.book)
 
 -- a store with rows that can be read again, or one without rows
@@ -123,4 +134,4 @@ module _ {K I A C D : Type 0} (k : KeeperOf K) (i : EndsOf I) (a : EndsOf A) (re
       (connections : ℕ) (keeper left : K) (before after : List (Worker D C)) (status : Status) (site : Held)
       (runs : ServesDoors k i a reads door connections keeper left before after status site)
       (served : IsServed k i a reads door connections runs.desk left before after status site) → IsSafeStore (k.told keeper)
-      → WorkBeginsWhole connections (of_the_first 64 runs.desk) served.memory before after served.result served.work
+      → WorkBeginsWhole connections (of_the_first MAX_SEATS runs.desk) served.memory before after served.result served.work

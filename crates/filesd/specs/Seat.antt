@@ -10,15 +10,18 @@ use Rattle.nf_words.specs.declared.history.Entry.{Entry}
 abbrev pub seat : ℕ
 seat = 1
 
--- what it knows: the whole history, whose entries are all its own, how often the keeper failed, and the blobs that it tells
-abbrev pub book_of : Kept → Option Told → ℕ → Book
-book_of k told faults = record {
+-- what it knows: the whole history, whose entries are all its own, how often the keeper failed, the blobs that it told at the start, and
+-- the blobs and the rows that it tells now
+abbrev pub book_of : Kept → Option Told → Option Told → ℕ → Book
+book_of k start told faults = record {
   opening = k.opening;
   seat = seat;
   known = k.history;
   own = own_from seat (opened k.opening) k.history;
   strikes = faults;
+  start = option_map (λ told. told.blobs) start;
   told = option_map (λ told. told.blobs) told;
+  rows = option_map (λ told. told.rows) told;
 }
 
 -- these are all of the seat's

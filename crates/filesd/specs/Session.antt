@@ -1,7 +1,9 @@
 -- A run of `batch`: one session over the rows that the keeper has, from the ends that it is given.
 use Rattle.std.specs.Prelude.{◌≡◌, ℕ, ◌≤◌, List, [], length, Option, None, Some}
+use Rattle.std.specs.Option.{IfSome}
+use Rattle.nf_base.specs.declared.limits.TheConstants.{MAX_HEAD}
 use Rattle.nf_base.specs.declared.rows.Row.{Row}
-use Rattle.nf_desk.specs.Desk.{Shown}
+use Rattle.nf_desk.specs.Desk.{Shown, TellsSite, blobs_in}
 use Rattle.nf_desk.specs.Opening.{IsLoaded, OpensTo}
 use Rattle.nf_http.specs.Told.{stream}
 use Rattle.nf_rows.specs.Spelling.{Raw}
@@ -34,7 +36,7 @@ scene_of outside kept book = record {
 
 -- what the seat knows when a run begins over those rows, and a keeper that tells that and has failed so often
 abbrev pub first_book : List Row → Option Told → ℕ → Book
-first_book rows told faults = book_of (opened_over rows) told faults
+first_book rows told faults = book_of (opened_over rows) told told faults
 
 -- the status of a session's end
 abbrev pub status_of : Option Ended → Status
@@ -58,10 +60,12 @@ pub record Serves {C : Type 0} (reads : C → ℕ → C → Type 0) (a b : Outsi
   pub end : Option Ended
   pub ended : status ≡ status_of end
   pub kept : List ℕ
-  pub few : length kept ≤ 8192
+  pub few : length kept ≤ MAX_HEAD
   pub session : Session reads (scene_of a [] (first_book rows (told_opened raws a.told) a.faults))
-      (scene_of b kept (book_of site.kept b.told b.faults)) end
+      (scene_of b kept (book_of site.kept (told_opened raws a.told) b.told b.faults)) end
   pub opening : site.kept.opening ≡ rows
+  -- what rows name at the end is there, but for what was damaged at the start
+  pub told : IfSome b.told (TellsSite (blobs_in (told_opened raws a.told)) site.kept)
 
 -- a whole run
 abbrev pub Runs : {C : Type 0} → (C → ℕ → C → Type 0) → Outside C → Outside C → Status → Option Held → Type 0
@@ -76,5 +80,7 @@ DoesNothing a b site = (site ≡ None) × (b ≡ a)
 abbrev pub ServesDesk : {C : Type 0} → (C → ℕ → C → Type 0) → Shown → Outside C → Outside C → Status → Option Held → Type 0
 ServesDesk reads desk a b status None = ⊥
 ServesDesk reads desk a b status (Some site) =
-    (end : Option Ended) × (kept : List ℕ) × (status ≡ status_of end) × (length kept ≤ 8192)
-    × Session reads (scene_of a [] (book_of desk.site desk.told desk.faults)) (scene_of b kept (book_of site.kept b.told b.faults)) end
+    (end : Option Ended) × (kept : List ℕ) × (status ≡ status_of end) × (length kept ≤ MAX_HEAD)
+    × Session reads (scene_of a [] (book_of desk.site desk.start.told desk.told desk.faults))
+    (scene_of b kept (book_of site.kept desk.start.told b.told b.faults)) end
+    × IfSome b.told (TellsSite (blobs_in desk.start.told) site.kept)

@@ -1,5 +1,6 @@
 -- What the sessions of a run of `serve` have in common: the history of the site that it hands out.
 use Rattle.std.specs.Prelude.{◌≡◌, ℕ, ◌+◌, ◌<◌, ◌≤◌, All, List, length}
+use Rattle.nf_base.specs.declared.limits.TheConstants.{MAX_ENTRIES, MAX_SEATS}
 use Rattle.nf_keeper.specs.declared.keeper.Keeper.{Ghosts as KeeperOf}
 use Rattle.nf_outside.specs.declared.traits.Ends.{Ghosts as EndsOf}
 use Rattle.nf_server.specs.Together.{AllStand}
@@ -7,7 +8,6 @@ use Rattle.nf_server.specs.declared.door.Door.{Ghosts as DoorOf}
 use Rattle.nf_server.specs.declared.workers.Worker.{Worker}
 use Rattle.nf_site.specs.Held.{Held}
 use Rattle.nf_turn.specs.Prelude.{of_the_first}
-use Rattle.nf_words.specs.Prelude.{most_entries}
 use Rattle.nf_words.specs.declared.history.Entry.{Entry}
 use Rattle.filesd.specs.Doors.{IsServed, ServesDoors}
 use Rattle.filesd.specs.declared.status.Status.{Status}
@@ -23,10 +23,10 @@ module _ {K I A C D : Type 0} (k : KeeperOf K) (i : EndsOf I) (a : EndsOf A) (re
   pub record StandTogether (connections : ℕ) (keeper left : K) (before after : List (Worker D C)) (status : Status) (site : Held)
       (runs : ServesDoors k i a reads door connections keeper left before after status site)
       (served : IsServed k i a reads door connections runs.desk left before after status site) : Type 0 where
-    pub stand : AllStand k i a reads door connections site.kept.opening site.kept.history 2 (of_the_first 64 runs.desk) served.memory
+    pub stand : AllStand k i a reads door connections site.kept.opening site.kept.history 2 (of_the_first MAX_SEATS runs.desk) served.memory
         before after served.result served.work
     pub whose : All (IsOfSeats 2 (length before)) site.kept.history
-    pub full : status ≡ exit.RunFull → most_entries ≤ length site.kept.history + 1
+    pub full : status ≡ exit.RunFull → MAX_ENTRIES ≤ length site.kept.history + 1
 
   -- so it is of each run of `serve` that was served
   abbrev pub ShareOneHistory : Type 0
@@ -34,4 +34,4 @@ module _ {K I A C D : Type 0} (k : KeeperOf K) (i : EndsOf I) (a : EndsOf A) (re
       (connections : ℕ) (keeper left : K) (before after : List (Worker D C)) (status : Status) (site : Held)
       (runs : ServesDoors k i a reads door connections keeper left before after status site)
       (served : IsServed k i a reads door connections runs.desk left before after status site)
-      → length before < 64 → StandTogether connections keeper left before after status site runs served
+      → length before < MAX_SEATS → StandTogether connections keeper left before after status site runs served

@@ -7,8 +7,9 @@ ghost use Rattle.filesd.specs.Doors.{RunsDoors, ServesDesk};
 ghost use Rattle.filesd.specs.Reopening.{Leaves, Pays};
 
 use crate::opening::status_of;
-use crate::running::{Finished, SEATS, handed_out, unopened};
+use crate::running::{Finished, handed_out, unopened};
 use crate::status::{Status, status_of_workers};
+use nf_base::MAX_SEATS;
 use nf_desk::{Desk, Opening, Unopened};
 use nf_hub::Hub;
 use nf_keeper::Keeper;
@@ -33,7 +34,7 @@ where
     W: Clock + Drop + Send,
     D::Source: Send,
     D::Sink: Send,
-    requires workers { length workers.old < 64 }
+    requires workers { length workers.old < MAX_SEATS }
     ensures runs { RunsDoors K.Keeper D.Source.Ends D.Sink.Ends W.reads D.Door connections keeper result.keeper workers.old workers.new result.status result.site }
     ensures leaves { IfSome result.site (λ site. Leaves site.kept (K.told result.keeper)) }
     ensures paid { IfSome result.site (λ site. Pays site.kept (K.faults keeper) (K.faults result.keeper)) }
@@ -59,7 +60,7 @@ where
     W: Clock + Drop + Send,
     D::Source: Send,
     D::Sink: Send,
-    requires workers { length workers.old < 64 }
+    requires workers { length workers.old < MAX_SEATS }
     requires fresh { IsFresh (meanings K.Keeper) desk }
     requires history { desk.site.kept.history ≡ [] }
     requires start { desk.start.value ≡ desk.keeper }
@@ -67,7 +68,7 @@ where
     ensures leaves { IfSome result.site (λ site. Leaves site.kept (K.told result.keeper)) }
     ensures paid { IfSome result.site (λ site. Pays site.kept (K.faults desk.keeper) (K.faults result.keeper)) }
 {
-    match Hub::over(alloc, desk, SEATS) {
+    match Hub::over(alloc, desk, MAX_SEATS) {
         Ok((hub, seat)) => {
             let (worked, seat) = serve(rt, alloc, &hub, seat, workers, connections);
             let (site, keeper) = hub.close(seat);

@@ -1,6 +1,6 @@
 //! What follows from the definitions. Each function does nothing, and its clause is the law.
 
-ghost use Rattle.filesd.specs.Next.{BatchBeginsWhole, LeftIsThere, OpensOnward, ServeBeginsWhole, StayWhole};
+ghost use Rattle.filesd.specs.Next.{BatchBeginsWhole, LeftIsThere, OpensBehindAnswers, OpensOnward, ServeBeginsWhole, StayWhole};
 ghost use Rattle.filesd.specs.OneFile.{HelloIsServed};
 ghost use Rattle.filesd.specs.Together.{ShareOneHistory};
 
@@ -27,6 +27,13 @@ pub fn sessions_share_one_history<K: Keeper, D: Door, C: Clock>()
 #[tactic(auto, using(crate::proofs::Whole::opens_onward))]
 pub fn what_is_left_opens_again()
     ensures { OpensOnward }
+{}
+
+/// So can what a store tells at an answer, also where the run was cut off behind it: the tables are those that the answer's steps left. What
+/// was acknowledged by then is in them.
+#[tactic(auto, using(crate::proofs::Behind::opens_behind))]
+pub fn what_is_acknowledged_opens_again()
+    ensures { OpensBehindAnswers }
 {}
 
 /// What was acknowledged is there in the next run: its opening's rows are the tables that this run's last entry left, and the bytes of each

@@ -2,13 +2,13 @@
 
 ghost use Rattle.std.specs.Prelude.{◌≡◌, ◌≢◌, ◌<◌, ◌≤◌, ◌⊎◌, ℕ, length, List, map, [], IfSome, None, Some};
 ghost use Rattle.std.specs.String.{string_bytes};
+ghost use Rattle.nf_base.specs.declared.limits.TheConstants.{MAX_QUOTA};
 ghost use Rattle.nf_base.specs.Naming.{IsName};
 ghost use Rattle.nf_command.specs.Command.{IsBatch, IsCommand, IsInit, IsServe, IsSomeServe};
 ghost use Rattle.nf_command.specs.First.{first_rows, init_rows};
 ghost use Rattle.nf_command.specs.Reading.{IsNearlyInit};
 ghost use Rattle.nf_desk.specs.Desk.{meanings, shown};
 ghost use Rattle.nf_outside.specs.Causes.{Rose};
-ghost use Rattle.nf_rules.specs.Rules.{most_quota};
 ghost use Rattle.nf_turn.specs.Book.{IsFresh};
 ghost use Rattle.filesd.specs.Doors.{OneRose, RunsDoors};
 ghost use Rattle.filesd.specs.Ending.{BatchEndsWell, InitEndsWell, ServeEndsWell};
@@ -24,6 +24,7 @@ ghost use Rattle.filesd.specs.declared.status.Status.TheVariants as exit;
 use crate::doors::serve_doors;
 use crate::opening::{demonstration, status_of as status_of_fault};
 use crate::status::{Status, status_of};
+use nf_base::MAX_SEATS;
 use nf_command::{Command, Init, command_of, init_rows};
 use nf_desk::{Desk, First, Opening, Unopened};
 use nf_http::send;
@@ -36,9 +37,6 @@ use nf_site::Site;
 use std::alloc::Global;
 use std::sync::Wait;
 use std::thread::Threads;
-
-/// How many seats a run has.
-pub(crate) const SEATS: usize = 64;
 
 /// What is left of a run: how it ended, the keeper, and the site, if one was opened.
 #[derive(Drop)]
@@ -73,7 +71,7 @@ where
     W: Clock + Drop + Send,
     D::Source: Send,
     D::Sink: Send,
-    requires workers { length workers.old < 64 }
+    requires workers { length workers.old < MAX_SEATS }
     ensures words { result.status ≡ exit.Words → IsCommand (map string_bytes words.now) → ⊥ }
     // Memory can be wanting for the name of an `init` that is right but for its name.
     ensures no_command { (IsCommand (map string_bytes words.now) → ⊥)
@@ -190,7 +188,7 @@ fn serve_desk<R: Wait, S: Source, O: Sink, K: Keeper + Drop, C: Clock>(
     ensures paid { IfSome result.site (λ site. Pays site.kept (K.faults desk.keeper) (K.faults result.keeper)) }
     ensures alone { IfSome result.site (λ site. AreOwn site.kept.history) }
 {
-    match Hub::over(alloc, desk, SEATS) {
+    match Hub::over(alloc, desk, MAX_SEATS) {
         Ok((hub, seat)) => {
             let Served { ended, seat } = serve_ends(
                 rt, alloc, routes, &hub, seat, input, output, clock,
@@ -214,7 +212,7 @@ fn initialize<O: Sink, K: Keeper + Drop>(
     keeper: K,
 ) -> Finished<K>
     requires name { IsName init.now.name }
-    requires quota { init.now.quota ≤ most_quota }
+    requires quota { init.now.quota ≤ MAX_QUOTA }
     requires token { IsSomeDigest init.now.token }
     ensures inits { Inits (first_rows init.now.name init.now.token init.now.quota)
         (outlet O.Ends K.Keeper output.old keeper) (outlet O.Ends K.Keeper output.new result.keeper) result.status result.site }

@@ -47,7 +47,7 @@ pub enum Status {
     Memory,
     /// The run has no room for two more entries.
     RunFull,
-    /// 10,000 messages were answered, and none ended the session.
+    /// `MAX_MESSAGES` messages were answered, and none ended the session.
     Budget,
     /// What a message asked for isn't built yet.
     NotBuilt,

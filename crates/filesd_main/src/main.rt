@@ -1,13 +1,13 @@
 //! The file server's program.
 #![tactic(auto)]
 
-use crate::file::FileKeeper;
 use crate::listening::workers;
 use crate::settings::{MOST_WORKERS, Serving, read_serving, store};
 use crate::telling::{tell_rows, tell_usage};
 use filesd::{Finished, Status, run};
 use nf_command::{Command, command_of};
 use nf_keeper::{Keeper, MemKeeper};
+use nf_keeper_file::FileKeeper;
 use nf_outside::{Input, Output, RealClock};
 use sqlite::{Connection, Error, ErrorCode};
 use std::env;
@@ -17,12 +17,9 @@ use std::sync::Wait;
 use std::thread::Threads;
 
 mod access_log;
-mod file;
 mod listening;
 mod settings;
 mod telling;
-#[cfg(test)]
-mod tests;
 mod version;
 
 /// What the program was started with.

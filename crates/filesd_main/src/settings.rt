@@ -1,11 +1,12 @@
 //! What the environment says. A setting that says what isn't allowed is told, and refused.
 
 use filesd::Status;
+use nf_base::MAX_SEATS;
 use std::env::{self, VarError};
 use std::time::Duration;
 
 /// The most threads that may serve.
-pub const MOST_WORKERS: u64 = 63;
+pub const MOST_WORKERS: u64 = MAX_SEATS as u64 - 1;
 
 /// How many threads serve, where nothing is said.
 const WORKERS: u64 = 4;

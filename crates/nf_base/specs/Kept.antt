@@ -1,6 +1,6 @@
 -- What contents and rows keep.
 use Rattle.std.specs.Prelude.{◌≡◌, ◌≤◌, List, [], length, All}
-use Rattle.nf_base.specs.declared.content.TheConstants.{MAX_BODY}
+use Rattle.nf_base.specs.declared.limits.TheConstants.{MAX_BODY, MAX_PIECES}
 use Rattle.nf_base.specs.declared.content.Piece.{Piece}
 use Rattle.nf_base.specs.declared.rows.NodeKind.{NodeKind}
 use Rattle.nf_base.specs.declared.rows.NodeKind.TheVariants.{Folder}
@@ -10,9 +10,9 @@ pub record IsSized (piece : Piece) : Type 0 where
   pub some : 1 ≤ piece.size
   pub few : piece.size ≤ MAX_BODY
 
--- at most 10,000 pieces
+-- at most `MAX_PIECES` pieces
 pub record IsContent (pieces : List Piece) : Type 0 where
-  pub few : length pieces ≤ 10000
+  pub few : length pieces ≤ MAX_PIECES
   pub sized : All IsSized pieces
 
 -- a folder has no piece

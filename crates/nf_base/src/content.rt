@@ -11,11 +11,8 @@ use sha2::{Digest as _, Sha256};
 use std::alloc::{AllocError, Global};
 use std::marker::Model;
 
-/// The most bytes that the body of a message may have, and so a piece.
-pub const MAX_BODY: u64 = 16_777_216;
-
 /// The SHA-256 digest of some bytes (FIPS 180-4). Digests are ordered by their bytes.
-#[derive(Clone, Copy, Debug, PartialEq, Eq, PartialOrd, Ord)]
+#[derive(Clone, Copy, PartialEq, Eq, PartialOrd, Ord)]
 pub struct Digest {
     bytes: [u8; 32],
 }
@@ -57,7 +54,7 @@ impl Digest {
 }
 
 /// Some bytes of a file: the blob that holds them, how many they are, and their digest.
-#[derive(Clone, Copy, Debug, PartialEq, Eq)]
+#[derive(Clone, Copy, PartialEq, Eq)]
 pub struct Piece {
     pub blob: BlobId,
     /// From 1 to `MAX_BODY` in a content.
@@ -65,8 +62,8 @@ pub struct Piece {
     pub digest: Digest,
 }
 
-/// The pieces of a file in their order, at most 10,000. An empty file has none.
-#[derive(Clone, Debug, Drop)]
+/// The pieces of a file in their order, at most `MAX_PIECES`. An empty file has none.
+#[derive(Clone, Drop)]
 pub struct Content {
     pieces: Vec<Piece>,
 }

@@ -2,8 +2,6 @@
 
 ghost use Rattle.std.specs.Prelude.{◌≡◌, [], ◌∷◌, ◌++◌, IfOk, OnOk, OnErr};
 ghost use Rattle.nf_base.specs.declared.rows.Row.{Row};
-ghost use Rattle.std.specs.Cmp.{partial_equiv_from_equiv};
-ghost use Rattle.std.specs.Cmp.Lexicographic.{pointwise, lists_equiv};
 
 use crate::{BlobId, Content, Digest, GroupId, Moment, Name, NodeId, Path, Perms, ShareId, UserId};
 use std::alloc::{AllocError, Global};
@@ -49,7 +47,7 @@ pub struct MemberRow {
 }
 
 /// Where a node is.
-#[derive(Clone, Copy, Debug, PartialEq, Eq)]
+#[derive(Clone, Copy, PartialEq, Eq)]
 pub enum Place {
     /// It is the root folder of its owner.
     Root,
@@ -59,14 +57,14 @@ pub enum Place {
     Trash,
 }
 
-#[derive(Clone, Copy, Debug, PartialEq, Eq)]
+#[derive(Clone, Copy, PartialEq, Eq)]
 pub enum NodeKind {
     Folder,
     File,
 }
 
 /// A file or a folder. A folder's content is empty.
-#[derive(Clone, Debug, PartialEq, Eq, Drop)]
+#[derive(Clone, PartialEq, Eq, Drop)]
 pub struct NodeRow {
     pub id: NodeId,
     pub owner: UserId,
@@ -110,7 +108,7 @@ pub enum ShareKind {
     Link(Name),
 }
 
-#[derive(Clone, PartialEq, Eq, Drop)]
+#[derive(PartialEq, Eq, Drop)]
 pub struct ShareRow {
     pub id: ShareId,
     pub kind: ShareKind,
@@ -124,6 +122,18 @@ pub struct ShareRow {
     pub until: Option<Moment>,
     pub ended: bool,
     pub made: Moment,
+}
+
+// Only the kind may hold memory. A derive would ask at each field whether there is any.
+impl Clone for ShareRow {
+    ghost is_clone = { λ row copy. copy ≡ row };
+
+    fn clone(&self) -> Result<Self, AllocError> {
+        Ok(ShareRow {
+            kind: self.kind.clone()?,
+            ..*self
+        })
+    }
 }
 
 /// The name under which a shared node stands in a user's root.
@@ -299,33 +309,4 @@ impl RowList {
         self.rows.push(row)?;
         Ok(())
     }
-
-    pub fn copy(&self, alloc: Global) -> Result<RowList, AllocError>
-        ensures { IfOk result (λ copy. copy ≡ self.now) }
-    {
-        let mut rows = Vec::new(alloc);
-        for row in &self.rows {
-            rows.push(row.copy()?)?;
-        }
-        Ok(RowList { rows })
-    }
-}
-
-impl PartialEq for RowList {
-    ghost use Rattle.nf_base.specs.contracts.rows.RowPartialEq.TheImpl.{ghosts};
-    ghost use Rattle.nf_base.specs.contracts.rows.RowEq.TheImpl.Laws.{laws-law};
-
-    ghost eq = { pointwise ghosts.eq };
-
-    ghost laws = { partial_equiv_from_equiv (lists_equiv laws-law) };
-
-    fn eq(&self, other: &RowList) -> bool {
-        self.rows.as_slice() == other.rows.as_slice()
-    }
-}
-
-impl Eq for RowList {
-    ghost use Rattle.nf_base.specs.contracts.rows.RowEq.TheImpl.Laws.{laws-law};
-
-    ghost laws = { lists_equiv laws-law };
 }

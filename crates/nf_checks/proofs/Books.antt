@@ -1,6 +1,7 @@
 -- What two books know after the same calls.
 use Rattle.std.proofs.Common.{◌≡◌, ℕ, ◌+◌, ◌<◌, ◌≤◌, [], ◌∷◌, ◌++◌, refl, sym, ◌∙◌, ap, subst, arith, length, max, Ok, Err, append-nil, length-append}
-use Rattle.nf_words.specs.Prelude.{answer_at, LeavesRoom, most_entries, opened, replay, State}
+use Rattle.nf_base.specs.declared.limits.TheConstants.{MAX_ENTRIES}
+use Rattle.nf_words.specs.Prelude.{answer_at, LeavesRoom, opened, replay, State}
 use Rattle.nf_words.specs.declared.answer.Denial.TheVariants as denial
 use Rattle.nf_words.specs.declared.history.Entry.{Entry}
 use Rattle.nf_words.specs.declared.history.Event.{Event}
@@ -78,7 +79,7 @@ enters_same a b c d now event x y k p q alone also calm still =
 
 -- a Begin that is calm made an entry, or found the run full
 data Fate (a b : Book) (now : ℕ) (words : Words) (request : Request) (x : Answer) : Type 0 where
-  unmade : x ≡ Err denial.RunFull → Waits a b → most_entries < entries_wanted b → Fate a b now words request x
+  unmade : x ≡ Err denial.RunFull → Waits a b → MAX_ENTRIES < entries_wanted b → Fate a b now words request x
   made : Enters a b now (Begin words request) x → Fate a b now words request x
 
 fate : (a b : Book) (now : ℕ) (words : Words) (request : Request) (x : Answer)
@@ -90,7 +91,7 @@ fate a b now words request (Err refusal) begins calm = made begins.entry
 
 -- an entry that is made had room
 no_room : (a b c d : Book) (now : ℕ) (words : Words) (request : Request) (y : Answer)
-    → KnowSame a c → Waits a b → most_entries < entries_wanted b → Enters c d now (Begin words request) y → IsAlone a b → IsAlone c d → ⊥
+    → KnowSame a c → Waits a b → MAX_ENTRIES < entries_wanted b → Enters c d now (Begin words request) y → IsAlone a b → IsAlone c d → ⊥
 no_room a b c d now words request y k waits full q alone also =
     let stays : KnowSame a b = lone_waits a b waits alone in
     let none : [] ≡ q.others = sym (no_others c d now (Begin words request) y q also) in
@@ -98,7 +99,7 @@ no_room a b c d now words request y k waits full q alone also =
     let known_is : b.known ≡ c.known ++ q.others =
     stays.known ∙ sym k.known ∙ sym (append-nil c.known) ∙ ap (λ z. c.known ++ z) none in
     let state : state_of b ≡ state_after c q.others = λ i. replay (opened (open_is i)) (known_is i) in
-    let room : length (c.known ++ q.others) + length (state_after c q.others).tickets + 2 ≤ most_entries =
+    let room : length (c.known ++ q.others) + length (state_after c q.others).tickets + 2 ≤ MAX_ENTRIES =
     subst (λ z. LeavesRoom (length (c.known ++ q.others)) (state_after c q.others) z) q.event_is q.may_come.room in
     let long : length b.known ≡ length (c.known ++ q.others) = ap length known_is in
     let held : length (state_of b).tickets ≡ length (state_after c q.others).tickets = ap (λ (z : State). length z.tickets) state in

@@ -1,5 +1,5 @@
 -- How scenes go on: the book grows, and so does what was written.
-use Rattle.std.proofs.Common.{◌≡◌, ℕ, ◌+◌, ◌≤◌, List, ◌++◌, append_assoc, sym, ◌∙◌, ap, subst, arith, length}
+use Rattle.std.proofs.Common.{◌≡◌, ℕ, List, ◌++◌, append_assoc, sym, ◌∙◌, ap, subst, arith}
 use Rattle.std.proofs.KnownBytes.{Appends-trans}
 use Rattle.std.specs.Io.KnownBytes.{Appends}
 use Rattle.std.specs.Option.{IfSome}
@@ -13,30 +13,28 @@ use Rattle.nf_session.proofs.Lasting.{lasts_then, piece_lasts}
 use Rattle.nf_checks.specs.Alike.{Clash, IsAlone, StoresAgree}
 use Rattle.nf_checks.proofs.Basics.{told_more}
 
--- the seat's entries are among those that are known, and what every call keeps is kept
+-- what every call keeps is kept, and more was written
 pub record Goes {C : Type 0} (a b : Scene C) : Type 0 where
-  pub counts : length a.book.known + length b.book.own ≤ length a.book.own + length b.book.known
   pub lasts : Lasts a.book b.book
   pub bytes : List ℕ
   pub output : Appends a.output b.output bytes
 
 pub goes_of : {C : Type 0} {a b : Scene C} {n p : ℕ} {end : Option Ended} → Step a b n p end → Goes a b
-goes_of s = record { counts = s.book.known; lasts = s.book.onward.lasts; bytes = s.bytes; output = s.output }
+goes_of s = record { lasts = s.book.onward.lasts; bytes = s.bytes; output = s.output }
 
 module _ {C : Type 0} {a m b : Scene C} where
   pub goes_on : Goes a m → Goes m b → Goes a b
   goes_on p q = record {
-    counts = omega (arith, p.counts, q.counts);
     lasts = lasts_then a.book m.book b.book p.lasts q.lasts;
     bytes = p.bytes ++ q.bytes;
     output = Appends-trans a.output m.output b.output p.bytes q.bytes p.output q.output;
   }
 
   pub alone_first : Goes a m → Goes m b → IsAlone a.book b.book → IsAlone a.book m.book
-  alone_first p q alone = omega (arith, p.counts, q.counts, alone)
+  alone_first p q alone = omega (arith, p.lasts.entries, q.lasts.entries, alone)
 
   pub alone_then : Goes a m → Goes m b → IsAlone a.book b.book → IsAlone m.book b.book
-  alone_then p q alone = omega (arith, p.counts, q.counts, alone)
+  alone_then p q alone = omega (arith, p.lasts.entries, q.lasts.entries, alone)
 
 -- ---- a clash stays one
 
@@ -45,13 +43,14 @@ written_on : (a b : Option (List ℕ)) (front one rest bytes : List ℕ)
 written_on a b front one rest bytes x e =
     told_more (front ++ one ++ rest) bytes b (subst (λ z. Appends z b bytes) e x) ∙ ap (λ z. Some z) (append_assoc (front ++ one) rest bytes)
 
-pub clash_on : {C : Type 0} (a b c d : Scene C) → Goes a b → Goes c d → Clash a c → Clash b d
-clash_on a b c d g h clash = record {
+pub clash_on : {C : Type 0} (a b c d : Scene C) → Goes a b → Goes c d → IsAlone a.book b.book → IsAlone c.book d.book → Clash a c
+    → Clash b d
+clash_on a b c d g h alone lone clash = record {
   piece = clash.piece;
   one = clash.one;
   other = clash.other;
-  given = piece_lasts a.book b.book clash.piece clash.one g.lasts clash.given;
-  also = piece_lasts c.book d.book clash.piece clash.other h.lasts clash.also;
+  given = piece_lasts a.book b.book clash.piece clash.one g.lasts alone clash.given;
+  also = piece_lasts c.book d.book clash.piece clash.other h.lasts lone clash.also;
   differ = clash.differ;
   front = clash.front;
   rest = clash.rest ++ g.bytes;

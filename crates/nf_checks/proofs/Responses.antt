@@ -14,12 +14,13 @@ use Rattle.nf_http.specs.declared.wire.WireFault.TheVariants as wire
 use Rattle.nf_http.specs.Next.{IsOfBytes}
 use Rattle.nf_dav.specs.Reply.{file_head, last_manner, refusal_reply}
 use Rattle.nf_dav.specs.declared.replies.Manner.{Manner}
-use Rattle.nf_session.specs.Prelude.{AreGiven, Book, denial_of, end_by, end_of, EndsBy, EndsSo, file_front, how_of, IsPiece, manner_of, Responds, Scene, Sends, SendsFile, stays_granted, Way, Writes, WritesPieces, Wrote}
+use Rattle.nf_session.specs.Prelude.{Book, denial_of, end_by, end_of, EndsBy, EndsSo, file_front, HaveBytes, how_of, IsPiece, manner_of, Responds, Scene, Sends, SendsFile, stays_granted, Way, Writes, WritesPieces, Wrote}
 use Rattle.nf_session.specs.declared.ended.Ended.{Ended}
 use Rattle.nf_session.specs.declared.ended.Ended.TheVariants as ended
 use Rattle.nf_session.specs.declared.response.Response.{Response}
 use Rattle.nf_session.specs.declared.response.Response.TheVariants as response
 use Rattle.nf_session.proofs.Causes.{broken, is_whole}
+use Rattle.nf_session.proofs.Sendings.{given_alone}
 use Rattle.nf_checks.specs.Alike.{AreSame, Clash, IsAlone, IsCalmEnd, IsCalmEnded}
 use Rattle.nf_checks.proofs.Basics.{told_appended, told_more}
 use Rattle.nf_checks.proofs.Bodies.{Similar, equal, files}
@@ -51,7 +52,7 @@ in_front : (x front one rest : List ℕ) → x ++ (front ++ one ++ rest) ≡ (x 
 in_front x front one rest = simp append_assoc
 
 given_same : (b d : Book) (content : List Piece) (xs ys : List (List ℕ))
-    → AreGiven b content xs → AreGiven d content ys → length xs ≡ length ys → (xs ≡ ys) ⊎ Differ b d xs ys
+    → HaveBytes (IsPiece b) content xs → HaveBytes (IsPiece d) content ys → length xs ≡ length ys → (xs ≡ ys) ⊎ Differ b d xs ys
 given_same b d content [] [] p q n = inl refl
 given_same b d content [] (y ∷ ys) p q n = absurd (omega arith)
 given_same b d content (x ∷ xs) [] p q n = absurd (omega arith)
@@ -125,7 +126,8 @@ files_same : {C : Type 0} (a b c d : Scene C) (close : Bool) (content : List Pie
     → AreSame a c → Whole close content first a b → Whole close content other c d
     → IsAlone a.book b.book → IsAlone c.book d.book → AreSame b d ⊎ Clash b d
 files_same a b c d close content first other same (xs, p, n, calm) (ys, q, m, still) alone also =
-    end (given_same b.book d.book content xs ys p.pieces.are_given q.pieces.are_given (n ∙ sym m))
+    end (given_same b.book d.book content xs ys (given_alone a.book b.book content xs alone p.pieces.are_given)
+    (given_alone c.book d.book content ys also q.pieces.are_given) (n ∙ sym m))
   where
     end : (xs ≡ ys) ⊎ Differ b.book d.book xs ys → AreSame b d ⊎ Clash b d
     end (inl e) = inl (pieces_same a b c d close content first other xs ys same p q e alone also)

@@ -129,7 +129,7 @@ answers_same reads last head begun a b c d end also steady same p q alone lone =
         (sym (stays_similar p.made.response q.made.response taken.0)) q.made.closes)
 
     wrote : AreSame p.made.sent q.made.sent ⊎ Clash p.made.sent q.made.sent → Alike b d end also
-    wrote (inr clash) = inr (clash_on p.made.sent b q.made.sent d one.goes other.goes clash)
+    wrote (inr clash) = inr (clash_on p.made.sent b q.made.sent d one.goes other.goes one.closed other.closed clash)
     wrote (inl sent) = inl (
       q.whole.end_is ∙ sym by_response ∙ sym p.whole.end_is,
       closes_same reads (how_of p.made.response p.made.result) (stays_granted p.made.response) p.made.sent b q.made.sent d steady sent p.made.closes closes

@@ -1,7 +1,8 @@
 -- What makes two sessions end the same: the bytes that they read, what is known, the readings of the clock, and that
 -- nothing failed.
-use Rattle.std.specs.Prelude.{◌≡◌, ◌≢◌, ◌⊎◌, ℕ, ◌+◌, ◌==◌, Bool, false, List, [], ◌∷◌, ◌++◌, length, Option, None, Some, Ok, Err}
+use Rattle.std.specs.Prelude.{◌≡◌, ◌≢◌, ◌⊎◌, ℕ, ◌+◌, ◌-◌, ◌==◌, Bool, false, List, [], ◌∷◌, ◌++◌, length, Option, None, Some, Ok, Err}
 use mathlib.Core.Logic.{inl, inr}
+use Rattle.nf_base.specs.declared.limits.TheConstants.{MAX_MESSAGES}
 use Rattle.nf_base.specs.declared.content.Piece.{Piece}
 use Rattle.nf_defs.specs.Blobs.{Blobs, blob_at}
 use Rattle.nf_words.specs.declared.answer.Denial.{Denial}
@@ -105,7 +106,7 @@ IsAlone a b = length b.known + length a.own ≡ length a.known + length b.own
 pub record IsUndisturbed {C : Type 0} (reads : C → ℕ → C → Type 0) (a b : Scene C) (end : Option Ended)
     (session : Session reads a b end) : Type 0 where
   pub turns : AreCalmTurns reads a session.scenes session.before session.through
-  pub turn : IsCalmTurn reads (length session.scenes == 9999) session.before b end session.turn
+  pub turn : IsCalmTurn reads (length session.scenes == MAX_MESSAGES - 1) session.before b end session.turn
   pub end_is : IsCalmEnd end
   pub alone : IsAlone a.book b.book
 

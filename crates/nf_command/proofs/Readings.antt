@@ -4,7 +4,7 @@ use Rattle.std.specs.Prelude.{decimal}
 use Rattle.std.specs.declared.alloc.AllocError.{AllocError}
 use Rattle.std.proofs.lemmas.Fmt.{decimal_injective}
 use Rattle.sha2.specs.Sha256.{sha256}
-use Rattle.nf_rules.specs.Rules.{most_quota}
+use Rattle.nf_base.specs.declared.limits.TheConstants.{MAX_QUOTA}
 use Rattle.nf_command.specs.Command.{IsBatch, IsCommand, IsInit, IsServe, IsSomeInit, IsSomeServe}
 use Rattle.nf_command.specs.Reading.{GivesInit, GivesServe, IsNearlyInit, ReadsCommand}
 use Rattle.nf_command.specs.declared.command.Command.{Command}
@@ -21,7 +21,7 @@ batch_is_read words (Ok None) batch reads = absurd (reads (inl batch))
 batch_is_read words (Err error) batch reads = absurd (cc (sym batch ∙ reads.3))
 
 -- the words say one name, one token and one quota
-same_init : (name token : List ℕ) (quota : ℕ) (other secret : List ℕ) (number : ℕ) → quota ≤ most_quota → number ≤ most_quota
+same_init : (name token : List ℕ) (quota : ℕ) (other secret : List ℕ) (number : ℕ) → quota ≤ MAX_QUOTA → number ≤ MAX_QUOTA
     → codes "init" ∷ name ∷ token ∷ decimal quota ∷ [] ≡ codes "init" ∷ other ∷ secret ∷ decimal number ∷ []
     → (name ≡ other) × (token ≡ secret) × (quota ≡ number)
 same_init name token quota other secret number few least same = (

@@ -2,7 +2,8 @@
 use Rattle.std.proofs.Common.{◌≡◌, ◌≢◌, ◌≤◌, ◌<◌, ◌-◌, ◌∙◌, ℕ, List, [], ◌∷◌, ◌++◌, map, take, drop, length, get_or, codes, Option, None, Some, MatchOption, refl, sym, ap, arith, inl, inr}
 use Rattle.std.specs.Prelude.{decimal}
 use Rattle.std.proofs.lemmas.List.{take_all}
-use Rattle.nf_command.specs.Command.{IsBatch, IsCommand, IsServe, SaysServe, default_connections, most_connections}
+use Rattle.nf_command.specs.declared.command.TheConstants.{DEFAULT_CONNECTIONS, MAX_CONNECTIONS}
+use Rattle.nf_command.specs.Command.{IsBatch, IsCommand, IsServe, SaysServe}
 
 -- ---- a slice, by its length and what its items read
 
@@ -43,7 +44,7 @@ serve_begins words n (inr (inr says)) = ap begins says
 abbrev said : List (List ℕ) → List ℕ
 said (word ∷ (joined ∷ [])) = drop 14 joined
 said (word ∷ (option ∷ (digits ∷ others))) = digits
-said others = decimal default_connections
+said others = decimal DEFAULT_CONNECTIONS
 
 pub is_said : (words : List (List ℕ)) (n : ℕ) → SaysServe words n → decimal n ≡ said words
 is_said words n (inl says) = ap decimal says.1 ∙ sym (ap said says.0)
@@ -51,7 +52,7 @@ is_said words n (inr (inl says)) = sym (ap said says)
 is_said words n (inr (inr says)) = sym (ap said says)
 
 abbrev pub Reads : List ℕ → Option ℕ → Type 0
-Reads word r = MatchOption r ((n : ℕ) → 1 ≤ n → n ≤ most_connections → word ≢ decimal n) (λ n. (word ≡ decimal n) × (1 ≤ n) × (n ≤ most_connections))
+Reads word r = MatchOption r ((n : ℕ) → 1 ≤ n → n ≤ MAX_CONNECTIONS → word ≢ decimal n) (λ n. (word ≡ decimal n) × (1 ≤ n) × (n ≤ MAX_CONNECTIONS))
 
 abbrev pub Serves : List (List ℕ) → Option ℕ → Type 0
 Serves words r = MatchOption r ((n : ℕ) → IsServe words n → ⊥) (λ n. IsServe words n)

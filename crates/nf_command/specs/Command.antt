@@ -1,7 +1,8 @@
 -- The words of the command line: what is a command, and what isn't.
 use Rattle.std.specs.Prelude.{◌≡◌, ◌⊎◌, ℕ, ◌≤◌, All, List, [], ◌∷◌, ◌++◌, codes, decimal, length, slice_index}
+use Rattle.nf_command.specs.declared.command.TheConstants.{DEFAULT_CONNECTIONS, MAX_CONNECTIONS, MAX_TOKEN}
+use Rattle.nf_base.specs.declared.limits.TheConstants.{MAX_QUOTA}
 use Rattle.nf_base.specs.Naming.{IsName}
-use Rattle.nf_rules.specs.Rules.{most_quota}
 
 abbrev pub IsBatch : List (List ℕ) → Type 0
 IsBatch words = words ≡ codes "batch" ∷ []
@@ -9,7 +10,7 @@ IsBatch words = words ≡ codes "batch" ∷ []
 -- from 1 to 128 visible ASCII bytes
 pub record IsSecret (token : List ℕ) : Type 0 where
   pub some : 1 ≤ length token
-  pub few : length token ≤ 128
+  pub few : length token ≤ MAX_TOKEN
   pub visible : All (λ byte. (33 ≤ byte) × (byte ≤ 126)) token
 
 -- it begins with a dash, as an option does; there is none
@@ -22,22 +23,14 @@ pub record IsInit (words : List (List ℕ)) (name token : List ℕ) (quota : ℕ
   pub named : IsName name
   pub secret : IsSecret token
   pub no_option : (IsOption name → ⊥) × (IsOption token → ⊥)
-  pub few : quota ≤ most_quota
+  pub few : quota ≤ MAX_QUOTA
 
 abbrev pub IsSomeInit : List (List ℕ) → Type 0
 IsSomeInit words = (name : List ℕ) × (token : List ℕ) × (quota : ℕ) × IsInit words name token quota
 
--- the most connections of a worker where a `serve` doesn't say it
-abbrev pub default_connections : ℕ
-default_connections = 1000
-
--- the most that it may say
-abbrev pub most_connections : ℕ
-most_connections = 1000000
-
 -- no number is said, or by its digits, without a sign or a leading zero, behind the option or joined to it
 abbrev pub SaysServe : List (List ℕ) → ℕ → Type 0
-SaysServe words n = ((words ≡ codes "serve" ∷ []) × (n ≡ default_connections))
+SaysServe words n = ((words ≡ codes "serve" ∷ []) × (n ≡ DEFAULT_CONNECTIONS))
     ⊎ ((words ≡ codes "serve" ∷ codes "--connections" ∷ decimal n ∷ [])
     ⊎ (words ≡ codes "serve" ∷ (codes "--connections=" ++ decimal n) ∷ []))
 
@@ -45,7 +38,7 @@ SaysServe words n = ((words ≡ codes "serve" ∷ []) × (n ≡ default_connecti
 pub record IsServe (words : List (List ℕ)) (n : ℕ) : Type 0 where
   pub spelled : SaysServe words n
   pub some : 1 ≤ n
-  pub few : n ≤ most_connections
+  pub few : n ≤ MAX_CONNECTIONS
 
 abbrev pub IsSomeServe : List (List ℕ) → Type 0
 IsSomeServe words = (n : ℕ) × IsServe words n

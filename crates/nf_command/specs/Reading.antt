@@ -2,7 +2,7 @@
 use Rattle.std.specs.Prelude.{◌≡◌, ℕ, ◌≤◌, List, [], ◌∷◌, codes, decimal, Option, None, Some, Result, Ok, Err}
 use Rattle.std.specs.declared.alloc.AllocError.{AllocError}
 use Rattle.sha2.specs.Sha256.{sha256}
-use Rattle.nf_rules.specs.Rules.{most_quota}
+use Rattle.nf_base.specs.declared.limits.TheConstants.{MAX_QUOTA}
 use Rattle.nf_command.specs.Command.{IsBatch, IsCommand, IsInit, IsOption, IsSecret, IsServe}
 use Rattle.nf_command.specs.declared.command.Command.{Command}
 use Rattle.nf_command.specs.declared.command.Command.TheVariants as commands
@@ -16,7 +16,7 @@ IsInitOf words init = (token : List ℕ) × (IsInit words init.name token init.q
 abbrev pub IsNearlyInit : List (List ℕ) → Type 0
 IsNearlyInit words =
     (name : List ℕ) × (token : List ℕ) × (quota : ℕ) × (words ≡ codes "init" ∷ name ∷ token ∷ decimal quota ∷ [])
-    × IsSecret token × (quota ≤ most_quota) × ((IsOption name → ⊥) × (IsOption token → ⊥))
+    × IsSecret token × (quota ≤ MAX_QUOTA) × ((IsOption name → ⊥) × (IsOption token → ⊥))
 
 -- the command that the words are. Memory can be wanting only for a name, and so only where all else is right
 abbrev pub ReadsCommand : List (List ℕ) → Result (Option Command) AllocError → Type 0

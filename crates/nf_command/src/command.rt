@@ -8,20 +8,17 @@ ghost use Rattle.nf_command.specs.Command.{IsBatch, IsOption, IsSecret, IsServe}
 ghost use Rattle.nf_command.specs.Reading.{ReadsCommand};
 
 use crate::number::number_of;
-use nf_base::{Digest, Name, NameFault};
+use nf_base::{Digest, MAX_QUOTA, Name, NameFault};
 use std::alloc::{AllocError, Global};
 
 /// The most bytes of a token.
-const MOST_TOKEN: usize = 128;
-
-/// The most bytes that a quota allows: 1 TiB.
-const MOST_QUOTA: u64 = 1_099_511_627_776;
+const MAX_TOKEN: usize = 128;
 
 /// The most connections of a worker where the words don't say it.
 const DEFAULT_CONNECTIONS: u64 = 1_000;
 
 /// The most that they may say.
-const MOST_CONNECTIONS: u64 = 1_000_000;
+const MAX_CONNECTIONS: u64 = 1_000_000;
 
 /// What the words of the command line ask for.
 #[derive(Drop)]
@@ -92,10 +89,10 @@ fn serve_of(words: &[String]) -> Option<u64>
         [option] => number_of(
             option.as_str().strip_prefix("--connections=")?,
             1,
-            MOST_CONNECTIONS,
+            MAX_CONNECTIONS,
         ),
         [option, number] if option.as_str() == "--connections" => {
-            number_of(number.as_str(), 1, MOST_CONNECTIONS)
+            number_of(number.as_str(), 1, MAX_CONNECTIONS)
         }
         _ => None,
     }
@@ -113,7 +110,7 @@ fn init_of(
     if word != "init" || is_option(name) || is_option(token) || !is_secret(token.as_bytes()) {
         return Ok(None);
     }
-    let Some(quota) = number_of(quota, 0, MOST_QUOTA) else {
+    let Some(quota) = number_of(quota, 0, MAX_QUOTA) else {
         return Ok(None);
     };
     match Name::read(alloc, name.as_bytes()) {
@@ -141,7 +138,7 @@ fn is_secret(token: &[u8]) -> bool
     if token.is_empty() {
         return false;
     }
-    token.len() <= MOST_TOKEN && is_visible(token)
+    token.len() <= MAX_TOKEN && is_visible(token)
 }
 
 fn is_visible(bytes: &[u8]) -> bool

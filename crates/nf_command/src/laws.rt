@@ -2,11 +2,12 @@
 
 ghost use Rattle.std.specs.Prelude.{◌≡◌, ◌≤◌, ◌∷◌, ℕ, List, Option, None, Some, Result, Ok, MatchResult};
 ghost use Rattle.std.specs.declared.alloc.AllocError.{AllocError};
+ghost use Rattle.nf_base.specs.declared.limits.TheConstants.{MAX_QUOTA};
 ghost use Rattle.nf_base.specs.Naming.{IsName};
 ghost use Rattle.nf_base.specs.declared.rows.MetaRow.{MetaRow};
 ghost use Rattle.nf_base.specs.declared.rows.Row.{Row};
 ghost use Rattle.nf_base.specs.declared.rows.Row.TheVariants.{Meta};
-ghost use Rattle.nf_rules.specs.Rules.{AreUnbroken, most_quota};
+ghost use Rattle.nf_rules.specs.Rules.{AreUnbroken};
 ghost use Rattle.nf_command.specs.Command.{IsBatch, IsCommand, IsInit, IsServe, IsSomeInit, IsSomeServe};
 ghost use Rattle.nf_command.specs.First.{init_rows};
 ghost use Rattle.nf_command.specs.Reading.{GivesInit, GivesServe, IsNearlyInit, ReadsCommand};
@@ -40,7 +41,7 @@ pub fn others_are_refused()
 
 /// The rows that a store begins with break no rule.
 pub fn init_is_unbroken()
-    ensures { (name : List ℕ) (token : List ℕ) (quota : ℕ) → IsName name → quota ≤ most_quota → AreUnbroken (init_rows name token quota) }
+    ensures { (name : List ℕ) (token : List ℕ) (quota : ℕ) → IsName name → quota ≤ MAX_QUOTA → AreUnbroken (init_rows name token quota) }
 {}
 
 /// The first of them is the meta row.

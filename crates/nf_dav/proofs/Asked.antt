@@ -7,7 +7,7 @@ use Rattle.std.proofs.lemmas.List.{length-take, take-take}
 use Rattle.std.proofs.lemmas.List.Splits.{length-slice_split}
 use Rattle.std.proofs.lemmas.Option.{none-some, option_and_then_some, same_Some}
 use Rattle.std.proofs.lemmas.Slice.Eq.{bytes_eq-Decides}
-use Rattle.nf_base.specs.declared.content.TheConstants.{MAX_BODY}
+use Rattle.nf_base.specs.declared.limits.TheConstants.{MAX_BODY}
 use Rattle.nf_http.specs.Head.{Head, length_of}
 use Rattle.nf_routes.specs.Methods.{method_of, takes}
 use Rattle.nf_routes.specs.Mounts.{mount_of, route_at, route_below, route_in, route_of, words}

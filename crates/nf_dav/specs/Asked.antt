@@ -4,6 +4,7 @@ use Rattle.std.specs.Prelude.{◌≡◌, ⊤, ℕ, Bool, true, false, ◌||◌, 
 use Rattle.std.specs.List.{list_any}
 use Rattle.std.specs.Option.{option_map_or, option_or}
 use Rattle.sha2.specs.Sha256.{sha256}
+use Rattle.nf_base.specs.declared.limits.TheConstants.{MAX_OCS_BODY}
 use Rattle.nf_base.specs.Naming.{name_fault, path_fault, same_ignoring_case}
 use Rattle.nf_base.specs.declared.name.NameFault.{NameFault}
 use Rattle.nf_http.specs.Fields.{first_value}
@@ -108,7 +109,7 @@ parameter_refusal other head = None
 
 -- the longest: the parameters of an OCS request may stand in its body
 abbrev pub wants_body : Head → ℕ
-wants_body head = if is_ocs head.target then 8192 else 0
+wants_body head = if is_ocs head.target then MAX_OCS_BODY else 0
 
 -- ---- the request
 

@@ -3,6 +3,7 @@
 
 mod fields;
 mod listings;
+mod objects;
 mod refusals;
 mod replies;
 mod requests;

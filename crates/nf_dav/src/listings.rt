@@ -5,6 +5,7 @@ ghost use Rattle.std.specs.String.{string_bytes};
 ghost use Rattle.serde_json.specs.View.{view};
 ghost use Rattle.nf_dav.specs.Reply.{kind_word as word_of_kind, line_object, listing_body, listing_object};
 
+use crate::objects::{Said, object_of};
 use nf_base::{Name, NodeKind};
 use nf_words::{Listing, ListingLine};
 use serde_json::{Value, json};
@@ -38,22 +39,21 @@ fn line_values(alloc: Global, lines: &[ListingLine]) -> Result<Vec<Value>, Alloc
 fn line_value(alloc: Global, line: &ListingLine) -> Result<Value, AllocError>
     ensures { IfOk result (λ value. view value ≡ line_object line.now) }
 {
-    let changed = line.changed.seconds();
-    let id = line.id.number();
-    let kind = kind_word(line.kind);
-    let name = text_of(&line.name);
-    let owner = text_of(&line.owner);
-    let permissions = line.permissions.bits();
-    let size = line.size;
-    json!(in alloc; {
-        "changed": changed,
-        "id": id,
-        "kind": kind,
-        "name": name,
-        "owner": owner,
-        "permissions": permissions,
-        "size": size,
-    })
+    object_of(
+        alloc,
+        &[
+            ("changed", Said::Number(line.changed.seconds())),
+            ("id", Said::Number(line.id.number())),
+            ("kind", Said::Text(kind_word(line.kind))),
+            ("name", Said::Text(text_of(&line.name))),
+            ("owner", Said::Text(text_of(&line.owner))),
+            (
+                "permissions",
+                Said::Number(u64::from(line.permissions.bits())),
+            ),
+            ("size", Said::Number(line.size)),
+        ],
+    )
 }
 
 fn kind_word(kind: NodeKind) -> &'static str

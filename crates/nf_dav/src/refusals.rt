@@ -3,11 +3,12 @@
 ghost use Rattle.std.specs.Prelude.{◌≡◌, IfOk};
 ghost use Rattle.std.specs.String.{string_bytes};
 ghost use Rattle.serde_json.specs.View.{view};
-ghost use Rattle.nf_dav.specs.Reply.{damage_object, envelope as envelope_of, field_object, limit_object, meta_object, name_object, reason_object, refusal_body, refusal_object, target_object};
+ghost use Rattle.nf_dav.specs.Reply.{envelope as envelope_of, meta_object, refusal_body, refusal_object};
 
+use crate::objects::{Said, object_of};
 use crate::words::{cause_word, code, fault_word, field_word, limit_word, reason};
 use nf_words::Denial;
-use serde_json::{Value, json};
+use serde_json::{Map, Value, put};
 use std::alloc::{AllocError, Global};
 
 /// The body of a refusal, in an envelope where it answers an OCS request.
@@ -22,68 +23,62 @@ pub fn refusal_text(alloc: Global, denial: &Denial, ocs: bool) -> Result<String,
     }
 }
 
-// Each object stands in a function of its own: a macro's steps are many, and the paths through several of them are too many to prove at
-// once.
 fn envelope(alloc: Global, denial: &Denial, inner: Value) -> Result<Value, AllocError>
     requires { view inner ≡ refusal_object denial.now }
     ensures { IfOk result (λ value. view value ≡ envelope_of denial.now) }
 {
-    let meta = meta(alloc, reason(denial), code(denial))?;
-    let told = json!(in alloc; {"data": inner, "meta": meta})?;
-    json!(in alloc; {"ocs": told})
+    let mut told = Map::new(alloc);
+    put(&mut told, alloc, "data", inner)?;
+    put(
+        &mut told,
+        alloc,
+        "meta",
+        meta(alloc, reason(denial), code(denial))?,
+    )?;
+    let mut ocs = Map::new(alloc);
+    put(&mut ocs, alloc, "ocs", Value::Object(told))?;
+    Ok(Value::Object(ocs))
 }
 
 fn meta(alloc: Global, message: &str, statuscode: u16) -> Result<Value, AllocError>
     ensures { IfOk result (λ value. view value ≡ meta_object message.now statuscode) }
 {
-    json!(in alloc; {"message": message, "status": "failure", "statuscode": statuscode})
+    object_of(
+        alloc,
+        &[
+            ("message", Said::Text(message)),
+            ("status", Said::Text("failure")),
+            ("statuscode", Said::Number(u64::from(statuscode))),
+        ],
+    )
 }
 
 fn refusal_value(alloc: Global, denial: &Denial) -> Result<Value, AllocError>
     ensures { IfOk result (λ value. view value ≡ refusal_object denial.now) }
 {
+    let reason = ("reason", Said::Text(reason(denial)));
     match denial {
-        Denial::BadName(fault) => name_value(alloc, fault_word(*fault)),
-        Denial::BadParameter(field) => field_value(alloc, field_word(*field)),
-        Denial::BadTarget(cause) => target_value(alloc, cause_word(*cause)),
-        Denial::Damaged(damage) => damage_value(alloc, damage.blob.number()),
-        Denial::Limit(limit) => limit_value(alloc, limit.count(), limit_word(*limit)),
-        _ => reason_value(alloc, reason(denial)),
+        Denial::BadName(fault) => {
+            let fault = Said::Text(fault_word(*fault));
+            object_of(alloc, &[("fault", fault), reason])
+        }
+        Denial::BadParameter(field) => {
+            let field = Said::Text(field_word(*field));
+            object_of(alloc, &[("field", field), reason])
+        }
+        Denial::BadTarget(cause) => {
+            let cause = Said::Text(cause_word(*cause));
+            object_of(alloc, &[("cause", cause), reason])
+        }
+        Denial::Damaged(damage) => {
+            let blob = Said::Number(damage.blob.number());
+            object_of(alloc, &[("blob", blob), reason])
+        }
+        Denial::Limit(limit) => {
+            let count = Said::Number(u64::from(limit.count()));
+            let which = Said::Text(limit_word(*limit));
+            object_of(alloc, &[("count", count), reason, ("which", which)])
+        }
+        _ => object_of(alloc, &[reason]),
     }
-}
-
-fn name_value(alloc: Global, fault: &str) -> Result<Value, AllocError>
-    ensures { IfOk result (λ value. view value ≡ name_object fault.now) }
-{
-    json!(in alloc; {"fault": fault, "reason": "bad-name"})
-}
-
-fn field_value(alloc: Global, field: &str) -> Result<Value, AllocError>
-    ensures { IfOk result (λ value. view value ≡ field_object field.now) }
-{
-    json!(in alloc; {"field": field, "reason": "bad-parameter"})
-}
-
-fn target_value(alloc: Global, cause: &str) -> Result<Value, AllocError>
-    ensures { IfOk result (λ value. view value ≡ target_object cause.now) }
-{
-    json!(in alloc; {"cause": cause, "reason": "bad-target"})
-}
-
-fn damage_value(alloc: Global, blob: u64) -> Result<Value, AllocError>
-    ensures { IfOk result (λ value. view value ≡ damage_object blob) }
-{
-    json!(in alloc; {"blob": blob, "reason": "damaged"})
-}
-
-fn limit_value(alloc: Global, count: u32, which: &str) -> Result<Value, AllocError>
-    ensures { IfOk result (λ value. view value ≡ limit_object count which.now) }
-{
-    json!(in alloc; {"count": count, "reason": "limit", "which": which})
-}
-
-fn reason_value(alloc: Global, reason: &str) -> Result<Value, AllocError>
-    ensures { IfOk result (λ value. view value ≡ reason_object reason.now) }
-{
-    json!(in alloc; {"reason": reason})
 }

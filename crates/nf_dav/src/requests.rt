@@ -1,6 +1,7 @@
 //! The request of a message.
 
 ghost use Rattle.std.specs.Prelude.{◌≡◌, ◌≤◌, None, Some, Ok, IfOk, codes, if◌then◌else◌, option_copied};
+ghost use Rattle.nf_base.specs.declared.limits.TheConstants.{MAX_BODY};
 ghost use Rattle.nf_base.specs.Naming.{same_ignoring_case};
 ghost use Rattle.nf_http.specs.Head.{length_of};
 ghost use Rattle.nf_words.specs.History.{MayWant};
@@ -9,7 +10,7 @@ ghost use Rattle.nf_dav.specs.Asked.{Gives, GivesRequest, body_refusal, caller_o
 
 use crate::fields::{overwrites, second_segments};
 use crate::spots::spot;
-use nf_base::Digest;
+use nf_base::{Digest, MAX_OCS_BODY};
 use nf_http::Message;
 use nf_routes::{Method, Routes, is_ocs, method_of, segments, takes};
 use nf_words::{Caller, Denial, Request, Route, Spot, Wanted};
@@ -39,7 +40,11 @@ impl From<AllocError> for Unasked {
 pub fn wants_body(message: &Message) -> usize
     ensures { result ≡ longest_wanted message.now }
 {
-    if is_ocs(message.target()) { 8_192 } else { 0 }
+    if is_ocs(message.target()) {
+        MAX_OCS_BODY
+    } else {
+        0
+    }
 }
 
 /// The request of a message; or why it has none, the first that holds of no such route, a method that the route doesn't have, not built, a
@@ -90,7 +95,7 @@ fn files_request(
     message: &Message,
 ) -> Result<Request, Unasked>
     ensures gives { Gives (files_refusal method message.now) (λ request. request_there method message.now ≡ Ok request) result }
-    ensures short { length_of message.now ≤ 16777216 }
+    ensures short { length_of message.now ≤ MAX_BODY }
 {
     if takes_no_body(method, message.length()) {
         return Err(Unasked::Refused(Denial::Body));

@@ -4,6 +4,7 @@ use Rattle.std.specs.List.{AllPairs}
 use Rattle.std.specs.Option.{ForSome, option_map_or}
 use Rattle.std.proofs.lemmas.Bool.{eqb-true}
 use Rattle.std.proofs.lemmas.Option.{none-some, same_Some}
+use Rattle.nf_base.specs.declared.limits.TheConstants.{MAX_NODES}
 use Rattle.nf_base.specs.declared.rows.NodeRow.{NodeRow}
 use Rattle.nf_base.specs.declared.rows.UserRow.{UserRow}
 use Rattle.nf_defs.specs.Prelude.{child_of, folder_of, found_from, is_folder, is_under, node_row, onward, parent_of, Tables}
@@ -119,7 +120,7 @@ known_bears t now who (allowed.Copy rows replaced) sound known = copies_bear t n
 known_bears t now who allowed.Close sound known = tt
 
 -- so there may be the nodes that it adds
-pub known_few : (t : Tables) (now : ℕ) (who : Option ℕ) (act : Allowed) → AreSound t → Known t now who act → length t.nodes + added_by act ≤ 262144
+pub known_few : (t : Tables) (now : ℕ) (who : Option ℕ) (act : Allowed) → AreSound t → Known t now who act → length t.nodes + added_by act ≤ MAX_NODES
 known_few t now who (allowed.Get node content) sound known = omega (arith, sound.few_nodes)
 known_few t now who (allowed.List listing) sound known = omega (arith, sound.few_nodes)
 known_few t now who (allowed.Put by key length) sound known = omega (arith, sound.few_nodes)

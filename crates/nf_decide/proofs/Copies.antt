@@ -4,6 +4,7 @@ use Rattle.std.specs.List.{flat_map}
 use Rattle.std.specs.Option.{option_map_or}
 use Rattle.std.proofs.lemmas.List.{append-nil, length-append}
 use Rattle.std.proofs.lemmas.Option.{same_Some}
+use Rattle.nf_base.specs.declared.limits.TheConstants.{MAX_DEPTH}
 use Rattle.nf_base.specs.declared.rows.NodeRow.{NodeRow}
 use Rattle.nf_defs.specs.Prelude.{children_of, node_row, owner_of, Tables, walk_of, walk_within}
 use Rattle.nf_words.specs.Copies.{copied_row, copies_of_all, copies_to, copies_within, renamed}
@@ -149,15 +150,15 @@ renamed_many name (copy ∷ rows) = refl
 pub copies_next : (t : Tables) (now : ℕ) (transfer : Transfer) (name : List ℕ) → AreNumbered t.meta.next_node (copies_to t now transfer name)
 copies_next t now transfer name =
     renamed_numbered t.meta.next_node name _
-    (copies_numbered 64 t.nodes (owner_of t.nodes transfer.folder) now t.meta.next_node transfer.folder transfer.node)
+    (copies_numbered MAX_DEPTH t.nodes (owner_of t.nodes transfer.folder) now t.meta.next_node transfer.folder transfer.node)
 
 pub copies_count : (t : Tables) (now : ℕ) (transfer : Transfer) (name : List ℕ)
     → length (copies_to t now transfer name) ≤ length (walk_of t.nodes transfer.node)
 unfolding walk_of
 copies_count t now transfer name =
-    let copies = copies_within 64 t.nodes (owner_of t.nodes transfer.folder) now t.meta.next_node transfer.folder transfer.node in
+    let copies = copies_within MAX_DEPTH t.nodes (owner_of t.nodes transfer.folder) now t.meta.next_node transfer.folder transfer.node in
     omega (
       arith,
       renamed_many name copies,
-      copies_few 64 t.nodes (owner_of t.nodes transfer.folder) now t.meta.next_node transfer.folder transfer.node,
+      copies_few MAX_DEPTH t.nodes (owner_of t.nodes transfer.folder) now t.meta.next_node transfer.folder transfer.node,
     )

@@ -2,6 +2,7 @@
 use Rattle.std.proofs.Common.{ℕ, zero, suc, ◌+◌, ◌≤◌, ◌==◌, ◌≡◌, ◌≢◌, ◌||◌, Bool, true, false, List, [], ◌∷◌, length, Option, None, Some, IsSome, IfSome, if◌then◌else◌, refl, ap, ◌∙◌, subst, arith}
 use Rattle.std.specs.Option.{option_map_or}
 use Rattle.std.proofs.lemmas.Bool.{eq-eqb, eqb-true, false≢true}
+use Rattle.nf_base.specs.declared.limits.TheConstants.{MAX_DEPTH}
 use Rattle.nf_base.specs.declared.rows.NodeRow.{NodeRow}
 use Rattle.nf_defs.specs.Prelude.{child_of, found_from, is_folder, is_root, is_under, is_under_within, onward, parent_of, unshared}
 use Rattle.nf_defs.specs.declared.Found.{Found}
@@ -72,7 +73,7 @@ unfit_under false false true d under none = absurd (cc)
 unfit_under false false false true under none = absurd (cc)
 unfit_under false false false false under none = absurd (cc)
 
-named_between : (call : Call) (source target : Spot) → AreRisingNodes call.state.tables.nodes → length source.path ≤ 64
+named_between : (call : Call) (source target : Spot) → AreRisingNodes call.state.tables.nodes → length source.path ≤ MAX_DEPTH
     → unfit_between call.state.tables.nodes (record { source = Some (found call source); target = Some (found call target) }) ≡ None
     → IsSome (transfer_of call.state.tables.nodes (record { source = Some (found call source); target = Some (found call target) }))
     → target.path ≢ []
@@ -99,16 +100,17 @@ named_between call source target rising short fits some empty =
     here (Free folder) to leads top fits some = absurd (cc some)
     here (Missing depth) to leads top fits some = absurd (cc some)
     here (At node) to leads top fits some =
-        inner node (parent_of rows root) refl (leads_under 64 rows 0 root source.path node rising short leads)
+        inner node (parent_of rows root) refl (leads_under MAX_DEPTH rows 0 root source.path node rising short leads)
         (subst (λ (to : Found). unfit_between rows (record { source = Some (At node); target = Some to }) ≡ None) top fits)
         (subst (λ (to : Found). IsSome (transfer_of rows (record { source = Some (At node); target = Some to }))) top some)
 
-pub named : (call : Call) → AreRisingNodes call.state.tables.nodes → IfSome (source_of call.request.wanted) (λ spot. length spot.path ≤ 64)
+pub named : (call : Call) → AreRisingNodes call.state.tables.nodes
+    → IfSome (source_of call.request.wanted) (λ spot. length spot.path ≤ MAX_DEPTH)
     → target_rule unshared call ≡ None → IsNamed call
 unfolding target_rule
 named call rising short passes = here call.request.wanted short (no_fault _ passes)
   where
-    here : (wanted : Wanted) → IfSome (source_of wanted) (λ spot. length spot.path ≤ 64)
+    here : (wanted : Wanted) → IfSome (source_of wanted) (λ spot. length spot.path ≤ MAX_DEPTH)
         → unfit call.state.tables.nodes wanted (places_at call wanted) ≡ None
         → IsSome (transfer_of call.state.tables.nodes (places_at call wanted)) → IfSome (target_of wanted) (λ spot. spot.path ≢ [])
     here (Get spot) short fits some = tt

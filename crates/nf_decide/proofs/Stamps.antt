@@ -1,5 +1,6 @@
 -- Acts that change some row.
-use Rattle.std.proofs.Common.{ℕ, ◌≡◌, ◌≢◌, List, [], ◌∷◌, ◌++◌, map, Option, None, Some, IsSome, refl}
+use Rattle.std.proofs.Common.{ℕ, ◌≡◌, ◌≢◌, ◌-◌, List, [], ◌∷◌, ◌++◌, map, Option, None, Some, IsSome, refl}
+use Rattle.nf_base.specs.declared.limits.TheConstants.{MAX_DEPTH}
 use Rattle.nf_base.specs.declared.changes.Change.{Change}
 use Rattle.nf_base.specs.declared.changes.Change.TheVariants as change
 use Rattle.nf_base.specs.declared.rows.NodeRow.{NodeRow}
@@ -16,9 +17,9 @@ stamped_some before after now [] some = absurd (some refl)
 stamped_some before after now (change ∷ changes) some = refl
 
 -- a walk has its top, so a removal drops a node
-walk_top : (rows : List NodeRow) (top : ℕ) → walk_of rows top ≡ top ∷ flat_map (walk_within 63 rows) (children_of rows top)
+walk_top : (rows : List NodeRow) (top : ℕ) → walk_of rows top ≡ top ∷ flat_map (walk_within (MAX_DEPTH - 1) rows) (children_of rows top)
 unfolding walk_of
-walk_top rows top = walk_down 63 64 rows top refl
+walk_top rows top = walk_down (MAX_DEPTH - 1) MAX_DEPTH rows top refl
 
 pub dropped_some : (rows : List NodeRow) (top : ℕ) (more : List Change) → dropped_under rows top ++ more ≢ []
 dropped_some rows top more none = let h = rw (walk_top rows top) at none in absurd (cc)

@@ -6,7 +6,7 @@ ghost use Rattle.nf_words.specs.Prelude.{copied_row, copies_to, copies_within, c
 
 use crate::nodes::owner_of;
 use crate::tables::Tables;
-use nf_base::{Moment, Name, NodeId, NodeRow, Place, UserId};
+use nf_base::{MAX_DEPTH, Moment, Name, NodeId, NodeRow, Place, UserId};
 use nf_tree::Tree;
 use nf_words::{NodeRows, Transfer};
 use std::alloc::{AllocError, Global};
@@ -29,7 +29,7 @@ pub(crate) fn copies_to(
         first: tables.meta().next_node,
     };
     let mut rows = Vec::new(alloc);
-    copier.copy_node(alloc, 64, transfer.node, transfer.folder, &mut rows)?;
+    copier.copy_node(alloc, MAX_DEPTH, transfer.node, transfer.folder, &mut rows)?;
     rename(&mut rows, name);
     Ok(NodeRows::new(rows))
 }

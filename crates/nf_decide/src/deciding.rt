@@ -2,6 +2,7 @@
 
 ghost use Rattle.std.specs.Prelude.{◌≡◌, ◌≤◌, IfOk, IfSome, None, Some, false, length, option_and_then, option_copied, option_map};
 ghost use Rattle.std.specs.Option.{option_map_or};
+ghost use Rattle.nf_base.specs.declared.limits.TheConstants.{MAX_DEPTH};
 ghost use Rattle.nf_defs.specs.Prelude.{found_from, is_folder, unshared, user_row};
 ghost use Rattle.nf_words.specs.Prelude.{allowed_of, asker_of, call_decision, caller_row, exists_rule, forbidden_rule, has_forbidden, is_there, limit_at, limited, not_you_rule, overwrite_rule, place_rule, places_of, source_of, target_rule, token_rule, unfit, user_of};
 ghost use Rattle.nf_decide.specs.Asked.{is_called, is_forbidden, names_caller};
@@ -264,7 +265,7 @@ impl<'a> Call<'a> {
     fn places(&self, caller: Option<&UserRow>) -> Places
         requires { option_copied caller ≡ caller_row self.now }
         ensures places { result ≡ places_of self.entry.now }
-        ensures short { IfSome (source_of self.entry.now.request.wanted) (λ spot. length spot.path ≤ 64) }
+        ensures short { IfSome (source_of self.entry.now.request.wanted) (λ spot. length spot.path ≤ MAX_DEPTH) }
         ensures rising { AreRisingNodes self.entry.now.state.tables.nodes }
     {
         let root = root_of(caller);
@@ -277,7 +278,7 @@ impl<'a> Call<'a> {
 
     fn found(&self, root: NodeId, spot: Option<&Spot>) -> Option<Found>
         ensures found { result ≡ option_map (λ spot. found_from self.entry.now.state.tables.nodes 0 root spot.path) (option_copied spot.entry) }
-        ensures short { IfSome (option_copied spot.entry) (λ spot. length spot.path ≤ 64) }
+        ensures short { IfSome (option_copied spot.entry) (λ spot. length spot.path ≤ MAX_DEPTH) }
     {
         Some(self.tree().find(root, spot?.path.names()))
     }

@@ -2,7 +2,7 @@
 
 ghost use Rattle.std.specs.Prelude.{◌≡◌, ◌≤◌, IfOk, None, Some, if◌then◌else◌, option_copied};
 ghost use Rattle.std.specs.Option.{ForSome};
-ghost use Rattle.nf_base.specs.declared.content.TheConstants.{MAX_BODY};
+ghost use Rattle.nf_base.specs.declared.limits.TheConstants.{MAX_BODY};
 ghost use Rattle.nf_words.specs.Prelude.{blob_for, content_in, end_refusal, ends_goal, IsGoalSound, key_lost, MayBring, place_of, stored_at, stores};
 ghost use Rattle.nf_words.specs.declared.answer.Denial.TheVariants.{NotFound};
 

@@ -1,6 +1,7 @@
 //! The limits of the site.
 
 ghost use Rattle.std.specs.Prelude.{◌≡◌, ◌≤◌, length, nat_lt, IfOk};
+ghost use Rattle.nf_base.specs.declared.limits.TheConstants.{MAX_DEPTH, MAX_PIECES};
 ghost use Rattle.nf_defs.specs.Tree.{content_of, walk_of};
 ghost use Rattle.nf_words.specs.Limits.{copy_limit, count_of, deepest, deepest_in, limit_at, limit_passed, move_limit, pieces_in, pieces_of};
 
@@ -64,7 +65,7 @@ fn deepest_in(tree: &Tree, nodes: &[NodeId], transfer: &Transfer) -> u32
 /// How deep the deepest of some nodes is.
 fn deepest(tree: &Tree, nodes: &[NodeId]) -> u32
     ensures depth { result ≡ deepest tree.now.rows nodes.now }
-    ensures few { result ≤ 64 }
+    ensures few { result ≤ MAX_DEPTH }
 {
     let mut deep = 0;
     for node in nodes {
@@ -87,7 +88,7 @@ fn pieces_in(tree: &Tree, nodes: &[NodeId]) -> u128
 /// How many pieces a node names.
 fn pieces_at(tree: &Tree, node: NodeId) -> u32
     ensures count { result ≡ length (content_of tree.now.rows node) }
-    ensures few { result ≤ 10000 }
+    ensures few { result ≤ MAX_PIECES }
 {
     match tree.node(node) {
         Some(row) => row.content.pieces().len() as u32,

@@ -1,6 +1,7 @@
 //! The state of the site, and the changes that steps make to it.
 
 ghost use Rattle.std.specs.Prelude.{◌≡◌, ◌+◌, ◌≤◌, ◌==◌, not, filter, vec_capacity, length, [], ◌∷◌, ◌++◌, find, IfOk, OnOk, Ok, option_copied};
+ghost use Rattle.nf_base.specs.declared.limits.TheConstants.{MAX_NODES};
 ghost use Rattle.nf_defs.specs.Tables.{rows_of};
 ghost use Rattle.nf_words.specs.Changes.{applied};
 ghost use Rattle.nf_words.specs.Prelude.{failed, stepped_by, ticket_for, ticket_of};
@@ -93,7 +94,7 @@ impl State {
 
     /// Makes room for so many nodes more.
     pub fn reserve_nodes(&mut self, count: usize) -> Result<(), AllocError>
-        requires few { length self.old.state.tables.nodes + count ≤ 262144 }
+        requires few { length self.old.state.tables.nodes + count ≤ MAX_NODES }
         ensures nodes { OnOk result (FitsNodes self.new.state.tables self.new.room.nodes count) }
         ensures tickets { self.new.room.tickets ≡ self.old.room.tickets }
         ensures same { self.new.state ≡ self.old.state }

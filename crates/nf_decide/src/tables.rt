@@ -2,6 +2,7 @@
 
 ghost use Rattle.std.specs.Prelude.{◌≡◌, ℕ, ◌+◌, ◌<◌, ◌≤◌, ◌∷◌, ◌++◌, [], All, length, map, slice_get, IfOk, OnOk, None, Some};
 ghost use Rattle.std.specs.Option.{ForSome};
+ghost use Rattle.nf_base.specs.declared.limits.TheConstants.{MAX_NODES};
 ghost use Rattle.nf_base.specs.declared.rows.NodeRow.{NodeRow};
 ghost use Rattle.nf_base.specs.declared.rows.Row.TheVariants as kinds;
 ghost use Rattle.nf_defs.specs.Tables.{rows_of};
@@ -113,7 +114,7 @@ impl Tables {
 
     /// Makes room for so many nodes more.
     pub(crate) fn reserve(&mut self, count: usize) -> Result<(), AllocError>
-        requires few { length self.old.tables.nodes + count ≤ 262144 }
+        requires few { length self.old.tables.nodes + count ≤ MAX_NODES }
         ensures ok { OnOk result (FitsNodes self.new.tables self.new.room count) }
         ensures same { self.new.tables ≡ self.old.tables }
     {

@@ -5,6 +5,7 @@ use Rattle.std.specs.Option.{option_and_then}
 use Rattle.std.proofs.lemmas.Bool.{eq-eqb, eqb-true, false≢true, ne_eqb}
 use Rattle.std.proofs.lemmas.List.Elements.{All-contains, All-filter, All-map, Contains-append_cases, Contains-append_left, Contains-append_right, filter_passes}
 use Rattle.std.proofs.lemmas.Option.{none-some, option_and_then_some, same_Some}
+use Rattle.nf_base.specs.declared.limits.TheConstants.{MAX_DEPTH}
 use Rattle.nf_base.specs.declared.rows.NodeRow.{NodeRow}
 use Rattle.nf_base.specs.declared.rows.Place.{Place}
 use Rattle.nf_base.specs.declared.rows.Place.TheVariants.{Root, Inside, Trash}
@@ -158,10 +159,10 @@ climbs_walk_within (suc j) (suc k) rows top node few is =
     (climbs_walk_within j k rows r.0 node (omega arith) r.1))
 
 pub walk_climbs : (rows : List NodeRow) (top node : ℕ) → AreRising rows → Contains (walk_of rows top) node
-    → (j : ℕ) × (j ≤ 64) × (climb rows j node ≡ Some top)
+    → (j : ℕ) × (j ≤ MAX_DEPTH) × (climb rows j node ≡ Some top)
 unfolding walk_of
-walk_climbs rows top node rising h = walk_within_climbs 64 rows top node rising h
+walk_climbs rows top node rising h = walk_within_climbs MAX_DEPTH rows top node rising h
 
-pub climbs_walk : (j : ℕ) (rows : List NodeRow) (top node : ℕ) → j ≤ 64 → climb rows j node ≡ Some top → Contains (walk_of rows top) node
+pub climbs_walk : (j : ℕ) (rows : List NodeRow) (top node : ℕ) → j ≤ MAX_DEPTH → climb rows j node ≡ Some top → Contains (walk_of rows top) node
 unfolding walk_of
-climbs_walk j rows top node few is = climbs_walk_within j 64 rows top node few is
+climbs_walk j rows top node few is = climbs_walk_within j MAX_DEPTH rows top node few is

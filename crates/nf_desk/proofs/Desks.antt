@@ -5,10 +5,10 @@ use Rattle.sha2.specs.Sha256.{sha256}
 use Rattle.std.specs.Option.{IfSome}
 use Rattle.std.proofs.lemmas.Bool.{both_ways, eqb-true}
 use Rattle.std.proofs.lemmas.Option.{none-some, same_Some}
-use Rattle.nf_base.specs.declared.content.TheConstants.{MAX_BODY}
-use Rattle.nf_defs.specs.Tables.{Tables}
+use Rattle.nf_base.specs.declared.limits.TheConstants.{MAX_BODY, MAX_ENTRIES}
+use Rattle.nf_defs.specs.Prelude.{AreRising, Tables}
 use Rattle.nf_defs.specs.declared.Seeker.{Seeker}
-use Rattle.nf_words.specs.Prelude.{actor_of, answer_at, answer_to, answered_by, blob_to, decision_of, end_refusal, ends_goal, ends_ticket, IsSound, MayAsk, MayBring, MayCome, MayEnd, MayWant, most_entries, reply_to, State, ticket_for, ticket_of, unless_refused}
+use Rattle.nf_words.specs.Prelude.{actor_of, answer_at, answer_to, answered_by, blob_to, decision_of, end_refusal, ends_goal, ends_ticket, IsSound, MayAsk, MayBring, MayCome, MayEnd, MayWant, reply_to, State, ticket_for, ticket_of, unless_refused}
 use Rattle.nf_words.specs.Endings.{stored_at as stores_at}
 use Rattle.nf_words.proofs.Steps.{put_grants_nothing}
 use Rattle.nf_words.specs.declared.answer.Allowed.{Allowed}
@@ -42,11 +42,11 @@ use Rattle.nf_session.proofs.Books.{held_is_ticket}
 use Rattle.nf_site.specs.Held.{entries_wanted as site_wanted}
 use Rattle.nf_site.specs.Kept.{Kept, IsHistory, moment_of}
 use Rattle.nf_told.specs.Told.{Told}
-use Rattle.nf_desk.specs.Desk.{IsCounted, Shown, blobs_in, book_at}
+use Rattle.nf_desk.specs.Desk.{IsDesk, Shown, blobs_in, book_at}
 use Rattle.nf_desk.specs.Stepping.{Asks, HeldMayEnd, IsEmpty, Makes, Standing, Steps, entry_at, standing}
 use Rattle.nf_desk.proofs.Counting.{moved, standing_in}
 use Rattle.nf_desk.proofs.Entering.{by_step, enters, state_again, step_enters, steps_enter, waits}
-use Rattle.nf_desk.proofs.Tellings.{empty_steps, steps_told, told_after}
+use Rattle.nf_desk.proofs.Tellings.{empty_brings, empty_steps, steps_told, told_after}
 
 -- ---- what the seat holds
 
@@ -98,19 +98,20 @@ wanted_is seat a h = ap (λ (s : State). length a.site.history + length s.ticket
 
 passes : (seat : ℕ) (a : Shown) → Passes (book_at seat a) (book_at seat a)
 passes seat a = record {
-  waits = waits seat a.site a.site a.told a.told (book_at seat a).strikes (book_at seat a).strikes refl refl (omega arith);
+  waits = waits seat a.site a.site (blobs_in a.start.told) a.told a.told (book_at seat a).strikes (book_at seat a).strikes refl refl
+      (omega arith);
   unstruck = refl;
 }
 
 finds_none : (seat : ℕ) (a : Shown) (now : ℕ) (words : Words) (request : Request) (answer : Answer) → IsHistory a.site
-    → ((answer ≡ Err denial.RunFull) × (most_entries < site_wanted a.site)) ⊎ ((answer ≡ Err denial.Memory) × (site_wanted a.site ≤ most_entries))
+    → ((answer ≡ Err denial.RunFull) × (MAX_ENTRIES < site_wanted a.site)) ⊎ ((answer ≡ Err denial.Memory) × (site_wanted a.site ≤ MAX_ENTRIES))
     → Begins (book_at seat a) (book_at seat a) now words request answer
 finds_none seat a now words request answer h (inl full) =
     subst (λ (x : Answer). Begins (book_at seat a) (book_at seat a) now words request x) (sym full.0)
     (record {
       entry = passes seat a;
       answered = tt;
-      full = λ is. subst (λ (n : ℕ). most_entries < n) (sym (wanted_is seat a h)) full.1;
+      full = λ is. subst (λ (n : ℕ). MAX_ENTRIES < n) (sym (wanted_is seat a h)) full.1;
       room = λ is. absurd (cc);
     })
 finds_none seat a now words request answer h (inr memory) =
@@ -119,7 +120,7 @@ finds_none seat a now words request answer h (inr memory) =
       entry = passes seat a;
       answered = tt;
       full = λ is. absurd (cc);
-      room = λ is. subst (λ (n : ℕ). n ≤ most_entries) (sym (wanted_is seat a h)) memory.1;
+      room = λ is. subst (λ (n : ℕ). n ≤ MAX_ENTRIES) (sym (wanted_is seat a h)) memory.1;
     })
 
 -- ---- a Begin that is made
@@ -180,22 +181,24 @@ match_false : (P Q : Type 0) (b : Bool) → b ≡ false → Q → MatchBool b P 
 match_false P Q b is q = subst (λ (c : Bool). MatchBool c P Q) (sym is) q
 
 begins_made : (seat : ℕ) (a : Shown) (b : Standing) (now : ℕ) (words : Words) (request : Request) (answer : Answer) → IsHistory a.site
-    → IsSound a.site.state → IsCounted a → Steps seat (standing_in a) b now (Begin words request) [] answer
+    → IsSound a.site.state → AreRising a.site.state.tables → IsDesk a → Steps seat (standing_in a) b now (Begin words request) [] answer
     → Begins (book_at seat a) (book_at seat (moved a b)) now words request answer
-begins_made seat a b now words request answer h sound counted steps =
+begins_made seat a b now words request answer h sound rising desk steps =
     let of = begin_answer seat a.site now words request steps.mark answer sound steps.makes.may_come steps.makes.answered in
     record {
-      entry = match_false _ _ (is_unmade answer) of.made (steps_enter seat a b now (Begin words request) [] answer steps h sound counted);
+      entry = match_false _ _ (is_unmade answer) of.made
+          (steps_enter seat a b now (Begin words request) [] answer steps h sound rising tt desk);
       answered = of.answered;
       full = λ is. absurd (both_ways (is_unmade answer) of.made (ap is_unmade is));
       room = λ is. absurd (both_ways (is_unmade answer) of.made (ap is_unmade is));
     }
 
 pub begins : (seat : ℕ) (a : Shown) (b : Standing) (now : ℕ) (words : Words) (request : Request) (answer : Answer) → IsHistory a.site
-    → IsSound a.site.state → IsCounted a → Asks seat (standing_in a) b now words request answer
+    → IsSound a.site.state → AreRising a.site.state.tables → IsDesk a → Asks seat (standing_in a) b now words request answer
     → Begins (book_at seat a) (book_at seat (moved a b)) now words request answer
-begins seat a b now words request answer h sound counted (inl steps) = begins_made seat a b now words request answer h sound counted steps
-begins seat a b now words request answer h sound counted (inr none) =
+begins seat a b now words request answer h sound rising desk (inl steps) =
+    begins_made seat a b now words request answer h sound rising desk steps
+begins seat a b now words request answer h sound rising desk (inr none) =
     subst (λ (z : Standing). Begins (book_at seat a) (book_at seat (moved a z)) now words request answer) (sym none.same)
     (finds_none seat a now words request answer h none.why)
 
@@ -213,11 +216,11 @@ closed_by seat k now Gone empty = closed_of (ticket_of k.state seat) k.state.tab
 closed_by seat k now (Body digest size) empty = absurd empty
 
 pub ends_empty : (seat : ℕ) (a : Shown) (l : Kept) (now : ℕ) (outcome : Outcome) (answer : Answer) → IsHistory a.site → IsSound a.site.state
-    → IsCounted a → IsEmpty outcome → Makes seat a.site l now (End outcome) mark.Answered answer
+    → AreRising a.site.state.tables → IsDesk a → IsEmpty outcome → Makes seat a.site l now (End outcome) mark.Answered answer
     → EndsEmpty (book_at seat a) (book_at seat (record a { site = l })) now outcome answer
-ends_empty seat a l now outcome answer h sound counted empty makes = record {
+ends_empty seat a l now outcome answer h sound rising desk empty makes = record {
   enters = steps_enter seat a (standing l a.told a.faults) now (End outcome) [] answer
-      (empty_steps seat a.site l a.told a.faults now outcome answer empty makes) h sound counted;
+      (empty_steps seat a.site l a.told a.faults now outcome answer empty makes) h sound rising (empty_brings outcome empty) desk;
   answered = makes.answered ∙ closed_by seat a.site now outcome empty;
 }
 
@@ -300,13 +303,13 @@ steps_stored seat a b now body answer h sound steps =
     (stored_at (length a.site.history) a.site.state e body answer a.told sound steps.makes.may_come steps.makes.answered))
 
 pub ends_body : (seat : ℕ) (a : Shown) (b : Standing) (now : ℕ) (body : List ℕ) (answer : Answer) → IsHistory a.site → IsSound a.site.state
-    → IsCounted a → Steps seat (standing_in a) b now (event_of_body body) body answer
+    → AreRising a.site.state.tables → IsDesk a → Steps seat (standing_in a) b now (event_of_body body) body answer
     → EndsBody (book_at seat a) (book_at seat (moved a b)) now body answer
 unfolding enters step_enters
-ends_body seat a b now body answer h sound counted steps =
+ends_body seat a b now body answer h sound rising desk steps =
     by_step seat a b now (event_of_body body) body answer steps (λ (c : Shown). EndsBody (book_at seat a) (book_at seat c) now body answer)
     (record {
-      enters = step_enters seat a b now (event_of_body body) body answer steps h sound counted;
+      enters = step_enters seat a b now (event_of_body body) body answer steps h sound rising (refl, refl) desk;
       answered = marked_of_body seat a.site now body steps.mark answer steps.makes.may_come.asked steps.makes.answered;
       stored = steps_stored seat a b now body answer h sound steps;
     })

@@ -1,22 +1,20 @@
 -- The pieces of what a seat was granted.
-use Rattle.std.proofs.Common.{◌≡◌, ℕ, ◌<◌, ◌≤◌, ◌==◌, inl, inr, List, length, Result, Ok, Err, refl, sym, ap, subst, ◌∙◌, arith}
+use Rattle.std.proofs.Common.{◌≡◌, ◌⊎◌, ⊎_elim, ℕ, ◌<◌, ◌≤◌, ◌==◌, inl, inr, List, length, Result, Ok, Err, refl, sym, ap, subst, ◌∙◌}
 use Rattle.std.specs.Prelude.{Option, None, Some, IfOk, slice_get, Vec}
 use Rattle.std.specs.declared.alloc.Global.{Global}
-use Rattle.sha2.specs.Sha256.{sha256}
 use Rattle.std.specs.List.{All}
 use Rattle.std.specs.Option.{IfSome}
 use Rattle.std.proofs.lemmas.List.Elements.{All-get_or}
 use Rattle.std.proofs.lemmas.Option.{IfSome_then, get_or_from_slice_get, same_Some, slice_get_within}
 use Rattle.nf_base.specs.declared.content.Piece.{Piece}
-use Rattle.nf_base.specs.declared.rows.Row.{Row}
 use Rattle.nf_defs.specs.Blobs.{Blobs, blob_at}
 use Rattle.nf_keeper.specs.Keeping.{Counts, IsTold}
 use Rattle.nf_keeper.specs.Views.{bytes_in}
 use Rattle.nf_keeper.specs.declared.keeper.KeepFault.{KeepFault}
 use Rattle.nf_keeper.specs.declared.keeper.KeepFault.TheVariants.{Failed, Memory}
-use Rattle.nf_laws.specs.Wholes.{IsDamaged, IsGoalHeld, IsHeld, IsThere}
-use Rattle.nf_rules.specs.Rules.{AreUnbroken}
-use Rattle.nf_session.specs.Book.{Book, GivesOrFails, GivesPiece, IsDamage, TellsDamage, TellsPiece, TellsStill, held, measured, next_blob_of}
+use Rattle.nf_laws.specs.Wholes.{IsGoalHeld, IsHeld, IsThere}
+use Rattle.nf_session.specs.Book.{Book, Differs, GivesOrFails, GivesPiece, IsDamage, TellsDamage, TellsPiece, WasDamaged, held, measured, next_blob_of}
+use Rattle.nf_session.proofs.Lasting.{there_differs}
 use Rattle.nf_session.specs.declared.backend.PieceFault.{PieceFault}
 use Rattle.nf_session.specs.declared.backend.PieceFault.TheVariants as fault
 use Rattle.nf_site.specs.Kept.{IsHistory}
@@ -26,12 +24,10 @@ use Rattle.nf_words.specs.Sound.{IsGoalSound, IsPieceSound, IsSound}
 use Rattle.nf_words.specs.declared.answer.Damage.{Damage}
 use Rattle.nf_words.specs.declared.answer.Goal.{Goal}
 use Rattle.nf_words.specs.declared.answer.Goal.TheVariants.{Serve}
-use Rattle.nf_words.specs.declared.answer.Measure.{Measure}
 use Rattle.nf_words.specs.declared.history.Ticket.{Ticket}
-use Rattle.nf_desk.specs.Desk.{IsCounted, IsDesk, Shown, TellsSite, blobs_in, book_at, failures, failures_of, first_blob_of}
+use Rattle.nf_desk.specs.Desk.{IsCounted, IsDesk, Shown, TellsSite, blobs_in, book_at, failures, failures_of}
 use Rattle.nf_desk.specs.Pieces.{IsRead, IsTested, Reads, StrikesBy, StrikesSeat, TellsFound}
 use Rattle.nf_desk.proofs.Counting.{GoesOn, failed, failures_of_struck, failures_struck, risen_struck, strike, unfailed}
-use Rattle.nf_desk.proofs.Damages.{damaged_since}
 use Rattle.nf_desk.proofs.Desks.{ticket_is}
 use Rattle.nf_desk.proofs.Entering.{next_again, waits}
 
@@ -56,26 +52,24 @@ piece_given seat a content index piece h sound holds at =
     (piece_has (IsPieceSound a.site.state.tables) content index piece at
     (goal_has seat a (IsGoalSound a.site.state.tables) (Serve content) h holds sound.goals)).given
 
+-- so it is there, or was damaged at the start
 piece_held : (seat : ℕ) (a : Shown) (content : List Piece) (index : ℕ) (piece : Piece) (told : Option Told) → IsHistory a.site
-    → held (book_at seat a) ≡ Some (Serve content) → slice_get content index ≡ Some piece → IfSome told (TellsSite a.site)
-    → IfSome told (λ told. IsHeld a.site.opening told.blobs piece)
+    → held (book_at seat a) ≡ Some (Serve content) → slice_get content index ≡ Some piece
+    → IfSome told (TellsSite (blobs_in a.start.told) a.site)
+    → IfSome told (λ told. IsThere told.blobs piece ⊎ WasDamaged (book_at seat a) piece)
 piece_held seat a content index piece None h holds at tells = tt
 piece_held seat a content index piece (Some told) h holds at tells =
-    piece_has (IsHeld a.site.opening told.blobs) content index piece at
-    (goal_has seat a (IsGoalHeld a.site.opening told.blobs) (Serve content) h holds tells.whole.tickets)
+    ⊎_elim (λ there. inl there) (λ damaged. inr (record { begun = tells.begun; tells = tells.at_start; damaged = damaged }))
+    (piece_has (IsHeld a.site.opening tells.begun told.blobs) content index piece at
+    (goal_has seat a (IsGoalHeld a.site.opening tells.begun told.blobs) (Serve content) h holds tells.whole.tickets))
 
 -- ---- what is read
 
-found_told : (b : Book) (start : Option Blobs) (piece : Piece) (found : Option (List ℕ)) (told : Option Told) → piece.blob < next_blob_of b
-    → AreUnbroken b.opening → TellsStill (first_blob_of b.opening) start (blobs_in told) → IsTold told piece.blob found
-    → IfSome told (λ told. IsHeld b.opening told.blobs piece) → IfSome (blobs_in told) (TellsFound b start piece found)
-found_told b start piece found None given unbroken still is holds = tt
-found_told b start piece found (Some told) given unbroken still is holds = record {
-  given = given;
-  there = is;
-  held = holds;
-  since = damaged_since b.opening start told.blobs piece unbroken still;
-}
+found_told : (b : Book) (piece : Piece) (found : Option (List ℕ)) (told : Option Told) → piece.blob < next_blob_of b
+    → IsTold told piece.blob found
+    → IfSome told (λ told. IsThere told.blobs piece ⊎ WasDamaged b piece) → IfSome (blobs_in told) (TellsFound b piece found)
+found_told b piece found None given is holds = tt
+found_told b piece found (Some told) given is holds = record { given = given; there = is; held = holds }
 
 -- a seat that has strikes
 abbrev pub HasStrikes : ℕ → Shown → Type 0
@@ -103,12 +97,12 @@ read_goes seat a faults strikes other has counted counts by =
 -- what the keeper tells of it, where it found that
 abbrev pub Tells : ℕ → Shown → ℕ → List ℕ → Piece → Option (List ℕ) → Type 0
 Tells seat a faults strikes piece found =
-    IfSome (blobs_in a.told) (TellsFound (book_at seat (counted_on a faults strikes)) (blobs_in a.start.told) piece found)
+    IfSome (blobs_in a.told) (TellsFound (book_at seat (counted_on a faults strikes)) piece found)
 
 is_read : (seat : ℕ) (a : Shown) (faults : ℕ) (strikes : List ℕ) (piece : Piece) (result : Result (Option (Vec ℕ Global)) KeepFault)
     → HasStrikes seat a → ((found : Option (List ℕ)) → IsTold a.told piece.blob found → Tells seat a faults strikes piece found)
     → IfOk result (λ bytes. IsTold a.told piece.blob (bytes_in bytes)) → StrikesBy seat a.strikes strikes result
-    → IsRead (book_at seat a) (book_at seat (counted_on a faults strikes)) (blobs_in a.start.told) piece result
+    → IsRead (book_at seat a) (book_at seat (counted_on a faults strikes)) piece result
 is_read seat a faults strikes piece (Ok found) has tells told by = (same_strikes seat a faults strikes by, tells (bytes_in found) told)
 is_read seat a faults strikes piece (Err Failed) has tells told by =
     risen_struck a.start.faults (failures_of seat a) (failures_of seat (counted_on a faults strikes)) (failures_of_struck a faults strikes seat (strike seat a.strikes strikes has.0 has.1 by))
@@ -125,66 +119,54 @@ pub reads : (seat : ℕ) (a : Shown) (faults : ℕ) (strikes : List ℕ) (conten
     → slice_get content index ≡ Some piece → IfOk result (λ bytes. IsTold a.told piece.blob (bytes_in bytes)) → Counts a.faults faults result → StrikesBy seat a.strikes strikes result
     → Reads seat a (counted_on a faults strikes) content index result
 reads seat a faults strikes content index piece result has h sound desk holds at told counts by = record {
-  waits = waits seat a.site a.site a.told a.told (book_at seat a).strikes (book_at seat (counted_on a faults strikes)).strikes refl refl
+  waits = waits seat a.site a.site (blobs_in a.start.told) a.told a.told
+      (book_at seat a).strikes (book_at seat (counted_on a faults strikes)).strikes refl refl
       (read_goes seat a faults strikes result has desk.counted counts by).rises;
   piece = piece;
   at_index = at;
   read = is_read seat a faults strikes piece result has
       (λ found is.
-      found_told (book_at seat (counted_on a faults strikes)) (blobs_in a.start.told) piece found a.told
+      found_told (book_at seat (counted_on a faults strikes)) piece found a.told
       (subst (λ (n : ℕ). piece.blob < n) (sym (next_again a.site h)) (piece_given seat a content index piece h sound holds at))
-      desk.unbroken desk.since is (piece_held seat a content index piece a.told h holds at desk.told))
+      is (piece_held seat (counted_on a faults strikes) content index piece a.told h holds at desk.told))
       told by;
   strikes = strikes_seat seat a.strikes strikes result by;
 }
 
 -- ---- what is given of it
 
--- what is there can't differ
-there_same : (blobs : Blobs) (piece : Piece) (found : Option (List ℕ)) (damage : Damage) → found ≡ blob_at blobs piece.blob
-    → IsDamage piece found damage → IsThere blobs piece → ⊥
-there_same blobs piece found damage is damaged there =
-    damaged.differs.3
-    (damaged.found_is ∙ ap measured (is ∙ there.there)
-    ∙ ap Some (measure_same (length there.bytes) damage.wanted.length (sha256 there.bytes) damage.wanted.digest
-    (there.size ∙ sym damaged.differs.1) (there.digest ∙ sym damaged.differs.2)))
-  where
-    measure_same : (m n : ℕ) (d e : List ℕ) → m ≡ n → d ≡ e
-        → ◌≡◌ {A = Measure} (record { length = m; digest = d }) (record { length = n; digest = e })
-    measure_same m n d e size digest = cc
+held_damaged : (b : Book) (shelf : Blobs) (piece : Piece) (damage : Damage) → damage.found ≡ measured (blob_at shelf piece.blob)
+    → Differs piece damage
+    → IsThere shelf piece ⊎ WasDamaged b piece → WasDamaged b piece
+held_damaged b shelf piece damage found differs (inl there) = absurd (there_differs shelf piece damage found differs there)
+held_damaged b shelf piece damage found differs (inr damaged) = damaged
 
-held_damaged : (opening : List Row) (blobs : Blobs) (piece : Piece) (found : Option (List ℕ)) (damage : Damage) → found ≡ blob_at blobs piece.blob
-    → IsDamage piece found damage → IsHeld opening blobs piece → IsDamaged opening blobs piece
-held_damaged opening blobs piece found damage is differs (inl there) = absurd (there_same blobs piece found damage is differs there)
-held_damaged opening blobs piece found damage is differs (inr damaged) = damaged
+tells_piece : (b : Book) (piece : Piece) (found : Option (List ℕ)) (bytes : List ℕ) → found ≡ Some bytes
+    → (shelf : Blobs) → TellsFound b piece found shelf → TellsPiece b piece bytes shelf
+tells_piece b piece found bytes same shelf tells = record { given = tells.given; there = sym tells.there ∙ same }
 
-tells_piece : (b : Book) (start : Option Blobs) (piece : Piece) (found : Option (List ℕ)) (bytes : List ℕ) → found ≡ Some bytes
-    → (shelf : Blobs) → TellsFound b start piece found shelf → TellsPiece b piece bytes shelf
-tells_piece b start piece found bytes same shelf tells = record { given = tells.given; there = sym tells.there ∙ same }
+tells_damage : (b : Book) (piece : Piece) (found : Option (List ℕ)) (damage : Damage) → IsDamage piece found damage
+    → (shelf : Blobs) → TellsFound b piece found shelf → TellsDamage b piece damage shelf
+tells_damage b piece found damage differs shelf tells =
+    let is = differs.found_is ∙ ap measured tells.there in
+    record { damaged = held_damaged b shelf piece damage is differs.differs tells.held; found = is }
 
-tells_damage : (b : Book) (start : Option Blobs) (piece : Piece) (found : Option (List ℕ)) (damage : Damage) → IsDamage piece found damage
-    → (shelf : Blobs) → TellsFound b start piece found shelf → TellsDamage b piece damage shelf
-tells_damage b start piece found damage differs shelf tells = record {
-  damaged = held_damaged b.opening shelf piece found damage tells.there differs tells.held;
-  found = differs.found_is ∙ ap measured tells.there;
-}
-
-gives_or_fails : (a b : Book) (start : Option Blobs) (piece : Piece) (read : Result (Option (Vec ℕ Global)) KeepFault)
+gives_or_fails : (a b : Book) (piece : Piece) (read : Result (Option (Vec ℕ Global)) KeepFault)
     (result : Result (Vec ℕ Global) PieceFault)
-    → IsRead a b start piece read → IsTested piece read result → GivesOrFails a b piece result
-gives_or_fails a b start piece (Ok found) (Ok bytes) read tested = (
+    → IsRead a b piece read → IsTested piece read result → GivesOrFails a b piece result
+gives_or_fails a b piece (Ok found) (Ok bytes) read tested = (
   record {
     size = tested.size;
     digest = tested.digest;
-    told = IfSome_then b.told read.1 (tells_piece b start piece (bytes_in found) bytes.items tested.found_are);
+    told = IfSome_then b.told read.1 (tells_piece b piece (bytes_in found) bytes.items tested.found_are);
   },
   read.0,
 )
-gives_or_fails a b start piece (Ok found) (Err (fault.Damaged damage)) read tested =
-    (read.0, (bytes_in found, tested), IfSome_then b.told read.1 (tells_damage b start piece (bytes_in found) damage tested))
-gives_or_fails a b start piece (Ok found) (Err other) read tested = absurd tested
-gives_or_fails a b start piece (Err Failed) result read tested = subst (GivesOrFails a b piece) (sym tested) read
-gives_or_fails a b start piece (Err Memory) result read tested = subst (GivesOrFails a b piece) (sym tested) read
+gives_or_fails a b piece (Ok found) (Err (fault.Damaged damage)) read tested =
+    (read.0, (bytes_in found, tested), IfSome_then b.told read.1 (tells_damage b piece (bytes_in found) damage tested))
+gives_or_fails a b piece (Ok found) (Err other) read tested = absurd tested
+gives_or_fails a b piece (Err Failed) result read tested = subst (GivesOrFails a b piece) (sym tested) read
+gives_or_fails a b piece (Err Memory) result read tested = subst (GivesOrFails a b piece) (sym tested) read
 
 -- what was read of a piece and then tested is given
 pub gives_piece : (seat : ℕ) (a b : Shown) (content : List Piece) (index : ℕ) (piece : Piece) (read : Result (Option (Vec ℕ Global)) KeepFault)
@@ -195,7 +177,7 @@ gives_piece seat a b content index piece read result reads at tested = record {
   waits = reads.waits;
   piece = piece;
   at_index = at;
-  given = gives_or_fails (book_at seat a) (book_at seat b) (blobs_in a.start.told) piece read result
-      (subst (λ (z : Piece). IsRead (book_at seat a) (book_at seat b) (blobs_in a.start.told) z read)
+  given = gives_or_fails (book_at seat a) (book_at seat b) piece read result
+      (subst (λ (z : Piece). IsRead (book_at seat a) (book_at seat b) z read)
       (same_Some reads.piece piece (sym reads.at_index ∙ at)) reads.read) tested;
 }

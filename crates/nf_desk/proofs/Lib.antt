@@ -1,5 +1,4 @@
 pub mod Counting
-pub mod Damages
 pub mod Desks
 pub mod Entering
 pub mod Giving

@@ -7,7 +7,8 @@ use Rattle.std.proofs.lemmas.Bool.{cases_lt, false≢true}
 use Rattle.std.proofs.lemmas.List.{get_or_past, get_or-map, get_or-replicate, length-map, length-take-le, map-append, take_more}
 use Rattle.std.proofs.lemmas.List.Elements.{All-contains_itself, All-push}
 use Rattle.std.proofs.lemmas.List.Folds.{Any-from_list_any}
-use Rattle.std.proofs.lemmas.Option.{IfSome_then, none-some, slice_get_read}
+use Rattle.std.proofs.lemmas.Option.{none-some, slice_get_read}
+use Rattle.nf_base.specs.declared.limits.TheConstants.{MAX_SEATS}
 use Rattle.nf_base.specs.declared.changes.Change.TheVariants.{Put}
 use Rattle.nf_base.specs.declared.rows.MetaRow.{MetaRow}
 use Rattle.nf_base.specs.declared.rows.Row.{Row}
@@ -23,11 +24,12 @@ use Rattle.nf_rows.specs.Spelling.{Fits, Raw, spelling_of}
 use Rattle.nf_rules.proofs.Among.{meta_has}
 use Rattle.nf_rules.proofs.Firsts.{keep_each}
 use Rattle.nf_rules.specs.Rules.{AreUnbroken, rules}
+use Rattle.nf_session.proofs.Lasting.{tells_refl}
 use Rattle.nf_site.specs.Held.{Held}
 use Rattle.nf_site.specs.Kept.{Kept, opened_over}
 use Rattle.nf_told.proofs.Follows.{told_again, told_begins}
 use Rattle.nf_told.specs.Told.{AreFit, AreRisingRaws, FitsChange, Told, told_all, told_of}
-use Rattle.nf_desk.specs.Desk.{IsCounted, IsDesk, Shown, blobs_in, failures, first_blob_of, most_seats, risen, strikes_of, tale}
+use Rattle.nf_desk.specs.Desk.{IsCounted, IsDesk, Shown, TellsSite, blobs_in, failures, first_blob_of, risen, strikes_of, tale}
 use Rattle.nf_desk.specs.Faults.{of_site}
 use Rattle.nf_desk.specs.Opened.{AreUnread, IsFault, IsFresh, IsKept, IsSpelled, IsUnreadAt, MayBegin, MayHaveRows, Opens, first_of, told_first}
 use Rattle.nf_desk.specs.Opening.{AreSpelled, BeginsWithMeta, IsLoaded, IsUnread, OpensTo}
@@ -37,7 +39,6 @@ use Rattle.nf_desk.specs.declared.first.OpenFault.TheVariants as fault
 use Rattle.nf_desk.specs.declared.first.Opening.{Opening}
 use Rattle.nf_desk.specs.declared.first.Opening.TheVariants.{Fresh, Either}
 use Rattle.nf_desk.specs.declared.first.Opening.TheVariants as over
-use Rattle.nf_desk.proofs.Entering.{still_same}
 
 -- ---- rows that are read
 
@@ -131,19 +132,24 @@ begun_counted all told faults strikes none =
     let failed : failures (begun (opened_over all) told faults strikes) ≡ 0 = omega (arith, none) in
     record { is = ap (risen faults) (sym failed); fits = λ some. absurd (omega (arith, failed, some)) }
 
+begun_told : (all : List Row) (told : Option Told) → IfSome told (λ told. told.rows ≡ told_of (tables_of all))
+    → IfSome told (TellsSite (blobs_in told) (opened_over all))
+begun_told all None rows = tt
+begun_told all (Some told) rows = record { rows = rows; begun = told.blobs; at_start = refl; whole = opens_whole all told.blobs }
+
 begun_desk : (all : List Row) (told : Option Told) (faults : ℕ) (strikes : List ℕ) → AreUnbroken all → AreToldRows all told
-    → length strikes ≡ most_seats → sum strikes ≡ 0 → IsDesk (begun (opened_over all) told faults strikes)
+    → length strikes ≡ MAX_SEATS → sum strikes ≡ 0 → IsDesk (begun (opened_over all) told faults strikes)
 begun_desk all told faults strikes unbroken rows seats none = record {
   unbroken = unbroken;
   fit = rows.fit;
-  told = IfSome_then told rows.told (λ one is. record { rows = is; whole = opens_whole all one.blobs });
-  since = still_same (first_blob_of all) (blobs_in told);
+  told = begun_told all told rows.told;
+  since = tells_refl _ (first_blob_of all) (blobs_in told);
   seats = seats;
   counted = begun_counted all told faults strikes none;
 }
 
 pub opened_desk : (opening : Opening) (before after : Option Told) (k : Kept) (faults : ℕ) (strikes : List ℕ) → Opens opening before after k
-    → AreUnbroken k.opening → All Fits k.opening → MayBegin opening → length strikes ≡ most_seats → sum strikes ≡ 0
+    → AreUnbroken k.opening → All Fits k.opening → MayBegin opening → length strikes ≡ MAX_SEATS → sum strikes ≡ 0
     → IsDesk (begun k after faults strikes)
 opened_desk opening before after k faults strikes opens unbroken fit may seats none =
     subst (λ (z : Kept). IsDesk (begun z after faults strikes)) (sym opens.begun)
@@ -161,11 +167,11 @@ opened_tale {K = K} k site keeper strikes start same desk =
     (sym same) desk
 
 -- no seat has a strike
-pub no_strikes_of : (strikes : List ℕ) → strikes ≡ replicate most_seats 0 → (seat : ℕ) → strikes_of strikes seat ≡ 0
+pub no_strikes_of : (strikes : List ℕ) → strikes ≡ replicate MAX_SEATS 0 → (seat : ℕ) → strikes_of strikes seat ≡ 0
 no_strikes_of strikes none zero = refl
-no_strikes_of strikes none (suc place) = ap (λ (z : List ℕ). get_or z place 0) none ∙ elim (cases_lt place most_seats) [
-  | inl within ↦ get_or-replicate most_seats place 0 0 within
-  | inr past ↦ get_or_past (replicate most_seats 0) place 0 past
+no_strikes_of strikes none (suc place) = ap (λ (z : List ℕ). get_or z place 0) none ∙ elim (cases_lt place MAX_SEATS) [
+  | inl within ↦ get_or-replicate MAX_SEATS place 0 0 within
+  | inr past ↦ get_or_past (replicate MAX_SEATS 0) place 0 past
 ]
 
 -- ---- what is opened

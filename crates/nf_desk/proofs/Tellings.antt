@@ -1,5 +1,5 @@
 -- What the keeper tells after a step is true of the site after it.
-use Rattle.std.proofs.Common.{◌≡◌, ℕ, List, [], ◌∷◌, length, refl, sym, ap, subst, ◌∙◌, arith}
+use Rattle.std.proofs.Common.{◌≡◌, ℕ, List, [], ◌∷◌, length, inl, refl, sym, ap, subst, ◌∙◌, arith}
 use Rattle.std.specs.Prelude.{Option, None, Some, option_map}
 use Rattle.std.specs.Option.{IfSome}
 use Rattle.std.proofs.lemmas.List.Elements.{All-nil}
@@ -150,43 +150,48 @@ map_some : (P Q : Told → Type 0) (f : Told → Told) (o : Option Told) → ((t
 map_some P Q f None goes has = tt
 map_some P Q f (Some told) goes has = goes told has
 
-tells_after : (k : Kept) (e : Entry) (body : List ℕ) (told : Told) → IsSound k.state → MayCome (length k.history) k.state e → Brings body e.event
-    → FollowsRows k.state e e.mark → TellsSite k told → TellsSite (entered k e) (told_after k.state e body told)
-tells_after k e body told sound may brings follows tells = record {
+tells_after : (start : Option Blobs) (k : Kept) (e : Entry) (body : List ℕ) (told : Told) → IsSound k.state
+    → MayCome (length k.history) k.state e
+    → Brings body e.event → FollowsRows k.state e e.mark → TellsSite start k told
+    → TellsSite start (entered k e) (told_after k.state e body told)
+tells_after start k e body told sound may brings follows tells = record {
   rows = ap (λ rows. told_all rows (changes_under k.state e e.mark)) tells.rows ∙ sym follows.rows;
-  whole = stays_whole (length k.history) k.state e body k.opening told.blobs sound may brings tells.whole;
+  begun = tells.begun;
+  at_start = tells.at_start;
+  whole = stays_whole (length k.history) k.state e body k.opening tells.begun told.blobs sound may brings tells.whole;
 }
 
 -- of what a desk keeps, what is true of the site
-pub record IsTrueOf (k : Kept) (keeper : Option Told) : Type 0 where
+pub record IsTrueOf (start : Option Blobs) (k : Kept) (keeper : Option Told) : Type 0 where
   pub fit : AreFit k.state.tables
-  pub told : IfSome keeper (TellsSite k)
+  pub told : IfSome keeper (TellsSite start k)
 
-pub steps_true : (seat : ℕ) (a b : Standing) (now : ℕ) (event : Event) (body : List ℕ) (answer : Answer) → IsSound a.site.state
+pub steps_true : (start : Option Blobs) (seat : ℕ) (a b : Standing) (now : ℕ) (event : Event) (body : List ℕ) (answer : Answer)
+    → IsSound a.site.state
     → AreRising a.site.state.tables → Brings body event → (steps : Steps seat a b now event body answer) → AreFit a.site.state.tables
-    → IfSome a.told (TellsSite a.site) → IsTrueOf (entered a.site (entry_at seat a.site now event steps.mark)) b.told
-steps_true seat a b now event body answer sound rising brings steps fit tells =
+    → IfSome a.told (TellsSite start a.site) → IsTrueOf start (entered a.site (entry_at seat a.site now event steps.mark)) b.told
+steps_true start seat a b now event body answer sound rising brings steps fit tells =
     let e = entry_at seat a.site now event steps.mark in
     let rows = rows_follow seat (length a.site.history) a.site.state (moment_of a.site.state now) event steps.mark
     (stored_by (blob_to a.site.state seat (moment_of a.site.state now) event) body) a.told b.told sound rising fit steps.makes.may_come steps.tells in
-    subst (λ (o : Option Told). IsTrueOf (entered a.site e) o) (sym (steps_told seat a b now event body answer sound steps))
+    subst (λ (o : Option Told). IsTrueOf start (entered a.site e) o) (sym (steps_told seat a b now event body answer sound steps))
     (record {
       fit = rows.fit;
-      told = map_some (TellsSite a.site) (TellsSite (entered a.site e)) (told_after a.site.state e body) a.told
-          (λ told is. tells_after a.site e body told sound steps.makes.may_come brings rows is) tells;
+      told = map_some (TellsSite start a.site) (TellsSite start (entered a.site e)) (told_after a.site.state e body) a.told
+          (λ told is. tells_after start a.site e body told sound steps.makes.may_come brings rows is) tells;
     })
 
 -- ---- the blobs
 
 -- numbers that were given keep their bytes
 still_by : (n : ℕ) (s : State) (e : Entry) (body : List ℕ) (before : Option Told) → IsSound s → MayCome n s e
-    → TellsStill s.tables.meta.next_blob (blobs_in before) (blobs_in (option_map (told_after s e body) before))
+    → TellsStill ⊥ s.tables.meta.next_blob (blobs_in before) (blobs_in (option_map (told_after s e body) before))
 still_by n s e body None sound may = refl
-still_by n s e body (Some told) sound may = λ id less. blobs_are_new.same n s e body told.blobs id sound may less
+still_by n s e body (Some told) sound may = λ id less. inl (blobs_are_new.same n s e body told.blobs id sound may less)
 
 pub steps_still : (seat : ℕ) (a b : Standing) (now : ℕ) (event : Event) (body : List ℕ) (answer : Answer) → IsSound a.site.state
-    → Steps seat a b now event body answer → TellsStill a.site.state.tables.meta.next_blob (blobs_in a.told) (blobs_in b.told)
+    → Steps seat a b now event body answer → TellsStill ⊥ a.site.state.tables.meta.next_blob (blobs_in a.told) (blobs_in b.told)
 steps_still seat a b now event body answer sound steps =
-    subst (λ (o : Option Told). TellsStill a.site.state.tables.meta.next_blob (blobs_in a.told) (blobs_in o))
+    subst (λ (o : Option Told). TellsStill ⊥ a.site.state.tables.meta.next_blob (blobs_in a.told) (blobs_in o))
     (sym (steps_told seat a b now event body answer sound steps))
     (still_by (length a.site.history) a.site.state (entry_at seat a.site now event steps.mark) body a.told sound steps.makes.may_come)

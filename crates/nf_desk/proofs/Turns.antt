@@ -1,20 +1,22 @@
 -- What a turn at the desk keeps, and what it is to the lock.
-use Rattle.std.proofs.Common.{◌≡◌, ◌≢◌, inl, inr, ℕ, ◌<◌, ◌≤◌, List, [], ◌∷◌, ◌++◌, length, Result, Ok, Err, refl, sym, ap, subst, ◌∙◌, append-nil, arith}
+use Rattle.std.proofs.Common.{◌≡◌, ◌≢◌, ⊎_elim, inl, inr, ℕ, ◌<◌, ◌≤◌, List, [], ◌∷◌, ◌++◌, length, length-append, Result, Ok, Err, refl, sym, ap, subst, ◌∙◌, append-nil, arith}
 use Rattle.std.specs.Prelude.{Option, None, Some, IfOk, option_map, slice_get, Vec}
 use Rattle.std.specs.declared.alloc.Global.{Global}
 use Rattle.std.specs.declared.snapshot.Snapshot.{Snapshot}
 use Rattle.std.specs.List.{All}
 use Rattle.std.proofs.lemmas.List.Elements.{All-cons, All-nil}
+use Rattle.nf_base.specs.declared.limits.TheConstants.{MAX_SEATS}
 use Rattle.nf_base.specs.declared.content.Piece.{Piece}
-use Rattle.nf_defs.specs.Prelude.{AreRising, Blobs}
+use Rattle.nf_defs.specs.Prelude.{AreRising}
 use Rattle.nf_keeper.specs.Keeping.{Counts, IsTold}
 use Rattle.nf_keeper.specs.Views.{bytes_in}
 use Rattle.nf_keeper.specs.declared.keeper.KeepFault.{KeepFault}
-use Rattle.nf_keeper.specs.declared.keeper.KeepFault.TheVariants.{Failed, Memory}
+use Rattle.nf_keeper.specs.declared.keeper.KeepFault.TheVariants.{Failed}
 use Rattle.nf_keeper.specs.declared.keeper.Keeper.{Ghosts as KeeperOf}
 use Rattle.nf_laws.proofs.Counters.{counters_rise}
 use Rattle.nf_laws.specs.Wholes.{Brings}
-use Rattle.nf_session.specs.Book.{Answer, Lasts, TellsStill, held, next_blob_of}
+use Rattle.nf_session.proofs.Lasting.{tells_refl, tells_then}
+use Rattle.nf_session.specs.Book.{Answer, Lasts, TellsStill, held}
 use Rattle.nf_site.specs.Held.{Held}
 use Rattle.nf_site.specs.Kept.{IsHistory, Kept}
 use Rattle.nf_told.specs.Told.{Told}
@@ -26,29 +28,29 @@ use Rattle.nf_words.specs.declared.history.Event.{Event}
 use Rattle.nf_words.specs.declared.history.Event.TheVariants.{Begin}
 use Rattle.nf_words.specs.declared.request.Request.{Request}
 use Rattle.nf_words.specs.declared.request.Words.{Words}
-use Rattle.nf_desk.specs.Desk.{IsCounted, IsDesk, Served, Shown, TakesTurn, blobs_in, book_at, failures, first_blob_of, most_seats, shelf_of, shown, strikes_of}
+use Rattle.nf_desk.specs.Desk.{IsCounted, IsDesk, Served, Shown, TakesTurn, blobs_in, book_at, first_blob_of, next_of, shelf_of, shown, strikes_of}
 use Rattle.nf_desk.specs.Pieces.{Reads, StrikesBy}
 use Rattle.nf_desk.specs.Stepping.{Asks, Standing, Steps, entry_at, standing}
 use Rattle.nf_desk.proofs.Counting.{marks, moved, standing_in, strike}
-use Rattle.nf_desk.proofs.Entering.{by_step, step_enters, stepped, steps_enter, waits}
+use Rattle.nf_desk.proofs.Entering.{by_step, next_again, step_lasts, stepped, waits}
 use Rattle.nf_desk.proofs.Giving.{HasStrikes, counted_on, read_goes, reads}
-use Rattle.nf_desk.proofs.Tellings.{steps_true}
+use Rattle.nf_desk.proofs.Tellings.{steps_still, steps_true}
 
 -- ---- the blobs of the opening
 
-still_then : (first next : ℕ) (start old new : Option Blobs) → first ≤ next → TellsStill first start old → TellsStill next old new
-    → TellsStill first start new
-still_then first next None old new less before now = subst (λ (o : Option Blobs). TellsStill next o new) before now
-still_then first next (Some begun) None new less before now = absurd before
-still_then first next (Some begun) (Some old) None less before now = absurd now
-still_then first next (Some begun) (Some old) (Some new) less before now = λ id within. now id (omega (arith, less, within)) ∙ before id within
-
-pub since_start : (seat : ℕ) (a b : Shown) → Lasts (book_at seat a) (book_at seat b) → b.start ≡ a.start
-    → TellsStill (first_blob_of a.site.opening) (blobs_in a.start.told) (blobs_in a.told)
-    → TellsStill (first_blob_of a.site.opening) (blobs_in a.start.told) (blobs_in b.told)
-since_start seat a b lasts start since =
-    still_then (first_blob_of a.site.opening) _ (blobs_in a.start.told) (blobs_in a.told) (blobs_in b.told)
-    (counters_rise (opened a.site.opening) a.site.history).blobs since lasts.told
+-- a step drops none
+since_start : (seat : ℕ) (a : Shown) (b : Standing) (now : ℕ) (event : Event) (body : List ℕ) (answer : Answer) → IsHistory a.site
+    → IsSound a.site.state → (steps : Steps seat (standing_in a) b now event body answer)
+    → TellsStill (0 < length a.site.history) (first_blob_of a.site.opening) (blobs_in a.start.told) (blobs_in a.told)
+    → TellsStill (0 < length (stepped seat a b now event body answer steps).site.history) (first_blob_of a.site.opening)
+    (blobs_in a.start.told) (blobs_in b.told)
+since_start seat a b now event body answer h sound steps since =
+    let some = length-append a.site.history (entry_at seat a.site now event steps.mark ∷ []) in
+    tells_then (0 < length a.site.history) ⊥ _ (first_blob_of a.site.opening) a.site.state.tables.meta.next_blob
+    (blobs_in a.start.told) (blobs_in a.told) (blobs_in b.told)
+    (λ before. omega (arith, before, some)) (λ never. absurd never)
+    (omega (arith, (counters_rise (opened a.site.opening) a.site.history).blobs, next_again a.site h)) since
+    (steps_still seat (standing_in a) b now event body answer sound steps)
 
 -- ---- a step
 
@@ -56,14 +58,14 @@ pub steps_desk : (seat : ℕ) (a : Shown) (b : Standing) (now : ℕ) (event : Ev
     → IsSound a.site.state → AreRising a.site.state.tables → Brings body event → Steps seat (standing_in a) b now event body answer
     → IsDesk a → IsDesk (moved a b)
 steps_desk seat a b now event body answer h sound rising brings steps desk =
-    let true_of = steps_true seat (standing_in a) b now event body answer sound rising brings steps desk.fit desk.told in
-    let enters = step_enters seat a b now event body answer steps h sound desk.counted in
+    let true_of =
+    steps_true (blobs_in a.start.told) seat (standing_in a) b now event body answer sound rising brings steps desk.fit desk.told in
     by_step seat a b now event body answer steps IsDesk
     (record {
       unbroken = desk.unbroken;
       fit = true_of.fit;
       told = true_of.told;
-      since = since_start seat a (stepped seat a b now event body answer steps) enters.lasts refl desk.since;
+      since = since_start seat a b now event body answer h sound steps desk.since;
       seats = desk.seats;
       counted = (marks seat a (entry_at seat a.site now event steps.mark) b.told b.faults desk.counted refl steps.faults steps.rises).1.counted;
     })
@@ -78,7 +80,7 @@ asks_desk seat a b now words request answer h sound rising (inr none) desk =
 -- ---- reading
 
 abbrev pub IsSeatNumber : ℕ → Type 0
-IsSeatNumber seat = (0 < seat) × (seat ≤ most_seats)
+IsSeatNumber seat = (0 < seat) × (seat ≤ MAX_SEATS)
 
 has_strikes : (seat : ℕ) (a : Shown) → IsSeatNumber seat → IsDesk a → HasStrikes seat a
 has_strikes seat a is desk = (is.0, omega (arith, is.1, desk.seats))
@@ -118,18 +120,18 @@ read_desk seat a faults strikes result is counts by desk =
 -- ---- a turn
 
 stays : (seat : ℕ) (a : Shown) → Lasts (book_at seat a) (book_at seat a)
-stays seat a = (waits seat a.site a.site a.told a.told (book_at seat a).strikes (book_at seat a).strikes refl refl (omega arith)).lasts
+stays seat a =
+    (waits seat a.site a.site (blobs_in a.start.told) a.told a.told (book_at seat a).strikes (book_at seat a).strikes refl refl
+    (omega arith)).lasts
 
-shelf_kept : (seat : ℕ) (a b : Shown) → Lasts (book_at seat a) (book_at seat b)
-    → KeepsShelf (option_map (shelf_of a.site) a.told) (option_map (shelf_of b.site) b.told)
-shelf_kept seat a b lasts = here a.told b.told lasts.told
-  where
-    here : (old new : Option Told) → TellsStill (next_blob_of (book_at seat a)) (blobs_in old) (blobs_in new)
-        → KeepsShelf (option_map (shelf_of a.site) old) (option_map (shelf_of b.site) new)
-    here None None still = tt
-    here None (Some new) still = absurd (cc)
-    here (Some old) None still = absurd still
-    here (Some old) (Some new) still = (lasts.next_blob, omega arith, λ m less. inl (still m less))
+-- what stood on the shelf stands there still
+shelf_kept : (x y : Kept) (old new : Option Told) → next_of x ≤ next_of y → length x.history ≤ length y.history
+    → TellsStill ⊥ (next_of x) (blobs_in old) (blobs_in new) → KeepsShelf (option_map (shelf_of x) old) (option_map (shelf_of y) new)
+shelf_kept x y None None next more still = tt
+shelf_kept x y None (Some new) next more still = absurd (cc)
+shelf_kept x y (Some old) None next more still = absurd still
+shelf_kept x y (Some old) (Some new) next more still =
+    (next, more, λ m less. ⊎_elim (λ same. inl same) (λ gone. absurd gone.1) (still m less))
 
 -- what a desk holds, of its fields
 abbrev pub served : {K : Type 0} → Held → K → List ℕ → Snapshot K → Served K
@@ -139,8 +141,9 @@ module _ {K : Type 0} (k : KeeperOf K) (seat : ℕ) (old : Served K) where
   takes_turn : (new : Served K) (added : List Entry) → IsHistory old.site.kept → IsHistory new.site.kept
       → new.site.kept.history ≡ old.site.kept.history ++ added → All (λ (e : Entry). e.seat ≡ seat) added
       → StrikesAlone seat old.strikes new.strikes → new.start ≡ old.start
-      → Lasts (book_at seat (shown k old)) (book_at seat (shown k new)) → TakesTurn k seat old new
-  takes_turn new added before after entries alone strikes start lasts = record {
+      → Lasts (book_at seat (shown k old)) (book_at seat (shown k new))
+      → TellsStill ⊥ (next_of old.site.kept) (blobs_in (k.told old.keeper)) (blobs_in (k.told new.keeper)) → TakesTurn k seat old new
+  takes_turn new added before after entries alone strikes start lasts still = record {
     alone = record {
       added = added;
       entries = entries;
@@ -149,7 +152,8 @@ module _ {K : Type 0} (k : KeeperOf K) (seat : ℕ) (old : Served K) where
       strikes = strikes.rises;
       keeps = record {
         opening = λ i. (lasts.opening i, start i);
-        shelf = shelf_kept seat (shown k old) (shown k new) lasts;
+        shelf = shelf_kept old.site.kept new.site.kept (k.told old.keeper) (k.told new.keeper) lasts.next_blob
+            (omega (arith, ap length entries, length-append old.site.kept.history added)) still;
       };
     };
     before = before;
@@ -171,7 +175,11 @@ module _ {K : Type 0} (k : KeeperOf K) (seat : ℕ) (old : Served K) where
       (ap (λ (z : Kept). z.history) steps.makes.site)
       (All-cons (λ (e : Entry). e.seat ≡ seat) _ [] refl (All-nil (λ (e : Entry). e.seat ≡ seat)))
       (strikes_stay seat old.strikes old.strikes refl) refl
-      (steps_enter seat (shown k old) (standing_by site keeper) now event body answer steps before sound counted).lasts
+      (by_step seat (shown k old) (standing_by site keeper) now event body answer steps
+      (λ (c : Shown). Lasts (book_at seat (shown k old)) (book_at seat c))
+      (step_lasts seat (shown k old) (standing_by site keeper) now event body answer steps before sound counted))
+      (subst (λ (n : ℕ). TellsStill ⊥ n (blobs_in (k.told old.keeper)) (blobs_in (k.told keeper))) (sym (next_again old.site.kept before))
+      (steps_still seat (standing_by old.site old.keeper) (standing_by site keeper) now event body answer sound steps))
 
   pub asks_turn : (site : Held) (keeper : K) (now : ℕ) (words : Words) (request : Request) (answer : Answer) → IsHistory old.site.kept
       → IsHistory site.kept → IsSound old.site.kept.state → IsCounted (shown k old)
@@ -185,6 +193,8 @@ module _ {K : Type 0} (k : KeeperOf K) (seat : ℕ) (old : Served K) where
       (strikes_stay seat old.strikes old.strikes refl) refl
       (subst (λ (z : Standing). Lasts (book_at seat (shown k old)) (book_at seat (moved (shown k old) z))) (sym none.same)
       (stays seat (shown k old)))
+      (subst (λ (z : Standing). TellsStill ⊥ (next_of old.site.kept) (blobs_in (k.told old.keeper)) (blobs_in z.told)) (sym none.same)
+      (tells_refl ⊥ (next_of old.site.kept) (blobs_in (k.told old.keeper))))
 
   -- the desk after a piece was read, or not
   abbrev pub having_read : K → List ℕ → Served K
@@ -204,5 +214,7 @@ module _ {K : Type 0} (k : KeeperOf K) (seat : ℕ) (old : Served K) where
       (reads seat (shown k old) (k.faults keeper) strikes content index piece result has h sound desk holds at told counts by) in (
         read,
         takes_turn (having_read keeper strikes) [] h h (sym (append-nil old.site.kept.history)) (All-nil (λ (e : Entry). e.seat ≡ seat))
-            (strikes_alone seat old.strikes strikes result has.0 has.1 by) refl read.waits.lasts,
+            (strikes_alone seat old.strikes strikes result has.0 has.1 by) refl read.waits.lasts
+            (subst (λ (o : Option Told). TellsStill ⊥ (next_of old.site.kept) (blobs_in (k.told old.keeper)) (blobs_in o)) (sym same)
+            (tells_refl ⊥ (next_of old.site.kept) (blobs_in (k.told old.keeper)))),
       )

@@ -1,11 +1,13 @@
 -- The site, its keeper and the strikes, at which the seats take their turns.
-use Rattle.std.specs.Prelude.{◌≡◌, ℕ, zero, suc, min, ◌+◌, ◌-◌, ◌^◌, ◌<◌, ◌==◌, List, [], ◌∷◌, filter, get_or, length, sum, Option, option_map}
+use Rattle.std.specs.Prelude.{◌≡◌, ℕ, zero, suc, min, ◌+◌, ◌-◌, ◌^◌, ◌<◌, ◌==◌, List, [], ◌∷◌, filter, get_or, length, sum, Option, Some, option_map}
 use Rattle.std.specs.Option.{IfSome}
 use Rattle.std.specs.declared.snapshot.Snapshot.{Snapshot}
 use Rattle.nf_defs.specs.Blobs.{Blobs, blob_at}
 use Rattle.nf_keeper.specs.declared.keeper.Keeper.{Ghosts as KeeperOf}
 use Rattle.nf_laws.specs.Wholes.{IsWhole}
+use Rattle.nf_base.specs.declared.limits.TheConstants.{MAX_SEATS}
 use Rattle.nf_base.specs.declared.rows.Row.{Row}
+use Rattle.nf_rows.specs.Spelling.{Raw}
 use Rattle.nf_rules.specs.Rules.{AreUnbroken}
 use Rattle.nf_session.specs.Book.{Book, TellsStill, own_from}
 use Rattle.nf_site.specs.Held.{Held}
@@ -54,10 +56,6 @@ shown k desk = record {
 
 -- ---- failures of the keeper
 
--- how many seats a run may have, with those that were joined into others
-abbrev pub most_seats : ℕ
-most_seats = 64
-
 -- how often the keeper failed the seat with the number n at what makes no entry
 abbrev pub strikes_of : List ℕ → ℕ → ℕ
 strikes_of strikes zero = 0
@@ -95,6 +93,9 @@ failures_of n a = failed_marks (entries_by n a.site.history) + strikes_of a.stri
 abbrev pub blobs_in : Option Told → Option Blobs
 blobs_in told = option_map (λ told. told.blobs) told
 
+abbrev pub rows_in : Option Told → Option (List Raw)
+rows_in told = option_map (λ told. told.rows) told
+
 -- what the seat with the number n knows once it saw the desk so
 abbrev pub book_at : ℕ → Shown → Book
 book_at n a = record {
@@ -103,15 +104,20 @@ book_at n a = record {
   known = a.site.history;
   own = own_from n (opened a.site.opening) a.site.history;
   strikes = risen a.start.faults (failures_of n a);
+  start = blobs_in a.start.told;
   told = blobs_in a.told;
+  rows = rows_in a.told;
 }
 
 -- ---- what a desk keeps
 
--- what is told are the site's rows, as they are spelled, and blobs that are whole for it
-pub record TellsSite (k : Kept) (told : Told) : Type 0 where
+-- what is told are the site's rows, as they are spelled, and blobs that are whole for it, but for what was damaged at the start,
+-- when blobs were told, too
+pub record TellsSite (start : Option Blobs) (k : Kept) (told : Told) : Type 0 where
   pub rows : told.rows ≡ told_of k.state.tables
-  pub whole : IsWhole k.opening k.state told.blobs
+  pub begun : Blobs
+  pub at_start : start ≡ Some begun
+  pub whole : IsWhole k.opening begun k.state told.blobs
 
 -- the number of the first blob that isn't of the opening
 abbrev pub first_blob_of : List Row → ℕ
@@ -123,22 +129,26 @@ pub record IsCounted (a : Shown) : Type 0 where
   pub fits : 0 < failures a → a.start.faults < 2 ^ 64
 
 -- the opening's rows break no rule, each row has a spelling, what the keeper tells is true of the site, the blobs of the opening are told
--- as they were then, and each failure is counted
+-- as they were then, or, once there is an entry, not at all, and each failure is counted
 pub record IsDesk (a : Shown) : Type 0 where
   pub unbroken : AreUnbroken a.site.opening
   pub fit : AreFit a.site.state.tables
-  pub told : IfSome a.told (TellsSite a.site)
-  pub since : TellsStill (first_blob_of a.site.opening) (blobs_in a.start.told) (blobs_in a.told)
-  pub seats : length a.strikes ≡ most_seats
+  pub told : IfSome a.told (TellsSite (blobs_in a.start.told) a.site)
+  pub since : TellsStill (0 < length a.site.history) (first_blob_of a.site.opening) (blobs_in a.start.told) (blobs_in a.told)
+  pub seats : length a.strikes ≡ MAX_SEATS
   pub counted : IsCounted a
 
 -- ---- what it is to the lock
 
--- the blobs that are told; none is ever dropped
+-- the number of the next blob
+abbrev pub next_of : Kept → ℕ
+next_of k = (replay (opened k.opening) k.history).tables.meta.next_blob
+
+-- the blobs that are told; an entry may drop some
 abbrev pub shelf_of : Kept → Told → Shelf
 shelf_of k told = record {
-  next = (replay (opened k.opening) k.history).tables.meta.next_blob;
-  drops = 0;
+  next = next_of k;
+  drops = length k.history;
   bytes = blob_at told.blobs;
 }
 

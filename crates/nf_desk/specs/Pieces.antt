@@ -1,5 +1,5 @@
 -- What a keeper gives of a piece.
-use Rattle.std.specs.Prelude.{◌≡◌, ℕ, ◌-◌, ◌<◌, ◌≤◌, List, length, Option, Some, Result, Ok, Err, slice_get, slice_set, Vec}
+use Rattle.std.specs.Prelude.{◌≡◌, ◌⊎◌, ℕ, ◌-◌, ◌<◌, ◌≤◌, List, length, Option, Some, Result, Ok, Err, slice_get, slice_set, Vec}
 use Rattle.std.specs.Option.{IfSome}
 use Rattle.std.specs.declared.alloc.Global.{Global}
 use Rattle.sha2.specs.Sha256.{sha256}
@@ -8,13 +8,13 @@ use Rattle.nf_defs.specs.Blobs.{Blobs, blob_at}
 use Rattle.nf_keeper.specs.Views.{bytes_in}
 use Rattle.nf_keeper.specs.declared.keeper.KeepFault.{KeepFault}
 use Rattle.nf_keeper.specs.declared.keeper.KeepFault.TheVariants.{Failed, Memory}
-use Rattle.nf_laws.specs.Wholes.{IsDamaged, IsHeld}
-use Rattle.nf_session.specs.Book.{Book, IsDamage, Struck, Waits, next_blob_of}
+use Rattle.nf_laws.specs.Wholes.{IsThere}
+use Rattle.nf_session.specs.Book.{Book, IsDamage, Struck, Waits, WasDamaged, next_blob_of}
 use Rattle.nf_session.specs.declared.backend.PieceFault.{PieceFault}
 use Rattle.nf_session.specs.declared.backend.PieceFault.TheVariants as fault
 use Rattle.nf_words.specs.declared.answer.Damage.{Damage}
 use Rattle.nf_words.specs.declared.answer.Measure.{Measure}
-use Rattle.nf_desk.specs.Desk.{Shown, blobs_in, book_at, strikes_of}
+use Rattle.nf_desk.specs.Desk.{Shown, book_at, strikes_of}
 
 abbrev pub measure_of : List ℕ → Measure
 measure_of bytes = record { length = length bytes; digest = sha256 bytes }
@@ -40,16 +40,15 @@ IsTested piece (Err Memory) result = result ≡ Err fault.Memory
 -- ---- reading
 
 -- the keeper tells that of the piece, which is there or was damaged when the desk was opened
-pub record TellsFound (b : Book) (start : Option Blobs) (piece : Piece) (found : Option (List ℕ)) (shelf : Blobs) : Type 0 where
+pub record TellsFound (b : Book) (piece : Piece) (found : Option (List ℕ)) (shelf : Blobs) : Type 0 where
   pub given : piece.blob < next_blob_of b
   pub there : found ≡ blob_at shelf piece.blob
-  pub held : IsHeld b.opening shelf piece
-  pub since : IsDamaged b.opening shelf piece → IfSome start (λ begun. IsDamaged b.opening begun piece)
+  pub held : IsThere shelf piece ⊎ WasDamaged b piece
 
-abbrev pub IsRead : Book → Book → Option Blobs → Piece → Result (Option (Vec ℕ Global)) KeepFault → Type 0
-IsRead a b start piece (Ok found) = (b.strikes ≡ a.strikes) × IfSome b.told (TellsFound b start piece (bytes_in found))
-IsRead a b start piece (Err Failed) = Struck a.strikes b.strikes
-IsRead a b start piece (Err Memory) = b.strikes ≡ a.strikes
+abbrev pub IsRead : Book → Book → Piece → Result (Option (Vec ℕ Global)) KeepFault → Type 0
+IsRead a b piece (Ok found) = (b.strikes ≡ a.strikes) × IfSome b.told (TellsFound b piece (bytes_in found))
+IsRead a b piece (Err Failed) = Struck a.strikes b.strikes
+IsRead a b piece (Err Memory) = b.strikes ≡ a.strikes
 
 -- a failure is a strike of the seat
 abbrev pub StrikesSeat : ℕ → List ℕ → List ℕ → Result (Option (Vec ℕ Global)) KeepFault → Type 0
@@ -75,5 +74,5 @@ pub record Reads (n : ℕ) (a b : Shown) (content : List Piece) (index : ℕ)
   pub waits : Waits (book_at n a) (book_at n b)
   pub piece : Piece
   pub at_index : slice_get content index ≡ Some piece
-  pub read : IsRead (book_at n a) (book_at n b) (blobs_in a.start.told) piece result
+  pub read : IsRead (book_at n a) (book_at n b) piece result
   pub strikes : StrikesSeat n a.strikes b.strikes result

@@ -1,12 +1,13 @@
 -- What one step of a seat does to the site, and to what its keeper tells.
 use Rattle.std.specs.Prelude.{◌≡◌, ◌⊎◌, ℕ, ◌<◌, ◌≤◌, All, List, [], ◌∷◌, length, Option, None, Some, option_map, Err}
+use Rattle.nf_base.specs.declared.limits.TheConstants.{MAX_ENTRIES}
 use Rattle.nf_base.specs.declared.changes.Change.{Change}
 use Rattle.nf_keeper.specs.Keeping.{Stored, applied}
 use Rattle.nf_session.specs.Book.{Answer, Strikes}
 use Rattle.nf_site.specs.Held.{entries_wanted}
 use Rattle.nf_site.specs.Kept.{Kept, entered, entry, moment_of}
 use Rattle.nf_told.specs.Told.{FitsChange, Told}
-use Rattle.nf_words.specs.Prelude.{answer_at, blob_to, changes_to, MayBring, MayCome, most_entries}
+use Rattle.nf_words.specs.Prelude.{answer_at, blob_to, changes_to, MayBring, MayCome}
 use Rattle.nf_words.specs.declared.answer.Denial.TheVariants as denial
 use Rattle.nf_words.specs.declared.answer.Goal.{Goal}
 use Rattle.nf_words.specs.declared.history.Entry.{Entry}
@@ -82,8 +83,8 @@ pub record Steps (seat : ℕ) (a b : Standing) (now : ℕ) (event : Event) (body
 -- nothing was done, since the run has no room for two entries more, or there is no memory
 pub record FindsNone (a b : Standing) (answer : Answer) : Type 0 where
   pub same : b ≡ a
-  pub why : ((answer ≡ Err denial.RunFull) × (most_entries < entries_wanted a.site))
-      ⊎ ((answer ≡ Err denial.Memory) × (entries_wanted a.site ≤ most_entries))
+  pub why : ((answer ≡ Err denial.RunFull) × (MAX_ENTRIES < entries_wanted a.site))
+      ⊎ ((answer ≡ Err denial.Memory) × (entries_wanted a.site ≤ MAX_ENTRIES))
 
 -- the step of the Begin was made, or nothing was done
 abbrev pub Asks : ℕ → Standing → Standing → ℕ → Words → Request → Answer → Type 0

@@ -2,7 +2,7 @@
 
 ghost use Rattle.std.specs.Prelude.{◌≡◌, ◌<◌, ◌≤◌, length, replicate, IfErr, IfOk, None, Some};
 ghost use Rattle.sha2.specs.Sha256.{sha256};
-ghost use Rattle.nf_desk.specs.Desk.{IsDesk, TakesTurn, book_at, meanings, most_seats, shown};
+ghost use Rattle.nf_desk.specs.Desk.{IsDesk, TakesTurn, book_at, meanings, shown};
 ghost use Rattle.nf_desk.specs.Opened.{AsksOnce, CountsFault, IsFault, MayBegin, Opens};
 ghost use Rattle.nf_desk.specs.Pieces.{Reads, StrikesBy};
 ghost use Rattle.nf_desk.specs.Stepping.{HeldMayEnd, IsEmpty};
@@ -19,7 +19,7 @@ use crate::first::{Opening, Unopened};
 use crate::loading::site_over;
 use crate::piece::piece_at;
 use crate::stepping::{begin, finish, store};
-use nf_base::{Content, Digest, Moment, RowList};
+use nf_base::{Content, Digest, MAX_SEATS, Moment, RowList};
 use nf_keeper::{KeepFault, Keeper};
 use nf_site::Site;
 use nf_turn::Book;
@@ -34,7 +34,7 @@ pub struct Desk<K: Keeper + Drop> {
     alloc: Global,
     site: Site,
     keeper: K,
-    strikes: [u64; 64],
+    strikes: [u64; MAX_SEATS],
     start: Snapshot<K>,
 }
 
@@ -123,7 +123,7 @@ impl<K: Keeper + Drop> Desk<K> {
         content: &Content,
         index: usize,
     ) -> Result<Option<Vec<u8>>, KeepFault>
-        requires seat { (0 < seat) × (seat ≤ most_seats) }
+        requires seat { (0 < seat) × (seat ≤ MAX_SEATS) }
         requires granted { held (book_at seat (shown K.Keeper self.old)) ≡ Some (Serve content.now) }
         requires index { index < length content.now }
         ensures reads { Reads seat (shown K.Keeper self.old) (shown K.Keeper self.new) content.now index result }
@@ -191,15 +191,15 @@ impl<K: Keeper + Drop> Desk<K> {
     }
 }
 
-fn no_strikes() -> [u64; 64]
-    ensures { result ≡ replicate most_seats 0 }
+fn no_strikes() -> [u64; MAX_SEATS]
+    ensures { result ≡ replicate MAX_SEATS 0 }
 {
-    [0; 64]
+    [0; MAX_SEATS]
 }
 
 /// Counts it at the seat where the keeper failed.
-fn strike(strikes: &mut [u64; 64], seat: u64, read: &Result<Option<Vec<u8>>, KeepFault>)
-    requires { (0 < seat) × (seat ≤ most_seats) }
+fn strike(strikes: &mut [u64; MAX_SEATS], seat: u64, read: &Result<Option<Vec<u8>>, KeepFault>)
+    requires { (0 < seat) × (seat ≤ MAX_SEATS) }
     ensures { StrikesBy seat strikes.old strikes.new read.now }
 {
     if let Err(KeepFault::Failed) = read {

@@ -9,9 +9,8 @@ use Rattle.nf_base.specs.declared.content.Piece.{Piece}
 use Rattle.nf_base.specs.declared.rows.Row.{Row}
 use Rattle.nf_defs.specs.Blobs.{Blobs}
 use Rattle.nf_desk.specs.Desk.{Served, blobs_in, book_at, meanings, shown, strikes_of}
-use Rattle.nf_desk.specs.Pieces.{IsRead, IsTested, Reads, StrikesSeat, TellsFound}
+use Rattle.nf_desk.specs.Pieces.{IsTested, Reads, StrikesSeat}
 use Rattle.nf_desk.proofs.Giving.{gives_piece}
-use Rattle.nf_keeper.specs.Views.{bytes_in}
 use Rattle.nf_keeper.specs.declared.keeper.KeepFault.{KeepFault}
 use Rattle.nf_keeper.specs.declared.keeper.KeepFault.TheVariants.{Failed, Memory}
 use Rattle.nf_keeper.specs.declared.keeper.Keeper.{Ghosts as KeeperOf}
@@ -44,21 +43,20 @@ strikes_piece n before was now piece (Err Memory) result same struck tested =
 -- ---- what is damaged
 
 -- what is damaged now was so at the start, where the store tells now exactly where it told then
-damaged_first : (b : Book) (piece : Piece) (found : Option (List ℕ)) (damage : Damage) (now start : Option Blobs)
-    → is_some now ≡ is_some start → IfSome now (TellsFound b start piece found) → IfSome now (TellsDamage b piece damage)
-    → IfSome start (λ begun. IsDamaged b.opening begun piece)
-damaged_first b piece found damage None None same tells damaged = tt
-damaged_first b piece found damage None (Some begun) same tells damaged = absurd (cc)
-damaged_first b piece found damage (Some shelf) start same tells damaged = tells.since damaged.damaged
+damaged_first : (b : Book) (piece : Piece) (damage : Damage) (now start : Option Blobs) → is_some now ≡ is_some start → b.start ≡ start
+    → IfSome now (TellsDamage b piece damage) → IfSome start (λ begun. IsDamaged b.opening begun piece)
+damaged_first b piece damage None None same is damaged = tt
+damaged_first b piece damage None (Some begun) same is damaged = absurd (cc)
+damaged_first b piece damage (Some shelf) None same is damaged = absurd (cc)
+damaged_first b piece damage (Some shelf) (Some begun) same is damaged =
+    let was = damaged.damaged in
+    subst (λ (blobs : Blobs). IsDamaged b.opening blobs piece) (same_Some was.begun begun (sym was.tells ∙ is)) was.damaged
 
-was_damaged : (a b : Book) (start : Option Blobs) (piece : Piece) (read : Result (Option (Vec ℕ Global)) KeepFault)
-    (result : Result (Vec ℕ Global) PieceFault) → is_some b.told ≡ is_some start → IsRead a b start piece read → IsTested piece read result
-    → GivesOrFails a b piece result → WasDamaged b.opening start piece result
-was_damaged a b start piece (Ok found) (Err (fault.Damaged damage)) same reads tested given =
-    damaged_first b piece (bytes_in found) damage b.told start same reads.1 given.2
-was_damaged a b start piece (Err Failed) (Err (fault.Damaged damage)) same reads tested given = absurd (cc)
-was_damaged a b start piece (Err Memory) (Err (fault.Damaged damage)) same reads tested given = absurd (cc)
-was_damaged a b start piece read result same reads tested given = tt
+was_damaged : (a b : Book) (start : Option Blobs) (piece : Piece) (result : Result (Vec ℕ Global) PieceFault)
+    → is_some b.told ≡ is_some start
+    → b.start ≡ start → GivesOrFails a b piece result → WasDamaged b.opening start piece result
+was_damaged a b start piece (Err (fault.Damaged damage)) same is given = damaged_first b piece damage b.told start same is given.2
+was_damaged a b start piece other same is given = tt
 
 -- ---- a call
 
@@ -68,10 +66,11 @@ module _ {K : Type 0} (k : KeeperOf K) (m : MemoryOf (Served K)) (taken given : 
   start_same = ap (λ (o : List Row × Snapshot K). o.1) agrees.opening
 
   -- the store tells exactly where it told at the start
-  pub tells_since : (next : ℕ) → TellsStill next (blobs_in (k.told taken.keeper)) (blobs_in (k.told given.keeper))
+  pub tells_since : (cause : Type 0) (next : ℕ) → TellsStill cause next (blobs_in (k.told taken.keeper)) (blobs_in (k.told given.keeper))
       → is_some (blobs_in (k.told given.keeper)) ≡ is_some (blobs_at_start k m)
-  tells_since next still =
-      tells_where (k.told m.first.keeper) (k.told taken.keeper) (k.told given.keeper) m.first.site.kept taken.site.kept next agrees.tells still
+  tells_since cause next still =
+      tells_where cause (k.told m.first.keeper) (k.told taken.keeper) (k.told given.keeper) m.first.site.kept taken.site.kept next
+      agrees.tells still
       ∙ ap (λ (keeper : K). is_some (blobs_in (k.told keeper))) (sym begun)
 
   module _ (content : List Piece) (index : ℕ) (read : Result (Option (Vec ℕ Global)) KeepFault)
@@ -83,7 +82,7 @@ module _ {K : Type 0} (k : KeeperOf K) (m : MemoryOf (Served K)) (taken given : 
     after = book_at m.number (shown k given)
 
     same_telling : is_some (blobs_in (k.told given.keeper)) ≡ is_some (blobs_at_start k m)
-    same_telling = tells_since _ reads.waits.lasts.told
+    same_telling = tells_since _ _ reads.waits.lasts.told
 
     shelves_piece : (result : Result (Vec ℕ Global) PieceFault) → GivesOrFails before after reads.piece result
         → ShelvesPiece k m (having_passed given m) reads.piece result
@@ -97,7 +96,7 @@ module _ {K : Type 0} (k : KeeperOf K) (m : MemoryOf (Served K)) (taken given : 
         let shows = IfSome_then (blobs_in (k.told given.keeper)) gives.0.told (λ (shelf : Blobs) (tells : TellsPiece after reads.piece bytes.items shelf). (tells.given, tells.there)) in
         record {
           has = seen_now y (k.told given.keeper) (seen_shelf (meanings k) m id) id bytes.items some shows;
-          had = λ old seen. had_same x y (k.told taken.keeper) (k.told given.keeper) id old bytes.items some shows reads.waits.lasts.told
+          had = λ old seen. had_same _ x y (k.told taken.keeper) (k.told given.keeper) id old bytes.items some shows reads.waits.lasts.told
               (agrees.shelf id old seen);
         })
 
@@ -109,8 +108,8 @@ module _ {K : Type 0} (k : KeeperOf K) (m : MemoryOf (Served K)) (taken given : 
       strikes = strikes_piece m.number (strikes_in m) taken.strikes given.strikes reads.piece read result agrees.strikes reads.strikes tested_so;
       damaged =
           subst (λ (l : List Row). WasDamaged l (blobs_at_start k m) reads.piece result) rows
-          (was_damaged before after (blobs_at_start k m) reads.piece read result same_telling
-          (subst (λ (s : Snapshot K). IsRead before after (blobs_in (k.told s.value)) reads.piece read) start_same reads.read) tested_so given_so);
+          (was_damaged before after (blobs_at_start k m) reads.piece result same_telling
+          (reads.waits.lasts.start ∙ ap (λ (s : Snapshot K). blobs_in (k.told s.value)) start_same) given_so);
       shelved = shelves_piece result given_so;
     }
       where

@@ -6,7 +6,7 @@ use Rattle.std.specs.Option.{IfSome}
 use Rattle.std.specs.declared.snapshot.Snapshot.{Snapshot}
 use Rattle.nf_base.specs.declared.rows.Row.{Row}
 use Rattle.nf_defs.specs.Blobs.{Blobs}
-use Rattle.nf_desk.specs.Desk.{Served, blobs_in, book_at, meanings, shown}
+use Rattle.nf_desk.specs.Desk.{Served, blobs_in, book_at, meanings, next_of, shown}
 use Rattle.nf_keeper.specs.declared.keeper.Keeper.{Ghosts as KeeperOf}
 use Rattle.nf_session.specs.Book.{Answer, EndsBody, IsOfBody, Stores, granted, state_after}
 use Rattle.nf_turn.specs.Prelude.{Agrees, having_passed, seen_shelf}
@@ -20,7 +20,7 @@ use Rattle.nf_hub.specs.Seats.{blobs_at_start, book_in}
 use Rattle.nf_hub.proofs.Asking.{tells_since}
 use Rattle.nf_hub.proofs.Following.{ends_body_after}
 use Rattle.nf_hub.proofs.Seeing.{sees}
-use Rattle.nf_hub.proofs.Telling.{Shows, next_of, seen_now, where_told}
+use Rattle.nf_hub.proofs.Telling.{Shows, seen_now, where_told}
 
 -- it grants nothing
 pub body_grants_none : (answer : Answer) → IsOfBody answer → granted answer ≡ None
@@ -53,7 +53,8 @@ module _ {K : Type 0} (k : KeeperOf K) (m : Memory (Served K)) (taken given : Se
       → ShelvesBody k m (having_passed given m) body answer
   shelves_body now body (Err refusal) known ends = tt
   shelves_body now body (Ok answer) known ends =
-      where_told (blobs_in (k.told given.keeper)) (blobs_at_start k m) _ (tells_since k m taken given agrees begun _ ends.enters.lasts.told)
+      where_told (blobs_in (k.told given.keeper)) (blobs_at_start k m) _
+      (tells_since k m taken given agrees begun _ _ ends.enters.lasts.told)
       (λ some others e id is stores.
       let all = ends_body_after (book_in k m) (book_at m.number (shown k taken)) (book_at m.number (shown k given)) (sees k m taken agrees) now body (Ok answer) ends in
       let same = same_from_push (m.known.site.kept.history ++ all.enters.others) (m.known.site.kept.history ++ others) all.enters.entry e

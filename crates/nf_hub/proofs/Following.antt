@@ -50,6 +50,7 @@ module _ (a m b : Book) (first : Passes a m) where
         strikes = subst (λ (n : ℕ). Strikes enters.entry.mark n b.strikes) first.unstruck enters.strikes;
         may_come = subst (λ (es : List Entry). MayCome (length es) (state_after a (come ++ enters.others)) enters.entry) before
             (subst (λ (s : State). MayCome (length (m.known ++ enters.others)) s enters.entry) state enters.may_come);
+        rows = enters.rows;
       }
 
   pub begins_after : (now : ℕ) (words : Words) (request : Request) (answer : Answer)

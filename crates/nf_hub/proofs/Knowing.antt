@@ -1,7 +1,8 @@
 -- What a seat's memory is to be, apart from the lock's table, and that each turn keeps it.
 use Rattle.std.proofs.Common.{◌≡◌, ◌≤◌, refl, ◌∙◌}
 use Rattle.std.specs.Prelude.{Bool, is_none}
-use Rattle.nf_desk.specs.Desk.{Served, TakesTurn, book_at, meanings, most_seats, shown}
+use Rattle.nf_base.specs.declared.limits.TheConstants.{MAX_SEATS}
+use Rattle.nf_desk.specs.Desk.{Served, TakesTurn, book_at, meanings, shown}
 use Rattle.nf_keeper.specs.declared.keeper.Keeper.{Ghosts as KeeperOf}
 use Rattle.nf_session.specs.Book.{IsBook, held}
 use Rattle.nf_turn.specs.Prelude.{Agrees, HasHeard, having_passed, Precedes}
@@ -10,7 +11,7 @@ use Rattle.nf_turn.proofs.Preceding.{AllPrecede-trans, Precedes-refl, Precedes-t
 use Rattle.nf_hub.specs.Seats.{AllWereIdle, book_in}
 
 pub record Knows {K : Type 0} (k : KeeperOf K) (idle : Bool) (m : Memory (Served K)) : Type 0 where
-  pub few : m.seats ≤ most_seats
+  pub few : m.seats ≤ MAX_SEATS
   pub opened : m.first.start.value ≡ m.first.keeper
   pub last : (meanings k).opening m.last ≡ (meanings k).opening m.first
   pub told : HasHeard (meanings k) m

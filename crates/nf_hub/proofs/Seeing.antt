@@ -1,12 +1,12 @@
 -- What a seat knows of a desk that it takes: others may have come, and nothing was done under its number.
-use Rattle.std.proofs.Common.{◌≡◌, ℕ, ◌+◌, ◌<◌, ◌≤◌, List, [], ◌++◌, refl, ap, ◌∙◌, arith, ⊎_elim}
+use Rattle.std.proofs.Common.{◌≡◌, ℕ, ◌+◌, ◌<◌, ◌≤◌, List, [], ◌++◌, length, length-append, refl, ap, ◌∙◌, arith}
 use Rattle.std.specs.Prelude.{Option, None, Some, option_map}
 use Rattle.std.specs.declared.snapshot.Snapshot.{Snapshot}
 use Rattle.nf_base.specs.declared.rows.Row.{Row}
-use Rattle.nf_defs.specs.Blobs.{blob_at}
-use Rattle.nf_desk.specs.Desk.{Served, blobs_in, book_at, entries_by, failed_marks, meanings, risen, shelf_of, shown}
+use Rattle.nf_desk.specs.Desk.{Served, blobs_in, book_at, entries_by, failed_marks, meanings, next_of, risen, shelf_of, shown}
 use Rattle.nf_keeper.specs.declared.keeper.Keeper.{Ghosts as KeeperOf}
 use Rattle.nf_laws.proofs.Counters.{counters_go_on}
+use Rattle.nf_session.proofs.Lasting.{tells_for}
 use Rattle.nf_session.specs.Book.{Passes, TellsStill, held, held_after, next_blob_of, own_from}
 use Rattle.nf_site.specs.Kept.{Kept}
 use Rattle.nf_told.specs.Told.{Told}
@@ -17,15 +17,13 @@ use Rattle.nf_words.specs.Prelude.{opened, replay, State}
 use Rattle.nf_hub.specs.Seats.{book_in}
 use Rattle.nf_hub.proofs.Owning.{own_stays}
 
--- a shelf that keeps what is on it tells still
+-- a shelf that keeps what is on it tells still, but for what was dropped by some entry
 keeps_tells : (old new : Option Told) (x y : Kept) → KeepsShelf (option_map (shelf_of x) old) (option_map (shelf_of y) new)
-    → TellsStill (replay (opened x.opening) x.history).tables.meta.next_blob (blobs_in old) (blobs_in new)
+    → TellsStill (length x.history < length y.history) (next_of x) (blobs_in old) (blobs_in new)
 keeps_tells None None x y keeps = refl
 keeps_tells None (Some new) x y keeps = absurd keeps
 keeps_tells (Some old) None x y keeps = absurd keeps
-keeps_tells (Some old) (Some new) x y keeps = λ id less.
-    ⊎_elim (λ (same : blob_at new.blobs id ≡ blob_at old.blobs id). same)
-    (λ (gone : (blob_at new.blobs id ≡ None) × (0 < 0)). absurd (omega (arith, gone.1))) (keeps.2 id less)
+keeps_tells (Some old) (Some new) x y keeps = keeps.2
 
 module _ {K : Type 0} (k : KeeperOf K) (n : ℕ) (x y : Served K) (grows : Grows (meanings k) x y) (none : entries_by n grows.added ≡ []) where
   rows_stay : y.site.kept.opening ≡ x.site.kept.opening
@@ -66,13 +64,20 @@ module _ {K : Type 0} (k : KeeperOf K) (m : Memory (Served K)) (a : Served K) (a
         seat = refl;
         strikes = omega (arith, strikes_same);
         next_blob = next_up k m.number m.known a agrees.known agrees.others;
-        told = keeps_tells (k.told m.known.keeper) (k.told a.keeper) m.known.site.kept a.site.kept agrees.known.keeps.shelf;
+        entries = omega (arith, own, ap length agrees.known.entries, length-append m.known.site.kept.history agrees.known.added);
+        start = ap (λ (o : List Row × Snapshot K). blobs_in (k.told o.1.value)) agrees.known.keeps.opening;
+        told = tells_for (length m.known.site.kept.history < length a.site.kept.history) _ (next_of m.known.site.kept)
+            (blobs_in (k.told m.known.keeper)) (blobs_in (k.told a.keeper)) (λ grew. omega (arith, grew, own))
+            (keeps_tells (k.told m.known.keeper) (k.told a.keeper) m.known.site.kept a.site.kept agrees.known.keeps.shelf);
       };
       own = own_kept k m.number m.known a agrees.known agrees.others;
       known = (agrees.known.added, agrees.known.entries);
     };
     unstruck = strikes_same;
   }
+    where
+      own : length (book_at m.number (shown k a)).own ≡ length (book_in k m).own
+      own = ap length (own_kept k m.number m.known a agrees.known agrees.others)
 
   -- what the seat holds
   pub held_seen : held (book_at m.number (shown k a)) ≡ held (book_in k m)

@@ -2,8 +2,9 @@
 use Rattle.std.proofs.Common.{rules, ◌≡◌, ℕ, ◌≤◌, List, sym, ap, ◌∙◌, subst}
 use Rattle.std.specs.Prelude.{is_none}
 use Rattle.std.specs.declared.snapshot.Snapshot.{Snapshot}
+use Rattle.nf_base.specs.declared.limits.TheConstants.{MAX_SEATS}
 use Rattle.nf_base.specs.declared.rows.Row.{Row}
-use Rattle.nf_desk.specs.Desk.{Served, TakesTurn, book_at, meanings, most_seats, shown}
+use Rattle.nf_desk.specs.Desk.{Served, TakesTurn, book_at, meanings, shown}
 use Rattle.nf_keeper.specs.declared.keeper.Keeper.{Ghosts as KeeperOf}
 use Rattle.nf_session.specs.Book.{Book, Passes, held}
 use Rattle.nf_turn.specs.Prelude.{Agrees, having_passed, IsIdle, IsSeatOf, Numbers, numbers, numbers_of}
@@ -28,13 +29,13 @@ module _ {K : Type 0} (k : KeeperOf K) (hub : HubIn K) (seat : SeatIn K) where
   numbers_are = numbers_known hub.lock.table.shared.key.first.value seat.turns.place.me
 
   pub seat_knows : IsSeat k hub seat → Knows k seat.is_idle (memory_of k hub seat)
-  seat_knows is = let few = subst (λ (n : Numbers (Served K)). n.seats ≤ most_seats) (sym numbers_are) is.few in search (rules, few)
+  seat_knows is = let few = subst (λ (n : Numbers (Served K)). n.seats ≤ MAX_SEATS) (sym numbers_are) is.few in search (rules, few)
 
   pub knows_seat : IsSeatOf hub.lock seat.turns → IsIdle hub.lock seat.turns → (m : Memory (Served K)) → memory_of k hub seat ≡ m
       → Knows k seat.is_idle m → IsSeat k hub seat
   knows_seat its rests m is known =
       let knows = subst (λ (m : Memory (Served K)). Knows k seat.is_idle m) (sym is) known in
-      let few = subst (λ (n : Numbers (Served K)). n.seats ≤ most_seats) numbers_are knows.few in
+      let few = subst (λ (n : Numbers (Served K)). n.seats ≤ MAX_SEATS) numbers_are knows.few in
       search (rules, few)
 
 -- the number n is the seat's, and it took the desk in its turn and gave it back so

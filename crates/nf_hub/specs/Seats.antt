@@ -1,9 +1,10 @@
 -- What a seat of a hub knows.
 use Rattle.std.specs.Prelude.{◌≡◌, ℕ, ◌+◌, ◌≤◌, List, [], ◌∷◌, Option, None, is_none}
 use Rattle.std.specs.declared.snapshot.Snapshot.{Snapshot}
+use Rattle.nf_base.specs.declared.limits.TheConstants.{MAX_SEATS}
 use Rattle.nf_base.specs.declared.rows.Row.{Row}
 use Rattle.nf_defs.specs.Blobs.{Blobs}
-use Rattle.nf_desk.specs.Desk.{Served, blobs_in, book_at, entries_by, failed_marks, meanings, most_seats, risen, shown, strikes_of}
+use Rattle.nf_desk.specs.Desk.{Served, blobs_in, book_at, entries_by, failed_marks, meanings, risen, shown, strikes_of}
 use Rattle.nf_desk.specs.Opened.{AsksOnce, Opens}
 use Rattle.nf_desk.specs.declared.first.Opening.{Opening}
 use Rattle.nf_keeper.specs.declared.keeper.Keeper.{Ghosts as KeeperOf}
@@ -54,7 +55,7 @@ pub record IsSeat {K : Type 0} (k : KeeperOf K) (hub : HubOf (Served K) Entry (L
     (seat : SeatOf (Served K) Entry (List Row × Snapshot K)) : Type 0 where
   pub its : IsSeatOf hub.lock seat.turns
   pub rests : IsIdle hub.lock seat.turns
-  pub few : (numbers seat.turns).seats ≤ most_seats
+  pub few : (numbers seat.turns).seats ≤ MAX_SEATS
   -- the first value is as it was opened, and what the seat passed on last is of the same opening
   pub opened : (memory_of k hub seat).first.start.value ≡ (memory_of k hub seat).first.keeper
   pub last : (meanings k).opening (memory_of k hub seat).last ≡ (meanings k).opening (memory_of k hub seat).first

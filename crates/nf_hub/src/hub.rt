@@ -2,7 +2,8 @@
 
 ghost use Rattle.std.specs.Prelude.{◌≡◌, ◌↔◌, ◌<◌, ◌≤◌, length, IfErr, IfOk, IfSome, IfNone, IsNone, None, Some, is_some};
 ghost use Rattle.sha2.specs.Sha256.{sha256};
-ghost use Rattle.nf_desk.specs.Desk.{meanings, most_seats};
+ghost use Rattle.nf_base.specs.declared.limits.TheConstants.{MAX_SEATS};
+ghost use Rattle.nf_desk.specs.Desk.{meanings};
 ghost use Rattle.nf_desk.specs.Opened.{AsksOnce, CountsFault, IsFault, MayBegin};
 ghost use Rattle.nf_desk.specs.Stepping.{HeldMayEnd, IsEmpty};
 ghost use Rattle.nf_hub.specs.Calls.{AsksGoal, AsksPiece, GivesGoal, HasPiece, HasTicket, IsBegan, LeavesKeeper, ShelvesBody, ShelvesEnding, answer_of};
@@ -37,7 +38,7 @@ pub type Hub<K> = HubOf<Desk<K>>;
 impl<K: Keeper + Drop> Hub<K> {
     /// A hub over a desk that was just opened, and its first seat. The desk comes back for want of memory.
     pub fn over(alloc: Global, desk: Desk<K>, seats: usize) -> Result<(Hub<K>, Seat<K>), Desk<K>>
-        requires seats { (0 < seats) × (seats ≤ most_seats) }
+        requires seats { (0 < seats) × (seats ≤ MAX_SEATS) }
         requires fresh { IsFresh (meanings K.Keeper) desk }
         requires opened { desk.start.value ≡ desk.keeper }
         ensures seat { IfOk result (λ made. IsSeat K.Keeper made.0 made.1) }
@@ -59,7 +60,7 @@ impl<K: Keeper + Drop> Hub<K> {
         opening: Opening,
         seats: usize,
     ) -> Result<(Hub<K>, Seat<K>), Unopened<K>>
-        requires seats { (0 < seats) × (seats ≤ most_seats) }
+        requires seats { (0 < seats) × (seats ≤ MAX_SEATS) }
         requires first { MayBegin opening }
         ensures ok { IfOk result (λ made. IsSeat K.Keeper made.0 made.1) }
         ensures starts { IfOk result (λ made. Starts K.Keeper opening keeper seats (memory_of K.Keeper made.0 made.1)) }

@@ -37,7 +37,7 @@ pub(crate) fn bytes_of<S: Alter>(
 ) -> Result<Option<Vec<u8>>, Error> {
     let mut rows = connection.query(PIECE, params![number(id)])?;
     match rows.next()? {
-        Some(row) => Ok(Some(row.get(0)?)),
+        Some(row) => row.get(0).map(Some),
         None => Ok(None),
     }
 }
@@ -50,7 +50,7 @@ pub(crate) fn drop_others<S: Alter>(
 ) -> Result<(), Error> {
     let mut kept = keep.to_vec(alloc)?;
     kept.sort_unstable();
-    for row in transaction.query_all(IDS, &[])? {
+    for row in &transaction.query_all(IDS, &[])? {
         let id: i64 = row.get(0)?;
         if kept
             .binary_search(&BlobId::new(id.cast_unsigned()))

@@ -205,12 +205,11 @@ pub kept_there : (blobs more : Blobs) (piece : Piece) → blob_at more piece.blo
     → IsThere blobs piece → IsThere more piece
 kept_there blobs more piece same is = record { bytes = is.bytes; there = same ∙ is.there; size = is.size; digest = is.digest }
 
--- and a damaged one damaged still
-pub kept_held : (opening : List Row) (blobs more : Blobs) (piece : Piece) → blob_at more piece.blob ≡ blob_at blobs piece.blob
-    → IsHeld opening blobs piece → IsHeld opening more piece
-kept_held opening blobs more piece same (inl there) = inl (kept_there blobs more piece same there)
-kept_held opening blobs more piece same (inr damaged) =
-    inr (record { named = damaged.named; broken = λ there. damaged.broken (kept_there more blobs piece (sym same) there) })
+-- and one that was damaged was so
+pub kept_held : (opening : List Row) (start blobs more : Blobs) (piece : Piece) → blob_at more piece.blob ≡ blob_at blobs piece.blob
+    → IsHeld opening start blobs piece → IsHeld opening start more piece
+kept_held opening start blobs more piece same (inl there) = inl (kept_there blobs more piece same there)
+kept_held opening start blobs more piece same (inr damaged) = inr damaged
 
 -- ---- numbers that were given keep their bytes
 
@@ -222,134 +221,143 @@ given_kept next blobs None body is = λ id less. refl
 given_kept next blobs (Some new) body is = λ id less. put_elsewhere blobs new body id (λ e. absurd (omega (arith, e, is, less)))
 
 -- so pieces of given numbers stay held
-pieces_kept : (t : Tables) (opening : List Row) (blobs more : Blobs) (pieces : List Piece) → KeepsGiven t.meta.next_blob blobs more
-    → All (IsPieceSound t) pieces → All (IsHeld opening blobs) pieces → All (IsHeld opening more) pieces
-pieces_kept t opening blobs more pieces keeps sound held = λ k d within.
+pieces_kept : (t : Tables) (opening : List Row) (start blobs more : Blobs) (pieces : List Piece) → KeepsGiven t.meta.next_blob blobs more
+    → All (IsPieceSound t) pieces → All (IsHeld opening start blobs) pieces → All (IsHeld opening start more) pieces
+pieces_kept t opening start blobs more pieces keeps sound held = λ k d within.
     let piece = get_or pieces k d in
-    kept_held opening blobs more piece (keeps piece.blob (sound k d within).given) (held k d within)
+    kept_held opening start blobs more piece (keeps piece.blob (sound k d within).given) (held k d within)
 
 -- what the row names is held
-abbrev IsRowHeld : List Row → Blobs → NodeRow → Type 0
-IsRowHeld opening blobs row = All (IsHeld opening blobs) row.content
+abbrev IsRowHeld : List Row → Blobs → Blobs → NodeRow → Type 0
+IsRowHeld opening start blobs row = All (IsHeld opening start blobs) row.content
 
-nodes_kept : (t : Tables) (opening : List Row) (blobs more : Blobs) → KeepsGiven t.meta.next_blob blobs more
-    → All (IsNodeSound t) t.nodes → All (IsRowHeld opening blobs) t.nodes → All (IsRowHeld opening more) t.nodes
-nodes_kept t opening blobs more keeps sound held = λ k d within.
-    pieces_kept t opening blobs more (get_or t.nodes k d).content keeps (sound k d within).pieces (held k d within)
+nodes_kept : (t : Tables) (opening : List Row) (start blobs more : Blobs) → KeepsGiven t.meta.next_blob blobs more
+    → All (IsNodeSound t) t.nodes → All (IsRowHeld opening start blobs) t.nodes → All (IsRowHeld opening start more) t.nodes
+nodes_kept t opening start blobs more keeps sound held = λ k d within.
+    pieces_kept t opening start blobs more (get_or t.nodes k d).content keeps (sound k d within).pieces (held k d within)
 
 -- ---- what a body brings
 
-brought : (next : ℕ) (opening : List Row) (blobs : Blobs) (body : List ℕ)
-    → All (IsHeld opening (with_blob blobs (blob_for next (length body)) body)) (content_in (blob_for next (length body)) (sha256 body) (length body))
-brought next opening blobs body =
+brought : (next : ℕ) (opening : List Row) (start blobs : Blobs) (body : List ℕ)
+    → All (IsHeld opening start (with_blob blobs (blob_for next (length body)) body))
+    (content_in (blob_for next (length body)) (sha256 body) (length body))
+brought next opening start blobs body =
     elim (cases_Bool (length body == 0)) [
-      | inl none ↦ simp none (All-nil (IsHeld opening blobs))
+      | inl none ↦ simp none (All-nil (IsHeld opening start blobs))
       | inr some ↦
           (let more = put_blob blobs next body in
-          simp some (All-cons (IsHeld opening more) _ []
-          (inl (record { bytes = body; there = put_at blobs next body; size = refl; digest = refl })) (All-nil (IsHeld opening more))))
+          simp some (All-cons (IsHeld opening start more) _ []
+          (inl (record { bytes = body; there = put_at blobs next body; size = refl; digest = refl }))
+          (All-nil (IsHeld opening start more))))
     ]
 
 -- ---- the tables after an act
 
 -- the content of a body is held with it
-stored_held : (next : ℕ) (opening : List Row) (blobs : Blobs) (body : List ℕ) (blob : Option ℕ) (content : List Piece)
+stored_held : (next : ℕ) (opening : List Row) (start blobs : Blobs) (body : List ℕ) (blob : Option ℕ) (content : List Piece)
     → blob ≡ blob_for next (length body) → content ≡ content_in (blob_for next (length body)) (sha256 body) (length body)
-    → All (IsHeld opening (with_blob blobs blob body)) content
-stored_held next opening blobs body blob content in_blob in_content =
-    rw (in_blob, in_content) (brought next opening blobs body)
+    → All (IsHeld opening start (with_blob blobs blob body)) content
+stored_held next opening start blobs body blob content in_blob in_content =
+    rw (in_blob, in_content) (brought next opening start blobs body)
 
 -- a copy has the content of a node that is there
-copies_held : (t : Tables) (now : ℕ) (who : Option ℕ) (copies : List NodeRow) (replaced : Option ℕ) (opening : List Row) (blobs : Blobs)
-    → AreSound t → KnownCopies t now who copies replaced → All (IsRowHeld opening blobs) t.nodes → All (IsRowHeld opening blobs) copies
-copies_held t now who copies replaced opening blobs sound known kept k d within =
+copies_held : (t : Tables) (now : ℕ) (who : Option ℕ) (copies : List NodeRow) (replaced : Option ℕ) (opening : List Row)
+    (start blobs : Blobs)
+    → AreSound t → KnownCopies t now who copies replaced → All (IsRowHeld opening start blobs) t.nodes
+    → All (IsRowHeld opening start blobs) copies
+copies_held t now who copies replaced opening start blobs sound known kept k d within =
     let copy = (mirrored t now who copies replaced sound known).each k (get_or copies k d) (slice_get-get_or copies k d within) in
-    subst (All (IsHeld opening blobs)) (sym copy.content)
-    (found_is (IsRowHeld opening blobs) (λ row. row.id == copy.node) t.nodes copy.of kept copy.there).1
+    subst (All (IsHeld opening start blobs)) (sym copy.content)
+    (found_is (IsRowHeld opening start blobs) (λ row. row.id == copy.node) t.nodes copy.of kept copy.there).1
 
 -- where the old nodes' pieces are held with the body, the new nodes' are
-altered_held : (t : Tables) (now : ℕ) (who : Option ℕ) (act : Allowed) (opening : List Row) (blobs : Blobs) (body : List ℕ)
+altered_held : (t : Tables) (now : ℕ) (who : Option ℕ) (act : Allowed) (opening : List Row) (start blobs : Blobs) (body : List ℕ)
     → AreSound t → Known t now who act
-    → All (IsRowHeld opening (with_blob blobs (blob_of act) body)) t.nodes → StoresBody t.meta.next_blob body act
-    → All (IsRowHeld opening (with_blob blobs (blob_of act) body)) (altered t now act).nodes
-altered_held t now who (allowed.StoreNew row blob) opening blobs body sound known kept stores =
-    All-push (IsRowHeld opening (with_blob blobs blob body)) t.nodes row kept
-    (stored_held t.meta.next_blob opening blobs body blob row.content stores.0 stores.1)
-altered_held t now who (allowed.StoreOver node content blob) opening blobs body sound known kept stores =
-    with_all (IsRowHeld opening (with_blob blobs blob body)) t.nodes node (filled content now)
-    (λ row held. stored_held t.meta.next_blob opening blobs body blob content stores.0 stores.1) kept
-altered_held t now who (allowed.Mkcol row) opening blobs body sound known kept stores =
-    All-push (IsRowHeld opening blobs) t.nodes row kept
-    (subst (λ (c : List Piece). All (IsHeld opening blobs) c) (sym stores) (All-nil (IsHeld opening blobs)))
-altered_held t now who (allowed.Delete node) opening blobs body sound known kept stores =
-    all_cleared (IsRowHeld opening blobs) t.nodes (Some node) kept
-altered_held t now who (allowed.Move transfer name) opening blobs body sound known kept stores =
-    with_all (IsRowHeld opening blobs) (cleared t.nodes transfer.replaced) transfer.node (relinked transfer.folder name) (λ row held. held)
-    (all_cleared (IsRowHeld opening blobs) t.nodes transfer.replaced kept)
-altered_held t now who (allowed.Copy copies replaced) opening blobs body sound known kept stores =
-    All-append (IsRowHeld opening blobs) (cleared t.nodes replaced) copies (all_cleared (IsRowHeld opening blobs) t.nodes replaced kept)
-    (copies_held t now who copies replaced opening blobs sound known kept)
-altered_held t now who act opening blobs body sound known kept stores = kept
+    → All (IsRowHeld opening start (with_blob blobs (blob_of act) body)) t.nodes → StoresBody t.meta.next_blob body act
+    → All (IsRowHeld opening start (with_blob blobs (blob_of act) body)) (altered t now act).nodes
+altered_held t now who (allowed.StoreNew row blob) opening start blobs body sound known kept stores =
+    All-push (IsRowHeld opening start (with_blob blobs blob body)) t.nodes row kept
+    (stored_held t.meta.next_blob opening start blobs body blob row.content stores.0 stores.1)
+altered_held t now who (allowed.StoreOver node content blob) opening start blobs body sound known kept stores =
+    with_all (IsRowHeld opening start (with_blob blobs blob body)) t.nodes node (filled content now)
+    (λ row held. stored_held t.meta.next_blob opening start blobs body blob content stores.0 stores.1) kept
+altered_held t now who (allowed.Mkcol row) opening start blobs body sound known kept stores =
+    All-push (IsRowHeld opening start blobs) t.nodes row kept
+    (subst (λ (c : List Piece). All (IsHeld opening start blobs) c) (sym stores) (All-nil (IsHeld opening start blobs)))
+altered_held t now who (allowed.Delete node) opening start blobs body sound known kept stores =
+    all_cleared (IsRowHeld opening start blobs) t.nodes (Some node) kept
+altered_held t now who (allowed.Move transfer name) opening start blobs body sound known kept stores =
+    with_all (IsRowHeld opening start blobs) (cleared t.nodes transfer.replaced) transfer.node (relinked transfer.folder name)
+    (λ row held. held)
+    (all_cleared (IsRowHeld opening start blobs) t.nodes transfer.replaced kept)
+altered_held t now who (allowed.Copy copies replaced) opening start blobs body sound known kept stores =
+    All-append (IsRowHeld opening start blobs) (cleared t.nodes replaced) copies
+    (all_cleared (IsRowHeld opening start blobs) t.nodes replaced kept)
+    (copies_held t now who copies replaced opening start blobs sound known kept)
+altered_held t now who act opening start blobs body sound known kept stores = kept
 
-changed_held : (t : Tables) (now : ℕ) (who : Option ℕ) (act : Allowed) (opening : List Row) (blobs : Blobs) (body : List ℕ)
+changed_held : (t : Tables) (now : ℕ) (who : Option ℕ) (act : Allowed) (opening : List Row) (start blobs : Blobs) (body : List ℕ)
     → AreSound t → Known t now who act
-    → All (IsRowHeld opening (with_blob blobs (blob_of act) body)) t.nodes → StoresBody t.meta.next_blob body act
-    → All (IsRowHeld opening (with_blob blobs (blob_of act) body)) (changed t now act).nodes
-changed_held t now who act opening blobs body sound known kept stores =
-    stamped_has (λ (u : Tables). All (IsRowHeld opening (with_blob blobs (blob_of act) body)) u.nodes) t (altered t now act) now (told t now act)
-    kept (altered_held t now who act opening blobs body sound known kept stores)
+    → All (IsRowHeld opening start (with_blob blobs (blob_of act) body)) t.nodes → StoresBody t.meta.next_blob body act
+    → All (IsRowHeld opening start (with_blob blobs (blob_of act) body)) (changed t now act).nodes
+changed_held t now who act opening start blobs body sound known kept stores =
+    stamped_has (λ (u : Tables). All (IsRowHeld opening start (with_blob blobs (blob_of act) body)) u.nodes) t (altered t now act) now
+    (told t now act) kept (altered_held t now who act opening start blobs body sound known kept stores)
 
 -- ---- the tickets
 
 abbrev HasGoalSound : Tables → Ticket → Type 0
 HasGoalSound t ticket = IsGoalSound t ticket.goal
 
-abbrev HasGoalHeld : List Row → Blobs → Ticket → Type 0
-HasGoalHeld opening blobs ticket = IsGoalHeld opening blobs ticket.goal
+abbrev HasGoalHeld : List Row → Blobs → Blobs → Ticket → Type 0
+HasGoalHeld opening start blobs ticket = IsGoalHeld opening start blobs ticket.goal
 
-goal_kept : (t : Tables) (opening : List Row) (blobs more : Blobs) (goal : Goal) → KeepsGiven t.meta.next_blob blobs more
-    → IsGoalSound t goal → IsGoalHeld opening blobs goal → IsGoalHeld opening more goal
-goal_kept t opening blobs more (Serve content) keeps sound held = pieces_kept t opening blobs more content keeps sound held
-goal_kept t opening blobs more (Store by key size) keeps sound held = tt
+goal_kept : (t : Tables) (opening : List Row) (start blobs more : Blobs) (goal : Goal) → KeepsGiven t.meta.next_blob blobs more
+    → IsGoalSound t goal → IsGoalHeld opening start blobs goal → IsGoalHeld opening start more goal
+goal_kept t opening start blobs more (Serve content) keeps sound held = pieces_kept t opening start blobs more content keeps sound held
+goal_kept t opening start blobs more (Store by key size) keeps sound held = tt
 
-tickets_kept : (t : Tables) (opening : List Row) (blobs more : Blobs) (tickets : List Ticket) → KeepsGiven t.meta.next_blob blobs more
-    → All (HasGoalSound t) tickets → All (HasGoalHeld opening blobs) tickets → All (HasGoalHeld opening more) tickets
-tickets_kept t opening blobs more tickets keeps sound held = λ k d within.
-    goal_kept t opening blobs more (get_or tickets k d).goal keeps (sound k d within) (held k d within)
+tickets_kept : (t : Tables) (opening : List Row) (start blobs more : Blobs) (tickets : List Ticket) → KeepsGiven t.meta.next_blob blobs more
+    → All (HasGoalSound t) tickets → All (HasGoalHeld opening start blobs) tickets → All (HasGoalHeld opening start more) tickets
+tickets_kept t opening start blobs more tickets keeps sound held = λ k d within.
+    goal_kept t opening start blobs more (get_or tickets k d).goal keeps (sound k d within) (held k d within)
 
-granted_held : (t : Tables) (now : ℕ) (who : Option ℕ) (act : Allowed) (opening : List Row) (blobs : Blobs) → Known t now who act
-    → All (IsRowHeld opening blobs) t.nodes → IfSome (goal_of act) (IsGoalHeld opening blobs)
-granted_held t now who (allowed.Get node content) opening blobs known all =
-    subst (All (IsHeld opening blobs)) (sym known.of_node) (content_has (IsHeld opening blobs) t.nodes node all)
-granted_held t now who act opening blobs known all = tt
+granted_held : (t : Tables) (now : ℕ) (who : Option ℕ) (act : Allowed) (opening : List Row) (start blobs : Blobs) → Known t now who act
+    → All (IsRowHeld opening start blobs) t.nodes → IfSome (goal_of act) (IsGoalHeld opening start blobs)
+granted_held t now who (allowed.Get node content) opening start blobs known all =
+    subst (All (IsHeld opening start blobs)) (sym known.of_node) (content_has (IsHeld opening start blobs) t.nodes node all)
+granted_held t now who act opening start blobs known all = tt
 
 -- ---- the state
 
 -- what the nodes and the granted GETs name is held
-abbrev Holds : List Row → Blobs → Tables → List Ticket → Type 0
-Holds opening blobs t tickets = All (IsRowHeld opening blobs) t.nodes × All (HasGoalHeld opening blobs) tickets
+abbrev Holds : List Row → Blobs → Blobs → Tables → List Ticket → Type 0
+Holds opening start blobs t tickets = All (IsRowHeld opening start blobs) t.nodes × All (HasGoalHeld opening start blobs) tickets
 
 -- so blobs are whole after an act
-act_whole : (t : Tables) (tickets : List Ticket) (seat now : ℕ) (who : Option ℕ) (act : Allowed) (opening : List Row) (blobs : Blobs) (body : List ℕ)
+act_whole : (t : Tables) (tickets : List Ticket) (seat now : ℕ) (who : Option ℕ) (act : Allowed) (opening : List Row)
+    (start blobs : Blobs) (body : List ℕ)
     → AreSound t → All (HasGoalSound t) tickets → Known t now who act → StoresBody t.meta.next_blob body act
-    → Holds opening blobs t tickets → Holds opening (with_blob blobs (blob_of act) body) (changed t now act) (with_goal tickets seat (goal_of act))
-act_whole t tickets seat now who act opening blobs body sound goals known stores whole =
+    → Holds opening start blobs t tickets
+    → Holds opening start (with_blob blobs (blob_of act) body) (changed t now act) (with_goal tickets seat (goal_of act))
+act_whole t tickets seat now who act opening start blobs body sound goals known stores whole =
     let more = with_blob blobs (blob_of act) body in
     let keeps = given_kept t.meta.next_blob blobs (blob_of act) body (act_next t now who act known) in
-    let kept = nodes_kept t opening blobs more keeps sound.nodes whole.0 in (
-      changed_held t now who act opening blobs body sound known kept stores,
-      tickets_with (HasGoalHeld opening more) tickets seat (goal_of act) (tickets_kept t opening blobs more tickets keeps goals whole.1)
-          (granted_held t now who act opening more known kept),
+    let kept = nodes_kept t opening start blobs more keeps sound.nodes whole.0 in (
+      changed_held t now who act opening start blobs body sound known kept stores,
+      tickets_with (HasGoalHeld opening start more) tickets seat (goal_of act)
+          (tickets_kept t opening start blobs more tickets keeps goals whole.1)
+          (granted_held t now who act opening start more known kept),
     )
 
 pub stays_whole : StaysWhole
-stays_whole n s e body opening blobs sound may brings whole =
-    let first : Holds opening blobs s.tables (without s e.seat e.event).tickets =
-    (whole.nodes, tickets_left (HasGoalHeld opening blobs) s e.seat e.event whole.tickets) in
+stays_whole n s e body opening start blobs sound may brings whole =
+    let first : Holds opening start blobs s.tables (without s e.seat e.event).tickets =
+    (whole.nodes, tickets_left (HasGoalHeld opening start blobs) s e.seat e.event whole.tickets) in
     let goals = tickets_left (HasGoalSound s.tables) s e.seat e.event sound.goals in
-    let h = entry_has (λ t tickets blob. Holds opening (with_blob blobs blob body) t tickets) s e e.mark first
+    let h = entry_has (λ t tickets blob. Holds opening start (with_blob blobs blob body) t tickets) s e e.mark first
     (λ act is.
-    act_whole s.tables _ e.seat e.moment _ act opening blobs body sound.rows goals
+    act_whole s.tables _ e.seat e.moment _ act opening start blobs body sound.rows goals
     (known_change s e.seat e.moment e.event act sound may.asked is)
     (subst (Decides s.tables body) is (decision_stores s e.seat e.moment e.event body brings)) first) in
     record { nodes = h.0; tickets = h.1 }

@@ -5,6 +5,7 @@ use Rattle.std.specs.List.{All}
 use Rattle.std.specs.Option.{option_and_then, option_map_or}
 use Rattle.std.proofs.lemmas.Bool.{both_ways, cond_both, eq-eqb, eqb-true, false≢true, ne_eqb, or_cases, or_left, or_right}
 use Rattle.std.proofs.lemmas.Option.{none-some, option_and_then_some, same_Some}
+use Rattle.nf_base.specs.declared.limits.TheConstants.{MAX_DEPTH}
 use Rattle.nf_base.specs.declared.rows.NodeRow.{NodeRow}
 use Rattle.nf_base.specs.declared.rows.Place.TheVariants.{Inside}
 pub use Rattle.nf_defs.proofs.Walks.{node_row_each}
@@ -64,13 +65,15 @@ climbs_under (suc j) (suc m) rows node top few is =
     (option_and_then_some (climb rows j) (parent_of rows node) top is
     (λ parent above is. rw above (climbs_under j m rows parent top (omega arith) is)))
 
-pub under_climb : (rows : List NodeRow) (node top : ℕ) → is_under rows node top ≡ true → (j : ℕ) × (j ≤ 64) × (climb rows j node ≡ Some top)
+pub under_climb : (rows : List NodeRow) (node top : ℕ) → is_under rows node top ≡ true
+    → (j : ℕ) × (j ≤ MAX_DEPTH) × (climb rows j node ≡ Some top)
 unfolding is_under
-under_climb rows node top is = under_climbs 64 rows node top is
+under_climb rows node top is = under_climbs MAX_DEPTH rows node top is
 
-pub climb_under : (j : ℕ) (rows : List NodeRow) (node top : ℕ) → j ≤ 64 → climb rows j node ≡ Some top → is_under rows node top ≡ true
+pub climb_under : (j : ℕ) (rows : List NodeRow) (node top : ℕ) → j ≤ MAX_DEPTH → climb rows j node ≡ Some top
+    → is_under rows node top ≡ true
 unfolding is_under
-climb_under j rows node top few is = climbs_under j 64 rows node top few is
+climb_under j rows node top few is = climbs_under j MAX_DEPTH rows node top few is
 
 -- no climb goes further than one that ends where no folder is above
 pub climbs_no_further : (k i : ℕ) (rows : List NodeRow) (node root top : ℕ)
@@ -123,10 +126,10 @@ depth_steps (suc k) (suc m) rows node root ends few is =
     option_and_then_some (climb rows k) (parent_of rows node) root is
     (λ parent above is. rw above (omega (arith, depth_steps k m rows parent root ends (omega arith) is)))
 
-pub depth_is : (k : ℕ) (rows : List NodeRow) (node root : ℕ) → parent_of rows root ≡ None → k ≤ 64 → climb rows k node ≡ Some root
+pub depth_is : (k : ℕ) (rows : List NodeRow) (node root : ℕ) → parent_of rows root ≡ None → k ≤ MAX_DEPTH → climb rows k node ≡ Some root
     → depth rows node ≡ k
 unfolding depth
-depth_is k rows node root ends few is = depth_steps k 64 rows node root ends few is
+depth_is k rows node root ends few is = depth_steps k MAX_DEPTH rows node root ends few is
 
 -- ---- the rows whose numbers pass a test
 

@@ -6,6 +6,7 @@ use Rattle.std.proofs.lemmas.List.{get_or-append-add}
 use Rattle.std.proofs.lemmas.List.Elements.{All-append, All-weaker}
 use Rattle.std.proofs.lemmas.List.Sums.{sum_by-append, sum_by-cons}
 use Rattle.std.proofs.lemmas.Option.{get_or_from_slice_get, same_Some, slice_get-get_or, slice_get_within}
+use Rattle.nf_base.specs.declared.limits.TheConstants.{MAX_NODES, MAX_STORED_PIECES}
 use Rattle.nf_base.specs.declared.content.Piece.{Piece}
 use Rattle.nf_base.specs.declared.rows.NodeRow.{NodeRow}
 use Rattle.nf_base.specs.declared.rows.Place.{Place}
@@ -285,8 +286,8 @@ module _ (t : Tables) (now : ℕ) (who : Option ℕ) (transfer : Transfer) (name
   -- ---- all rows
 
   joined_sound : t.meta.last ≤ now → AllPairs (λ (a b : ℕ). a ≢ b) (walk_of t.nodes transfer.node)
-      → length t.nodes + length (walk_of t.nodes transfer.node) ≤ 262144
-      → piece_count t.nodes + pieces_in t.nodes (walk_of t.nodes transfer.node) ≤ 1048576 → AreSound made
+      → length t.nodes + length (walk_of t.nodes transfer.node) ≤ MAX_NODES
+      → piece_count t.nodes + pieces_in t.nodes (walk_of t.nodes transfer.node) ≤ MAX_STORED_PIECES → AreSound made
   joined_sound later once few_nodes few_pieces =
       let kept = kept_joined left.nodes rows in
       let counts = counts_cleared t.nodes transfer.replaced in

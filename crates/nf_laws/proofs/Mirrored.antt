@@ -1,9 +1,10 @@
 -- A copy mirrors what it is a copy of: the k-th copy is that of the k-th node of the walk.
-use Rattle.std.proofs.Common.{ℕ, zero, suc, ◌+◌, ◌<◌, ◌≡◌, ◌⊎◌, List, [], ◌∷◌, ◌++◌, Option, Some, length, ⊎_elim, inl, inr, refl, sym, ap, subst, ◌∙◌, arith, length-append}
+use Rattle.std.proofs.Common.{ℕ, zero, suc, ◌+◌, ◌-◌, ◌<◌, ◌≡◌, ◌⊎◌, List, [], ◌∷◌, ◌++◌, Option, Some, length, ⊎_elim, inl, inr, refl, sym, ap, subst, ◌∙◌, arith, length-append}
 use Rattle.std.specs.Prelude.{slice_get}
 use Rattle.std.specs.List.{All, flat_map}
 use Rattle.std.proofs.lemmas.List.Elements.{All-head, All-tail}
 use Rattle.std.proofs.lemmas.Option.{none-some, same_Some}
+use Rattle.nf_base.specs.declared.limits.TheConstants.{MAX_DEPTH}
 use Rattle.nf_base.specs.declared.rows.NodeRow.{NodeRow}
 use Rattle.nf_base.specs.declared.rows.Place.TheVariants.{Inside}
 use Rattle.nf_defs.proofs.Walks.{AreRising, IsChildOf, children_are}
@@ -224,7 +225,8 @@ unfolding walk_of
 mirrored t now who rows replaced sound known =
     let transfer = known.transfer in
     let of = path_own t who (At transfer.node) transfer.node sound known.known.source refl in
-    let copies = renamed_are t.nodes (owner_of t.nodes transfer.folder) now sound.rising 63 transfer.folder t.meta.next_node transfer.node
+    let copies = renamed_are t.nodes (owner_of t.nodes transfer.folder) now sound.rising (MAX_DEPTH - 1) transfer.folder t.meta.next_node
+    transfer.node
     known.name of.row of.there in
     subst (λ (rows : List NodeRow). Mirrors t now transfer known.name rows) (sym known.copies)
     (record { all = copies.all; each = λ k copy is. copy_is t now transfer known.name k copy (copies.each k copy is) })

@@ -4,6 +4,7 @@ use Rattle.std.specs.Option.{option_and_then, option_map_or}
 use Rattle.std.proofs.lemmas.Bool.{both_ways, cases_Bool, false_from_ne_true, ne_eqb}
 use Rattle.std.proofs.lemmas.List.Elements.{All-contains, All-weaker}
 use Rattle.std.proofs.lemmas.Option.{same_Some}
+use Rattle.nf_base.specs.declared.limits.TheConstants.{MAX_DEPTH}
 use Rattle.nf_base.specs.declared.rows.NodeRow.{NodeRow}
 use Rattle.nf_base.specs.declared.rows.Place.{Place}
 use Rattle.nf_base.specs.declared.rows.Place.TheVariants.{Inside, Root, Trash}
@@ -67,7 +68,7 @@ record Fits (u : Tables) (node folder : ℕ) (name : List ℕ) (old : NodeRow) :
   free : child_of u.nodes folder name ≡ None
   outside : is_under u.nodes folder node ≡ false
   shallow : (j below : ℕ) (row : NodeRow) → node_row u.nodes below ≡ Some row → climb u.nodes j below ≡ Some node
-      → j + 1 + depth u.nodes folder ≤ 64
+      → j + 1 + depth u.nodes folder ≤ MAX_DEPTH
 
 abbrev relink : Tables → ℕ → ℕ → List ℕ → Tables
 relink u node folder name = record u { nodes = relinking u.nodes node folder name }

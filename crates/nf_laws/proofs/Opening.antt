@@ -13,7 +13,10 @@ use Rattle.nf_base.specs.declared.rows.NodeRow.{NodeRow}
 use Rattle.nf_base.specs.declared.rows.Row.{Row}
 use Rattle.nf_defs.proofs.Loads.{nodes_given}
 use Rattle.nf_defs.specs.Prelude.{blob_at, Blobs, tables_of}
-use Rattle.nf_laws.specs.Wholes.{IsGoalHeld, IsHeld, IsNamed, IsThere, OpensWhole}
+use Rattle.nf_laws.specs.Wholes.{IsGoalHeld, IsHeld, IsNamed, IsThere, IsWhole, OpensWhole}
+use Rattle.nf_words.specs.Prelude.{State}
+use Rattle.nf_words.specs.declared.answer.Goal.{Goal}
+use Rattle.nf_words.specs.declared.answer.Goal.TheVariants.{Serve, Store}
 use Rattle.nf_words.specs.declared.history.Ticket.{Ticket}
 
 -- a piece's bytes are there or they aren't
@@ -40,19 +43,35 @@ there_or_not blobs piece = found (blob_at blobs piece.blob) refl
             inr (λ is. both_ways (length bytes == piece.size) size (eq-eqb (length bytes) piece.size (ap length (same is) ∙ is.size)))
 
 -- so one that the rows name is there or damaged
-named_held : (rows : List Row) (blobs : Blobs) (piece : Piece) → IsNamed rows piece → IsHeld rows blobs piece
+named_held : (rows : List Row) (blobs : Blobs) (piece : Piece) → IsNamed rows piece → IsHeld rows blobs blobs piece
 named_held rows blobs piece named =
     elim (there_or_not blobs piece) [
       | inl there ↦ inl there
       | inr broken ↦ inr (record { named = named; broken = broken })
     ]
 
+-- blobs that are whole, but for what was damaged at the start, are so but for what is damaged now
+held_now : (rows : List Row) (start blobs : Blobs) (piece : Piece) → IsHeld rows start blobs piece → IsHeld rows blobs blobs piece
+held_now rows start blobs piece (inl there) = inl there
+held_now rows start blobs piece (inr damaged) = named_held rows blobs piece damaged.named
+
+goal_now : (rows : List Row) (start blobs : Blobs) (goal : Goal) → IsGoalHeld rows start blobs goal → IsGoalHeld rows blobs blobs goal
+goal_now rows start blobs (Serve content) held = λ k d within. held_now rows start blobs (get_or content k d) (held k d within)
+goal_now rows start blobs (Store by key length) held = tt
+
+pub whole_now : (rows : List Row) (start : Blobs) (s : State) (blobs : Blobs) → IsWhole rows start s blobs → IsWhole rows blobs s blobs
+whole_now rows start s blobs whole = record {
+  nodes = λ k d within i e inside.
+      held_now rows start blobs (get_or (get_or s.tables.nodes k d).content i e) (whole.nodes k d within i e inside);
+  tickets = λ k d within. goal_now rows start blobs (get_or s.tickets k d).goal (whole.tickets k d within);
+}
+
 pub opens_whole : OpensWhole
 opens_whole rows blobs = record {
   nodes = λ k d within.
       let row : NodeRow = get_or (tables_of rows).nodes k d in
-      All-weaker (Contains row.content) (IsHeld rows blobs)
+      All-weaker (Contains row.content) (IsHeld rows blobs blobs)
       (λ piece named. named_held rows blobs piece (record { row = row; among = nodes_given rows k d within; named = named }))
       row.content (All-contains_itself row.content);
-  tickets = All-nil (λ (ticket : Ticket). IsGoalHeld rows blobs ticket.goal);
+  tickets = All-nil (λ (ticket : Ticket). IsGoalHeld rows blobs blobs ticket.goal);
 }

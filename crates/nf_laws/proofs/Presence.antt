@@ -5,6 +5,7 @@ use Rattle.std.proofs.lemmas.Bool.{eqb-true, false_from_ne_true, false≢true, o
 use Rattle.std.proofs.lemmas.List.Elements.{All-contains}
 use Rattle.std.proofs.lemmas.List.Folds.{Any-from_list_any}
 use Rattle.std.proofs.lemmas.Option.{option_and_then_some, same_Some}
+use Rattle.nf_base.specs.declared.limits.TheConstants.{MAX_DEPTH}
 use Rattle.nf_base.specs.declared.rows.NodeRow.{NodeRow}
 use Rattle.nf_defs.specs.Prelude.{climb, depth, is_present, is_root, is_root_place, is_rooted, is_rooted_within, is_under, node_row, parent_of, Tables, user_row}
 use Rattle.nf_laws.proofs.Climbs.{some_there}
@@ -37,7 +38,7 @@ there_rooted t node row sound there =
     (found_is (λ (row : NodeRow). IsSome (user_row t.users row.owner)) (λ row. row.id == node) t.nodes row (owners_there t sound) there).1 in
     let root = (found_is (HasRoot t) (λ user. user.id == row.owner) t.users owner.0 sound.roots owner.1).1 in
     let is : is_root t.nodes (root_of_user t row.owner) ≡ true = rw (owner.1, root.there) (ap is_root_place root.place) in
-    climbs_rooted (depth t.nodes node) 64 t.nodes node (root_of_user t row.owner) up.1 up.0 is
+    climbs_rooted (depth t.nodes node) MAX_DEPTH t.nodes node (root_of_user t row.owner) up.1 up.0 is
 
 there_present : (t : Tables) (node : ℕ) (row : NodeRow) → AreSound t → node_row t.nodes node ≡ Some row → is_present t.users t.nodes node ≡ true
 there_present t node row sound there =
@@ -75,5 +76,5 @@ present_there = record {
 
     rooted : (t : Tables) (node : ℕ) → AreSound t → (o : Option NodeRow) → node_row t.nodes node ≡ o
         → is_rooted t.nodes node ≡ is_present t.users t.nodes node
-    rooted t node sound None e = gone_rooted 64 t.nodes node e ∙ sym (gone_present t node sound e)
+    rooted t node sound None e = gone_rooted MAX_DEPTH t.nodes node e ∙ sym (gone_present t node sound e)
     rooted t node sound (Some row) e = there_rooted t node row sound e ∙ sym (there_present t node row sound e)

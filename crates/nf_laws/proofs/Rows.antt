@@ -6,6 +6,7 @@ use Rattle.std.proofs.lemmas.Bool.{cond_both, eqb-true, ne_eqb}
 use Rattle.std.proofs.lemmas.List.Elements.{All-cons, All-head, All-nil, All-tail, All-weaker}
 use Rattle.std.proofs.lemmas.List.Folds.{find-append}
 use Rattle.std.proofs.lemmas.Option.{none-some, option_and_then_some, same_Some}
+use Rattle.nf_base.specs.declared.limits.TheConstants.{MAX_DEPTH}
 use Rattle.nf_base.specs.declared.changes.Change.{Change}
 use Rattle.nf_base.specs.declared.content.Piece.{Piece}
 use Rattle.nf_base.specs.declared.rows.MetaRow.{MetaRow}
@@ -184,7 +185,7 @@ pieces_kept t made pieces grows =
 -- a node leads to its owner's root
 pub record IsRooted (t : Tables) (node : ℕ) (row : NodeRow) : Type 0 where
   pub steps : ℕ
-  pub shallow : steps ≤ 64
+  pub shallow : steps ≤ MAX_DEPTH
   pub climbs : climb t.nodes steps node ≡ Some (root_of_user t row.owner)
 
 -- a sound row stays so in other tables and in another place, where it is rooted in them

@@ -5,6 +5,7 @@ use Rattle.std.specs.List.{All}
 use Rattle.std.proofs.lemmas.Bool.{cases_Bool, eqb-true, ne_eqb}
 use Rattle.std.proofs.lemmas.List.Elements.{All-head, All-tail, All-weaker}
 use Rattle.std.proofs.lemmas.List.Sums.{sum_by-cons, sum_by-le}
+use Rattle.nf_base.specs.declared.limits.TheConstants.{MAX_BODY}
 use Rattle.nf_base.specs.declared.content.Piece.{Piece}
 use Rattle.nf_base.specs.declared.rows.NodeRow.{NodeRow}
 use Rattle.nf_defs.specs.Prelude.{piece_count, Tables, walk_of}
@@ -75,17 +76,17 @@ within_all (row ∷ rows) nodes distinct =
 
 -- ---- sums over all rows
 
--- 16,777,216 bytes a piece at most
+-- `MAX_BODY` bytes a piece at most
 abbrev HasFew : NodeRow → Type 0
-HasFew row = weight row ≤ length row.content * 16777216
+HasFew row = weight row ≤ length row.content * MAX_BODY
 
 few_each : (t : Tables) → AreSound t → All HasFew t.nodes
 few_each t sound =
     All-weaker (IsNodeSound t) HasFew (λ row is.
-    sum_by-le (λ piece. piece.size) 16777216 row.content
-    (All-weaker (IsPieceSound t) (λ (piece : Piece). piece.size ≤ 16777216) (λ piece h. h.few) row.content is.pieces)) t.nodes sound.nodes
+    sum_by-le (λ piece. piece.size) MAX_BODY row.content
+    (All-weaker (IsPieceSound t) (λ (piece : Piece). piece.size ≤ MAX_BODY) (λ piece h. h.few) row.content is.pieces)) t.nodes sound.nodes
 
-few_all : (rows : List NodeRow) → All HasFew rows → sum_by weight rows ≤ piece_count rows * 16777216
+few_all : (rows : List NodeRow) → All HasFew rows → sum_by weight rows ≤ piece_count rows * MAX_BODY
 few_all [] few = omega arith
 few_all (row ∷ rows) few =
     omega (

@@ -7,6 +7,7 @@ use Rattle.std.proofs.lemmas.Bool.{cases_lt, false_from_ne_true, false≢true, n
 use Rattle.std.proofs.lemmas.List.{length-map}
 use Rattle.std.proofs.lemmas.Option.{option_and_then_some}
 use Rattle.std.proofs.lemmas.List.Elements.{All-head, All-tail, All-weaker}
+use Rattle.nf_base.specs.declared.limits.TheConstants.{MAX_DEPTH}
 use Rattle.nf_base.specs.declared.changes.Change.TheVariants.{Put}
 use Rattle.nf_base.specs.declared.rows.NodeRow.{NodeRow}
 use Rattle.nf_base.specs.declared.rows.Row.TheVariants as rows
@@ -227,7 +228,7 @@ unfolding walk_of
 moved_rows t who transfer name sound known = record {
   itself = row_itself rest transfer.node (relinked transfer.folder name) (λ row. refl)
       ∙ ap (option_map (relinked transfer.folder name)) (row_cleared t.nodes transfer.replaced transfer.node known.apart);
-  below = same_walk 64 t who transfer name 0 transfer.node sound known refl;
+  below = same_walk MAX_DEPTH t who transfer name 0 transfer.node sound known refl;
   gone = λ node goes. after node (is_gone node goes) ∙ row_gone t.nodes transfer.replaced node goes;
   others = λ node other stays. after node other ∙ row_cleared t.nodes transfer.replaced node stays;
 }

@@ -1,4 +1,4 @@
--- Climbs in sound tables: none from a node that is there takes more than 64 steps, and a folder is one less deep than what is in it.
+-- Climbs in sound tables: none from a node that is there takes more than `MAX_DEPTH` steps, and a folder is one less deep than what is in it.
 -- So the words about the tree are as the plain ones.
 use Rattle.std.proofs.Common.{ℕ, suc, zero, ◌+◌, ◌≡◌, ◌≢◌, ◌≤◌, true, false, List, Option, None, Some, refl, ap, subst, ◌∙◌, arith, ◌==◌, Bool, [], ◌∷◌, get_or}
 use Rattle.std.specs.Option.{option_and_then, option_map_or}
@@ -8,6 +8,7 @@ use Rattle.std.proofs.lemmas.Bool.{both_ways, false_from_ne_true}
 use Rattle.std.proofs.lemmas.Option.{none-some, option_and_then_some, same_Some}
 use Rattle.std.proofs.lemmas.List.Recursion.{max_bounds}
 use Rattle.std.proofs.lemmas.List.Folds.{list_any_at}
+use Rattle.nf_base.specs.declared.limits.TheConstants.{MAX_DEPTH}
 use Rattle.nf_base.specs.declared.rows.NodeRow.{NodeRow}
 use Rattle.nf_base.specs.declared.rows.Place.{Place}
 use Rattle.nf_base.specs.declared.rows.Place.TheVariants.{Inside, Root, Trash}
@@ -31,8 +32,8 @@ rooted t node row sound there =
       climbs = subst (λ (n : ℕ). climb t.nodes h.1.steps n ≡ Some (root_of_user t row.owner)) h.0 h.1.present;
     }
 
--- no climb is longer than 64
-pub climb_short : (j : ℕ) (t : Tables) (node top : ℕ) → AreSound t → climb t.nodes j node ≡ Some top → j ≤ 64
+-- no climb is longer than `MAX_DEPTH`
+pub climb_short : (j : ℕ) (t : Tables) (node top : ℕ) → AreSound t → climb t.nodes j node ≡ Some top → j ≤ MAX_DEPTH
 climb_short zero t node top sound is = omega arith
 climb_short (suc j) t node top sound is =
     option_and_then_some (climb t.nodes j) (parent_of t.nodes node) top is (λ parent above rest.
@@ -50,7 +51,7 @@ never_climbs t node top sound outside j is = both_ways (is_under t.nodes node to
 
 -- so many folders up from a node as it is deep is its owner's root
 pub climbs_depth : (t : Tables) (node : ℕ) (row : NodeRow) → AreSound t → node_row t.nodes node ≡ Some row
-    → (climb t.nodes (depth t.nodes node) node ≡ Some (root_of_user t row.owner)) × (depth t.nodes node ≤ 64)
+    → (climb t.nodes (depth t.nodes node) node ≡ Some (root_of_user t row.owner)) × (depth t.nodes node ≤ MAX_DEPTH)
 climbs_depth t node row sound there =
     let r = rooted t node row sound there in
     let deep = depth_is r.steps t.nodes node (root_of_user t row.owner) (none_above t row.owner sound) r.shallow r.climbs in

@@ -6,6 +6,7 @@ use Rattle.std.proofs.lemmas.List.Elements.{All-append, All-contains, All-contai
 use Rattle.std.proofs.lemmas.List.Folds.{Any-from_list_any, list_any_at}
 use Rattle.std.proofs.lemmas.List.Kept.{AllPairs-cons, AllPairs-filter}
 use Rattle.std.proofs.lemmas.Option.{same_Some}
+use Rattle.nf_base.specs.declared.limits.TheConstants.{MAX_DEPTH}
 use Rattle.nf_base.specs.declared.rows.NodeRow.{NodeRow}
 use Rattle.nf_defs.proofs.ByName.{AllPairs-by_name}
 use Rattle.nf_defs.proofs.Walks.{Contains-from_flat, children_are, climbs_walk, walk_climbs, walk_within_climbs}
@@ -152,7 +153,7 @@ distinct_walk (suc k) t node sound =
 
 pub walk_distinct : (t : Tables) (top : ℕ) → AreSound t → AreDistinct (walk_of t.nodes top)
 unfolding walk_of
-walk_distinct t top sound = distinct_walk 64 t top sound
+walk_distinct t top sound = distinct_walk MAX_DEPTH t top sound
 
 pub walks_take : WalksTakeAllUnder
 walks_take = record {

@@ -4,6 +4,7 @@ use Rattle.std.specs.Cmp.Lexicographic.{slice_cmp}
 use Rattle.std.specs.Option.{option_map_or}
 use Rattle.std.specs.Ordering.{nat_cmp}
 use Rattle.std.specs.declared.cmp.Ordering.TheVariants.{Less}
+use Rattle.nf_base.specs.declared.limits.TheConstants.{MAX_DEPTH}
 use Rattle.nf_base.specs.FreeNames.{is_taken}
 use Rattle.nf_base.specs.declared.rows.NodeRow.{NodeRow}
 use Rattle.nf_defs.specs.Prelude.{child_of, children_of, climb, depth, is_present, is_rooted, is_under, node_row, parent_of, Tables, taken_names, walk_of}
@@ -15,7 +16,7 @@ pub data Under (rows : List NodeRow) (top : ℕ) : ℕ → Type 0 where
   itself : Under rows top top
   inside : (node parent : ℕ) → parent_of rows node ≡ Some parent → Under rows top parent → Under rows top node
 
--- the test says under exactly where the node is, so its bound of 64 folders cuts off none
+-- the test says under exactly where the node is, so its bound of `MAX_DEPTH` folders cuts off none
 abbrev pub UnderIsDerived : Type 0
 UnderIsDerived =
     (t : Tables) (top : ℕ) → AreSound t
@@ -35,12 +36,12 @@ abbrev pub NamesAreTaken : Type 0
 NamesAreTaken =
     (rows : List NodeRow) (folder : ℕ) (name : List ℕ) → is_some (child_of rows folder name) ≡ is_taken name (taken_names rows folder)
 
--- so many folders up from a node as it is deep is its owner's root, and no node is deeper than 64
+-- so many folders up from a node as it is deep is its owner's root, and no node is deeper than `MAX_DEPTH`
 abbrev pub DepthIsClimbed : Type 0
 DepthIsClimbed =
     (t : Tables) → AreSound t
     → All (λ (row : NodeRow).
-    (climb t.nodes (depth t.nodes row.id) row.id ≡ Some (root_of_user t row.owner)) × (depth t.nodes row.id ≤ 64)) t.nodes
+    (climb t.nodes (depth t.nodes row.id) row.id ≡ Some (root_of_user t row.owner)) × (depth t.nodes row.id ≤ MAX_DEPTH)) t.nodes
 
 -- no folder is under a node that is in it
 abbrev pub NoRings : Type 0
@@ -63,7 +64,7 @@ pub record ChildrenAreByName : Type 0 where
       → AllPairs (λ (a b : ℕ). slice_cmp nat_cmp (name_of t.nodes a) (name_of t.nodes b) ≡ Less) (children_of t.nodes folder)
   pub once : (t : Tables) (folder : ℕ) → AreSound t → AllPairs (λ (a b : ℕ). a ≢ b) (children_of t.nodes folder)
 
--- the size of a node is the sum of the bytes of all that is under it: 1,048,576 pieces of 16,777,216 bytes are within what can be told
+-- the size of a node is the sum of the bytes of all that is under it: `MAX_STORED_PIECES` pieces of `MAX_BODY` bytes are within what can be told
 abbrev pub SizesAreSums : Type 0
 SizesAreSums =
     (t : Tables) (node : ℕ) → AreSound t → size_of t.nodes node ≡ sum_by (bytes_of t.nodes) (walk_of t.nodes node)

@@ -32,31 +32,31 @@ pub record IsNamed (rows : List Row) (piece : Piece) : Type 0 where
   pub among : Contains rows (Node row)
   pub named : Contains row.content piece
 
--- a piece that the rows of the opening name, and whose bytes the store hasn't
+-- a piece that the rows of the opening name, and whose bytes the store hadn't then
 pub record IsDamaged (opening : List Row) (blobs : Blobs) (piece : Piece) : Type 0 where
   pub named : IsNamed opening piece
   pub broken : IsThere blobs piece → ⊥
 
--- it is there, but for damage
-abbrev pub IsHeld : List Row → Blobs → Piece → Type 0
-IsHeld opening blobs piece = IsThere blobs piece ⊎ IsDamaged opening blobs piece
+-- it is there, but for what was damaged when the store had the blobs of the start
+abbrev pub IsHeld : List Row → Blobs → Blobs → Piece → Type 0
+IsHeld opening start blobs piece = IsThere blobs piece ⊎ IsDamaged opening start piece
 
-abbrev pub IsGoalHeld : List Row → Blobs → Goal → Type 0
-IsGoalHeld opening blobs (Serve content) = All (IsHeld opening blobs) content
-IsGoalHeld opening blobs (Store by key length) = Unit {0}
+abbrev pub IsGoalHeld : List Row → Blobs → Blobs → Goal → Type 0
+IsGoalHeld opening start blobs (Serve content) = All (IsHeld opening start blobs) content
+IsGoalHeld opening start blobs (Store by key length) = Unit {0}
 
--- whole for a state, but for what was damaged at the opening: each piece that a node or a granted GET names is there
-pub record IsWhole (opening : List Row) (s : State) (blobs : Blobs) : Type 0 where
-  pub nodes : All (λ (row : NodeRow). All (IsHeld opening blobs) row.content) s.tables.nodes
-  pub tickets : All (λ (ticket : Ticket). IsGoalHeld opening blobs ticket.goal) s.tickets
+-- whole for a state, but for what was damaged at the start: each piece that a node or a granted GET names is there
+pub record IsWhole (opening : List Row) (start : Blobs) (s : State) (blobs : Blobs) : Type 0 where
+  pub nodes : All (λ (row : NodeRow). All (IsHeld opening start blobs) row.content) s.tables.nodes
+  pub tickets : All (λ (ticket : Ticket). IsGoalHeld opening start blobs ticket.goal) s.tickets
 
 -- nothing that the rows name is damaged
 abbrev pub IsSafe : List Row → Blobs → Type 0
 IsSafe opening blobs = (piece : Piece) → IsNamed opening piece → IsThere blobs piece
 
--- any blobs are whole for the rows that a run is opened with, but for damage
+-- any blobs are whole for the rows that a run is opened with, but for what is damaged then
 abbrev pub OpensWhole : Type 0
-OpensWhole = (rows : List Row) (blobs : Blobs) → IsWhole rows (opened rows) blobs
+OpensWhole = (rows : List Row) (blobs : Blobs) → IsWhole rows blobs (opened rows) blobs
 
 -- ---- a step
 
@@ -79,9 +79,9 @@ blob_in s e = blob_under s e e.mark
 -- blobs that are whole are whole after each entry, with the bytes that it brings under the number that it stores them at
 abbrev pub StaysWhole : Type 0
 StaysWhole =
-    (n : ℕ) (s : State) (e : Entry) (body : List ℕ) (opening : List Row) (blobs : Blobs)
-    → IsSound s → MayCome n s e → Brings body e.event → IsWhole opening s blobs
-    → IsWhole opening (after s e) (with_blob blobs (blob_in s e) body)
+    (n : ℕ) (s : State) (e : Entry) (body : List ℕ) (opening : List Row) (start blobs : Blobs)
+    → IsSound s → MayCome n s e → Brings body e.event → IsWhole opening start s blobs
+    → IsWhole opening start (after s e) (with_blob blobs (blob_in s e) body)
 
 -- that number is the next, and every number that is given stays as it was
 pub record BlobsAreNew : Type 0 where

@@ -26,7 +26,7 @@ pub fn names_are_taken()
     ensures { NamesAreTaken }
 {}
 
-/// A node's depth is how many folders up its owner's root is, 64 at most.
+/// A node's depth is how many folders up its owner's root is, `MAX_DEPTH` at most.
 pub fn depth_is_climbed()
     ensures { DepthIsClimbed }
 {}

@@ -6,10 +6,7 @@ ghost use Rattle.nf_defs.specs.Tables.{tables_of};
 ghost use Rattle.nf_rules.specs.Rules.{are_counters, are_numbers, first_index, has_ungiven_blob, is_given, is_later, is_lavish, is_place_given};
 
 use crate::first::first;
-use nf_base::{BlobId, MetaRow, NodeId, NodeRow, Piece, Place, Row};
-
-/// The most bytes that a user's quota may be.
-const MOST_QUOTA: u64 = 1_099_511_627_776;
+use nf_base::{BlobId, MAX_QUOTA, MetaRow, NodeId, NodeRow, Piece, Place, Row};
 
 /// The first row of a kind that isn't built yet.
 pub(crate) fn first_later(rows: &[Row]) -> Option<usize>
@@ -126,7 +123,7 @@ fn is_lavish(row: &Row) -> bool
     ensures { result ≡ is_lavish row.now }
 {
     match row {
-        Row::User(row) => row.quota > MOST_QUOTA,
+        Row::User(row) => row.quota > MAX_QUOTA,
         _ => false,
     }
 }

@@ -6,19 +6,9 @@ ghost use Rattle.nf_rules.specs.Rules.{first_index, is_beyond};
 
 use crate::Loaded;
 use crate::first::first;
-use nf_base::{NodeRow, Row};
-
-const MOST_USERS: usize = 4_096;
-
-const MOST_TOKENS: usize = 16_384;
-
-const MOST_GROUPS: usize = 4_096;
-
-const MOST_MEMBERS: usize = 65_536;
-
-const MOST_NODES: usize = 262_144;
-/// How many pieces all nodes may have, with repeats.
-const MOST_PIECES: u128 = 1_048_576;
+use nf_base::{
+    MAX_GROUPS, MAX_MEMBERS, MAX_NODES, MAX_STORED_PIECES, MAX_TOKENS, MAX_USERS, NodeRow, Row,
+};
 
 /// The first row that is one of too many.
 pub(crate) fn first_beyond(loaded: &Loaded, rows: &[Row]) -> Option<usize>
@@ -45,13 +35,13 @@ fn is_beyond(loaded: &Loaded, pieces: u128, row: &Row) -> bool
     ensures { result ≡ is_beyond loaded.now row.now }
 {
     match row {
-        Row::User(_) => loaded.users.len() > MOST_USERS,
-        Row::Token(_) => loaded.tokens.len() > MOST_TOKENS,
-        Row::Group(_) => loaded.groups.len() > MOST_GROUPS,
-        Row::Member(_) => loaded.members.len() > MOST_MEMBERS,
+        Row::User(_) => loaded.users.len() > MAX_USERS,
+        Row::Token(_) => loaded.tokens.len() > MAX_TOKENS,
+        Row::Group(_) => loaded.groups.len() > MAX_GROUPS,
+        Row::Member(_) => loaded.members.len() > MAX_MEMBERS,
         Row::Node(row) => {
-            loaded.nodes.len() > MOST_NODES
-                || !row.content.pieces().is_empty() && pieces > MOST_PIECES
+            loaded.nodes.len() > MAX_NODES
+                || !row.content.pieces().is_empty() && pieces > u128::from(MAX_STORED_PIECES)
         }
         _ => false,
     }

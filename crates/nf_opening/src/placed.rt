@@ -8,7 +8,7 @@ ghost use Rattle.nf_opening.specs.Ways.{folder_above, is_own_root};
 
 use crate::Loaded;
 use crate::first::first;
-use nf_base::{NodeKind, NodeRow, Place, Row, UserRow};
+use nf_base::{MAX_DEPTH, NodeKind, NodeRow, Place, Row, UserRow};
 
 /// The first user who has no root, or node that doesn't lead to one.
 pub(crate) fn first_astray(loaded: &Loaded, rows: &[Row]) -> Option<usize>
@@ -49,13 +49,13 @@ fn is_root_of(user: &UserRow, node: &NodeRow) -> bool
         && node.name.as_bytes() == user.name.as_bytes()
 }
 
-/// Whether the node leads to its owner's root, at most 64 folders up.
+/// Whether the node leads to its owner's root, at most `MAX_DEPTH` folders up.
 fn leads(loaded: &Loaded, node: &NodeRow) -> bool
     requires { AreRising loaded.now }
     ensures { result ≡ leads loaded.now node.now }
 {
     let mut at = node;
-    for step in 0..64u32 {
+    for step in 0..MAX_DEPTH {
         let _ = step;
         match folder_above(loaded, at) {
             Some(folder) => at = folder,

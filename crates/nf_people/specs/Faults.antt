@@ -1,5 +1,6 @@
 -- Why people can't be added, and what a call that adds does.
 use Rattle.std.specs.Prelude.{◌≡◌, ℕ, Bool, not, nat_le, List, [], ◌∷◌, length, Option, None, Some, Result, Ok, Err, is_some, if◌then◌else◌}
+use Rattle.nf_base.specs.declared.limits.TheConstants.{MAX_GROUPS, MAX_MEMBERS, MAX_TOKENS, MAX_USERS}
 use Rattle.nf_base.specs.declared.rows.UserRow.{UserRow}
 use Rattle.nf_base.specs.declared.rows.TokenRow.{TokenRow}
 use Rattle.nf_base.specs.declared.rows.GroupRow.{GroupRow}
@@ -8,19 +9,6 @@ use Rattle.nf_defs.specs.People.{user_row, user_named, holder_of, group_row, gro
 use Rattle.nf_people.specs.People.{PeopleValue}
 use Rattle.nf_people.specs.declared.faults.PeopleFault.{PeopleFault}
 use Rattle.nf_people.specs.declared.faults.PeopleFault.TheVariants.{Taken, Unknown, Limit, Memory}
-
--- the most of each kind
-abbrev pub max_users : ℕ
-max_users = 4096
-
-abbrev pub max_groups : ℕ
-max_groups = 4096
-
-abbrev pub max_tokens : ℕ
-max_tokens = 16384
-
-abbrev pub max_members : ℕ
-max_members = 65536
 
 -- the first whose test holds
 abbrev pub first_fault : List (Bool × PeopleFault) → Option PeopleFault
@@ -34,12 +22,12 @@ is_full limit count = nat_le limit count
 -- why the user can't be added
 abbrev pub fault_of_user : PeopleValue → UserRow → Option PeopleFault
 fault_of_user p row =
-    first_fault ((is_some (user_named p.users row.name), Taken) ∷ (is_full max_users (length p.users), Limit max_users) ∷ [])
+    first_fault ((is_some (user_named p.users row.name), Taken) ∷ (is_full MAX_USERS (length p.users), Limit MAX_USERS) ∷ [])
 
 -- why the group can't be
 abbrev pub fault_of_group : PeopleValue → GroupRow → Option PeopleFault
 fault_of_group p row =
-    first_fault ((is_some (group_named p.groups row.name), Taken) ∷ (is_full max_groups (length p.groups), Limit max_groups) ∷ [])
+    first_fault ((is_some (group_named p.groups row.name), Taken) ∷ (is_full MAX_GROUPS (length p.groups), Limit MAX_GROUPS) ∷ [])
 
 -- why the token can't be
 abbrev pub fault_of_token : PeopleValue → TokenRow → Option PeopleFault
@@ -47,7 +35,7 @@ fault_of_token p row =
     first_fault
     ((is_some (holder_of p.tokens row.digest), Taken)
     ∷ (not (is_some (user_row p.users row.user)), Unknown)
-    ∷ (is_full max_tokens (length p.tokens), Limit max_tokens)
+    ∷ (is_full MAX_TOKENS (length p.tokens), Limit MAX_TOKENS)
     ∷ [])
 
 -- why the member can't be
@@ -57,7 +45,7 @@ fault_of_member p row =
     ((is_member_of p.members row.group row.user, Taken)
     ∷ (not (is_some (group_row p.groups row.group)), Unknown)
     ∷ (not (is_some (user_row p.users row.user)), Unknown)
-    ∷ (is_full max_members (length p.members), Limit max_members)
+    ∷ (is_full MAX_MEMBERS (length p.members), Limit MAX_MEMBERS)
     ∷ [])
 
 -- why a quota can't be set

@@ -4,18 +4,6 @@ ghost use Rattle.std.specs.Prelude.{◌≡◌};
 
 use std::alloc::AllocError;
 
-/// The most users.
-pub const MAX_USERS: u32 = 4_096;
-
-/// The most groups.
-pub const MAX_GROUPS: u32 = 4_096;
-
-/// The most tokens.
-pub const MAX_TOKENS: u32 = 16_384;
-
-/// The most members, of all groups together.
-pub const MAX_MEMBERS: u32 = 65_536;
-
 /// Why a user, a group, a token or a member can't be added, or a quota set.
 #[derive(Clone, Copy, Debug, PartialEq, Eq)]
 pub enum PeopleFault {
@@ -24,7 +12,7 @@ pub enum PeopleFault {
     /// A user or a group that it names isn't there.
     Unknown,
     /// So many are there, and no more may be.
-    Limit { count: u32 },
+    Limit { count: usize },
     /// There is no memory for it.
     Memory,
 }

@@ -6,5 +6,5 @@ mod listed;
 mod names;
 mod people;
 
-pub use faults::{MAX_GROUPS, MAX_MEMBERS, MAX_TOKENS, MAX_USERS, PeopleFault};
+pub use faults::PeopleFault;
 pub use people::{People, PeopleCounts, PeopleRows};

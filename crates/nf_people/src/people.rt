@@ -9,10 +9,13 @@ ghost use Rattle.nf_people.specs.Faults.{Adds, is_full, fault_of_user, fault_of_
 ghost use Rattle.nf_people.specs.People.{ArePeople, FitsUser, FitsToken, FitsGroup, FitsMember, HasRoom, rows_of_people};
 ghost use Rattle.nf_people.specs.declared.faults.PeopleFault.TheVariants.{Memory};
 
-use crate::faults::{MAX_GROUPS, MAX_MEMBERS, MAX_TOKENS, MAX_USERS, PeopleFault};
+use crate::faults::PeopleFault;
 use crate::listed::push_rows;
 use crate::names::NamedRows;
-use nf_base::{Digest, GroupId, GroupRow, MemberRow, Name, RowList, TokenRow, UserId, UserRow};
+use nf_base::{
+    Digest, GroupId, GroupRow, MAX_GROUPS, MAX_MEMBERS, MAX_TOKENS, MAX_USERS, MemberRow, Name,
+    RowList, TokenRow, UserId, UserRow,
+};
 use nf_defs::{drop_row, has_row, put, row_of};
 use std::alloc::{AllocError, Global};
 use std::marker::Model;
@@ -54,7 +57,7 @@ pub struct PeopleRows {
 }
 
 /// How many of each kind there are.
-#[derive(Clone, Copy, Debug, PartialEq, Eq)]
+#[derive(Clone, Copy, PartialEq, Eq)]
 pub struct PeopleCounts {
     pub users: usize,
     pub tokens: usize,
@@ -292,10 +295,10 @@ impl People {
 }
 
 /// Whether as many are there as may be.
-fn is_full(limit: u32, count: usize) -> bool
+fn is_full(limit: usize, count: usize) -> bool
     ensures { result ≡ is_full limit count }
 {
-    count >= limit as usize
+    count >= limit
 }
 
 /// The rows from the first of a group on.

@@ -30,7 +30,8 @@ use Rattle.nf_session.specs.declared.response.Response.{Response}
 use Rattle.nf_session.specs.declared.response.Response.TheVariants as response
 use Rattle.nf_session.proofs.Calm.{Calm, bodies_go, calm_of, calm_then, closes_go, goes_then, heads_go, invites_go, judges_go, passes_go, writes_go, same_goes}
 use Rattle.nf_session.proofs.Inviting.{invited_bytes, invites_wrote}
-use Rattle.nf_session.proofs.Sendings.{given_still}
+use Rattle.nf_session.proofs.Lasting.{lasts_then}
+use Rattle.nf_session.proofs.Sendings.{given_within}
 use Rattle.nf_promises.proofs.Full.{answers_full}
 use Rattle.nf_promises.proofs.Gets.{starts_file, unmade_is}
 use Rattle.nf_promises.proofs.Returning.{appends_by, takes_output}
@@ -68,7 +69,7 @@ answer_known a x y b now event answer before enters behind is =
     }
 
 module _ {C : Type 0} (a b : Scene C) (nothing : NothingFails a b)
-    (whole : StaysWhole a.book b.book) where
+    (whole : StaysWhole a.book) where
   pub step_known : (x y : Scene C) (now : ℕ) (event : Event) (answer : Answer) → Calm a x → Calm y b → Enters x.book y.book now event answer
       → (answer ≡ Err denial.Memory) ⊎ IsAnswerOf a.book b.book event answer
   step_known x y now event answer before behind enters = here enters.entry.mark enters.strikes enters.answer_is
@@ -141,19 +142,21 @@ writes_input {C} manner (response.File content first) a b (given, writes, all, u
 writes_input {C} manner other a b wrote = ap (λ (x : Scene C). x.input) wrote.only
 
 module _ {C : Type 0} (reads : C → ℕ → C → Type 0) (last : Bool) (head : Head) (a b : Scene C) (nothing : NothingFails a b)
-    (whole : StaysWhole a.book b.book) where
+    (whole : StaysWhole a.book) where
   -- ---- what was granted
 
   file_said : (content : List Piece) (v : Response) (end : Option Ended) (x k s : Scene C) → Calm a x → Calm s b → Fronts [] k s a b → StartsFile x k content v
       → Writes {T = Unit {0}} (manner_of last (way_of head (begun.Asked (Ok (reply.Granted (goal.Serve content))))) v) v k s (Ok tt)
       → IsWanting head a b end ⊎ SaysFile (last || closes_session head) content a b
   file_said content (response.File other first) end x k s before behind fronts starts (given, writes, all, calm) =
-      let is : other ≡ content = (starts_file x.book k.book content other first starts.starts).0 in
+      let file = starts_file x.book k.book content other first starts.starts in
+      let is : other ≡ content = file.0 in
+      let started = lasts_then a.book x.book k.book before.onward.lasts file.1 in
       inr (record {
         given = given;
         are_given =
-            given_still s.book b.book content given behind.onward.lasts
-            (subst (λ (c : List Piece). AreGiven s.book c given) is writes.pieces.are_given);
+            given_within a.book k.book s.book b.book content given started behind.onward.lasts
+            (subst (λ (c : List Piece). AreGiven k.book s.book c given) is writes.pieces.are_given);
         all = all ∙ ap (λ (c : List Piece). length c) is;
         bytes =
             subst (λ (close : Bool). Appends a.output b.output (file_head close (size_of content) ++ concat given)) (close_is last (closes_session head))
@@ -335,4 +338,4 @@ completes {C} reads last a m b head r end heads asked meets nothing whole =
       read = subst (λ (n : ℕ). IsUnrisen n b.read_faults) (sym calm.read) nothing.read;
       write = subst (λ (n : ℕ). IsUnrisen n b.write_faults) (sym calm.write) nothing.write;
     })
-    (subst (λ (x : Book). StaysWhole x b.book) (sym book) whole) r end asked meets
+    (subst (λ (x : Book). StaysWhole x) (sym book) whole) r end asked meets

@@ -1,11 +1,12 @@
 -- A run isn't full for a session that began it.
-use Rattle.std.proofs.Common.{ℕ, ◌+◌, ◌≡◌, ◌<◌, ◌≤◌, ◌==◌, Bool, true, false, List, [], ◌∷◌, length, Option, Some, Result, Ok, Err, inl, inr, refl, ap, subst, sym, ◌∙◌, arith}
+use Rattle.std.proofs.Common.{ℕ, ◌+◌, ◌-◌, ◌≡◌, ◌<◌, ◌≤◌, ◌==◌, Bool, true, false, List, [], ◌∷◌, length, Option, Some, Result, Ok, Err, inl, inr, refl, ap, subst, sym, ◌∙◌, arith}
+use Rattle.nf_base.specs.declared.limits.TheConstants.{MAX_ENTRIES, MAX_MESSAGES}
 use Rattle.nf_base.specs.declared.content.Piece.{Piece}
 use Rattle.nf_dav.specs.Reply.{continue_reply}
 use Rattle.nf_http.specs.Head.{Head}
 use Rattle.nf_http.specs.declared.wire.WireFault.{WireFault}
 use Rattle.nf_http.specs.declared.wire.WireFault.TheVariants as wire
-use Rattle.nf_words.specs.Prelude.{most_entries, opened}
+use Rattle.nf_words.specs.Prelude.{opened}
 use Rattle.nf_words.specs.declared.answer.Denial.{Denial}
 use Rattle.nf_words.specs.declared.answer.Denial.TheVariants as denial
 use Rattle.nf_words.specs.declared.answer.Goal.TheVariants as goal
@@ -80,7 +81,7 @@ passes_full reads body a b (begun.Asked (Ok (reply.Granted (goal.Store who key l
 passes_full reads body a b (begun.Asked answer) passes = answer_full answer passes.0
 
 judges_full : {C : Type 0} (reads : C → ℕ → C → Type 0) (head : Head) (a b : Scene C) (begun : Begun)
-    → Judges reads head a b begun → IsFound begun → most_entries < entries_wanted b.book
+    → Judges reads head a b begun → IsFound begun → MAX_ENTRIES < entries_wanted b.book
 judges_full reads head a b (begun.Unasked refusal) (inl asked, same) is =
     absurd (request_not_full head (asked ∙ ap Err is))
 judges_full reads head a b (begun.Unasked refusal) (inr memory, same) is = absurd (cc)
@@ -102,7 +103,7 @@ refusal_same last way refusal a b (Err by) says = book_of a b (says_only {T = Un
 
 pub answers_full : {C : Type 0} (reads : C → ℕ → C → Type 0) (last : Bool) (head : Head) (begun : Begun) (a m n b : Scene C)
     → Judges reads head a m begun → Invites {T = Unit {0}} head begun m n (Ok tt) → Answers reads last head begun n b (Some ended.RunFull)
-    → most_entries < entries_wanted b.book
+    → MAX_ENTRIES < entries_wanted b.book
 answers_full {C} reads last head begun a m n b judges invites answers =
     let v : answers.response ≡ response.Denied denial.RunFull =
     responds_full last (way_of head begun) answers.response answers.taken answers.sent answers.result answers.responds (sym answers.ends) in
@@ -117,7 +118,7 @@ answers_full {C} reads last head begun a m n b judges invites answers =
     ap (λ (x : Scene C). x.book) closes ∙ refusal_same last (way_of head begun) denial.RunFull answers.taken answers.sent answers.result responds
     ∙ ap (λ (x : Scene C). x.book) (found_same reads takes.1 takes.0 answers.taken begun _ found takes.3)
     ∙ ap (λ (x : Scene C). x.book) takes.2.only ∙ ap (λ (x : Scene C). x.book) (invites_wrote head begun m n (Unit {0}) tt invites).only in
-    subst (λ (k : Book). most_entries < entries_wanted k) (sym same) (judges_full reads head a m begun judges found)
+    subst (λ (k : Book). MAX_ENTRIES < entries_wanted k) (sym same) (judges_full reads head a m begun judges found)
 
 cuts_not_full : {C : Type 0} (reads : C → ℕ → C → Type 0) (head : Head) (begun : Begun) (a b : Scene C)
     → CutsShort reads head begun a b (Some ended.RunFull) → ⊥
@@ -133,7 +134,7 @@ stops_not_full {C} reads head begun a b stops =
     cc
 
 turn_full : {C : Type 0} (reads : C → ℕ → C → Type 0) (last : Bool) (a b : Scene C) → Turn reads last a b (Some ended.RunFull)
-    → most_entries < entries_wanted b.book
+    → MAX_ENTRIES < entries_wanted b.book
 turn_full reads last a b (inl (heads, is)) = absurd (cc)
 turn_full {C} reads last a b (inr (inl (m, fault, by, heads, ends, is))) =
     let same : by ≡ ended.RunFull = cc in
@@ -151,7 +152,7 @@ few_wanted : (b : Book) (most : ℕ) → length b.known ≤ most → entries_wan
 few_wanted b most few = omega (arith, few_tickets (opened b.opening) b.known)
 
 pub full_is_seen : {C : Type 0} (reads : C → ℕ → C → Type 0) → FullIsSeen reads
-full_is_seen {C} reads a b session = turn_full reads (length session.scenes == 9999) session.before b session.turn
+full_is_seen {C} reads a b session = turn_full reads (length session.scenes == MAX_MESSAGES - 1) session.before b session.turn
 
 pub never_full : {C : Type 0} (reads : C → ℕ → C → Type 0) → NeverFull reads
 never_full {C} reads a b end session fresh alone is =

@@ -1,11 +1,12 @@
 -- What a turn that took a GET writes, where the body of a PUT is kept.
-use Rattle.std.proofs.Common.{ℕ, ◌+◌, ◌≤◌, ◌==◌, ◌≡◌, ◌⊎◌, ◌&&◌, ◌||◌, Bool, true, false, List, [], ◌∷◌, ◌++◌, length, Option, None, Some, Result, Ok, Err, is_some, if◌then◌else◌, inl, inr, refl, sym, ap, subst, ◌∙◌, arith}
+use Rattle.std.proofs.Common.{ℕ, ◌+◌, ◌==◌, ◌≡◌, ◌⊎◌, ◌&&◌, ◌||◌, Bool, true, false, List, [], ◌∷◌, ◌++◌, length, Option, None, Some, Result, Ok, Err, is_some, if◌then◌else◌, inl, inr, refl, sym, ap, subst, ◌∙◌, arith}
 use Rattle.std.specs.Prelude.{IfSome, MatchBool, Vec, nat_lt}
 use Rattle.std.specs.Io.KnownBytes.{Appends}
 use Rattle.std.specs.declared.alloc.Global.{Global}
 use Rattle.std.proofs.lemmas.Bool.{eqb-true}
 use Rattle.std.proofs.lemmas.List.{append-nil}
 use Rattle.sha2.specs.Sha256.{sha256}
+use Rattle.nf_base.specs.declared.limits.TheConstants.{MAX_OCS_BODY}
 use Rattle.nf_base.specs.declared.content.Piece.{Piece}
 use Rattle.nf_dav.specs.Asked.{request_of}
 use Rattle.nf_dav.specs.Reply.{file_head, refusal_reply}
@@ -31,21 +32,22 @@ use Rattle.nf_words.specs.declared.request.Caller.{Caller}
 use Rattle.nf_words.specs.declared.request.Request.{Request}
 use Rattle.nf_words.specs.declared.request.Spot.{Spot}
 use Rattle.nf_words.specs.declared.request.Words.{Words}
-use Rattle.nf_defs.specs.Prelude.{Blobs, Tables}
-use Rattle.nf_laws.specs.Wholes.{IsThere}
-use Rattle.nf_session.specs.Prelude.{Answer, AreGiven, Begins, Book, end_of, end_of_close, Enters, FailsPiece, file_front, is_invited, is_unmade, is_unsent, Judges, Lasts, manner_of, next_blob_of, no_words, Scene, SendsFile, Starts, StartsFile, state_of, TakesIn, TellsDamage, TellsPiece, TellsStill, Way, way_of, Writes}
-use Rattle.nf_session.specs.Book.{Passes as Unchanged}
+use Rattle.nf_defs.specs.Prelude.{blob_at, Blobs, Tables}
+use Rattle.nf_session.specs.Prelude.{Answer, Begins, Book, end_of, end_of_close, Enters, FailsPiece, file_front, HaveBytes, is_invited, is_unmade, is_unsent, IsPiece, Judges, Lasts, manner_of, next_blob_of, no_words, OthersCame, Scene, SendsFile, Starts, StartsFile, state_of, TakesIn, TellsDamage, TellsPiece, TellsStill, Way, way_of, Writes}
+use Rattle.nf_session.specs.Book.{Differs, Passes as Unchanged}
 use Rattle.nf_session.specs.Steps.{holds_back}
 use Rattle.nf_session.specs.Turn.{says_close}
+use Rattle.nf_session.proofs.Calm.{writes_go}
 use Rattle.nf_session.proofs.Moving.{begins_move, none_of}
-use Rattle.nf_session.proofs.Lasting.{lasts_same, lasts_then}
+use Rattle.nf_session.proofs.Sendings.{given_alone}
+use Rattle.nf_session.proofs.Lasting.{lasts_same, lasts_then, still_alone, there_differs}
 use Rattle.nf_session.specs.declared.backend.PieceFault.{PieceFault}
 use Rattle.nf_session.specs.declared.backend.PieceFault.TheVariants as fault
 use Rattle.nf_session.specs.declared.begun.Begun.{Begun}
 use Rattle.nf_session.specs.declared.begun.Begun.TheVariants as begun
 use Rattle.nf_session.specs.declared.response.Response.{Response}
 use Rattle.nf_session.specs.declared.response.Response.TheVariants as response
-use Rattle.nf_promises.proofs.Growing.{entered}
+use Rattle.nf_promises.proofs.Growing.{entered, only_first, only_last}
 use Rattle.nf_promises.proofs.Putting.{content_of_body}
 use Rattle.nf_promises.proofs.Puts.{IsKept, Keeps}
 use Rattle.nf_promises.proofs.Touches.{starts_other}
@@ -61,7 +63,8 @@ asked_plain head begun request asked = record { ocs = asked_no_ocs head request 
 
 -- no body is taken before what is plain is looked for
 held_back : (head : Head) (begun : Begun) → IsPlain (way_of head begun) → holds_back head ≡ waits head
-held_back head begun plain = ap (λ (ocs : Bool). expects_continue head && nat_lt (if ocs then 8192 else 0) (length_of head)) plain.ocs
+held_back head begun plain =
+    ap (λ (ocs : Bool). expects_continue head && nat_lt (if ocs then MAX_OCS_BODY else 0) (length_of head)) plain.ocs
 
 -- ---- what its Begin is answered
 
@@ -111,24 +114,29 @@ get_answered a m now caller spot body answer kept only begins = here (is_unmade 
 
 -- ---- the bytes of the file
 
--- what is kept is kept later
-keeps_later : (k b : Book) (before : State) (body : List ℕ) (old new : Option Blobs) → next_blob_of k ≤ next_blob_of b
-    → TellsStill (next_blob_of k) old new → IfSome old (Keeps k before body) → IfSome new (Keeps b before body)
-keeps_later k b before body None None fits still keeps = tt
-keeps_later k b before body None (Some new) fits still keeps = absurd (cc)
-keeps_later k b before body (Some old) None fits still keeps = absurd still
-keeps_later k b before body (Some old) (Some new) fits still keeps = λ id is.
-    let there = keeps id is in (omega (arith, there.0, fits), still id there.0 ∙ there.1)
+-- what is kept is kept later, where no other's entry came
+keeps_later : (k b : Book) (before : State) (body : List ℕ) (old new : Option Blobs) → Lasts k b → OnlyOwn k b
+    → TellsStill (OthersCame k b) (next_blob_of k) old new → IfSome old (Keeps k before body) → IfSome new (Keeps b before body)
+keeps_later k b before body None None lasts only still keeps = tt
+keeps_later k b before body None (Some new) lasts only still keeps = absurd (cc)
+keeps_later k b before body (Some old) None lasts only still keeps = absurd still
+keeps_later k b before body (Some old) (Some new) lasts only still keeps = λ id is.
+    let there = keeps id is in (
+      omega (arith, there.0, lasts.next_blob),
+      still_alone k b (blob_at old id) (blob_at new id) only (still id there.0) ∙ there.1,
+    )
 
-kept_later : (k b : Book) (before : State) (body : List ℕ) → Lasts k b → IfSome k.told (Keeps k before body) → IfSome b.told (Keeps b before body)
-kept_later k b before body lasts keeps = keeps_later k b before body k.told b.told lasts.next_blob lasts.told keeps
+kept_later : (k b : Book) (before : State) (body : List ℕ) → Lasts k b → OnlyOwn k b → IfSome k.told (Keeps k before body)
+    → IfSome b.told (Keeps b before body)
+kept_later k b before body lasts only keeps = keeps_later k b before body k.told b.told lasts only lasts.told keeps
 
 -- the bytes of a body, as of an earlier book
-of_body_before : (next : ℕ) (old new : Option Blobs) (body bytes : List ℕ) → TellsStill next old new → AreOfBody new body bytes → AreOfBody old body bytes
-of_body_before next None None body bytes still are = are
-of_body_before next None (Some new) body bytes still are = absurd (cc)
-of_body_before next (Some old) None body bytes still are = absurd still
-of_body_before next (Some old) (Some new) body bytes still are = are
+of_body_before : (cause : Type 0) (next : ℕ) (old new : Option Blobs) (body bytes : List ℕ) → TellsStill cause next old new
+    → AreOfBody new body bytes → AreOfBody old body bytes
+of_body_before cause next None None body bytes still are = are
+of_body_before cause next None (Some new) body bytes still are = absurd (cc)
+of_body_before cause next (Some old) None body bytes still are = absurd still
+of_body_before cause next (Some old) (Some new) body bytes still are = are
 
 of_body_itself : (told : Option Blobs) (body : List ℕ) → AreOfBody told body body
 of_body_itself None body = (refl, refl)
@@ -159,7 +167,7 @@ FileOf close told body file = (bytes : List ℕ) × AreOfBody told body bytes ×
 
 file_bytes : (close : Bool) (b : Book) (before : State) (body : List ℕ) → IfSome b.told (Keeps b before body)
     → (o : Option ℕ) → blob_for before.tables.meta.next_blob (length body) ≡ o
-    → (given : List (List ℕ)) → AreGiven b (content_in o (sha256 body) (length body)) given
+    → (given : List (List ℕ)) → HaveBytes (IsPiece b) (content_in o (sha256 body) (length body)) given
     → length given ≡ length (content_in o (sha256 body) (length body))
     → FileOf close b.told body (file_front close (content_in o (sha256 body) (length body)) given)
 file_bytes close b before body keeps None is [] are count = (
@@ -226,63 +234,69 @@ plainly_written last way refusal old new plain wrote =
 
 -- where the store tells, the piece isn't damaged: the body is there
 damage_shown : {C : Type 0} (close : Bool) (a b : Scene C) (k l : Book) (before : State) (body : List ℕ) (id : ℕ) (damage : Damage) (old new : Option Blobs)
-    → TellsStill (next_blob_of k) old new → blob_for before.tables.meta.next_blob (length body) ≡ Some id
-    → IfSome new (TellsDamage l (piece_of id body) damage) → IfSome new (Keeps l before body)
+    → TellsStill (OthersCame k l) (next_blob_of k) old new → blob_for before.tables.meta.next_blob (length body) ≡ Some id
+    → Differs (piece_of id body) damage → IfSome new (TellsDamage l (piece_of id body) damage) → IfSome new (Keeps l before body)
     → Appends a.output b.output (refusal_reply (plainly close) (denial.Damaged damage)) → ShowsDamage old close a b
-damage_shown close a b k l before body id damage None new still is damaged keeps wrote = (damage, wrote)
-damage_shown close a b k l before body id damage (Some old) None still is damaged keeps wrote = absurd still
-damage_shown close a b k l before body id damage (Some old) (Some new) still is damaged keeps wrote =
-    let there : IsThere new (piece_of id body) = record { bytes = body; there = (keeps id is).1; size = refl; digest = refl } in
-    damaged.damaged.broken there
+damage_shown close a b k l before body id damage None new still is differs damaged keeps wrote = (damage, wrote)
+damage_shown close a b k l before body id damage (Some old) None still is differs damaged keeps wrote = absurd still
+damage_shown close a b k l before body id damage (Some old) (Some new) still is differs damaged keeps wrote =
+    there_differs new (piece_of id body) damage damaged.found differs
+    (record { bytes = body; there = (keeps id is).1; size = refl; digest = refl })
 
 lost_shown : {C : Type 0} (last : Bool) (way : Way) (plain : IsPlain way) (unsent : Bool) (body : List ℕ) (before : State) (k : Book) (x a b : Scene C) (id : ℕ) (why : PieceFault)
-    → Lasts k x.book → Lasts k a.book → IfSome k.told (Keeps k before body) → blob_for before.tables.meta.next_blob (length body) ≡ Some id
+    → Lasts k x.book → Lasts k a.book → OnlyOwn k a.book → IfSome k.told (Keeps k before body)
+    → blob_for before.tables.meta.next_blob (length body) ≡ Some id
     → FailsPiece x.book a.book (piece_of id body) why
     → Writes {T = Unit {0}} (manner_of last way (response.Lost why)) (response.Lost why) a b (Ok tt)
     → Shown (last || way.closes) unsent body k a b
-lost_shown last way plain unsent body before k x a b id fault.Store first since keeps is fails wrote =
+lost_shown last way plain unsent body before k x a b id fault.Store first since only keeps is fails wrote =
     let struck : FailsStore k a.book = omega (arith, first.strikes, fails) in
     inr (inr (inr (inl (plainly_written last way denial.Store a.output b.output plain wrote.bytes_are, struck))))
-lost_shown last way plain unsent body before k x a b id (fault.Damaged damage) first since keeps is (calm, differs, told) wrote =
-    inr (inr (inr (inr (damage_shown (last || way.closes) a b k a.book before body id damage k.told a.book.told since.told is told
-    (kept_later k a.book before body since keeps)
+lost_shown last way plain unsent body before k x a b id (fault.Damaged damage) first since only keeps is (calm, names, told) wrote =
+    inr (inr (inr (inr (damage_shown (last || way.closes) a b k a.book before body id damage k.told a.book.told since.told is
+    names.1.differs told (kept_later k a.book before body since only keeps)
     (plainly_written last way (denial.Damaged damage) a.output b.output plain wrote.bytes_are)))))
-lost_shown last way plain unsent body before k x a b id fault.Memory first since keeps is fails wrote =
+lost_shown last way plain unsent body before k x a b id fault.Memory first since only keeps is fails wrote =
     inr (inl (plainly_written last way denial.Memory a.output b.output plain wrote.bytes_are))
 
 file_shown : {C : Type 0} (last : Bool) (way : Way) (unsent : Bool) (caller : Caller) (spot : Spot) (body : List ℕ) (k : Book) (a b : Scene C)
     (content : List Piece) (first : Option (Vec ℕ Global)) (kept : IsKept k caller spot body)
-    → Lasts k a.book → content ≡ content_of_body kept.before body
+    → Lasts k a.book → OnlyOwn k b.book → content ≡ content_of_body kept.before body
     → SendsFile {T = Unit {0}} (says_close last way (response.File content first)) content first a b (Ok tt)
     → Shown (last || way.closes) unsent body k a b
-file_shown last way unsent caller spot body k a b content first kept before is (given, writes, count, calm) =
+file_shown last way unsent caller spot body k a b content first kept before only is (given, writes, count, calm) =
     let close = says_close last way (response.File content first) in
     let whole : List Piece = content_of_body kept.before body in
-    let since : Lasts k b.book = lasts_then k a.book b.book before writes.pieces.waits.lasts in
-    let are : AreGiven b.book whole given = subst (λ (c : List Piece). AreGiven b.book c given) is writes.pieces.are_given in
+    let behind = writes.pieces.waits.lasts in
+    let since : Lasts k b.book = lasts_then k a.book b.book before behind in
+    let are : HaveBytes (IsPiece b.book) whole given = subst (λ (c : List Piece). HaveBytes (IsPiece b.book) c given) is
+    (given_alone a.book b.book content given (only_last k a.book b.book before behind only) writes.pieces.are_given) in
     let all : length given ≡ length whole = count ∙ ap length is in
     let file : FileOf close b.book.told body (file_front close whole given) =
-    file_bytes close b.book kept.before body (kept_later k b.book kept.before body since kept.bytes)
+    file_bytes close b.book kept.before body (kept_later k b.book kept.before body since only kept.bytes)
     (blob_for kept.before.tables.meta.next_blob (length body)) refl given are all in
     let wrote : Appends a.output b.output (file_head close (length body) ++ file.0) =
     subst (λ (bs : List ℕ). Appends a.output b.output bs) (ap (λ (c : List Piece). file_front close c given) is ∙ file.2) writes.bytes_are in
     inl (
       file.0,
-      of_body_before (next_blob_of k) k.told b.book.told body file.0 since.told file.1,
+      of_body_before (OthersCame k b.book) (next_blob_of k) k.told b.book.told body file.0 since.told file.1,
       subst (λ (close : Bool). Appends a.output b.output (file_head close (length body) ++ file.0)) (says_is last (way.closes)) wrote,
     )
 
 served_shown : {C : Type 0} (last : Bool) (way : Way) (plain : IsPlain way) (unsent : Bool) (caller : Caller) (spot : Spot) (body : List ℕ) (k : Book) (x a b : Scene C) (v : Response)
-    (kept : IsKept k caller spot body) → Lasts k x.book → StartsFile x a (content_of_body kept.before body) v
+    (kept : IsKept k caller spot body) → Lasts k x.book → OnlyOwn k b.book → StartsFile x a (content_of_body kept.before body) v
     → Writes {T = Unit {0}} (manner_of last way v) v a b (Ok tt) → Shown (last || way.closes) unsent body k a b
-served_shown last way plain unsent caller spot body k x a b (response.File content first) kept before starts writes =
+served_shown last way plain unsent caller spot body k x a b (response.File content first) kept before only starts writes =
     let started = starts_file x.book a.book (content_of_body kept.before body) content first starts.starts in
-    file_shown last way unsent caller spot body k a b content first kept (lasts_then k x.book a.book before started.1) started.0 writes
-served_shown last way plain unsent caller spot body k x a b (response.Lost why) kept before starts writes =
+    file_shown last way unsent caller spot body k a b content first kept (lasts_then k x.book a.book before started.1) only started.0 writes
+served_shown last way plain unsent caller spot body k x a b (response.Lost why) kept before only starts writes =
     let lost = starts_lost x.book a.book kept.before.tables.meta.next_blob body why
     (blob_for kept.before.tables.meta.next_blob (length body)) refl starts.starts in
-    lost_shown last way plain unsent body kept.before k x a b lost.0 why before (lasts_then k x.book a.book before lost.2) kept.bytes lost.1 lost.3 writes
-served_shown last way plain unsent caller spot body k x a b other kept before starts writes =
+    let since = lasts_then k x.book a.book before lost.2 in
+    let behind = (writes_go (manner_of last way (response.Lost why)) (response.Lost why) a b writes).book.onward.lasts in
+    lost_shown last way plain unsent body kept.before k x a b lost.0 why before since (only_first k a.book b.book since behind only)
+    kept.bytes lost.1 lost.3 writes
+served_shown last way plain unsent caller spot body k x a b other kept before only starts writes =
     absurd (starts_other x.book a.book (content_of_body kept.before body) other starts.starts)
 
 -- ---- the turn
@@ -326,21 +340,22 @@ answered_shown : {C : Type 0} (reads : C → ℕ → C → Type 0) (last : Bool)
     (k : Book) (m a b : Scene C) (v : Response) (answer : Answer) (kept : IsKept k caller spot body) (plain : IsPlain (way_of head (begun.Asked answer)))
     → (answer ≡ Ok (reply.Granted (Serve (content_of_body kept.before body))))
     ⊎ ((answer ≡ Err denial.RunFull) ⊎ (answer ≡ Err denial.Memory))
-    → Lasts k m.book → TakesIn reads head m a (begun.Asked answer) (Ok v) → IsWritten (end_of (way_of head (begun.Asked answer)).closes v)
+    → Lasts k m.book → OnlyOwn k b.book → TakesIn reads head m a (begun.Asked answer) (Ok v)
+    → IsWritten (end_of (way_of head (begun.Asked answer)).closes v)
     → Writes {T = Unit {0}} (manner_of last (way_of head (begun.Asked answer)) v) v a b (Ok tt)
     → Shown (last || closes_session head) (waits head) body k a b
-answered_shown {C} reads last head caller spot body k m a b v answer kept plain (inl is) before takes written writes =
+answered_shown {C} reads last head caller spot body k m a b v answer kept plain (inl is) before only takes written writes =
     let served : TakesIn reads head m a (begun.Asked (Ok (reply.Granted (Serve (content_of_body kept.before body))))) (Ok v) =
     subst (λ (w : Answer). TakesIn reads head m a (begun.Asked w) (Ok v)) is takes in
     let x : Scene C = served.0 in
     subst (λ (closes : Bool). Shown (last || closes) (waits head) body k a b) (granted_closes head answer _ is)
     (served_shown last (way_of head (begun.Asked answer)) plain (waits head) caller spot body k x a b v kept
-    (lasts_then k m.book x.book before (lasts_same m.book x.book (ap (λ (y : Scene C). y.book) served.2.only))) served.3 writes)
-answered_shown {C} reads last head caller spot body k m a b v answer kept plain (inr (inl is)) before takes written writes =
+    (lasts_then k m.book x.book before (lasts_same m.book x.book (ap (λ (y : Scene C). y.book) served.2.only))) only served.3 writes)
+answered_shown {C} reads last head caller spot body k m a b v answer kept plain (inr (inl is)) before only takes written writes =
     let full : TakesIn reads head m a (begun.Asked (Err denial.RunFull)) (Ok v) =
     subst (λ (w : Answer). TakesIn reads head m a (begun.Asked w) (Ok v)) is takes in
     absurd (full_not_written (way_of head (begun.Asked answer)).closes v full.3.0 written)
-answered_shown {C} reads last head caller spot body k m a b v answer kept plain (inr (inr is)) before takes written writes =
+answered_shown {C} reads last head caller spot body k m a b v answer kept plain (inr (inr is)) before only takes written writes =
     let wanting : TakesIn reads head m a (begun.Asked (Err denial.Memory)) (Ok v) =
     subst (λ (w : Answer). TakesIn reads head m a (begun.Asked w) (Ok v)) is takes in
     denied_shown last (closes_session head) (waits head) (way_of head (begun.Asked answer)) plain body k a b v
@@ -365,17 +380,21 @@ get_not_invited {C} reads head caller spot body (begun.Asked answer) k m asked (
 
 pub begun_shown : {C : Type 0} (reads : C → ℕ → C → Type 0) (last : Bool) (head : Head) (caller : Caller) (spot : Spot) (body : List ℕ)
     (begun : Begun) (k m a b : Scene C) (v : Response) → request_of head ≡ Ok (get_of caller spot) → Judges reads head k m begun
-    → IsKept k.book caller spot body → OnlyOwn k.book m.book
+    → IsKept k.book caller spot body → OnlyOwn k.book m.book → OnlyOwn k.book b.book
     → TakesIn reads head m a begun (Ok v) → IsWritten (end_of (way_of head begun).closes v)
     → Writes {T = Unit {0}} (manner_of last (way_of head begun) v) v a b (Ok tt) → Shown (last || closes_session head) (waits head) body k.book a b
-begun_shown reads last head caller spot body (begun.Unasked refusal) k m a b v asked (inl other, same) kept only takes written writes = absurd (cc)
-begun_shown reads last head caller spot body (begun.Unasked refusal) k m a b v asked (inr memory, same) kept only (x, other, bodies, passes) written writes =
+begun_shown reads last head caller spot body (begun.Unasked refusal) k m a b v asked (inl other, same) kept one only takes written writes =
+    absurd (cc)
+begun_shown reads last head caller spot body (begun.Unasked refusal) k m a b v asked (inr memory, same) kept one only
+    (x, other, bodies, passes) written writes =
     let plain = asked_plain head (begun.Unasked refusal) _ asked in
     denied_shown last (closes_session head) (waits head) (way_of head (begun.Unasked refusal)) plain body k.book a b v
     (ap (λ (unsent : Bool). closes_session head || unsent) (held_back head (begun.Unasked refusal) plain)) (passes.0 ∙ ap response.Denied memory) writes
-begun_shown {C} reads last head caller spot body (begun.Asked answer) k m a b v asked (r, now, is, read, begins, only) kept alone takes written writes =
+begun_shown {C} reads last head caller spot body (begun.Asked answer) k m a b v asked (r, now, is, read, begins, judged) kept one only takes
+    written writes =
     let same : r ≡ get_of caller spot = cc in
     let get : Begins k.book m.book now no_words (get_of caller spot) answer =
     subst (λ (q : Request). Begins k.book m.book now no_words q answer) same begins in
-    answered_shown reads last head caller spot body k.book m a b v answer kept (asked_plain head (begun.Asked answer) _ asked) (get_answered k.book m.book now caller spot body answer kept alone get)
-    (begins_move k.book m.book now no_words (get_of caller spot) answer get).onward.lasts takes written writes
+    answered_shown reads last head caller spot body k.book m a b v answer kept (asked_plain head (begun.Asked answer) _ asked)
+    (get_answered k.book m.book now caller spot body answer kept one get)
+    (begins_move k.book m.book now no_words (get_of caller spot) answer get).onward.lasts only takes written writes

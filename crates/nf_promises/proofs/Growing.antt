@@ -2,7 +2,7 @@
 use Rattle.std.proofs.Common.{ℕ, ◌≡◌, Option, Result, ap, arith, List, [], ◌++◌, length, sym, subst, ◌∙◌}
 use Rattle.nf_http.specs.Head.{Head}
 use Rattle.nf_http.specs.declared.wire.WireFault.{WireFault}
-use Rattle.nf_session.specs.Prelude.{Answer, Book, Enters, Heads, Scene, state_after, state_of}
+use Rattle.nf_session.specs.Prelude.{Answer, Book, Enters, Heads, Lasts, Scene, state_after, state_of}
 use Rattle.nf_session.proofs.Moving.{Moves, no_others}
 use Rattle.nf_promises.specs.Kept.{OnlyOwn}
 use Rattle.std.proofs.lemmas.List.{append-nil}
@@ -17,7 +17,14 @@ heads_same {C} a b result heads = ap (λ (x : Scene C). x.book) heads.only
 
 -- where no other's entry came between two books, none did between two others on the way
 pub only_within : {a x y c : Book} {n m k p q r : ℕ} → Moves a x n p → Moves x y m q → Moves y c k r → OnlyOwn a c → OnlyOwn x y
-only_within first middle last only = omega (arith, first.known, middle.known, last.known, only)
+only_within first middle last only =
+    omega (arith, first.onward.lasts.entries, middle.onward.lasts.entries, last.onward.lasts.entries, only)
+
+pub only_first : (a m b : Book) → Lasts a m → Lasts m b → OnlyOwn a b → OnlyOwn a m
+only_first a m b first last only = omega (arith, first.entries, last.entries, only)
+
+pub only_last : (a m b : Book) → Lasts a m → Lasts m b → OnlyOwn a b → OnlyOwn m b
+only_last a m b first last only = omega (arith, first.entries, last.entries, only)
 
 pub same_state : (a : Book) (others : List Entry) → others ≡ [] → state_after a others ≡ state_of a
 same_state a others none =

@@ -11,3 +11,5 @@ pub mod Marks
 pub mod Bytes
 pub mod Unfailing
 pub mod Completing
+pub mod Stored
+pub mod Shown

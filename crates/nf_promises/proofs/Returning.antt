@@ -16,12 +16,12 @@ use Rattle.nf_session.specs.declared.begun.Begun.{Begun}
 use Rattle.nf_session.specs.declared.ended.Ended.{Ended}
 use Rattle.nf_session.specs.declared.ended.Ended.TheVariants as ended
 use Rattle.nf_session.specs.declared.response.Response.{Response}
-use Rattle.nf_session.proofs.Calm.{closes_go, goes_first, goes_then, invites_go, judges_go, writes_go}
+use Rattle.nf_session.proofs.Calm.{closes_go, goes_first, goes_then, invites_go, judges_go, takes_go, writes_go}
 use Rattle.nf_session.proofs.Causes.{answers_go, is_whole, turn_goes, whole_by}
 use Rattle.nf_session.proofs.Moving.{same_moves}
 use Rattle.nf_session.proofs.Inviting.{stops_sends}
 use Rattle.nf_promises.proofs.Gets.{ShownOf, begun_shown, get_not_invited}
-use Rattle.nf_promises.proofs.Growing.{heads_same, only_within}
+use Rattle.nf_promises.proofs.Growing.{heads_same, only_first, only_within}
 use Rattle.nf_promises.proofs.Puts.{IsKept, put_is_kept}
 use Rattle.nf_promises.proofs.Touches.{closes_only, judges_only, output_of, passes_only}
 use Rattle.nf_promises.specs.Kept.{AreOfBody, FailsStore, IsWritten, OnlyOwn, PutThenGet, ShowsDamage, ShowsFile, get_of, plainly, waits}
@@ -114,18 +114,22 @@ told_shown close unsent body shelf a b told (inr (inr (inr (inr damage)))) =
 
 answers_shown : {C : Type 0} (reads : C → ℕ → C → Type 0) (last : Bool) (head : Head) (caller : Caller) (spot : Spot) (body : List ℕ)
     (begun : Begun) (k m b : Scene C) (end : Option Ended) → request_of head ≡ Ok (get_of caller spot) → Judges reads head k m begun
-    → IsKept k.book caller spot body → OnlyOwn k.book m.book
+    → IsKept k.book caller spot body → OnlyOwn k.book m.book → OnlyOwn k.book b.book
     → Answers reads last head begun m b end → IsWritten end → ShowsFile (last || closes_session head) (waits head) body k b
-answers_shown {C} reads last head caller spot body begun k m b end asked judges kept only answers written =
+answers_shown {C} reads last head caller spot body begun k m b end asked judges kept one only answers written =
     let v = answers.response in
     let wrote = wrote_whole last (way_of head begun) v answers.taken answers.sent answers.result answers.responds
     (subst (λ (e : Option Ended). IsWritten e) answers.ends written) in
-    let shown = begun_shown reads last head caller spot body begun k m answers.taken answers.sent v asked judges kept only answers.takes wrote.0 wrote.1 in
+    let written_goes = writes_go (manner_of last (way_of head begun) v) v answers.taken answers.sent wrote.1 in
+    let behind = closes_go reads (how_of v answers.result) (stays_granted v) answers.sent b answers.closes in
+    let taken = takes_go reads head m answers.taken begun v answers.takes in
+    let before = goes_then (judges_go reads head k m begun judges) (goes_then taken written_goes) in
+    let shown = begun_shown reads last head caller spot body begun k m answers.taken answers.sent v asked judges kept one
+    (only_first k.book answers.sent.book b.book before.book.onward.lasts behind.book.onward.lasts only) answers.takes wrote.0 wrote.1 in
     let front : answers.taken.output ≡ k.output = takes_output reads head m answers.taken begun v answers.takes ∙ output_of k m (judges_only reads head k m begun judges) in
     let closed = output_of answers.sent b (closes_only reads (how_of v answers.result) (stays_granted v) answers.sent b answers.closes) in
     let later : answers.taken.book.strikes ≤ b.book.strikes =
-    (goes_then (writes_go (manner_of last (way_of head begun) v) v answers.taken answers.sent wrote.1)
-    (closes_go reads (how_of v answers.result) (stays_granted v) answers.sent b answers.closes)).book.onward.lasts.strikes in
+    (goes_then written_goes behind).book.onward.lasts.strikes in
     shown_by (last || closes_session head) (waits head) body k.book.told (FailsStore k.book answers.taken.book) (FailsStore k.book b.book)
     k answers.taken answers.sent b front (sym closed) (λ fails. omega (arith, later, fails)) shown
 
@@ -140,7 +144,7 @@ meets_shown {C} reads last head caller spot body k b end (m, begun, judges, inr 
     only_within (same_moves k.book k.book 0 refl) (judges_go reads head k m begun judges).book
     (goes_first (invites_go head begun m n invites) (answers_go reads last head begun n b end answers)).book only in
     let same : n ≡ m = quiet head begun m n (get_not_invited reads head caller spot body begun k m asked judges kept one) invites in
-    answers_shown reads last head caller spot body begun k m b end asked judges kept one
+    answers_shown reads last head caller spot body begun k m b end asked judges kept one only
     (subst (λ (x : Scene C). Answers reads last head begun x b end) same answers) written
 meets_shown reads last head caller spot body k b end (m, begun, judges, inr (n, invites, inr cuts)) asked kept only written =
     absurd (cut_not_written cuts.fault cuts.cut cuts.sent cuts.by cuts.responds (subst (λ (e : Option Ended). IsWritten e) cuts.ends written))

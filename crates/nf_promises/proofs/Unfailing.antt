@@ -1,8 +1,10 @@
 -- What can't come of a step while nothing fails, and how a session ends then.
-use Rattle.std.proofs.Common.{ℕ, ◌==◌, ◌≡◌, ◌⊎◌, Bool, true, false, List, length, Option, None, Some, Result, Ok, Err, inl, inr, refl, sym, ap, subst, ◌∙◌, arith}
+use Rattle.std.proofs.Common.{ℕ, ◌==◌, ◌≡◌, ◌-◌, ◌⊎◌, Bool, true, false, List, length, Option, None, Some, Result, Ok, Err, inl, inr, refl, sym, ap, subst, ◌∙◌, arith}
 use Rattle.std.specs.Prelude.{IfSome, IsSome, Vec}
 use Rattle.std.specs.declared.alloc.Global.{Global}
+use Rattle.nf_base.specs.declared.limits.TheConstants.{MAX_MESSAGES}
 use Rattle.nf_base.specs.declared.content.Piece.{Piece}
+use Rattle.nf_base.specs.declared.rows.Row.{Row}
 use Rattle.nf_defs.specs.Blobs.{Blobs}
 use Rattle.nf_dav.specs.Reply.{continue_reply}
 use Rattle.nf_dav.specs.declared.replies.Manner.{Manner}
@@ -10,11 +12,12 @@ use Rattle.nf_http.specs.Filling.{HasReadCause}
 use Rattle.nf_http.specs.Head.{Head}
 use Rattle.nf_http.specs.declared.wire.WireFault.{WireFault}
 use Rattle.nf_http.specs.declared.wire.WireFault.TheVariants as wire
+use Rattle.nf_laws.specs.Wholes.{IsDamaged}
 use Rattle.nf_outside.specs.Causes.{Rose}
 use Rattle.nf_words.specs.declared.answer.Damage.{Damage}
 use Rattle.nf_words.specs.declared.answer.Denial.{Denial}
 use Rattle.nf_words.specs.declared.answer.Denial.TheVariants as denial
-use Rattle.nf_session.specs.Prelude.{Answers, Book, CutsShort, denial_of, end_by, end_of, end_of_close, end_of_denial, EndsBy, EndsSo, FailsPiece, how_of, Lasts, manner_of, Meets, next_blob_of, OnlyReads, Responds, Says, Scene, SendsFile, stays_granted, StopsShort, Struck, TellsDamage, TellsStill, Turn, Way, way_of, Writes}
+use Rattle.nf_session.specs.Prelude.{Answers, Book, CutsShort, denial_of, end_by, end_of, end_of_close, end_of_denial, EndsBy, EndsSo, FailsPiece, how_of, Lasts, manner_of, Meets, next_blob_of, OnlyReads, OthersCame, Responds, Says, Scene, SendsFile, stays_granted, StopsShort, Struck, TellsDamage, TellsStill, Turn, Way, way_of, Writes}
 use Rattle.nf_session.specs.declared.backend.Ending.TheVariants as ending
 use Rattle.nf_session.specs.declared.backend.PieceFault.{PieceFault}
 use Rattle.nf_session.specs.declared.backend.PieceFault.TheVariants as fault
@@ -51,7 +54,7 @@ so_whole refusal a b other risen never = absurd never
 
 -- ---- between two scenes, while nothing fails
 
-module _ {C : Type 0} (a b : Scene C) (nothing : NothingFails a b) (whole : StaysWhole a.book b.book) where
+module _ {C : Type 0} (a b : Scene C) (nothing : NothingFails a b) (whole : StaysWhole a.book) where
   pub not_struck : (x y : Scene C) → Calm a x → Calm y b → Struck x.book.strikes y.book.strikes → ⊥
   not_struck x y before behind struck =
       omega (arith, before.onward.lasts.strikes, behind.onward.lasts.strikes, struck, nothing.store.0, nothing.store.1)
@@ -64,20 +67,26 @@ module _ {C : Type 0} (a b : Scene C) (nothing : NothingFails a b) (whole : Stay
 
   -- ---- pieces
 
-  not_damaged : (x : Book) (piece : Piece) (damage : Damage) → Lasts a.book x → Lasts x b.book → IfSome x.told (TellsDamage x piece damage) → ⊥
-  not_damaged x piece damage before behind damaged = here a.book.told x.told whole.tells before.told refl damaged
+  not_damaged : (x : Book) (piece : Piece) (damage : Damage) → Lasts a.book x → IfSome x.told (TellsDamage x piece damage) → ⊥
+  not_damaged x piece damage before damaged = here a.book.told x.told whole.tells before.told damaged
     where
-      here : (old new : Option Blobs) → IsSome old → TellsStill (next_blob_of a.book) old new → x.told ≡ new
+      here : (old new : Option Blobs) → IsSome old → TellsStill (OthersCame a.book x) (next_blob_of a.book) old new
           → IfSome new (TellsDamage x piece damage) → ⊥
-      here None new tells still is damaged = cc
-      here (Some old) None tells still is damaged = still
-      here (Some old) (Some shelf) tells still is damaged = whole.whole x shelf piece before behind is damaged.damaged
+      here None new tells still damaged = cc
+      here (Some old) None tells still damaged = still
+      here (Some old) (Some shelf) tells still damaged =
+          let was = damaged.damaged in
+          whole.whole piece (record {
+            begun = was.begun;
+            tells = sym before.start ∙ was.tells;
+            damaged = subst (λ (rows : List Row). IsDamaged rows was.begun piece) before.opening was.damaged;
+          })
 
   pub piece_wanting : (x y : Scene C) (piece : Piece) (why : PieceFault) → Calm a x → Calm y b → Lasts x.book y.book
       → FailsPiece x.book y.book piece why → why ≡ fault.Memory
   piece_wanting x y piece fault.Store before behind lasts struck = absurd (not_struck x y before behind struck)
   piece_wanting x y piece (fault.Damaged damage) before behind lasts (calm, differs, damaged) =
-      absurd (not_damaged y.book piece damage (lasts_then a.book x.book y.book before.onward.lasts lasts) behind.onward.lasts damaged)
+      absurd (not_damaged y.book piece damage (lasts_then a.book x.book y.book before.onward.lasts lasts) damaged)
   piece_wanting x y piece fault.Memory before behind lasts fails = refl
 
   sends_whole : (close : Bool) (content : List Piece) (first : Option (Vec ℕ Global)) (x y : Scene C) (by : Ended) → Calm a x → Calm y b
@@ -143,7 +152,7 @@ response_well closes other = close_well closes
 well_by : (end good : Option Ended) → end ≡ good → IsWell good → IsWell end
 well_by end good is well = subst (λ (e : Option Ended). IsWell e) (sym is) well
 
-module _ {C : Type 0} (reads : C → ℕ → C → Type 0) (a b : Scene C) (nothing : NothingFails a b) (whole : StaysWhole a.book b.book) where
+module _ {C : Type 0} (reads : C → ℕ → C → Type 0) (a b : Scene C) (nothing : NothingFails a b) (whole : StaysWhole a.book) where
   answers_well : (last : Bool) (head : Head) (u : Begun) (x : Scene C) (end : Option Ended) → Calm a x → Answers reads last head u x b end → IsWell end
   answers_well last head u x end before answers =
       let v = answers.response in
@@ -180,5 +189,5 @@ module _ {C : Type 0} (reads : C → ℕ → C → Type 0) (a b : Scene C) (noth
 
 pub ends_well : {C : Type 0} (reads : C → ℕ → C → Type 0) → EndsWell reads
 ends_well reads a b end session nothing whole =
-    turn_well reads a b nothing whole (length session.scenes == 9999) session.before end
+    turn_well reads a b nothing whole (length session.scenes == MAX_MESSAGES - 1) session.before end
     (calm_of (through_goes reads a session.scenes session.before session.through)) session.turn

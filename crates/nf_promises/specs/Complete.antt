@@ -3,19 +3,18 @@ use Rattle.std.specs.Prelude.{◌≡◌, ◌⊎◌, ℕ, ◌-◌, ◌^◌, ◌<�
 use Rattle.std.specs.List.{concat}
 use Rattle.std.specs.Io.KnownBytes.{Appends}
 use Rattle.sha2.specs.Sha256.{sha256}
+use Rattle.nf_base.specs.declared.limits.TheConstants.{MAX_ENTRIES}
 use Rattle.nf_base.specs.Content.{size_of}
 use Rattle.nf_base.specs.declared.content.Piece.{Piece}
-use Rattle.nf_defs.specs.Blobs.{Blobs}
 use Rattle.nf_dav.specs.Asked.{request_of}
 use Rattle.nf_dav.specs.Reply.{done_reply, file_head, listing_reply, made_reply, refusal_reply}
 use Rattle.nf_dav.specs.declared.replies.Manner.{Manner}
 use Rattle.nf_http.specs.Bodies.{TakesBody}
 use Rattle.nf_http.specs.Head.{Head, closes_session}
-use Rattle.nf_laws.specs.Wholes.{IsDamaged}
-use Rattle.nf_session.specs.Prelude.{Answer, AreGiven, Book, entries_wanted, Heads, Lasts, Meets, no_words, Scene, Session, state_after}
+use Rattle.nf_session.specs.Prelude.{Answer, AreGiven, Book, entries_wanted, Heads, Meets, no_words, Scene, Session, state_after, WasDamaged}
 use Rattle.nf_session.specs.declared.ended.Ended.{Ended}
 use Rattle.nf_session.specs.declared.ended.Ended.TheVariants as ended
-use Rattle.nf_words.specs.Prelude.{answer_to, most_entries}
+use Rattle.nf_words.specs.Prelude.{answer_to}
 use Rattle.nf_words.specs.declared.answer.Denial.TheVariants as denial
 use Rattle.nf_words.specs.declared.answer.Goal.TheVariants.{Serve, Store}
 use Rattle.nf_words.specs.declared.answer.Reply.TheVariants as reply
@@ -38,10 +37,10 @@ pub record NothingFails {C : Type 0} (a b : Scene C) : Type 0 where
   pub read : IsUnrisen a.read_faults b.read_faults
   pub write : IsUnrisen a.write_faults b.write_faults
 
--- the store tells, and nothing is damaged at any moment between
-pub record StaysWhole (a b : Book) : Type 0 where
-  pub tells : IsSome a.told
-  pub whole : (x : Book) (shelf : Blobs) (piece : Piece) → Lasts a x → Lasts x b → x.told ≡ Some shelf → IsDamaged x.opening shelf piece → ⊥
+-- the store tells, and nothing was damaged at the start, so nothing that is named is damaged at any moment
+pub record StaysWhole (b : Book) : Type 0 where
+  pub tells : IsSome b.told
+  pub whole : (piece : Piece) → WasDamaged b piece → ⊥
 
 -- ---- what is written
 
@@ -74,7 +73,7 @@ pub record SaysStored {C : Type 0} (head : Head) (close : Bool) (size : ℕ) (a 
 -- all pieces of a content were given, and written behind its head
 pub record SaysFile {C : Type 0} (close : Bool) (content : List Piece) (a b : Scene C) : Type 0 where
   pub given : List (List ℕ)
-  pub are_given : AreGiven b.book content given
+  pub are_given : AreGiven a.book b.book content given
   pub all : length given ≡ length content
   pub bytes : Appends a.output b.output (file_head close (size_of content) ++ concat given)
 
@@ -101,14 +100,14 @@ IsWanting head a b end =
 -- ended there because the run is full, and it is; or because the body was cut
 abbrev pub IsMet : {C : Type 0} → Bool → Head → Request → Scene C → Scene C → Option Ended → Type 0
 IsMet last head r a b end =
-    IsWanting head a b end ⊎ ((end ≡ Some ended.RunFull) × (most_entries < entries_wanted b.book)) ⊎ (end ≡ Some ended.BadMessage)
+    IsWanting head a b end ⊎ ((end ≡ Some ended.RunFull) × (MAX_ENTRIES < entries_wanted b.book)) ⊎ (end ≡ Some ended.BadMessage)
     ⊎ ((answer : Answer) × IsAnswerOf a.book b.book (Begin no_words r) answer × Says head (last || closes_session head) answer a b)
 
 -- each message with a request is, at which nothing fails
 abbrev pub Completes : {C : Type 0} → (C → ℕ → C → Type 0) → Type 0
 Completes {C} reads =
     (last : Bool) (a m b : Scene C) (head : Head) (r : Request) (end : Option Ended)
-    → Heads a m (Ok (Some head)) → request_of head ≡ Ok r → Meets reads last head m b end → NothingFails a b → StaysWhole a.book b.book
+    → Heads a m (Ok (Some head)) → request_of head ≡ Ok r → Meets reads last head m b end → NothingFails a b → StaysWhole a.book
     → IsMet last head r m b end
 
 -- how a session may end in which nothing fails
@@ -124,4 +123,4 @@ IsWell (Some other) = ⊥
 -- each session does, in which nothing fails
 abbrev pub EndsWell : {C : Type 0} → (C → ℕ → C → Type 0) → Type 0
 EndsWell {C} reads =
-    (a b : Scene C) (end : Option Ended) → Session reads a b end → NothingFails a b → StaysWhole a.book b.book → IsWell end
+    (a b : Scene C) (end : Option Ended) → Session reads a b end → NothingFails a b → StaysWhole a.book → IsWell end

@@ -2,6 +2,7 @@
 use Rattle.std.specs.Prelude.{◌≡◌, ◌⊎◌, ℕ, ◌+◌, ◌-◌, ◌^◌, ◌≤◌, min, Bool, false, ◌||◌, ◌&&◌, nat_lt, if◌then◌else◌, List, [], ◌++◌, length, Option, None, Some, IsSome, Ok}
 use Rattle.std.specs.Io.KnownBytes.{Appends}
 use Rattle.sha2.specs.Sha256.{sha256}
+use Rattle.nf_base.specs.declared.limits.TheConstants.{MAX_HEAD}
 use Rattle.nf_defs.specs.Blobs.{Blobs}
 use Rattle.nf_dav.specs.Asked.{request_of}
 use Rattle.nf_dav.specs.Reply.{continue_reply, done_reply, file_head, made_reply, refusal_reply}
@@ -94,7 +95,7 @@ AreOfBody (Some shelf) body bytes = bytes ≡ body
 abbrev pub plainly : Bool → Manner
 plainly close = record { close = close; ocs = false; head_only = false }
 
--- that they are damaged, only where the store tells nothing: what it tells under a number it tells for good
+-- that they are damaged, only where the store tells nothing: while no other's entry comes, it tells what it told
 abbrev pub ShowsDamage : {C : Type 0} → Option Blobs → Bool → Scene C → Scene C → Type 0
 ShowsDamage None close a b = (damage : Damage) × Appends a.output b.output (refusal_reply (plainly close) (denial.Damaged damage))
 ShowsDamage (Some shelf) close a b = ⊥
@@ -124,7 +125,7 @@ PutThenGet {C} reads =
 -- the bytes of a head that has no fault, and asks for that
 pub record Prints (h : RequestHead) (request : Request) : Type 0 where
   pub is_head : IsRequestHead h
-  pub short : length (print_request h) ≤ 8192
+  pub short : length (print_request h) ≤ MAX_HEAD
   pub sound : head_fault (head_of h) ≡ None
   pub asks : request_of (head_of h) ≡ Ok request
 

@@ -1,3 +1,5 @@
 pub mod Room
 pub mod Complete
 pub mod Kept
+pub mod Acknowledged
+pub mod Faults

@@ -1,6 +1,6 @@
 -- When a session finds the run full.
 use Rattle.std.specs.Prelude.{◌≡◌, ◌≢◌, ℕ, ◌<◌, [], length, Option, Some}
-use Rattle.nf_words.specs.History.{most_entries}
+use Rattle.nf_base.specs.declared.limits.TheConstants.{MAX_ENTRIES}
 use Rattle.nf_session.specs.Prelude.{Book, entries_wanted, Scene, Session}
 use Rattle.nf_session.specs.declared.ended.Ended.{Ended}
 use Rattle.nf_session.specs.declared.ended.Ended.TheVariants as ended
@@ -22,4 +22,4 @@ NeverFull {C} reads =
 
 -- a session that ends because the run is full has seen that it is: what it knows at its end leaves no room for two entries more
 abbrev pub FullIsSeen : {C : Type 0} → (C → ℕ → C → Type 0) → Type 0
-FullIsSeen {C} reads = (a b : Scene C) → Session reads a b (Some ended.RunFull) → most_entries < entries_wanted b.book
+FullIsSeen {C} reads = (a b : Scene C) → Session reads a b (Some ended.RunFull) → MAX_ENTRIES < entries_wanted b.book

@@ -36,16 +36,24 @@ with_words mount old = inserted (words mount) mount old
 abbrev pub with_more : Mount → List ℕ → RowsOf (RouteOf Mount) → RowsOf (RouteOf Mount)
 with_more mount text old = inserted text mount (with_words mount old)
 
--- the rows after every route was added
-abbrev pub routes : RowsOf (RouteOf Mount)
-routes =
+-- with the mounts of files
+abbrev pub with_dav : RowsOf (RouteOf Mount) → RowsOf (RouteOf Mount)
+with_dav old =
+    with_more Versions (codes "/remote.php/dav/versions/{*rest}")
+    (with_more Trashbin (codes "/remote.php/dav/trashbin/{*rest}")
+    (with_more Uploads (codes "/remote.php/dav/uploads/{*rest}")
+    (with_more Public (codes "/public.php/dav/files/{*rest}")
+    (with_more Files (codes "/remote.php/dav/files/{*rest}") old))))
+
+-- and with those of shares and people
+abbrev pub with_ocs : RowsOf (RouteOf Mount) → RowsOf (RouteOf Mount)
+with_ocs old =
     with_words Groups
     (with_more User (codes "/ocs/v2.php/cloud/users/{*rest}")
     (with_words Users
     (with_more Share (codes "/ocs/v2.php/apps/files_sharing/api/v1/shares/{*rest}")
-    (with_words Shares
-    (with_more Versions (codes "/remote.php/dav/versions/{*rest}")
-    (with_more Trashbin (codes "/remote.php/dav/trashbin/{*rest}")
-    (with_more Uploads (codes "/remote.php/dav/uploads/{*rest}")
-    (with_more Public (codes "/public.php/dav/files/{*rest}")
-    (with_more Files (codes "/remote.php/dav/files/{*rest}") [])))))))))
+    (with_words Shares old))))
+
+-- the rows after every route was added
+abbrev pub routes : RowsOf (RouteOf Mount)
+routes = with_ocs (with_dav [])

@@ -2,7 +2,7 @@
 
 ghost use Rattle.std.specs.Prelude.{◌≡◌, IfOk, OnOk, map};
 ghost use Rattle.nf_routes.specs.Mounts.{chunk_route, mount_of, route_below, route_of, share_route, trash_route, upload_route, user_route, version_route, words};
-ghost use Rattle.nf_routes.specs.Rows.{routes, with_more, with_words};
+ghost use Rattle.nf_routes.specs.Rows.{routes, with_dav, with_more, with_ocs, with_words};
 
 use crate::targets::{decoded, pieces, target_path};
 use matchit::{InsertError, Router};
@@ -88,33 +88,35 @@ fn router(alloc: Global) -> Result<Router<Mount>, InsertError>
     ensures { IfOk result (λ router. router ≡ routes) }
 {
     let mut router = Router::new(alloc);
-    add_more(&mut router, Mount::Files, "/remote.php/dav/files/{*rest}")?;
-    add_more(&mut router, Mount::Public, "/public.php/dav/files/{*rest}")?;
+    add_dav(&mut router)?;
+    add_ocs(&mut router)?;
+    Ok(router)
+}
+
+// Adds the mounts of files.
+fn add_dav(router: &mut Router<Mount>) -> Result<(), InsertError>
+    ensures { OnOk result (router.new ≡ with_dav router.old) }
+{
+    add_more(router, Mount::Files, "/remote.php/dav/files/{*rest}")?;
+    add_more(router, Mount::Public, "/public.php/dav/files/{*rest}")?;
+    add_more(router, Mount::Uploads, "/remote.php/dav/uploads/{*rest}")?;
+    add_more(router, Mount::Trashbin, "/remote.php/dav/trashbin/{*rest}")?;
+    add_more(router, Mount::Versions, "/remote.php/dav/versions/{*rest}")
+}
+
+// Adds the mounts of shares and people.
+fn add_ocs(router: &mut Router<Mount>) -> Result<(), InsertError>
+    ensures { OnOk result (router.new ≡ with_ocs router.old) }
+{
+    add_words(router, Mount::Shares)?;
     add_more(
-        &mut router,
-        Mount::Uploads,
-        "/remote.php/dav/uploads/{*rest}",
-    )?;
-    add_more(
-        &mut router,
-        Mount::Trashbin,
-        "/remote.php/dav/trashbin/{*rest}",
-    )?;
-    add_more(
-        &mut router,
-        Mount::Versions,
-        "/remote.php/dav/versions/{*rest}",
-    )?;
-    add_words(&mut router, Mount::Shares)?;
-    add_more(
-        &mut router,
+        router,
         Mount::Share,
         "/ocs/v2.php/apps/files_sharing/api/v1/shares/{*rest}",
     )?;
-    add_words(&mut router, Mount::Users)?;
-    add_more(&mut router, Mount::User, "/ocs/v2.php/cloud/users/{*rest}")?;
-    add_words(&mut router, Mount::Groups)?;
-    Ok(router)
+    add_words(router, Mount::Users)?;
+    add_more(router, Mount::User, "/ocs/v2.php/cloud/users/{*rest}")?;
+    add_words(router, Mount::Groups)
 }
 
 // Adds a mount's words alone, which for a router are no front of what goes on.

@@ -9,8 +9,8 @@ ghost use Rattle.nf_rows.specs.Faults.{Gives, bytes_at, number_at, byte_at, many
 
 use crate::fault::RowFault;
 use nf_base::{
-    BlobId, Content, Digest, GroupId, MAX_BODY, Name, NameFault, NodeId, NodeKind, Path, Perms,
-    Piece, Place, ShareKind, UserId,
+    BlobId, Content, Digest, GroupId, MAX_BODY, MAX_DEPTH, MAX_PIECES, Name, NameFault, NodeId,
+    NodeKind, Path, Perms, Piece, Place, ShareKind, UserId,
 };
 use std::alloc::Global;
 
@@ -116,7 +116,7 @@ pub fn path_of(alloc: Global, at: usize, bytes: &[u8]) -> Result<(Path, &[u8]), 
     ensures { Gives (λ x. (x.0, x.1.now)) result (path_at at bytes.now) }
 {
     let (count, rest) = byte_of(at, bytes)?;
-    if count > 64 {
+    if u32::from(count) > MAX_DEPTH {
         return Err(RowFault::Value { at });
     }
     let (names, rest) = names_of(alloc, at, count, rest)?;
@@ -265,7 +265,7 @@ pub fn content_of(
     ensures within { IfOk result (λ x. length x.0 ≤ most) }
 {
     let (count, rest) = u16_of(at, bytes)?;
-    if count > 10_000 {
+    if usize::from(count) > MAX_PIECES {
         return Err(RowFault::Value { at });
     }
     let (pieces, rest) = pieces_of(alloc, at, count, rest)?;

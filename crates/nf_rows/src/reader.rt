@@ -11,7 +11,9 @@ use crate::parts::{
     bytes_of, content_of, digest_of, flag_of, format_of, name_of, node_kind_of, optional_of,
     path_of, permissions_of, place_of, share_kind_of, u16_of, u32_of, u64_of,
 };
-use nf_base::{Content, Digest, Moment, Name, NodeKind, Path, Perms, Place, ShareId, ShareKind};
+use nf_base::{
+    Content, Digest, MAX_PIECES, Moment, Name, NodeKind, Path, Perms, Place, ShareId, ShareKind,
+};
 use std::alloc::Global;
 
 /// What is left of a key or a body.
@@ -135,7 +137,7 @@ impl<'a> Reader<'a> {
         self.rest = rest;
         let most = match kind {
             NodeKind::Folder => 0,
-            NodeKind::File => 10_000,
+            NodeKind::File => MAX_PIECES,
         };
         let (content, rest) = content_of(self.alloc, most, self.at(), self.rest)?;
         self.rest = rest;

@@ -2,6 +2,7 @@
 #![tactic(auto, unfolding(crate::specs::Spelling::spelled))]
 
 ghost use Rattle.std.specs.Prelude.{◌≡◌, ◌++◌, ◌∷◌, [], OnOk};
+ghost use Rattle.nf_base.specs.declared.limits.TheConstants.{MAX_PIECES};
 ghost use Rattle.nf_base.specs.Kept.{IsPlain, IsSized};
 ghost use Rattle.nf_rows.specs.Spelling.{Fits, FitsKey, FitsPiece, Puts, PutsAll, body_values, key_spelling, key_values, kind_of, spelled, spelling_of};
 ghost use Rattle.nf_rows.specs.Spelling as value;
@@ -122,7 +123,7 @@ fn put_piece(out: &mut Vec<u8>, piece: &Piece) -> Result<(), AllocError>
 }
 
 fn put_content(out: &mut Vec<u8>, content: &Content) -> Result<(), AllocError>
-    ensures { OnOk result (Puts (value.Pieces 10000 content.now) out.old.items out.new.items) }
+    ensures { OnOk result (Puts (value.Pieces MAX_PIECES content.now) out.old.items out.new.items) }
 {
     let pieces = content.pieces();
     put_u16(out, pieces.len() as u16)?;

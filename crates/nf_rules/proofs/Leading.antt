@@ -1,8 +1,9 @@
 -- The way of a node to its owner's root, as a test and as a climb.
-use Rattle.std.proofs.Common.{◌≡◌, ℕ, zero, suc, ◌≤◌, ◌==◌, Bool, true, false, ◌&&◌, Option, None, Some, refl, sym, ap, ◌∙◌, arith}
+use Rattle.std.proofs.Common.{◌≡◌, ℕ, zero, suc, ◌≤◌, ◌==◌, ◌-◌, Bool, true, false, ◌&&◌, Option, None, Some, refl, sym, ap, ◌∙◌, arith}
 use Rattle.std.specs.Option.{option_and_then, option_map_or}
 use Rattle.std.proofs.lemmas.Bool.{and_from, and_parts, eq-eqb, eqb-true, false≢true}
 use Rattle.std.proofs.lemmas.Option.{none-some, same_Some}
+use Rattle.nf_base.specs.declared.limits.TheConstants.{MAX_DEPTH}
 use Rattle.nf_base.specs.declared.rows.NodeRow.{NodeRow}
 use Rattle.nf_base.specs.declared.rows.Place.{Place}
 use Rattle.nf_base.specs.declared.rows.Place.TheVariants.{Root, Inside, Trash}
@@ -84,13 +85,13 @@ climbs_within (suc k) t row there is =
     climbs_from t row (suc k) (leads_within k t) there
     (λ parent there is. let more = climbs_within k t parent there is in (more.0, omega (arith, more.1), more.2)) row.place refl is
 
-pub climbs : (t : Tables) (row : NodeRow) → node_row t.nodes row.id ≡ Some row → leads t row ≡ true → Climbs t row 64
+pub climbs : (t : Tables) (row : NodeRow) → node_row t.nodes row.id ≡ Some row → leads t row ≡ true → Climbs t row MAX_DEPTH
 unfolding leads
-climbs t row there is = climbs_within 64 t row there is
+climbs t row there is = climbs_within MAX_DEPTH t row there is
 
 pub place_of_leading : (t : Tables) (row : NodeRow) → leads t row ≡ true → IsPlaceSound t row row.place
 unfolding leads leads_within
-place_of_leading t row is = place_leads t row row.place (leads_within 63 t) is
+place_of_leading t row is = place_leads t row row.place (leads_within (MAX_DEPTH - 1) t) is
 
 -- ---- the other way round
 
@@ -136,4 +137,4 @@ leads_by (suc k) steps t row sound own there few is =
 
 pub sound_leads : (t : Tables) (row : NodeRow) → AreSound t → IsNodeSound t row → node_row t.nodes row.id ≡ Some row → leads t row ≡ true
 unfolding leads
-sound_leads t row sound own there = leads_by 64 own.steps t row sound own there own.shallow own.present
+sound_leads t row sound own there = leads_by MAX_DEPTH own.steps t row sound own there own.shallow own.present

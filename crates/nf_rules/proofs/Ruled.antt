@@ -7,6 +7,7 @@ use Rattle.std.proofs.lemmas.Bool.{and_from, and_right, eq-eqb, eqb-true, false�
 use Rattle.std.proofs.lemmas.List.Elements.{All-weaker}
 use Rattle.std.proofs.lemmas.List.Folds.{list_any_none}
 use Rattle.std.proofs.lemmas.Slice.Eq.{bytes_eq-Decides}
+use Rattle.nf_base.specs.declared.limits.TheConstants.{MAX_GROUPS, MAX_MEMBERS, MAX_QUOTA, MAX_TOKENS, MAX_USERS}
 use Rattle.nf_base.specs.declared.content.Piece.{Piece}
 use Rattle.nf_base.specs.declared.rows.MemberRow.{MemberRow}
 use Rattle.nf_base.specs.declared.rows.MetaRow.{MetaRow}
@@ -25,7 +26,7 @@ use Rattle.nf_words.specs.Prelude.{AreCounters, count_of, HasRoot, IsNodeSound, 
 use Rattle.nf_words.specs.declared.answer.Limit.TheVariants as limit
 use Rattle.nf_rules.specs.Laws.{RuledAreUnbroken}
 use Rattle.nf_rules.specs.Ruled.{AreRuled, IsGiven, IsMemberRuled, IsUserRuled}
-use Rattle.nf_rules.specs.Rules.{are_counters, are_numbers, first_broken, has_ungiven_blob, is_beyond, is_given, is_later, is_lavish, is_place_given, is_place_there, is_placed, is_root_of, is_user, most_groups, most_members, most_quota, most_tokens, most_users, names_are_there, rules}
+use Rattle.nf_rules.specs.Rules.{are_counters, are_numbers, first_broken, has_ungiven_blob, is_beyond, is_given, is_later, is_lavish, is_place_given, is_place_there, is_placed, is_root_of, is_user, names_are_there, rules}
 use Rattle.nf_rules.proofs.Apart.{keys_unshared, names_unshared}
 use Rattle.nf_rules.proofs.Firsts.{Keep, none_broken}
 use Rattle.nf_rules.proofs.Leading.{sound_leads}
@@ -145,10 +146,10 @@ all_placed t h =
 all_within : (t : Tables) → AreRuled t → All (λ row. is_beyond t row ≡ false) (early_rows t)
 all_within t h =
     rows_have (λ row. is_beyond t row ≡ false) t refl (record {
-      users = λ k d within. le-ltb most_users (length t.users) h.few_users;
-      tokens = λ k d within. le-ltb most_tokens (length t.tokens) h.few_tokens;
-      groups = λ k d within. le-ltb most_groups (length t.groups) h.few_groups;
-      members = λ k d within. le-ltb most_members (length t.members) h.few_members;
+      users = λ k d within. le-ltb MAX_USERS (length t.users) h.few_users;
+      tokens = λ k d within. le-ltb MAX_TOKENS (length t.tokens) h.few_tokens;
+      groups = λ k d within. le-ltb MAX_GROUPS (length t.groups) h.few_groups;
+      members = λ k d within. le-ltb MAX_MEMBERS (length t.members) h.few_members;
       nodes = λ k d within.
           or_from _ _ (le-ltb (count_of limit.Nodes) (length t.nodes) h.sound.few_nodes)
           (and_right (nat_lt 0 (length (get_or t.nodes k d).content)) _
@@ -159,7 +160,7 @@ all_within t h =
 none_lavish : (t : Tables) → AreRuled t → All (λ row. is_lavish row ≡ false) (early_rows t)
 none_lavish t h =
     rows_have (λ row. is_lavish row ≡ false) t refl (record {
-      users = λ k d within. le-ltb most_quota _ (h.users k d within).quota;
+      users = λ k d within. le-ltb MAX_QUOTA _ (h.users k d within).quota;
       tokens = λ k d within. refl;
       groups = λ k d within. refl;
       members = λ k d within. refl;

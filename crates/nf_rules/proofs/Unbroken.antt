@@ -8,6 +8,7 @@ use Rattle.std.proofs.lemmas.Bool.{and_cases, and_parts, cases_lt, eqb-true, fal
 use Rattle.std.proofs.lemmas.List.Elements.{All-cons, All-head, All-nil, All-tail, All-weaker}
 use Rattle.std.proofs.lemmas.List.Sums.{sum_by-cons}
 use Rattle.std.proofs.lemmas.Slice.Eq.{bytes_eq-Decides}
+use Rattle.nf_base.specs.declared.limits.TheConstants.{MAX_GROUPS, MAX_MEMBERS, MAX_QUOTA, MAX_TOKENS, MAX_USERS}
 use Rattle.nf_base.proofs.Naming.{slice_cmp-Equal}
 use Rattle.nf_base.specs.Keys.{key_of}
 use Rattle.nf_base.specs.KeptRows.{IsKept}
@@ -30,7 +31,7 @@ use Rattle.nf_words.specs.declared.answer.Limit.TheVariants as limit
 use Rattle.nf_rules.specs.Keys.{child_key, name_key}
 use Rattle.nf_rules.specs.Laws.{UnbrokenAreRuled}
 use Rattle.nf_rules.specs.Ruled.{IsGiven}
-use Rattle.nf_rules.specs.Rules.{AreUnbroken, are_counters, are_numbers, has_ungiven_blob, is_beyond, is_given, is_later, is_lavish, is_placed, is_root_of, lacks_meta, leads, most_groups, most_members, most_quota, most_tokens, most_users, names_are_there, rules}
+use Rattle.nf_rules.specs.Rules.{AreUnbroken, are_counters, are_numbers, has_ungiven_blob, is_beyond, is_given, is_later, is_lavish, is_placed, is_root_of, lacks_meta, leads, names_are_there, rules}
 use Rattle.nf_rules.proofs.Among.{all_have, meta_has}
 use Rattle.nf_rules.proofs.Firsts.{keep_each}
 use Rattle.nf_rules.proofs.Leading.{climbs, place_of_leading}
@@ -254,7 +255,7 @@ unbroken_are_ruled all kept none =
           record {
             id = given t.meta.next_user _ parts.0;
             root = given t.meta.next_node _ parts.1;
-            quota = ltb-false most_quota _ (modest.users k d less);
+            quota = ltb-false MAX_QUOTA _ (modest.users k d less);
           };
       tokens = λ k d less. record { given = given t.meta.next_user _ (numbers.tokens k d less); user = there.tokens k d less };
       groups = λ k d less. record { id = given t.meta.next_group _ (numbers.groups k d less) };
@@ -271,9 +272,9 @@ unbroken_are_ruled all kept none =
           (ap (λ (name : List ℕ). Some (2 ∷ name)) (sym same));
       group_names = λ i j d before less same. groups i j d before less (4 ∷ (get_or t.groups i d).name) refl
           (ap (λ (name : List ℕ). Some (4 ∷ name)) (sym same));
-      few_users = few t.users most_users within.users;
-      few_groups = few t.groups most_groups within.groups;
-      few_tokens = few t.tokens most_tokens within.tokens;
-      few_members = few t.members most_members within.members;
+      few_users = few t.users MAX_USERS within.users;
+      few_groups = few t.groups MAX_GROUPS within.groups;
+      few_tokens = few t.tokens MAX_TOKENS within.tokens;
+      few_members = few t.members MAX_MEMBERS within.members;
       later = among.later;
     }

@@ -1,6 +1,7 @@
 -- What the rules say of tables.
 use Rattle.std.specs.Prelude.{◌≡◌, ◌≢◌, ℕ, ◌<◌, ◌≤◌, All, true, [], length}
 use Rattle.std.specs.List.{AllPairs}
+use Rattle.nf_base.specs.declared.limits.TheConstants.{MAX_GROUPS, MAX_MEMBERS, MAX_QUOTA, MAX_TOKENS, MAX_USERS}
 use Rattle.nf_base.specs.declared.rows.UserRow.{UserRow}
 use Rattle.nf_base.specs.declared.rows.TokenRow.{TokenRow}
 use Rattle.nf_base.specs.declared.rows.GroupRow.{GroupRow}
@@ -8,7 +9,7 @@ use Rattle.nf_base.specs.declared.rows.MemberRow.{MemberRow}
 use Rattle.nf_base.specs.declared.rows.NodeRow.{NodeRow}
 use Rattle.nf_defs.specs.Prelude.{AreRising, Tables}
 use Rattle.nf_words.specs.Sound.{AreSound}
-use Rattle.nf_rules.specs.Rules.{is_group, is_user, most_groups, most_members, most_quota, most_tokens, most_users}
+use Rattle.nf_rules.specs.Rules.{is_group, is_user}
 
 -- the number was given, where that is the next
 pub record IsGiven (next id : ℕ) : Type 0 where
@@ -19,7 +20,7 @@ pub record IsGiven (next id : ℕ) : Type 0 where
 pub record IsUserRuled (t : Tables) (row : UserRow) : Type 0 where
   pub id : IsGiven t.meta.next_user row.id
   pub root : IsGiven t.meta.next_node row.root
-  pub quota : row.quota ≤ most_quota
+  pub quota : row.quota ≤ MAX_QUOTA
 
 -- a token's user was given and is there
 pub record IsTokenRuled (t : Tables) (row : TokenRow) : Type 0 where
@@ -57,8 +58,8 @@ pub record AreRuled (t : Tables) : Type 0 where
   pub members : All (IsMemberRuled t) t.members
   pub user_names : AllPairs (λ (a b : UserRow). a.name ≢ b.name) t.users
   pub group_names : AllPairs (λ (a b : GroupRow). a.name ≢ b.name) t.groups
-  pub few_users : length t.users ≤ most_users
-  pub few_groups : length t.groups ≤ most_groups
-  pub few_tokens : length t.tokens ≤ most_tokens
-  pub few_members : length t.members ≤ most_members
+  pub few_users : length t.users ≤ MAX_USERS
+  pub few_groups : length t.groups ≤ MAX_GROUPS
+  pub few_tokens : length t.tokens ≤ MAX_TOKENS
+  pub few_members : length t.members ≤ MAX_MEMBERS
   pub later : HasNoLater t

@@ -3,6 +3,7 @@
 use Rattle.std.specs.Prelude.{◌≡◌, ℕ, zero, suc, ◌==◌, ◌&&◌, ◌||◌, Bool, false, true, not, nat_lt, bytes_eq, List, [], ◌∷◌, map, length, Option, None, Some, option_map, is_some, if◌then◌else◌}
 use Rattle.std.specs.List.{list_any}
 use Rattle.std.specs.Option.{option_map_or, option_or}
+use Rattle.nf_base.specs.declared.limits.TheConstants.{MAX_DEPTH, MAX_GROUPS, MAX_MEMBERS, MAX_QUOTA, MAX_TOKENS, MAX_USERS}
 use Rattle.nf_base.specs.declared.content.Piece.{Piece}
 use Rattle.nf_base.specs.declared.rows.MetaRow.{MetaRow}
 use Rattle.nf_base.specs.declared.rows.NodeRow.{NodeRow}
@@ -115,7 +116,7 @@ leads_within zero t row = leads_from t row row.place (λ parent. false)
 leads_within (suc k) t row = leads_from t row row.place (leads_within k t)
 
 unfoldable pub leads : Tables → NodeRow → Bool
-leads t row = leads_within 64 t row
+leads t row = leads_within MAX_DEPTH t row
 
 abbrev pub is_placed : Tables → Row → Bool
 is_placed t (rows.User row) = option_map_or (is_root_of row) (node_row t.nodes row.root) false
@@ -124,24 +125,12 @@ is_placed t other = true
 
 -- ---- 7: the limits
 
-abbrev pub most_users : ℕ
-most_users = 4096
-
-abbrev pub most_groups : ℕ
-most_groups = 4096
-
-abbrev pub most_tokens : ℕ
-most_tokens = 16384
-
-abbrev pub most_members : ℕ
-most_members = 65536
-
 -- the row is one of too many
 abbrev pub is_beyond : Tables → Row → Bool
-is_beyond t (rows.User row) = nat_lt most_users (length t.users)
-is_beyond t (rows.Token row) = nat_lt most_tokens (length t.tokens)
-is_beyond t (rows.Group row) = nat_lt most_groups (length t.groups)
-is_beyond t (rows.Member row) = nat_lt most_members (length t.members)
+is_beyond t (rows.User row) = nat_lt MAX_USERS (length t.users)
+is_beyond t (rows.Token row) = nat_lt MAX_TOKENS (length t.tokens)
+is_beyond t (rows.Group row) = nat_lt MAX_GROUPS (length t.groups)
+is_beyond t (rows.Member row) = nat_lt MAX_MEMBERS (length t.members)
 is_beyond t (rows.Node row) =
     nat_lt (count_of limit.Nodes) (length t.nodes)
     || nat_lt 0 (length row.content) && nat_lt (count_of limit.Pieces) (piece_count t.nodes)
@@ -149,11 +138,8 @@ is_beyond t other = false
 
 -- ---- 8: the quotas
 
-abbrev pub most_quota : ℕ
-most_quota = 1099511627776
-
 abbrev pub is_lavish : Row → Bool
-is_lavish (rows.User row) = nat_lt most_quota row.quota
+is_lavish (rows.User row) = nat_lt MAX_QUOTA row.quota
 is_lavish other = false
 
 -- ---- all of them

@@ -1,6 +1,7 @@
 -- The sessions of all workers stand in one history: that of a value that grew from what the joined seat knows.
 use Rattle.std.proofs.Common.{◌≡◌, ◌⊎◌, ⊎_elim, inl, inr, ℕ, ◌+◌, ◌<◌, ◌≤◌, Bool, true, false, ◌==◌, if◌then◌else◌, List, [], ◌∷◌, ◌++◌, length, refl, sym, ◌∙◌, ap, subst, arith, append-nil, length-append}
 use Rattle.std.specs.Prelude.{Some}
+use Rattle.nf_base.specs.declared.limits.TheConstants.{MAX_ENTRIES}
 use Rattle.nf_base.specs.declared.rows.Row.{Row}
 use Rattle.nf_desk.specs.Desk.{Served, entries_by, meanings}
 use Rattle.nf_hub.proofs.Owning.{own_same}
@@ -16,7 +17,7 @@ use Rattle.nf_turn.specs.Book.{AllPrecede}
 use Rattle.nf_turn.specs.Prelude.{AllAreKept, GrowsWithout, HasHeard, having_split, IsFresh, longer, Meanings, split_from}
 use Rattle.nf_turn.specs.declared.view.Memory.{Memory}
 use Rattle.nf_turn.proofs.Growing.{entries_stay}
-use Rattle.nf_words.specs.Prelude.{after, answer_at, IsLegal, most_entries, opened, replay, State}
+use Rattle.nf_words.specs.Prelude.{after, answer_at, IsLegal, opened, replay, State}
 use Rattle.nf_words.specs.declared.history.Entry.{Entry}
 use Rattle.nf_words.specs.declared.history.Ticket.{Ticket}
 use Rattle.nf_server.specs.Links.{scene_at}
@@ -96,7 +97,7 @@ module _ {K S O C : Type 0} (k : KeeperOf K) (s : EndsOf S) (o : EndsOf O) (read
         }
 
     -- the tickets that were open then have their Ends behind it
-    long : (b : Book) → b.opening ≡ rows → Later b.known history → most_entries < entries_wanted b → most_entries ≤ length history + 1
+    long : (b : Book) → b.opening ≡ rows → Later b.known history → MAX_ENTRIES < entries_wanted b → MAX_ENTRIES ≤ length history + 1
     long b opening ahead full =
         let granted : length (state_of b).tickets ≡ length (replay (opened rows) b.known).tickets =
         ap (λ (these : List Row). length (replay (opened these) b.known).tickets) opening in
@@ -195,7 +196,7 @@ module _ {K S O C D : Type 0} (k : KeeperOf K) (s : EndsOf S) (o : EndsOf O) (re
   pub full_long : (number : ℕ) (m n : Memory (Served K)) (before after : List (Worker D C)) (result : Worked)
       (work : WorkBeside (longer (meanings k)) (Works k s o reads door connections) m n before after result)
       → AllStand k s o reads door connections rows history number m n before after result work → result ≡ worked.RunFull
-      → most_entries ≤ length history + 1
+      → MAX_ENTRIES ≤ length history + 1
   full_long number m n [] [] result work stand is = let all = work.1 in absurd (cc)
   full_long number m n [] (b ∷ after) result work stand is = absurd work
   full_long number m n (a ∷ before) [] result work stand is = absurd work
@@ -204,7 +205,7 @@ module _ {K S O C D : Type 0} (k : KeeperOf K) (s : EndsOf S) (o : EndsOf O) (re
       (λ (theirs : rest ≡ worked.RunFull). full_long (number + 1) (having_split m) others before after rest beside stand.2 theirs)
       (both_full one rest (sym ends ∙ is))
     where
-      saw : EndsWork k s o reads door connections a.door b.door works.visits worked.RunFull → most_entries ≤ length history + 1
+      saw : EndsWork k s o reads door connections a.door b.door works.visits worked.RunFull → MAX_ENTRIES ≤ length history + 1
       saw (front, last, visits, unfull, ended, same) =
           (last_saw (book_in k (split_from m)) front last
           (subst (λ (vs : List (Visited K S O C)). StandInTurn k rows history (book_in k (split_from m)) vs) visits stand.1) ended).long

@@ -3,6 +3,7 @@ use Rattle.std.proofs.Common.{◌≡◌, ℕ, ◌<◌, List, sym, ap, subst, ◌
 use Rattle.std.specs.Prelude.{Option, Some}
 use Rattle.std.specs.Borrow.{Bor}
 use Rattle.std.specs.declared.snapshot.Snapshot.{Snapshot}
+use Rattle.nf_base.specs.declared.limits.TheConstants.{MAX_ENTRIES}
 use Rattle.nf_base.specs.declared.rows.Row.{Row}
 use Rattle.nf_desk.specs.Desk.{Served}
 use Rattle.nf_hub.specs.Seats.{book, memory_of, steady}
@@ -15,7 +16,6 @@ use Rattle.nf_session.specs.Prelude.{entries_wanted, Scene, Session}
 use Rattle.nf_session.specs.declared.ended.Ended.{Ended}
 use Rattle.nf_session.specs.declared.ended.Ended.TheVariants as ended
 use Rattle.nf_turn.specs.declared.view.Memory.{Memory}
-use Rattle.nf_words.specs.History.{most_entries}
 use Rattle.nf_words.specs.declared.history.Entry.{Entry}
 
 module _ {K : Type 0} (k : KeeperOf K) where
@@ -36,5 +36,5 @@ module _ {K : Type 0} (k : KeeperOf K) where
       ∙ ap (λ (s : ItsSeat). book k hub.now s) (sym same)
 
 pub full_seen : {C : Type 0} (reads : C → ℕ → C → Type 0) (a b : Scene C) (end : Option Ended) → Session reads a b end
-    → end ≡ Some ended.RunFull → most_entries < entries_wanted b.book
+    → end ≡ Some ended.RunFull → MAX_ENTRIES < entries_wanted b.book
 full_seen reads a b end session is = full_is_seen reads a b (subst (λ (e : Option Ended). Session reads a b e) is session)

@@ -1,5 +1,6 @@
 -- Many workers, one history: where the sessions of each stand in the history of the site.
 use Rattle.std.specs.Prelude.{◌≡◌, ℕ, ◌+◌, ◌<◌, ◌≤◌, List, [], ◌∷◌, ◌++◌, length, Some}
+use Rattle.nf_base.specs.declared.limits.TheConstants.{MAX_ENTRIES}
 use Rattle.nf_base.specs.declared.rows.Row.{Row}
 use Rattle.nf_desk.specs.Desk.{Served, meanings}
 use Rattle.nf_hub.specs.Seats.{book_in}
@@ -9,7 +10,7 @@ use Rattle.nf_session.specs.Prelude.{Book, entries_wanted, own_from, state_of}
 use Rattle.nf_session.specs.declared.ended.Ended.TheVariants.{RunFull as EndedFull}
 use Rattle.nf_turn.specs.Prelude.{having_split, longer, split_from}
 use Rattle.nf_turn.specs.declared.view.Memory.{Memory}
-use Rattle.nf_words.specs.Prelude.{most_entries, opened}
+use Rattle.nf_words.specs.Prelude.{opened}
 use Rattle.nf_words.specs.declared.history.Entry.{Entry}
 use Rattle.nf_server.specs.Work.{Visited, WorkBeside, Works}
 use Rattle.nf_server.specs.declared.door.Door.{Ghosts as DoorOf}
@@ -31,8 +32,8 @@ pub record StandsIn (rows : List Row) (history : List Entry) (a b : Book) : Type
 -- a session that ended because the run is full: what its seat had seen at its end, a front of the history, has no room for two entries
 -- more; and the history has 262,143 entries at least
 pub record SawFull (history : List Entry) (b : Book) : Type 0 where
-  pub seen : most_entries < entries_wanted b
-  pub long : most_entries ≤ length history + 1
+  pub seen : MAX_ENTRIES < entries_wanted b
+  pub long : MAX_ENTRIES ≤ length history + 1
 
 -- the seat of a worker when it begins: it has that number, and has seen nothing but the rows
 pub record IsNewSeat (number : ℕ) (a : Book) : Type 0 where

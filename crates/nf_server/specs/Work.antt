@@ -1,5 +1,6 @@
 -- What workers do: each serves the links of its door, one after the other, through a seat of its own.
 use Rattle.std.specs.Prelude.{◌≡◌, ◌⊎◌, ℕ, ◌<◌, ◌≤◌, All, ◌≢◌, List, [], ◌∷◌, ◌++◌, length, map, Option, None, Some, option_map}
+use Rattle.nf_base.specs.declared.limits.TheConstants.{MAX_ENTRIES, MAX_HEAD}
 use Rattle.nf_desk.specs.Desk.{Served, meanings}
 use Rattle.nf_hub.specs.Seats.{book_in, steady}
 use Rattle.nf_keeper.specs.declared.keeper.Keeper.{Ghosts as KeeperOf}
@@ -10,7 +11,6 @@ use Rattle.nf_session.specs.declared.ended.Ended.{Ended}
 use Rattle.nf_session.specs.declared.ended.Ended.TheVariants.{RunFull as EndedFull}
 use Rattle.nf_turn.specs.Prelude.{HasHeard, having_joined, having_split, split_from}
 use Rattle.nf_turn.specs.declared.view.Memory.{Memory}
-use Rattle.nf_words.specs.History.{most_entries}
 use Rattle.nf_server.specs.Links.{scene_at}
 use Rattle.nf_server.specs.declared.door.Door.{Ghosts as DoorOf}
 use Rattle.nf_server.specs.declared.link.Link.{Link}
@@ -31,9 +31,9 @@ module _ {K S O C : Type 0} (k : KeeperOf K) (s : EndsOf S) (o : EndsOf O) (read
   pub record ServesEnds (m n : Memory (Served K)) (c d : C) (before after : Link S O) (ended : Option Ended) : Type 0 where
     pub steady_is : steady n ≡ steady m
     pub kept : List ℕ
-    pub few : length kept ≤ 8192
+    pub few : length kept ≤ MAX_HEAD
     pub session : Session reads (scene_at s o (book_in k m) [] before.source before.sink c) (scene_at s o (book_in k n) kept after.source after.sink d) ended
-    pub full : ended ≡ Some EndedFull → most_entries < entries_wanted (book_in k n)
+    pub full : ended ≡ Some EndedFull → MAX_ENTRIES < entries_wanted (book_in k n)
     -- what the seat knows begins with what it passed on last, and has all its entries
     pub told : HasHeard (meanings k) n
 

@@ -1,11 +1,11 @@
 //! A session through a seat.
 
 ghost use Rattle.std.specs.Prelude.{◌≡◌, ◌<◌, ◌≤◌, ℕ, List, [], length, None, Some};
+ghost use Rattle.nf_base.specs.declared.limits.TheConstants.{MAX_ENTRIES, MAX_HEAD};
 ghost use Rattle.nf_hub.specs.Seats.{IsSeat, book, memory_of, steady};
 ghost use Rattle.nf_server.specs.Links.{scene_at};
 ghost use Rattle.nf_session.specs.Prelude.{entries_wanted, held, Session};
 ghost use Rattle.nf_session.specs.declared.ended.Ended.TheVariants as ended;
-ghost use Rattle.nf_words.specs.History.{most_entries};
 
 use crate::link::Link;
 use nf_hub::{Hub, Seat, Visit};
@@ -19,14 +19,14 @@ use std::sync::Wait;
 /// How a session ended, and the seat that it had.
 #[derive(Drop)]
 pub struct Served<K: Keeper + Drop> {
-    /// None says that 10,000 messages were answered, and that none ended the session.
+    /// None says that `MAX_MESSAGES` messages were answered, and that none ended the session.
     pub ended: Option<Ended>,
     pub seat: Seat<K>,
 }
 
 /// Serves the messages of one connection through a seat, which is the session's while it lasts.
 ///
-/// Up to 8,192 bytes may have been read behind the last message that was taken; they are lost with the session.
+/// Up to `MAX_HEAD` bytes may have been read behind the last message that was taken; they are lost with the session.
 pub fn serve_link<R: Wait, K: Keeper + Drop, S: Source, O: Sink, C: Clock>(
     rt: &R,
     alloc: Global,
@@ -41,10 +41,10 @@ pub fn serve_link<R: Wait, K: Keeper + Drop, S: Source, O: Sink, C: Clock>(
     ensures seat { IsSeat K.Keeper hub.now result.seat }
     ensures idle { held (book K.Keeper hub.now result.seat) ≡ None }
     ensures steady { steady (memory_of K.Keeper hub.now result.seat) ≡ steady (memory_of K.Keeper hub.now seat) }
-    ensures session { (kept : List ℕ) × (length kept ≤ 8192) × Session C.reads
+    ensures session { (kept : List ℕ) × (length kept ≤ MAX_HEAD) × Session C.reads
         (scene_at S.Ends O.Ends (book K.Keeper hub.now seat) [] link.old.source link.old.sink clock.old)
         (scene_at S.Ends O.Ends (book K.Keeper hub.now result.seat) kept link.new.source link.new.sink clock.new) result.ended }
-    ensures full { result.ended ≡ Some ended.RunFull → most_entries < entries_wanted (book K.Keeper hub.now result.seat) }
+    ensures full { result.ended ≡ Some ended.RunFull → MAX_ENTRIES < entries_wanted (book K.Keeper hub.now result.seat) }
 {
     serve_ends(
         rt,
@@ -74,10 +74,10 @@ pub fn serve_ends<R: Wait, K: Keeper + Drop, S: Source, O: Sink, C: Clock>(
     ensures seat { IsSeat K.Keeper hub.now result.seat }
     ensures idle { held (book K.Keeper hub.now result.seat) ≡ None }
     ensures steady { steady (memory_of K.Keeper hub.now result.seat) ≡ steady (memory_of K.Keeper hub.now seat) }
-    ensures session { (kept : List ℕ) × (length kept ≤ 8192) × Session C.reads
+    ensures session { (kept : List ℕ) × (length kept ≤ MAX_HEAD) × Session C.reads
         (scene_at S.Ends O.Ends (book K.Keeper hub.now seat) [] input.old output.old clock.old)
         (scene_at S.Ends O.Ends (book K.Keeper hub.now result.seat) kept input.new output.new clock.new) result.ended }
-    ensures full { result.ended ≡ Some ended.RunFull → most_entries < entries_wanted (book K.Keeper hub.now result.seat) }
+    ensures full { result.ended ≡ Some ended.RunFull → MAX_ENTRIES < entries_wanted (book K.Keeper hub.now result.seat) }
 {
     let mut visit = Visit::new(rt, hub, seat);
     let ended = serve_session(alloc, routes, input, output, clock, &mut visit);

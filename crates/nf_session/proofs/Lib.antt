@@ -3,6 +3,7 @@ pub mod Helds
 pub mod Same
 pub mod Takes
 pub mod Inviting
+pub mod Fronts
 pub mod Turns
 pub mod Sendings
 pub mod Moving

@@ -55,25 +55,22 @@ onward_then a m b p q = record {
   known = known_then a.known m.known b.known p.known q.known;
 }
 
--- so many entries of the seat's own came at most, which are among those that are known, and were counted with so many pieces
+-- so many entries of the seat's own came at most, and were counted with so many pieces
 pub record Moves (a b : Book) (most pieces : ℕ) : Type 0 where
   pub onward : Onward a b
   pub entries : List (Entry × Answer)
   pub own : b.own ≡ a.own ++ entries
   pub few : length b.own ≤ length a.own + most
-  pub known : length a.known + length b.own ≤ length a.own + length b.known
   pub rises : Rises a.strikes (failed_entries entries + pieces) b.strikes
 
 pub waits_move : (a b : Book) (most pieces : ℕ) → Waits a b → Rises a.strikes pieces b.strikes → Moves a b most pieces
 waits_move a b most pieces waits rises =
     let own : length b.own ≡ length a.own = ap length waits.own in
-    let known : length b.known ≡ length a.known + length waits.known.0 = simp length-append at (ap length waits.known.1) in
     record {
       onward = record { lasts = waits.lasts; known = waits.known };
       entries = [];
       own = waits.own ∙ sym (append-nil a.own);
       few = omega arith;
-      known = omega arith;
       rises = subst (λ (z : ℕ). Rises a.strikes z b.strikes) (omega arith) rises;
     }
 
@@ -87,7 +84,6 @@ module _ {a m b : Book} {n k p q : ℕ} where
     entries = x.entries ++ y.entries;
     own = y.own ∙ ap (λ (z : List (Entry × Answer)). z ++ y.entries) x.own ∙ append_assoc a.own x.entries y.entries;
     few = omega (arith, x.few, y.few);
-    known = omega (arith, x.known, y.known);
     rises = subst (λ (z : ℕ). Rises a.strikes z b.strikes) (sym (sums x.entries y.entries))
         (rises_then a.strikes m.strikes b.strikes (failed_entries x.entries + p) (failed_entries y.entries + q) x.rises y.rises);
   }
@@ -138,7 +134,6 @@ enters_move a b now event answer e =
     let marked = marked_store (state_after a e.others) e.entry in
     let told = marked_by e.entry.mark answer (λ is. marked.0 (sym e.answer_is ∙ is)) (λ is. e.answer_is ∙ marked.1 is) in
     let own : length b.own ≡ length a.own + 1 = simp length-append at (ap length e.own) in
-    let known : length b.known ≡ length a.known + length e.others + 1 = simp length-append at (ap length e.known) in
     record {
       onward = record {
         lasts = e.lasts;
@@ -147,7 +142,6 @@ enters_move a b now event answer e =
       entries = (e.entry, answer) ∷ [];
       own = e.own;
       few = omega arith;
-      known = omega arith;
       rises = subst (λ (z : ℕ). Rises a.strikes z b.strikes) (omega (arith, told))
           (mark_rises a.strikes b.strikes e.entry.mark e.lasts.strikes e.strikes);
     }

@@ -13,31 +13,46 @@ use Rattle.nf_outside.specs.Causes.{Rose}
 use Rattle.nf_base.specs.Content.{size_of}
 use Rattle.nf_base.specs.declared.content.Piece.{Piece}
 use Rattle.nf_dav.specs.Reply.{file_head}
-use Rattle.nf_session.specs.Prelude.{AreGiven, Book, FailsPiece, file_front, held, IsPiece, Lasts, Says, Scene, Sends, SendsFile, Waits, WritesPieces, Wrote, WrotePart}
+use Rattle.nf_session.specs.Prelude.{AreGiven, Book, FailsPiece, file_front, HaveBytes, held, IsGiven, IsPiece, Lasts, Says, Scene, Sends, SendsFile, Waits, WritesPieces, Wrote, WrotePart}
 use Rattle.nf_session.specs.Files.{IsStarted, Lacks, SendsPiece, SendsPieces, TakesPiece, taken_first}
 use Rattle.nf_session.specs.declared.backend.PieceFault.{PieceFault}
 use Rattle.nf_session.specs.declared.backend.PieceFault.TheVariants as fault
 use Rattle.nf_session.specs.declared.ended.Ended.{Ended}
 use Rattle.nf_session.specs.declared.ended.Ended.TheVariants as ended
-use Rattle.nf_session.proofs.Lasting.{piece_lasts, waits_same, waits_then}
+use Rattle.nf_session.proofs.Lasting.{lasts_refl, lasts_same, lasts_then, piece_lasts, waits_same, waits_then}
 use Rattle.nf_session.proofs.Turns.{sends_failed}
 
 -- ---- pieces that were given
 
-pub given_still : (a b : Book) (content : List Piece) (given : List (List ℕ)) → Lasts a b → AreGiven a content given → AreGiven b content given
-given_still a b content [] lasts are = tt
-given_still a b [] (bytes ∷ given) lasts are = absurd are
-given_still a b (piece ∷ content) (bytes ∷ given) lasts are =
-    (piece_lasts a b piece bytes lasts are.0, given_still a b content given lasts are.1)
+have_then : (P Q : Piece → List ℕ → Type 0) (content : List Piece) (given : List (List ℕ))
+    → ((piece : Piece) (bytes : List ℕ) → P piece bytes → Q piece bytes) → HaveBytes P content given → HaveBytes Q content given
+have_then P Q content [] each have = tt
+have_then P Q [] (bytes ∷ given) each have = absurd have
+have_then P Q (piece ∷ content) (bytes ∷ given) each have = (each piece bytes have.0, have_then P Q content given each have.1)
 
-given_more : (b : Book) (content : List Piece) (given : List (List ℕ)) (piece : Piece) (bytes : List ℕ) → AreGiven b content given
-    → slice_get content (length given) ≡ Some piece → IsPiece b piece bytes → AreGiven b content (given ++ bytes ∷ [])
-given_more b [] [] piece bytes are at is = absurd (cc)
-given_more b (first ∷ content) [] piece bytes are at is =
+-- between two moments is between an earlier and a later one
+pub given_within : (a x y b : Book) (content : List Piece) (given : List (List ℕ)) → Lasts a x → Lasts y b → AreGiven x y content given
+    → AreGiven a b content given
+given_within a x y b content given before behind =
+    have_then (IsGiven x y) (IsGiven a b) content given
+    (λ piece bytes is. (is.0, lasts_then a x is.0 before is.1, lasts_then is.0 y b is.2 behind, is.3))
+
+-- what was given while no other's entry came is told still
+pub given_alone : (a b : Book) (content : List Piece) (given : List (List ℕ))
+    → length b.known + length a.own ≡ length a.known + length b.own
+    → AreGiven a b content given → HaveBytes (IsPiece b) content given
+given_alone a b content given alone =
+    have_then (IsGiven a b) (IsPiece b) content given
+    (λ piece bytes is. piece_lasts is.0 b piece bytes is.2 (omega (arith, alone, is.1.entries, is.2.entries)) is.3)
+
+have_more : (P : Piece → List ℕ → Type 0) (content : List Piece) (given : List (List ℕ)) (piece : Piece) (bytes : List ℕ)
+    → HaveBytes P content given → slice_get content (length given) ≡ Some piece → P piece bytes → HaveBytes P content (given ++ bytes ∷ [])
+have_more P [] [] piece bytes have at is = absurd (cc)
+have_more P (first ∷ content) [] piece bytes have at is =
     let there : ◌≡◌ {A = Option Piece} (Some first) (Some piece) = at in
-    let same : piece ≡ first = cc in (subst (λ (z : Piece). IsPiece b z bytes) same is, tt)
-given_more b [] (other ∷ given) piece bytes are at is = absurd are
-given_more b (first ∷ content) (other ∷ given) piece bytes are at is = (are.0, given_more b content given piece bytes are.1 at is)
+    let same : piece ≡ first = cc in (subst (λ (z : Piece). P z bytes) same is, tt)
+have_more P [] (other ∷ given) piece bytes have at is = absurd have
+have_more P (first ∷ content) (other ∷ given) piece bytes have at is = (have.0, have_more P content given piece bytes have.1 at is)
 
 -- where one more is there, as many were given as its index says
 so_many : (content : List Piece) (given : List (List ℕ)) (n : ℕ) (piece : Piece) → length given ≡ min n (length content)
@@ -171,7 +186,7 @@ module _ {C : Type 0} (close : Bool) (content : List Piece) (first : Option (Vec
   pieces_then a m b given sends only waits = record {
     only = sends_then a m b sends.only only;
     waits = waits_then a.book m.book b.book sends.waits waits;
-    are_given = given_still m.book b.book content given waits.lasts sends.are_given;
+    are_given = given_within a.book a.book m.book b.book content given (lasts_refl a.book) waits.lasts sends.are_given;
     first_is = sends.first_is;
   }
 
@@ -180,7 +195,8 @@ module _ {C : Type 0} (close : Bool) (content : List Piece) (first : Option (Vec
   pieces_more a b given piece bytes sends at is = record {
     only = sends.only;
     waits = sends.waits;
-    are_given = given_more b.book content given piece bytes sends.are_given at is;
+    are_given =
+        have_more (IsGiven a.book b.book) content given piece bytes sends.are_given at (b.book, sends.waits.lasts, lasts_refl b.book, is);
     first_is = (
       sends.first_is.0 ++ bytes ∷ [],
       ap (λ (z : List (List ℕ)). z ++ bytes ∷ []) sends.first_is.1 ∙ append_assoc (taken_first first) sends.first_is.0 (bytes ∷ []),
@@ -193,7 +209,9 @@ module _ {C : Type 0} (close : Bool) (content : List Piece) (first : Option (Vec
   pieces_first a b started only same = record {
     only = only;
     waits = waits_same a.book b.book same;
-    are_given = subst (λ (z : Book). AreGiven z content (taken_first first)) (sym same) started.given;
+    are_given =
+        have_then (IsPiece a.book) (IsGiven a.book b.book) content (taken_first first)
+        (λ piece bytes is. (a.book, lasts_refl a.book, lasts_same a.book b.book same, is)) started.given;
     first_is = ([], sym (append-nil (taken_first first)));
   }
 

@@ -1,7 +1,8 @@
 -- A turn and a session, from what their parts ensure.
-use Rattle.std.proofs.Common.{◌≡◌, ℕ, ◌<◌, ◌+◌, List, [], ◌∷◌, ◌++◌, refl, sym, ◌∙◌, ap, subst, inl, inr, arith, length, length-append, Result, Ok, Err}
+use Rattle.std.proofs.Common.{◌≡◌, ℕ, ◌<◌, ◌+◌, ◌-◌, List, [], ◌∷◌, ◌++◌, refl, sym, ◌∙◌, ap, subst, inl, inr, arith, length, length-append, Result, Ok, Err}
 use Rattle.std.proofs.lemmas.Bool.Decides.{nat_tests}
 use Rattle.std.specs.Prelude.{Bool, true, false, ◌||◌, ◌==◌, Option, None, Some, IfOk, OnErr}
+use Rattle.nf_base.specs.declared.limits.TheConstants.{MAX_MESSAGES}
 use Rattle.nf_http.specs.Head.{Head, closes_session}
 use Rattle.nf_http.specs.declared.wire.WireFault.{WireFault}
 use Rattle.nf_session.specs.Prelude.{Answers, Closes, CutsShort, end_by, EndsBy, Heads, how_of, Invites, is_granted, is_unsent, Judges, Meets, Responds, Says, Scene, Sends, Session, stays_granted, StopsShort, TakesIn, Through, Turn, WrotePart}
@@ -115,27 +116,27 @@ so_far_more reads a m b n so_far turn = (
   through_more reads a so_far.0 m b so_far.2 turn,
 )
 
-early : (n : ℕ) → n < 9999 → (n == 9999) ≡ false
+early : (n : ℕ) → n < MAX_MESSAGES - 1 → (n == MAX_MESSAGES - 1) ≡ false
 early n less = grind (arith, nat_tests)
 
 pub session_ends : {C : Type 0} (reads : C → ℕ → C → Type 0) (a m b : Scene C) (n : ℕ) (end : Ended)
-    → SoFar reads a m n → n < 9999 → Turn reads false m b (Some end) → Session reads a b (Some end)
+    → SoFar reads a m n → n < MAX_MESSAGES - 1 → Turn reads false m b (Some end) → Session reads a b (Some end)
 session_ends reads a m b n end so_far less turn = record {
   scenes = so_far.0;
   before = m;
   through = so_far.2;
   few = omega (arith, so_far.1);
-  turn = subst (λ (z : Bool). Turn reads z m b (Some end)) (sym (ap (λ z. z == 9999) so_far.1 ∙ early n less)) turn;
+  turn = subst (λ (z : Bool). Turn reads z m b (Some end)) (sym (ap (λ z. z == MAX_MESSAGES - 1) so_far.1 ∙ early n less)) turn;
   full = λ none. cc;
 }
 
 pub session_full : {C : Type 0} (reads : C → ℕ → C → Type 0) (a m b : Scene C) (n : ℕ) (end : Option Ended)
-    → n ≡ 9999 → SoFar reads a m n → Turn reads true m b end → Session reads a b end
+    → n ≡ MAX_MESSAGES - 1 → SoFar reads a m n → Turn reads true m b end → Session reads a b end
 session_full reads a m b n end is so_far turn = record {
   scenes = so_far.0;
   before = m;
   through = so_far.2;
   few = omega (arith, so_far.1, is);
-  turn = subst (λ (z : Bool). Turn reads z m b end) (sym (ap (λ z. z == 9999) (so_far.1 ∙ is))) turn;
+  turn = subst (λ (z : Bool). Turn reads z m b end) (sym (ap (λ z. z == MAX_MESSAGES - 1) (so_far.1 ∙ is))) turn;
   full = λ none. so_far.1 ∙ is;
 }

@@ -1,13 +1,15 @@
 -- What a seat knows of the site: the history that it has seen, its own entries with their answers, and the blobs.
-use Rattle.std.specs.Prelude.{◌≡◌, ◌≢◌, ℕ, Bool, true, false, max, min, ◌+◌, ◌-◌, ◌^◌, ◌<◌, ◌≤◌, ◌==◌, List, [], ◌∷◌, ◌++◌, length, Option, None, Some, Result, Ok, Err, OnOk, if◌then◌else◌, slice_get, IfSome, MatchBool, Vec, option_map}
+use Rattle.std.specs.Prelude.{◌≡◌, ◌≢◌, ◌⊎◌, ℕ, Bool, true, false, max, min, ◌+◌, ◌-◌, ◌^◌, ◌<◌, ◌≤◌, ◌==◌, List, [], ◌∷◌, ◌++◌, length, Option, None, Some, Result, Ok, Err, OnOk, if◌then◌else◌, slice_get, IfSome, MatchBool, Vec, option_map}
 use Rattle.std.specs.declared.alloc.Global.{Global}
 use Rattle.sha2.specs.Sha256.{sha256}
 use Rattle.nf_base.specs.declared.content.Piece.{Piece}
-use Rattle.nf_base.specs.declared.content.TheConstants.{MAX_BODY}
+use Rattle.nf_base.specs.declared.limits.TheConstants.{MAX_BODY, MAX_ENTRIES}
 use Rattle.nf_base.specs.declared.rows.Row.{Row}
 use Rattle.nf_defs.specs.Blobs.{Blobs, blob_at}
 use Rattle.nf_laws.specs.Wholes.{IsDamaged}
-use Rattle.nf_words.specs.Prelude.{after, answer_at, blob_to, IsLegal, MayBring, MayCome, most_entries, opened, replay, State}
+use Rattle.nf_rows.specs.Spelling.{Raw}
+use Rattle.nf_told.specs.Told.{AreFit, told_of}
+use Rattle.nf_words.specs.Prelude.{after, answer_at, blob_to, IsLegal, MayBring, MayCome, opened, replay, State}
 use Rattle.nf_words.specs.declared.answer.Damage.{Damage}
 use Rattle.nf_words.specs.declared.answer.Denial.{Denial}
 use Rattle.nf_words.specs.declared.answer.Measure.{Measure}
@@ -34,14 +36,17 @@ abbrev pub Answer : Type 0
 Answer = Result Reply Denial
 
 -- the rows that the run was opened with, the seat's number, the history that it has seen, its own entries with their
--- answers, how often the store failed it, and the blobs, where the store tells them
+-- answers, how often the store failed it, and what the store tells, where it does: its blobs at the start of the run, its blobs now, and
+-- its rows now, as they are spelled
 pub record Book : Type 0 where
   pub opening : List Row
   pub seat : ℕ
   pub known : List Entry
   pub own : List (Entry × Answer)
   pub strikes : ℕ
+  pub start : Option Blobs
   pub told : Option Blobs
+  pub rows : Option (List Raw)
 
 -- the state after what the seat has seen, and more
 abbrev pub state_after : Book → List Entry → State
@@ -86,11 +91,19 @@ held b = held_after None b.own
 abbrev pub next_blob_of : Book → ℕ
 next_blob_of b = (state_of b).tables.meta.next_blob
 
--- whether the store tells stays, and under each number that was given it tells what it told
-abbrev pub TellsStill : ℕ → Option Blobs → Option Blobs → Type 0
-TellsStill next None new = new ≡ None
-TellsStill next (Some old) None = ⊥
-TellsStill next (Some old) (Some new) = (id : ℕ) → id < next → blob_at new id ≡ blob_at old id
+-- more entries came than the seat's own: another seat made some
+abbrev pub OthersCame : Book → Book → Type 0
+OthersCame a b = length a.known + length b.own < length a.own + length b.known
+
+-- what was told stays, or goes, for which there is some cause
+abbrev pub IsStill : Type 0 → Option (List ℕ) → Option (List ℕ) → Type 0
+IsStill cause old new = (new ≡ old) ⊎ ((new ≡ None) × cause)
+
+-- whether the store tells stays, and under each number that was given it tells what it told, or nothing
+abbrev pub TellsStill : Type 0 → ℕ → Option Blobs → Option Blobs → Type 0
+TellsStill cause next None new = new ≡ None
+TellsStill cause next (Some old) None = ⊥
+TellsStill cause next (Some old) (Some new) = (id : ℕ) → id < next → IsStill cause (blob_at old id) (blob_at new id)
 
 -- one strike more, or as many as are counted
 abbrev pub Struck : ℕ → ℕ → Type 0
@@ -108,7 +121,11 @@ pub record Lasts (a b : Book) : Type 0 where
   pub seat : b.seat ≡ a.seat
   pub strikes : a.strikes ≤ b.strikes
   pub next_blob : next_blob_of a ≤ next_blob_of b
-  pub told : TellsStill (next_blob_of a) a.told b.told
+  -- the seat's own entries are among those that came
+  pub entries : length a.known + length b.own ≤ length a.own + length b.known
+  pub start : b.start ≡ a.start
+  -- no Begin, piece or End of the seat takes bytes away
+  pub told : TellsStill (OthersCame a b) (next_blob_of a) a.told b.told
 
 -- the seat makes no entry; others' may have come
 pub record Waits (a b : Book) : Type 0 where
@@ -116,8 +133,13 @@ pub record Waits (a b : Book) : Type 0 where
   pub own : b.own ≡ a.own
   pub known : (others : List Entry) × (b.known ≡ a.known ++ others)
 
+-- the rows that the store tells are those of all that the seat has seen, and each has a spelling
+pub record TellsRows (b : Book) : Type 0 where
+  pub are : b.rows ≡ Some (told_of (state_of b).tables)
+  pub fit : AreFit (state_of b).tables
+
 -- others' entries may have come, and then one of the seat's own, which may come there: of that event, at the later of a
--- reading of the clock and the last moment seen, and with its answer there
+-- reading of the clock and the last moment seen, and with its answer there. Where the store tells, it has its rows then
 pub record Enters (a b : Book) (now : ℕ) (event : Event) (answer : Answer) : Type 0 where
   pub lasts : Lasts a b
   pub others : List Entry
@@ -130,6 +152,7 @@ pub record Enters (a b : Book) (now : ℕ) (event : Event) (answer : Answer) : T
   pub answer_is : answer ≡ answer_at (state_after a others) entry entry.mark
   pub strikes : Strikes entry.mark a.strikes b.strikes
   pub may_come : MayCome (length (a.known ++ others)) (state_after a others) entry
+  pub rows : IfSome b.told (λ _. TellsRows b)
 
 -- ---- the Begin
 
@@ -166,8 +189,8 @@ pub record Passes (a b : Book) : Type 0 where
 pub record Begins (a b : Book) (now : ℕ) (words : Words) (request : Request) (answer : Answer) : Type 0 where
   pub entry : MatchBool (is_unmade answer) (Passes a b) (Enters a b now (Begin words request) answer)
   pub answered : IsOfBegin answer
-  pub full : answer ≡ Err denial.RunFull → most_entries < entries_wanted b
-  pub room : answer ≡ Err denial.Memory → entries_wanted b ≤ most_entries
+  pub full : answer ≡ Err denial.RunFull → MAX_ENTRIES < entries_wanted b
+  pub room : answer ≡ Err denial.Memory → entries_wanted b ≤ MAX_ENTRIES
 
 -- ---- pieces
 
@@ -200,13 +223,19 @@ pub record IsDamage (piece : Piece) (found : Option (List ℕ)) (damage : Damage
 abbrev pub NamesFound : Piece → Damage → Type 0
 NamesFound piece damage = (found : Option (List ℕ)) × IsDamage piece found damage
 
--- the piece was damaged at the opening
+-- the piece was damaged at the start
+pub record WasDamaged (b : Book) (piece : Piece) : Type 0 where
+  pub begun : Blobs
+  pub tells : b.start ≡ Some begun
+  pub damaged : IsDamaged b.opening begun piece
+
+-- it was, and that was found of it
 pub record TellsDamage (b : Book) (piece : Piece) (damage : Damage) (shelf : Blobs) : Type 0 where
-  pub damaged : IsDamaged b.opening shelf piece
+  pub damaged : WasDamaged b piece
   pub found : damage.found ≡ measured (blob_at shelf piece.blob)
 
--- why a piece isn't given: the store failed, which is a strike; or it has other bytes, which are named, and where it tells, had
--- them at the opening; want of memory is free
+-- why a piece isn't given: the store failed, which is a strike; or it has other bytes, which are named, and where it tells, the
+-- piece was damaged at the start; want of memory is free
 abbrev pub FailsPiece : Book → Book → Piece → PieceFault → Type 0
 FailsPiece a b piece fault.Store = Struck a.strikes b.strikes
 FailsPiece a b piece (fault.Damaged damage) =

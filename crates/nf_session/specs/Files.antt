@@ -8,7 +8,7 @@ use Rattle.nf_base.specs.Content.{size_of}
 use Rattle.nf_base.specs.declared.content.Piece.{Piece}
 use Rattle.nf_words.specs.declared.answer.Goal.TheVariants as goal
 use Rattle.nf_dav.specs.Reply.{file_head}
-use Rattle.nf_session.specs.Book.{Book, FailsPiece, GivesPiece, IsPiece, Waits, held}
+use Rattle.nf_session.specs.Book.{Book, FailsPiece, GivesPiece, IsPiece, Lasts, Waits, held}
 use Rattle.nf_session.specs.Steps.{Scene, Wrote, WrotePart}
 use Rattle.nf_session.specs.declared.backend.PieceFault.{PieceFault}
 use Rattle.nf_session.specs.declared.backend.PieceFault.TheVariants as fault
@@ -17,11 +17,19 @@ use Rattle.nf_session.specs.declared.ended.Ended.TheVariants as ended
 use Rattle.nf_session.specs.declared.response.Response.{Response}
 use Rattle.nf_session.specs.declared.response.Response.TheVariants as response
 
--- the bytes of the first pieces of a content
-abbrev pub AreGiven : Book → List Piece → List (List ℕ) → Type 0
-AreGiven b content [] = Unit {0}
-AreGiven b [] (bytes ∷ given) = ⊥
-AreGiven b (piece ∷ content) (bytes ∷ given) = IsPiece b piece bytes × AreGiven b content given
+-- the first pieces of a content have such bytes
+abbrev pub HaveBytes : (Piece → List ℕ → Type 0) → List Piece → List (List ℕ) → Type 0
+HaveBytes are content [] = Unit {0}
+HaveBytes are [] (bytes ∷ given) = ⊥
+HaveBytes are (piece ∷ content) (bytes ∷ given) = are piece bytes × HaveBytes are content given
+
+-- the bytes of a piece at some moment between
+abbrev pub IsGiven : Book → Book → Piece → List ℕ → Type 0
+IsGiven a b piece bytes = (x : Book) × Lasts a x × Lasts x b × IsPiece x piece bytes
+
+-- the bytes of the first pieces of a content, each at some moment between
+abbrev pub AreGiven : Book → Book → List Piece → List (List ℕ) → Type 0
+AreGiven a b content given = HaveBytes (IsGiven a b) content given
 
 -- the piece that was taken before the head was written; an empty content has none
 abbrev pub taken_first : Option (Vec ℕ Global) → List (List ℕ)
@@ -31,7 +39,7 @@ taken_first (Some first) = first.items ∷ []
 -- it is there, and the first of the content's
 pub record IsStarted (b : Book) (content : List Piece) (first : Option (Vec ℕ Global)) : Type 0 where
   pub held_is : held b ≡ Some (goal.Serve content)
-  pub given : AreGiven b content (taken_first first)
+  pub given : HaveBytes (IsPiece b) content (taken_first first)
   pub count : length (taken_first first) ≡ min 1 (length content)
 
 -- what is held while a response is written
@@ -71,7 +79,7 @@ pub record SendsPieces {C : Type 0} (content : List Piece) (first : Option (Vec 
     (a b : Scene C) (given : List (List ℕ)) : Type 0 where
   pub only : b ≡ record a { book = b.book; output = b.output; write_faults = b.write_faults }
   pub waits : Waits a.book b.book
-  pub are_given : AreGiven b.book content given
+  pub are_given : AreGiven a.book b.book content given
   pub first_is : (more : List (List ℕ)) × (given ≡ taken_first first ++ more)
 
 -- and written behind the head

@@ -1,6 +1,7 @@
 -- What follows from the relation of a turn, and from a book that is one legal history.
 use Rattle.std.specs.Prelude.{◌≡◌, ◌⊎◌, ℕ, ◌+◌, ◌-◌, ◌^◌, ◌≤◌, ◌==◌, Bool, true, false, List, [], ◌∷◌, ◌++◌, length, count_by, Option, None, Some, Result, Ok, Err, option_map, if◌then◌else◌}
 use mathlib.Core.Logic.{inl, inr}
+use Rattle.nf_base.specs.declared.limits.TheConstants.{MAX_MESSAGES}
 use Rattle.nf_http.specs.Head.{Head}
 use Rattle.nf_http.specs.declared.wire.WireFault.{WireFault}
 use Rattle.nf_http.specs.declared.wire.WireFault.TheVariants as wire
@@ -104,7 +105,7 @@ abbrev pub failed_in : {C : Type 0} (reads : C → ℕ → C → Type 0) (a b : 
     → Session reads a b end → ℕ
 failed_in reads a b end session =
     failed_through reads a session.scenes session.before session.through
-    + failed_pieces reads (length session.scenes == 9999) session.before b end session.turn
+    + failed_pieces reads (length session.scenes == MAX_MESSAGES - 1) session.before b end session.turn
 
 -- as many more; or fewer, and the last value
 abbrev pub Counted : ℕ → ℕ → ℕ → Type 0

@@ -1,5 +1,6 @@
--- A session: turns, one after the other, until one of them ends it or 10,000 messages were answered.
-use Rattle.std.specs.Prelude.{◌≡◌, ℕ, ◌≤◌, ◌==◌, false, List, [], ◌∷◌, length, Option, None}
+-- A session: turns, one after the other, until one of them ends it or `MAX_MESSAGES` messages were answered.
+use Rattle.std.specs.Prelude.{◌≡◌, ℕ, ◌<◌, ◌==◌, ◌-◌, false, List, [], ◌∷◌, length, Option, None}
+use Rattle.nf_base.specs.declared.limits.TheConstants.{MAX_MESSAGES}
 use Rattle.nf_session.specs.Steps.{Scene}
 use Rattle.nf_session.specs.Turn.{Turn}
 use Rattle.nf_session.specs.declared.ended.Ended.{Ended}
@@ -9,11 +10,11 @@ abbrev pub Through : {C : Type 0} → (C → ℕ → C → Type 0) → Scene C �
 Through reads a [] b = a ≡ b
 Through reads a (m ∷ scenes) b = Turn reads false a m None × Through reads m scenes b
 
--- some messages were answered, and the next turn ends the session so; the 10,000th is the last, and it alone may end none
+-- some messages were answered, and the next turn ends the session so; that of message `MAX_MESSAGES` is the last, and it alone may end none
 pub record Session {C : Type 0} (reads : C → ℕ → C → Type 0) (a b : Scene C) (end : Option Ended) : Type 0 where
   pub scenes : List (Scene C)
   pub before : Scene C
   pub through : Through reads a scenes before
-  pub few : length scenes ≤ 9999
-  pub turn : Turn reads (length scenes == 9999) before b end
-  pub full : end ≡ None → length scenes ≡ 9999
+  pub few : length scenes < MAX_MESSAGES
+  pub turn : Turn reads (length scenes == MAX_MESSAGES - 1) before b end
+  pub full : end ≡ None → length scenes ≡ MAX_MESSAGES - 1

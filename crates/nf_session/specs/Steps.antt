@@ -1,5 +1,5 @@
 -- Scenes, and the steps of a turn, each from one scene to the next.
-use Rattle.std.specs.Prelude.{◌≡◌, ◌⊎◌, ℕ, ◌<◌, Bool, true, false, ◌&&◌, MatchBool, nat_lt, List, [], ◌∷◌, length, take, if◌then◌else◌, Option, None, Some, Result, Ok, Err, IsOk}
+use Rattle.std.specs.Prelude.{◌≡◌, ◌⊎◌, ℕ, ◌<◌, Bool, true, false, ◌&&◌, MatchBool, nat_lt, List, [], ◌∷◌, ◌++◌, length, take, if◌then◌else◌, Option, None, Some, Result, Ok, Err, IfSome, IsOk}
 use Rattle.std.specs.Io.KnownBytes.{Appends}
 use Rattle.nf_outside.specs.Begun.{with_answer}
 use Rattle.nf_outside.specs.Causes.{Rose}
@@ -60,10 +60,16 @@ abbrev pub TellsHead : Option (List (List ℕ × List ℕ)) → Option (List (Li
 TellsHead before now (Ok (Some head)) = now ≡ with_answer head.method head.target before
 TellsHead before now other = now ≡ before
 
--- what stands at the front of the input was taken, or told; what is kept then shows a fault, also where the input isn't told
+-- the bytes begin with those
+abbrev pub IsFront : List ℕ → List ℕ → Type 0
+IsFront front bytes = (rest : List ℕ) × (bytes ≡ front ++ rest)
+
+-- what stands at the front of the input was taken, or told; what is kept then is at its front, and shows a fault, also where the
+-- input isn't told
 pub record Heads {C : Type 0} (a b : Scene C) (result : Result (Option Head) WireFault) : Type 0 where
   pub only : OnlyReads a b
   pub next : IsNext a.input b.input result
+  pub front : IfSome b.input (IsFront b.kept)
   pub shown : IsShownBy b.kept result
   pub told : TellsHead a.answers b.answers result
   pub cause : HasReadCause a.read_faults b.read_faults result

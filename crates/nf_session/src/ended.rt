@@ -11,7 +11,7 @@ use crate::response::Response;
 use nf_http::Message;
 use nf_words::Denial;
 
-/// How a session ended, where it was ended before 10,000 messages were answered, or by the last of them.
+/// How a session ended, where it was ended before `MAX_MESSAGES` messages were answered, or by the last of them.
 #[derive(Clone, Copy, PartialEq, Eq)]
 pub enum Ended {
     /// The input ended between messages, or a message ended the session.

@@ -2,6 +2,7 @@
 
 ghost use Rattle.std.specs.Prelude.{◌≡◌, ◌<◌, ◌≤◌, ℕ, List, [], ◌++◌, length, codes, bytes_eq, None, Some, Ok, Err, IfOk, IfErr, OnOk, OnErr, is_some};
 ghost use Rattle.std.specs.List.{concat};
+ghost use Rattle.nf_base.specs.declared.limits.TheConstants.{MAX_HEAD};
 ghost use Rattle.nf_http.specs.Bodies.{CutsBody, CutsRead};
 ghost use Rattle.nf_words.specs.declared.answer.Goal.TheVariants.{Serve};
 ghost use Rattle.nf_routes.specs.Targets.{is_ocs as begins_with_ocs};
@@ -18,7 +19,7 @@ use crate::backend::{Backend, Ending, PieceFault};
 use crate::begun::Begun;
 use crate::ended::{Ended, closes, end_by, end_of, says_close};
 use crate::response::Response;
-use nf_base::{Content, Moment};
+use nf_base::{Content, MAX_MESSAGES, Moment};
 use nf_dav::{Manner, Unasked, continue_answer, done, file_head, listing, made, refusal, request};
 use nf_http::{Buffer, Message, WireFault, next_message, read_body, send, skip_body};
 use nf_outside::{Clock, Sink, Source};
@@ -63,6 +64,7 @@ where
     B: Backend,
 {
     // Takes the head at the front of the input, and tells the output of its answer.
+    #[tactic(auto, using(crate::proofs::Fronts::stream_front))]
     fn next(&mut self) -> Result<Option<Message>, WireFault>
         ensures same { IsSame B.Backend self.old self.new }
         ensures heads { Heads (scene S.Ends O.Ends B.Backend self.old) (scene S.Ends O.Ends B.Backend self.new) result }
@@ -448,7 +450,7 @@ where
         }
     }
 
-    // Messages until one ends the session, the input ends, or 10,000 were answered: then None.
+    // Messages until one ends the session, the input ends, or `MAX_MESSAGES` were answered: then None.
     fn session(&mut self) -> Option<Ended>
         requires { held (B.book self.old.backend.now) ≡ None }
         ensures same { IsSame B.Backend self.old self.new }
@@ -456,7 +458,7 @@ where
             (scene S.Ends O.Ends B.Backend self.new) result }
         ensures idle { held (B.book self.new.backend.now) ≡ None }
     {
-        for turn in 0..9_999u32 {
+        for turn in 0..MAX_MESSAGES - 1 {
             let _ = turn;
             if let Some(ended) = self.exchange(false) {
                 return Some(ended);
@@ -497,9 +499,9 @@ fn append_small<'p>(head: &mut Vec<u8>, piece: &'p [u8]) -> &'p [u8]
     }
 }
 
-/// Serves the messages of one connection. None says that 10,000 were answered, and that none ended the session.
+/// Serves the messages of one connection. None says that `MAX_MESSAGES` were answered, and that none ended the session.
 ///
-/// Up to 8,192 bytes may have been read behind the last message that was taken; they are lost with the session.
+/// Up to `MAX_HEAD` bytes may have been read behind the last message that was taken; they are lost with the session.
 pub fn serve_session<S: Source, O: Sink, C: Clock, B: Backend>(
     alloc: Global,
     routes: &Routes,
@@ -509,7 +511,7 @@ pub fn serve_session<S: Source, O: Sink, C: Clock, B: Backend>(
     backend: &mut B,
 ) -> Option<Ended>
     requires { held (B.book backend.old) ≡ None }
-    ensures session { (kept : List ℕ) × (length kept ≤ 8192) × Session C.reads
+    ensures session { (kept : List ℕ) × (length kept ≤ MAX_HEAD) × Session C.reads
         (between S.Ends O.Ends B.Backend [] input.old output.old clock.old backend.old)
         (between S.Ends O.Ends B.Backend kept input.new output.new clock.new backend.new) result }
     ensures idle { held (B.book backend.new) ≡ None }

@@ -1,6 +1,7 @@
 -- An entry that may come keeps what a site holds, and the tables bear what is decided.
 use Rattle.std.proofs.Common.{ℕ, ◌+◌, ◌≤◌, ◌≡◌, Bool, true, false, not, ◌==◌, List, [], ◌∷◌, ◌++◌, Option, IsSome, find, filter, length, vec_capacity, Result, Ok, Err, refl, sym, ap, subst, ◌∙◌, arith, length-append}
 use Rattle.std.specs.Prelude.{None, Some, is_some}
+use Rattle.nf_base.specs.declared.limits.TheConstants.{MAX_NODES}
 use Rattle.nf_base.specs.declared.rows.Row.{Row}
 use Rattle.nf_defs.specs.Tables.{Tables, tables_of}
 use Rattle.nf_rules.specs.Ruled.{AreRuled}
@@ -171,7 +172,7 @@ bears_plan old site plan act is held ready decides =
 
 -- what is decided doesn't pass the limit of nodes
 decided_few : (s : State) (seat now : ℕ) (event : Event) (decision : Result Allowed Denial) → IsSound s → MayAsk s seat event
-    → decision_of s seat now event ≡ decision → length s.tables.nodes + added_in decision ≤ 262144
+    → decision_of s seat now event ≡ decision → length s.tables.nodes + added_in decision ≤ MAX_NODES
 decided_few s seat now event (Ok act) sound asked is =
     known_few s.tables now (actor_of s seat event) act sound.rows (known_change s seat now event act sound asked is)
 decided_few s seat now event (Err refusal) sound asked is = omega (arith, sound.rows.few_nodes)
@@ -179,7 +180,7 @@ decided_few s seat now event (Err refusal) sound asked is = omega (arith, sound.
 -- what a plan adds
 pub plan_few : (site : Inside) (held : Held) (seat moment : ℕ) (event : Event) (plan : Planned) → held_of site ≡ held → IsHeld site
     → MayAsk held.kept.state seat event → plan ≡ plan_at held.kept.state seat moment event
-    → length held.kept.state.tables.nodes + added_in plan.decision ≤ 262144
+    → length held.kept.state.tables.nodes + added_in plan.decision ≤ MAX_NODES
 plan_few site held seat moment event plan is inside asked planned =
     decided_few held.kept.state seat moment event plan.decision (subst (λ (x : Held). IsSound x.kept.state) is inside.sound) asked
     (sym (ap (λ (p : Planned). p.decision) planned))

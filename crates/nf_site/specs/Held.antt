@@ -1,6 +1,6 @@
 -- A site with its reserved room, of which "as before" doesn't speak.
 use Rattle.std.specs.Prelude.{ℕ, ◌+◌, ◌≤◌, length, Result, Ok, Err}
-use Rattle.nf_words.specs.History.{most_entries}
+use Rattle.nf_base.specs.declared.limits.TheConstants.{MAX_ENTRIES}
 use Rattle.nf_words.specs.declared.answer.Allowed.{Allowed}
 use Rattle.nf_words.specs.declared.answer.Denial.{Denial}
 use Rattle.nf_words.specs.declared.history.Event.{Event}
@@ -21,7 +21,7 @@ entries_wanted k = length k.history + length k.state.tickets + 2
 
 -- a Begin fits, in the run and in memory
 pub record HasRoom (site : Held) : Type 0 where
-  pub run : entries_wanted site.kept ≤ most_entries
+  pub run : entries_wanted site.kept ≤ MAX_ENTRIES
   pub entries : entries_wanted site.kept ≤ site.entries
   pub tickets : FitsTicket site.kept.state site.room
 

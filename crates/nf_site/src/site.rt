@@ -8,22 +8,19 @@ ghost use Rattle.nf_site.specs.Held.{HasEntryRoom, HasRoom, entries_wanted};
 ghost use Rattle.nf_site.specs.Kept.{IsHistory, entry, entered, moment_of, stepped};
 ghost use Rattle.nf_site.specs.PlanView.{decision_in};
 ghost use Rattle.nf_site.specs.Plans.{IsPlannedAtEnd, IsReady, plan_at, plan_of};
-ghost use Rattle.nf_words.specs.Prelude.{answer_to, changes_to, decision_of, end_decision, IsSound, MayAsk, MayBear, most_entries};
+ghost use Rattle.nf_words.specs.Prelude.{answer_to, changes_to, decision_of, end_decision, IsSound, MayAsk, MayBear};
 ghost use Rattle.nf_words.specs.declared.history.Event.TheVariants.{Begin, End};
 ghost use Rattle.nf_words.specs.declared.history.Mark.TheVariants.{Answered};
 ghost use Rattle.nf_site.specs.declared.site.RoomFault.TheVariants.{Full};
 
 use crate::Plan;
 use crate::plan::Deed;
-use nf_base::{Changes, Moment, RowList};
+use nf_base::{Changes, MAX_ENTRIES, Moment, RowList};
 use nf_decide::{Call, State, changes, decide_end};
 use nf_opening::{SiteFault, judge};
 use nf_words::{Allowed, Answer, Denial, Entry, Event, Mark, Outcome};
 use std::alloc::{AllocError, Global};
 use std::marker::Model;
-
-/// How many entries a run may have.
-const MOST_ENTRIES: usize = 262_144;
 
 /// Why a Begin finds no room.
 #[derive(Clone, Copy, PartialEq, Eq)]
@@ -80,12 +77,12 @@ impl Site {
 
     /// Makes room for a Begin and for its End.
     pub fn room(&mut self) -> Result<(), RoomFault>
-        ensures full { (result ≡ Err Full) ↔ (most_entries < entries_wanted self.old.kept) }
+        ensures full { (result ≡ Err Full) ↔ (MAX_ENTRIES < entries_wanted self.old.kept) }
         ensures ok { OnOk result (HasRoom self.new) }
         ensures same { self.new.kept ≡ self.old.kept }
     {
         let ends = self.current.tickets().len();
-        if self.history.len() + ends + 2 > MOST_ENTRIES {
+        if self.history.len() + ends + 2 > MAX_ENTRIES {
             return Err(RoomFault::Full);
         }
         self.history.reserve(ends + 2)?;

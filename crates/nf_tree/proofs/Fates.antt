@@ -12,6 +12,7 @@ use Rattle.std.proofs.lemmas.List.Kept.{AllPairs-filter}
 use Rattle.std.proofs.lemmas.Map.Made.{IsDistinct-from_AllPairs}
 use Rattle.std.proofs.lemmas.Map.Steps.{length-le_from_distinct_below, le-length_from_below}
 use Rattle.std.proofs.lemmas.Map.Views.{Contains-from_any}
+use Rattle.nf_base.specs.declared.limits.TheConstants.{MAX_PIECES}
 use Rattle.nf_base.specs.declared.rows.NodeRow.{NodeRow}
 use Rattle.nf_defs.specs.Tree.{piece_count}
 use Rattle.nf_tree.specs.Held.{IsTree}
@@ -207,7 +208,7 @@ pub purged : (p : NodeRow → Bool) (rows : List NodeRow) (order fates : List �
 purged p rows order fates pieces count room tree are counted = record {
   rising = AllPairs-filter (λ (a b : NodeRow). a.id < b.id) p rows tree.rising;
   index = renumbered p rows order fates tree.index are;
-  small = All-filter p (λ (row : NodeRow). length row.content ≤ 10000) rows tree.small;
+  small = All-filter p (λ (row : NodeRow). length row.content ≤ MAX_PIECES) rows tree.small;
   counted = counted;
   fits = let e = fewer p rows in let f = tree.fits in omega arith;
   few = tree.few;

@@ -1,5 +1,5 @@
 -- What each change of the tree leaves.
-use Rattle.std.proofs.Common.{ℕ, zero, suc, ◌+◌, ◌<◌, ◌≤◌, ◌≡◌, ◌==◌, true, false, not, List, [], ◌∷◌, ◌++◌, Some, refl, sym, ap, ◌∙◌, subst, inl, inr, arith, length, get_or, set}
+use Rattle.std.proofs.Common.{ℕ, zero, suc, ◌+◌, ◌*◌, ◌<◌, ◌≤◌, ◌≡◌, ◌==◌, true, false, not, List, [], ◌∷◌, ◌++◌, Some, refl, sym, ap, ◌∙◌, subst, inl, inr, arith, length, get_or, set}
 use Rattle.std.specs.Option.{option_map_or}
 use Rattle.std.specs.List.{All, position}
 use Rattle.std.proofs.lemmas.Bool.{cases_eq, not-true}
@@ -7,6 +7,7 @@ use Rattle.std.proofs.lemmas.List.{get_or-set_same, get_or-set_other, length-set
 use Rattle.std.proofs.lemmas.List.Elements.{All-push, All-set}
 use Rattle.std.proofs.lemmas.List.Quantifiers.{all_pairs_push, position-Some}
 use Rattle.std.proofs.lemmas.List.Sums.{sum_by_push, sum_by-set, sum_by-le, get_or-le-sum_by}
+use Rattle.nf_base.specs.declared.limits.TheConstants.{MAX_NODES, MAX_PIECES}
 use Rattle.nf_base.specs.declared.rows.NodeRow.{NodeRow}
 use Rattle.nf_base.specs.declared.content.Piece.{Piece}
 use Rattle.nf_defs.specs.Tree.{node_row, is_file, is_folder_kind, content_of, piece_count, with_node}
@@ -30,12 +31,12 @@ empty = record {
 -- ---- a row more
 
 pub added : (rows : List NodeRow) (row : NodeRow) (order more : List ℕ) (pieces room : ℕ) → IsTree rows order pieces room → length rows < room
-    → All (λ (older : NodeRow). older.id < row.id) rows → length row.content ≤ 10000 → IsIndex (rows ++ row ∷ []) more
+    → All (λ (older : NodeRow). older.id < row.id) rows → length row.content ≤ MAX_PIECES → IsIndex (rows ++ row ∷ []) more
     → IsTree (rows ++ row ∷ []) more (pieces + length row.content) room
 added rows row order more pieces room tree fits newest small index = record {
   rising = all_pairs_push (λ (x y : NodeRow). x.id < y.id) rows row tree.rising newest;
   index = index;
-  small = All-push (λ (r : NodeRow). length r.content ≤ 10000) rows row tree.small small;
+  small = All-push (λ (r : NodeRow). length r.content ≤ MAX_PIECES) rows row tree.small small;
   counted = let e = sum_by_push (λ (r : NodeRow). length r.content) rows row in omega (arith, tree.counted, e);
   fits = let e = length_push rows row in omega arith;
   few = tree.few;
@@ -61,20 +62,20 @@ rising_set rows at row rising there same = λ i j d less within.
     omega (arith, e, f, h)
 
 -- a row at a place has few pieces
-pub small_there : (rows : List NodeRow) (at : ℕ) (old : NodeRow) → AreSmall rows → at < length rows → old ≡ get_or rows at old → length old.content ≤ 10000
-small_there rows at old small there is = subst (λ (r : NodeRow). length r.content ≤ 10000) (sym is) (small at old there)
+pub small_there : (rows : List NodeRow) (at : ℕ) (old : NodeRow) → AreSmall rows → at < length rows → old ≡ get_or rows at old → length old.content ≤ MAX_PIECES
+small_there rows at old small there is = subst (λ (r : NodeRow). length r.content ≤ MAX_PIECES) (sym is) (small at old there)
 
 -- a row's pieces are counted
 pub counted_there : (rows : List NodeRow) (at : ℕ) (old : NodeRow) → at < length rows → old ≡ get_or rows at old → length old.content ≤ piece_count rows
 counted_there rows at old there is = subst (λ (r : NodeRow). length r.content ≤ piece_count rows) (sym is) (get_or-le-sum_by (λ (r : NodeRow). length r.content) rows at old there)
 
 pub changed_tree : (rows : List NodeRow) (at : ℕ) (row old : NodeRow) (order more : List ℕ) (pieces count room : ℕ) → IsTree rows order pieces room → at < length rows
-    → old ≡ get_or rows at old → row.id ≡ old.id → length row.content ≤ 10000 → count + length old.content ≡ pieces + length row.content → IsIndex (set rows at row) more
+    → old ≡ get_or rows at old → row.id ≡ old.id → length row.content ≤ MAX_PIECES → count + length old.content ≡ pieces + length row.content → IsIndex (set rows at row) more
     → IsTree (set rows at row) more count room
 changed_tree rows at row old order more pieces count room tree there is same small sums index = record {
   rising = rising_set rows at row tree.rising there (λ d. same ∙ ap (λ (r : NodeRow). r.id) (get_or_read rows at old there is d));
   index = index;
-  small = All-set (λ (r : NodeRow). length r.content ≤ 10000) rows at row small tree.small;
+  small = All-set (λ (r : NodeRow). length r.content ≤ MAX_PIECES) rows at row small tree.small;
   counted =
       let e = sum_by-set (λ (r : NodeRow). length r.content) rows at row old there in
       let f = ap (λ (r : NodeRow). length r.content) is in
@@ -89,7 +90,7 @@ pub moved_tree : (rows : List NodeRow) (at : ℕ) (row old : NodeRow) (order mor
     → IsTree (set rows at row) more pieces room
 moved_tree rows at row old order more pieces room tree there is same content index =
     changed_tree rows at row old order more pieces pieces room tree there is same
-    (subst (λ (list : List Piece). length list ≤ 10000) (sym content) (small_there rows at old tree.small there is))
+    (subst (λ (list : List Piece). length list ≤ MAX_PIECES) (sym content) (small_there rows at old tree.small there is))
     (ap (λ list. pieces + length list) (sym content)) index
 
 -- a row with the same key keeps the index
@@ -136,9 +137,9 @@ changed_held held rows room at node old row change view there is new =
     let f = ap (λ (h : Held). h.room) view in
     cc
 
-pub pieces_few : (rows : List NodeRow) (order : List ℕ) (pieces room : ℕ) → IsTree rows order pieces room → pieces ≤ 2621440000
+pub pieces_few : (rows : List NodeRow) (order : List ℕ) (pieces room : ℕ) → IsTree rows order pieces room → pieces ≤ MAX_NODES * MAX_PIECES
 pieces_few rows order pieces room tree =
-    let e = sum_by-le (λ (r : NodeRow). length r.content) 10000 rows tree.small in omega (arith, e, tree.counted, tree.fits, tree.few)
+    let e = sum_by-le (λ (r : NodeRow). length r.content) MAX_PIECES rows tree.small in omega (arith, e, tree.counted, tree.fits, tree.few)
 
 -- what is known of the node's row
 pub file_row : (rows : List NodeRow) (node : ℕ) (row : NodeRow) → Some row ≡ node_row rows node → is_file rows node ≡ true → is_folder_kind row.kind ≡ false

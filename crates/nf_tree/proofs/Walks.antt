@@ -1,6 +1,7 @@
 -- A walk of a folder's children, one folder further down.
 use Rattle.std.proofs.Common.{ℕ, zero, suc, ◌+◌, ◌≡◌, List, [], ◌∷◌, ◌++◌, refl, arith}
 use Rattle.std.specs.List.{flat_map}
+use Rattle.nf_base.specs.declared.limits.TheConstants.{MAX_DEPTH}
 use Rattle.nf_base.specs.declared.rows.NodeRow.{NodeRow}
 use Rattle.nf_defs.specs.Tree.{walk_within, walk_of, children_of}
 
@@ -13,6 +14,6 @@ unfolding walk_within
 walk_down k zero rows node more = absurd (omega arith)
 walk_down k (suc j) rows node more = let e : j ≡ k = omega arith in rw e refl
 
-pub walk_all : (rows : List NodeRow) (top : ℕ) → [] ++ walk_within 64 rows top ≡ walk_of rows top
+pub walk_all : (rows : List NodeRow) (top : ℕ) → [] ++ walk_within MAX_DEPTH rows top ≡ walk_of rows top
 unfolding walk_of
 walk_all rows top = refl

@@ -1,5 +1,6 @@
 -- What the tree holds.
 use Rattle.std.specs.Prelude.{ℕ, ◌≤◌, ◌≡◌, List, length, All}
+use Rattle.nf_base.specs.declared.limits.TheConstants.{MAX_NODES, MAX_PIECES}
 use Rattle.nf_base.specs.declared.rows.NodeRow.{NodeRow}
 use Rattle.nf_defs.specs.Tree.{piece_count}
 use Rattle.nf_tree.specs.Order.{AreRisingNodes, IsIndex}
@@ -10,7 +11,7 @@ pub record Held : Type 0 where
   pub room : ℕ
 
 abbrev pub AreSmall : List NodeRow → Type 0
-AreSmall rows = All (λ (row : NodeRow). length row.content ≤ 10000) rows
+AreSmall rows = All (λ (row : NodeRow). length row.content ≤ MAX_PIECES) rows
 
 pub record IsTree (rows : List NodeRow) (order : List ℕ) (pieces room : ℕ) : Type 0 where
   pub rising : AreRisingNodes rows
@@ -18,7 +19,7 @@ pub record IsTree (rows : List NodeRow) (order : List ℕ) (pieces room : ℕ) :
   pub small : AreSmall rows
   pub counted : pieces ≡ piece_count rows
   pub fits : length rows ≤ room
-  pub few : room ≤ 262144
+  pub few : room ≤ MAX_NODES
 
 -- so many rows have room in each list
 pub record HaveRoom (room rows order fates : ℕ) : Type 0 where

@@ -2,12 +2,13 @@
 
 ghost use Rattle.std.specs.Prelude.{◌≡◌, false, ◌==◌, ◌≤◌, ◌<◌, length, vec_len, vec_capacity, option_copied, IfOk};
 ghost use Rattle.std.specs.List.{position};
+ghost use Rattle.nf_base.specs.declared.limits.TheConstants.{MAX_NODES, MAX_PIECES};
 ghost use Rattle.nf_defs.specs.Tree.{node_row, is_folder, is_root, folder_of, parent_of, is_under, is_rooted, depth, piece_count, is_folder_kind, filled, without_under};
 ghost use Rattle.nf_tree.specs.Held.{AreSmall};
 ghost use Rattle.nf_tree.specs.Order.{AreRisingNodes, AreFates, placed, stays};
 
 use crate::order::folder_of;
-use nf_base::{Content, Moment, Name, NodeId, NodeKind, NodeRow, Place};
+use nf_base::{Content, MAX_DEPTH, Moment, Name, NodeId, NodeKind, NodeRow, Place};
 use std::alloc::AllocError;
 
 /// The place of a node's row.
@@ -129,14 +130,14 @@ fn settle(rows: &[NodeRow], fates: &mut Vec<usize>, top: NodeId)
 /// How many pieces a row has.
 pub(crate) fn pieces_of(row: &NodeRow) -> usize
     ensures count { result ≡ length row.now.content }
-    ensures few { result ≤ 10000 }
+    ensures few { result ≤ MAX_PIECES }
 {
     row.content.pieces().len()
 }
 
 /// How many pieces the rows have, with repeats.
 pub(crate) fn piece_count(rows: &[NodeRow]) -> usize
-    requires { length rows.now ≤ 262144 }
+    requires { length rows.now ≤ MAX_NODES }
     ensures count { result ≡ piece_count rows.now }
     ensures small { AreSmall rows.now }
 {
@@ -153,7 +154,7 @@ pub(crate) fn is_under(rows: &[NodeRow], node: NodeId, top: NodeId) -> bool
     ensures { result ≡ is_under rows.now node top }
 {
     let mut at = node;
-    for step in 0..64u32 {
+    for step in 0..MAX_DEPTH {
         let _ = step;
         if at == top {
             return true;
@@ -172,7 +173,7 @@ pub(crate) fn is_rooted(rows: &[NodeRow], node: NodeId) -> bool
     ensures { result ≡ is_rooted rows.now node }
 {
     let mut at = node;
-    for step in 0..64u32 {
+    for step in 0..MAX_DEPTH {
         let _ = step;
         if is_root(rows, at) {
             return true;
@@ -185,18 +186,18 @@ pub(crate) fn is_rooted(rows: &[NodeRow], node: NodeId) -> bool
     is_root(rows, at)
 }
 
-/// How many folders are above a node, 64 at most.
+/// How many folders are above a node, `MAX_DEPTH` at most.
 pub(crate) fn depth(rows: &[NodeRow], node: NodeId) -> u32
     requires { AreRisingNodes rows.now }
     ensures depth { result ≡ depth rows.now node }
-    ensures few { result ≤ 64 }
+    ensures few { result ≤ MAX_DEPTH }
 {
     let mut at = node;
-    for step in 0..64u32 {
+    for step in 0..MAX_DEPTH {
         match parent_of(rows, at) {
             Some(parent) => at = parent,
             None => return step,
         }
     }
-    64
+    MAX_DEPTH
 }

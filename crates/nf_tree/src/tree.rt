@@ -1,21 +1,22 @@
 //! The tree as callers see it.
 
-ghost use Rattle.std.specs.Prelude.{◌≡◌, ◌==◌, ◌<◌, ◌≤◌, ◌+◌, ◌↔◌, All, IfOk, OnOk, IsSome, true, Some, map, [], ◌∷◌, ◌++◌, Err, length, option_copied, vec_len, vec_capacity};
+ghost use Rattle.std.specs.Prelude.{◌≡◌, ◌==◌, ◌<◌, ◌≤◌, ◌+◌, ◌*◌, ◌↔◌, All, IfOk, OnOk, IsSome, true, Some, map, [], ◌∷◌, ◌++◌, Err, length, option_copied, vec_len, vec_capacity};
 ghost use Rattle.std.specs.List.{position};
+ghost use Rattle.nf_base.specs.declared.limits.TheConstants.{MAX_PIECES};
 ghost use Rattle.nf_base.specs.declared.rows.Row.TheVariants.{Node};
 ghost use Rattle.nf_defs.specs.Tree.{node_row, child_of, is_folder, is_file, content_of, piece_count, is_under, depth, found_from, children_of, walk_of, walk_within, is_rooted, with_node, filled, relinked, trashed, without_under};
 ghost use Rattle.nf_tree.specs.Order.{AreRisingNodes, placed};
 
 use crate::{nodes, order};
-use nf_base::{Content, Moment, Name, NodeId, NodeRow, Place, Row, RowList};
+use nf_base::{Content, MAX_DEPTH, MAX_NODES, Moment, Name, NodeId, NodeRow, Place, Row, RowList};
 use nf_defs::Found;
 use std::alloc::{AllocError, Global};
 use std::marker::Model;
 
 /// Why room can't be made.
-#[derive(Clone, Copy, Debug, PartialEq, Eq)]
+#[derive(Clone, Copy, PartialEq, Eq)]
 pub enum TreeFault {
-    /// There would be more than 262,144 nodes.
+    /// There would be more than `MAX_NODES` nodes.
     Limit,
     /// There is no memory for it.
     Memory,
@@ -31,21 +32,18 @@ impl From<AllocError> for TreeFault {
     }
 }
 
-/// How many nodes there may be.
-const MOST: usize = 262_144;
-
 /// For how many more there is to be room, so that many small calls cost little: as many again, where they may be.
 fn growth(many: usize, count: usize) -> usize
-    requires { many + count ≤ 262144 }
+    requires { many + count ≤ MAX_NODES }
     ensures enough { count ≤ result }
-    ensures few { many + result ≤ 262144 }
+    ensures few { many + result ≤ MAX_NODES }
 {
     if many <= count {
         count
-    } else if many <= MOST - many {
+    } else if many <= MAX_NODES - many {
         many
     } else {
-        MOST - many
+        MAX_NODES - many
     }
 }
 
@@ -93,7 +91,7 @@ impl Tree {
     /// The tree of these rows.
     pub fn load(alloc: Global, rows: Vec<NodeRow>) -> Result<Self, AllocError>
         requires rising { AreRisingNodes rows.items }
-        requires few { length rows.items ≤ 262144 }
+        requires few { length rows.items ≤ MAX_NODES }
         ensures rows { IfOk result (λ tree. tree.rows ≡ rows.items) }
         ensures room { IfOk result (λ tree. length tree.rows ≤ tree.room) }
     {
@@ -113,13 +111,13 @@ impl Tree {
 
     /// Makes room for so many more nodes.
     pub fn reserve(&mut self, count: usize) -> Result<(), TreeFault>
-        ensures limit { (result ≡ Err Limit) ↔ (262144 < length self.old.rows + count) }
+        ensures limit { (result ≡ Err Limit) ↔ (MAX_NODES < length self.old.rows + count) }
         ensures rows { self.new.rows ≡ self.old.rows }
         ensures room { OnOk result (length self.new.rows + count ≤ self.new.room) }
         ensures grown { self.old.room ≤ self.new.room }
     {
         let many = self.rows.len();
-        if MOST - many < count {
+        if MAX_NODES - many < count {
             return Err(TreeFault::Limit);
         }
         if self.room < many + count {
@@ -143,7 +141,7 @@ impl Tree {
     /// How many nodes there are.
     pub fn count(&self) -> usize
         ensures count { result ≡ length self.now.rows }
-        ensures few { result ≤ 262144 }
+        ensures few { result ≤ MAX_NODES }
     {
         let _ = &self.room;
         self.rows.len()
@@ -152,7 +150,7 @@ impl Tree {
     /// How many pieces the contents have, with repeats.
     pub fn pieces(&self) -> usize
         ensures count { result ≡ piece_count self.now.rows }
-        ensures few { result ≤ 2621440000 }
+        ensures few { result ≤ MAX_NODES * MAX_PIECES }
     {
         self.pieces
     }
@@ -161,7 +159,7 @@ impl Tree {
     pub fn nodes(&self) -> &[NodeRow]
         ensures rows { result.now ≡ self.now.rows }
         ensures rising { AreRisingNodes self.now.rows }
-        ensures few { length result.now ≤ 262144 }
+        ensures few { length result.now ≤ MAX_NODES }
     {
         &self.rows
     }
@@ -210,10 +208,10 @@ impl Tree {
         nodes::is_rooted(&self.rows, node)
     }
 
-    /// How many folders are above a node, 64 at most.
+    /// How many folders are above a node, `MAX_DEPTH` at most.
     pub fn depth(&self, node: NodeId) -> u32
         ensures depth { result ≡ depth self.now.rows node }
-        ensures few { result ≤ 64 }
+        ensures few { result ≤ MAX_DEPTH }
     {
         nodes::depth(&self.rows, node)
     }
@@ -248,7 +246,7 @@ impl Tree {
         ensures { IfOk result (λ nodes. nodes.items ≡ walk_of self.now.rows top) }
     {
         let mut nodes = Vec::new(alloc);
-        self.walk(alloc, 64, top, &mut nodes)?;
+        self.walk(alloc, MAX_DEPTH, top, &mut nodes)?;
         Ok(nodes)
     }
 

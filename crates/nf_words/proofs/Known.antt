@@ -44,7 +44,7 @@ use Rattle.nf_words.specs.declared.request.Spot.{Spot}
 use Rattle.nf_words.specs.declared.request.Transfer.{Transfer}
 use Rattle.nf_words.specs.declared.request.Wanted.{Wanted}
 use Rattle.nf_words.specs.declared.request.Wanted.TheVariants.{Get, Put, Mkcol, Delete, Move, Copy}
-use Rattle.nf_base.specs.declared.content.TheConstants.{MAX_BODY}
+use Rattle.nf_base.specs.declared.limits.TheConstants.{MAX_BODY, MAX_DEPTH, MAX_NODES, MAX_STORED_PIECES}
 use Rattle.nf_base.specs.declared.rows.UserRow.{UserRow}
 use Rattle.nf_defs.specs.declared.Seeker.{Seeker}
 use Rattle.nf_defs.specs.declared.Seeker.TheVariants as seeker
@@ -78,17 +78,17 @@ pub record KnownNew (t : Tables) (now : ℕ) (row : NodeRow) (blob : Option ℕ)
   pub is_new : row ≡ new_node t now folder row.name row.kind row.content
   pub in_folder : is_folder t.nodes folder ≡ true
   pub free : child_of t.nodes folder row.name ≡ None
-  pub nodes : length t.nodes + 1 ≤ 262144
+  pub nodes : length t.nodes + 1 ≤ MAX_NODES
   pub next_node : t.meta.next_node + 1 ≤ last_number
-  pub deep : depth t.nodes folder + 1 ≤ 64
-  pub pieces : length row.content + piece_count t.nodes ≤ 1048576
+  pub deep : depth t.nodes folder + 1 ≤ MAX_DEPTH
+  pub pieces : length row.content + piece_count t.nodes ≤ MAX_STORED_PIECES
   pub next_blob : blob_after t.meta.next_blob blob ≤ last_number
   pub content : IsOfBody t.meta blob row.content
   pub empty : is_folder_kind row.kind ≡ true → row.content ≡ []
 
 pub record KnownContent (t : Tables) (node : ℕ) (brought : List Piece) (blob : Option ℕ) : Type 0 where
   pub file : is_file t.nodes node ≡ true
-  pub pieces : length brought + piece_count t.nodes ≤ 1048576
+  pub pieces : length brought + piece_count t.nodes ≤ MAX_STORED_PIECES
   pub next_blob : blob_after t.meta.next_blob blob ≤ last_number
   pub content : IsOfBody t.meta blob brought
 
@@ -138,7 +138,7 @@ pub record KnownTransfer (t : Tables) (who : Option ℕ) (transfer : Transfer) (
   pub differs : option_map_or (λ node. node == transfer.node) transfer.replaced false ≡ false
   pub outside : is_under t.nodes transfer.folder transfer.node ≡ false
   pub apart : option_map_or (λ node. is_under t.nodes transfer.node node) transfer.replaced false ≡ false
-  pub deep : deepest_in t.nodes transfer.node transfer.folder ≤ 64
+  pub deep : deepest_in t.nodes transfer.node transfer.folder ≤ MAX_DEPTH
 
 pub record KnownCopies (t : Tables) (now : ℕ) (who : Option ℕ) (rows : List NodeRow) (replaced : Option ℕ) : Type 0 where
   pub transfer : Transfer
@@ -146,9 +146,9 @@ pub record KnownCopies (t : Tables) (now : ℕ) (who : Option ℕ) (rows : List 
   pub known : KnownTransfer t who transfer name
   pub replaced_is : replaced ≡ transfer.replaced
   pub copies : rows ≡ copies_to t now transfer name
-  pub nodes : length t.nodes + length (walk_of t.nodes transfer.node) ≤ 262144
+  pub nodes : length t.nodes + length (walk_of t.nodes transfer.node) ≤ MAX_NODES
   pub next_node : t.meta.next_node + length (walk_of t.nodes transfer.node) ≤ last_number
-  pub pieces : piece_count t.nodes + pieces_in t.nodes (walk_of t.nodes transfer.node) ≤ 1048576
+  pub pieces : piece_count t.nodes + pieces_in t.nodes (walk_of t.nodes transfer.node) ≤ MAX_STORED_PIECES
   pub next_blob : t.meta.next_blob ≤ last_number
 
 abbrev pub Known : Tables → ℕ → Option ℕ → Allowed → Type 0
@@ -230,10 +230,10 @@ no_limit (Some passed) none = absurd (cc)
 
 -- so many nodes and pieces more, and a node so deep, pass no limit
 record Within (t : Tables) (n d p b : ℕ) : Type 0 where
-  pub nodes : length t.nodes + n ≤ 262144
+  pub nodes : length t.nodes + n ≤ MAX_NODES
   pub next_node : t.meta.next_node + n ≤ last_number
-  pub deep : d ≤ 64
-  pub pieces : piece_count t.nodes + p ≤ 1048576
+  pub deep : d ≤ MAX_DEPTH
+  pub pieces : piece_count t.nodes + p ≤ MAX_STORED_PIECES
   pub next_blob : t.meta.next_blob + b ≤ last_number
 
 none_passed : (a b c d e : Bool)
@@ -549,7 +549,7 @@ module _ (call : Call) (source target : Spot) (row : UserRow) (sound : AreSound 
   places = led_to (found call source)
 
   transfer_known : (transfer : Transfer) → transfer_of t.nodes places ≡ Some transfer → unfit_between t.nodes places ≡ None
-      → deepest_in t.nodes transfer.node transfer.folder ≤ 64 → KnownTransfer t (user_of call) transfer (last_name target)
+      → deepest_in t.nodes transfer.node transfer.folder ≤ MAX_DEPTH → KnownTransfer t (user_of call) transfer (last_name target)
   transfer_known transfer led fits deep = here (found call source) refl led fits
     where
       here : (from : Found) → found call source ≡ from → transfer_of t.nodes (led_to from) ≡ Some transfer → unfit_between t.nodes (led_to from) ≡ None

@@ -1,6 +1,7 @@
 -- Copies of a node and of all under it.
 use Rattle.std.specs.Prelude.{ℕ, zero, suc, ◌+◌, List, [], ◌∷◌, ◌++◌, length}
 use Rattle.std.specs.Option.{option_map_or}
+use Rattle.nf_base.specs.declared.limits.TheConstants.{MAX_DEPTH}
 use Rattle.nf_base.specs.declared.rows.NodeRow.{NodeRow}
 use Rattle.nf_base.specs.declared.rows.Place.TheVariants.{Inside}
 use Rattle.nf_defs.specs.Prelude.{children_of, node_row, owner_of, Tables}
@@ -33,4 +34,4 @@ renamed name (row ∷ rows) = record row { name = name } ∷ rows
 -- folder that it is in, the children of a folder by name, with the next numbers
 abbrev pub copies_to : Tables → ℕ → Transfer → List ℕ → List NodeRow
 copies_to t now transfer name =
-    renamed name (copies_within 64 t.nodes (owner_of t.nodes transfer.folder) now t.meta.next_node transfer.folder transfer.node)
+    renamed name (copies_within MAX_DEPTH t.nodes (owner_of t.nodes transfer.folder) now t.meta.next_node transfer.folder transfer.node)

@@ -1,6 +1,6 @@
 -- Legal histories: lists of entries, each of which may come in the state that those before it made.
 use Rattle.std.specs.Prelude.{◌≡◌, ◌≢◌, ℕ, ◌+◌, ◌≤◌, Bool, false, not, List, [], ◌∷◌, length, Option, None, Some, IsNone, IfSome, is_some, Result, Err}
-use Rattle.nf_base.specs.declared.content.TheConstants.{MAX_BODY}
+use Rattle.nf_base.specs.declared.limits.TheConstants.{MAX_BODY, MAX_ENTRIES}
 use Rattle.nf_words.specs.Calls.{source_of, target_of}
 use Rattle.nf_words.specs.State.{State, ticket_of}
 use Rattle.nf_words.specs.Step.{step, answer_to, changes_to, without}
@@ -47,10 +47,6 @@ answer_at s e mark.Memory = Err denial.Memory
 abbrev pub replay : State → List Entry → State
 replay s [] = s
 replay s (e ∷ es) = replay (after s e) es
-
--- how many entries a run may have
-abbrev pub most_entries : ℕ
-most_entries = 262144
 
 -- ---- what may be asked
 
@@ -103,7 +99,7 @@ HasBody (End (Body digest length)) = Unit {0}
 
 -- a Begin leaves room for the Ends of all tickets and its own two entries, after n entries
 abbrev pub LeavesRoom : ℕ → State → Event → Type 0
-LeavesRoom n s (Begin words request) = n + length s.tickets + 2 ≤ most_entries
+LeavesRoom n s (Begin words request) = n + length s.tickets + 2 ≤ MAX_ENTRIES
 LeavesRoom n s (End outcome) = Unit {0}
 
 -- the step may be marked so: a store fails only where it has something to change

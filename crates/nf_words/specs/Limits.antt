@@ -1,6 +1,7 @@
 -- The limits of the site, and the rule that none is passed.
 use Rattle.std.specs.Prelude.{ℕ, ◌+◌, ◌-◌, ◌==◌, ◌||◌, nat_lt, max, List, [], ◌∷◌, length, sum_by, Option, None, Some, option_map, option_and_then, if◌then◌else◌}
 use Rattle.nf_defs.specs.Prelude.{Access, content_of, depth, piece_count, Tables, walk_of}
+use Rattle.nf_base.specs.declared.limits.TheConstants.{MAX_DEPTH, MAX_NODES, MAX_STORED_PIECES}
 use Rattle.nf_base.specs.declared.rows.NodeRow.{NodeRow}
 use Rattle.nf_defs.specs.declared.Found.{Found}
 use Rattle.nf_defs.specs.declared.Found.TheVariants.{At, Free, Missing}
@@ -17,9 +18,9 @@ use Rattle.nf_words.specs.declared.answer.Limit.TheVariants as limit
 
 -- the number of a limit
 abbrev pub count_of : Limit → ℕ
-count_of limit.Nodes = 262144
-count_of limit.Depth = 64
-count_of limit.Pieces = 1048576
+count_of limit.Nodes = MAX_NODES
+count_of limit.Depth = MAX_DEPTH
+count_of limit.Pieces = MAX_STORED_PIECES
 
 -- the greatest number that a counter holds
 abbrev pub last_number : ℕ

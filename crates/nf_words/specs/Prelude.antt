@@ -7,7 +7,7 @@ pub use Rattle.nf_words.specs.Changes.{allowed_of, altered, blob_after, blob_of,
 pub use Rattle.nf_words.specs.Copies.{copied_row, copies_of_all, copies_to, renamed}
 unfoldable pub use Rattle.nf_words.specs.Copies.{copies_within}
 pub use Rattle.nf_words.specs.Endings.{blob_for, content_in, end_decision, end_refusal, ends_goal, ends_ticket, key_lost, place_of, stored_at, stores, unless_refused}
-pub use Rattle.nf_words.specs.History.{IsLegal, IsLegalFrom, LeavesRoom, MayAsk, MayBear, MayBring, MayCome, MayEnd, MayWant, NamesUser, after, after_mark, answer_at, failed, most_entries, replay}
+pub use Rattle.nf_words.specs.History.{IsLegal, IsLegalFrom, LeavesRoom, MayAsk, MayBear, MayBring, MayCome, MayEnd, MayWant, NamesUser, after, after_mark, answer_at, failed, replay}
 pub use Rattle.nf_words.specs.Laws.{Pass}
 pub use Rattle.nf_words.specs.Limits.{copy_limit, count_of, deepest, deepest_in, last_number, limit_at, limit_passed, limited, move_limit, pieces_in, pieces_of}
 unfoldable pub use Rattle.nf_words.specs.Limits.{limit_rule}

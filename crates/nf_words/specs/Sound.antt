@@ -3,7 +3,7 @@ use Rattle.std.specs.Prelude.{◌≡◌, ◌≢◌, ℕ, ◌<◌, ◌≤◌, All
 use Rattle.std.specs.List.{AllPairs}
 use Rattle.std.specs.Option.{option_map_or}
 use Rattle.nf_base.specs.declared.content.Piece.{Piece}
-use Rattle.nf_base.specs.declared.content.TheConstants.{MAX_BODY}
+use Rattle.nf_base.specs.declared.limits.TheConstants.{MAX_BODY}
 use Rattle.nf_base.specs.declared.rows.MetaRow.{MetaRow}
 use Rattle.nf_base.specs.declared.rows.NodeRow.{NodeRow}
 use Rattle.nf_base.specs.declared.rows.Place.{Place}
@@ -31,7 +31,7 @@ pub record AreCounters (meta : MetaRow) : Type 0 where
   pub shares : 1 ≤ meta.next_share
   pub blobs : 1 ≤ meta.next_blob
 
--- a piece has from 1 to 16,777,216 bytes, in a blob whose number was given
+-- a piece has from 1 to `MAX_BODY` bytes, in a blob whose number was given
 pub record IsPieceSound (t : Tables) (piece : Piece) : Type 0 where
   pub some : 1 ≤ piece.size
   pub few : piece.size ≤ MAX_BODY
@@ -48,7 +48,7 @@ IsPlaceSound t row Root = row.id ≡ root_of_user t row.owner
 IsPlaceSound t row (Inside folder) = (is_folder t.nodes folder ≡ true) × (owner_of t.nodes folder ≡ row.owner)
 IsPlaceSound t row Trash = ⊥
 
--- a node's number was given, and it leads to its owner's root in at most 64 steps; a folder has no content
+-- a node's number was given, and it leads to its owner's root in at most `MAX_DEPTH` steps; a folder has no content
 pub record IsNodeSound (t : Tables) (row : NodeRow) : Type 0 where
   pub some : 1 ≤ row.id
   pub given : row.id < t.meta.next_node

@@ -4,7 +4,10 @@ ghost use Rattle.std.specs.Prelude.{◌≡◌};
 ghost use Rattle.nf_words.specs.Limits.{count_of};
 
 use crate::{Listing, Route, Transfer};
-use nf_base::{BlobId, Content, Digest, Name, NameFault, NodeId, NodeRow};
+use nf_base::{
+    BlobId, Content, Digest, MAX_DEPTH, MAX_NODES, MAX_STORED_PIECES, Name, NameFault, NodeId,
+    NodeRow,
+};
 use nf_defs::Seeker;
 use std::marker::Model;
 
@@ -35,11 +38,11 @@ pub enum Denial {
     NoParent,
     /// 412: something is at the target that isn't to be replaced.
     Overwrite,
-    /// 413: the body is over 16,777,216 bytes.
+    /// 413: the body is over `MAX_BODY` bytes.
     TooLarge,
     /// 415: the request takes no body.
     Body,
-    /// 431: the head is over 8,192 bytes or 64 fields.
+    /// 431: the head is over `MAX_HEAD` bytes or `MAX_FIELDS` fields.
     Head,
     /// 500: the store failed.
     Store,
@@ -96,11 +99,11 @@ pub struct Measure {
 /// A limit of the site.
 #[derive(Clone, Copy, PartialEq, Eq)]
 pub enum Limit {
-    /// 262,144 nodes, and 2^64 - 1 numbers of nodes ever given.
+    /// `MAX_NODES` nodes, and 2^64 - 1 numbers of nodes ever given.
     Nodes,
-    /// 64 folders above a node.
+    /// `MAX_DEPTH` folders above a node.
     Depth,
-    /// 1,048,576 pieces of all nodes, and 2^64 - 1 numbers of blobs ever given.
+    /// `MAX_STORED_PIECES` pieces of all nodes, and 2^64 - 1 numbers of blobs ever given.
     Pieces,
 }
 
@@ -110,9 +113,9 @@ impl Limit {
         ensures { result ≡ count_of self }
     {
         match self {
-            Limit::Nodes => 262_144,
-            Limit::Depth => 64,
-            Limit::Pieces => 1_048_576,
+            Limit::Nodes => MAX_NODES as u32,
+            Limit::Depth => MAX_DEPTH,
+            Limit::Pieces => MAX_STORED_PIECES,
         }
     }
 }

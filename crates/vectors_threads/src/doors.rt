@@ -88,6 +88,24 @@ fn demo_keeper<R: Threads + Wait + Sync>(rt: &R, alloc: Global) -> Result<MemKee
     Ok(run_with(rt, alloc, &["batch"], keeper, &mut nobody)?.keeper)
 }
 
+/// How a run by these words ends over the demonstration rows, with these workers.
+fn status_of<R, D>(
+    rt: &R,
+    alloc: Global,
+    words: &[&str],
+    workers: &mut [Worker<D, ListClock>],
+) -> Result<Status, Fail>
+where
+    R: Threads + Wait + Sync,
+    D: Door + Drop + Send,
+    D::Source: Send,
+    D::Sink: Send,
+    requires workers { length workers.old < 64 }
+{
+    let keeper = demo_keeper(rt, alloc)?;
+    Ok(run_with(rt, alloc, words, keeper, workers)?.status)
+}
+
 #[test]
 fn a_keeper_without_rows_is_not_served(rt: HostRuntime) -> Result<(), Fail> {
     let alloc = rt.alloc();
@@ -109,18 +127,23 @@ const DOORS: [(&[&str], Status); 2] = [
     (&["serve", "--connections", "1"], Status::Done),
 ];
 
+/// A worker with one connection, whose door fails at its second call.
+fn failing_worker(alloc: Global) -> Result<MemWorker, AllocError> {
+    let bytes = GET_HELLO.as_bytes().to_vec(alloc)?;
+    let links = vec![in alloc; link(alloc, bytes)]?;
+    mem_worker(alloc, links, vec![in alloc; 2]?)
+}
+
 #[test]
 fn a_door_fails_at_its_second_call(rt: HostRuntime) -> Result<(), Fail> {
     let alloc = rt.alloc();
     for (words, status) in DOORS {
-        let links = vec![in alloc; link(alloc, GET_HELLO.as_bytes().to_vec(alloc)?)]?;
-        let mut workers = [mem_worker(alloc, links, vec![in alloc; 2]?)?];
-        let finished = run_with(&rt, alloc, words, demo_keeper(&rt, alloc)?, &mut workers)?;
-        assert!(rt; finished.status == status);
+        let mut workers = [failing_worker(alloc)?];
+        assert!(rt; status_of(&rt, alloc, words, &mut workers)? == status);
         let door = &workers[0].door;
         let served = door.served();
-        assert_eq!(rt; served.len(), 1);
-        assert_eq!(rt; served[0].sink.bytes(), HELLO.as_bytes());
+        assert!(rt; served.len() == 1);
+        assert!(rt; served[0].sink.bytes() == HELLO.as_bytes());
     }
     Ok(())
 }
@@ -128,30 +151,33 @@ fn a_door_fails_at_its_second_call(rt: HostRuntime) -> Result<(), Fail> {
 const LIST: &str =
     "GET /remote.php/dav/files/alice/ HTTP/1.1\r\nAuthorization: Bearer alice-1\r\n\r\n";
 
+/// 10,000 requests for a list.
+fn lists(alloc: Global) -> Result<Vec<u8>, AllocError> {
+    let mut bytes = Vec::new(alloc);
+    for _ in 0..10_000u32 {
+        bytes.extend_from_slice(LIST.as_bytes())?;
+    }
+    Ok(bytes)
+}
+
+/// 27 connections with so many requests each.
+fn links_of_lists(alloc: Global) -> Result<Vec<MemLink>, AllocError> {
+    let mut links = Vec::new(alloc);
+    for _ in 0..27u32 {
+        links.push(link(alloc, lists(alloc)?))?;
+    }
+    Ok(links)
+}
+
 #[test]
 fn a_run_becomes_full(rt: HostRuntime) -> Result<(), Fail> {
     let alloc = rt.alloc();
-    let mut links = Vec::new(alloc);
-    for _ in 0..27u32 {
-        let mut bytes = Vec::new(alloc);
-        for _ in 0..10_000u32 {
-            bytes.extend_from_slice(LIST.as_bytes())?;
-        }
-        links.push(link(alloc, bytes))?;
-    }
-    let mut workers = [mem_worker(alloc, links, Vec::new(alloc))?];
-    let finished = run_with(
-        &rt,
-        alloc,
-        &["serve"],
-        demo_keeper(&rt, alloc)?,
-        &mut workers,
-    )?;
-    assert!(rt; finished.status == Status::RunFull);
+    let mut workers = [mem_worker(alloc, links_of_lists(alloc)?, Vec::new(alloc))?];
+    assert!(rt; status_of(&rt, alloc, &["serve"], &mut workers)? == Status::RunFull);
     let door = &workers[0].door;
     let served = door.served();
-    assert_eq!(rt; served.len(), 27);
-    // The last answer of a link that had all 10,000 says that it is the last.
+    assert!(rt; served.len() == 27);
+    // The last answer of a link that had all `MAX_MESSAGES` says that it is the last.
     for one in served.iter().take(26) {
         assert!(rt; one.source.left().is_empty());
     }
@@ -297,21 +323,14 @@ fn workers_run_beside_each_other(rt: HostRuntime) -> Result<(), Fail> {
         gate_worker(alloc, PUT_HEAD, "hello", true, &answered, &other)?,
         gate_worker(alloc, GET_HELLO, "", false, &other, &answered)?,
     ];
-    let finished = run_with(
-        &rt,
-        alloc,
-        &["serve"],
-        demo_keeper(&rt, alloc)?,
-        &mut workers,
-    )?;
-    assert!(rt; finished.status == Status::Done);
+    assert!(rt; status_of(&rt, alloc, &["serve"], &mut workers)? == Status::Done);
     let (first, second) = (&workers[0].door, &workers[1].door);
     let (put, got) = (first.served(), second.served());
-    assert_eq!(rt; put.len(), 1);
-    assert_eq!(rt; got.len(), 1);
+    assert!(rt; put.len() == 1);
+    assert!(rt; got.len() == 1);
     let answer = put[0].sink.sink.bytes();
     assert!(rt; answer.starts_with(b"HTTP/1.1 201 Created\r\n"));
-    assert_eq!(rt; got[0].sink.sink.bytes(), HELLO.as_bytes());
+    assert!(rt; got[0].sink.sink.bytes() == HELLO.as_bytes());
     Ok(())
 }
 
@@ -339,33 +358,24 @@ fn asked<R: Threads + Wait + Sync>(
     let alloc = rt.alloc();
     let listener = TcpListener::bind(rt, SocketAddr::from((Ipv4Addr::LOCALHOST, 0)))?;
     let address = listener.local_addr()?;
-    let keeper = demo_keeper(threads, alloc)?;
     let mut workers = [Worker {
         door: TcpDoor::new(listener, limit),
         clock: ListClock::new(Vec::new(alloc)),
     }];
     let workers = &mut workers;
-    let (answer, finished) = join(
+    let (answer, status) = join(
         threads,
         move || ask(rt, address, bytes, ends),
-        move || {
-            run_with(
-                threads,
-                alloc,
-                &["serve", "--connections", "1"],
-                keeper,
-                workers,
-            )
-        },
+        move || status_of(threads, alloc, &["serve", "--connections", "1"], workers),
     );
-    let status = finished?.status;
+    let status = status?;
     Ok((answer?, status))
 }
 
 #[test]
 fn a_file_is_served_over_tcp(rt: HostRuntime) -> Result<(), Fail> {
     let (answer, status) = asked(&rt, &rt, Duration::from_secs(5), GET_HELLO.as_bytes(), true)?;
-    assert_eq!(rt; answer.as_slice(), HELLO.as_bytes());
+    assert!(rt; answer.as_slice() == HELLO.as_bytes());
     assert!(rt; status == Status::Done);
     Ok(())
 }
@@ -400,12 +410,10 @@ fn a_listener_that_fails_is_told(rt: HostRuntime) -> Result<(), Fail> {
     let listener = TcpListener::bind(&rt, SocketAddr::from((Ipv4Addr::LOCALHOST, 0)))?;
     // Nobody connects, and it doesn't wait.
     listener.set_nonblocking(true)?;
-    let keeper = demo_keeper(&rt, alloc)?;
     let mut workers = [Worker {
         door: TcpDoor::new(listener, Duration::from_secs(5)),
         clock: ListClock::new(Vec::new(alloc)),
     }];
-    let finished = run_with(&rt, alloc, &["serve"], keeper, &mut workers)?;
-    assert!(rt; finished.status == Status::DoorFault);
+    assert!(rt; status_of(&rt, alloc, &["serve"], &mut workers)? == Status::DoorFault);
     Ok(())
 }

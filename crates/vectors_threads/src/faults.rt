@@ -40,28 +40,52 @@ fn words_of(alloc: Global, words: &[&str]) -> Result<Vec<String>, AllocError> {
     Ok(list)
 }
 
-/// A run of `batch` over a keeper, and what it wrote.
+/// A run of `batch` over a keeper.
+fn batch_over<R: Threads + Wait + Sync>(
+    rt: &R,
+    alloc: Global,
+    keeper: MemKeeper,
+    input: &mut MemSource,
+    output: &mut MemSink,
+) -> Result<Finished<MemKeeper>, AllocError> {
+    let words = words_of(alloc, &["batch"])?;
+    let mut clock = ListClock::new(Vec::new(alloc));
+    Ok(run(
+        rt,
+        alloc,
+        &words,
+        input,
+        output,
+        keeper,
+        &mut clock,
+        &mut no_workers(),
+    ))
+}
+
+/// The same, and what it wrote.
 fn batch<R: Threads + Wait + Sync>(
     rt: &R,
     alloc: Global,
     keeper: MemKeeper,
     input: MemSource,
-) -> Result<(Finished<MemKeeper>, Vec<u8>), Fail> {
-    let words = words_of(alloc, &["batch"])?;
+) -> Result<(Finished<MemKeeper>, Vec<u8>), AllocError> {
     let mut input = input;
     let mut output = MemSink::new(alloc, Vec::new(alloc));
-    let mut clock = ListClock::new(Vec::new(alloc));
-    let finished = run(
-        rt,
-        alloc,
-        &words,
-        &mut input,
-        &mut output,
-        keeper,
-        &mut clock,
-        &mut no_workers(),
-    );
+    let finished = batch_over(rt, alloc, keeper, &mut input, &mut output)?;
     Ok((finished, output.bytes().to_vec(alloc)?))
+}
+
+/// What asks for a file, 40 bytes a read, of which the one of this number fails.
+fn broken_source(alloc: Global, failing: u64) -> Result<MemSource, AllocError> {
+    let bytes = GET_HELLO.as_bytes().to_vec(alloc)?;
+    let pieces = vec![in alloc; 40]?;
+    Ok(MemSource::new(bytes, pieces, vec![in alloc; failing]?))
+}
+
+/// What takes five bytes a write, of which the one of this number fails.
+fn broken_sink(alloc: Global, failing: u64) -> Result<MemSink, AllocError> {
+    let pieces = vec![in alloc; 5]?;
+    Ok(MemSink::in_pieces(alloc, pieces, vec![in alloc; failing]?))
 }
 
 /// The calls of the input and of the output that fail, the status, and how many bytes are written all the same.
@@ -73,30 +97,20 @@ const FAULTS: [(u64, u64, Status, usize); 4] = [
 ];
 
 #[test]
+fn a_fault_of_the_store_is_status_3(rt: HostRuntime) {
+    assert!(rt; Status::StoreFault.code() == 3);
+}
+
+#[test]
 fn faults_of_the_outside(rt: HostRuntime) -> Result<(), Fail> {
     let alloc = rt.alloc();
     for (read, write, status, count) in FAULTS {
-        let mut input = MemSource::new(
-            GET_HELLO.as_bytes().to_vec(alloc)?,
-            vec![in alloc; 40]?,
-            vec![in alloc; read]?,
-        );
-        let mut output = MemSink::in_pieces(alloc, vec![in alloc; 5]?, vec![in alloc; write]?);
-        let mut clock = ListClock::new(Vec::new(alloc));
-        let words = words_of(alloc, &["batch"])?;
         let keeper = MemKeeper::new(alloc, &[])?;
-        let finished = run(
-            &rt,
-            alloc,
-            &words,
-            &mut input,
-            &mut output,
-            keeper,
-            &mut clock,
-            &mut no_workers(),
-        );
+        let mut input = broken_source(alloc, read)?;
+        let mut output = broken_sink(alloc, write)?;
+        let finished = batch_over(&rt, alloc, keeper, &mut input, &mut output)?;
         assert!(rt; finished.status == status);
-        assert_eq!(rt; output.bytes().len(), count);
+        assert!(rt; output.bytes().len() == count);
         assert!(rt; finished.site.is_some());
     }
     Ok(())
@@ -110,20 +124,25 @@ fn a_put_that_is_cut_stores_nothing(rt: HostRuntime) -> Result<(), Fail> {
     assert!(rt; finished.status == Status::BadMessage);
     let (finished, bytes) = batch(&rt, alloc, finished.keeper, source(alloc, GET_HELLO)?)?;
     assert!(rt; finished.status == Status::Done);
-    assert_eq!(rt; bytes.as_slice(), HELLO.as_bytes());
+    assert!(rt; bytes.as_slice() == HELLO.as_bytes());
     Ok(())
+}
+
+const PUT_LONGEST: &str =
+    "PUT /remote.php/dav/files/alice/hello.txt HTTP/1.1\r\nAuthorization: Bearer alice-1\r\nContent-Length: 16777216\r\n\r\n";
+
+fn put_and_get(alloc: Global, body: &[u8]) -> Result<MemSource, AllocError> {
+    let mut bytes = PUT_LONGEST.as_bytes().to_vec(alloc)?;
+    bytes.extend_from_slice(body)?;
+    bytes.extend_from_slice(GET_HELLO.as_bytes())?;
+    Ok(MemSource::new(bytes, Vec::new(alloc), Vec::new(alloc)))
 }
 
 #[test]
 fn the_longest_body_is_stored_and_read(rt: HostRuntime) -> Result<(), Fail> {
     let alloc = rt.alloc();
-    let head =
-        "PUT /remote.php/dav/files/alice/hello.txt HTTP/1.1\r\nAuthorization: Bearer alice-1\r\nContent-Length: 16777216\r\n\r\n";
     let body = vec![in alloc; b'x'; 16_777_216]?;
-    let mut bytes = head.as_bytes().to_vec(alloc)?;
-    bytes.extend_from_slice(&body)?;
-    bytes.extend_from_slice(GET_HELLO.as_bytes())?;
-    let input = MemSource::new(bytes, Vec::new(alloc), Vec::new(alloc));
+    let input = put_and_get(alloc, &body)?;
     let (finished, written) = batch(&rt, alloc, MemKeeper::new(alloc, &[])?, input)?;
     assert!(rt; finished.status == Status::Done);
     assert!(rt; written.ends_with(&body));

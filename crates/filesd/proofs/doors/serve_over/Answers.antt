@@ -1,4 +1,5 @@
 use Rattle.std.proofs.Common.{ap, ◌∙◌, inr}
+use Rattle.nf_base.specs.declared.limits.TheConstants.{MAX_SEATS}
 use Rattle.nf_desk.specs.Desk.{Served}
 use Rattle.nf_hub.specs.Seats.{book_in, memory_of}
 use Rattle.nf_server.proofs.Spanning.{work_begins}
@@ -13,7 +14,7 @@ use Rattle.filesd.proofs.doors.serve_over.Goals as goal
 pub serve-worked-requires-clause-idle : goal.serve-worked-requires-clause-idle
 serve-worked-requires-clause-idle g c = λ κs within.
     ap (λ (m : Memory (Served g.row.K.Denot)). held (book_in g.K.Keeper m)) c.in-Ok.ensures.memory
-    ∙ first_idle g.K.Keeper 64 c.args.desk c.requires.history
+    ∙ first_idle g.K.Keeper MAX_SEATS c.args.desk c.requires.history
 
 pub serve-worked-requires-clause-few : goal.serve-worked-requires-clause-few
 serve-worked-requires-clause-few g c = λ κs within.
@@ -48,5 +49,6 @@ returns-in-Ok-clause-paid g c =
     let work = work_of g.K.Keeper g.D.Source.Ends g.D.Sink.Ends g.W.Clock.reads g.D.Door c.args.connections _ _ c.args.desk _ _
     c.serve-worked.result.0 c.in-Ok.ensures.memory c.serve-worked.ensures.work in
     closing_pays g.K.Keeper last c.args.desk c.close-site.result.0 c.close-site.result.1
-    (work_begins g.K.Keeper g.D.Source.Ends g.D.Sink.Ends g.W.Clock.reads g.D.Door c.args.connections (of_the_first 64 c.args.desk) last _ _
+    (work_begins g.K.Keeper g.D.Source.Ends g.D.Sink.Ends g.W.Clock.reads g.D.Door c.args.connections
+    (of_the_first MAX_SEATS c.args.desk) last _ _
     c.serve-worked.result.0 work) c.requires.start c.close-site.ensures.closes

@@ -1,4 +1,4 @@
-use Rattle.std.proofs.Common.{ℕ, subst}
+use Rattle.std.proofs.Common.{ℕ, ap, subst}
 use Rattle.std.specs.Option.{IfSome}
 use Rattle.nf_desk.specs.Desk.{shown}
 use Rattle.filesd.specs.Outside.{outside}
@@ -14,7 +14,8 @@ pub returns-in-Ok-open-clause-runs : goal.returns-in-Ok-open-clause-runs
 returns-in-Ok-open-clause-runs g c =
     let opened = c.in-Ok-open.ensures in
     serves g.C.Clock.reads _ _ c.serve_desk.result.status (shown g.K.Keeper c.in-Ok-open.desk) c.serve_desk.result.site c.in-Ok.first
-    opened.ok c.in-Ok.ensures.rows c.in-Ok.ensures.blob opened.rules opened.uncounted c.serve_desk.ensures.session
+    opened.ok c.in-Ok.ensures.rows c.in-Ok.ensures.blob opened.rules opened.uncounted
+    (ap g.K.Keeper.told opened.start) c.serve_desk.ensures.session
 
 pub returns-in-Ok-open-clause-paid : goal.returns-in-Ok-open-clause-paid
 returns-in-Ok-open-clause-paid g c =

@@ -13,5 +13,5 @@ decides_secret token r some few is =
     let each = Decides-by_and is_ascii_graphic (λ byte. (33 ≤ byte) × (byte ≤ 126)) (list_all is_ascii_graphic) graphic refl (λ _ _. refl) token in
     (λ yes. record { some = some; few = few; visible = each.0 (sym is ∙ yes) }, λ secret. is ∙ each.1 secret.visible)
 
-pub returns-then-token-le-MOST_TOKEN : goal.returns-then-token-le-MOST_TOKEN
-returns-then-token-le-MOST_TOKEN c = decides_secret c.args.token.now c.is_visible.result (grind (arith, nat_tests)) (omega arith) c.is_visible.ensures
+pub returns-then-token-le-MAX_TOKEN : goal.returns-then-token-le-MAX_TOKEN
+returns-then-token-le-MAX_TOKEN c = decides_secret c.args.token.now c.is_visible.result (grind (arith, nat_tests)) (omega arith) c.is_visible.ensures

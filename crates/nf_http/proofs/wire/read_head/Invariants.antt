@@ -1,5 +1,6 @@
 use Rattle.std.proofs.Common.{length, ◌-◌, ◌≡◌}
 use Rattle.std.specs.Io.KnownBytes.{Keeps}
+use Rattle.nf_base.specs.declared.limits.TheConstants.{MAX_HEAD}
 use Rattle.nf_http.specs.Told.{stream}
 use Rattle.nf_http.proofs.wire.read_head.Given as goal
 
@@ -12,4 +13,4 @@ invariant-loop-message g l = record {
 }
 
 abbrev pub decreases-loop-message : goal.decreases-loop-message
-decreases-loop-message g l = 8192 - length l.buffer
+decreases-loop-message g l = MAX_HEAD - length l.buffer

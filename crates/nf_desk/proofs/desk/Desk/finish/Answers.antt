@@ -28,7 +28,8 @@ returns-clause-ends g c =
     let old = served c.self.inside.site c.self.inside.keeper c.self.inside.strikes c.self.inside.start in
     rw (← c.self.view_is)
     (ends_empty c.args.seat (shown g.K.Keeper old) c.finish-answer.new.site.kept c.args.now c.args.outcome c.finish-answer.result
-    c.history.ensures.legal c.history.ensures.sound c.self.invariant.counted c.requires.empty c.finish-answer.ensures)
+    c.history.ensures.legal c.history.ensures.sound c.history.ensures.ruled.rising c.self.invariant c.requires.empty
+    c.finish-answer.ensures)
 
 pub returns-clause-turn : goal.returns-clause-turn
 returns-clause-turn g c =

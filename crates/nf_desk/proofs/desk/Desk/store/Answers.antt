@@ -30,7 +30,7 @@ returns-clause-ends g c =
     let b = standing site (g.K.Keeper.told c.store-answer.new.keeper) (g.K.Keeper.faults c.store-answer.new.keeper) in
     rw (← c.self.view_is)
     (ends_body c.args.seat (shown g.K.Keeper old) b c.args.now c.args.body.now c.store-answer.result
-    c.history.ensures.legal c.history.ensures.sound c.self.invariant.counted c.store-answer.ensures)
+    c.history.ensures.legal c.history.ensures.sound c.history.ensures.ruled.rising c.self.invariant c.store-answer.ensures)
 
 pub returns-clause-turn : goal.returns-clause-turn
 returns-clause-turn g c =

@@ -1,5 +1,6 @@
 use Rattle.std.proofs.Common.{◌≡◌, ◌<◌, ◌≤◌, ◌++◌, ◌∷◌, [], length, ap, subst, sym, ◌∙◌, arith}
 use Rattle.std.specs.List.{All}
+use Rattle.nf_base.specs.declared.limits.TheConstants.{MAX_PIECES}
 use Rattle.nf_base.specs.declared.rows.NodeRow.{NodeRow}
 use Rattle.nf_tree.specs.Held.{Held}
 use Rattle.nf_tree.specs.Order.{IsIndex, LacksOnly, AreRisingNodes}
@@ -35,6 +36,6 @@ invariant_of-self c =
     let newest = subst (λ rows. All (λ (older : NodeRow). older.id < c.args.row.id) rows) (sym view) c.requires.newest in
     let fits : length c.self.inside.rows.items < c.self.inside.room = omega (arith, ap length view, room, c.requires.room) in
     let index = subst (λ rows. IsIndex rows c.put.new.order.items) (c.deref.ensures.value ∙ c.push_reserved.ensures.items) c.put.ensures.index in
-    let few = subst (λ n. n ≤ 10000) c.pieces_of.ensures.count c.pieces_of.ensures.few in
+    let few = subst (λ n. n ≤ MAX_PIECES) c.pieces_of.ensures.count c.pieces_of.ensures.few in
     rw (c.push_reserved.ensures.items, c.push_reserved.ensures.capacity, c.put.ensures.room, c.pieces_of.ensures.count)
     (added c.self.inside.rows.items c.args.row c.self.inside.order.items c.put.new.order.items c.self.inside.pieces c.self.inside.room c.self.invariant.0 fits newest few index, c.self.invariant.1)

@@ -1,0 +1,5 @@
+use Rattle.nf_promises.proofs.Stored.{acknowledged}
+use Rattle.nf_promises.proofs.acknowledged.acknowledged_is_stored.Goals as goal
+
+pub returns : goal.returns
+returns g c = acknowledged g.C.Clock.reads

@@ -1,0 +1,5 @@
+use Rattle.nf_promises.proofs.Shown.{faults_shown}
+use Rattle.nf_promises.proofs.faults.faults_are_shown.Goals as goal
+
+pub returns : goal.returns
+returns g c = faults_shown g.C.Clock.reads

@@ -1,0 +1,9 @@
+//! Tests of the keepers, in memory and in a database, by their public calls.
+#![tactic(auto)]
+
+#[cfg(test)]
+mod calls;
+#[cfg(test)]
+mod database;
+#[cfg(test)]
+mod memory;

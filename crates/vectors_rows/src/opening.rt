@@ -1,0 +1,240 @@
+//! A list for each rule that breaks it and no smaller one, and lists that break none.
+
+use nf_base::{
+    BlobId, Content, Digest, GroupId, GroupRow, MetaRow, Moment, MountRow, Name, NodeId, NodeKind,
+    NodeRow, Place, Row, ShareId, TokenRow, UserId, UserRow,
+};
+use nf_opening::{Broken, Loaded, SiteFault, judge};
+use std::alloc::Global;
+use std::process::Abort;
+use std::test::Fail;
+
+/// Numbers up to 9,999 were given.
+fn meta() -> Row {
+    Row::Meta(MetaRow {
+        next_user: UserId::new(10_000),
+        next_group: GroupId::new(10_000),
+        next_node: NodeId::new(10_000),
+        next_share: ShareId::new(1),
+        next_blob: BlobId::new(1),
+        last: Moment::new(5),
+    })
+}
+
+fn user(alloc: Global, id: u32, name: &[u8], root: u64) -> Result<Row, Fail> {
+    Ok(Row::User(UserRow {
+        id: UserId::new(id),
+        name: Name::read(alloc, name)?,
+        quota: 1_099_511_627_776,
+        root: NodeId::new(root),
+    }))
+}
+
+fn folder(alloc: Global, id: u64, owner: u32, place: Place, name: &[u8]) -> Result<Row, Fail> {
+    Ok(Row::Node(NodeRow {
+        id: NodeId::new(id),
+        owner: UserId::new(owner),
+        place,
+        name: Name::read(alloc, name)?,
+        kind: NodeKind::Folder,
+        content: Content::empty(alloc),
+        changed: Moment::new(5),
+    }))
+}
+
+/// A folder of the first user in another.
+fn inside(alloc: Global, id: u64, parent: u64, name: &[u8]) -> Result<Row, Fail> {
+    folder(alloc, id, 1, Place::Inside(NodeId::new(parent)), name)
+}
+
+fn token(user: u32) -> Row {
+    Row::Token(TokenRow {
+        digest: Digest::new([7; 32]),
+        user: UserId::new(user),
+    })
+}
+
+fn mount(alloc: Global) -> Result<Row, Fail> {
+    Ok(Row::Mount(MountRow {
+        user: UserId::new(0),
+        node: NodeId::new(1),
+        name: Name::read(alloc, b"m")?,
+        left: false,
+    }))
+}
+
+fn group(alloc: Global, name: &[u8]) -> Result<Row, Fail> {
+    Ok(Row::Group(GroupRow {
+        id: GroupId::new(1),
+        name: Name::read(alloc, name)?,
+    }))
+}
+
+/// What a row is made of.
+#[derive(Clone, Copy)]
+enum Sketch {
+    Meta,
+    /// Number, name and root.
+    User(u32, &'static str, u64),
+    Group(&'static str),
+    /// The root of the first user.
+    Root,
+    /// A folder in the first user's trash.
+    Trashed(u64),
+    /// Number, parent and name.
+    Inside(u64, u64, &'static str),
+    Token(u32),
+    /// A mount of nobody's.
+    Mount,
+}
+
+fn row(alloc: Global, sketch: Sketch) -> Result<Row, Fail> {
+    match sketch {
+        Sketch::Meta => Ok(meta()),
+        Sketch::User(id, name, root) => user(alloc, id, name.as_bytes(), root),
+        Sketch::Group(name) => group(alloc, name.as_bytes()),
+        Sketch::Root => folder(alloc, 1, 1, Place::Root, b"ann"),
+        Sketch::Trashed(id) => folder(alloc, id, 1, Place::Trash, b"x"),
+        Sketch::Inside(id, parent, name) => inside(alloc, id, parent, name.as_bytes()),
+        Sketch::Token(user) => Ok(token(user)),
+        Sketch::Mount => mount(alloc),
+    }
+}
+
+fn rows_of(alloc: Global, sketches: &[Sketch]) -> Result<Vec<Row>, Fail> {
+    let mut rows = Vec::new(alloc);
+    for sketch in sketches {
+        rows.push(row(alloc, *sketch)?)?;
+    }
+    Ok(rows)
+}
+
+/// The meta row, the first user and that user's root.
+const FIRST: [Sketch; 3] = [Sketch::Meta, Sketch::User(1, "ann", 1), Sketch::Root];
+
+/// The rule that is broken and the row that breaks it, or 9 where none is.
+fn told(alloc: Global, rows: &[Row]) -> Result<(u8, usize), Fail> {
+    match judge(alloc, rows) {
+        Ok(_) => Ok((9, 0)),
+        Err(SiteFault::Broken(Broken { rule, index })) => Ok((rule, index)),
+        Err(SiteFault::Memory) => Err("no memory")?,
+    }
+}
+
+/// Lists, each with the rule that is broken and the row that breaks it.
+const WHOLE: [(&[Sketch], (u8, usize)); 3] = [
+    (&[Sketch::User(1, "ann", 2)], (1, 1)),
+    (&[], (1, 0)),
+    (
+        &[
+            Sketch::Inside(3, 2, "x"),
+            Sketch::Root,
+            Sketch::Group("ann"),
+            Sketch::Inside(2, 1, "x"),
+            Sketch::User(1, "ann", 1),
+            Sketch::Meta,
+        ],
+        (9, 0),
+    ),
+];
+
+/// The same, of what stands behind the first rows.
+const BEHIND: [(&[Sketch], (u8, usize)); 12] = [
+    (&[], (9, 0)),
+    (&[Sketch::Token(0), Sketch::Mount], (0, 4)),
+    (&[Sketch::Token(1), Sketch::Token(2)], (1, 3)),
+    (&[Sketch::Inside(10_000, 1, "x")], (2, 3)),
+    (&[Sketch::User(2, "ann", 0)], (2, 3)),
+    (&[Sketch::Token(2)], (3, 3)),
+    (&[Sketch::Inside(2, 3, "x")], (3, 3)),
+    (
+        &[
+            Sketch::Inside(2, 1, "x"),
+            Sketch::Inside(3, 1, "y"),
+            Sketch::Inside(4, 1, "x"),
+        ],
+        (4, 3),
+    ),
+    (&[Sketch::User(2, "ann", 1)], (4, 1)),
+    (&[Sketch::User(2, "ben", 1)], (5, 3)),
+    (&[Sketch::Trashed(2)], (5, 3)),
+    (
+        &[Sketch::Inside(2, 3, "x"), Sketch::Inside(3, 2, "x")],
+        (5, 3),
+    ),
+];
+
+#[test]
+fn each_rule_is_broken(rt: HostRuntime) -> Result<(), Fail> {
+    let alloc = rt.alloc();
+    for (sketches, expected) in WHOLE {
+        let rows = rows_of(alloc, sketches)?;
+        assert!(rt; told(alloc, &rows)? == expected);
+    }
+    for (sketches, expected) in BEHIND {
+        let mut rows = rows_of(alloc, &FIRST)?;
+        rows.extend(rows_of(alloc, sketches)?)?;
+        assert!(rt; told(alloc, &rows)? == expected);
+    }
+    Ok(())
+}
+
+#[test]
+fn folders_are_64_deep(rt: HostRuntime) -> Result<(), Fail> {
+    let alloc = rt.alloc();
+    let mut rows = rows_of(alloc, &FIRST)?;
+    for id in 2..=66u64 {
+        rows.push(inside(alloc, id, id - 1, b"x")?)?;
+    }
+    assert!(rt; told(alloc, &rows)? == (5, 67));
+    rows.pop();
+    assert!(rt; told(alloc, &rows)? == (9, 0));
+    Ok(())
+}
+
+/// A user and a root of that number.
+fn add_user(alloc: Global, rows: &mut Vec<Row>, id: u32) -> Result<(), Fail> {
+    let name = format!(in alloc; "u{id}")?;
+    let root = u64::from(id);
+    rows.push(user(alloc, id, name.as_bytes(), root)?)?;
+    rows.push(folder(alloc, root, id, Place::Root, name.as_bytes())?)?;
+    Ok(())
+}
+
+#[test]
+fn users_are_4096(rt: HostRuntime) -> Result<(), Fail> {
+    let alloc = rt.alloc();
+    let mut rows = rows_of(alloc, &FIRST)?;
+    for id in 2..=4_097u32 {
+        add_user(alloc, &mut rows, id)?;
+    }
+    assert!(rt; told(alloc, &rows)? == (7, 1));
+    rows.pop();
+    rows.pop();
+    assert!(rt; told(alloc, &rows)? == (9, 0));
+    Ok(())
+}
+
+#[test]
+fn loads_in_order(rt: HostRuntime) -> Result<(), Fail> {
+    let alloc = rt.alloc();
+    let rows = rows_of(
+        alloc,
+        &[
+            Sketch::Inside(3, 1, "x"),
+            Sketch::Inside(2, 1, "y"),
+            Sketch::Meta,
+            Sketch::Inside(3, 1, "z"),
+        ],
+    )?;
+    let loaded = Loaded::of(alloc, &rows)?;
+    assert_eq!(rt; loaded.meta.next_user.number(), 10_000);
+    match loaded.nodes.as_slice() {
+        [first, second] => {
+            assert!(rt; first.id.number() == 2);
+            assert!(rt; second.name.as_bytes() == b"z".as_slice());
+        }
+        _ => return Err("two nodes")?,
+    }
+    Ok(())
+}

@@ -1,0 +1,287 @@
+//! Two seats of one hub in two threads, a run that becomes full, and each call of a keeper that fails.
+
+ghost use Rattle.std.specs.Prelude.{◌≡◌, None, Some, IfOk, IfSome};
+ghost use Rattle.nf_desk.specs.Opened.{MayBegin};
+ghost use Rattle.nf_hub.specs.Seats.{IsIdleSeat, IsSeat, book};
+ghost use Rattle.nf_session.specs.Book.{held};
+ghost use Rattle.nf_words.specs.History.{MayWant};
+
+use nf_base::{BlobId, Digest, Moment, Name, Path};
+use nf_desk::{First, FirstBlob, Opening, Unopened};
+use nf_hub::{Began, Hub, Seat, Ticket};
+use nf_keeper::{Keeper, MemKeeper};
+use nf_session::Ending;
+use nf_site::demo_rows;
+use nf_words::{Answer, Caller, Denial, Goal, Reply, Request, Spot, Wanted, Words};
+use std::alloc::{AllocError, Global};
+use std::process::Abort;
+use std::sync::Wait;
+use std::sync::atomic::{AtomicU8, Ordering};
+use std::test::Fail;
+use std::thread::{Threads, join_mut, yield_now};
+
+#[derive(Clone, Copy)]
+enum Act {
+    Get,
+    Put,
+    Mkcol,
+    Delete,
+}
+
+/// What two threads share. Each Begin and each End is a stage, before which the one waits for the other.
+#[derive(Drop)]
+struct Shared<K: Keeper + Drop> {
+    alloc: Global,
+    hub: Hub<K>,
+    stage: AtomicU8,
+}
+
+type Started<K> = Result<(Shared<K>, Seat<K>), Unopened<K>>;
+
+/// The demonstration rows and the bytes of their one file.
+fn demonstration(alloc: Global) -> Result<Opening, AllocError>
+    ensures { IfOk result MayBegin }
+{
+    let rows = demo_rows(alloc)?;
+    let bytes = b"hello\n".to_vec(alloc)?;
+    let id = BlobId::new(1);
+    let blob = Some(FirstBlob { id, bytes });
+    Ok(Opening::Either(First { rows, blob }))
+}
+
+fn request(alloc: Global, act: Act, path: &[&str]) -> Option<Request>
+    ensures { IfSome result MayWant }
+{
+    let mut names = Vec::new(alloc);
+    for name in path {
+        names.push(name.as_bytes().to_vec(alloc).ok()?).ok()?;
+    }
+    let user = Some(Name::read(alloc, b"alice").ok()?);
+    let path = Path::read(alloc, &names).ok()?;
+    let spot = Spot { user, path };
+    let length = 8;
+    let wanted = match act {
+        Act::Get => Wanted::Get(spot),
+        Act::Put => Wanted::Put { spot, length },
+        Act::Mkcol => Wanted::Mkcol(spot),
+        Act::Delete => Wanted::Delete(spot),
+    };
+    let caller = Caller::Token(Digest::of(b"alice-1"));
+    Some(Request { caller, wanted })
+}
+
+/// The End of what was granted: of a PUT with its body, of a GET once its first piece was read.
+fn finish<K: Keeper + Drop, R: Wait>(
+    rt: &R,
+    shared: &Shared<K>,
+    ticket: Ticket,
+    seat: &mut Seat<K>,
+) -> Answer
+    requires seat { IsSeat K.Keeper shared.now.hub seat.old }
+    requires granted { held (book K.Keeper shared.now.hub seat.old) ≡ Some ticket.goal }
+    ensures { IsIdleSeat K.Keeper shared.now.hub seat.new }
+{
+    let lost = match ticket.goal() {
+        Goal::Serve(content) if !content.pieces().is_empty() => {
+            shared.hub.blob(rt, seat, &ticket, 0).is_err()
+        }
+        _ => false,
+    };
+    let how = match (ticket.goal(), b"good bye".to_vec(shared.alloc)) {
+        (Goal::Store { length: 8, .. }, Ok(body)) => Ending::Body(body),
+        _ => Ending::Gone,
+    };
+    let answer = shared.hub.end(rt, seat, ticket, Moment::new(5), how);
+    if lost { Err(Denial::Store) } else { answer }
+}
+
+/// Waits until so many stages are over.
+fn wait_for<R: Wait>(rt: &R, stage: &AtomicU8, stages: u8) {
+    for _ in rt.forever() {
+        if stage.load(Ordering::SeqCst) >= stages {
+            return;
+        }
+        yield_now();
+    }
+}
+
+/// A request of alice's, whose Begin and End wait for so many stages.
+fn ask<K: Keeper + Drop, R: Wait>(
+    rt: &R,
+    shared: &Shared<K>,
+    stages: (u8, u8),
+    act: Act,
+    path: &[&str],
+    seat: &mut Seat<K>,
+) -> Answer
+    requires { IsIdleSeat K.Keeper shared.now.hub seat.old }
+    ensures { IsIdleSeat K.Keeper shared.now.hub seat.new }
+{
+    let request = request(shared.alloc, act, path).ok_or(Denial::Memory)?;
+    let (first, second) = (1, 2);
+    wait_for(rt, &shared.stage, stages.0);
+    let began = shared
+        .hub
+        .begin(rt, seat, Moment::new(5), Words { first, second }, request);
+    shared.stage.fetch_add(1, Ordering::SeqCst);
+    wait_for(rt, &shared.stage, stages.1);
+    let answer = match began {
+        Began::Granted(ticket) => finish(rt, shared, ticket, seat),
+        Began::Done(reply) => Ok(reply),
+        Began::Refused(refusal) => Err(refusal),
+    };
+    shared.stage.fetch_add(1, Ordering::SeqCst);
+    answer
+}
+
+/// A PUT in whose middle another thread asks for something: how the PUT is answered, and how that is.
+fn put_amid<K: Keeper + Drop + Send, R: Threads + Wait + Sync>(
+    rt: &R,
+    shared: &Shared<K>,
+    put: &[&str],
+    act: Act,
+    path: &[&str],
+    first: &mut Seat<K>,
+    second: &mut Seat<K>,
+) -> (Answer, Answer)
+    requires { IsIdleSeat K.Keeper shared.now.hub first.old × IsIdleSeat K.Keeper shared.now.hub second.old }
+    ensures { IsIdleSeat K.Keeper shared.now.hub first.new × IsIdleSeat K.Keeper shared.now.hub second.new }
+{
+    shared.stage.store(0, Ordering::SeqCst);
+    let mut other = || -> Answer
+        requires { IsIdleSeat K.Keeper shared.now.hub second.now }
+        ensures { IsIdleSeat K.Keeper shared.entry.now.hub second.exit.now }
+    { ask(rt, shared, (1, 2), act, path, second) };
+    let mut one = || -> Answer
+        requires { IsIdleSeat K.Keeper shared.now.hub first.now }
+        ensures { IsIdleSeat K.Keeper shared.entry.now.hub first.exit.now }
+    { ask(rt, shared, (0, 3), Act::Put, put, first) };
+    join_mut(rt, &mut one, &mut other)
+}
+
+/// A hub over what the keeper has, and its first seat.
+fn start<K: Keeper + Drop>(alloc: Global, keeper: K, opening: Opening) -> Started<K>
+    requires { MayBegin opening }
+    ensures { IfOk result (λ made. IsIdleSeat K.Keeper made.0.hub made.1) }
+{
+    let (hub, seat) = Hub::start(alloc, keeper, opening, 2)?;
+    let stage = AtomicU8::new(0);
+    Ok((Shared { alloc, hub, stage }, seat))
+}
+
+/// How what is asked amid a PUT is answered, where the PUT then finds its place no more.
+fn overtaken<K: Keeper + Drop + Send, R: Threads + Wait + Sync>(
+    rt: &R,
+    shared: &Shared<K>,
+    put: &[&str],
+    act: Act,
+    path: &[&str],
+    first: &mut Seat<K>,
+    second: &mut Seat<K>,
+) -> Option<Reply>
+    requires { IsIdleSeat K.Keeper shared.now.hub first.old × IsIdleSeat K.Keeper shared.now.hub second.old }
+    ensures { IsIdleSeat K.Keeper shared.now.hub first.new × IsIdleSeat K.Keeper shared.now.hub second.new }
+{
+    let (put, other) = put_amid(rt, shared, put, act, path, first, second);
+    if matches!(put, Err(Denial::NotFound)) {
+        other.ok()
+    } else {
+        None
+    }
+}
+
+// One free name, a file that is removed, and a folder that is.
+fn overtake<K: Keeper + Drop + Send, R: Threads + Wait + Sync + Abort>(
+    rt: &R,
+    shared: &Shared<K>,
+    a: &mut Seat<K>,
+    b: &mut Seat<K>,
+)
+    requires { IsIdleSeat K.Keeper shared.now.hub a.old × IsIdleSeat K.Keeper shared.now.hub b.old }
+    ensures { IsIdleSeat K.Keeper shared.now.hub a.new × IsIdleSeat K.Keeper shared.now.hub b.new }
+{
+    let made = overtaken(rt, shared, &["x"], Act::Put, &["x"], a, b);
+    assert!(rt; matches!(made, Some(Reply::Made)));
+    let removed = overtaken(rt, shared, &["x"], Act::Delete, &["x"], b, a);
+    assert!(rt; matches!(removed, Some(Reply::Done)));
+    let _ = ask(rt, shared, (0, 0), Act::Mkcol, &["d"], b);
+    let removed = overtaken(rt, shared, &["d", "x"], Act::Delete, &["d"], a, b);
+    assert!(rt; matches!(removed, Some(Reply::Done)));
+}
+
+#[test]
+fn what_two_seats_do_to_each_other(rt: HostRuntime) -> Result<(), Fail> {
+    let alloc = rt.alloc();
+    let started = start(alloc, MemKeeper::new(alloc, &[])?, demonstration(alloc)?);
+    let (shared, mut a) = started.ok().ok_or("no hub")?;
+    let mut b = shared.hub.split(&mut a).ok_or("no seat")?;
+    overtake(&rt, &shared, &mut a, &mut b);
+    shared.hub.join(&mut a, b);
+    assert!(rt; a.whole());
+    assert!(rt; shared.hub.close(a).0.history().len() == 11);
+    Ok(())
+}
+
+#[test]
+fn a_hub_becomes_full(rt: HostRuntime) -> Result<(), Fail> {
+    let alloc = rt.alloc();
+    let started = start(alloc, MemKeeper::new(alloc, &[])?, demonstration(alloc)?);
+    let (shared, mut seat) = started.ok().ok_or("no hub")?;
+    for count in 0..262_143 {
+        let listing = ask(&rt, &shared, (0, 0), Act::Get, &[], &mut seat);
+        assert!(rt; matches!(listing, Ok(Reply::Listing(_))), "at {count}");
+    }
+    let refused = ask(&rt, &shared, (0, 0), Act::Get, &[], &mut seat);
+    assert!(rt; matches!(refused, Err(Denial::RunFull)));
+    Ok(())
+}
+
+/// How a PUT, a GET and a DELETE of the one file are answered, where the keeper's call of that number fails.
+fn ask_all<K: Keeper + Drop, R: Wait + Abort>(
+    rt: &R,
+    shared: &Shared<K>,
+    failing: u64,
+    seat: &mut Seat<K>,
+)
+    requires { IsIdleSeat K.Keeper shared.now.hub seat.old }
+    ensures { IsIdleSeat K.Keeper shared.now.hub seat.new }
+{
+    let put = ask(rt, shared, (0, 0), Act::Put, &["hello.txt"], seat);
+    assert!(rt; is_answered(&put, failing == 3), "PUT, at call {failing}");
+    let get = ask(rt, shared, (0, 0), Act::Get, &["hello.txt"], seat);
+    assert!(rt; is_answered(&get, failing == 4), "GET, at call {failing}");
+    let delete = ask(rt, shared, (0, 0), Act::Delete, &["hello.txt"], seat);
+    assert!(rt;
+        is_answered(&delete, failing == 5),
+        "DELETE, at call {failing}"
+    );
+}
+
+#[test]
+fn each_call_of_the_keeper_fails(rt: HostRuntime) -> Result<(), Fail> {
+    let alloc = rt.alloc();
+    // `load` and `apply` at the start, then `apply`, `blob` and `apply`, and there is no sixth call.
+    for failing in 1..7 {
+        let keeper = MemKeeper::new(alloc, &[failing])?;
+        let keeper = match start(alloc, keeper, demonstration(alloc)?) {
+            Ok((shared, mut seat)) if failing > 2 => {
+                ask_all(&rt, &shared, failing, &mut seat);
+                assert!(rt; seat.whole());
+                shared.hub.close(seat).1
+            }
+            Err(unopened) if failing < 3 => unopened.keeper,
+            _ => return Err("the start")?,
+        };
+        assert!(rt; keeper.faults() == u64::from(failing < 6));
+    }
+    Ok(())
+}
+
+/// Whether the store failed it where it has to, and else nothing refused it.
+fn is_answered(answer: &Answer, fails: bool) -> bool {
+    if fails {
+        matches!(answer, Err(Denial::Store))
+    } else {
+        answer.is_ok()
+    }
+}
