@@ -1,7 +1,9 @@
 //! What no case of the suite can say of a server: its threads, doors that fail, and a run that becomes full.
 
 ghost use Rattle.std.specs.Prelude.{◌<◌, length, None};
+ghost use Rattle.nf_base.specs.declared.limits.TheConstants.{MAX_SEATS};
 
+use crate::words::words_of;
 use filesd::{Finished, RowsFault, Status, run};
 use nf_keeper::MemKeeper;
 use nf_outside::{Ends, Failed, ListClock, MemSink, MemSource, Sink, Source};
@@ -21,14 +23,6 @@ const GET_HELLO: &str =
 const HELLO: &str =
     "HTTP/1.1 200 OK\r\nConnection: close\r\nContent-Type: application/octet-stream\r\nContent-Length: 6\r\n\r\nhello\n";
 
-fn words_of(alloc: Global, words: &[&str]) -> Result<Vec<String>, AllocError> {
-    let mut list = Vec::new(alloc);
-    for word in words {
-        list.push(String::from_str(alloc, word)?)?;
-    }
-    Ok(list)
-}
-
 /// A run by these words over a keeper, with these workers.
 fn run_with<R, D>(
     rt: &R,
@@ -42,7 +36,7 @@ where
     D: Door + Drop + Send,
     D::Source: Send,
     D::Sink: Send,
-    requires workers { length workers.old < 64 }
+    requires workers { length workers.old < MAX_SEATS }
 {
     let words = words_of(alloc, words)?;
     let none = Vec::new(alloc);
@@ -100,7 +94,7 @@ where
     D: Door + Drop + Send,
     D::Source: Send,
     D::Sink: Send,
-    requires workers { length workers.old < 64 }
+    requires workers { length workers.old < MAX_SEATS }
 {
     let keeper = demo_keeper(rt, alloc)?;
     Ok(run_with(rt, alloc, words, keeper, workers)?.status)

@@ -1,5 +1,6 @@
 //! What no case of the suite can say: faults of the outside, a PUT that is cut and read again, and the longest body.
 
+use crate::words::words_of;
 use filesd::{Finished, Status, run};
 use nf_keeper::MemKeeper;
 use nf_outside::{ListClock, MemSink, MemSource};
@@ -30,14 +31,6 @@ type NoWorker = Worker<MemDoor<MemSource, MemSink>, ListClock>;
 
 fn no_workers() -> [NoWorker; 0] {
     []
-}
-
-fn words_of(alloc: Global, words: &[&str]) -> Result<Vec<String>, AllocError> {
-    let mut list = Vec::new(alloc);
-    for word in words {
-        list.push(String::from_str(alloc, word)?)?;
-    }
-    Ok(list)
 }
 
 /// A run of `batch` over a keeper.

@@ -6,3 +6,5 @@
 mod doors;
 #[cfg(test)]
 mod faults;
+#[cfg(test)]
+mod words;

@@ -1,0 +1,11 @@
+//! The words of a command.
+
+use std::alloc::{AllocError, Global};
+
+pub fn words_of(alloc: Global, words: &[&str]) -> Result<Vec<String>, AllocError> {
+    let mut list = Vec::new(alloc);
+    for word in words {
+        list.push(String::from_str(alloc, word)?)?;
+    }
+    Ok(list)
+}
