@@ -1,0 +1,5 @@
+pub mod Looked
+pub mod Backs
+pub mod Leans
+pub mod Fronts
+pub mod Over

@@ -1,0 +1,26 @@
+-- Rows of one kind as a table holds them, and what is looked up in them.
+use Rattle.std.specs.Prelude.{ℕ, ◌≤◌, Bool, List, length, take, Option, find, bytes_eq}
+use Rattle.std.specs.declared.cmp.Ordering.{Ordering}
+use Rattle.nf_defs.specs.Prelude.{IsRising, key_cmp}
+
+-- rows, and how many of them fit without more memory
+pub record TableValue (R : Type 0) : Type 0 where
+  pub rows : List R
+  pub room : ℕ
+
+-- they are by rising key, and fit
+pub record IsTable {R : Type 0} (key : R → List ℕ) (rows : List R) (room : ℕ) : Type 0 where
+  pub rising : IsRising key rows
+  pub within : length rows ≤ room
+
+-- the row with that key
+abbrev pub row_at : {R : Type 0} → (R → List ℕ) → List ℕ → List R → Option R
+row_at key numbers rows = find (λ row. bytes_eq (key row) numbers) rows
+
+-- how a key, as far as a front is long, stands to that front
+abbrev pub front_cmp : List ℕ → List ℕ → Ordering
+front_cmp numbers front = key_cmp (take (length front) numbers) front
+
+-- the key begins with that front
+abbrev pub begins : List ℕ → List ℕ → Bool
+begins numbers front = bytes_eq (take (length front) numbers) front
