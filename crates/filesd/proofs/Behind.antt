@@ -1,6 +1,5 @@
 -- A store that has the rows of the state that a seat knew opens again, with the tables of that state.
-use Rattle.std.proofs.Common.{◌≡◌, ℕ, ◌+◌, ◌≤◌, List, [], ◌∷◌, ◌++◌, length, refl, sym, ◌∙◌, ap, subst, arith}
-use Rattle.std.specs.Prelude.{Some}
+use Rattle.std.proofs.Common.{◌≡◌, ℕ, ◌+◌, ◌≤◌, List, [], ◌∷◌, ◌++◌, length, refl, sym, ◌∙◌, subst, arith}
 use Rattle.std.specs.List.{All, AllByRecursion}
 use Rattle.std.proofs.lemmas.List.Elements.{All-cons, All-head, All-nil, All-tail}
 use Rattle.std.proofs.lemmas.Option.{same_Some}
@@ -13,15 +12,13 @@ use Rattle.nf_base.specs.declared.rows.NodeKind.TheVariants as kinds
 use Rattle.nf_base.specs.declared.rows.Row.{Row}
 use Rattle.nf_base.specs.declared.rows.Row.TheVariants as row
 use Rattle.nf_defs.proofs.Tables.{tables_again}
-use Rattle.nf_rows.specs.Spelling.{Fits, FitsContent, FitsPiece, Raw, most_pieces}
+use Rattle.nf_rows.specs.Spelling.{Fits, FitsContent, FitsPiece, most_pieces}
 use Rattle.nf_rules.proofs.Ruled.{ruled_are_unbroken}
 use Rattle.nf_rules.proofs.Stays.{stays_ruled}
 use Rattle.nf_rules.proofs.Unbroken.{unbroken_are_ruled}
 use Rattle.nf_rules.specs.Ruled.{AreRuled}
 use Rattle.nf_rules.specs.Rules.{AreUnbroken}
-use Rattle.nf_session.specs.Prelude.{Book, TellsRows, state_of}
-use Rattle.nf_site.specs.Kept.{IsHistory, Kept}
-use Rattle.nf_told.specs.Told.{Told}
+use Rattle.nf_session.specs.Prelude.{state_of}
 use Rattle.nf_words.specs.Prelude.{after, IsLegal, IsLegalFrom, IsSound, opened, State}
 use Rattle.nf_words.specs.declared.history.Entry.{Entry}
 use Rattle.filesd.specs.Next.{OpensBehindAnswers}
@@ -70,7 +67,7 @@ opens_behind k b later it history unbroken fit rows front tells told =
     (subst (λ (es : List Entry). IsLegal (opened b.opening) es) front
     (subst (λ (all : List Row). IsLegal (opened all) k.history) (sym rows) history.legal)) in
     let sound : IsSound (opened b.opening) =
-    record { rows = first.sound; seen = omega arith; seats = λ i j d before within. absurd (omega arith); goals = All-nil _ } in
+    record { rows = first.sound; seen = omega arith; seats = λ i j d before within. absurd (omega arith); tickets = All-nil _ } in
     let ruled = stays_ruled 0 (opened b.opening) b.known first sound legal in
     opens_tables (state_of b).tables it (same_Some it.rows _ (sym told ∙ tells.are))
     (record {

@@ -25,7 +25,6 @@ use Rattle.nf_session.specs.declared.ended.Ended.{Ended}
 use Rattle.nf_session.specs.declared.ended.Ended.TheVariants as ended
 use Rattle.nf_site.specs.Held.{Held}
 use Rattle.nf_told.specs.Told.{Told}
-use Rattle.nf_words.specs.Prelude.{opened}
 use Rattle.filesd.specs.Doors.{OneRose, RunsDoors, ServesDesk, status_of_work}
 use Rattle.filesd.specs.Ending.{BatchEndsWell, InitEndsWell, IsEmptyStore, IsSafeStore, IsWell, NothingFails, ServeEndsWell}
 use Rattle.filesd.specs.Init.{Inits, Writes}

@@ -1,6 +1,6 @@
 -- A run over a safe store leaves a safe one, and nothing is damaged at any of its messages.
-use Rattle.std.proofs.Common.{◌≡◌, ◌≢◌, ◌⊎◌, ⊎_elim, ℕ, List, [], ◌∷◌, refl, sym, ◌∙◌, ap, subst, inl, inr, arith}
-use Rattle.std.specs.Prelude.{Option, None, Some, IfSome, IsSome, length}
+use Rattle.std.proofs.Common.{◌≡◌, ◌≢◌, ℕ, List, [], ◌∷◌, refl, sym, ◌∙◌, ap, subst, inl, inr}
+use Rattle.std.specs.Prelude.{All, Option, None, Some, IfSome, IsSome}
 use Rattle.std.specs.declared.snapshot.Snapshot.{Snapshot}
 use Rattle.std.proofs.lemmas.List.Elements.{All-nil}
 use Rattle.std.proofs.lemmas.Option.{same_Some}
@@ -10,7 +10,7 @@ use Rattle.nf_base.specs.declared.rows.Row.{Row}
 use Rattle.nf_command.specs.First.{first_rows}
 use Rattle.nf_defs.specs.Prelude.{Blobs}
 use Rattle.nf_desk.specs.Desk.{Served, TellsSite, blobs_in, meanings}
-use Rattle.nf_desk.specs.Opened.{Opens, first_of, told_first}
+use Rattle.nf_desk.specs.Opened.{first_of, told_first}
 use Rattle.nf_desk.specs.declared.first.First.{First}
 use Rattle.nf_desk.specs.declared.first.Opening.TheVariants.{Kept as OverKept}
 use Rattle.nf_hub.specs.Seats.{book_in}
@@ -18,24 +18,17 @@ use Rattle.nf_keeper.specs.declared.keeper.Keeper.{Ghosts as KeeperOf}
 use Rattle.nf_laws.specs.Wholes.{IsDamaged, IsNamed, IsSafe, IsThere}
 use Rattle.nf_outside.specs.declared.traits.Ends.{Ghosts as EndsOf}
 use Rattle.nf_rows.specs.Spelling.{Raw}
-use Rattle.nf_rules.specs.Rules.{AreUnbroken}
 use Rattle.nf_server.proofs.Spanning.{work_begins}
 use Rattle.nf_server.specs.Work.{InTurn, Visited, WorkBeside, Works}
 use Rattle.nf_server.specs.declared.door.Door.{Ghosts as DoorOf}
 use Rattle.nf_server.specs.declared.workers.Worked.{Worked}
-use Rattle.nf_server.specs.declared.workers.Worked.TheVariants as worked
 use Rattle.nf_server.specs.declared.workers.Worker.{Worker}
-use Rattle.nf_session.proofs.Causes.{session_follows}
-use Rattle.nf_session.specs.Prelude.{Book}
 use Rattle.nf_site.specs.Held.{Held}
-use Rattle.nf_site.specs.Kept.{Kept, opened_over}
+use Rattle.nf_site.specs.Kept.{Kept}
 use Rattle.nf_told.specs.Told.{Told}
 use Rattle.nf_turn.specs.Prelude.{having_split, longer, of_the_first, split_from}
 use Rattle.nf_turn.specs.declared.view.Memory.{Memory}
-use Rattle.nf_words.specs.Prelude.{IsLegal, opened, replay, State}
-use Rattle.nf_words.specs.declared.history.Entry.{Entry}
-use Rattle.nf_words.specs.declared.history.Ticket.{Ticket}
-use Rattle.filesd.specs.Doors.{IsServed, IsShut, RunsDoors, ServesDesk, ServesDoors, status_of_work}
+use Rattle.filesd.specs.Doors.{IsServed, RunsDoors, ServesDesk, ServesDoors}
 use Rattle.filesd.specs.Ending.{IsEmptyStore, IsSafeStore}
 use Rattle.filesd.specs.Init.{Inits}
 use Rattle.filesd.specs.Next.{AreUndamaged, BatchBeginsWhole, IsGoodStore, IsUndamaged, KeepsSafe, ServeBeginsWhole, VisitsBeginWhole, WorkBeginsWhole}
@@ -44,9 +37,8 @@ use Rattle.filesd.specs.Opening as opening
 use Rattle.filesd.specs.Outside.{Outside}
 use Rattle.filesd.specs.Reopening.{Leaves}
 use Rattle.filesd.specs.Seat.{book_of}
-use Rattle.filesd.specs.Session.{Runs, Serves, first_book, scene_of}
+use Rattle.filesd.specs.Session.{Runs, first_book, scene_of}
 use Rattle.filesd.specs.declared.status.Status.{Status}
-use Rattle.filesd.specs.declared.status.Status.TheVariants as exit
 use Rattle.filesd.proofs.Closing.{closing_tells}
 use Rattle.filesd.proofs.Spelled.{loaded_is, missing_never, opened_so}
 use Rattle.filesd.proofs.Whole.{each_has, has_safe, left_is_safe, opened_safe, stay_whole, tells_some, undamaged}
@@ -104,8 +96,9 @@ batch_keeps reads a b status (Some site) serves leaves = record {
 
 init_undamaged : (name digest : List ℕ) (quota : ℕ) (shelf : Blobs) (piece : Piece) → IsDamaged (first_rows name digest quota) shelf piece → ⊥
 init_undamaged name digest quota shelf piece damaged =
+    let none : All (IsThere shelf) [] = All-nil (IsThere shelf) in
     damaged.broken (has_safe (first_rows name digest quota) shelf
-    (each_has shelf (first_rows name digest quota) (tt, (tt, (tt, (tt, (tt, (All-nil (IsThere shelf), tt))))))) piece damaged.named)
+    (each_has shelf (first_rows name digest quota) (none, (none, (none, (none, (none, (none, tt))))))) piece damaged.named)
 
 pub init_keeps : {C : Type 0} (name digest : List ℕ) (quota : ℕ) (a b : Outside C) (status : Status) (site : Option Held)
     → Inits (first_rows name digest quota) a b status site → IfSome site (λ site. Leaves site.kept b.told) → KeepsSafe a.told b.told

@@ -8,10 +8,10 @@ use Rattle.sha2.specs.Sha256.{sha256, digest_bytes, hash_after, compress, rounds
 use Rattle.nf_base.specs.declared.rows.TokenRow.{TokenRow}
 use Rattle.nf_base.specs.declared.rows.UserRow.{UserRow}
 use Rattle.nf_site.specs.Demo.{hello, demo_rows}
-use Rattle.nf_defs.specs.Prelude.{found_from, holder_of, unshared, user_row}
+use Rattle.nf_defs.specs.Prelude.{found_from, holder_of, user_row}
 use Rattle.nf_defs.specs.declared.Found.{Found}
 use Rattle.nf_defs.specs.declared.Found.TheVariants.{At}
-use Rattle.nf_words.specs.Prelude.{allowed_of, answer_to, answered_by, asker_of, blob_for, Call, call_of, caller_row, content_in, exists_rule, forbidden_rule, found, given, limit_rule, lost, not_you_rule, opened, overwrite_rule, Pass, place_rule, places_of, root_of, rules, target_rule, token_rule, unless_refused}
+use Rattle.nf_words.specs.Prelude.{access_of, allowed_of, answer_to, answered_by, blob_for, Call, call_of, caller_row, content_in, exists_rule, forbidden_rule, found, given, limit_rule, lost, not_you_rule, opened, overwrite_rule, place_rule, places_of, root_of, rules, target_rule, token_rule, unless_refused}
 use Rattle.nf_words.specs.declared.answer.Denial.{Denial}
 use Rattle.nf_words.specs.declared.answer.Denial.TheVariants as denial
 use Rattle.nf_words.specs.declared.answer.Goal.TheVariants.{Serve}
@@ -23,6 +23,7 @@ use Rattle.nf_words.specs.declared.request.Spot.{Spot}
 use Rattle.nf_words.specs.declared.request.Wanted.TheVariants.{Get}
 use Rattle.nf_words.specs.declared.request.Words.{Words}
 use Rattle.nf_words.proofs.Orders.{none_of}
+use Rattle.nf_words.proofs.Passing.{Passes, in_order}
 use Rattle.nf_promises.specs.Kept.{get_of}
 use Rattle.nf_defs.proofs.Blobs.{put_at}
 use Rattle.nf_told.specs.Told.{Told}
@@ -55,19 +56,30 @@ hello_granted : (seat now : ℕ) (words : Words)
 unfolding token_rule not_you_rule forbidden_rule place_rule exists_rule target_rule overwrite_rule limit_rule
 hello_granted seat now words =
     let s = opened demo_rows in
+    let access = access_of s in
     let call : Call = call_of s seat now words (get_of (Token secret) spot) in
     let row : caller_row call ≡ user_row s.tables.users 1 = ap (option_and_then (user_row s.tables.users)) holds in
     let root : root_of call ≡ 1 = ap (λ (o : Option UserRow). option_map_or (λ row. row.root) o 0) row in
     let at : found call spot ≡ At 4 = ap (λ (r : ℕ). found_from s.tables.nodes 0 r spot.path) root in
     let places : places_of call ≡ record { source = Some (At 4); target = None } =
     ap (λ (f : Found). record { source = Some f; target = None }) at in
-    let token : token_rule unshared call ≡ None = ap (λ (o : Option ℕ). if is_some o then None else Some denial.Token) holds in
-    let not_you : not_you_rule unshared call ≡ None =
+    let token : token_rule access call ≡ None = ap (λ (o : Option ℕ). if is_some o then None else Some denial.Token) holds in
+    let not_you : not_you_rule access call ≡ None =
     ap (λ (o : Option UserRow). if list_all (λ name. option_map_or (λ row. bytes_eq row.name name) o false) (codes "alice" ∷ []) then None else Some denial.NotYou) row in
-    let led : place_rule unshared call ≡ None = ap lost places in
-    let pass : Pass rules unshared call = (token, (not_you, (refl, (led, (refl, (refl, (refl, (refl, tt)))))))) in
-    ap (λ (refusal : Option Denial). answered_by (unless_refused refusal (allowed_of call))) (none_of rules unshared call pass)
-    ∙ ap (λ (p : Places). answered_by (Ok (given s.tables now (asker_of call) (Get spot) p))) places
+    let led : place_rule access call ≡ None = ap lost places in
+    let passes : Passes access call = record {
+      token = token;
+      not_you = not_you;
+      forbidden = refl;
+      place = led;
+      exists = refl;
+      target = refl;
+      overwrite = refl;
+      limit = refl;
+    } in
+    ap (λ (refusal : Option Denial). answered_by (unless_refused refusal (allowed_of access call)))
+    (none_of rules access call (in_order access call passes))
+    ∙ ap (λ (p : Places). answered_by (Ok (given access call p (Get spot)))) places
 
 pub hello_is_file : (told : Told) (faults : ℕ) → IsFileOf (fresh_book told faults) (Token secret) spot hello
 hello_is_file told faults = record {

@@ -1,5 +1,5 @@
 -- The sessions of a run of `serve` stand in the history of the site that it hands out, and no other entry does.
-use Rattle.std.proofs.Common.{◌≡◌, ◌≢◌, ◌⊎◌, ⊎_elim, ℕ, zero, suc, ◌+◌, ◌-◌, ◌<◌, ◌≤◌, List, [], ◌∷◌, refl, sym, ◌∙◌, ap, subst, inl, inr, arith, length}
+use Rattle.std.proofs.Common.{◌≡◌, ◌⊎◌, ⊎_elim, ℕ, zero, suc, ◌+◌, ◌-◌, ◌<◌, ◌≤◌, List, [], ◌∷◌, refl, sym, ◌∙◌, ap, subst, inl, inr, arith, length}
 use Rattle.std.proofs.lemmas.Bool.{cases_lt}
 use Rattle.std.proofs.lemmas.List.Elements.{All-cons, All-nil}
 use Rattle.std.specs.List.{All}
@@ -14,16 +14,14 @@ use Rattle.nf_server.proofs.Together.{all_stand, full_long}
 use Rattle.nf_server.specs.declared.door.Door.{Ghosts as DoorOf}
 use Rattle.nf_server.specs.declared.workers.Worked.{Worked}
 use Rattle.nf_server.specs.declared.workers.Worked.TheVariants as worked
-use Rattle.nf_server.specs.declared.workers.Worker.{Worker}
 use Rattle.nf_site.specs.Held.{Held}
 use Rattle.nf_turn.proofs.Left.{left_tests}
 use Rattle.nf_turn.specs.Prelude.{Agrees, IsFresh, numbers_of, of_the_first}
 use Rattle.nf_turn.specs.declared.view.Memory.{Memory}
 use Rattle.nf_words.specs.Prelude.{IsLegal, opened, replay, State}
 use Rattle.nf_words.specs.declared.history.Entry.{Entry}
-use Rattle.filesd.specs.Doors.{IsServed, ServesDoors, status_of_work}
+use Rattle.filesd.specs.Doors.{status_of_work}
 use Rattle.filesd.specs.Together.{IsOfSeats, ShareOneHistory}
-use Rattle.filesd.specs.declared.status.Status.{Status}
 use Rattle.filesd.specs.declared.status.Status.TheVariants as exit
 use Rattle.filesd.proofs.Safe.{opening_same}
 use Rattle.filesd.proofs.Sole.{its_entry, none_behind}

@@ -6,7 +6,6 @@ use Rattle.std.proofs.lemmas.List.Elements.{All-append, All-cons, All-contains, 
 use Rattle.std.proofs.lemmas.Option.{same_Some}
 use Rattle.sha2.specs.Sha256.{sha256}
 use Rattle.nf_base.specs.declared.content.Piece.{Piece}
-use Rattle.nf_base.specs.declared.rows.NodeRow.{NodeRow}
 use Rattle.nf_base.specs.declared.rows.Row.{Row}
 use Rattle.nf_base.specs.declared.rows.Row.TheVariants as row
 use Rattle.nf_defs.proofs.Blobs.{put_at}
@@ -17,6 +16,7 @@ use Rattle.nf_desk.specs.Opening.{AreSpelled, IsLoaded, OpensTo}
 use Rattle.nf_desk.specs.declared.first.OpenFault.TheVariants as fault
 use Rattle.nf_desk.specs.declared.first.First.{First}
 use Rattle.nf_desk.specs.declared.first.Opening.{Opening}
+use Rattle.nf_laws.proofs.Contents.{EachHas, by_kind}
 use Rattle.nf_laws.specs.Wholes.{IsDamaged, IsNamed, IsSafe, IsThere}
 use Rattle.nf_promises.specs.Complete.{StaysWhole}
 use Rattle.nf_rows.specs.Spelling.{Raw}
@@ -28,7 +28,7 @@ use Rattle.nf_session.specs.declared.ended.Ended.{Ended}
 use Rattle.nf_site.specs.Demo.{demo_rows, hello}
 use Rattle.nf_site.specs.Kept.{Kept}
 use Rattle.nf_told.specs.Told.{Told, told_of}
-use Rattle.nf_words.specs.Prelude.{State}
+use Rattle.nf_words.specs.Prelude.{contents_of, row_content, State}
 use Rattle.filesd.specs.Ending.{IsEmptyStore, IsSafeStore}
 use Rattle.filesd.specs.Next.{AreUndamaged, IsUndamaged, LeftIsThere, OpensOnward, OpensTables, StayWhole}
 use Rattle.filesd.specs.Opening.{told_opened}
@@ -39,8 +39,7 @@ use Rattle.filesd.proofs.Spelled.{broken_never, loaded_is, missing_never, opened
 
 -- the pieces that a row names are there
 abbrev pub HasPieces : Blobs → Row → Type 0
-HasPieces blobs (row.Node node) = All (IsThere blobs) node.content
-HasPieces blobs other = Unit {0}
+HasPieces blobs row = All (IsThere blobs) (row_content row)
 
 pub each_has : (blobs : Blobs) (all : List Row) → AllByRecursion (HasPieces blobs) all → All (HasPieces blobs) all
 each_has blobs [] has = All-nil (HasPieces blobs)
@@ -48,7 +47,7 @@ each_has blobs (row ∷ all) has = All-cons (HasPieces blobs) row all has.0 (eac
 
 pub has_safe : (rows : List Row) (blobs : Blobs) → All (HasPieces blobs) rows → IsSafe rows blobs
 has_safe rows blobs has = λ piece named.
-    All-contains (IsThere blobs) named.row.content piece (All-contains (HasPieces blobs) rows (row.Node named.row) has named.among) named.named
+    All-contains (IsThere blobs) (row_content named.row) piece (All-contains (HasPieces blobs) rows named.row has named.among) named.named
 
 -- the demonstration rows name one piece, which is stored with them
 hello_there : (blobs : Blobs) → IsThere (put_blob blobs 1 hello) (record { blob = 1; size = 6; digest = sha256 hello })
@@ -60,7 +59,7 @@ demo_safe blobs =
     let none : All (IsThere stored) [] = All-nil (IsThere stored) in
     let one = All-cons (IsThere stored) (record { blob = 1; size = 6; digest = sha256 hello }) [] (hello_there blobs) none in
     has_safe demo_rows stored (each_has stored demo_rows
-    (tt, (tt, (tt, (tt, (tt, (tt, (tt, (tt, (tt, (tt, (none, (none, (none, (one, tt)))))))))))))))
+    (none, (none, (none, (none, (none, (none, (none, (none, (none, (none, (none, (none, (none, (one, tt)))))))))))))))
 
 -- what a run begins with is safe
 pub opened_safe : (told : Option Told) (raws : List Raw) (rows : List Row) → IsEmptyStore told ⊎ IsSafeStore told → IsLoaded told raws
@@ -171,31 +170,38 @@ module _ (k : Kept) (it : Told) (leaves : Leaves k (Some it)) where
 
   -- ---- its pieces
 
+  no_piece : All (IsThere it.blobs) []
+  no_piece = All-nil (IsThere it.blobs)
+
   plain : {X : Type 0} (f : X → Row) (xs : List X) → ((x : X) → HasPieces it.blobs (f x)) → All (HasPieces it.blobs) (map f xs)
   plain f xs each = All-map (HasPieces it.blobs) f xs (λ i d within. each _)
 
   left_safe : (start : Option Blobs) (tells : TellsSite start k it) → ((piece : Piece) → IsDamaged k.opening tells.begun piece → ⊥)
       → IsSafe (rows_of t) it.blobs
   left_safe start tells none = has_safe (rows_of t) it.blobs
-      (All-cons Has (row.Meta t.meta) _ tt
-      (All-append Has (map row.User t.users) _ (plain row.User t.users (λ x. tt))
-      (All-append Has (map row.Token t.tokens) _ (plain row.Token t.tokens (λ x. tt))
-      (All-append Has (map row.Group t.groups) _ (plain row.Group t.groups (λ x. tt))
-      (All-append Has (map row.Member t.members) _ (plain row.Member t.members (λ x. tt))
-      (All-append Has (map row.Node t.nodes) _ (All-map Has row.Node t.nodes nodes)
-      (All-append Has (map row.Share t.shares) _ (plain row.Share t.shares (λ x. tt))
-      (All-append Has (map row.Mount t.mounts) _ (plain row.Mount t.mounts (λ x. tt))
-      (All-append Has (map row.Version t.versions) _ (plain row.Version t.versions (λ x. tt))
-      (All-append Has (map row.Item t.items) _ (plain row.Item t.items (λ x. tt))
-      (All-append Has (map row.Upload t.uploads) (map row.Chunk t.chunks) (plain row.Upload t.uploads (λ x. tt))
-      (plain row.Chunk t.chunks (λ x. tt)))))))))))))
+      (All-cons Has (row.Meta t.meta) _ no_piece
+      (All-append Has (map row.User t.users) _ (plain row.User t.users (λ x. no_piece))
+      (All-append Has (map row.Token t.tokens) _ (plain row.Token t.tokens (λ x. no_piece))
+      (All-append Has (map row.Group t.groups) _ (plain row.Group t.groups (λ x. no_piece))
+      (All-append Has (map row.Member t.members) _ (plain row.Member t.members (λ x. no_piece))
+      (All-append Has (map row.Node t.nodes) _ (All-map Has row.Node t.nodes each.nodes)
+      (All-append Has (map row.Share t.shares) _ (plain row.Share t.shares (λ x. no_piece))
+      (All-append Has (map row.Mount t.mounts) _ (plain row.Mount t.mounts (λ x. no_piece))
+      (All-append Has (map row.Version t.versions) _ (All-map Has row.Version t.versions each.versions)
+      (All-append Has (map row.Item t.items) _ (plain row.Item t.items (λ x. no_piece))
+      (All-append Has (map row.Upload t.uploads) (map row.Chunk t.chunks) (plain row.Upload t.uploads (λ x. no_piece))
+      (All-map Has row.Chunk t.chunks each.chunks))))))))))))
     where
       Has : Row → Type 0
       Has row = HasPieces it.blobs row
 
-      nodes : All (λ (node : NodeRow). All (IsThere it.blobs) node.content) t.nodes
-      nodes = λ i d within j e inside.
-          ⊎_elim (λ there. there) (λ damaged. absurd (none _ damaged)) (tells.whole.nodes i d within j e inside)
+      -- what is held is there
+      there : All (All (IsThere it.blobs)) (contents_of t)
+      there = λ i d within j e inside.
+          ⊎_elim (λ there. there) (λ damaged. absurd (none _ damaged)) (tells.whole.rows i d within j e inside)
+
+      each : EachHas (All (IsThere it.blobs)) t
+      each = by_kind (All (IsThere it.blobs)) t there
 
   pub left_is_safe : (start : Option Blobs) (tells : TellsSite start k it) → ((piece : Piece) → IsDamaged k.opening tells.begun piece → ⊥)
       → IsSafeStore (Some it)

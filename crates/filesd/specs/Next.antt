@@ -1,5 +1,5 @@
 -- One run after the other: the next is opened over what this one left.
-use Rattle.std.specs.Prelude.{◌≡◌, ◌⊎◌, ℕ, All, List, [], ◌∷◌, ◌++◌, Option, None, Some, IsSome}
+use Rattle.std.specs.Prelude.{◌≡◌, ◌⊎◌, ℕ, All, List, [], ◌∷◌, ◌++◌, Option, Some, IsSome}
 use Rattle.nf_base.specs.declared.limits.TheConstants.{MAX_SEATS}
 use Rattle.nf_base.specs.declared.content.Piece.{Piece}
 use Rattle.nf_base.specs.declared.rows.Row.{Row}

@@ -86,6 +86,56 @@ pub enum Change {
     Drop(RowKey),
 }
 
+impl RowKey {
+    /// An equal key.
+    fn copy(&self) -> Result<RowKey, AllocError>
+        ensures { IfOk result (λ copy. copy ≡ self.now) }
+    {
+        Ok(match self {
+            RowKey::Meta => RowKey::Meta,
+            RowKey::User(user) => RowKey::User(*user),
+            RowKey::Token(digest) => RowKey::Token(*digest),
+            RowKey::Group(group) => RowKey::Group(*group),
+            RowKey::Member { group, user } => RowKey::Member {
+                group: *group,
+                user: *user,
+            },
+            RowKey::Node(node) => RowKey::Node(*node),
+            RowKey::Share(share) => RowKey::Share(*share),
+            RowKey::Mount { user, node } => RowKey::Mount {
+                user: *user,
+                node: *node,
+            },
+            RowKey::Version { node, at } => RowKey::Version {
+                node: *node,
+                at: *at,
+            },
+            RowKey::Item(node) => RowKey::Item(*node),
+            RowKey::Upload { user, dir } => RowKey::Upload {
+                user: *user,
+                dir: dir.copy()?,
+            },
+            RowKey::Chunk { user, dir, number } => RowKey::Chunk {
+                user: *user,
+                dir: dir.copy()?,
+                number: *number,
+            },
+        })
+    }
+}
+
+impl Change {
+    /// An equal change.
+    fn copy(&self) -> Result<Change, AllocError>
+        ensures { IfOk result (λ copy. copy ≡ self.now) }
+    {
+        Ok(match self {
+            Change::Put(row) => Change::Put(row.clone()?),
+            Change::Drop(key) => Change::Drop(key.copy()?),
+        })
+    }
+}
+
 /// Changes, to be made in their order.
 #[derive(Drop)]
 pub struct Changes {
@@ -117,6 +167,17 @@ impl Changes {
     {
         self.changes.push(change)?;
         Ok(())
+    }
+
+    /// An equal list.
+    pub fn copy(&self, alloc: Global) -> Result<Self, AllocError>
+        ensures { IfOk result (λ copy. copy ≡ self.now) }
+    {
+        let mut copy = Changes::new(alloc);
+        for change in &self.changes {
+            copy.push(change.copy()?)?;
+        }
+        Ok(copy)
     }
 
     pub fn is_empty(&self) -> bool

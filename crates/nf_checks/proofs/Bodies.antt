@@ -85,7 +85,7 @@ passes_same reads body a b c d (begun.Unasked refusal) v w steady same p q calm 
     (equal (q.0 ∙ sym p.0), same_self a b c d same p.1 q.1)
 passes_same reads body a b c d (begun.Asked (Ok (reply.Granted (goal.Serve content)))) v w steady same p q calm still alone also =
     starts_same a b c d content v w same p q calm still alone also
-passes_same reads body a b c d (begun.Asked (Ok (reply.Granted (goal.Store who key size)))) v w steady same p q calm still alone also =
+passes_same reads body a b c d (begun.Asked (Ok (reply.Granted (goal.Store by key size)))) v w steady same p q calm still alone also =
     stores_same reads body a b c d v w steady same p q calm still alone also
 passes_same reads body a b c d (begun.Asked answer) v w steady same p q calm still alone also =
     (similar answer v w p.0 q.0, same_self a b c d same p.1 q.1)
@@ -127,8 +127,8 @@ cut_read a b n fault cut calm = absurd cut
 
 cut_by : (x : Begun) (a b : Option (List ℕ)) (n : ℕ) (fault : WireFault) → cutting x a b n fault → IsOfBytes (Err fault)
     → (fault ≡ wire.Truncated) × CutsRead a b n wire.Truncated
-cut_by (begun.Asked (Ok (reply.Granted (goal.Store who key size)))) a b n wire.Memory cut calm = absurd calm
-cut_by (begun.Asked (Ok (reply.Granted (goal.Store who key size)))) a b n fault cut calm = cut_read a b n fault cut calm
+cut_by (begun.Asked (Ok (reply.Granted (goal.Store by key size)))) a b n wire.Memory cut calm = absurd calm
+cut_by (begun.Asked (Ok (reply.Granted (goal.Store by key size)))) a b n fault cut calm = cut_read a b n fault cut calm
 cut_by other a b n fault cut calm = cut_read a b n fault cut calm
 
 pub cut_of : {C : Type 0} (a b : Scene C) (x : Begun) (n : ℕ) (fault : WireFault)

@@ -18,7 +18,6 @@ use Rattle.nf_words.specs.declared.answer.Parameter.TheVariants as parameter
 use Rattle.nf_words.specs.declared.answer.TargetFault.{TargetFault}
 use Rattle.nf_words.specs.declared.answer.TargetFault.TheVariants as target
 use Rattle.nf_words.specs.declared.route.Route.{Route}
-use Rattle.nf_words.specs.declared.route.Route.TheVariants as route
 use Rattle.nf_dav.specs.declared.replies.Manner.{Manner}
 use Rattle.nf_words.specs.declared.listing.ListingLine.{ListingLine}
 
@@ -33,7 +32,7 @@ status_of denial.ForbiddenName = codes "403 Forbidden"
 status_of (denial.BadTarget cause) = codes "403 Forbidden"
 status_of denial.NotFound = codes "404 Not Found"
 status_of (denial.Method route) = codes "405 Method Not Allowed"
-status_of denial.Exists = codes "405 Method Not Allowed"
+status_of (denial.Exists route) = codes "405 Method Not Allowed"
 status_of denial.NoParent = codes "409 Conflict"
 status_of denial.Overwrite = codes "412 Precondition Failed"
 status_of denial.TooLarge = codes "413 Payload Too Large"
@@ -58,7 +57,7 @@ reason_of denial.ForbiddenName = codes "forbidden-name"
 reason_of (denial.BadTarget cause) = codes "bad-target"
 reason_of denial.NotFound = codes "not-found"
 reason_of (denial.Method route) = codes "method"
-reason_of denial.Exists = codes "exists"
+reason_of (denial.Exists route) = codes "exists"
 reason_of denial.NoParent = codes "no-parent"
 reason_of denial.Overwrite = codes "overwrite"
 reason_of denial.TooLarge = codes "too-large"
@@ -105,9 +104,9 @@ field_word parameter.Depth = codes "depth"
 abbrev pub allow_line : Route → List ℕ
 allow_line route = codes "Allow: " ++ allow_of route ++ codes "\r\n"
 
--- the line that only some denials have: what the route takes, and how to be known (section 11.6.1). A place is on the files route
+-- the line that only some denials have: what the route takes, and how to be known (section 11.6.1)
 abbrev pub own_line : Denial → List ℕ
-own_line denial.Exists = allow_line route.Files
+own_line (denial.Exists route) = allow_line route
 own_line (denial.Method route) = allow_line route
 own_line denial.Token = codes "WWW-Authenticate: Bearer\r\n"
 own_line other = []
@@ -164,7 +163,7 @@ code_of denial.ForbiddenName = 403
 code_of (denial.BadTarget cause) = 403
 code_of denial.NotFound = 404
 code_of (denial.Method route) = 405
-code_of denial.Exists = 405
+code_of (denial.Exists route) = 405
 code_of denial.NoParent = 409
 code_of denial.Overwrite = 412
 code_of denial.TooLarge = 413

@@ -129,13 +129,12 @@ fn close_line(close: bool) -> &'static str
     if close { "Connection: close\r\n" } else { "" }
 }
 
-// The line that only some denials have. A place is on the files route.
+// The line that only some denials have.
 fn own_line(alloc: Global, denial: &Denial) -> Result<String, AllocError>
     ensures { IfOk result (λ line. string_bytes line ≡ own denial.now) }
 {
     match denial {
-        Denial::Exists => allow_line(alloc, Route::Files),
-        Denial::Method(route) => allow_line(alloc, *route),
+        Denial::Exists(route) | Denial::Method(route) => allow_line(alloc, *route),
         Denial::Token => String::from_str(alloc, "WWW-Authenticate: Bearer\r\n"),
         _ => Ok(String::new(alloc)),
     }

@@ -1,41 +1,107 @@
 -- What sound tables can bear, where no rule refuses it.
-use Rattle.std.proofs.Common.{ℕ, zero, suc, ◌+◌, ◌<◌, ◌≤◌, ◌==◌, ◌≡◌, Bool, true, false, not, List, [], ◌∷◌, length, find, filter, slice_get, is_some, Option, None, Some, IsSome, IfSome, if◌then◌else◌, option_and_then, refl, sym, ap, ◌∙◌, subst, arith}
-use Rattle.std.specs.List.{AllPairs}
-use Rattle.std.specs.Option.{ForSome, option_map_or}
-use Rattle.std.proofs.lemmas.Bool.{eqb-true}
+use Rattle.std.proofs.Common.{inl, inr, count_by, max, nat_lt, ◌∷◌, length-append, ℕ, ◌+◌, ◌<◌, ◌≤◌, ◌==◌, ◌≡◌, Bool, true, false, not, List, [], length, find, filter, is_some, Option, None, Some, IsSome, IfSome, if◌then◌else◌, option_and_then, refl, sym, ap, ◌∙◌, subst, arith}
+use Rattle.std.specs.List.{All, AllPairs}
+use Rattle.std.specs.Option.{option_map_or}
+use Rattle.std.proofs.lemmas.List.Elements.{All-cons, All-nil, All-weaker}
+use Rattle.nf_base.specs.declared.changes.Change.{Change}
+use Rattle.nf_base.specs.declared.changes.Change.TheVariants.{Put}
+use Rattle.nf_base.specs.declared.rows.MetaRow.{MetaRow}
+use Rattle.nf_base.specs.declared.rows.Row.TheVariants as rows
+use Rattle.nf_defs.proofs.Puts.{all_put}
+use Rattle.nf_laws.proofs.Lists.{Rising, raised_higher, rising_row}
+use Rattle.nf_laws.proofs.OneRow.{length_with}
+use Rattle.nf_laws.proofs.Puts.{put_changed, put_new}
+use Rattle.std.proofs.lemmas.Bool.{eqb-true, le-ltb, lt-ltb}
 use Rattle.std.proofs.lemmas.Option.{none-some, same_Some}
 use Rattle.nf_base.specs.declared.limits.TheConstants.{MAX_NODES}
 use Rattle.nf_base.specs.declared.rows.NodeRow.{NodeRow}
 use Rattle.nf_base.specs.declared.rows.UserRow.{UserRow}
-use Rattle.nf_defs.specs.Prelude.{child_of, folder_of, found_from, is_folder, is_under, node_row, onward, parent_of, Tables}
+use Rattle.nf_defs.specs.Prelude.{child_of, filled, folder_of, found_from, is_folder, is_under, made, node_key, node_row, onward, parent_of, put, Tables}
 use Rattle.nf_defs.specs.declared.Found.TheVariants.{At, Missing}
-use Rattle.nf_words.specs.Prelude.{AreSound, blob_after, cleared, copies_to, HasRoot, last_number}
+use Rattle.nf_words.specs.Prelude.{AreSound, cleared, copies_to, HasRoot, last_number, raised}
 use Rattle.nf_words.specs.declared.answer.Allowed.{Allowed}
 use Rattle.nf_words.specs.declared.answer.Allowed.TheVariants as allowed
-use Rattle.nf_words.proofs.Known.{Known, KnownCopies, KnownPath, child_parent, found_has, found_passes}
-use Rattle.nf_decide.specs.Current.{AreGiven, BearsAct, HasNumbers, added_by}
+use Rattle.nf_words.proofs.Fits.{KnownChange, KnownPath, KnownRows}
+use Rattle.nf_words.proofs.Found.{child_parent, found_has, found_passes}
+use Rattle.nf_words.proofs.Known.{Known, KnownCopies}
+use Rattle.nf_decide.specs.Current.{AreBorne, AreGiven, BearsAct, BearsChanges, HasNumbers, IsCounted, added_by, is_fresh}
+use Rattle.nf_decide.proofs.Putting.{count_by-cons, counts_none, counts_one}
 use Rattle.nf_decide.proofs.Copies.{AreNumbered, copies_count, copies_next}
 
 pub sound_given : (t : Tables) → AreSound t → AreGiven t
 sound_given t sound = record { rising = sound.rising; given = λ k d within. (sound.nodes k d within).given }
 
--- a single new node
-one_numbered : (t : Tables) (row : NodeRow) (blob : Option ℕ) → row.id ≡ t.meta.next_node → t.meta.next_node + 1 ≤ last_number
-    → blob_after t.meta.next_blob blob ≤ last_number
-    → HasNumbers t (row ∷ []) blob
-one_numbered t row blob id next_node next_blob = record {
-  numbered = here;
-  next_node = next_node;
-  next_blob = stored blob next_blob;
-}
-  where
-    stored : (blob : Option ℕ) → blob_after t.meta.next_blob blob ≤ last_number → ForSome blob (λ id. t.meta.next_blob + 1 ≤ last_number)
-    stored None few = λ id is. absurd (cc)
-    stored (Some id) few = λ other is. few
+-- what is known of changed rows, once the counters are raised, can be borne
+rows_borne : (t u : Tables) (who blob : Option ℕ) (changes : List Change) (meta : MetaRow) → KnownRows t who blob (record u { meta = meta }) changes
+    → AreBorne t.meta.next_node u changes
+rows_borne t u who blob [] meta known = tt
+rows_borne t u who blob (Put (rows.Node row) ∷ changes) meta known = (
+  elim known.0 [
+    | inl it ↦ inl (it.fresh, it.born.newest)
+    | inr it ↦
+        inr (it.given, record { was = it.filled.old; there = it.filled.there; file = it.filled.file; same = it.filled.same })
+  ],
+  rows_borne t (made u (Put (rows.Node row))) who blob changes meta known.1,
+)
+rows_borne t u who blob (change ∷ changes) meta known = absurd known.0
 
-    here : (k : ℕ) (other : NodeRow) → slice_get (row ∷ []) k ≡ Some other → other.id ≡ t.meta.next_node + k
-    here zero other is = let e = ap (λ (r : NodeRow). r.id) (same_Some row other is) in omega (arith, e)
-    here (suc k) other is = absurd (cc)
+-- each number is below the raised counter
+rows_counted : (t u : Tables) (who blob : Option ℕ) (changes : List Change) → u.meta.next_node ≤ max t.meta.next_node last_number
+    → All (λ (row : NodeRow). row.id < u.meta.next_node) u.nodes → KnownRows t who blob u changes → All (IsCounted t.meta.next_node) changes
+rows_counted t u who blob [] few below known = All-nil (IsCounted t.meta.next_node)
+rows_counted t u who blob (Put (rows.Node row) ∷ changes) few below known =
+    let given : row.id < u.meta.next_node =
+    elim known.0 [
+      | inl it ↦ it.born.given
+      | inr it ↦
+          (let found = found_has (λ (row : NodeRow). row.id < u.meta.next_node) (λ (r : NodeRow). r.id == row.id) u.nodes below in
+          let old = subst (λ (o : Option NodeRow). IfSome o (λ (r : NodeRow). r.id < u.meta.next_node)) it.filled.there found in
+          let id = ap (λ (r : NodeRow). r.id) it.filled.same in omega (arith, id, old))
+    ] in
+    All-cons (IsCounted t.meta.next_node) (Put (rows.Node row)) changes (omega (arith, given, few))
+    (rows_counted t (made u (Put (rows.Node row))) who blob changes few
+    (all_put node_key (λ (r : NodeRow). r.id < u.meta.next_node) row u.nodes given below) known.1)
+rows_counted t u who blob (change ∷ changes) few below known = absurd known.0
+
+changes_bear : (t : Tables) (now : ℕ) (who : Option ℕ) (changes : List Change) (blob : Option ℕ) → AreSound t
+    → KnownChange t now who changes blob → BearsChanges t changes blob
+changes_bear t now who changes blob sound known =
+    let up = raised t now changes blob in
+    record {
+      rows = rows_borne t t who blob changes up.meta known.rows;
+      numbers = rows_counted t up who blob changes known.next_node
+          (All-weaker (λ (row : NodeRow). row.id < t.meta.next_node) (λ (row : NodeRow). row.id < up.meta.next_node)
+          (λ row given. omega (arith, given, (raised_higher t now changes blob).nodes)) t.nodes (λ k d within. (sound.nodes k d within).given)) known.rows;
+      next_blob = known.next_blob;
+    }
+
+-- and there may be the nodes that they add
+rows_few : (t u : Tables) (who blob : Option ℕ) (changes : List Change) → Rising u.nodes → length u.nodes ≤ MAX_NODES
+    → KnownRows t who blob u changes
+    → length u.nodes + count_by (is_fresh t.meta.next_node) changes ≤ MAX_NODES
+rows_few t u who blob [] rising few known = omega (arith, few)
+rows_few t u who blob (Put (rows.Node row) ∷ changes) rising few known =
+    let next = t.meta.next_node in
+    let after : Tables = made u (Put (rows.Node row)) in
+    let rises = rising_row t who blob u (Put (rows.Node row)) rising known.0 in
+    elim known.0 [
+      | inl it ↦
+          (let more : length after.nodes ≡ length u.nodes + 1 =
+          ap (λ (all : List NodeRow). length all) (put_new row u.nodes it.born.newest) ∙ length-append u.nodes (row ∷ []) in
+          let fresh : not (nat_lt row.id next) ≡ true = ap not (le-ltb row.id next it.fresh) in
+          let rest = rows_few t after who blob changes rises (omega (arith, more, it.born.few_nodes)) known.1 in
+          omega (arith, rest, more, count_by-cons (is_fresh next) (Put (rows.Node row)) changes, counts_one _ fresh))
+      | inr it ↦
+          (let change = filled row.content row.changed in
+          let same : length after.nodes ≡ length u.nodes =
+          ap (λ (r : NodeRow). length (put node_key r u.nodes)) it.filled.same
+          ∙ ap (λ (all : List NodeRow). length all) (put_changed u.nodes row.id change it.filled.old refl rising it.filled.there)
+          ∙ length_with u.nodes row.id change in
+          let old : not (nat_lt row.id next) ≡ false = ap not (lt-ltb row.id next it.given) in
+          let rest = rows_few t after who blob changes rises (omega (arith, same, few)) known.1 in
+          omega (arith, rest, same, count_by-cons (is_fresh next) (Put (rows.Node row)) changes, counts_none _ old))
+    ]
+rows_few t u who blob (change ∷ changes) rising few known = absurd known.0
 
 some_parent : (rows : List NodeRow) (node parent : ℕ) → parent_of rows node ≡ Some parent → IsSome (node_row rows node)
 some_parent rows node parent is = here (node_row rows node) is
@@ -94,25 +160,20 @@ cleared_there rows node (Some top) there apart = here (node_row rows node) refl 
         ap (λ (o : Option NodeRow). is_some o) (kept_there (λ (row : NodeRow). row.id == node) (λ (row : NodeRow). not (is_under rows row.id top)) rows row e kept)
 
 copies_bear : (t : Tables) (now : ℕ) (who : Option ℕ) (rows : List NodeRow) (replaced : Option ℕ) → AreSound t
-    → KnownCopies t now who rows replaced → HasNumbers t rows None
+    → KnownCopies t now who rows replaced → HasNumbers t rows
 copies_bear t now who rows replaced sound known =
     let made = copies_to t now known.transfer known.name in
     let few = ap (λ (rows : List NodeRow). length rows) known.copies in
     record {
       numbered = subst (λ (rows : List NodeRow). AreNumbered t.meta.next_node rows) (sym known.copies) (copies_next t now known.transfer known.name);
       next_node = omega (arith, few, copies_count t now known.transfer known.name, known.next_node);
-      next_blob = λ id is. absurd (cc);
     }
 
 pub known_bears : (t : Tables) (now : ℕ) (who : Option ℕ) (act : Allowed) → AreSound t → Known t now who act → BearsAct t act
 known_bears t now who (allowed.Get node content) sound known = tt
 known_bears t now who (allowed.List listing) sound known = tt
 known_bears t now who (allowed.Put by key length) sound known = tt
-known_bears t now who (allowed.StoreNew row blob) sound known =
-    one_numbered t row blob (ap (λ (r : NodeRow). r.id) known.new.is_new) known.new.next_node known.new.next_blob
-known_bears t now who (allowed.StoreOver node content blob) sound known = record { file = known.brought.file; next_blob = known.brought.next_blob }
-known_bears t now who (allowed.Mkcol row) sound known =
-    one_numbered t row None (ap (λ (r : NodeRow). r.id) known.new.is_new) known.new.next_node known.new.next_blob
+known_bears t now who (allowed.Change changes blob report) sound known = changes_bear t now who changes blob sound known
 known_bears t now who (allowed.Delete node) sound known = tt
 known_bears t now who (allowed.Move transfer name) sound known =
     cleared_there t.nodes transfer.node transfer.replaced (path_there t who transfer.node sound known.source) known.apart
@@ -120,13 +181,12 @@ known_bears t now who (allowed.Copy rows replaced) sound known = copies_bear t n
 known_bears t now who allowed.Close sound known = tt
 
 -- so there may be the nodes that it adds
-pub known_few : (t : Tables) (now : ℕ) (who : Option ℕ) (act : Allowed) → AreSound t → Known t now who act → length t.nodes + added_by act ≤ MAX_NODES
+pub known_few : (t : Tables) (now : ℕ) (who : Option ℕ) (act : Allowed) → AreSound t → Known t now who act → length t.nodes + added_by t act ≤ MAX_NODES
 known_few t now who (allowed.Get node content) sound known = omega (arith, sound.few_nodes)
 known_few t now who (allowed.List listing) sound known = omega (arith, sound.few_nodes)
 known_few t now who (allowed.Put by key length) sound known = omega (arith, sound.few_nodes)
-known_few t now who (allowed.StoreNew row blob) sound known = known.new.nodes
-known_few t now who (allowed.StoreOver node content blob) sound known = omega (arith, sound.few_nodes)
-known_few t now who (allowed.Mkcol row) sound known = known.new.nodes
+known_few t now who (allowed.Change changes blob report) sound known =
+    rows_few t (raised t now changes blob) who blob changes sound.rising sound.few_nodes known.rows
 known_few t now who (allowed.Delete node) sound known = omega (arith, sound.few_nodes)
 known_few t now who (allowed.Move transfer name) sound known = omega (arith, sound.few_nodes)
 known_few t now who (allowed.Copy rows replaced) sound known =

@@ -1,3 +1,4 @@
+pub mod Putting
 pub mod Bears
 pub mod Copies
 pub mod Limited

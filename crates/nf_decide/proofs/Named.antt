@@ -4,16 +4,18 @@ use Rattle.std.specs.Option.{option_map_or}
 use Rattle.std.proofs.lemmas.Bool.{eq-eqb, eqb-true, false≢true}
 use Rattle.nf_base.specs.declared.limits.TheConstants.{MAX_DEPTH}
 use Rattle.nf_base.specs.declared.rows.NodeRow.{NodeRow}
-use Rattle.nf_defs.specs.Prelude.{child_of, found_from, is_folder, is_root, is_under, is_under_within, onward, parent_of, unshared}
+use Rattle.nf_defs.specs.Prelude.{child_of, found_from, is_folder, is_root, is_under, is_under_within, onward, parent_of}
 use Rattle.nf_defs.specs.declared.Found.{Found}
 use Rattle.nf_defs.specs.declared.Found.TheVariants.{At, Free, Missing}
 use Rattle.nf_tree.specs.Order.{AreRisingNodes}
-use Rattle.nf_words.specs.Prelude.{Call, found, root_of, source_of, target_of, target_rule, transfer_of, unfit, unfit_between}
+use Rattle.nf_words.specs.Prelude.{access_of, asked_by, asked_of, Call, found, root_of, target_rule, transfer_of, unfit, unfit_between}
 use Rattle.nf_words.specs.declared.answer.TargetFault.TheVariants as target
 use Rattle.nf_words.specs.declared.request.Spot.{Spot}
 use Rattle.nf_words.specs.declared.request.Wanted.{Wanted}
 use Rattle.nf_words.specs.declared.request.Wanted.TheVariants.{Get, Put, Mkcol, Delete, Move, Copy}
-use Rattle.nf_words.proofs.Known.{child_parent, no_fault, places_at}
+use Rattle.nf_words.proofs.Begins.{places_at}
+use Rattle.nf_words.proofs.Found.{child_parent}
+use Rattle.nf_words.proofs.Passing.{no_fault}
 use Rattle.nf_decide.specs.Deciding.{IsNamed}
 
 or_true : (a : Bool) → (a || true) ≡ true
@@ -105,14 +107,14 @@ named_between call source target rising short fits some empty =
         (subst (λ (to : Found). IsSome (transfer_of rows (record { source = Some (At node); target = Some to }))) top some)
 
 pub named : (call : Call) → AreRisingNodes call.state.tables.nodes
-    → IfSome (source_of call.request.wanted) (λ spot. length spot.path ≤ MAX_DEPTH)
-    → target_rule unshared call ≡ None → IsNamed call
+    → IfSome (asked_by call).source (λ spot. length spot.path ≤ MAX_DEPTH)
+    → target_rule (access_of call.state) call ≡ None → IsNamed call
 unfolding target_rule
 named call rising short passes = here call.request.wanted short (no_fault _ passes)
   where
-    here : (wanted : Wanted) → IfSome (source_of wanted) (λ spot. length spot.path ≤ MAX_DEPTH)
-        → unfit call.state.tables.nodes wanted (places_at call wanted) ≡ None
-        → IsSome (transfer_of call.state.tables.nodes (places_at call wanted)) → IfSome (target_of wanted) (λ spot. spot.path ≢ [])
+    here : (wanted : Wanted) → IfSome (asked_of wanted).source (λ spot. length spot.path ≤ MAX_DEPTH)
+        → unfit call.state.tables.nodes (asked_of wanted) (places_at call wanted) ≡ None
+        → IsSome (transfer_of call.state.tables.nodes (places_at call wanted)) → IfSome (asked_of wanted).target (λ spot. spot.path ≢ [])
     here (Get spot) short fits some = tt
     here (Put spot length) short fits some = absurd (cc some)
     here (Mkcol spot) short fits some = absurd (cc some)

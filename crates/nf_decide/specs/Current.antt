@@ -1,8 +1,10 @@
 -- The state of the site as the program holds it.
-use Rattle.std.specs.Prelude.{◌≡◌, ℕ, ◌+◌, ◌<◌, ◌≤◌, All, AllPairs, true, List, [], ◌∷◌, length, slice_get, Option, None, Some, IsSome}
-use Rattle.std.specs.Option.{ForSome}
+use Rattle.std.specs.Prelude.{◌≡◌, ◌⊎◌, ℕ, ◌+◌, ◌<◌, ◌≤◌, nat_lt, All, AllPairs, Bool, false, not, List, [], ◌∷◌, count_by, length, max, slice_get, Option, Some, IsSome}
+use Rattle.nf_base.specs.declared.changes.Change.{Change}
+use Rattle.nf_base.specs.declared.changes.Change.TheVariants.{Put}
+use Rattle.nf_base.specs.declared.rows.Row.TheVariants as rows
 use Rattle.nf_base.specs.declared.rows.NodeRow.{NodeRow}
-use Rattle.nf_defs.specs.Prelude.{is_file, node_row, Tables}
+use Rattle.nf_defs.specs.Prelude.{filled, is_folder_kind, made, node_row, Tables}
 use Rattle.nf_words.specs.Prelude.{blob_after, cleared, goal_of, last_number, State}
 use Rattle.nf_words.specs.declared.answer.Allowed.{Allowed}
 use Rattle.nf_words.specs.declared.answer.Allowed.TheVariants as allowed
@@ -22,38 +24,67 @@ pub record Current : Type 0 where
 abbrev pub FitsTicket : State → Room → Type 0
 FitsTicket s room = length s.tickets + 1 ≤ room.tickets
 
+-- a node is put whose number wasn't given yet
+abbrev pub is_fresh : ℕ → Change → Bool
+is_fresh next (Put (rows.Node row)) = not (nat_lt row.id next)
+is_fresh next other = false
+
 -- how many nodes an act adds
-abbrev pub added_by : Allowed → ℕ
-added_by (allowed.Get node content) = 0
-added_by (allowed.List listing) = 0
-added_by (allowed.Put who key length) = 0
-added_by (allowed.StoreNew row blob) = 1
-added_by (allowed.StoreOver node content blob) = 0
-added_by (allowed.Mkcol row) = 1
-added_by (allowed.Delete node) = 0
-added_by (allowed.Move transfer name) = 0
-added_by (allowed.Copy rows replaced) = length rows
-added_by allowed.Close = 0
+abbrev pub added_by : Tables → Allowed → ℕ
+added_by t (allowed.Get node content) = 0
+added_by t (allowed.List listing) = 0
+added_by t (allowed.Put by key length) = 0
+added_by t (allowed.Change changes blob report) = count_by (is_fresh t.meta.next_node) changes
+added_by t (allowed.Delete node) = 0
+added_by t (allowed.Move transfer name) = 0
+added_by t (allowed.Copy rows replaced) = length rows
+added_by t allowed.Close = 0
 
 -- what an act adds fits
 abbrev pub FitsAct : State → Room → Allowed → Type 0
-FitsAct s room act = FitsNodes s.tables room.nodes (added_by act) × (IsSome (goal_of act) → FitsTicket s room)
+FitsAct s room act = FitsNodes s.tables room.nodes (added_by s.tables act) × (IsSome (goal_of act) → FitsTicket s room)
 
 -- the numbers of nodes rise, and were given
 pub record AreGiven (t : Tables) : Type 0 where
   pub rising : AllPairs (λ (a b : NodeRow). a.id < b.id) t.nodes
   pub given : All (λ (row : NodeRow). row.id < t.meta.next_node) t.nodes
 
--- new nodes have the next numbers, and the counters have those and the number of their body
-pub record HasNumbers (t : Tables) (rows : List NodeRow) (blob : Option ℕ) : Type 0 where
+-- new nodes have the next numbers, and the counter has those
+pub record HasNumbers (t : Tables) (rows : List NodeRow) : Type 0 where
   pub numbered : (k : ℕ) (row : NodeRow) → slice_get rows k ≡ Some row → row.id ≡ t.meta.next_node + k
   pub next_node : t.meta.next_node + length rows ≤ last_number
-  pub next_blob : ForSome blob (λ id. t.meta.next_blob + 1 ≤ last_number)
 
--- a body may be stored over the node: it is a file, and the counter has the body's number
-pub record TakesBody (t : Tables) (node : ℕ) (blob : Option ℕ) : Type 0 where
-  pub file : is_file t.nodes node ≡ true
-  pub next_blob : blob_after t.meta.next_blob blob ≤ last_number
+-- ---- rows that are put
+
+-- a node's number is above all others
+abbrev pub IsNew : List NodeRow → NodeRow → Type 0
+IsNew old row = All (λ (other : NodeRow). other.id < row.id) old
+
+-- a file that is there has another content
+pub record IsRefilled (old : List NodeRow) (row : NodeRow) : Type 0 where
+  pub was : NodeRow
+  pub there : node_row old row.id ≡ Some was
+  pub file : is_folder_kind was.kind ≡ false
+  pub same : row ≡ filled row.content row.changed was
+
+-- a change can be borne by the tables that it meets, where that was the next number of a node at first
+abbrev pub IsBorne : ℕ → Tables → Change → Type 0
+IsBorne next t (Put (rows.Node row)) = ((next ≤ row.id) × IsNew t.nodes row) ⊎ ((row.id < next) × IsRefilled t.nodes row)
+IsBorne next t other = ⊥
+
+abbrev pub AreBorne : ℕ → Tables → List Change → Type 0
+AreBorne next t [] = Unit {0}
+AreBorne next t (change ∷ changes) = IsBorne next t change × AreBorne next (made t change) changes
+
+-- there is a number above the one that is put, where it isn't below the next one
+abbrev pub IsCounted : ℕ → Change → Type 0
+IsCounted next (Put (rows.Node row)) = row.id + 1 ≤ max next last_number
+IsCounted next other = ⊥
+
+pub record BearsChanges (t : Tables) (changes : List Change) (blob : Option ℕ) : Type 0 where
+  pub rows : AreBorne t.meta.next_node t changes
+  pub numbers : All (IsCounted t.meta.next_node) changes
+  pub next_blob : blob_after t.meta.next_blob blob ≤ max t.meta.next_blob last_number
 
 -- what is moved is there, also without what has to go
 abbrev pub IsThere : Tables → Transfer → Type 0
@@ -63,11 +94,9 @@ IsThere t transfer = IsSome (node_row (cleared t.nodes transfer.replaced) transf
 abbrev pub BearsAct : Tables → Allowed → Type 0
 BearsAct t (allowed.Get node content) = Unit {0}
 BearsAct t (allowed.List listing) = Unit {0}
-BearsAct t (allowed.Put who key length) = Unit {0}
-BearsAct t (allowed.StoreNew row blob) = HasNumbers t (row ∷ []) blob
-BearsAct t (allowed.StoreOver node content blob) = TakesBody t node blob
-BearsAct t (allowed.Mkcol row) = HasNumbers t (row ∷ []) None
+BearsAct t (allowed.Put by key length) = Unit {0}
+BearsAct t (allowed.Change changes blob report) = BearsChanges t changes blob
 BearsAct t (allowed.Delete node) = Unit {0}
 BearsAct t (allowed.Move transfer name) = IsThere t transfer
-BearsAct t (allowed.Copy rows replaced) = HasNumbers t rows None
+BearsAct t (allowed.Copy rows replaced) = HasNumbers t rows
 BearsAct t allowed.Close = Unit {0}

@@ -1,7 +1,7 @@
 -- Tests that answer exactly as rules do.
 use Rattle.std.specs.Prelude.{◌≡◌, ◌≢◌, List, [], ◌∷◌, Option, None, Some, IsSome, IfSome, Result, Ok, Err}
 use Rattle.nf_defs.specs.Access.{Access}
-use Rattle.nf_words.specs.Prelude.{Call, exists_rule, first_that_holds, forbidden_rule, not_you_rule, overwrite_rule, place_rule, places_of, Rule, target_of, target_rule, token_rule, transfer_of}
+use Rattle.nf_words.specs.Prelude.{asked_by, Call, exists_rule, first_that_holds, forbidden_rule, not_you_rule, overwrite_rule, place_rule, places_of, Rule, target_rule, token_rule, transfer_of}
 use Rattle.nf_words.specs.declared.answer.Denial.{Denial}
 
 -- the test refuses as the rule does, and passes where the rule is silent
@@ -27,4 +27,4 @@ early_refusal access call = first_that_holds early_rules access call
 -- what is moved or copied has a name to be put under
 abbrev pub IsNamed : Call → Type 0
 IsNamed call =
-    IsSome (transfer_of call.state.tables.nodes (places_of call)) → IfSome (target_of call.request.wanted) (λ spot. spot.path ≢ [])
+    IsSome (transfer_of call.state.tables.nodes (places_of call)) → IfSome (asked_by call).target (λ spot. spot.path ≢ [])

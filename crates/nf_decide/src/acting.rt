@@ -3,52 +3,54 @@
 ghost use Rattle.std.specs.Prelude.{◌≡◌, ◌≢◌, ℕ, IfOk, IfSome, IsSome, None, Some, []};
 ghost use Rattle.nf_base.specs.Kept.{IsPlain};
 ghost use Rattle.nf_defs.specs.declared.Found.TheVariants.{Free};
-ghost use Rattle.nf_words.specs.Prelude.{copied, copy_limit, deleted, last_name, made_folder, moved, new_node, served, shown, stored};
+ghost use Rattle.nf_words.specs.Prelude.{copied, copy_limit, deleted, last_name, made_folder, makes, moved, new_node, served, shown, stored};
 
 use crate::copying::copies_to;
 use crate::listing::listing_of;
 use crate::nodes::{content_of, is_folder, owner_of};
-use crate::tables::Tables;
-use nf_base::{Content, Moment, Name, NodeId, NodeKind, NodeRow, Place};
-use nf_defs::{Found, Seeker};
-use nf_words::{Allowed, LockKey, Spot, Transfer};
+use crate::view::View;
+use nf_base::{
+    BlobId, Change, Changes, Content, Moment, Name, NodeId, NodeKind, NodeRow, Place, Row,
+};
+use nf_defs::Found;
+use nf_words::{Allowed, By, LockKey, Report, Spot, Transfer};
 use std::alloc::{AllocError, Global};
 
 /// GET lists the folder that is there, or sends the content of the file.
 pub(crate) fn served(
     alloc: Global,
-    tables: &Tables,
+    view: &View<'_>,
     node: Option<NodeId>,
 ) -> Result<Allowed, AllocError>
-    ensures { IfOk result (λ allowed. allowed ≡ served tables.now.tables node) }
+    ensures { IfOk result (λ allowed. allowed ≡ served view.now.tables node) }
 {
     match node {
-        Some(node) => shown(alloc, tables, node),
+        Some(node) => shown(alloc, view, node),
         None => Ok(Allowed::Close),
     }
 }
 
-fn shown(alloc: Global, tables: &Tables, node: NodeId) -> Result<Allowed, AllocError>
-    ensures { IfOk result (λ allowed. allowed ≡ shown tables.now.tables node) }
+fn shown(alloc: Global, view: &View<'_>, node: NodeId) -> Result<Allowed, AllocError>
+    ensures { IfOk result (λ allowed. allowed ≡ shown view.now.tables node) }
 {
-    if is_folder(tables.tree(), node) {
-        return Ok(Allowed::List(listing_of(alloc, tables, node)?));
+    if is_folder(view.tree(), node) {
+        return Ok(Allowed::List(listing_of(alloc, view, node)?));
     }
     Ok(Allowed::Get {
         node,
-        content: content_of(alloc, tables.tree(), node)?,
+        content: content_of(alloc, view.tree(), node)?,
     })
 }
 
 /// PUT stores over the file that is there, or under the name that is free.
 pub(crate) fn stored(
-    seeker: Seeker,
+    by: By,
     spot: &Spot,
     length: u64,
     place: Option<Found>,
 ) -> Result<Allowed, AllocError>
     requires { (folder : ℕ) → place ≡ Some (Free folder) → spot.now.path ≢ [] }
-    ensures { IfOk result (λ allowed. allowed ≡ stored seeker (last_name spot.now) length place) }
+    ensures { IfOk result (λ allowed. allowed ≡ stored by (last_name spot.now) length place) }
 {
     let Some(place) = place else {
         return Ok(Allowed::Close);
@@ -61,23 +63,36 @@ pub(crate) fn stored(
         },
         Found::Missing { .. } => return Ok(Allowed::Close),
     };
-    Ok(Allowed::Put {
-        seeker,
-        key,
-        length,
+    Ok(Allowed::Put { by, key, length })
+}
+
+/// A new node is made, whose body is in that blob.
+pub(crate) fn makes(
+    alloc: Global,
+    row: NodeRow,
+    blob: Option<BlobId>,
+) -> Result<Allowed, AllocError>
+    ensures { IfOk result (λ allowed. allowed ≡ makes row blob) }
+{
+    let mut changes = Changes::new(alloc);
+    changes.push(Change::Put(Row::Node(row)))?;
+    Ok(Allowed::Change {
+        changes,
+        blob,
+        report: Report::Made,
     })
 }
 
 /// MKCOL makes a folder under the name that is free.
 pub(crate) fn made_folder(
     alloc: Global,
-    tables: &Tables,
+    view: &View<'_>,
     moment: Moment,
     spot: &Spot,
     place: Option<Found>,
 ) -> Result<Allowed, AllocError>
     requires { (folder : ℕ) → place ≡ Some (Free folder) → spot.now.path ≢ [] }
-    ensures { IfOk result (λ allowed. allowed ≡ made_folder tables.now.tables moment (last_name spot.now) place) }
+    ensures { IfOk result (λ allowed. allowed ≡ made_folder view.now.tables moment (last_name spot.now) place) }
 {
     let Some(place) = place else {
         return Ok(Allowed::Close);
@@ -86,8 +101,8 @@ pub(crate) fn made_folder(
         Found::Free { folder } => {
             let name = last_name(spot)?;
             let content = Content::empty(alloc);
-            let row = new_node(tables, moment, folder, name, NodeKind::Folder, content);
-            Ok(Allowed::Mkcol(row))
+            let row = new_node(view, moment, folder, name, NodeKind::Folder, content);
+            makes(alloc, row, None)
         }
         Found::At(_) | Found::Missing { .. } => Ok(Allowed::Close),
     }
@@ -120,20 +135,20 @@ pub(crate) fn moved(spot: &Spot, transfer: Option<Transfer>) -> Result<Allowed, 
 /// COPY puts copies of the node that is there, and of all under it, into the target's folder, under the target's name.
 pub(crate) fn copied(
     alloc: Global,
-    tables: &Tables,
+    view: &View<'_>,
     moment: Moment,
     spot: &Spot,
     transfer: Option<Transfer>,
 ) -> Result<Allowed, AllocError>
     requires named { IsSome transfer → spot.now.path ≢ [] }
-    requires few { IfSome transfer (λ transfer. copy_limit tables.now.tables transfer ≡ None) }
-    ensures { IfOk result (λ allowed. allowed ≡ copied tables.now.tables moment (last_name spot.now) transfer) }
+    requires few { IfSome transfer (λ transfer. copy_limit view.now.tables transfer ≡ None) }
+    ensures { IfOk result (λ allowed. allowed ≡ copied view.now.tables moment (last_name spot.now) transfer) }
 {
     match transfer {
         Some(transfer) => {
             let name = last_name(spot)?;
             Ok(Allowed::Copy {
-                rows: copies_to(alloc, tables, moment, &transfer, name)?,
+                rows: copies_to(alloc, view, moment, &transfer, name)?,
                 replaced: transfer.replaced,
             })
         }
@@ -143,7 +158,7 @@ pub(crate) fn copied(
 
 /// A new node in a folder, with the next number and the folder's owner.
 pub(crate) fn new_node(
-    tables: &Tables,
+    view: &View<'_>,
     moment: Moment,
     folder: NodeId,
     name: Name,
@@ -151,11 +166,11 @@ pub(crate) fn new_node(
     content: Content,
 ) -> NodeRow
     requires { IsPlain kind content }
-    ensures { result ≡ new_node tables.now.tables moment folder name kind content }
+    ensures { result ≡ new_node view.now.tables moment folder name kind content }
 {
     NodeRow {
-        id: tables.meta().next_node,
-        owner: owner_of(tables.tree(), folder),
+        id: view.meta().next_node,
+        owner: owner_of(view.tree(), folder),
         place: Place::Inside(folder),
         name,
         kind,

@@ -1,35 +1,11 @@
-//! What a request names, and what its paths lead to.
+//! What the paths of a request lead to.
 
-ghost use Rattle.std.specs.Prelude.{◌≡◌, option_copied};
-ghost use Rattle.nf_words.specs.Prelude.{is_kept, lost, node_at, node_found, source_of, target_of};
+ghost use Rattle.std.specs.Prelude.{◌≡◌};
+ghost use Rattle.nf_words.specs.Prelude.{is_kept, lost, node_at, node_found};
 
 use nf_base::NodeId;
 use nf_defs::Found;
-use nf_words::{Denial, Places, Spot, Wanted};
-
-/// The place of what is acted upon.
-pub(crate) fn source_of(wanted: &Wanted) -> Option<&Spot>
-    ensures { option_copied result ≡ source_of wanted.now }
-{
-    match wanted {
-        Wanted::Get(spot) | Wanted::Delete(spot) => Some(spot),
-        Wanted::Put { .. } | Wanted::Mkcol(_) => None,
-        Wanted::Move { source, .. } => Some(source),
-        Wanted::Copy { source, .. } => Some(source),
-    }
-}
-
-/// The place of what is made, or stored over.
-pub(crate) fn target_of(wanted: &Wanted) -> Option<&Spot>
-    ensures { option_copied result ≡ target_of wanted.now }
-{
-    match wanted {
-        Wanted::Put { spot, length: _ } | Wanted::Mkcol(spot) => Some(spot),
-        Wanted::Get(_) | Wanted::Delete(_) => None,
-        Wanted::Move { target, .. } => Some(target),
-        Wanted::Copy { target, .. } => Some(target),
-    }
-}
+use nf_words::{Denial, Places};
 
 /// The node at a place, if one is there.
 pub(crate) fn node_at(place: Option<Found>) -> Option<NodeId>
@@ -49,10 +25,10 @@ pub(crate) fn node_found(place: &Found) -> Option<NodeId>
 }
 
 /// Whether something is at the target that isn't to be replaced.
-pub(crate) fn is_kept(overwrite: bool, places: &Places) -> bool
-    ensures { result ≡ is_kept overwrite places.now }
+pub(crate) fn is_kept(overwrites: bool, places: &Places) -> bool
+    ensures { result ≡ is_kept overwrites places.now }
 {
-    !overwrite && node_at(places.target).is_some()
+    !overwrites && node_at(places.target).is_some()
 }
 
 /// Why the act can't be done where what it needs isn't there.

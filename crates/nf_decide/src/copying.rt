@@ -5,7 +5,7 @@ ghost use Rattle.nf_defs.specs.Tree.{walk_within};
 ghost use Rattle.nf_words.specs.Prelude.{copied_row, copies_to, copies_within, copy_limit, last_number, renamed};
 
 use crate::nodes::owner_of;
-use crate::tables::Tables;
+use crate::view::View;
 use nf_base::{MAX_DEPTH, Moment, Name, NodeId, NodeRow, Place, UserId};
 use nf_tree::Tree;
 use nf_words::{NodeRows, Transfer};
@@ -14,19 +14,19 @@ use std::alloc::{AllocError, Global};
 /// Copies in the folder of the new place, the first under that name: each after the folder that it is in, with the next numbers.
 pub(crate) fn copies_to(
     alloc: Global,
-    tables: &Tables,
+    view: &View<'_>,
     moment: Moment,
     transfer: &Transfer,
     name: Name,
 ) -> Result<NodeRows, AllocError>
-    requires { copy_limit tables.now.tables transfer.now ≡ None }
-    ensures { IfOk result (λ rows. rows ≡ copies_to tables.now.tables moment transfer.now name) }
+    requires { copy_limit view.now.tables transfer.now ≡ None }
+    ensures { IfOk result (λ rows. rows ≡ copies_to view.now.tables moment transfer.now name) }
 {
     let copier = Copier {
-        tree: tables.tree(),
-        owner: owner_of(tables.tree(), transfer.folder),
+        tree: view.tree(),
+        owner: owner_of(view.tree(), transfer.folder),
         moment,
-        first: tables.meta().next_node,
+        first: view.meta().next_node,
     };
     let mut rows = Vec::new(alloc);
     copier.copy_node(alloc, MAX_DEPTH, transfer.node, transfer.folder, &mut rows)?;

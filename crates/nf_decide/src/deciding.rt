@@ -3,30 +3,33 @@
 ghost use Rattle.std.specs.Prelude.{◌≡◌, ◌≤◌, IfOk, IfSome, None, Some, false, length, option_and_then, option_copied, option_map};
 ghost use Rattle.std.specs.Option.{option_map_or};
 ghost use Rattle.nf_base.specs.declared.limits.TheConstants.{MAX_DEPTH};
-ghost use Rattle.nf_defs.specs.Prelude.{found_from, is_folder, unshared, user_row};
-ghost use Rattle.nf_words.specs.Prelude.{allowed_of, asker_of, call_decision, caller_row, exists_rule, forbidden_rule, has_forbidden, is_there, limit_at, limited, not_you_rule, overwrite_rule, place_rule, places_of, source_of, target_rule, token_rule, unfit, user_of};
+ghost use Rattle.nf_defs.specs.Prelude.{found_from, is_folder, user_row};
+ghost use Rattle.nf_defs.specs.declared.Seeker.TheVariants.{User};
+ghost use Rattle.nf_words.specs.Prelude.{access_of, allowed_of, asked_by, asker_of, call_decision, caller_row, exists_rule, forbidden_rule, has_forbidden, is_there, is_transfer, limit_at, limited, not_you_rule, overwrite_rule, place_rule, places_of, target_rule, token_rule, unfit, user_of};
 ghost use Rattle.nf_decide.specs.Asked.{is_called, is_forbidden, names_caller};
 ghost use Rattle.nf_decide.specs.Deciding.{Follows, IsNamed, early_refusal};
 ghost use Rattle.nf_tree.specs.Order.{AreRisingNodes};
 
 use crate::acting::{copied, deleted, made_folder, moved, served, stored};
-use crate::asked::{is_kept, lost, node_at, source_of, target_of};
+use crate::asked::{is_kept, lost, node_at};
 use crate::limits::{copy_limit, limit_at, move_limit, pieces_of};
 use crate::nodes::is_folder;
-use crate::state::State;
-use crate::tables::Tables;
 use crate::transferring::{is_root_at, transfer_of, unfit_between};
+use crate::view::View;
 use nf_base::{Moment, Name, NodeId, UserId, UserRow};
 use nf_defs::{Found, Seeker};
 use nf_tree::Tree;
-use nf_words::{Allowed, Caller, Denial, Limit, Places, Request, Spot, TargetFault, Wanted, Words};
+use nf_words::{
+    Allowed, By, Caller, Denial, Limit, Making, Places, Request, Route, Spot, TargetFault, Wanted,
+    Words,
+};
 use std::alloc::{AllocError, Global};
 use std::marker::Model;
 
 /// A Begin in its state, which the rules judge.
 #[derive(Drop)]
 pub struct Call<'a> {
-    pub state: &'a State,
+    pub view: View<'a>,
     pub seat: u64,
     pub now: Moment,
     pub words: Words,
@@ -39,7 +42,7 @@ impl<'a> Model for Call<'a> {
     ghost Value = { Call };
 
     ghost view = { λ call. record {
-      state = call.state.now.state;
+      state = call.view;
       seat = call.seat;
       now = call.now;
       words = call.words;
@@ -71,7 +74,7 @@ impl<'a> Call<'a> {
 
     /// The rules in their order, but for the limits. The caller's row is looked up once, and each path once.
     fn judge(&self) -> Result<Seen, Denial>
-        ensures judged { Follows (early_refusal unshared) self.entry.now result }
+        ensures judged { Follows (early_refusal (access_of self.entry.now.state)) self.entry.now result }
         ensures asker { IfOk result (λ seen. seen.asker ≡ asker_of self.entry.now) }
         ensures places { IfOk result (λ seen. seen.places ≡ places_of self.entry.now) }
         ensures named { IfOk result (λ _. IsNamed self.entry.now) }
@@ -98,7 +101,7 @@ impl<'a> Call<'a> {
     /// The user whose token the caller shows.
     #[tactic(auto, unfolding(nf_words::specs::Callers::token_rule))]
     fn token(&self) -> Result<UserId, Denial>
-        ensures rule { Follows (token_rule unshared) self.entry.now result }
+        ensures rule { Follows (token_rule (access_of self.entry.now.state)) self.entry.now result }
         ensures user { IfOk result (λ user. user_of self.entry.now ≡ Some user) }
     {
         match self.user() {
@@ -110,10 +113,10 @@ impl<'a> Call<'a> {
     #[tactic(auto, unfolding(nf_words::specs::Callers::not_you_rule))]
     fn not_you(&self, caller: Option<&UserRow>) -> Result<(), Denial>
         requires { option_copied caller ≡ caller_row self.now }
-        ensures { Follows (not_you_rule unshared) self.entry.now result }
+        ensures { Follows (not_you_rule (access_of self.entry.now.state)) self.entry.now result }
     {
-        let wanted = &self.request.wanted;
-        if names_caller(caller, source_of(wanted)) && names_caller(caller, target_of(wanted)) {
+        let asked = self.request.wanted.asked();
+        if names_caller(caller, asked.source) && names_caller(caller, asked.target) {
             Ok(())
         } else {
             Err(Denial::NotYou)
@@ -122,10 +125,10 @@ impl<'a> Call<'a> {
 
     #[tactic(auto, unfolding(nf_words::specs::Places::forbidden_rule))]
     fn forbidden(&self) -> Result<(), Denial>
-        ensures { Follows (forbidden_rule unshared) self.entry.now result }
+        ensures { Follows (forbidden_rule (access_of self.entry.now.state)) self.entry.now result }
     {
-        let wanted = &self.request.wanted;
-        if is_forbidden(source_of(wanted)) || is_forbidden(target_of(wanted)) {
+        let asked = self.request.wanted.asked();
+        if is_forbidden(asked.source) || is_forbidden(asked.target) {
             Err(Denial::ForbiddenName)
         } else {
             Ok(())
@@ -135,7 +138,7 @@ impl<'a> Call<'a> {
     #[tactic(auto, unfolding(nf_words::specs::Places::place_rule))]
     fn lost(&self, places: &Places) -> Result<(), Denial>
         requires { places.now ≡ places_of self.now }
-        ensures { Follows (place_rule unshared) self.entry.now result }
+        ensures { Follows (place_rule (access_of self.entry.now.state)) self.entry.now result }
     {
         match lost(places) {
             Some(refusal) => Err(refusal),
@@ -146,20 +149,24 @@ impl<'a> Call<'a> {
     #[tactic(auto, unfolding(nf_words::specs::Places::exists_rule))]
     fn exists(&self, places: &Places) -> Result<(), Denial>
         requires { places.now ≡ places_of self.now }
-        ensures { Follows (exists_rule unshared) self.entry.now result }
+        ensures { Follows (exists_rule (access_of self.entry.now.state)) self.entry.now result }
     {
-        match &self.request.wanted {
-            Wanted::Put { .. } if is_folder_at(self.tree(), places.target) => Err(Denial::Exists),
-            Wanted::Mkcol(_) if node_at(places.target).is_some() => Err(Denial::Exists),
-            Wanted::Get(_) | Wanted::Put { .. } | Wanted::Mkcol(_) | Wanted::Delete(_) => Ok(()),
-            Wanted::Move { .. } | Wanted::Copy { .. } => Ok(()),
+        let is_taken = match self.request.wanted.asked().makes {
+            Making::File { .. } => is_folder_at(self.tree(), places.target),
+            Making::Folder => node_at(places.target).is_some(),
+            Making::Nothing | Making::Moved | Making::Copied => false,
+        };
+        if is_taken {
+            Err(Denial::Exists(Route::Files))
+        } else {
+            Ok(())
         }
     }
 
     #[tactic(auto, unfolding(nf_words::specs::Places::target_rule))]
     fn target(&self, places: &Places) -> Result<(), Denial>
         requires { places.now ≡ places_of self.now }
-        ensures { Follows (target_rule unshared) self.entry.now result }
+        ensures { Follows (target_rule (access_of self.entry.now.state)) self.entry.now result }
     {
         match self.unfit(places) {
             Some(fault) => Err(Denial::BadTarget(fault)),
@@ -167,47 +174,48 @@ impl<'a> Call<'a> {
         }
     }
 
-    /// What the act may not be done to.
+    /// What may not be done.
     fn unfit(&self, places: &Places) -> Option<TargetFault>
-        ensures { result ≡ unfit self.entry.now.state.tables.nodes self.entry.now.request.wanted places.now }
+        ensures { result ≡ unfit self.entry.now.state.tables.nodes (asked_by self.entry.now) places.now }
     {
-        match &self.request.wanted {
-            Wanted::Delete(_) if is_root_at(self.tree(), places.source) => Some(TargetFault::Root),
-            Wanted::Get(_) | Wanted::Put { .. } | Wanted::Mkcol(_) | Wanted::Delete(_) => None,
-            Wanted::Move { .. } | Wanted::Copy { .. } => unfit_between(self.tree(), places),
+        let asked = self.request.wanted.asked();
+        if is_transfer(&asked.makes) {
+            return unfit_between(self.tree(), places);
         }
+        if asked.removes && is_root_at(self.tree(), places.source) {
+            return Some(TargetFault::Root);
+        }
+        None
     }
 
     #[tactic(auto, unfolding(nf_words::specs::Places::overwrite_rule))]
     fn overwrite(&self, places: &Places) -> Result<(), Denial>
         requires { places.now ≡ places_of self.now }
-        ensures { Follows (overwrite_rule unshared) self.entry.now result }
+        ensures { Follows (overwrite_rule (access_of self.entry.now.state)) self.entry.now result }
     {
-        match &self.request.wanted {
-            Wanted::Move { overwrite, .. } if is_kept(*overwrite, places) => Err(Denial::Overwrite),
-            Wanted::Copy { overwrite, .. } if is_kept(*overwrite, places) => Err(Denial::Overwrite),
-            Wanted::Move { .. } | Wanted::Copy { .. } => Ok(()),
-            Wanted::Get(_) | Wanted::Put { .. } | Wanted::Mkcol(_) | Wanted::Delete(_) => Ok(()),
+        let asked = self.request.wanted.asked();
+        if is_transfer(&asked.makes) && is_kept(asked.overwrites, places) {
+            Err(Denial::Overwrite)
+        } else {
+            Ok(())
         }
     }
 
     /// The limit that the step would pass.
     fn limit(&self, alloc: Global, places: &Places) -> Result<Option<Limit>, AllocError>
-        ensures { IfOk result (λ limit. limit ≡ limited self.entry.now.state.tables self.entry.now.request.wanted places.now) }
+        ensures { IfOk result (λ limit. limit ≡ limited self.entry.now.state.tables places.now (asked_by self.entry.now).makes) }
     {
-        let tables = self.state.tables();
-        match &self.request.wanted {
-            Wanted::Put { spot: _, length } => {
-                Ok(limit_there(tables, places.target, pieces_of(*length)))
-            }
-            Wanted::Mkcol(_) => Ok(limit_there(tables, places.target, 0)),
-            Wanted::Get(_) | Wanted::Delete(_) => Ok(None),
-            Wanted::Move { .. } => match transfer_of(tables.tree(), places) {
-                Some(transfer) => move_limit(alloc, tables, &transfer),
+        let view = &self.view;
+        match self.request.wanted.asked().makes {
+            Making::Nothing => Ok(None),
+            Making::File { length } => Ok(limit_there(view, places.target, pieces_of(length))),
+            Making::Folder => Ok(limit_there(view, places.target, 0)),
+            Making::Moved => match transfer_of(view.tree(), places) {
+                Some(transfer) => move_limit(alloc, view, &transfer),
                 None => Ok(None),
             },
-            Wanted::Copy { .. } => match transfer_of(tables.tree(), places) {
-                Some(transfer) => copy_limit(alloc, tables, &transfer),
+            Making::Copied => match transfer_of(view.tree(), places) {
+                Some(transfer) => copy_limit(alloc, view, &transfer),
                 None => Ok(None),
             },
         }
@@ -218,24 +226,22 @@ impl<'a> Call<'a> {
         requires asker { seen.now.asker ≡ asker_of self.now }
         requires places { seen.now.places ≡ places_of self.now }
         requires named { IsNamed self.now }
-        requires few { limited self.now.state.tables self.now.request.wanted (places_of self.now) ≡ None }
-        ensures { IfOk result (λ allowed. allowed ≡ allowed_of self.entry.now) }
+        requires few { limited self.now.state.tables (places_of self.now) (asked_by self.now).makes ≡ None }
+        ensures { IfOk result (λ allowed. allowed ≡ allowed_of (access_of self.entry.now.state) self.entry.now) }
     {
-        let tables = self.state.tables();
+        let view = &self.view;
         let Places { source, target } = seen.places;
         match &self.request.wanted {
-            Wanted::Get(_) => served(alloc, tables, node_at(source)),
-            Wanted::Put { spot, length } => {
-                stored(Seeker::User(seen.asker), spot, *length, target)
-            }
-            Wanted::Mkcol(spot) => made_folder(alloc, tables, self.now, spot, target),
+            Wanted::Get(_) => served(alloc, view, node_at(source)),
+            Wanted::Put { spot, length } => stored(by(seen.asker), spot, *length, target),
+            Wanted::Mkcol(spot) => made_folder(alloc, view, self.now, spot, target),
             Wanted::Delete(_) => Ok(deleted(node_at(source))),
             Wanted::Move { target: spot, .. } => {
-                moved(spot, transfer_of(tables.tree(), &seen.places))
+                moved(spot, transfer_of(view.tree(), &seen.places))
             }
             Wanted::Copy { target: spot, .. } => {
-                let transfer = transfer_of(tables.tree(), &seen.places);
-                copied(alloc, tables, self.now, spot, transfer)
+                let transfer = transfer_of(view.tree(), &seen.places);
+                copied(alloc, view, self.now, spot, transfer)
             }
         }
     }
@@ -245,34 +251,35 @@ impl<'a> Call<'a> {
     {
         match &self.request.caller {
             Caller::Absent => None,
-            Caller::Token(digest) => self.state.tables().people().caller(digest),
+            Caller::Token(digest) => self.view.people().caller(digest),
         }
     }
 
     fn row(&self, user: UserId) -> Option<&UserRow>
         ensures { option_copied result ≡ user_row self.entry.now.state.tables.users user }
     {
-        self.state.tables().people().row(user)
+        self.view.people().row(user)
     }
 
     fn tree(&self) -> &Tree
         ensures { result.now.rows ≡ self.entry.now.state.tables.nodes }
     {
-        self.state.tables().tree()
+        self.view.tree()
     }
 
     /// Where the paths lead, from the caller's root.
     fn places(&self, caller: Option<&UserRow>) -> Places
         requires { option_copied caller ≡ caller_row self.now }
         ensures places { result ≡ places_of self.entry.now }
-        ensures short { IfSome (source_of self.entry.now.request.wanted) (λ spot. length spot.path ≤ MAX_DEPTH) }
+        ensures short { IfSome (asked_by self.entry.now).source (λ spot. length spot.path ≤ MAX_DEPTH) }
         ensures rising { AreRisingNodes self.entry.now.state.tables.nodes }
     {
         let root = root_of(caller);
-        self.state.tables().keeps();
+        self.view.keeps();
+        let asked = self.request.wanted.asked();
         Places {
-            source: self.found(root, source_of(&self.request.wanted)),
-            target: self.found(root, target_of(&self.request.wanted)),
+            source: self.found(root, asked.source),
+            target: self.found(root, asked.target),
         }
     }
 
@@ -281,6 +288,26 @@ impl<'a> Call<'a> {
         ensures short { IfSome (option_copied spot.entry) (λ spot. length spot.path ≤ MAX_DEPTH) }
     {
         Some(self.tree().find(root, spot?.path.names()))
+    }
+}
+
+/// Whether what is at the source is put at the target, or copied there.
+fn is_transfer(makes: &Making) -> bool
+    ensures { result ≡ is_transfer makes.now }
+{
+    match makes {
+        Making::Nothing | Making::File { .. } | Making::Folder => false,
+        Making::Moved | Making::Copied => true,
+    }
+}
+
+/// A user who asks, by no mount, since there are none yet.
+fn by(user: UserId) -> By
+    ensures { result ≡ record { seeker = User user; mount = None } }
+{
+    By {
+        seeker: Seeker::User(user),
+        mount: None,
     }
 }
 
@@ -335,10 +362,10 @@ fn is_called(caller: Option<&UserRow>, name: &Name) -> bool
     }
 }
 
-fn limit_there(tables: &Tables, place: Option<Found>, pieces: u64) -> Option<Limit>
-    ensures { result ≡ option_and_then (limit_at tables.now.tables pieces) place }
+fn limit_there(view: &View<'_>, place: Option<Found>, pieces: u64) -> Option<Limit>
+    ensures { result ≡ option_and_then (limit_at view.now.tables pieces) place }
 {
-    limit_at(tables, &place?, pieces)
+    limit_at(view, &place?, pieces)
 }
 
 /// Whether the path of a place has a name that is forbidden.

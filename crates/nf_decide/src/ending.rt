@@ -1,77 +1,81 @@
 //! The End of a request in two steps, decided by the tables of its own moment.
 
-ghost use Rattle.std.specs.Prelude.{◌≡◌, ◌≤◌, IfOk, None, Some, if◌then◌else◌, option_copied};
+ghost use Rattle.std.specs.Prelude.{◌≡◌, ◌≤◌, true, IfOk, None, Some, if◌then◌else◌};
 ghost use Rattle.std.specs.Option.{ForSome};
 ghost use Rattle.nf_base.specs.declared.limits.TheConstants.{MAX_BODY};
-ghost use Rattle.nf_words.specs.Prelude.{blob_for, content_in, end_refusal, ends_goal, IsGoalSound, key_lost, MayBring, place_of, stored_at, stores};
+ghost use Rattle.nf_defs.specs.Tree.{is_file, node_row};
+ghost use Rattle.nf_words.specs.Prelude.{access_of, blob_for, content_in, end_refusal, ends_goal, IsGoalSound, key_lost, MayBring, place_of, refilled, stored_at, stores};
 ghost use Rattle.nf_words.specs.declared.answer.Denial.TheVariants.{NotFound};
 
-use crate::acting::new_node;
+use crate::acting::{makes, new_node};
 use crate::limits::{limit_at, pieces_of};
 use crate::nodes::{is_file, is_folder};
-use crate::tables::Tables;
-use nf_base::{BlobId, Content, Digest, Moment, NodeKind, Piece};
+use crate::view::View;
+use nf_base::{
+    BlobId, Change, Changes, Content, Digest, Moment, NodeId, NodeKind, NodeRow, Piece, Row,
+};
 use nf_defs::Found;
-use nf_words::{Allowed, Denial, Goal, LockKey, Outcome};
+use nf_tree::Tree;
+use nf_words::{Allowed, Denial, Goal, LockKey, Outcome, Report};
 use std::alloc::{AllocError, Global};
 
 /// What the End of a goal may do, or its refusal.
 pub fn decide_end(
     alloc: Global,
-    tables: &Tables,
+    view: &View<'_>,
     moment: Moment,
     goal: &Goal,
     outcome: &Outcome,
 ) -> Result<Result<Allowed, Denial>, AllocError>
-    requires sound { IsGoalSound tables.now.tables goal.now }
+    requires sound { IsGoalSound view.now.tables goal.now }
     requires brought { MayBring goal.now outcome.now }
-    ensures { IfOk result (λ decision. decision ≡ ends_goal tables.now.tables moment outcome.now goal.now) }
+    ensures { IfOk result (λ decision. decision ≡ ends_goal (access_of view.now) view.now.tables moment outcome.now goal.now) }
 {
     match outcome {
         Outcome::Sent | Outcome::Gone => Ok(Ok(Allowed::Close)),
         Outcome::Body { digest, length } => match goal {
             Goal::Serve(_) => Ok(Ok(Allowed::Close)),
-            Goal::Store { key, .. } => store(alloc, tables, moment, key, digest, *length),
+            Goal::Store { key, .. } => store(alloc, view, moment, key, digest, *length),
         },
     }
 }
 
 fn store(
     alloc: Global,
-    tables: &Tables,
+    view: &View<'_>,
     moment: Moment,
     key: &LockKey,
     digest: &Digest,
     length: u64,
 ) -> Result<Result<Allowed, Denial>, AllocError>
     requires { length ≤ MAX_BODY }
-    ensures { IfOk result (λ decision. decision ≡ stores tables.now.tables moment key.now digest.now length) }
+    ensures { IfOk result (λ decision. decision ≡ stores view.now.tables moment key.now digest.now length) }
 {
-    match end_refusal(tables, key, length) {
+    match end_refusal(view, key, length) {
         Some(refusal) => Ok(Err(refusal)),
-        None => Ok(Ok(stored_at(alloc, tables, moment, key, digest, length)?)),
+        None => Ok(Ok(stored_at(alloc, view, moment, key, digest, length)?)),
     }
 }
 
-fn end_refusal(tables: &Tables, key: &LockKey, length: u64) -> Option<Denial>
-    ensures { result ≡ end_refusal tables.now.tables key.now length }
+fn end_refusal(view: &View<'_>, key: &LockKey, length: u64) -> Option<Denial>
+    ensures { result ≡ end_refusal view.now.tables key.now length }
 {
-    if is_lost(tables, key) {
+    if is_lost(view, key) {
         return Some(Denial::NotFound);
     }
     let place = place_of(key);
-    let limit = limit_at(tables, &place, pieces_of(length))?;
+    let limit = limit_at(view, &place, pieces_of(length))?;
     Some(Denial::Limit(limit))
 }
 
 /// Whether what was granted isn't there any more.
-fn is_lost(tables: &Tables, key: &LockKey) -> bool
-    ensures { key_lost tables.now.tables key.now ≡ (if result then Some NotFound else None) }
+fn is_lost(view: &View<'_>, key: &LockKey) -> bool
+    ensures { key_lost view.now.tables key.now ≡ (if result then Some NotFound else None) }
 {
     match key {
-        LockKey::Node(node) => !is_file(tables.tree(), *node),
+        LockKey::Node(node) => !is_file(view.tree(), *node),
         LockKey::Slot { folder, name } => {
-            !is_folder(tables.tree(), *folder) || tables.tree().child(*folder, name).is_some()
+            !is_folder(view.tree(), *folder) || view.tree().child(*folder, name).is_some()
         }
     }
 }
@@ -88,29 +92,55 @@ fn place_of(key: &LockKey) -> Found
 /// What storing a body does.
 fn stored_at(
     alloc: Global,
-    tables: &Tables,
+    view: &View<'_>,
     moment: Moment,
     key: &LockKey,
     digest: &Digest,
     length: u64,
 ) -> Result<Allowed, AllocError>
-    requires { length ≤ MAX_BODY }
-    ensures { IfOk result (λ allowed. allowed ≡ stored_at tables.now.tables moment key.now digest.now length) }
+    requires few { length ≤ MAX_BODY }
+    requires there { key_lost view.now.tables key.now ≡ None }
+    ensures { IfOk result (λ allowed. allowed ≡ stored_at view.now.tables moment key.now digest.now length) }
 {
-    let blob = blob_for(tables.meta().next_blob, length);
+    let blob = blob_for(view.meta().next_blob, length);
     let content = content_in(alloc, &blob, digest, length)?;
     match key {
-        LockKey::Node(node) => Ok(Allowed::StoreOver {
-            node: *node,
-            content,
+        LockKey::Node(node) => Ok(Allowed::Change {
+            changes: refilled(alloc, view.tree(), *node, moment, content)?,
             blob,
+            report: Report::Done,
         }),
         LockKey::Slot { folder, name } => {
             let name = name.copy()?;
-            let row = new_node(tables, moment, *folder, name, NodeKind::File, content);
-            Ok(Allowed::StoreNew { row, blob })
+            let row = new_node(view, moment, *folder, name, NodeKind::File, content);
+            makes(alloc, row, blob)
         }
     }
+}
+
+/// A node's row with another content, where that is another.
+fn refilled(
+    alloc: Global,
+    tree: &Tree,
+    node: NodeId,
+    moment: Moment,
+    content: Content,
+) -> Result<Changes, AllocError>
+    requires { is_file tree.now.rows node ≡ true }
+    ensures { IfOk result (λ changes. changes ≡ refilled (node_row tree.now.rows node) moment content) }
+{
+    let mut changes = Changes::new(alloc);
+    match tree.node(node) {
+        Some(row) if row.content == content && row.changed == moment => {}
+        Some(row) => changes.push(Change::Put(Row::Node(NodeRow {
+            name: row.name.copy()?,
+            content,
+            changed: moment,
+            ..*row
+        })))?,
+        None => {}
+    }
+    Ok(changes)
 }
 
 /// The blob of a body: the next one, or none for an empty body.

@@ -13,9 +13,10 @@ mod state;
 mod tables;
 mod telling;
 mod transferring;
+mod view;
 
 pub use deciding::Call;
 pub use ending::decide_end;
 pub use state::State;
-pub use tables::Tables;
-pub use telling::{added_by, blob_of, changes};
+pub use telling::{added_by, blob_of, changes, copy_key, hold_of};
+pub use view::View;

@@ -1,11 +1,13 @@
 //! The limits of the site.
 
-ghost use Rattle.std.specs.Prelude.{◌≡◌, ◌≤◌, length, nat_lt, IfOk};
+ghost use Rattle.std.specs.Prelude.{◌≡◌, ◌+◌, ◌≤◌, length, nat_lt, IfOk};
 ghost use Rattle.nf_base.specs.declared.limits.TheConstants.{MAX_DEPTH, MAX_PIECES};
 ghost use Rattle.nf_defs.specs.Tree.{content_of, walk_of};
 ghost use Rattle.nf_words.specs.Limits.{copy_limit, count_of, deepest, deepest_in, limit_at, limit_passed, move_limit, pieces_in, pieces_of};
+ghost use Rattle.nf_words.specs.Contents.{stored_pieces};
+ghost use Rattle.nf_words.specs.declared.answer.Limit.TheVariants.{Pieces};
 
-use crate::tables::Tables;
+use crate::view::View;
 use nf_base::NodeId;
 use nf_defs::Found;
 use nf_tree::Tree;
@@ -13,14 +15,14 @@ use nf_words::{Limit, Transfer};
 use std::alloc::{AllocError, Global};
 
 /// The limit that is passed where a content of so many pieces is put there.
-pub(crate) fn limit_at(tables: &Tables, place: &Found, pieces: u64) -> Option<Limit>
-    ensures { result ≡ limit_at tables.now.tables pieces place.now }
+pub(crate) fn limit_at(view: &View<'_>, place: &Found, pieces: u64) -> Option<Limit>
+    ensures { result ≡ limit_at view.now.tables pieces place.now }
 {
     match place {
-        Found::At(_) => limit_passed(tables, 0, 0, u128::from(pieces), pieces),
+        Found::At(_) => limit_passed(view, 0, 0, u128::from(pieces), pieces),
         Found::Free { folder } => {
-            let deep = tables.tree().depth(*folder) + 1;
-            limit_passed(tables, 1, deep, u128::from(pieces), pieces)
+            let deep = view.tree().depth(*folder) + 1;
+            limit_passed(view, 1, deep, u128::from(pieces), pieces)
         }
         Found::Missing { .. } => None,
     }
@@ -29,28 +31,28 @@ pub(crate) fn limit_at(tables: &Tables, place: &Found, pieces: u64) -> Option<Li
 /// The limit that a move passes.
 pub(crate) fn move_limit(
     alloc: Global,
-    tables: &Tables,
+    view: &View<'_>,
     transfer: &Transfer,
 ) -> Result<Option<Limit>, AllocError>
-    ensures { IfOk result (λ limit. limit ≡ move_limit tables.now.tables transfer.now) }
+    ensures { IfOk result (λ limit. limit ≡ move_limit view.now.tables transfer.now) }
 {
-    let nodes = tables.tree().subtree(alloc, transfer.node)?;
-    let deep = deepest_in(tables.tree(), &nodes, transfer);
-    Ok(limit_passed(tables, 0, deep, 0, 0))
+    let nodes = view.tree().subtree(alloc, transfer.node)?;
+    let deep = deepest_in(view.tree(), &nodes, transfer);
+    Ok(limit_passed(view, 0, deep, 0, 0))
 }
 
 /// The limit that a copy passes. What it replaces still counts.
 pub(crate) fn copy_limit(
     alloc: Global,
-    tables: &Tables,
+    view: &View<'_>,
     transfer: &Transfer,
 ) -> Result<Option<Limit>, AllocError>
-    ensures { IfOk result (λ limit. limit ≡ copy_limit tables.now.tables transfer.now) }
+    ensures { IfOk result (λ limit. limit ≡ copy_limit view.now.tables transfer.now) }
 {
-    let nodes = tables.tree().subtree(alloc, transfer.node)?;
-    let deep = deepest_in(tables.tree(), &nodes, transfer);
-    let pieces = pieces_in(tables.tree(), &nodes);
-    Ok(limit_passed(tables, nodes.len() as u64, deep, pieces, 0))
+    let nodes = view.tree().subtree(alloc, transfer.node)?;
+    let deep = deepest_in(view.tree(), &nodes, transfer);
+    let pieces = pieces_in(view.tree(), &nodes);
+    Ok(limit_passed(view, nodes.len() as u64, deep, pieces, 0))
 }
 
 /// How deep the deepest of the nodes under a node would be, with that in the folder.
@@ -97,22 +99,29 @@ fn pieces_at(tree: &Tree, node: NodeId) -> u32
 }
 
 /// The first limit that is passed by so many nodes more, the deepest of them so deep, so many pieces more, and so many new blobs.
-fn limit_passed(tables: &Tables, nodes: u64, deep: u32, pieces: u128, blobs: u64) -> Option<Limit>
-    ensures { result ≡ limit_passed tables.now.tables nodes deep pieces blobs }
+fn limit_passed(view: &View<'_>, nodes: u64, deep: u32, pieces: u128, blobs: u64) -> Option<Limit>
+    ensures { result ≡ limit_passed view.now.tables nodes deep pieces blobs }
 {
-    let meta = tables.meta();
-    let all_nodes = tables.tree().count() as u128 + u128::from(nodes);
+    let meta = view.meta();
+    let all_nodes = view.tree().count() as u128 + u128::from(nodes);
     if passes(all_nodes, Limit::Nodes) || meta.next_node.number() > u64::MAX - nodes {
         return Some(Limit::Nodes);
     }
     if passes(u128::from(deep), Limit::Depth) {
         return Some(Limit::Depth);
     }
-    let all_pieces = pieces.saturating_add(tables.tree().pieces() as u128);
-    if passes(all_pieces, Limit::Pieces) || meta.next_blob.number() > u64::MAX - blobs {
+    if are_many(view, pieces) || meta.next_blob.number() > u64::MAX - blobs {
         return Some(Limit::Pieces);
     }
     None
+}
+
+/// Whether so many pieces more are too many.
+fn are_many(view: &View<'_>, pieces: u128) -> bool
+    ensures { result ≡ nat_lt (count_of Pieces) (stored_pieces view.now.tables + pieces) }
+{
+    let all_pieces = pieces.saturating_add(view.stored_pieces() as u128);
+    passes(all_pieces, Limit::Pieces)
 }
 
 fn passes(count: u128, limit: Limit) -> bool

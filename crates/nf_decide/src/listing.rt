@@ -5,7 +5,7 @@ ghost use Rattle.nf_defs.specs.Tree.{node_row};
 ghost use Rattle.nf_words.specs.Prelude.{bytes_of, last_number, line_of, listing_of};
 ghost use Rattle.nf_words.specs.Listing.{all_permissions, size_of};
 
-use crate::tables::Tables;
+use crate::view::View;
 use nf_base::{NodeId, NodeRow, Perms, UserRow};
 use nf_tree::Tree;
 use nf_words::{Listing, ListingLine};
@@ -14,15 +14,15 @@ use std::alloc::{AllocError, Global};
 /// The children of a folder whose owners are there, by name.
 pub(crate) fn listing_of(
     alloc: Global,
-    tables: &Tables,
+    view: &View<'_>,
     folder: NodeId,
 ) -> Result<Listing, AllocError>
-    ensures { IfOk result (λ listing. listing ≡ listing_of tables.now.tables folder) }
+    ensures { IfOk result (λ listing. listing ≡ listing_of view.now.tables folder) }
 {
     let mut lines = Vec::new(alloc);
-    let children = tables.tree().children(alloc, folder)?;
+    let children = view.tree().children(alloc, folder)?;
     for child in &children {
-        push_line(alloc, tables, *child, &mut lines)?;
+        push_line(alloc, view, *child, &mut lines)?;
     }
     Ok(Listing::new(lines))
 }
@@ -30,19 +30,19 @@ pub(crate) fn listing_of(
 /// Puts what is told of a node at the end, where it and its owner are there.
 fn push_line(
     alloc: Global,
-    tables: &Tables,
+    view: &View<'_>,
     node: NodeId,
     lines: &mut Vec<ListingLine>,
 ) -> Result<(), AllocError>
-    ensures { OnOk result (lines.new.items ≡ lines.old.items ++ filter_map (λ node. option_and_then (line_of tables.now.tables) (node_row tables.now.tables.nodes node)) (node ∷ [])) }
+    ensures { OnOk result (lines.new.items ≡ lines.old.items ++ filter_map (λ node. option_and_then (line_of view.now.tables) (node_row view.now.tables.nodes node)) (node ∷ [])) }
 {
-    let Some(row) = tables.tree().node(node) else {
+    let Some(row) = view.tree().node(node) else {
         return Ok(());
     };
-    let Some(owner) = tables.people().row(row.owner) else {
+    let Some(owner) = view.people().row(row.owner) else {
         return Ok(());
     };
-    lines.push(line(alloc, tables.tree(), row, owner)?)?;
+    lines.push(line(alloc, view.tree(), row, owner)?)?;
     Ok(())
 }
 

@@ -1,10 +1,9 @@
 //! What a node's row says of it.
 
-ghost use Rattle.std.specs.Prelude.{◌≡◌, ◌↔◌, [], IfOk, IsTrue};
+ghost use Rattle.std.specs.Prelude.{◌≡◌, IfOk};
 ghost use Rattle.nf_defs.specs.Tree.{node_row, is_folder, is_file, is_root, owner_of, content_of, parent_of};
-ghost use Rattle.nf_words.specs.Changes.{refilled};
 
-use nf_base::{Content, Moment, NodeId, NodeKind, Place, UserId};
+use nf_base::{Content, NodeId, NodeKind, Place, UserId};
 use nf_tree::Tree;
 use std::alloc::{AllocError, Global};
 
@@ -60,15 +59,5 @@ pub(crate) fn parent_of(tree: &Tree, node: NodeId) -> Option<NodeId>
     match tree.node(node)?.place {
         Place::Inside(parent) => Some(parent),
         Place::Root | Place::Trash => None,
-    }
-}
-
-/// Whether a node's row wouldn't change if it were given that content: it has it from that moment, or isn't there.
-pub(crate) fn is_filled(tree: &Tree, moment: Moment, node: NodeId, content: &Content) -> bool
-    ensures { IsTrue result ↔ (refilled (node_row tree.now.rows node) moment content.now ≡ []) }
-{
-    match tree.node(node) {
-        Some(row) => row.content == *content && row.changed == moment,
-        None => true,
     }
 }

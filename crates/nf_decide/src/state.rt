@@ -4,15 +4,16 @@ ghost use Rattle.std.specs.Prelude.{◌≡◌, ◌+◌, ◌≤◌, ◌==◌, not
 ghost use Rattle.nf_base.specs.declared.limits.TheConstants.{MAX_NODES};
 ghost use Rattle.nf_defs.specs.Tables.{rows_of};
 ghost use Rattle.nf_words.specs.Changes.{applied};
-ghost use Rattle.nf_words.specs.Prelude.{failed, stepped_by, ticket_for, ticket_of};
+ghost use Rattle.nf_words.specs.Prelude.{failed, hold_of, stepped_by, ticket_for, ticket_of};
 ghost use Rattle.nf_decide.specs.Current.{AreGiven, BearsAct, FitsAct, FitsTicket};
 ghost use Rattle.nf_rules.specs.Ruled.{AreRuled};
 ghost use Rattle.nf_decide.specs.Rows.{FitsNodes};
 
 use crate::tables::Tables;
+use crate::view::View;
 use nf_base::{Moment, RowList};
 use nf_opening::Loaded;
-use nf_words::{Allowed, Event, Goal, Ticket};
+use nf_words::{Allowed, Event, Goal, Hold, Ticket};
 use std::alloc::{AllocError, Global};
 use std::marker::Model;
 
@@ -58,10 +59,11 @@ impl State {
         self.tables.rows(alloc)
     }
 
-    pub fn tables(&self) -> &Tables
-        ensures { result.now.tables ≡ self.now.state.tables }
+    /// What a decision reads of it.
+    pub fn view(&self) -> View<'_>
+        ensures { result ≡ self.now.state }
     {
-        &self.tables
+        self.tables.view(&self.tickets, self.seen)
     }
 
     pub fn tickets(&self) -> &[Ticket]
@@ -110,55 +112,49 @@ impl State {
     }
 
     /// Makes the step of a seat's event that no rule refuses. It takes no memory.
-    pub fn change(&mut self, seat: u64, moment: Moment, event: &Event, act: Allowed)
+    pub fn change(
+        &mut self,
+        seat: u64,
+        moment: Moment,
+        event: &Event,
+        act: Allowed,
+        hold: Option<Hold>,
+    )
+        requires hold { hold ≡ hold_of act }
         requires fits { FitsAct self.old.state self.old.room act }
         requires bears { BearsAct self.old.state.tables act }
         requires given { AreGiven self.old.state.tables }
         ensures { self.new.state ≡ stepped_by self.old.state seat moment event.now (Ok act) }
     {
         self.leave(seat, moment, event);
-        self.apply(seat, moment, act);
+        self.apply(seat, moment, act, hold);
     }
 
-    fn apply(&mut self, seat: u64, moment: Moment, act: Allowed)
+    fn apply(&mut self, seat: u64, moment: Moment, act: Allowed, hold: Option<Hold>)
+        requires hold { hold ≡ hold_of act }
         requires fits { FitsAct self.old.state self.old.room act }
         requires bears { BearsAct self.old.state.tables act }
         requires given { AreGiven self.old.state.tables }
         ensures { self.new.state ≡ applied self.old.state seat moment act }
     {
         match act {
-            Allowed::Get { node: _, content } => self.grant(seat, Goal::Serve(content)),
+            Allowed::Get { node: _, content } => self.grant(seat, Goal::Serve(content), hold),
             Allowed::List(_) | Allowed::Close => {}
-            Allowed::Put {
-                seeker,
-                key,
-                length,
-            } => self.grant(
-                seat,
-                Goal::Store {
-                    seeker,
-                    key,
-                    length,
-                },
-            ),
-            Allowed::StoreNew { row, blob } => self.tables.create(moment, row, blob),
-            Allowed::StoreOver {
-                node,
-                content,
-                blob,
-            } => self.tables.replace(moment, node, content, blob),
-            Allowed::Mkcol(row) => self.tables.create(moment, row, None),
+            Allowed::Put { by, key, length } => {
+                self.grant(seat, Goal::Store { by, key, length }, hold);
+            }
+            Allowed::Change { changes, blob, .. } => self.tables.change(moment, changes, blob),
             Allowed::Delete(node) => self.tables.remove(moment, node),
             Allowed::Move { transfer, name } => self.tables.transfer(moment, &transfer, name),
             Allowed::Copy { rows, replaced } => self.tables.join(moment, rows, &replaced),
         }
     }
 
-    fn grant(&mut self, seat: u64, goal: Goal)
+    fn grant(&mut self, seat: u64, goal: Goal, hold: Option<Hold>)
         requires { FitsTicket self.old.state self.old.room }
-        ensures { self.new.state ≡ record self.old.state { tickets = self.old.state.tickets ++ ticket_for seat goal ∷ [] } }
+        ensures { self.new.state ≡ record self.old.state { tickets = self.old.state.tickets ++ ticket_for seat goal hold ∷ [] } }
     {
-        self.tickets.push_reserved(Ticket::new(seat, goal));
+        self.tickets.push_reserved(Ticket::new(seat, goal, hold));
     }
 
     /// Makes the step of a seat's event that changes no row: it was refused, or its store failed, or it found no memory.

@@ -1,30 +1,30 @@
 //! The rows of the site in memory.
 
-ghost use Rattle.std.specs.Prelude.{◌≡◌, ℕ, ◌+◌, ◌<◌, ◌≤◌, ◌∷◌, ◌++◌, [], All, length, map, slice_get, IfOk, OnOk, None, Some};
-ghost use Rattle.std.specs.Option.{ForSome};
+ghost use Rattle.std.specs.Prelude.{◌≡◌, ◌⊎◌, ℕ, ◌+◌, ◌<◌, ◌≤◌, ◌∷◌, ◌++◌, [], false, is_some, All, AllPairs, count_by, length, map, max, slice_get, IfOk, OnOk, None, Some};
 ghost use Rattle.nf_base.specs.declared.limits.TheConstants.{MAX_NODES};
 ghost use Rattle.nf_base.specs.declared.rows.NodeRow.{NodeRow};
 ghost use Rattle.nf_base.specs.declared.rows.Row.TheVariants as kinds;
-ghost use Rattle.nf_defs.specs.Tables.{rows_of};
-ghost use Rattle.nf_words.specs.Prelude.{blob_after, changed, cleared, last_number};
+ghost use Rattle.nf_base.specs.declared.rows.MetaRow.{MetaRow};
+ghost use Rattle.nf_defs.specs.Prelude.{made, node_key, node_row, put, put_all, rows_of};
+ghost use Rattle.nf_words.specs.Prelude.{above, blob_after, changed, cleared, counted, last_number};
+ghost use Rattle.nf_words.specs.declared.answer.Report.TheVariants.{Done};
 ghost use Rattle.nf_words.specs.declared.answer.Allowed.TheVariants as allowed;
-ghost use Rattle.nf_decide.specs.Current.{AreGiven, HasNumbers, IsThere, TakesBody};
+ghost use Rattle.nf_decide.specs.Current.{AreBorne, AreGiven, BearsChanges, HasNumbers, IsBorne, IsCounted, IsNew, IsRefilled, IsThere, is_fresh};
 ghost use Rattle.nf_rules.specs.Ruled.{AreRuled};
 ghost use Rattle.nf_decide.specs.Rows.{FitsNodes};
-ghost use Rattle.nf_tree.specs.Order.{AreRisingNodes};
 
-use crate::nodes::is_filled;
-use nf_base::{BlobId, Content, MetaRow, Moment, Name, NodeId, NodeRow, Row, RowList};
+use crate::view::View;
+use nf_base::{BlobId, Change, Changes, MetaRow, Moment, Name, NodeId, NodeRow, Row, RowList};
 use nf_opening::Loaded;
 use nf_people::{People, PeopleRows};
 use nf_tree::Tree;
-use nf_words::{NodeRows, Transfer};
+use nf_words::{NodeRows, Ticket, Transfer};
 use std::alloc::{AllocError, Global};
 use std::marker::Model;
 
 /// The rows of each kind that is built; there are none of the others.
 #[derive(Drop)]
-pub struct Tables {
+pub(crate) struct Tables {
     meta: MetaRow,
     people: People,
     tree: Tree,
@@ -83,26 +83,17 @@ impl Tables {
         &self.meta
     }
 
-    pub(crate) fn people(&self) -> &People
-        ensures users { result.now.users ≡ self.now.tables.users }
-        ensures tokens { result.now.tokens ≡ self.now.tables.tokens }
-        ensures groups { result.now.groups ≡ self.now.tables.groups }
-        ensures members { result.now.members ≡ self.now.tables.members }
+    /// A view of them, with tickets and the greatest moment seen.
+    pub(crate) fn view<'a>(&'a self, tickets: &'a [Ticket], seen: Moment) -> View<'a>
+        ensures { result ≡ record { tables = self.now.tables; tickets = tickets.now; seen = seen } }
     {
-        &self.people
-    }
-
-    pub(crate) fn tree(&self) -> &Tree
-        ensures { result.now.rows ≡ self.now.tables.nodes }
-    {
-        &self.tree
-    }
-
-    /// Tells callers that the nodes are by rising number; it does nothing.
-    pub(crate) fn keeps(&self)
-        ensures { AreRisingNodes self.now.tables.nodes }
-    {
-        let _ = self.tree.nodes();
+        View {
+            meta: &self.meta,
+            people: &self.people,
+            tree: &self.tree,
+            tickets,
+            seen,
+        }
     }
 
     /// Tells callers that the nodes fit; it does nothing.
@@ -125,36 +116,43 @@ impl Tables {
         }
     }
 
-    /// Puts a new node in, with the next number, and its body in that blob. It takes no memory, and nor does any other change.
-    pub(crate) fn create(&mut self, moment: Moment, row: NodeRow, blob: Option<BlobId>)
-        requires room { FitsNodes self.old.tables self.old.room 1 }
+    /// Puts rows, with the counters above their numbers and behind the blob. It takes no memory, and nor does any other change.
+    pub(crate) fn change(&mut self, moment: Moment, changes: Changes, blob: Option<BlobId>)
+        requires room { FitsNodes self.old.tables self.old.room (count_by (is_fresh self.old.tables.meta.next_node) changes) }
+        requires bears { BearsChanges self.old.tables changes blob }
         requires given { AreGiven self.old.tables }
-        requires numbers { HasNumbers self.old.tables (row ∷ []) blob }
-        ensures { self.new.tables ≡ changed self.old.tables moment (allowed.StoreNew row blob) }
+        ensures { self.new.tables ≡ changed self.old.tables moment (allowed.Change changes blob Done) }
     {
-        self.meta.next_node = NodeId::new(self.meta.next_node.number() + 1);
-        self.meta.next_blob = blob_after(self.meta.next_blob, blob);
-        self.tree.add(row);
-        self.stamp(moment);
-    }
-
-    /// Gives a node another content, whose body is in that blob.
-    pub(crate) fn replace(
-        &mut self,
-        moment: Moment,
-        node: NodeId,
-        content: Content,
-        blob: Option<BlobId>,
-    )
-        requires { TakesBody self.old.tables node blob }
-        ensures { self.new.tables ≡ changed self.old.tables moment (allowed.StoreOver node content blob) }
-    {
-        if is_filled(&self.tree, moment, node, &content) {
+        if changes.is_empty() {
             return;
         }
-        self.meta.next_blob = blob_after(self.meta.next_blob, blob);
-        self.tree.replace(node, content, moment);
-        self.stamp(moment);
+        let meta = raised(&self.meta, moment, changes.as_slice(), blob);
+        self.put_all(changes);
+        self.meta = meta;
+    }
+
+    fn put_all(&mut self, changes: Changes)
+        requires room { FitsNodes self.old.tables self.old.room (count_by (is_fresh self.old.tables.meta.next_node) changes) }
+        requires borne { AreBorne self.old.tables.meta.next_node self.old.tables changes }
+        requires rising { AllPairs (λ (a b : NodeRow). a.id < b.id) self.old.tables.nodes }
+        ensures { self.new.tables ≡ put_all self.old.tables changes }
+    {
+        for change in changes.into_vec() {
+            self.make(change);
+        }
+    }
+
+    /// Makes a change. Only rows of nodes are changed yet.
+    fn make(&mut self, change: Change)
+        requires room { FitsNodes self.old.tables self.old.room (count_by (is_fresh self.old.tables.meta.next_node) (change ∷ [])) }
+        requires borne { IsBorne self.old.tables.meta.next_node self.old.tables change }
+        ensures tables { self.new.tables ≡ made self.old.tables change }
+        ensures room { self.new.room ≡ self.old.room }
+    {
+        match change {
+            Change::Put(Row::Node(row)) => put_node(&mut self.tree, row),
+            Change::Put(_) | Change::Drop(_) => {}
+        }
     }
 
     /// Takes a node out for good, with all under it.
@@ -179,7 +177,7 @@ impl Tables {
     pub(crate) fn join(&mut self, moment: Moment, rows: NodeRows, replaced: &Option<NodeId>)
         requires room { FitsNodes self.old.tables self.old.room (length rows) }
         requires given { AreGiven self.old.tables }
-        requires numbers { HasNumbers self.old.tables rows None }
+        requires numbers { HasNumbers self.old.tables rows }
         ensures { self.new.tables ≡ changed self.old.tables moment (allowed.Copy rows replaced.now) }
     {
         if rows.rows().is_empty() && replaced.is_none() {
@@ -253,9 +251,63 @@ fn push_nodes(list: &mut RowList, nodes: &[NodeRow]) -> Result<(), AllocError>
     Ok(())
 }
 
+/// Puts a node at the end, or another content of a file in the place of the old one.
+fn put_node(tree: &mut Tree, row: NodeRow)
+    requires room { is_some (node_row tree.old.rows row.id) ≡ false → length tree.old.rows < tree.old.room }
+    requires borne { IsNew tree.old.rows row ⊎ IsRefilled tree.old.rows row }
+    ensures { tree.new ≡ record tree.old { rows = put node_key row tree.old.rows } }
+{
+    let _ = tree.nodes();
+    if has_node(tree, row.id) {
+        tree.replace(row.id, row.content, row.changed);
+    } else {
+        tree.add(row);
+    }
+}
+
+fn has_node(tree: &Tree, node: NodeId) -> bool
+    ensures { result ≡ is_some (node_row tree.now.rows node) }
+{
+    tree.node(node).is_some()
+}
+
+/// The meta row with its counters raised for some changes and a blob, at a moment.
+pub(crate) fn raised(
+    meta: &MetaRow,
+    moment: Moment,
+    changes: &[Change],
+    blob: Option<BlobId>,
+) -> MetaRow
+    requires numbers { All (IsCounted meta.now.next_node) changes.now }
+    requires blob { blob_after meta.now.next_blob blob ≤ max meta.now.next_blob last_number }
+    ensures { result ≡ record (counted meta.now changes.now) { next_blob = blob_after meta.now.next_blob blob; last = moment } }
+{
+    let mut next_node = meta.next_node;
+    for change in changes {
+        next_node = above(next_node, change);
+    }
+    MetaRow {
+        next_node,
+        next_blob: blob_after(meta.next_blob, blob),
+        last: moment,
+        ..*meta
+    }
+}
+
+/// The next number of a node, above the one that is put.
+fn above(next: NodeId, change: &Change) -> NodeId
+    requires { IsCounted next change.now }
+    ensures { (meta : MetaRow) → meta.next_node ≡ next → above meta change.now ≡ record meta { next_node = result } }
+{
+    match change {
+        Change::Put(Row::Node(row)) => next.max(NodeId::new(row.id.number() + 1)),
+        Change::Put(_) | Change::Drop(_) => next,
+    }
+}
+
 /// The next blob, where that one is stored or none.
-pub(crate) fn blob_after(next: BlobId, blob: Option<BlobId>) -> BlobId
-    requires { ForSome blob (λ _. next + 1 ≤ last_number) }
+fn blob_after(next: BlobId, blob: Option<BlobId>) -> BlobId
+    requires { blob_after next blob ≤ max next last_number }
     ensures { result ≡ blob_after next blob }
 {
     match blob {

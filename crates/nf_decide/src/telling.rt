@@ -1,34 +1,35 @@
 //! What an act changes, told as a list of the rows that differ.
 
-ghost use Rattle.std.specs.Prelude.{◌≡◌, true, [], ◌∷◌, ◌++◌, map, IfOk, OnOk};
+ghost use Rattle.std.specs.Prelude.{◌≡◌, count_by, [], ◌∷◌, ◌++◌, map, IfOk, OnOk};
 ghost use Rattle.nf_base.specs.declared.changes.Change.TheVariants as change;
 ghost use Rattle.nf_base.specs.declared.changes.RowKey.TheVariants as keys;
 ghost use Rattle.nf_base.specs.declared.rows.Row.TheVariants as kinds;
-ghost use Rattle.nf_defs.specs.Tree.{is_file, node_row, relinked};
-ghost use Rattle.nf_words.specs.Changes.{blob_of, changes_of, dropped_for, dropped_under, meta_after, refilled, told, transferred_row, with_meta};
-ghost use Rattle.nf_decide.specs.Current.{BearsAct, added_by};
+ghost use Rattle.nf_defs.specs.Tree.{node_row, relinked};
+ghost use Rattle.nf_words.specs.Changes.{blob_of, changes_of, dropped_for, dropped_under, hold_of, meta_after, told, transferred_row, with_meta};
+ghost use Rattle.nf_decide.specs.Current.{BearsAct, added_by, is_fresh};
 
-use crate::tables::{Tables, blob_after, copy};
+use crate::tables::{copy, raised};
+use crate::view::View;
 use nf_base::{
-    BlobId, Change, Changes, Content, MetaRow, Moment, Name, NodeId, NodeRow, Place, Row, RowKey,
+    BlobId, Change, Changes, MetaRow, Moment, Name, NodeId, NodeRow, Place, Row, RowKey,
 };
 use nf_tree::Tree;
-use nf_words::{Allowed, Transfer};
+use nf_words::{Allowed, Hold, LockKey, Mode, Transfer};
 use std::alloc::{AllocError, Global};
 
 /// The rows that an act changes, and no other.
 pub fn changes(
     alloc: Global,
-    tables: &Tables,
+    view: &View<'_>,
     moment: Moment,
     act: &Allowed,
 ) -> Result<Changes, AllocError>
-    requires { BearsAct tables.now.tables act.now }
-    ensures { IfOk result (λ changes. changes ≡ changes_of tables.now.tables moment act.now) }
+    requires { BearsAct view.now.tables act.now }
+    ensures { IfOk result (λ changes. changes ≡ changes_of view.now.tables moment act.now) }
 {
-    let changes = told(alloc, tables, moment, act)?;
-    let meta = meta_after(tables, moment, act);
-    with_meta(changes, tables.meta(), meta)
+    let changes = told(alloc, view, act)?;
+    let meta = meta_after(view, moment, act);
+    with_meta(changes, view.meta(), meta)
 }
 
 /// The meta row is told where another row is, and where it is another.
@@ -43,25 +44,14 @@ fn with_meta(mut changes: Changes, old: &MetaRow, meta: MetaRow) -> Result<Chang
 }
 
 /// The same, but for the meta row.
-fn told(
-    alloc: Global,
-    tables: &Tables,
-    moment: Moment,
-    act: &Allowed,
-) -> Result<Changes, AllocError>
-    requires { BearsAct tables.now.tables act.now }
-    ensures { IfOk result (λ changes. changes ≡ told tables.now.tables moment act.now) }
+fn told(alloc: Global, view: &View<'_>, act: &Allowed) -> Result<Changes, AllocError>
+    ensures { IfOk result (λ changes. changes ≡ told view.now.tables act.now) }
 {
     match act {
-        Allowed::StoreNew { row, blob: _ } | Allowed::Mkcol(row) => put(alloc, row.clone()?),
-        Allowed::StoreOver {
-            node,
-            content,
-            blob: _,
-        } => refilled(alloc, tables, moment, *node, content),
-        Allowed::Delete(node) => dropped_under(alloc, tables.tree(), *node),
-        Allowed::Move { transfer, name } => transferred(alloc, tables.tree(), transfer, name),
-        Allowed::Copy { rows, replaced } => joined(alloc, tables.tree(), rows.rows(), replaced),
+        Allowed::Change { changes, .. } => changes.copy(alloc),
+        Allowed::Delete(node) => dropped_under(alloc, view.tree(), *node),
+        Allowed::Move { transfer, name } => transferred(alloc, view.tree(), transfer, name),
+        Allowed::Copy { rows, replaced } => joined(alloc, view.tree(), rows.rows(), replaced),
         Allowed::Get { .. } | Allowed::List(_) | Allowed::Put { .. } | Allowed::Close => {
             Ok(Changes::new(alloc))
         }
@@ -140,40 +130,6 @@ fn dropped_under(alloc: Global, tree: &Tree, node: NodeId) -> Result<Changes, Al
     drop_all(alloc, &nodes)
 }
 
-fn put(alloc: Global, row: NodeRow) -> Result<Changes, AllocError>
-    ensures { IfOk result (λ changes. changes ≡ change.Put (kinds.Node row) ∷ []) }
-{
-    let mut changes = Changes::new(alloc);
-    changes.push(Change::Put(Row::Node(row)))?;
-    Ok(changes)
-}
-
-/// A node's row with another content, where that is another.
-fn refilled(
-    alloc: Global,
-    tables: &Tables,
-    moment: Moment,
-    node: NodeId,
-    content: &Content,
-) -> Result<Changes, AllocError>
-    requires { is_file tables.now.tables.nodes node ≡ true }
-    ensures { IfOk result (λ changes. changes ≡ refilled (node_row tables.now.tables.nodes node) moment content.now) }
-{
-    match tables.tree().node(node) {
-        Some(row) if row.content == *content && row.changed == moment => Ok(Changes::new(alloc)),
-        Some(row) => put(
-            alloc,
-            NodeRow {
-                name: row.name.copy()?,
-                content: content.clone()?,
-                changed: moment,
-                ..*row
-            },
-        ),
-        None => Ok(Changes::new(alloc)),
-    }
-}
-
 fn drop_all(alloc: Global, nodes: &[NodeId]) -> Result<Changes, AllocError>
     ensures { IfOk result (λ changes. changes ≡ map (λ node. change.Drop (keys.Node node)) nodes.now) }
 {
@@ -185,34 +141,65 @@ fn drop_all(alloc: Global, nodes: &[NodeId]) -> Result<Changes, AllocError>
 }
 
 /// The meta row after an act: its counters, and the moment.
-fn meta_after(tables: &Tables, moment: Moment, act: &Allowed) -> MetaRow
-    requires { BearsAct tables.now.tables act.now }
-    ensures { result ≡ meta_after tables.now.tables moment act.now }
+fn meta_after(view: &View<'_>, moment: Moment, act: &Allowed) -> MetaRow
+    requires { BearsAct view.now.tables act.now }
+    ensures { result ≡ meta_after view.now.tables moment act.now }
 {
-    let meta = tables.meta();
-    let next_node = NodeId::new(meta.next_node.number() + added_by(act) as u64);
-    MetaRow {
-        next_node,
-        next_blob: blob_after(meta.next_blob, blob_of(act)),
-        last: moment,
-        ..*meta
+    let meta = view.meta();
+    match act {
+        Allowed::Change { changes, blob, .. } => raised(meta, moment, changes.as_slice(), *blob),
+        Allowed::Copy { rows, .. } => MetaRow {
+            next_node: NodeId::new(meta.next_node.number() + rows.rows().len() as u64),
+            last: moment,
+            ..*meta
+        },
+        Allowed::Get { .. }
+        | Allowed::List(_)
+        | Allowed::Put { .. }
+        | Allowed::Delete(_)
+        | Allowed::Move { .. }
+        | Allowed::Close => MetaRow {
+            last: moment,
+            ..*meta
+        },
     }
 }
 
-/// How many nodes an act adds.
-pub fn added_by(act: &Allowed) -> usize
-    ensures { result ≡ added_by act.now }
+/// How many nodes an act adds: the rows with numbers that weren't given yet.
+pub fn added_by(view: &View<'_>, act: &Allowed) -> usize
+    ensures { result ≡ added_by view.now.tables act.now }
 {
     match act {
-        Allowed::StoreNew { .. } | Allowed::Mkcol(_) => 1,
+        Allowed::Change { changes, .. } => fresh_count(view.meta().next_node, changes.as_slice()),
         Allowed::Copy { rows, .. } => rows.rows().len(),
         Allowed::Get { .. }
         | Allowed::List(_)
         | Allowed::Put { .. }
-        | Allowed::StoreOver { .. }
         | Allowed::Delete(_)
         | Allowed::Move { .. }
         | Allowed::Close => 0,
+    }
+}
+
+fn fresh_count(next: NodeId, changes: &[Change]) -> usize
+    ensures { result ≡ count_by (is_fresh next) changes.now }
+{
+    let mut count = 0;
+    for change in changes {
+        if is_fresh(next, change) {
+            count += 1;
+        }
+    }
+    count
+}
+
+/// Whether a node is put whose number wasn't given yet.
+fn is_fresh(next: NodeId, change: &Change) -> bool
+    ensures { result ≡ is_fresh next change.now }
+{
+    match change {
+        Change::Put(Row::Node(row)) => row.id >= next,
+        Change::Put(_) | Change::Drop(_) => false,
     }
 }
 
@@ -221,15 +208,48 @@ pub fn blob_of(act: &Allowed) -> Option<BlobId>
     ensures { result ≡ blob_of act.now }
 {
     match act {
-        Allowed::StoreNew { row: _, blob } => *blob,
-        Allowed::StoreOver { blob, .. } => *blob,
+        Allowed::Change { blob, .. } => *blob,
         Allowed::Get { .. }
         | Allowed::List(_)
         | Allowed::Put { .. }
-        | Allowed::Mkcol(_)
         | Allowed::Delete(_)
         | Allowed::Move { .. }
         | Allowed::Copy { .. }
         | Allowed::Close => None,
+    }
+}
+
+/// What a seat holds for what an act grants. It copies the key.
+pub fn hold_of(act: &Allowed) -> Result<Option<Hold>, AllocError>
+    ensures { IfOk result (λ hold. hold ≡ hold_of act.now) }
+{
+    Ok(match act {
+        Allowed::Get { node, .. } => Some(Hold {
+            key: LockKey::Node(*node),
+            mode: Mode::Shared,
+        }),
+        Allowed::Put { key, .. } => Some(Hold {
+            key: copy_key(key)?,
+            mode: Mode::Exclusive,
+        }),
+        Allowed::List(_)
+        | Allowed::Change { .. }
+        | Allowed::Delete(_)
+        | Allowed::Move { .. }
+        | Allowed::Copy { .. }
+        | Allowed::Close => None,
+    })
+}
+
+/// An equal key.
+pub fn copy_key(key: &LockKey) -> Result<LockKey, AllocError>
+    ensures { IfOk result (λ copy. copy ≡ key.now) }
+{
+    match key {
+        LockKey::Node(node) => Ok(LockKey::Node(*node)),
+        LockKey::Slot { folder, name } => Ok(LockKey::Slot {
+            folder: *folder,
+            name: name.copy()?,
+        }),
     }
 }

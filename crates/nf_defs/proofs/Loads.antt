@@ -1,14 +1,11 @@
 -- Tables that are made of rows.
-use Rattle.std.proofs.Common.{ℕ, suc, ◌+◌, ◌<◌, ◌≡◌, List, [], ◌∷◌, length, get_or, drop, sym, ap, ◌∙◌, add-one, drop-cons}
-use Rattle.std.specs.List.{All, Contains}
-use Rattle.std.proofs.lemmas.List.Elements.{All-contains_itself, All-head, All-nil, All-tail, All-weaker}
-use Rattle.nf_base.specs.declared.rows.NodeRow.{NodeRow}
+use Rattle.std.proofs.Common.{ℕ, suc, ◌+◌, ◌<◌, ◌≡◌, List, length, get_or, drop, sym, ap, ◌∙◌, add-one, drop-cons}
 use Rattle.nf_base.specs.declared.changes.RowKey.{RowKey}
 use Rattle.nf_base.specs.declared.changes.RowKey.TheVariants as keys
 use Rattle.nf_base.specs.declared.rows.Row.{Row}
 use Rattle.nf_base.specs.declared.rows.Row.TheVariants as rows
-use Rattle.nf_defs.specs.Prelude.{AreRising, chunk_key, drop_row, group_key, IsRising, item_key, member_key, mount_key, no_rows, node_key, numbers_of, put_row, put_rows, share_key, Tables, tables_of, token_key, upload_key, user_key, version_key}
-use Rattle.nf_defs.proofs.Puts.{all_put, dropped_rising, put_rising}
+use Rattle.nf_defs.specs.Prelude.{AreRising, chunk_key, drop_row, group_key, IsRising, item_key, member_key, mount_key, node_key, numbers_of, put_row, put_rows, share_key, Tables, token_key, upload_key, user_key, version_key}
+use Rattle.nf_defs.proofs.Puts.{dropped_rising, put_rising}
 
 -- one row more
 pub rows_more : (t more : Tables) (all : List Row) (i : ℕ) (row : Row) → i < length all → row ≡ get_or all i row → more ≡ put_row t row
@@ -51,32 +48,6 @@ rising_more t (rows.Upload row) h =
     rises _ h.users h.tokens h.groups h.members h.nodes h.shares h.mounts h.versions h.items (put_rising upload_key row t.uploads h.uploads) h.chunks
 rising_more t (rows.Chunk row) h =
     rises _ h.users h.tokens h.groups h.members h.nodes h.shares h.mounts h.versions h.items h.uploads (put_rising chunk_key row t.chunks h.chunks)
-
--- ---- the nodes of the tables
-
--- a row of a node has this
-abbrev IfNode : (NodeRow → Type 0) → Row → Type 0
-IfNode P (rows.Node row) = P row
-IfNode P other = Unit {0}
-
-node_put : (P : NodeRow → Type 0) (t : Tables) (row : Row) → IfNode P row → All P t.nodes → All P (put_row t row).nodes
-node_put P t (rows.Node row) one all = all_put node_key P row t.nodes one all
-node_put P t other one all = all
-
-nodes_put : (P : NodeRow → Type 0) (t : Tables) (all : List Row) → All (IfNode P) all → All P t.nodes → All P (put_rows t all).nodes
-nodes_put P t [] each nodes = nodes
-nodes_put P t (row ∷ all) each nodes =
-    nodes_put P (put_row t row) all (All-tail (IfNode P) row all each) (node_put P t row (All-head (IfNode P) row all each) nodes)
-
-named : (all : List Row) (row : Row) → Contains all row → IfNode (λ (node : NodeRow). Contains all (rows.Node node)) row
-named all (rows.Node row) among = among
-named all other among = tt
-
--- are rows of those that made the tables
-pub nodes_given : (all : List Row) → All (λ (node : NodeRow). Contains all (rows.Node node)) (tables_of all).nodes
-nodes_given all =
-    let P : NodeRow → Type 0 = λ node. Contains all (rows.Node node) in
-    nodes_put P no_rows all (All-weaker (Contains all) (IfNode P) (named all) all (All-contains_itself all)) (All-nil P)
 
 -- the rows that are left when one is dropped rise still
 pub rising_fewer : (t : Tables) (key : RowKey) → AreRising t → AreRising (drop_row t key)

@@ -13,7 +13,7 @@ use Rattle.nf_told.specs.Told.{Told}
 use Rattle.nf_words.specs.declared.history.Entry.{Entry}
 use Rattle.nf_words.specs.declared.history.Mark.{Mark}
 use Rattle.nf_words.specs.declared.history.Mark.TheVariants as mark
-use Rattle.nf_desk.specs.Desk.{IsCounted, Shown, Tale, entries_by, failed_mark, failed_marks, failures, failures_of, risen, strikes_of}
+use Rattle.nf_desk.specs.Desk.{IsCounted, Shown, entries_by, failed_mark, failed_marks, failures, failures_of, risen, strikes_of}
 use Rattle.nf_desk.specs.Pieces.{StrikesOne}
 use Rattle.nf_desk.specs.Stepping.{Standing, standing}
 

@@ -1,18 +1,18 @@
--- What a seat holds at the desk is its ticket's goal, and how its Begins and Ends are answered.
-use Rattle.std.proofs.Common.{◌≡◌, ◌≢◌, ◌⊎◌, inl, inr, ℕ, ◌+◌, ◌<◌, ◌≤◌, ◌==◌, Bool, true, false, List, [], length, Result, Ok, Err, IsNone, refl, sym, ap, subst, ◌∙◌, arith}
+-- What a seat holds at the desk is what it was granted, and how its Begins and Ends are answered.
+use Rattle.std.proofs.Common.{◌≡◌, ◌≢◌, ◌⊎◌, inl, inr, ℕ, ◌+◌, ◌<◌, ◌≤◌, Bool, true, false, List, [], length, Result, Ok, Err, IsNone, refl, sym, ap, subst, ◌∙◌, arith}
 use Rattle.std.specs.Prelude.{Option, None, Some, option_map, OnOk, MatchBool}
 use Rattle.sha2.specs.Sha256.{sha256}
 use Rattle.std.specs.Option.{IfSome}
-use Rattle.std.proofs.lemmas.Bool.{both_ways, eqb-true}
-use Rattle.std.proofs.lemmas.Option.{none-some, same_Some}
+use Rattle.std.proofs.lemmas.Bool.{both_ways}
+use Rattle.std.proofs.lemmas.Option.{none-some}
 use Rattle.nf_base.specs.declared.limits.TheConstants.{MAX_BODY, MAX_ENTRIES}
-use Rattle.nf_defs.specs.Prelude.{AreRising, Tables}
-use Rattle.nf_defs.specs.declared.Seeker.{Seeker}
-use Rattle.nf_words.specs.Prelude.{actor_of, answer_at, answer_to, answered_by, blob_to, decision_of, end_refusal, ends_goal, ends_ticket, IsSound, MayAsk, MayBring, MayCome, MayEnd, MayWant, reply_to, State, ticket_for, ticket_of, unless_refused}
+use Rattle.nf_defs.specs.Prelude.{Access, AreRising, Tables}
+use Rattle.nf_words.specs.Prelude.{access_of, actor_of, answer_at, answer_to, answered_by, blob_to, decision_of, end_refusal, ends_at, ends_goal, goal_at, IsSound, MayAsk, MayCome, MayEnd, MayWant, reply_to, State, ticket_of, unless_refused}
 use Rattle.nf_words.specs.Endings.{stored_at as stores_at}
-use Rattle.nf_words.proofs.Steps.{put_grants_nothing}
+use Rattle.nf_words.proofs.Steps.{put_grants_nothing, reports_nothing}
 use Rattle.nf_words.specs.declared.answer.Allowed.{Allowed}
 use Rattle.nf_words.specs.declared.answer.Allowed.TheVariants as allowed
+use Rattle.nf_words.specs.declared.answer.By.{By}
 use Rattle.nf_words.specs.declared.answer.LockKey.{LockKey}
 use Rattle.nf_words.specs.declared.answer.LockKey.TheVariants.{Node, Slot}
 use Rattle.nf_words.specs.declared.listing.ListingLine.{ListingLine}
@@ -32,7 +32,8 @@ use Rattle.nf_words.specs.declared.history.Outcome.TheVariants.{Sent, Gone, Body
 use Rattle.nf_words.specs.declared.history.Ticket.{Ticket}
 use Rattle.nf_words.specs.declared.request.Request.{Request}
 use Rattle.nf_words.specs.declared.request.Words.{Words}
-use Rattle.nf_words.proofs.Known.{Known, found_passes, known_change}
+use Rattle.nf_words.proofs.Ends.{known_change}
+use Rattle.nf_words.proofs.Known.{Known}
 use Rattle.nf_words.proofs.Marks.{is_failure, never_failed}
 use Rattle.nf_words.proofs.Opens.{begins_open, bodies_open, ends_grant_nothing}
 use Rattle.nf_laws.proofs.Blobs.{blobs_are_new}
@@ -43,53 +44,36 @@ use Rattle.nf_site.specs.Held.{entries_wanted as site_wanted}
 use Rattle.nf_site.specs.Kept.{Kept, IsHistory, moment_of}
 use Rattle.nf_told.specs.Told.{Told}
 use Rattle.nf_desk.specs.Desk.{IsDesk, Shown, blobs_in, book_at}
-use Rattle.nf_desk.specs.Stepping.{Asks, HeldMayEnd, IsEmpty, Makes, Standing, Steps, entry_at, standing}
+use Rattle.nf_desk.specs.Stepping.{Asks, IsEmpty, Makes, Standing, Steps, entry_at, standing}
 use Rattle.nf_desk.proofs.Counting.{moved, standing_in}
 use Rattle.nf_desk.proofs.Entering.{by_step, enters, state_again, step_enters, steps_enter, waits}
 use Rattle.nf_desk.proofs.Tellings.{empty_brings, empty_steps, steps_told, told_after}
 
 -- ---- what the seat holds
 
--- what a ticket is for
-abbrev pub goal_in : Option Ticket → Option Goal
-goal_in o = option_map (λ (ticket : Ticket). ticket.goal) o
-
 pub book_is : (seat : ℕ) (a : Shown) → IsHistory a.site → IsBook (book_at seat a)
 book_is seat a h = record { legal = h.legal; own = refl }
 
-pub held_is : (seat : ℕ) (a : Shown) → IsHistory a.site → held (book_at seat a) ≡ goal_in (ticket_of a.site.state seat)
-held_is seat a h =
-    held_is_ticket (book_at seat a) (book_is seat a h) ∙ ap (λ (s : State). goal_in (ticket_of s seat)) (sym h.replayed)
+pub held_is : (seat : ℕ) (a : Shown) → IsHistory a.site → held (book_at seat a) ≡ goal_at a.site.state seat
+held_is seat a h = held_is_ticket (book_at seat a) (book_is seat a h) ∙ ap (λ (s : State). goal_at s seat) (sym h.replayed)
 
-some_none : (o : Option Ticket) → goal_in o ≡ None → IsNone o
-some_none None is = refl
-some_none (Some ticket) is = absurd (none-some ticket.goal (sym is))
-
-has_goal : (o : Option Ticket) (goal : Goal) → goal_in o ≡ Some goal → (ticket : Ticket) × (o ≡ Some ticket) × (ticket.goal ≡ goal)
-has_goal None goal is = absurd (none-some goal is)
-has_goal (Some ticket) goal is = (ticket, refl, same_Some ticket.goal goal is)
-
--- a seat that holds something has its ticket
-pub ticket_is : (seat : ℕ) (a : Shown) (goal : Goal) → IsHistory a.site → held (book_at seat a) ≡ Some goal
-    → (ticket : Ticket) × (ticket_of a.site.state seat ≡ Some ticket) × (ticket.goal ≡ goal)
-ticket_is seat a goal h holds = has_goal (ticket_of a.site.state seat) goal (sym (held_is seat a h) ∙ holds)
+-- a seat that was granted nothing has no ticket
+no_ticket : (s : State) (seat : ℕ) → goal_at s seat ≡ None → IsNone (ticket_of s seat)
+no_ticket s seat = here (ticket_of s seat)
+  where
+    here : (o : Option Ticket) → option_map (λ ticket. ticket.goal) o ≡ None → IsNone o
+    here None is = refl
+    here (Some ticket) is = absurd (none-some ticket.goal (sym is))
 
 -- an idle seat may ask
 pub may_ask : (seat : ℕ) (a : Shown) (words : Words) (request : Request) → IsHistory a.site → held (book_at seat a) ≡ None → MayWant request
     → MayAsk a.site.state seat (Begin words request)
-may_ask seat a words request h idle wants = (some_none (ticket_of a.site.state seat) (sym (held_is seat a h) ∙ idle), wants)
+may_ask seat a words request h idle wants = (no_ticket a.site.state seat (sym (held_is seat a h) ∙ idle), wants)
 
--- what may end so of the seat's goal may end so of its ticket
-pub may_end : (seat : ℕ) (a : Shown) (outcome : Outcome) → IsHistory a.site → HeldMayEnd (held (book_at seat a)) outcome
+-- what may end so of what the seat holds may end so of what it was granted
+pub may_end : (seat : ℕ) (a : Shown) (outcome : Outcome) → IsHistory a.site → MayEnd (held (book_at seat a)) outcome
     → MayAsk a.site.state seat (End outcome)
-may_end seat a outcome h may = here (held (book_at seat a)) refl may
-  where
-    here : (o : Option Goal) → held (book_at seat a) ≡ o → HeldMayEnd o outcome → MayAsk a.site.state seat (End outcome)
-    here None e may = absurd may
-    here (Some goal) e may =
-        let ticket = ticket_is seat a goal h e in
-        subst (λ (o : Option Ticket). MayEnd o outcome) (sym ticket.1)
-        (subst (λ (g : Goal). MayBring g outcome) (sym ticket.2) may)
+may_end seat a outcome h may = subst (λ (goal : Option Goal). MayEnd goal outcome) (held_is seat a h) may
 
 -- ---- a Begin that finds no room
 
@@ -138,10 +122,11 @@ is_made s n now event (Err refusal) is = here (is_unmade_by refusal) refl
     here false e = refl
     here true e = absurd (never_failed s n now event refusal (unmade_fails refusal e) (sym is))
 
-put_short : (t : Tables) (now : ℕ) (who : Option ℕ) (act : Allowed) (by : Seeker) (key : LockKey) (size : ℕ) → Known t now who act
+put_short : (t : Tables) (now : ℕ) (who : Option ℕ) (act : Allowed) (by : By) (key : LockKey) (size : ℕ) → Known t now who act
     → reply_to act ≡ reply.Granted (Store by key size) → size ≤ MAX_BODY
 put_short t now who (allowed.Put other lock length) by key size known is =
     let same : length ≡ size = cc in subst (λ (n : ℕ). n ≤ MAX_BODY) same known.short
+put_short t now who (allowed.Change changes blob report) by key size known is = absurd (reports_nothing report (Store by key size) is)
 put_short t now who (allowed.Move transfer name) by key size known is = absurd (put_grants_nothing transfer.replaced (Store by key size) is)
 put_short t now who (allowed.Copy rows replaced) by key size known is = absurd (put_grants_nothing replaced (Store by key size) is)
 put_short t now who other by key size known is = absurd (cc)
@@ -149,7 +134,7 @@ put_short t now who other by key size known is = absurd (cc)
 ok_same : (x y : Reply) → ◌≡◌ {A = Answer} (Ok x) (Ok y) → x ≡ y
 ok_same x y is = cc
 
-granted_short : (t : Tables) (now : ℕ) (who : Option ℕ) (decision : Result Allowed Denial) (by : Seeker) (key : LockKey) (size : ℕ)
+granted_short : (t : Tables) (now : ℕ) (who : Option ℕ) (decision : Result Allowed Denial) (by : By) (key : LockKey) (size : ℕ)
     → ((act : Allowed) → decision ≡ Ok act → Known t now who act) → answered_by decision ≡ Ok (reply.Granted (Store by key size)) → size ≤ MAX_BODY
 granted_short t now who (Ok act) by key size known is = put_short t now who act by key size (known act refl) (ok_same (reply_to act) _ is)
 granted_short t now who (Err refusal) by key size known is = absurd (cc)
@@ -204,15 +189,17 @@ begins seat a b now words request answer h sound rising desk (inr none) =
 
 -- ---- the End of what brings nothing
 
-closed_of : (ticket : Option Ticket) (t : Tables) (now : ℕ) (outcome : Outcome)
-    → ((goal : Goal) → ends_goal t now outcome goal ≡ Ok allowed.Close) → answered_by (ends_ticket t now outcome ticket) ≡ Ok reply.Closed
-closed_of None t now outcome closes = refl
-closed_of (Some ticket) t now outcome closes = ap answered_by (closes ticket.goal)
+closed_of : (goal : Option Goal) (access : Access) (t : Tables) (now : ℕ) (outcome : Outcome)
+    → ((goal : Goal) → ends_goal access t now outcome goal ≡ Ok allowed.Close) → answered_by (ends_at access t now outcome goal) ≡ Ok reply.Closed
+closed_of None access t now outcome closes = refl
+closed_of (Some goal) access t now outcome closes = ap answered_by (closes goal)
 
 closed_by : (seat : ℕ) (k : Kept) (now : ℕ) (outcome : Outcome) → IsEmpty outcome
     → answer_at k.state (entry_at seat k now (End outcome) mark.Answered) mark.Answered ≡ Ok reply.Closed
-closed_by seat k now Sent empty = closed_of (ticket_of k.state seat) k.state.tables (moment_of k.state now) Sent (λ goal. refl)
-closed_by seat k now Gone empty = closed_of (ticket_of k.state seat) k.state.tables (moment_of k.state now) Gone (λ goal. refl)
+closed_by seat k now Sent empty =
+    closed_of (goal_at k.state seat) (access_of k.state) k.state.tables (moment_of k.state now) Sent (λ goal. refl)
+closed_by seat k now Gone empty =
+    closed_of (goal_at k.state seat) (access_of k.state) k.state.tables (moment_of k.state now) Gone (λ goal. refl)
 closed_by seat k now (Body digest size) empty = absurd empty
 
 pub ends_empty : (seat : ℕ) (a : Shown) (l : Kept) (now : ℕ) (outcome : Outcome) (answer : Answer) → IsHistory a.site → IsSound a.site.state
@@ -227,22 +214,11 @@ ends_empty seat a l now outcome answer h sound rising desk empty makes = record 
 -- ---- the End of a body
 
 -- it isn't answered as a Begin is, nor as one that brings nothing
-body_goal : (goal : Goal) (body : List ℕ) → MayBring goal (Body (sha256 body) (length body))
-    → (by : Seeker) × (key : LockKey) × (size : ℕ) × (goal ≡ Store by key size)
-body_goal (Serve content) body may = absurd may
-body_goal (Store by key size) body may = (by, key, size, refl)
-
-body_ticket : (seat : ℕ) (s : State) (body : List ℕ) (ticket : Option Ticket) → ticket_of s seat ≡ ticket
-    → MayEnd ticket (Body (sha256 body) (length body))
-    → (by : Seeker) × (key : LockKey) × (size : ℕ) × (ticket_of s seat ≡ Some (ticket_for seat (Store by key size)))
-body_ticket seat s body None is may = absurd may
-body_ticket seat s body (Some ticket) is may =
-    let goal = body_goal ticket.goal body may in
-    let its : ticket.seat ≡ seat = eqb-true ticket.seat seat (found_passes (λ (ticket : Ticket). ticket.seat == seat) s.tickets ticket is) in
-    (goal.0, goal.1, goal.2, is ∙ ap Some (same_ticket ticket its goal.3))
-  where
-    same_ticket : (ticket : Ticket) → ticket.seat ≡ seat → {goal : Goal} → ticket.goal ≡ goal → ticket ≡ ticket_for seat goal
-    same_ticket ticket its {goal} is = ap (λ (n : ℕ). ticket_for n ticket.goal) its ∙ ap (ticket_for seat) is
+body_goal : (goal : Option Goal) (body : List ℕ) → MayEnd goal (Body (sha256 body) (length body))
+    → (by : By) × (key : LockKey) × (size : ℕ) × (goal ≡ Some (Store by key size))
+body_goal None body may = absurd may
+body_goal (Some (Serve content)) body may = absurd may
+body_goal (Some (Store by key size)) body may = (by, key, size, refl)
 
 -- what stores a body lists nothing
 stored_lists_nothing : (refusal : Option Denial) (t : Tables) (now : ℕ) (key : LockKey) (digest : List ℕ) (size : ℕ) (lines : List ListingLine)
@@ -251,14 +227,14 @@ stored_lists_nothing None t now (Node node) digest size lines = λ is. cc
 stored_lists_nothing None t now (Slot folder name) digest size lines = λ is. cc
 stored_lists_nothing (Some refusal) t now key digest size lines = λ is. cc
 
-body_lists_nothing : (seat : ℕ) (s : State) (now : ℕ) (body : List ℕ) (by : Seeker) (key : LockKey) (size : ℕ) (lines : List ListingLine)
-    → ticket_of s seat ≡ Some (ticket_for seat (Store by key size)) → answer_to s seat now (event_of_body body) ≢ Ok (reply.Listing lines)
+body_lists_nothing : (seat : ℕ) (s : State) (now : ℕ) (body : List ℕ) (by : By) (key : LockKey) (size : ℕ) (lines : List ListingLine)
+    → goal_at s seat ≡ Some (Store by key size) → answer_to s seat now (event_of_body body) ≢ Ok (reply.Listing lines)
 body_lists_nothing seat s now body by key size lines has =
-    subst (λ (ticket : Option Ticket). answered_by (ends_ticket s.tables now (Body (sha256 body) (length body)) ticket) ≢ Ok (reply.Listing lines))
+    subst (λ (goal : Option Goal). answered_by (ends_at (access_of s) s.tables now (Body (sha256 body) (length body)) goal) ≢ Ok (reply.Listing lines))
     (sym has) (stored_lists_nothing (end_refusal s.tables key (length body)) s.tables now key (sha256 body) (length body) lines)
 
-of_body : (seat : ℕ) (s : State) (now : ℕ) (body : List ℕ) (by : Seeker) (key : LockKey) (size : ℕ) (answer : Answer)
-    → ticket_of s seat ≡ Some (ticket_for seat (Store by key size)) → answer ≡ answer_to s seat now (event_of_body body) → IsOfBody answer
+of_body : (seat : ℕ) (s : State) (now : ℕ) (body : List ℕ) (by : By) (key : LockKey) (size : ℕ) (answer : Answer)
+    → goal_at s seat ≡ Some (Store by key size) → answer ≡ answer_to s seat now (event_of_body body) → IsOfBody answer
 of_body seat s now body by key size (Ok reply.Closed) has is =
     absurd (bodies_open s seat now (sha256 body) (length body) by key size has (sym is))
 of_body seat s now body by key size (Ok (reply.Granted goal)) has is =
@@ -269,7 +245,7 @@ of_body seat s now body by key size other has is = tt
 marked_of_body : (seat : ℕ) (k : Kept) (now : ℕ) (body : List ℕ) (m : Mark) (answer : Answer)
     → MayAsk k.state seat (event_of_body body) → answer ≡ answer_at k.state (entry_at seat k now (event_of_body body) m) m → IsOfBody answer
 marked_of_body seat k now body mark.Answered answer asked is =
-    let has = body_ticket seat k.state body (ticket_of k.state seat) refl asked in
+    let has = body_goal (goal_at k.state seat) body asked in
     of_body seat k.state (moment_of k.state now) body has.0 has.1 has.2 answer has.3 is
 marked_of_body seat k now body unmade answer asked is = subst IsOfBody (sym is) tt
 

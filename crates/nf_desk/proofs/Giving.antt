@@ -1,6 +1,6 @@
 -- The pieces of what a seat was granted.
 use Rattle.std.proofs.Common.{◌≡◌, ◌⊎◌, ⊎_elim, ℕ, ◌<◌, ◌≤◌, ◌==◌, inl, inr, List, length, Result, Ok, Err, refl, sym, ap, subst, ◌∙◌}
-use Rattle.std.specs.Prelude.{Option, None, Some, IfOk, slice_get, Vec}
+use Rattle.std.specs.Prelude.{Option, None, Some, IfOk, option_map, slice_get, Vec}
 use Rattle.std.specs.declared.alloc.Global.{Global}
 use Rattle.std.specs.List.{All}
 use Rattle.std.specs.Option.{IfSome}
@@ -19,8 +19,9 @@ use Rattle.nf_session.specs.declared.backend.PieceFault.{PieceFault}
 use Rattle.nf_session.specs.declared.backend.PieceFault.TheVariants as fault
 use Rattle.nf_site.specs.Kept.{IsHistory}
 use Rattle.nf_told.specs.Told.{Told}
-use Rattle.nf_words.proofs.Known.{found_has}
-use Rattle.nf_words.specs.Sound.{IsGoalSound, IsPieceSound, IsSound}
+use Rattle.nf_words.proofs.Ends.{goal_sound}
+use Rattle.nf_words.proofs.Found.{found_has}
+use Rattle.nf_words.specs.Prelude.{IsGoalSound, IsPieceSound, IsSound, ticket_of}
 use Rattle.nf_words.specs.declared.answer.Damage.{Damage}
 use Rattle.nf_words.specs.declared.answer.Goal.{Goal}
 use Rattle.nf_words.specs.declared.answer.Goal.TheVariants.{Serve}
@@ -28,7 +29,7 @@ use Rattle.nf_words.specs.declared.history.Ticket.{Ticket}
 use Rattle.nf_desk.specs.Desk.{IsCounted, IsDesk, Shown, TellsSite, blobs_in, book_at, failures, failures_of}
 use Rattle.nf_desk.specs.Pieces.{IsRead, IsTested, Reads, StrikesBy, StrikesSeat, TellsFound}
 use Rattle.nf_desk.proofs.Counting.{GoesOn, failed, failures_of_struck, failures_struck, risen_struck, strike, unfailed}
-use Rattle.nf_desk.proofs.Desks.{ticket_is}
+use Rattle.nf_desk.proofs.Desks.{held_is}
 use Rattle.nf_desk.proofs.Entering.{next_again, waits}
 
 -- ---- what is true of each goal is true of the piece
@@ -41,16 +42,20 @@ piece_has P content index piece at all =
 goal_has : (seat : ℕ) (a : Shown) (P : Goal → Type 0) (goal : Goal) → IsHistory a.site → held (book_at seat a) ≡ Some goal
     → All (λ (ticket : Ticket). P ticket.goal) a.site.state.tickets → P goal
 goal_has seat a P goal h holds all =
-    let ticket = ticket_is seat a goal h holds in
-    subst P ticket.2
-    (subst (λ (o : Option Ticket). IfSome o (λ (ticket : Ticket). P ticket.goal)) ticket.1
+    subst (λ (o : Option Goal). IfSome o P) (sym (held_is seat a h) ∙ holds)
+    (here (ticket_of a.site.state seat)
     (found_has (λ (ticket : Ticket). P ticket.goal) (λ ticket. ticket.seat == seat) a.site.state.tickets all))
+  where
+    here : (o : Option Ticket) → IfSome o (λ (ticket : Ticket). P ticket.goal) → IfSome (option_map (λ ticket. ticket.goal) o) P
+    here None none = tt
+    here (Some ticket) is = is
 
 piece_given : (seat : ℕ) (a : Shown) (content : List Piece) (index : ℕ) (piece : Piece) → IsHistory a.site → IsSound a.site.state
     → held (book_at seat a) ≡ Some (Serve content) → slice_get content index ≡ Some piece → piece.blob < a.site.state.tables.meta.next_blob
 piece_given seat a content index piece h sound holds at =
-    (piece_has (IsPieceSound a.site.state.tables) content index piece at
-    (goal_has seat a (IsGoalSound a.site.state.tables) (Serve content) h holds sound.goals)).given
+    let t = a.site.state.tables in
+    (piece_has (IsPieceSound t) content index piece at
+    (subst (λ (o : Option Goal). IfSome o (IsGoalSound t)) (sym (held_is seat a h) ∙ holds) (goal_sound a.site.state seat sound))).given
 
 -- so it is there, or was damaged at the start
 piece_held : (seat : ℕ) (a : Shown) (content : List Piece) (index : ℕ) (piece : Piece) (told : Option Told) → IsHistory a.site

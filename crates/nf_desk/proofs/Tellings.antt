@@ -13,7 +13,8 @@ use Rattle.nf_session.specs.Book.{Answer, TellsStill}
 use Rattle.nf_site.specs.Kept.{Kept, answered, entered, entry, moment_of}
 use Rattle.nf_told.proofs.Follows.{told_follows}
 use Rattle.nf_told.specs.Told.{AreFit, FitsChange, Told, told_all, told_of}
-use Rattle.nf_words.specs.Prelude.{after_mark, blob_to, changes_by, changes_to, ends_ticket, failed, IsSound, MayCome, State, step, ticket_of}
+use Rattle.nf_words.specs.Prelude.{access_of, after_mark, blob_to, changes_by, changes_to, ends_at, failed, goal_at, IsSound, MayCome, State, step}
+use Rattle.nf_words.specs.declared.answer.Goal.{Goal}
 use Rattle.nf_words.specs.declared.history.Entry.{Entry}
 use Rattle.nf_words.specs.declared.history.Event.{Event}
 use Rattle.nf_words.specs.declared.history.Event.TheVariants.{Begin, End}
@@ -21,7 +22,6 @@ use Rattle.nf_words.specs.declared.history.Mark.{Mark}
 use Rattle.nf_words.specs.declared.history.Mark.TheVariants as mark
 use Rattle.nf_words.specs.declared.history.Outcome.{Outcome}
 use Rattle.nf_words.specs.declared.history.Outcome.TheVariants.{Sent, Gone, Body}
-use Rattle.nf_words.specs.declared.history.Ticket.{Ticket}
 use Rattle.nf_desk.specs.Desk.{TellsSite, blobs_in}
 use Rattle.nf_desk.specs.Stepping.{IsEmpty, Makes, Standing, Steps, Tells, entry_at, standing, stored_by, told_by}
 
@@ -77,14 +77,15 @@ no_blob n s by moment event sound may nothing = here (blob_to s by moment event)
 
 -- an End that brings nothing changes nothing
 empty_changes : (s : State) (by now : ℕ) (outcome : Outcome) → IsEmpty outcome → changes_to s by now (End outcome) ≡ []
-empty_changes s by now outcome empty = here outcome (ticket_of s by) empty
+empty_changes s by now outcome empty = here outcome (goal_at s by) empty
   where
-    here : (outcome : Outcome) (ticket : Option Ticket) → IsEmpty outcome → changes_by s.tables now (ends_ticket s.tables now outcome ticket) ≡ []
+    here : (outcome : Outcome) (goal : Option Goal) → IsEmpty outcome
+        → changes_by s.tables now (ends_at (access_of s) s.tables now outcome goal) ≡ []
     here Sent None empty = refl
-    here Sent (Some ticket) empty = refl
+    here Sent (Some goal) empty = refl
     here Gone None empty = refl
-    here Gone (Some ticket) empty = refl
-    here (Body digest size) ticket empty = absurd empty
+    here Gone (Some goal) empty = refl
+    here (Body digest size) goal empty = absurd empty
 
 pub empty_brings : (outcome : Outcome) → IsEmpty outcome → Brings [] (End outcome)
 empty_brings Sent empty = tt

@@ -1,5 +1,5 @@
 -- What one step of a seat does to the site, and to what its keeper tells.
-use Rattle.std.specs.Prelude.{◌≡◌, ◌⊎◌, ℕ, ◌<◌, ◌≤◌, All, List, [], ◌∷◌, length, Option, None, Some, option_map, Err}
+use Rattle.std.specs.Prelude.{◌≡◌, ◌⊎◌, ℕ, ◌<◌, ◌≤◌, All, List, [], ◌∷◌, length, Option, option_map, Err}
 use Rattle.nf_base.specs.declared.limits.TheConstants.{MAX_ENTRIES}
 use Rattle.nf_base.specs.declared.changes.Change.{Change}
 use Rattle.nf_keeper.specs.Keeping.{Stored, applied}
@@ -7,9 +7,8 @@ use Rattle.nf_session.specs.Book.{Answer, Strikes}
 use Rattle.nf_site.specs.Held.{entries_wanted}
 use Rattle.nf_site.specs.Kept.{Kept, entered, entry, moment_of}
 use Rattle.nf_told.specs.Told.{FitsChange, Told}
-use Rattle.nf_words.specs.Prelude.{answer_at, blob_to, changes_to, MayBring, MayCome}
+use Rattle.nf_words.specs.Prelude.{answer_at, blob_to, changes_to, MayCome}
 use Rattle.nf_words.specs.declared.answer.Denial.TheVariants as denial
-use Rattle.nf_words.specs.declared.answer.Goal.{Goal}
 use Rattle.nf_words.specs.declared.history.Entry.{Entry}
 use Rattle.nf_words.specs.declared.history.Event.{Event}
 use Rattle.nf_words.specs.declared.history.Event.TheVariants.{Begin}
@@ -46,11 +45,6 @@ abbrev pub IsEmpty : Outcome → Type 0
 IsEmpty Sent = Unit {0}
 IsEmpty Gone = Unit {0}
 IsEmpty (Body digest size) = ⊥
-
--- something is granted that may end so
-abbrev pub HeldMayEnd : Option Goal → Outcome → Type 0
-HeldMayEnd None outcome = ⊥
-HeldMayEnd (Some goal) outcome = MayBring goal outcome
 
 -- ---- what is told
 

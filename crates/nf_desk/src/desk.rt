@@ -5,13 +5,13 @@ ghost use Rattle.sha2.specs.Sha256.{sha256};
 ghost use Rattle.nf_desk.specs.Desk.{IsDesk, TakesTurn, book_at, meanings, shown};
 ghost use Rattle.nf_desk.specs.Opened.{AsksOnce, CountsFault, IsFault, MayBegin, Opens};
 ghost use Rattle.nf_desk.specs.Pieces.{Reads, StrikesBy};
-ghost use Rattle.nf_desk.specs.Stepping.{HeldMayEnd, IsEmpty};
+ghost use Rattle.nf_desk.specs.Stepping.{IsEmpty};
 ghost use Rattle.nf_rules.specs.Ruled.{AreRuled};
 ghost use Rattle.nf_rules.specs.Rules.{AreUnbroken};
 ghost use Rattle.nf_session.specs.Book.{Begins, EndsBody, EndsEmpty, held};
 ghost use Rattle.nf_site.specs.Kept.{IsHistory};
 ghost use Rattle.nf_turn.specs.Book.{IsFresh};
-ghost use Rattle.nf_words.specs.Prelude.{IsSound, MayWant};
+ghost use Rattle.nf_words.specs.Prelude.{IsSound, MayEnd, MayWant};
 ghost use Rattle.nf_words.specs.declared.answer.Goal.TheVariants.{Serve};
 ghost use Rattle.nf_words.specs.declared.history.Outcome.TheVariants.{Body};
 
@@ -138,7 +138,7 @@ impl<K: Keeper + Drop> Desk<K> {
     /// Ends what was granted to the seat, where it brings nothing. It takes no memory, and the keeper has nothing to do.
     pub fn finish(&mut self, seat: u64, now: Moment, outcome: Outcome) -> Answer
         requires empty { IsEmpty outcome }
-        requires granted { HeldMayEnd (held (book_at seat (shown K.Keeper self.old))) outcome }
+        requires granted { MayEnd (held (book_at seat (shown K.Keeper self.old))) outcome }
         ensures ends { EndsEmpty (book_at seat (shown K.Keeper self.old)) (book_at seat (shown K.Keeper self.new)) now outcome result }
         ensures turn { TakesTurn K.Keeper seat self.old self.new }
     {
@@ -151,7 +151,7 @@ impl<K: Keeper + Drop> Desk<K> {
     /// Ends the PUT that was granted to the seat, with its body and that body's digest.
     pub fn store(&mut self, seat: u64, now: Moment, digest: Digest, body: &[u8]) -> Answer
         requires digest { digest ≡ sha256 body.now }
-        requires granted { HeldMayEnd (held (book_at seat (shown K.Keeper self.old))) (Body digest (length body.now)) }
+        requires granted { MayEnd (held (book_at seat (shown K.Keeper self.old))) (Body digest (length body.now)) }
         ensures ends { EndsBody (book_at seat (shown K.Keeper self.old)) (book_at seat (shown K.Keeper self.new)) now body.now result }
         ensures turn { TakesTurn K.Keeper seat self.old self.new }
     {

@@ -6,27 +6,25 @@ use Rattle.nf_base.specs.declared.content.Piece.{Piece}
 use Rattle.nf_base.specs.declared.rows.Row.{Row}
 use Rattle.nf_defs.specs.Blobs.{Blobs}
 use Rattle.nf_laws.specs.Wholes.{IsDamaged}
-use Rattle.nf_desk.specs.Desk.{Served, meanings, shown}
+use Rattle.nf_desk.specs.Desk.{Served, meanings}
 use Rattle.nf_desk.specs.Opened.{Opens}
-use Rattle.nf_desk.specs.Pieces.{Reads}
 use Rattle.nf_desk.specs.declared.first.OpenFault.{OpenFault}
 use Rattle.nf_desk.specs.declared.first.OpenFault.TheVariants.{Memory}
 use Rattle.nf_desk.specs.declared.first.Opening.{Opening}
-use Rattle.nf_keeper.specs.declared.keeper.KeepFault.{KeepFault}
 use Rattle.nf_keeper.specs.declared.keeper.Keeper.{Ghosts as KeeperOf}
 use Rattle.nf_session.specs.Book.{Answer, Book, GivesPiece, Struck, granted, state_of}
 use Rattle.nf_session.specs.declared.backend.Ending.{Ending}
 use Rattle.nf_session.specs.declared.backend.Ending.TheVariants as ending
 use Rattle.nf_session.specs.declared.backend.PieceFault.{PieceFault}
 use Rattle.nf_session.specs.declared.backend.PieceFault.TheVariants as fault
-use Rattle.nf_site.specs.Kept.{IsHistory, Kept}
+use Rattle.nf_site.specs.Kept.{Kept}
 use Rattle.nf_told.specs.Told.{Told}
-use Rattle.nf_turn.specs.Prelude.{Agrees, having_passed, seen_shelf}
+use Rattle.nf_turn.specs.Prelude.{seen_shelf}
 use Rattle.nf_turn.specs.declared.view.Memory.{Memory as MemoryOf}
 use Rattle.nf_words.specs.declared.answer.Goal.{Goal}
 use Rattle.nf_words.specs.declared.answer.Goal.TheVariants.{Serve, Store}
 use Rattle.nf_words.specs.declared.answer.Reply.TheVariants.{Granted}
-use Rattle.nf_words.specs.Prelude.{blob_to, opened, replay, ticket_for, ticket_of}
+use Rattle.nf_words.specs.Prelude.{blob_to, goal_at, opened, replay}
 use Rattle.nf_words.specs.declared.history.Entry.{Entry}
 use Rattle.nf_hub.specs.declared.seat.Began.{Began}
 use Rattle.nf_hub.specs.declared.seat.Began.TheVariants as began
@@ -53,7 +51,7 @@ HasPiece goal index = (content : List Piece) × (goal ≡ Serve content) × (ind
 
 -- the seat's ticket stands in the replay of what it has seen
 abbrev pub HasTicket : Book → Goal → Type 0
-HasTicket b goal = ticket_of (state_of b) b.seat ≡ Some (ticket_for b.seat goal)
+HasTicket b goal = goal_at (state_of b) b.seat ≡ Some goal
 
 -- the keeper's failure is a strike of the seat, and nothing else is
 abbrev pub StrikesPiece : ℕ → ℕ → Result (Vec ℕ Global) PieceFault → Type 0

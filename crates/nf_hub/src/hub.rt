@@ -5,13 +5,13 @@ ghost use Rattle.sha2.specs.Sha256.{sha256};
 ghost use Rattle.nf_base.specs.declared.limits.TheConstants.{MAX_SEATS};
 ghost use Rattle.nf_desk.specs.Desk.{meanings};
 ghost use Rattle.nf_desk.specs.Opened.{AsksOnce, CountsFault, IsFault, MayBegin};
-ghost use Rattle.nf_desk.specs.Stepping.{HeldMayEnd, IsEmpty};
+ghost use Rattle.nf_desk.specs.Stepping.{IsEmpty};
 ghost use Rattle.nf_hub.specs.Calls.{AsksGoal, AsksPiece, GivesGoal, HasPiece, HasTicket, IsBegan, LeavesKeeper, ShelvesBody, ShelvesEnding, answer_of};
 ghost use Rattle.nf_hub.specs.Seats.{IsSeat, Starts, book, memory_of, steady};
 ghost use Rattle.nf_hub.specs.Closing.{Closes};
 ghost use Rattle.nf_session.specs.Book.{Begins, EndsBody, EndsEmpty, Ends, GivesPiece, MayEnd, granted, held};
 ghost use Rattle.nf_turn.specs.Prelude.{having_joined, having_split, IsFresh, IsWhole, longer, numbers, of_the_first, split_from};
-ghost use Rattle.nf_words.specs.History.{MayWant};
+ghost use Rattle.nf_words.specs.History.{MayEnd as HeldMayEnd, MayWant};
 ghost use Rattle.nf_words.specs.declared.answer.Goal.TheVariants.{Serve};
 ghost use Rattle.nf_words.specs.declared.history.Outcome.TheVariants.{Body};
 

@@ -14,15 +14,16 @@ use Rattle.nf_base.specs.declared.rows.Place.TheVariants.{Inside}
 use Rattle.nf_defs.specs.Prelude.{child_of, climb, content_of, depth, is_folder, is_folder_kind, node_row, owner_of, piece_count, Tables, walk_of, walk_within}
 use Rattle.nf_laws.proofs.Added.{new_apart}
 use Rattle.nf_laws.proofs.Climbs.{node_row_each, parent_at}
-use Rattle.nf_laws.proofs.Gone.{clearing_sound, climb_cleared, counts_cleared, folder_stays, free_cleared, row_cleared}
+use Rattle.nf_laws.proofs.Gone.{clearing_sound, counts_cleared, folder_stays, free_cleared, row_cleared}
 use Rattle.nf_laws.proofs.Mirrored.{mirrored}
+use Rattle.nf_laws.proofs.Moved.{depth_cleared}
 use Rattle.nf_laws.proofs.Paths.{child_there}
-use Rattle.nf_laws.proofs.Rows.{child_folder, climb_kept, counters_up, folder_kept, folder_there, kept_joined, node_kept, parent_there, pieces_kept, root_kept, row_is, row_joined, stamp}
+use Rattle.nf_laws.proofs.Rows.{child_folder, climb_kept, counters_up, folder_kept, folder_there, kept_joined, no_others, node_kept, parent_there, pieces_kept, root_kept, row_is, row_joined, stamp, top_kept}
 use Rattle.nf_laws.proofs.Upwards.{climbs_depth, deepest_among, depth_up}
 use Rattle.nf_laws.proofs.Walked.{AllPairs-append, walks_take}
 use Rattle.nf_laws.specs.Transfers.{IsCopyOf, Mirrors, is_replaced}
 use Rattle.nf_words.proofs.Known.{KnownCopies, KnownTransfer}
-use Rattle.nf_words.specs.Prelude.{AreApart, AreSound, cleared, HasRoot, IsNodeSound, IsPieceSound, IsPlaceSound, joined, pieces_in, root_of_user}
+use Rattle.nf_words.specs.Prelude.{AreApart, AreSound, cleared, HasRoot, IsNodeSound, IsPieceSound, IsPlaceSound, IsTop, joined, pieces_in, stored_pieces}
 use Rattle.nf_words.specs.declared.request.Transfer.{Transfer}
 
 -- ---- lists
@@ -113,19 +114,19 @@ module _ (t : Tables) (now : ℕ) (transfer : Transfer) (name : List ℕ) (rows 
         }
 
     -- where the copies are there, each climbs through those that it is in to the folder, and on as that does
-    copy_climbs : (others : List NodeRow) (root : ℕ) (d : NodeRow)
+    copy_climbs : (others : List NodeRow) (top : ℕ) (d : NodeRow)
         → ((k : ℕ) → k < length rows → node_row others (t.meta.next_node + k) ≡ Some (get_or rows k d))
-        → climb others (depth t.nodes transfer.folder) transfer.folder ≡ Some root
+        → climb others (depth t.nodes transfer.folder) transfer.folder ≡ Some top
         → (m k : ℕ) → k < m → k < length rows
         → (steps : ℕ) × (steps + depth_at 0 ≡ depth_at k + 1 + depth t.nodes transfer.folder)
-        × (climb others steps (t.meta.next_node + k) ≡ Some root)
-    copy_climbs others root d there on zero k before within = absurd (omega arith)
-    copy_climbs others root d there on (suc m) zero before within =
+        × (climb others steps (t.meta.next_node + k) ≡ Some top)
+    copy_climbs others top d there on zero k before within = absurd (omega arith)
+    copy_climbs others top d there on (suc m) zero before within =
         let up = parent_at others (t.meta.next_node + 0) transfer.folder (get_or rows 0 d) (there 0 within) (copy_at 0 d within).placed.0 in
         (suc (depth t.nodes transfer.folder), omega arith, ap (option_and_then (climb others (depth t.nodes transfer.folder))) up ∙ on)
-    copy_climbs others root d there on (suc m) (suc k) before within =
+    copy_climbs others top d there on (suc m) (suc k) before within =
         let c = copy_in k d within in
-        let rest = copy_climbs others root d there on m c.at (omega (arith, c.before)) (omega (arith, c.before)) in
+        let rest = copy_climbs others top d there on m c.at (omega (arith, c.before)) (omega (arith, c.before)) in
         let up = parent_at others (t.meta.next_node + suc k) (t.meta.next_node + c.at) (get_or rows (suc k) d) (there (suc k) within) c.place in
         (suc rest.0, omega (arith, rest.1, c.deeper), ap (option_and_then (climb others rest.0)) up ∙ rest.2)
 
@@ -184,13 +185,18 @@ module _ (t : Tables) (now : ℕ) (who : Option ℕ) (transfer : Transfer) (name
   folder_given : transfer.folder < t.meta.next_node
   folder_given = let h = row_is t transfer.folder folder_row.0 sound folder_row.1 in omega (arith, h.0, h.1.given)
 
-  -- and climbs to the owner's root
-  folder_climbs : climb made.nodes (depth t.nodes transfer.folder) transfer.folder ≡ Some (root_of_user t (owner_of t.nodes transfer.folder))
+  -- and climbs to a top
+  folder_climbs : (top : ℕ) × (climb made.nodes (depth t.nodes transfer.folder) transfer.folder ≡ Some top) × IsTop made.nodes top
   folder_climbs =
-      climb_kept (depth t.nodes transfer.folder) left.nodes made.nodes transfer.folder _ (kept_joined left.nodes rows)
-      (climb_cleared t transfer.replaced (depth t.nodes transfer.folder) transfer.folder sound stays
-      ∙ (climbs_depth t transfer.folder folder_row.0 sound folder_row.1).0
-      ∙ ap (λ (o : Option NodeRow). Some (root_of_user t (option_map_or (λ row. row.owner) o 0))) (sym folder_row.1))
+      let kept = kept_joined left.nodes rows in
+      let there = row_cleared t.nodes transfer.replaced transfer.folder stays ∙ folder_row.1 in
+      let over = climbs_depth left transfer.folder folder_row.0 left_sound there in
+      let deep = depth_cleared t transfer.replaced transfer.folder folder_row.0 sound left_sound there in (
+        over.0,
+        climb_kept (depth t.nodes transfer.folder) left.nodes made.nodes transfer.folder over.0 kept
+            (subst (λ (n : ℕ). climb left.nodes n transfer.folder ≡ Some over.0) deep over.1),
+        top_kept left.nodes made.nodes over.0 kept over.2,
+      )
 
   -- ---- each copy is sound
 
@@ -211,8 +217,9 @@ module _ (t : Tables) (now : ℕ) (who : Option ℕ) (transfer : Transfer) (name
   copies_sound k d within =
       let c = copy k d within in
       let of = row_is t c.node c.of sound c.there in
-      let root = root_of_user t (owner_of t.nodes transfer.folder) in
-      let climbs = copy_climbs t now transfer name rows mirrors sound made.nodes root d (copy_there d) folder_climbs (suc k) k (omega arith) within in
+      let over = folder_climbs in
+      let up =
+      copy_climbs t now transfer name rows mirrors sound made.nodes over.0 d (copy_there d) over.1 (suc k) k (omega arith) within in
       let walk = walk_of t.nodes transfer.node in
       let first = walk_first t.nodes transfer.node in
       record {
@@ -223,18 +230,18 @@ module _ (t : Tables) (now : ℕ) (who : Option ℕ) (transfer : Transfer) (name
             (pieces_kept t made c.of.content (omega arith) of.1.pieces);
         folder = λ is. c.content ∙ of.1.folder (ap is_folder_kind (sym c.kind) ∙ is);
         place = copy_placed k d within;
-        steps = climbs.0;
+        steps = up.0;
         shallow = omega (
           arith,
-          climbs.1,
+          up.1,
           known.deep,
           mirrors.all,
           deepest_among t.nodes walk k 0 (omega (arith, mirrors.all)),
           ap (depth t.nodes) first.0,
         );
-        present =
-            ap (climb made.nodes climbs.0) c.id ∙ climbs.2
-            ∙ ap (λ (user : ℕ). Some (root_of_user t user)) (sym c.owner);
+        top = over.0;
+        climbs = ap (climb made.nodes up.0) c.id ∙ up.2;
+        ends = over.2;
       }
 
   -- ---- names
@@ -287,12 +294,18 @@ module _ (t : Tables) (now : ℕ) (who : Option ℕ) (transfer : Transfer) (name
 
   joined_sound : t.meta.last ≤ now → AllPairs (λ (a b : ℕ). a ≢ b) (walk_of t.nodes transfer.node)
       → length t.nodes + length (walk_of t.nodes transfer.node) ≤ MAX_NODES
-      → piece_count t.nodes + pieces_in t.nodes (walk_of t.nodes transfer.node) ≤ MAX_STORED_PIECES → AreSound made
+      → stored_pieces t + pieces_in t.nodes (walk_of t.nodes transfer.node) ≤ MAX_STORED_PIECES → AreSound made
   joined_sound later once few_nodes few_pieces =
       let kept = kept_joined left.nodes rows in
       let counts = counts_cleared t.nodes transfer.replaced in
       record {
-        counters = counters_up t.meta (t.meta.next_node + length rows) t.meta.next_blob now sound.counters (omega arith) (le_refl _);
+        counters = counters_up t.meta made.meta sound.counters (record {
+          users = le_refl _;
+          groups = le_refl _;
+          nodes = omega arith;
+          shares = le_refl _;
+          blobs = le_refl _;
+        });
         rising = rising;
         nodes = All-append (IsNodeSound made) left.nodes rows
             (All-weaker (IsNodeSound left) (IsNodeSound made)
@@ -308,6 +321,8 @@ module _ (t : Tables) (now : ℕ) (who : Option ℕ) (transfer : Transfer) (name
           same_pieces t now transfer name rows mirrors,
           sum_by-append (λ row. length row.content) left.nodes rows,
         );
+        later = sound.later;
+        others = no_others made sound.later;
       }
 
 pub copied_sound : (t : Tables) (now : ℕ) (who : Option ℕ) (rows : List NodeRow) (replaced : Option ℕ)

@@ -1,39 +1,31 @@
 -- Counters never fall.
-use Rattle.std.proofs.Common.{ℕ, ◌+◌, ◌≤◌, List, [], ◌∷◌, ◌++◌, length, Option, None, arith, le_refl}
+use Rattle.std.proofs.Common.{ℕ, ◌+◌, ◌≤◌, List, [], ◌∷◌, ◌++◌, length, arith, le_refl}
 use Rattle.nf_base.specs.declared.rows.MetaRow.{MetaRow}
 use Rattle.nf_defs.specs.Tables.{Tables}
 use Rattle.nf_laws.proofs.Entries.{entry_has}
-use Rattle.nf_laws.proofs.Rows.{blob_up, stamp, stamped_has}
+use Rattle.nf_laws.proofs.Lists.{raised_higher}
+use Rattle.nf_laws.proofs.Rows.{stamp, stamped_has}
 use Rattle.nf_laws.specs.Numbers.{AreHigher, CountersRise}
-use Rattle.nf_words.specs.Prelude.{after, after_mark, altered, blob_after, changed, replay, State, told}
+use Rattle.nf_words.specs.Prelude.{after, after_mark, altered, changed, replay, State, told}
 use Rattle.nf_words.specs.declared.answer.Allowed.{Allowed}
 use Rattle.nf_words.specs.declared.answer.Allowed.TheVariants as allowed
 use Rattle.nf_words.specs.declared.history.Entry.{Entry}
 use Rattle.nf_words.specs.declared.history.Mark.{Mark}
 
-up : (meta : MetaRow) (now nodes : ℕ) (blob : Option ℕ) → meta.next_node ≤ nodes
-    → AreHigher meta (record meta { next_node = nodes; next_blob = blob_after meta.next_blob blob; last = now })
-up meta now nodes blob more = record {
-  users = omega arith;
-  groups = omega arith;
-  nodes = more;
-  shares = omega arith;
-  blobs = blob_up meta.next_blob blob;
-}
+up : (meta : MetaRow) (now nodes : ℕ) → meta.next_node ≤ nodes → AreHigher meta (record meta { next_node = nodes; last = now })
+up meta now nodes more = record { users = le_refl _; groups = le_refl _; nodes = more; shares = le_refl _; blobs = le_refl _ }
 
 same : (meta : MetaRow) → AreHigher meta meta
-same meta = up meta meta.last meta.next_node None (le_refl _)
+same meta = up meta meta.last meta.next_node (le_refl _)
 
 altered_up : (t : Tables) (now : ℕ) (act : Allowed) → AreHigher t.meta (stamp (altered t now act) now).meta
-altered_up t now (allowed.StoreNew row blob) = up t.meta now (t.meta.next_node + 1) blob (omega arith)
-altered_up t now (allowed.StoreOver node content blob) = up t.meta now t.meta.next_node blob (le_refl _)
-altered_up t now (allowed.Mkcol row) = up t.meta now (t.meta.next_node + 1) None (omega arith)
-altered_up t now (allowed.Copy rows replaced) = up t.meta now (t.meta.next_node + length rows) None (omega arith)
-altered_up t now act = up t.meta now t.meta.next_node None (le_refl _)
+altered_up t now (allowed.Change changes blob report) = raised_higher t now changes blob
+altered_up t now (allowed.Copy rows replaced) = up t.meta now (t.meta.next_node + length rows) (omega arith)
+altered_up t now act = up t.meta now t.meta.next_node (le_refl _)
 
 pub changed_up : (t : Tables) (now : ℕ) (act : Allowed) → AreHigher t.meta (changed t now act).meta
 changed_up t now act =
-    stamped_has (λ (u : Tables). AreHigher t.meta u.meta) t (altered t now act) now (told t now act) (same t.meta) (altered_up t now act)
+    stamped_has (λ (u : Tables). AreHigher t.meta u.meta) t (altered t now act) now (told t act) (same t.meta) (altered_up t now act)
 
 pub after_up : (s : State) (e : Entry) (m : Mark) → AreHigher s.tables.meta (after_mark s e m).tables.meta
 after_up s e m =

@@ -4,13 +4,17 @@ use Rattle.std.specs.List.{All}
 use Rattle.std.specs.Option.{IfSome}
 use Rattle.std.proofs.lemmas.List.Elements.{All-filter, All-push}
 use Rattle.nf_defs.specs.Tables.{Tables}
+use Rattle.nf_laws.proofs.Lists.{changes_have, with_born, with_filled}
 use Rattle.nf_laws.proofs.Rows.{stamp, stamped_has}
 use Rattle.nf_laws.specs.Wholes.{blob_under}
-use Rattle.nf_words.proofs.Known.{Known, known_change}
-use Rattle.nf_words.specs.Prelude.{actor_of, after, after_mark, altered, blob_by, blob_of, changed, decided, decision_of, goal_of, IsSound, MayCome, State, step, ticket_for, told, with_goal, without}
+use Rattle.nf_words.proofs.Ends.{known_change}
+use Rattle.nf_words.proofs.Known.{Known}
+use Rattle.nf_words.specs.Prelude.{actor_of, after, after_mark, altered, AreSound, blob_by, blob_of, changed, decided, decision_of, goal_of, hold_of, IsSound, MayCome, State, step, ticket_for, told, with_goal, without}
 use Rattle.nf_words.specs.declared.answer.Allowed.{Allowed}
+use Rattle.nf_words.specs.declared.answer.Allowed.TheVariants as allowed
 use Rattle.nf_words.specs.declared.answer.Denial.{Denial}
 use Rattle.nf_words.specs.declared.answer.Goal.{Goal}
+use Rattle.nf_words.specs.declared.answer.Hold.{Hold}
 use Rattle.nf_words.specs.declared.history.Entry.{Entry}
 use Rattle.nf_words.specs.declared.history.Event.{Event}
 use Rattle.nf_words.specs.declared.history.Event.TheVariants.{Begin, End}
@@ -26,10 +30,10 @@ tickets_left P s seat (Begin words request) all = all
 tickets_left P s seat (End outcome) all = All-filter (λ ticket. not (ticket.seat == seat)) P s.tickets all
 
 -- and those with the one that is granted, which has it
-pub tickets_with : (P : Ticket → Type 0) (tickets : List Ticket) (seat : ℕ) (goal : Option Goal)
-    → All P tickets → IfSome goal (λ (goal : Goal). P (ticket_for seat goal)) → All P (with_goal tickets seat goal)
-tickets_with P tickets seat None all one = all
-tickets_with P tickets seat (Some goal) all one = All-push P tickets _ all one
+pub tickets_with : (P : Ticket → Type 0) (tickets : List Ticket) (seat : ℕ) (goal : Option Goal) (hold : Option Hold)
+    → All P tickets → IfSome goal (λ (goal : Goal). P (ticket_for seat goal hold)) → All P (with_goal tickets seat goal hold)
+tickets_with P tickets seat None hold all one = all
+tickets_with P tickets seat (Some goal) hold all one = All-push P tickets _ all one
 
 -- ---- a step
 
@@ -42,7 +46,7 @@ same_tables s seat (End outcome) = refl
 pub step_has : (P : Tables → List Ticket → Result Allowed Denial → Type 0) (s : State) (seat now : ℕ) (event : Event)
     → ((refusal : Denial) → P s.tables (without s seat event).tickets (Err refusal))
     → ((act : Allowed) → decision_of s seat now event ≡ Ok act
-    → P (changed s.tables now act) (with_goal (without s seat event).tickets seat (goal_of act)) (Ok act))
+    → P (changed s.tables now act) (with_goal (without s seat event).tickets seat (goal_of act) (hold_of act)) (Ok act))
     → P (step s seat now event).tables (step s seat now event).tickets (decision_of s seat now event)
 step_has P s seat now event refused acts = here (decision_of s seat now event) acts
   where
@@ -50,10 +54,10 @@ step_has P s seat now event refused acts = here (decision_of s seat now event) a
     left = without s seat event
 
     here : (d : Result Allowed Denial)
-        → ((act : Allowed) → d ≡ Ok act → P (changed s.tables now act) (with_goal left.tickets seat (goal_of act)) (Ok act))
+        → ((act : Allowed) → d ≡ Ok act → P (changed s.tables now act) (with_goal left.tickets seat (goal_of act) (hold_of act)) (Ok act))
         → P (decided left seat now d).tables (decided left seat now d).tickets d
     here (Ok act) acts =
-        subst (λ (t : Tables). P (changed t now act) (with_goal left.tickets seat (goal_of act)) (Ok act)) (same_tables s seat event) (acts act refl)
+        subst (λ (t : Tables). P (changed t now act) (with_goal left.tickets seat (goal_of act) (hold_of act)) (Ok act)) (same_tables s seat event) (acts act refl)
     here (Err refusal) acts = subst (λ (t : Tables). P t left.tickets (Err refusal)) (same_tables s seat event) (refused refusal)
 
 -- the tables that an act makes
@@ -68,7 +72,7 @@ step_changed s seat now event act =
 pub entry_has : (P : Tables → List Ticket → Option ℕ → Type 0) (s : State) (e : Entry) (m : Mark)
     → P s.tables (without s e.seat e.event).tickets None
     → ((act : Allowed) → decision_of s e.seat e.moment e.event ≡ Ok act
-    → P (changed s.tables e.moment act) (with_goal (without s e.seat e.event).tickets e.seat (goal_of act)) (blob_of act))
+    → P (changed s.tables e.moment act) (with_goal (without s e.seat e.event).tickets e.seat (goal_of act) (hold_of act)) (blob_of act))
     → P (after_mark s e m).tables (after_mark s e m).tickets (blob_under s e m)
 entry_has P s e mark.Answered same acts =
     step_has (λ t tickets decision. P t tickets (blob_by decision)) s e.seat e.moment e.event (λ refusal. same) acts
@@ -80,5 +84,14 @@ pub after_has : (P : Tables → Type 0) (n : ℕ) (s : State) (e : Entry) → Is
     → P (after s e).tables
 after_has P n s e sound may same acts =
     entry_has (λ t tickets blob. P t) s e e.mark same (λ act is.
-    stamped_has P s.tables (altered s.tables e.moment act) e.moment (told s.tables e.moment act) same
+    stamped_has P s.tables (altered s.tables e.moment act) e.moment (told s.tables act) same
     (acts act (known_change s e.seat e.moment e.event act sound may.asked is)))
+
+-- no act makes other rows than nodes and the meta row
+pub rest_kept : (t : Tables) (now : ℕ) (who : Option ℕ) (act : Allowed) → AreSound t → Known t now who act
+    → altered t now act ≡ record t { meta = (altered t now act).meta; nodes = (altered t now act).nodes }
+rest_kept t now who (allowed.Change changes blob report) sound known =
+    changes_have (λ (u : Tables). u ≡ record t { meta = u.meta; nodes = u.nodes }) t now who changes blob report sound.rising known
+    (λ u row same it. ap (λ (v : Tables). with_born v row) same) (λ u row same it. ap (λ (v : Tables). with_filled v row) same) refl
+rest_kept t now who allowed.Close sound known = refl
+rest_kept t now who act sound known = refl

@@ -1,12 +1,12 @@
 -- The tables without what is removed are sound.
-use Rattle.std.proofs.Common.{inl, inr, ℕ, suc, ◌==◌, ◌≡◌, ◌<◌, ◌≤◌, Bool, true, false, not, List, Option, None, Some, length, refl, sym, ap, subst, ◌∙◌, arith, le_refl}
+use Rattle.std.proofs.Common.{inl, inr, ℕ, zero, suc, ◌==◌, ◌≡◌, ◌<◌, ◌≤◌, Bool, true, false, not, List, Option, None, Some, length, refl, sym, ap, subst, ◌∙◌, arith, le_refl}
 use Rattle.std.specs.List.{All}
 use Rattle.std.specs.Option.{option_map_or}
 use Rattle.std.proofs.lemmas.Bool.{both_ways, cases_Bool, false_from_ne_true, false≢true, ne_eqb, not-true, not_from_false}
 use Rattle.std.proofs.lemmas.List.Elements.{All-filter, All-weaker, filter_passes}
 use Rattle.std.proofs.lemmas.List.Filters.{length-filter_both, sum_by-filter_both}
 use Rattle.std.proofs.lemmas.List.Kept.{AllPairs-filter}
-use Rattle.std.proofs.lemmas.Option.{none-some, same_Some}
+use Rattle.std.proofs.lemmas.Option.{none-some, option_and_then_some, same_Some}
 use Rattle.nf_base.specs.declared.rows.NodeRow.{NodeRow}
 use Rattle.nf_base.specs.declared.rows.Place.{Place}
 use Rattle.nf_base.specs.declared.rows.Place.TheVariants.{Inside, Root, Trash}
@@ -14,10 +14,11 @@ use Rattle.nf_base.specs.declared.rows.UserRow.{UserRow}
 use Rattle.nf_defs.specs.Prelude.{child_of, climb, folder_of, is_root, is_root_place, is_under, node_row, parent_of, piece_count, Tables}
 use Rattle.nf_laws.proofs.Climbs.{climb_those, climb_under, climbs_no_further, node_row_each, parent_at, row_of_those, those, under_climb}
 use Rattle.nf_laws.proofs.Paths.{child_is, child_there}
-use Rattle.nf_laws.proofs.Rows.{finds_none, kept_row, node_still, root_still}
+use Rattle.nf_laws.proofs.Rows.{finds_none, kept_row, no_others, node_still, root_still}
 use Rattle.nf_laws.proofs.Upwards.{inside_no_root, never_climbs, no_rings}
 use Rattle.nf_laws.specs.Transfers.{is_replaced}
-use Rattle.nf_words.proofs.Known.{KnownTransfer, child_parent}
+use Rattle.nf_words.proofs.Found.{child_parent}
+use Rattle.nf_words.proofs.Known.{KnownTransfer}
 use Rattle.nf_words.specs.Prelude.{AreApart, AreSound, cleared, HasRoot, IsNodeSound, IsPlaceSound, removed}
 use Rattle.nf_words.specs.declared.request.Transfer.{Transfer}
 
@@ -40,12 +41,30 @@ place_left t test row closed there passes (Inside folder) is h =
     (rw e h.0, rw e h.1)
 place_left t test row closed there passes Trash is h = h
 
+-- what passes climbs to what passes
+climb_passes : (test : ℕ → Bool) (rows : List NodeRow) → IsClosed rows test → (k node top : ℕ) → climb rows k node ≡ Some top
+    → test node ≡ true → test top ≡ true
+climb_passes test rows closed zero node top is passes = subst (λ (n : ℕ). test n ≡ true) (same_Some node top is) passes
+climb_passes test rows closed (suc k) node top is passes =
+    option_and_then_some (climb rows k) (parent_of rows node) top is (λ parent above is.
+    climb_passes test rows closed k parent top is (closed node parent above passes))
+
 node_left : (t : Tables) (test : ℕ → Bool) (row : NodeRow) → IsClosed t.nodes test → node_row t.nodes row.id ≡ Some row → test row.id ≡ true
     → IsNodeSound t row → IsNodeSound (with_those t test) row
 node_left t test row closed there passes h =
     node_still t (with_those t test) row row.place row.name (le_refl _) (le_refl _) (le_refl _) h
     (place_left t test row closed there passes row.place refl h.place)
-    (record { steps = h.steps; shallow = h.shallow; climbs = climb_those test t.nodes closed h.steps row.id passes ∙ h.present })
+    (record {
+      steps = h.steps;
+      shallow = h.shallow;
+      top = h.top;
+      climbs = climb_those test t.nodes closed h.steps row.id passes ∙ h.climbs;
+      ends = record {
+        row = h.ends.row;
+        there = row_of_those test t.nodes h.top (climb_passes test t.nodes closed h.steps row.id h.top h.climbs passes) ∙ h.ends.there;
+        ends = h.ends.ends;
+      };
+    })
 
 root_stays : (t : Tables) (test : ℕ → Bool) (user : UserRow) → test user.root ≡ true → HasRoot t user → HasRoot (with_those t test) user
 root_stays t test user passes root =
@@ -71,6 +90,8 @@ those_sound t test sound closed roots =
         sound.few_pieces,
         sum_by-filter_both passes (λ row. not (passes row)) (λ row. refl) (λ row. length row.content) t.nodes,
       );
+      later = sound.later;
+      others = no_others (with_those t test) sound.later;
     }
 
 -- ---- the tables without the nodes under a top

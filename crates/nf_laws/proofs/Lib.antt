@@ -1,12 +1,16 @@
 pub mod Acting
 pub mod Added
+pub mod Allowing
 pub mod Blobs
 pub mod Children
 pub mod Climbs
+pub mod Contents
 pub mod Copied
 pub mod Counters
 pub mod Entries
+pub mod Following
 pub mod Gone
+pub mod Lists
 pub mod Mirrored
 pub mod Moved
 pub mod Numbers
@@ -17,6 +21,7 @@ pub mod Owning
 pub mod Paths
 pub mod Presence
 pub mod Puts
+pub mod Reaching
 pub mod Reading
 pub mod Replaced
 pub mod Rows

@@ -16,11 +16,13 @@ use Rattle.nf_laws.proofs.Added.{new_apart}
 use Rattle.nf_laws.proofs.Climbs.{climb_on, climb_same, depth_is, node_row_each, under_climb}
 use Rattle.nf_laws.proofs.Gone.{clearing_sound, climb_cleared, folder_stays, free_cleared, kept_cleared, row_cleared}
 use Rattle.nf_laws.proofs.OneRow.{IsEither, each_either, length_with, pieces_with, rising_with, row_itself, row_other, value_with, with_each}
-use Rattle.nf_laws.proofs.Paths.{climb_own, path_own}
-use Rattle.nf_laws.proofs.Rows.{IsRooted, folder_there, kept_row, node_still, none_above, parent_there, root_still}
+use Rattle.nf_laws.proofs.Paths.{path_own}
+use Rattle.nf_laws.proofs.Rows.{IsRooted, folder_there, kept_row, no_others, node_still, none_over, parent_there, root_still}
 use Rattle.nf_laws.proofs.Upwards.{climb_short, climbs_depth, climbs_is_under, deepest_among, depth_climb, never_climbs, rooted}
-use Rattle.nf_words.proofs.Known.{KnownPath, KnownTransfer, child_parent}
-use Rattle.nf_words.specs.Prelude.{AreApart, AreSound, cleared, deepest, HasRoot, IsNodeSound, IsPlaceSound, root_of_user, transferred}
+use Rattle.nf_words.proofs.Fits.{KnownPath}
+use Rattle.nf_words.proofs.Found.{child_parent}
+use Rattle.nf_words.proofs.Known.{KnownTransfer}
+use Rattle.nf_words.specs.Prelude.{AreApart, AreSound, cleared, deepest, HasRoot, IsNodeSound, IsPlaceSound, IsTop, transferred}
 use Rattle.nf_words.specs.declared.request.Transfer.{Transfer}
 
 -- ---- climbs where a node is put into a folder
@@ -57,6 +59,18 @@ climb_below j u node folder name other sound is =
     (λ j other is. parent_other u.nodes node folder name other
     (λ itself. omega (arith, depth_climb (suc j) u other node sound is, ap (depth u.nodes) itself))) j other is ∙ is
 
+-- a top to which a node climbs that doesn't climb to the moved one stays a top
+top_outside : (k : ℕ) (rows : List NodeRow) (node folder : ℕ) (name : List ℕ) (other top : ℕ)
+    → ((j : ℕ) → climb rows j other ≢ Some node) → climb rows k other ≡ Some top
+    → IsTop rows top → IsTop (relinking rows node folder name) top
+top_outside k rows node folder name other top apart is ends = record {
+  row = ends.row;
+  there =
+      row_other rows node (relinked folder name) (λ row. refl) top (ne_eqb top node (λ same. apart k (is ∙ ap Some same)))
+      ∙ ends.there;
+  ends = ends.ends;
+}
+
 -- ---- a node in another folder
 
 -- the folder isn't under the node, has its owner and no child of the name, and what is under the node won't be too deep
@@ -73,32 +87,36 @@ record Fits (u : Tables) (node folder : ℕ) (name : List ℕ) (old : NodeRow) :
 abbrev relink : Tables → ℕ → ℕ → List ℕ → Tables
 relink u node folder name = record u { nodes = relinking u.nodes node folder name }
 
--- what is under the node leads to the root over the folder, and all else as before
+-- what is under the node leads to the top over the folder, and all else as before
 rooted_moved : (u : Tables) (node folder : ℕ) (name : List ℕ) (old row : NodeRow) → AreSound u → Fits u node folder name old
-    → node_row u.nodes row.id ≡ Some row → IsRooted (relink u node folder name) row.id row
+    → node_row u.nodes row.id ≡ Some row → IsRooted (relink u node folder name) row.id
 rooted_moved u node folder name old row sound fits there =
     elim (cases_Bool (is_under u.nodes row.id node)) [
       | inl under ↦
           (let c = under_climb u.nodes row.id node under in
           let top = folder_there u.nodes folder fits.in_folder in
           let up = depth u.nodes folder in
-          let owner : old.owner ≡ row.owner =
-          sym (climb_own c.0 u old.owner row.id node row sound c.2 (record { row = old; there = fits.there; owner = refl }) there) in
+          let over = climbs_depth u folder top.0 sound top.1 in
+          let apart = never_climbs u folder node sound fits.outside in
           record {
             steps = c.0 + suc up;
             shallow = omega (arith, fits.shallow c.0 row.id row there c.2);
+            top = over.0;
             climbs =
                 climb_on c.0 (suc up) (relinking u.nodes node folder name) row.id node (climb_below c.0 u node folder name row.id sound c.2)
                 ∙ ap (option_and_then (climb (relinking u.nodes node folder name) up)) (parent_itself u.nodes node folder name old fits.there)
-                ∙ climb_outside up u.nodes node folder name folder (never_climbs u folder node sound fits.outside)
-                ∙ (climbs_depth u folder top.0 sound top.1).0 ∙ ap (λ (user : ℕ). Some (root_of_user u user)) (rw top.1 at fits.owner ∙ owner);
+                ∙ climb_outside up u.nodes node folder name folder apart ∙ over.1;
+            ends = top_outside up u.nodes node folder name folder over.0 apart over.1 over.2;
           })
       | inr outside ↦
           (let r = rooted u row.id row sound there in
+          let apart = never_climbs u row.id node sound outside in
           record {
             steps = r.steps;
             shallow = r.shallow;
-            climbs = climb_outside r.steps u.nodes node folder name row.id (never_climbs u row.id node sound outside) ∙ r.climbs;
+            top = r.top;
+            climbs = climb_outside r.steps u.nodes node folder name row.id apart ∙ r.climbs;
+            ends = top_outside r.steps u.nodes node folder name row.id r.top apart r.climbs r.ends;
           })
     ]
 
@@ -132,7 +150,7 @@ itself_moved u node folder name old row sound fits is there h =
     (rooted_moved u node folder name old row sound fits there)
 
 -- two rows are apart, where both are from the changed one
-pair_apart : (rows : List NodeRow) (node : ℕ) (change : NodeRow → NodeRow) (a b x y : NodeRow)
+pub pair_apart : (rows : List NodeRow) (node : ℕ) (change : NodeRow → NodeRow) (a b x y : NodeRow)
     → IsEither rows node change a x → IsEither rows node change b y → a.id < b.id → AreApart a b
     → ((old : NodeRow) → AreApart a (change old)) → ((old : NodeRow) → AreApart b (change old)) → AreApart x y
 pair_apart rows node change a b x y (inl e) (inl f) less apart from_a from_b =
@@ -180,7 +198,9 @@ relinked_sound u node folder name old sound fits =
           (λ moved. apart moved i d (omega arith)) (λ moved. apart moved j d few);
       roots = All-weaker (HasRoot u) (HasRoot made) (root_moved u node folder name fits.no_root) u.users sound.roots;
       few_nodes = omega (arith, counts, sound.few_nodes);
-      few_pieces = omega (arith, sound.few_pieces, pieces_with u.nodes node change 0 (λ row. omega arith));
+      few_pieces = omega (arith, sound.few_pieces, pieces_with u.nodes node change 0 (λ row is. omega arith));
+      later = sound.later;
+      others = no_others made sound.later;
     }
 
 -- ---- what is known of a move
@@ -192,8 +212,10 @@ depth_cleared t replaced node row sound clear there =
     let u : Tables = record t { nodes = cleared t.nodes replaced } in
     let up = climbs_depth u node row clear there in
     let kept = kept_cleared t.nodes replaced node row there in
-    sym (depth_is (depth u.nodes node) t.nodes node (root_of_user t row.owner) (none_above t row.owner sound) up.1
-    (sym (climb_cleared t replaced (depth u.nodes node) node sound kept.0) ∙ up.0))
+    let above = kept_cleared t.nodes replaced up.0 up.2.row up.2.there in
+    sym (depth_is (depth u.nodes node) t.nodes node up.0
+    (none_over t.nodes up.0 (record { row = up.2.row; there = above.1; ends = up.2.ends })) up.3
+    (sym (climb_cleared t replaced (depth u.nodes node) node sound kept.0) ∙ up.1))
 
 -- what is put somewhere gets its owner's folder
 pub folder_owner : (t : Tables) (who : Option ℕ) (transfer : Transfer) (name : List ℕ) → AreSound t → (known : KnownTransfer t who transfer name)

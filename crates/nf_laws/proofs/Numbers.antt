@@ -1,5 +1,5 @@
 -- A node that wasn't there has a number that wasn't given.
-use Rattle.std.proofs.Common.{ℕ, ◌+◌, ◌≡◌, ◌⊎◌, ◌≤◌, true, List, [], ◌∷◌, Option, None, Some, inl, inr, refl, ap, arith, le_refl}
+use Rattle.std.proofs.Common.{ℕ, ◌+◌, ◌≡◌, ◌⊎◌, ◌≤◌, true, List, [], ◌∷◌, Option, Some, inl, inr, refl, arith, le_refl}
 use Rattle.std.specs.Prelude.{is_some}
 use Rattle.std.specs.List.{All}
 use Rattle.std.proofs.lemmas.List.Elements.{All-append, All-push, All-weaker}
@@ -9,11 +9,12 @@ use Rattle.nf_laws.proofs.Climbs.{row_there}
 use Rattle.nf_laws.proofs.Counters.{after_up}
 use Rattle.nf_laws.proofs.Entries.{after_has}
 use Rattle.nf_laws.proofs.Gone.{all_cleared}
+use Rattle.nf_laws.proofs.Lists.{changes_have}
 use Rattle.nf_laws.proofs.OneRow.{numbers_with}
 use Rattle.nf_laws.proofs.Owned.{copies_new}
 use Rattle.nf_laws.proofs.Stays.{sound_after}
 use Rattle.nf_laws.specs.Numbers.{NumbersAreNew}
-use Rattle.nf_words.proofs.Known.{Known, KnownNew}
+use Rattle.nf_words.proofs.Known.{Known}
 use Rattle.nf_words.specs.Prelude.{after, altered, AreSound, cleared, IsLegalFrom, IsSound, replay, State}
 use Rattle.nf_words.specs.declared.answer.Allowed.{Allowed}
 use Rattle.nf_words.specs.declared.answer.Allowed.TheVariants as allowed
@@ -26,19 +27,12 @@ IsOldOrNew first node = (is_some (node_row first.nodes node) ≡ true) ⊎ (firs
 abbrev AreOldOrNew : Tables → Tables → Type 0
 AreOldOrNew first t = All (λ (row : NodeRow). IsOldOrNew first row.id) t.nodes
 
-new_number : (first t : Tables) (now : ℕ) (row : NodeRow) (blob : Option ℕ) → first.meta.next_node ≤ t.meta.next_node
-    → KnownNew t now row blob → IsOldOrNew first row.id
-new_number first t now row blob later known =
-    let id : row.id ≡ t.meta.next_node = ap (λ (r : NodeRow). r.id) known.is_new in inr (omega arith)
-
 numbers_changed : (first t : Tables) (now : ℕ) (who : Option ℕ) (act : Allowed) → AreSound t → first.meta.next_node ≤ t.meta.next_node
     → AreOldOrNew first t → Known t now who act → AreOldOrNew first (altered t now act)
-numbers_changed first t now who (allowed.StoreNew row blob) sound later all known =
-    All-push (λ (row : NodeRow). IsOldOrNew first row.id) t.nodes row all (new_number first t now row blob later known.new)
-numbers_changed first t now who (allowed.StoreOver node content blob) sound later all known =
-    numbers_with (IsOldOrNew first) t.nodes node (filled content now) (λ row. refl) all
-numbers_changed first t now who (allowed.Mkcol row) sound later all known =
-    All-push (λ (row : NodeRow). IsOldOrNew first row.id) t.nodes row all (new_number first t now row None later known.new)
+numbers_changed first t now who (allowed.Change changes blob report) sound later all known =
+    changes_have (AreOldOrNew first) t now who changes blob report sound.rising known
+    (λ u row all it. All-push (λ (row : NodeRow). IsOldOrNew first row.id) u.nodes row all (inr (omega (arith, later, it.fresh))))
+    (λ u row all it. numbers_with (IsOldOrNew first) u.nodes row.id (filled row.content row.changed) (λ r. refl) all) all
 numbers_changed first t now who (allowed.Delete node) sound later all known =
     all_cleared (λ (row : NodeRow). IsOldOrNew first row.id) t.nodes (Some node) all
 numbers_changed first t now who (allowed.Move transfer name) sound later all known =

@@ -81,14 +81,16 @@ pieces_of = sum_by-cons (λ row. length row.content)
 
 -- no more pieces than the change brings
 pub pieces_with : (rows : List NodeRow) (node : ℕ) (change : NodeRow → NodeRow) (more : ℕ)
-    → ((row : NodeRow) → length (change row).content ≤ more + length row.content)
+    → ((row : NodeRow) → node_row rows node ≡ Some row → length (change row).content ≤ more + length row.content)
     → piece_count (with_node rows node change) ≤ more + piece_count rows
 pieces_with [] node change more few = omega arith
 pieces_with (row ∷ rows) node change more few =
     cond_both (row.id == node) (change row ∷ rows) (row ∷ with_node rows node change)
     (λ made. piece_count made ≤ more + piece_count (row ∷ rows))
-    (λ e. omega (arith, few row, pieces_of (change row) rows, pieces_of row rows))
-    (λ e. omega (arith, pieces_with rows node change more few, pieces_of row (with_node rows node change), pieces_of row rows))
+    (λ e. omega (arith, few row (rw e refl), pieces_of (change row) rows, pieces_of row rows))
+    (λ e.
+    let rest = pieces_with rows node change more (λ row is. few row (rw e is)) in
+    omega (arith, rest, pieces_of row (with_node rows node change), pieces_of row rows))
 
 -- what each row has and the changed one of the node has, all have
 pub with_each : (P Q : NodeRow → Type 0) (rows : List NodeRow) (node : ℕ) (change : NodeRow → NodeRow)

@@ -2,19 +2,18 @@
 use Rattle.std.proofs.Common.{ℕ, ◌==◌, ◌≡◌, ◌⊎◌, Bool, true, false, bytes_eq, List, length, get_or, refl, sym, ap, ◌∙◌, inl, inr}
 use Rattle.std.specs.Prelude.{None, Option, Some}
 use Rattle.std.specs.Bool.{Decides}
-use Rattle.std.specs.List.{Contains}
+use Rattle.std.specs.List.{All, Contains}
 use Rattle.std.proofs.lemmas.Bool.{both_ways, eq-eqb, eqb-true}
 use Rattle.std.proofs.lemmas.List.Elements.{All-contains_itself, All-nil, All-weaker}
 use Rattle.std.proofs.lemmas.Option.{none-some, same_Some}
 use Rattle.std.proofs.lemmas.Slice.Eq.{bytes_eq-Decides}
 use Rattle.sha2.specs.Sha256.{sha256}
 use Rattle.nf_base.specs.declared.content.Piece.{Piece}
-use Rattle.nf_base.specs.declared.rows.NodeRow.{NodeRow}
 use Rattle.nf_base.specs.declared.rows.Row.{Row}
-use Rattle.nf_defs.proofs.Loads.{nodes_given}
-use Rattle.nf_defs.specs.Prelude.{blob_at, Blobs, tables_of}
+use Rattle.nf_defs.specs.Prelude.{blob_at, Blobs}
+use Rattle.nf_laws.proofs.Contents.{given_have}
 use Rattle.nf_laws.specs.Wholes.{IsGoalHeld, IsHeld, IsNamed, IsThere, IsWhole, OpensWhole}
-use Rattle.nf_words.specs.Prelude.{State}
+use Rattle.nf_words.specs.Prelude.{contents_of, row_content, State}
 use Rattle.nf_words.specs.declared.answer.Goal.{Goal}
 use Rattle.nf_words.specs.declared.answer.Goal.TheVariants.{Serve, Store}
 use Rattle.nf_words.specs.declared.history.Ticket.{Ticket}
@@ -61,17 +60,22 @@ goal_now rows start blobs (Store by key length) held = tt
 
 pub whole_now : (rows : List Row) (start : Blobs) (s : State) (blobs : Blobs) → IsWhole rows start s blobs → IsWhole rows blobs s blobs
 whole_now rows start s blobs whole = record {
-  nodes = λ k d within i e inside.
-      held_now rows start blobs (get_or (get_or s.tables.nodes k d).content i e) (whole.nodes k d within i e inside);
+  rows = λ k d within i e inside.
+      held_now rows start blobs (get_or (get_or (contents_of s.tables) k d) i e) (whole.rows k d within i e inside);
   tickets = λ k d within. goal_now rows start blobs (get_or s.tickets k d).goal (whole.tickets k d within);
 }
 
+-- so all that they name is
+rows_held : (rows : List Row) (blobs : Blobs) (row : Row) → Contains rows row → All (IsHeld rows blobs blobs) (row_content row)
+rows_held rows blobs row among =
+    All-weaker (Contains (row_content row)) (IsHeld rows blobs blobs)
+    (λ piece named. named_held rows blobs piece (record { row = row; among = among; named = named }))
+    (row_content row) (All-contains_itself (row_content row))
+
 pub opens_whole : OpensWhole
 opens_whole rows blobs = record {
-  nodes = λ k d within.
-      let row : NodeRow = get_or (tables_of rows).nodes k d in
-      All-weaker (Contains row.content) (IsHeld rows blobs blobs)
-      (λ piece named. named_held rows blobs piece (record { row = row; among = nodes_given rows k d within; named = named }))
-      row.content (All-contains_itself row.content);
+  rows = given_have (All (IsHeld rows blobs blobs)) rows
+      (All-weaker (Contains rows) (λ (row : Row). All (IsHeld rows blobs blobs) (row_content row)) (rows_held rows blobs) rows
+      (All-contains_itself rows));
   tickets = All-nil (λ (ticket : Ticket). IsGoalHeld rows blobs blobs ticket.goal);
 }

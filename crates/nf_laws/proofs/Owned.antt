@@ -1,17 +1,20 @@
 -- Who owns a node that is there owned it before.
-use Rattle.std.proofs.Common.{inl, inr, zero, suc, ◌≢◌, ℕ, ◌==◌, ◌≡◌, ◌<◌, ◌≤◌, List, [], ◌∷◌, Option, None, Some, refl, sym, ap, subst, ◌∙◌, arith}
+use Rattle.std.proofs.Common.{inl, inr, ◌≢◌, ℕ, ◌==◌, ◌≡◌, ◌<◌, ◌≤◌, List, [], ◌∷◌, Option, Some, refl, sym, ap, subst, ◌∙◌, arith}
 use Rattle.std.specs.List.{All}
 use Rattle.std.proofs.lemmas.Bool.{cases_Bool, eqb-true}
+use Rattle.std.proofs.lemmas.List.Elements.{All-cons, All-nil}
 use Rattle.nf_base.specs.declared.rows.NodeRow.{NodeRow}
 use Rattle.nf_defs.specs.Prelude.{filled, node_row, relinked, Tables, with_node}
 use Rattle.nf_laws.proofs.Climbs.{map_some}
 use Rattle.nf_laws.proofs.Copied.{copies_numbered, old_joined}
 use Rattle.nf_laws.proofs.Gone.{kept_cleared}
+use Rattle.nf_laws.proofs.Lists.{changes_have, with_born, with_filled}
 use Rattle.nf_laws.proofs.Mirrored.{mirrored}
 use Rattle.nf_laws.proofs.OneRow.{KeepsId, row_itself, row_other}
 use Rattle.nf_laws.proofs.Rows.{row_joined, stamped_has}
-use Rattle.nf_words.proofs.Known.{Known, KnownCopies, KnownNew}
-use Rattle.nf_words.specs.Prelude.{altered, AreSound, changed, cleared, created, joined, replaced, told, transferred}
+use Rattle.nf_words.proofs.Fits.{KnownBorn}
+use Rattle.nf_words.proofs.Known.{Known, KnownCopies}
+use Rattle.nf_words.specs.Prelude.{altered, AreSound, changed, cleared, joined, told, transferred}
 use Rattle.nf_words.specs.declared.answer.Allowed.{Allowed}
 use Rattle.nf_words.specs.declared.answer.Allowed.TheVariants as allowed
 
@@ -23,18 +26,17 @@ WasOf rows node row = (old : NodeRow) × (node_row rows node ≡ Some old) × (r
 abbrev pub KeepsOwners : Tables → Tables → Type 0
 KeepsOwners t made = (node : ℕ) (row : NodeRow) → node < t.meta.next_node → node_row made.nodes node ≡ Some row → WasOf t.nodes node row
 
-new_owners : (t : Tables) (now : ℕ) (new : NodeRow) (blob : Option ℕ) → KnownNew t now new blob → KeepsOwners t (created t new blob)
-new_owners t now new blob known node row given there =
-    let id : new.id ≡ t.meta.next_node = ap (λ (r : NodeRow). r.id) known.is_new in
-    (row, sym (row_joined t.nodes (new ∷ []) node (λ k d within. others id k d within)) ∙ there, refl)
-  where
-    others : new.id ≡ t.meta.next_node → All (λ (row : NodeRow). row.id ≢ node) (new ∷ [])
-    others id zero d within same = omega (arith, id, given)
-    others id (suc k) d within same = absurd (omega arith)
+-- a node with a number that wasn't given before is none of these
+pub new_owners : (t u : Tables) (who blob : Option ℕ) (row : NodeRow) → KeepsOwners t u → KnownBorn t who blob u row → KeepsOwners t (with_born u row)
+new_owners t u who blob new keeps it node row given there =
+    keeps node row given
+    (sym (row_joined u.nodes (new ∷ []) node
+    (All-cons (λ (row : NodeRow). row.id ≢ node) new [] (λ same. absurd (omega (arith, it.fresh, given))) (All-nil (λ (row : NodeRow). row.id ≢ node))))
+    ∙ there)
 
 with_owners : (t made : Tables) (node : ℕ) (change : NodeRow → NodeRow) → KeepsId change → ((row : NodeRow) → (change row).owner ≡ row.owner)
-    → made.nodes ≡ with_node t.nodes node change → KeepsOwners t made
-with_owners t made node change keeps owner nodes other row given there =
+    → made.nodes ≡ with_node t.nodes node change → (other : ℕ) (row : NodeRow) → node_row made.nodes other ≡ Some row → WasOf t.nodes other row
+with_owners t made node change keeps owner nodes other row there =
     let found = subst (λ (rows : List NodeRow). node_row rows other ≡ Some row) nodes there in
     elim (cases_Bool (other == node)) [
       | inl e ↦
@@ -43,6 +45,18 @@ with_owners t made node change keeps owner nodes other row given there =
           (old.0, old.1, ap (λ (r : NodeRow). r.owner) (sym old.2) ∙ owner old.0))
       | inr e ↦ (row, sym (row_other t.nodes node change keeps other e) ∙ found, refl)
     ]
+
+-- what tables keep, further tables keep that keep it of them
+also_owners : (t u made : Tables) → KeepsOwners t u → ((node : ℕ) (row : NodeRow) → node_row made.nodes node ≡ Some row → WasOf u.nodes node row)
+    → KeepsOwners t made
+also_owners t u made keeps then node row given there =
+    let h = then node row there in let old = keeps node h.0 given h.1 in (old.0, old.1, h.2 ∙ old.2)
+
+-- another content has no other owner
+pub filled_owners : (t u : Tables) (row : NodeRow) → KeepsOwners t u → KeepsOwners t (with_filled u row)
+filled_owners t u row keeps =
+    also_owners t u (with_filled u row) keeps
+    (with_owners u (with_filled u row) row.id (filled row.content row.changed) (λ r. refl) (λ r. refl) refl)
 
 abbrev clearing : Tables → Option ℕ → Tables
 clearing t replaced = record t { nodes = cleared t.nodes replaced }
@@ -73,21 +87,22 @@ copied_owners t now who rows replaced sound known node row given there =
 
 -- ---- every act
 
-all_owners : (t : Tables) → KeepsOwners t t
+pub all_owners : (t : Tables) → KeepsOwners t t
 all_owners t node row given there = (row, there, refl)
 
 altered_owners : (t : Tables) (now : ℕ) (who : Option ℕ) (act : Allowed) → AreSound t → Known t now who act → KeepsOwners t (altered t now act)
-altered_owners t now who (allowed.StoreNew row blob) sound known = new_owners t now row blob known.new
-altered_owners t now who (allowed.StoreOver node content blob) sound known =
-    with_owners t (replaced t now node content blob) node (filled content now) (λ row. refl) (λ row. refl) refl
-altered_owners t now who (allowed.Mkcol row) sound known = new_owners t now row None known.new
+altered_owners t now who (allowed.Change changes blob report) sound known =
+    changes_have (KeepsOwners t) t now who changes blob report sound.rising known (λ u row. new_owners t u who blob row)
+    (λ u row keeps it. filled_owners t u row keeps) (all_owners t)
 altered_owners t now who (allowed.Delete node) sound known = cleared_owners t (Some node)
 altered_owners t now who (allowed.Move transfer name) sound known =
     then_owners t (transferred t transfer name) transfer.replaced
-    (with_owners (clearing t transfer.replaced) (transferred t transfer name) transfer.node (relinked transfer.folder name) (λ row. refl) (λ row. refl) refl)
+    (λ node row given.
+    with_owners (clearing t transfer.replaced) (transferred t transfer name) transfer.node (relinked transfer.folder name) (λ row. refl) (λ row. refl) refl
+    node row)
 altered_owners t now who (allowed.Copy rows replaced) sound known = copied_owners t now who rows replaced sound known
 altered_owners t now who act sound known = all_owners t
 
 pub owners_kept : (t : Tables) (now : ℕ) (who : Option ℕ) (act : Allowed) → AreSound t → Known t now who act → KeepsOwners t (changed t now act)
 owners_kept t now who act sound known =
-    stamped_has (KeepsOwners t) t (altered t now act) now (told t now act) (all_owners t) (altered_owners t now who act sound known)
+    stamped_has (KeepsOwners t) t (altered t now act) now (told t act) (all_owners t) (altered_owners t now who act sound known)

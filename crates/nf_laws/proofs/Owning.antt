@@ -7,39 +7,46 @@ use Rattle.std.proofs.lemmas.Bool.{cond_both, eq-eqb, not-false}
 use Rattle.std.proofs.lemmas.List.{append-nil}
 use Rattle.std.proofs.lemmas.List.Elements.{All-filter, All-head, All-map, All-tail, filter-append}
 use Rattle.std.proofs.lemmas.Option.{same_Some}
+use Rattle.nf_base.specs.declared.changes.Change.{Change}
 use Rattle.nf_base.specs.declared.content.Piece.{Piece}
 use Rattle.nf_base.specs.declared.rows.NodeRow.{NodeRow}
 use Rattle.nf_defs.proofs.ByName.{All-by_name}
-use Rattle.nf_defs.specs.Prelude.{by_name, children_of, content_of, filled, is_folder, is_in, is_under, Leads, node_row, owner_of, relinked, Tables, unshared, user_row}
+use Rattle.nf_defs.specs.Prelude.{by_name, children_of, content_of, filled, is_folder, is_in, is_under, Leads, node_row, relinked, Tables, user_row}
 use Rattle.nf_defs.specs.declared.Found.{Found}
 use Rattle.nf_defs.specs.declared.Found.TheVariants.{At, Free, Missing}
 use Rattle.nf_laws.proofs.Blobs.{Alters, given_alters}
 use Rattle.nf_laws.proofs.Climbs.{node_row_each, row_there, some_there, under_climb}
 use Rattle.nf_laws.proofs.Copied.{copies_owned}
-use Rattle.nf_laws.proofs.Entries.{after_has}
+use Rattle.nf_laws.proofs.Entries.{after_has, rest_kept}
 use Rattle.nf_laws.proofs.Gone.{row_cleared}
+use Rattle.nf_laws.proofs.Lists.{changes_have, with_filled}
 use Rattle.nf_laws.proofs.Mirrored.{mirrored}
 use Rattle.nf_laws.proofs.Moved.{folder_owner}
 use Rattle.nf_laws.proofs.OneRow.{filter_with}
-use Rattle.nf_laws.proofs.Paths.{climb_own, found_leads, leads_found, leads_own, path_own, root_own}
+use Rattle.nf_laws.proofs.Owned.{KeepsOwners, all_owners, filled_owners, new_owners}
+use Rattle.nf_laws.proofs.Paths.{at_own, climb_own, found_leads, leads_found, leads_own, path_own, root_own}
 use Rattle.nf_laws.proofs.Reading.{granted, shows}
 use Rattle.nf_laws.proofs.Rows.{folder_there, found_is, row_id, stamp}
 use Rattle.nf_laws.proofs.Upwards.{owners_there}
 use Rattle.nf_laws.specs.Owners.{ChangesOnlyOwn, ChangesOwn, IsFound, ListsAll, ListsOwn, OwnIsListed, OwnIsServed, ServesOwn, nodes_of_others}
 use Rattle.nf_laws.specs.Reads.{IsWellAsked}
-use Rattle.nf_words.proofs.Known.{Known, KnownCopies, KnownNew, KnownPath, call_known, call_passes}
-use Rattle.nf_words.specs.Prelude.{actor_of, altered, answered_by, AreSound, asker_of, Call, call_decision, call_of, cleared, found, given, line_of, listing_of, node_found, Pass, reply_by, root_of, rules, served, source_of, target_of, user_of}
+use Rattle.nf_words.proofs.Begins.{call_known, places_at}
+use Rattle.nf_words.proofs.Fits.{KnownBorn, KnownChange, KnownFilled, KnownPath}
+use Rattle.nf_words.proofs.Known.{Known, KnownCopies}
+use Rattle.nf_words.proofs.Passing.{Passes, call_passes}
+use Rattle.nf_words.specs.Prelude.{access_of, actor_of, allowed_of, altered, answered_by, AreSound, Call, call_decision, call_of, cleared, found, given, IsOwn, line_of, listing_of, node_found, reply_by, reported, root_of, served, user_of}
 use Rattle.nf_words.specs.declared.answer.Allowed.{Allowed}
 use Rattle.nf_words.specs.declared.answer.Allowed.TheVariants as allowed
 use Rattle.nf_words.specs.declared.answer.Denial.{Denial}
 use Rattle.nf_words.specs.declared.answer.Goal.TheVariants.{Serve}
 use Rattle.nf_words.specs.declared.answer.Reply.TheVariants.{Granted, Listing}
+use Rattle.nf_words.specs.declared.answer.Report.{Report}
+use Rattle.nf_words.specs.declared.answer.Report.TheVariants as report
 use Rattle.nf_words.specs.declared.listing.ListingLine.{ListingLine}
-use Rattle.nf_words.specs.declared.request.Places.{Places}
 use Rattle.nf_words.specs.declared.request.Spot.{Spot}
 use Rattle.nf_words.specs.declared.request.Wanted.{Wanted}
 use Rattle.nf_words.specs.declared.request.Wanted.TheVariants.{Get}
-use Rattle.nf_words.proofs.Steps.{ok_reply, put_grants_nothing}
+use Rattle.nf_words.proofs.Steps.{ok_reply, put_grants_nothing, reports_nothing}
 
 -- ---- what is served
 
@@ -48,10 +55,15 @@ lists_none : (replaced : Option ℕ) (listing : List ListingLine) → reply_by r
 lists_none None listing = λ is. cc
 lists_none (Some node) listing = λ is. cc
 
+report_lists_none : (report : Report) (listing : List ListingLine) → reported report ≢ Listing listing
+report_lists_none report.Made listing = λ is. cc
+report_lists_none report.Done listing = λ is. cc
+
 -- only a GET is granted a content to send
 got : (decision : Result Allowed Denial) (content : List Piece) → answered_by decision ≡ Ok (Granted (Serve content))
     → (node : ℕ) × (decision ≡ Ok (allowed.Get node content))
 got (Ok (allowed.Get node other)) content is = (node, cc)
+got (Ok (allowed.Change changes blob report)) content is = absurd (reports_nothing report (Serve content) (ok_reply _ _ is))
 got (Ok (allowed.Move transfer name)) content is = absurd (put_grants_nothing transfer.replaced (Serve content) (ok_reply _ _ is))
 got (Ok (allowed.Copy rows replaced)) content is = absurd (put_grants_nothing replaced (Serve content) (ok_reply _ _ is))
 got decision content is = absurd (cc)
@@ -60,6 +72,7 @@ got decision content is = absurd (cc)
 got_listing : (decision : Result Allowed Denial) (listing : List ListingLine) → answered_by decision ≡ Ok (Listing listing)
     → decision ≡ Ok (allowed.List listing)
 got_listing (Ok (allowed.List other)) listing is = cc
+got_listing (Ok (allowed.Change changes blob report)) listing is = absurd (report_lists_none report listing (ok_reply _ _ is))
 got_listing (Ok (allowed.Move transfer name)) listing is = absurd (lists_none transfer.replaced listing (ok_reply _ _ is))
 got_listing (Ok (allowed.Copy rows replaced)) listing is = absurd (lists_none replaced listing (ok_reply _ _ is))
 got_listing decision listing is = absurd (cc)
@@ -87,18 +100,19 @@ list_at t (At other) listing is =
 list_at t (Free folder) listing is = absurd (cc)
 list_at t (Missing depth) listing is = absurd (cc)
 
-abbrev places_for : Wanted → (Spot → Found) → Places
-places_for wanted leads = record { source = option_map leads (source_of wanted); target = option_map leads (target_of wanted) }
-
 -- what is shown is asked for by a GET, whose place leads there
-asked : (t : Tables) (now user : ℕ) (wanted : Wanted) (leads : Spot → Found) (act : Allowed)
-    → given t now user wanted (places_for wanted leads) ≡ act → (Alters act → ⊥)
-    → (spot : Spot) × (wanted ≡ Get spot) × (served t (node_found (leads spot)) ≡ act)
-asked t now user wanted leads act is shown =
-    elim (given_alters t now user wanted (places_for wanted leads)) [
-      | inl get ↦ (get.0, get.1, subst (λ (w : Wanted). given t now user w (places_for w leads) ≡ act) get.1 is)
-      | inr alters ↦ absurd (shown (subst Alters is alters))
-    ]
+asked : (call : Call) (act : Allowed) → allowed_of (access_of call.state) call ≡ act → (Alters call.state.tables act → ⊥)
+    → (spot : Spot) × (call.request.wanted ≡ Get spot) × (served call.state.tables (node_found (found call spot)) ≡ act)
+asked call act is shown = here call.request.wanted refl is
+  where
+    here : (wanted : Wanted) → call.request.wanted ≡ wanted → given (access_of call.state) call (places_at call wanted) wanted ≡ act
+        → (spot : Spot) × (call.request.wanted ≡ Get spot) × (served call.state.tables (node_found (found call spot)) ≡ act)
+    here wanted e is =
+        elim (given_alters call (places_at call wanted) wanted) [
+          | inl get ↦
+              (get.0, e ∙ get.1, subst (λ (w : Wanted). given (access_of call.state) call (places_at call w) w ≡ act) get.1 is)
+          | inr alters ↦ absurd (shown (subst (Alters call.state.tables) is alters))
+        ]
 
 -- a node to which the path of a GET leads from the caller's root is the caller's
 of_caller : (call : Call) (spot : Spot) (node : ℕ) (place : Found) → AreSound call.state.tables → KnownPath call.state.tables (user_of call) place
@@ -125,8 +139,8 @@ of_caller call spot node place sound path well wanted leads =
     )
 
 -- the rules of who asks and of names pass what all rules pass
-well_asked : (call : Call) → Pass rules unshared call → IsWellAsked call
-well_asked call pass = (pass.0, (pass.1.0, (pass.1.1.0, tt)))
+well_asked : (call : Call) → Passes (access_of call.state) call → IsWellAsked call
+well_asked call passes = record { token = passes.token; not_you = passes.not_you; forbidden = passes.forbidden }
 
 pub serves_own : ServesOwn
 serves_own s seat now words request content sound may is =
@@ -135,7 +149,7 @@ serves_own s seat now words request content sound may is =
     let act = allowed.Get get.0 content in
     let known = call_known call act sound may get.1 in
     let passes = call_passes call act get.1 in
-    let spot = asked s.tables now (asker_of call) request.wanted (found call) act passes.1 (λ alters. alters) in
+    let spot = asked call act passes.1 (λ alters. alters) in
     let at = get_at s.tables (found call spot.0) get.0 content spot.2 in
     let of = of_caller call spot.0 get.0 (At get.0) sound.rows known.path (well_asked call passes.0) spot.1 at.0 in
     let there : node_row s.tables.nodes get.0 ≡ Some of.0 = ap (node_row s.tables.nodes) (sym of.2) ∙ of.1.there in
@@ -148,7 +162,7 @@ lists_own s seat now words request listing sound may is =
     let decides = got_listing (call_decision call) listing is in
     let known = call_known call act sound may decides in
     let passes = call_passes call act decides in
-    let spot = asked s.tables now (asker_of call) request.wanted (found call) act passes.1 (λ alters. alters) in
+    let spot = asked call act passes.1 (λ alters. alters) in
     let at = list_at s.tables (found call spot.0) listing spot.2 in
     let of = of_caller call spot.0 at.0 (At known.folder) sound.rows known.path (well_asked call passes.0) spot.1 at.1 in
     record {
@@ -213,10 +227,10 @@ is_of_other who row = not (option_map_or (λ user. row.owner == user) who false)
 own_row : (who : Option ℕ) (user : ℕ) (row : NodeRow) → who ≡ Some user → row.owner ≡ user → is_of_other who row ≡ false
 own_row who user row is owner = rw is (ap not (eq-eqb row.owner user owner))
 
-new_own : (t : Tables) (now : ℕ) (who : Option ℕ) (user : ℕ) (row : NodeRow) (blob : Option ℕ) → KnownNew t now row blob
-    → who ≡ Some user → row.owner ≡ user → nodes_of_others who (t.nodes ++ row ∷ []) ≡ nodes_of_others who t.nodes
-new_own t now who user row blob known is owner =
-    filter-append (is_of_other who) t.nodes (row ∷ []) ∙ simp (own_row who user row is owner, append-nil)
+new_own : (who : Option ℕ) (user : ℕ) (old : List NodeRow) (row : NodeRow) → who ≡ Some user → row.owner ≡ user
+    → nodes_of_others who (old ++ row ∷ []) ≡ nodes_of_others who old
+new_own who user old row is owner =
+    filter-append (is_of_other who) old (row ∷ []) ∙ simp (own_row who user row is owner, append-nil)
 
 pub others_left : (p q : NodeRow → Bool) (rows : List NodeRow) → All (λ (row : NodeRow). q row ≡ false → p row ≡ false) rows
     → filter p (filter q rows) ≡ filter p rows
@@ -268,23 +282,41 @@ copied_others t now who rows replaced sound known =
     ∙ append-nil _
     ∙ ap (λ (replaced : Option ℕ). nodes_of_others who (cleared t.nodes replaced)) known.replaced_is ∙ rest
 
--- the nodes of others after an act
+-- the nodes of others after some changes
+changes_others : (t : Tables) (now : ℕ) (who : Option ℕ) (changes : List Change) (blob : Option ℕ) (report : Report) → AreSound t
+    → KnownChange t now who changes blob
+    → nodes_of_others who (altered t now (allowed.Change changes blob report)).nodes ≡ nodes_of_others who t.nodes
+changes_others t now who changes blob report sound known =
+    (changes_have (λ (u : Tables). KeepsOwners t u × (nodes_of_others who u.nodes ≡ nodes_of_others who t.nodes)) t now who changes blob report
+    sound.rising known
+    (λ u row same it. (new_owners t u who blob row same.0 it, born u row same.0 it ∙ same.1))
+    (λ u row same it. (filled_owners t u row same.0, refilled u row same.0 it ∙ same.1))
+    (all_owners t, refl)).1
+  where
+    -- a node whose number was given has the owner that it had
+    still : (u : Tables) (node user : ℕ) (row : NodeRow) → KeepsOwners t u → IsOwn t user node → node_row u.nodes node ≡ Some row → row.owner ≡ user
+    still u node user row keeps own there =
+        let old = keeps node row own.given there in old.2 ∙ own.owner old.0 old.1
+
+    born : (u : Tables) (row : NodeRow) → KeepsOwners t u → KnownBorn t who blob u row
+        → nodes_of_others who (u.nodes ++ row ∷ []) ≡ nodes_of_others who u.nodes
+    born u row keeps it =
+        let folder = folder_there u.nodes it.born.folder it.born.in_folder in
+        let own = at_own t who it.born.folder (Free it.born.folder) sound it.at refl in
+        new_own who own.user u.nodes row own.holder
+        (it.born.owner ∙ rw folder.1 (still u it.born.folder own.user folder.0 keeps own.own folder.1))
+
+    refilled : (u : Tables) (row : NodeRow) → KeepsOwners t u → KnownFilled t who blob u row
+        → nodes_of_others who (with_filled u row).nodes ≡ nodes_of_others who u.nodes
+    refilled u row keeps it =
+        let own = at_own t who row.id (At row.id) sound it.at refl in
+        filter_with (is_of_other who) u.nodes row.id (filled row.content row.changed)
+        (λ old there. let mine = own_row who own.user old own.holder (still u row.id own.user old keeps own.own there) in (mine, mine))
+
+-- and after an act
 others_kept : (t : Tables) (now : ℕ) (who : Option ℕ) (act : Allowed) → AreSound t → Known t now who act
     → nodes_of_others who (altered t now act).nodes ≡ nodes_of_others who t.nodes
-others_kept t now who (allowed.StoreNew row blob) sound known =
-    let new = known.new in
-    let folder = folder_there t.nodes new.folder new.in_folder in
-    let owner : row.owner ≡ owner_of t.nodes new.folder = ap (λ (r : NodeRow). r.owner) new.is_new in
-    new_own t now who known.own.user row blob new known.own.holder
-    (owner ∙ rw folder.1 (known.own.own.owner folder.0 folder.1))
-others_kept t now who (allowed.StoreOver node content blob) sound known =
-    filter_with (is_of_other who) t.nodes node (filled content now)
-    (λ row there. let own = own_row who known.own.user row known.own.holder (known.own.own.owner row there) in (own, own))
-others_kept t now who (allowed.Mkcol row) sound known =
-    let new = known.new in
-    let own = path_own t who (Free new.folder) new.folder sound known.path refl in
-    let owner : row.owner ≡ owner_of t.nodes new.folder = ap (λ (r : NodeRow). r.owner) new.is_new in
-    new_own t now who known.path.row.id row None new known.path.caller (owner ∙ rw own.there own.owner)
+others_kept t now who (allowed.Change changes blob report) sound known = changes_others t now who changes blob report sound known
 others_kept t now who (allowed.Delete node) sound known =
     others_left (is_of_other who) (λ row. not (is_under t.nodes row.id node)) t.nodes (under_own t who node sound known.path)
 others_kept t now who (allowed.Move transfer name) sound known =
@@ -297,17 +329,11 @@ others_kept t now who (allowed.Move transfer name) sound known =
 others_kept t now who (allowed.Copy rows replaced) sound known = copied_others t now who rows replaced sound known
 others_kept t now who act sound known = refl
 
--- no other row
-rest_kept : (t : Tables) (now : ℕ) (act : Allowed)
-    → altered t now act ≡ record t { meta = (altered t now act).meta; nodes = (altered t now act).nodes }
-rest_kept t now allowed.Close = refl
-rest_kept t now act = refl
-
 pub changes_own : ChangesOnlyOwn
 changes_own n s e sound may =
     let who = actor_of s e.seat e.event in
     after_has (λ (made : Tables). ChangesOwn s.tables made who) n s e sound may (record { others = refl; rest = refl })
     (λ act known. record {
       others = others_kept s.tables e.moment who act sound.rows known;
-      rest = ap (λ (t : Tables). stamp t e.moment) (rest_kept s.tables e.moment act);
+      rest = ap (λ (t : Tables). stamp t e.moment) (rest_kept s.tables e.moment who act sound.rows known);
     })

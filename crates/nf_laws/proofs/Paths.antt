@@ -16,7 +16,7 @@ use Rattle.nf_defs.specs.declared.Found.TheVariants.{At, Free, Missing}
 use Rattle.nf_laws.proofs.Climbs.{map_some, node_row_each}
 use Rattle.nf_laws.proofs.Rows.{child_owner, found_is, parent_there, row_is}
 use Rattle.nf_laws.specs.Walks.{LeadsNoFurther, LeadsToFree, WalkFollows}
-use Rattle.nf_words.proofs.Known.{KnownPath}
+use Rattle.nf_words.proofs.Fits.{KnownAt, KnownOwn, KnownPath}
 use Rattle.nf_words.specs.Sound.{AreApart, AreSound, HasRoot, IsOwn}
 
 -- ---- a folder's child of a name
@@ -255,3 +255,10 @@ is_own t user node sound of =
       given = omega (arith, h.0, h.1.given);
       owner = λ row there. ap (λ (r : NodeRow). r.owner) (same_Some row of.row (sym there ∙ of.there)) ∙ of.owner;
     }
+
+-- so is what is known to be the own of who acts
+pub at_own : (t : Tables) (who : Option ℕ) (node : ℕ) (place : Found) → AreSound t → KnownAt t who node place → IsFor place node
+    → KnownOwn t who node
+at_own t who node place sound (inl own) is = own
+at_own t who node place sound (inr path) is =
+    record { user = path.row.id; holder = path.caller; own = is_own t path.row.id node sound (path_own t who place node sound path is) }

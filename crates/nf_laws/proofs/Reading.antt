@@ -12,20 +12,23 @@ use Rattle.nf_base.specs.declared.rows.NodeKind.TheVariants.{File}
 use Rattle.nf_base.specs.declared.rows.NodeRow.{NodeRow}
 use Rattle.nf_base.specs.declared.rows.Place.TheVariants.{Inside}
 use Rattle.nf_base.specs.declared.rows.Row.TheVariants as rows
-use Rattle.nf_defs.specs.Prelude.{filled, found_from, is_folder, is_folder_kind, Leads, leads_on, node_row, stays, Tables, unshared}
+use Rattle.nf_defs.specs.Prelude.{filled, found_from, is_folder, is_folder_kind, Leads, leads_on, node_key, node_row, put, stays, Tables, with_node}
 use Rattle.nf_defs.specs.declared.Found.TheVariants.{At}
-use Rattle.nf_laws.proofs.Added.{less_than_new, new_there}
+use Rattle.nf_laws.proofs.Added.{new_there}
 use Rattle.nf_laws.proofs.Climbs.{holds_some}
 use Rattle.nf_laws.proofs.Entries.{step_changed}
 use Rattle.nf_laws.proofs.OneRow.{row_itself}
 use Rattle.nf_laws.proofs.Paths.{leads_found}
-use Rattle.nf_laws.proofs.Replaced.{content_decides, kept_replaced}
+use Rattle.nf_laws.proofs.Puts.{put_changed, put_new}
+use Rattle.nf_laws.proofs.Replaced.{kept_replaced}
 use Rattle.nf_laws.proofs.Rows.{AreKept, folder_kept, kept_joined, row_id}
 use Rattle.nf_laws.proofs.Stays as states
 use Rattle.nf_laws.specs.Reads.{IsStored, IsWellAsked, LeadsToKey, PathStays, StoredIsRead}
-use Rattle.nf_words.proofs.Known.{Known, KnownNew, known_change}
+use Rattle.nf_words.proofs.Bodies.{content_decides}
+use Rattle.nf_words.proofs.Fits.{newest}
 use Rattle.nf_words.proofs.Orders.{none_of}
-use Rattle.nf_words.specs.Prelude.{actor_of, after, after_mark, allowed_of, answered_by, AreSound, blob_for, Call, call_decision, call_of, changed, content_in, decision_of, end_refusal, ends_ticket, exists_rule, found, IsSound, limit_rule, new_node, overwrite_rule, Pass, place_rule, refilled, replaced, replay, rules, shown, stamped, State, stored_at, stores, target_rule, unless_refused}
+use Rattle.nf_words.proofs.Passing.{Passes, both_none, if_none, in_order, not_refused}
+use Rattle.nf_words.specs.Prelude.{access_of, actor_of, after, after_mark, allowed_of, answered_by, AreSound, blob_for, Call, call_decision, call_of, changed, content_in, decision_of, end_refusal, ends_at, exists_rule, found, IsSound, key_lost, limit_rule, makes, new_node, overwrite_rule, place_rule, refilled, replay, rules, shown, State, stored_at, stores, target_rule, unless_refused}
 use Rattle.nf_words.specs.declared.answer.Allowed.{Allowed}
 use Rattle.nf_words.specs.declared.answer.Allowed.TheVariants as allowed
 use Rattle.nf_words.specs.declared.answer.Denial.{Denial}
@@ -33,6 +36,7 @@ use Rattle.nf_words.specs.declared.answer.Goal.TheVariants.{Serve}
 use Rattle.nf_words.specs.declared.answer.LockKey.{LockKey}
 use Rattle.nf_words.specs.declared.answer.LockKey.TheVariants.{Node, Slot}
 use Rattle.nf_words.specs.declared.answer.Reply.TheVariants.{Granted}
+use Rattle.nf_words.specs.declared.answer.Report.TheVariants.{Done}
 use Rattle.nf_words.specs.declared.history.Entry.{Entry}
 use Rattle.nf_words.specs.declared.history.Mark.{Mark}
 use Rattle.nf_words.specs.declared.history.Outcome.TheVariants.{Body}
@@ -83,14 +87,15 @@ record HasFile (rows : List NodeRow) (root : ℕ) (path : List (List ℕ)) (cont
   file : is_folder_kind row.kind ≡ false
   filled : row.content ≡ content
 
-over_file : (t : Tables) (now node root : ℕ) (path : List (List ℕ)) (content : List Piece) (blob : Option ℕ) (old : NodeRow)
-    → node_row t.nodes node ≡ Some old → is_folder_kind old.kind ≡ false → Leads t.nodes root path node
-    → HasFile (changed t now (allowed.StoreOver node content blob)).nodes root path content
-over_file t now node root path content blob old there file led =
-    let after : Tables = replaced t now node content blob in
-    let HasIt : List Change → Type 0 = λ changes. HasFile (stamped t after now changes).nodes root path content in
-    subst (λ (o : Option NodeRow). HasIt (refilled o now content)) (sym there)
-    (cond_both (content_eq old.content content && old.changed == now) [] (Put (rows.Node (filled content now old)) ∷ []) HasIt
+over_file : (t : Tables) (now node root : ℕ) (path : List (List ℕ)) (content : List Piece) (blob : Option ℕ) (who : Option ℕ) (old : NodeRow)
+    → AreSound t → node_row t.nodes node ≡ Some old → is_folder_kind old.kind ≡ false → Leads t.nodes root path node
+    → HasFile (changed t now (allowed.Change (refilled (Some old) now content) blob Done)).nodes root path content
+over_file t now node root path content blob who old sound there file led =
+    let HasIt : List Change → Type 0 = λ changes. HasFile (changed t now (allowed.Change changes blob Done)).nodes root path content in
+    let change = filled content now in
+    let after : List NodeRow = with_node t.nodes node change in
+    let put : put node_key (change old) t.nodes ≡ after = put_changed t.nodes node change old refl sound.rising there in
+    cond_both (content_eq old.content content && old.changed == now) [] (Put (rows.Node (change old)) ∷ []) HasIt
     (λ same. record {
       node = node;
       led = led;
@@ -99,48 +104,49 @@ over_file t now node root path content blob old there file led =
       file = file;
       filled = (content_decides old.content content).0 (and_parts (content_eq old.content content) (old.changed == now) same).0;
     })
-    (λ other. record {
+    (λ other.
+    subst (λ (nodes : List NodeRow). HasFile nodes root path content) (sym put)
+    (record {
       node = node;
-      led = leads_kept t.nodes after.nodes root path node (kept_replaced t.nodes now node content) led;
-      row = filled content now old;
-      there = row_itself t.nodes node (filled content now) (λ row. refl) ∙ ap (option_map (filled content now)) there;
+      led = leads_kept t.nodes after root path node (kept_replaced t.nodes now node content) led;
+      row = change old;
+      there = row_itself t.nodes node change (λ row. refl) ∙ ap (option_map change) there;
       file = file;
       filled = refl;
     }))
 
 new_file : (t : Tables) (now folder root : ℕ) (name : List ℕ) (front : List (List ℕ)) (content : List Piece) (blob : Option ℕ) → AreSound t
-    → KnownNew t now (new_node t now folder name File content) blob → Leads t.nodes root front folder
-    → HasFile (t.nodes ++ new_node t now folder name File content ∷ []) root (front ++ name ∷ []) content
-new_file t now folder root name front content blob sound known led =
+    → is_folder t.nodes folder ≡ true → Leads t.nodes root front folder
+    → HasFile (changed t now (makes (new_node t now folder name File content) blob)).nodes root (front ++ name ∷ []) content
+new_file t now folder root name front content blob sound folds led =
     let row = new_node t now folder name File content in
     let behind : List NodeRow = t.nodes ++ row ∷ [] in
     let kept = kept_joined t.nodes (row ∷ []) in
-    let there = new_there t.nodes row (less_than_new t now row blob sound known) in
-    let place : Inside folder ≡ Inside known.folder = ap (λ (r : NodeRow). r.place) known.is_new in
-    let same : known.folder ≡ folder = cc in
-    let folds : is_folder t.nodes folder ≡ true = subst (λ (n : ℕ). is_folder t.nodes n ≡ true) same known.in_folder in
-    record {
+    subst (λ (nodes : List NodeRow). HasFile nodes root (front ++ name ∷ []) content) (sym (put_new row t.nodes (newest t sound)))
+    (record {
       node = row.id;
       row = row;
       led = leads_more behind root front folder row (leads_kept t.nodes behind root front folder kept led)
-          (folder_kept t.nodes behind folder kept folds).0 there refl;
-      there = there;
+          (folder_kept t.nodes behind folder kept folds).0 (new_there t.nodes row (newest t sound)) refl;
+      there = new_there t.nodes row (newest t sound);
       file = refl;
       filled = refl;
-    }
+    })
 
 stored_file : (t : Tables) (now : ℕ) (who : Option ℕ) (key : LockKey) (digest : List ℕ) (size root : ℕ) (path : List (List ℕ)) → AreSound t
-    → Known t now who (stored_at t now key digest size) → LeadsToKey t.nodes root path key
+    → key_lost t key ≡ None → LeadsToKey t.nodes root path key
     → HasFile (changed t now (stored_at t now key digest size)).nodes root path (content_in (blob_for t.meta.next_blob size) digest size)
-stored_file t now who (Node node) digest size root path sound known led =
-    let file = holds_some (λ row. not (is_folder_kind row.kind)) (node_row t.nodes node) known.brought.file in
-    over_file t now node root path (content_in (blob_for t.meta.next_blob size) digest size) (blob_for t.meta.next_blob size) file.0 file.1
-    (not-true (is_folder_kind file.0.kind) file.2) led
-stored_file t now who (Slot folder name) digest size root path sound known (front, parts, led) =
+stored_file t now who (Node node) digest size root path sound there led =
+    let content = content_in (blob_for t.meta.next_blob size) digest size in
+    let blob = blob_for t.meta.next_blob size in
+    let file = holds_some (λ row. not (is_folder_kind row.kind)) (node_row t.nodes node) (if_none _ _ there) in
+    subst (λ (o : Option NodeRow). HasFile (changed t now (allowed.Change (refilled o now content) blob Done)).nodes root path content) (sym file.1)
+    (over_file t now node root path content blob who file.0 sound file.1 (not-true (is_folder_kind file.0.kind) file.2) led)
+stored_file t now who (Slot folder name) digest size root path sound there (front, parts, led) =
     let blob = blob_for t.meta.next_blob size in
     let content = content_in blob digest size in
-    subst (λ (names : List (List ℕ)). HasFile (t.nodes ++ new_node t now folder name File content ∷ []) root names content) (sym parts)
-    (new_file t now folder root name front content blob sound known.new led)
+    subst (λ (names : List (List ℕ)). HasFile (changed t now (stored_at t now (Slot folder name) digest size)).nodes root names content) (sym parts)
+    (new_file t now folder root name front content blob sound (and_parts _ _ (if_none _ _ there)).0 led)
 
 pub none_refused : (refusal : Option Denial) (act : Allowed) → IsOk (answered_by (unless_refused refusal act)) → unless_refused refusal act ≡ Ok act
 none_refused None act ok = refl
@@ -152,14 +158,15 @@ entry_file n s e root path content is =
     let t = s.tables in
     let act = stored_at t e.moment is.key is.digest is.size in
     let goes : decision_of s e.seat e.moment e.event ≡ stores t e.moment is.key is.digest is.size =
-    ap (decision_of s e.seat e.moment) is.brought ∙ ap (ends_ticket t e.moment (Body is.digest is.size)) is.granted in
+    ap (decision_of s e.seat e.moment) is.brought ∙ ap (ends_at (access_of s) t e.moment (Body is.digest is.size)) is.granted in
     let none : stores t e.moment is.key is.digest is.size ≡ Ok act =
     none_refused (end_refusal t is.key is.size) act (subst (λ (d : Result Allowed Denial). IsOk (answered_by d)) goes is.accepted) in
-    let known = known_change s e.seat e.moment e.event act is.sound is.may.asked (goes ∙ none) in
     let becomes : (after s e).tables ≡ changed t e.moment act =
     ap (λ (m : Mark). (after_mark s e m).tables) is.answered
     ∙ step_changed s e.seat e.moment e.event act (goes ∙ none) in
-    let file = stored_file t e.moment (actor_of s e.seat e.event) is.key is.digest is.size root path is.sound.rows known is.led in
+    let passes = not_refused (end_refusal t is.key is.size) act act none in
+    let there = (both_none (key_lost t is.key) _ passes.0).0 in
+    let file = stored_file t e.moment (actor_of s e.seat e.event) is.key is.digest is.size root path is.sound.rows there is.led in
     subst (λ (c : List Piece). HasFile (after s e).tables.nodes root path c) (sym is.body)
     (subst (λ (u : Tables). HasFile u.nodes root path (content_in (blob_for t.meta.next_blob is.size) is.digest is.size)) (sym becomes) file)
 
@@ -170,9 +177,19 @@ pub shows : (call : Call) (spot : Spot) (node : ℕ) → call.request.wanted ≡
     → call_decision call ≡ Ok (shown call.state.tables node)
 unfolding place_rule exists_rule target_rule overwrite_rule limit_rule
 shows call spot node wanted at asked =
-    let pass : Pass rules unshared call =
-    (asked.0, (asked.1.0, (asked.1.1.0, (rw (wanted, at) refl, (rw wanted refl, (rw wanted refl, (rw wanted refl, (rw wanted refl, tt)))))))) in
-    ap (λ (refusal : Option Denial). unless_refused refusal (allowed_of call)) (none_of rules unshared call pass) ∙ rw (wanted, at) refl
+    let access = access_of call.state in
+    let passes : Passes access call = record {
+      token = asked.token;
+      not_you = asked.not_you;
+      forbidden = asked.forbidden;
+      place = rw (wanted, at) refl;
+      exists = rw wanted refl;
+      target = rw wanted refl;
+      overwrite = rw wanted refl;
+      limit = rw wanted refl;
+    } in
+    ap (λ (refusal : Option Denial). unless_refused refusal (allowed_of access call)) (none_of rules access call (in_order access call passes))
+    ∙ rw (wanted, at) refl
 
 -- so it is granted the content of a file
 pub granted : (call : Call) (spot : Spot) (node : ℕ) (row : NodeRow) → call.request.wanted ≡ Get spot → found call spot ≡ At node

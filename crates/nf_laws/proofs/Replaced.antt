@@ -1,40 +1,14 @@
 -- The tables with another content of a file are sound.
-use Rattle.std.proofs.Common.{◌≡◌, List, bytes_eq, refl, ap, ℕ, ◌==◌, ◌≤◌, Bool, true, false, not, Option, Some, option_map, if◌then◌else◌, length, get_or, sym, ◌∙◌, arith, le_refl}
-use Rattle.std.specs.Prelude.{nat_eq}
-use Rattle.std.specs.Bool.{Decides}
-use Rattle.std.specs.Option.{option_map_or}
-use Rattle.std.proofs.lemmas.Bool.{and_from, and_parts, both_ways, eq-eqb, eqb-true, not-true}
-use Rattle.std.proofs.lemmas.Slice.Eq.{bytes_eq-Decides, slice_eq-Decides}
+use Rattle.std.proofs.Common.{◌≡◌, inl, inr, List, refl, ap, ℕ, ◌==◌, Bool, true, false, Some, option_map, if◌then◌else◌, length, get_or, sym, ◌∙◌, arith, le_refl}
+use Rattle.std.proofs.lemmas.Bool.{both_ways}
 use Rattle.std.proofs.lemmas.List.Elements.{All-weaker}
-use Rattle.nf_base.specs.Content.{content_eq, piece_eq}
+use Rattle.std.proofs.lemmas.Option.{same_Some}
 use Rattle.nf_base.specs.declared.content.Piece.{Piece}
 use Rattle.nf_base.specs.declared.rows.NodeRow.{NodeRow}
 use Rattle.nf_defs.specs.Prelude.{filled, is_folder_kind, node_row, Tables, with_node}
 use Rattle.nf_laws.proofs.OneRow.{IsEither, each_either, length_with, pieces_with, rising_with, row_with, same_either, with_each}
-use Rattle.nf_laws.proofs.Rows.{AreKept, Kept, blob_up, body_sound, counters_up, kept_row, node_kept, root_kept, stamp}
-use Rattle.nf_words.proofs.Known.{KnownContent}
-use Rattle.nf_words.specs.Prelude.{AreSound, blob_after, HasRoot, IsNodeSound, replaced}
-
--- ---- whether a content is another
-
-piece_decides : (a b : Piece) → Decides (piece_eq a b) (a ≡ b)
-piece_decides a b = (
-  λ is.
-      let blobs = and_parts (nat_eq a.blob b.blob) _ is in
-      let sizes = and_parts (nat_eq a.size b.size) (bytes_eq a.digest b.digest) blobs.1 in
-      λ i. record {
-        blob = eqb-true a.blob b.blob blobs.0 i;
-        size = eqb-true a.size b.size sizes.0 i;
-        digest = (bytes_eq-Decides a.digest b.digest).0 sizes.1 i;
-      },
-  λ same.
-      and_from (nat_eq a.blob b.blob) _ (eq-eqb a.blob b.blob (ap (λ (p : Piece). p.blob) same))
-      (and_from (nat_eq a.size b.size) (bytes_eq a.digest b.digest) (eq-eqb a.size b.size (ap (λ (p : Piece). p.size) same))
-      ((bytes_eq-Decides a.digest b.digest).1 (ap (λ (p : Piece). p.digest) same))),
-)
-
-pub content_decides : (a b : List Piece) → Decides (content_eq a b) (a ≡ b)
-content_decides a b = slice_eq-Decides piece_decides a b (content_eq a b) refl
+use Rattle.nf_laws.proofs.Rows.{AreKept, Kept, kept_row, no_others, node_kept, pieces_kept, root_kept}
+use Rattle.nf_words.specs.Prelude.{AreSound, HasRoot, IsFilled, IsNodeSound}
 
 -- ---- the tables with another
 
@@ -57,61 +31,70 @@ kept_replaced rows now node content other old is = here (other == node) refl
     }
     here false e = kept_row (with_node rows node (filled content now)) other old (there ∙ rw (e, is))
 
-abbrev refilled_at : Tables → ℕ → ℕ → List Piece → Option ℕ → Tables
-refilled_at t now node content blob = stamp (replaced t now node content blob) now
+abbrev refilled_at : Tables → NodeRow → Tables
+refilled_at t row = record t { nodes = with_node t.nodes row.id (filled row.content row.changed) }
 
 -- a sound row stays so, whatever content another has
-other_sound : (t : Tables) (now node : ℕ) (content : List Piece) (blob : Option ℕ) (old : NodeRow) → t.meta.last ≤ now
-    → IsNodeSound t old → IsNodeSound (refilled_at t now node content blob) old
-other_sound t now node content blob old later sound =
-    let made = refilled_at t now node content blob in
-    node_kept t made.meta made.nodes old (kept_replaced t.nodes now node content) (omega arith) (blob_up t.meta.next_blob blob) later sound
+other_sound : (t : Tables) (row old : NodeRow) → IsNodeSound t old → IsNodeSound (refilled_at t row) old
+other_sound t row old sound =
+    let made = refilled_at t row in
+    node_kept t t.meta made.nodes old (kept_replaced t.nodes row.changed row.id row.content) (le_refl _) (le_refl _) (le_refl _) sound
 
 -- the node with its new content is sound
-brought_sound : (t : Tables) (now node : ℕ) (content : List Piece) (blob : Option ℕ) (old : NodeRow) → AreSound t → t.meta.last ≤ now
-    → KnownContent t node content blob → node_row t.nodes node ≡ Some old → IsNodeSound t old
-    → IsNodeSound (refilled_at t now node content blob) (filled content now old)
-brought_sound t now node content blob old all later known is sound =
-    let made = refilled_at t now node content blob in
-    let kept = other_sound t now node content blob old later sound in
-    let file : not (is_folder_kind old.kind) ≡ true =
-    sym (ap (λ (o : Option NodeRow). option_map_or (λ row. not (is_folder_kind row.kind)) o false) is) ∙ known.file in
+brought_sound : (t : Tables) (row old : NodeRow) → IsFilled t row → node_row t.nodes row.id ≡ Some old → IsNodeSound t old
+    → IsNodeSound (refilled_at t row) (filled row.content row.changed old)
+brought_sound t row old is there sound =
+    let kept = other_sound t row old sound in
+    let same : is.old ≡ old = same_Some is.old old (sym is.there ∙ there) in
     record {
       some = kept.some;
       given = kept.given;
-      changed = le_refl _;
-      pieces = body_sound t made.meta made.nodes blob content all.counters known.content (le_refl _);
-      folder = λ folder. absurd (both_ways (is_folder_kind old.kind) (not-true (is_folder_kind old.kind) file) folder);
+      changed = is.changed;
+      pieces = pieces_kept t (refilled_at t row) row.content (le_refl _) is.pieces;
+      folder = λ folder. absurd (both_ways (is_folder_kind old.kind) (ap (λ (r : NodeRow). is_folder_kind r.kind) (sym same) ∙ is.file) folder);
       place = kept.place;
       steps = kept.steps;
       shallow = kept.shallow;
-      present = kept.present;
+      top = kept.top;
+      climbs = kept.climbs;
+      ends = kept.ends;
     }
 
-pub replaced_sound : (t : Tables) (now : ℕ) (node : ℕ) (content : List Piece) (blob : Option ℕ)
-    → AreSound t → t.meta.last ≤ now → KnownContent t node content blob → AreSound (stamp (replaced t now node content blob) now)
-replaced_sound t now node content blob sound later known =
-    let made = refilled_at t now node content blob in
-    let change = filled content now in
-    let counts = length_with t.nodes node change in
-    let either : (k : ℕ) (d : NodeRow) → IsEither t.nodes node change (get_or t.nodes k d) (get_or made.nodes k d) =
-    each_either t.nodes node change in
+pub filled_sound : (t : Tables) (row : NodeRow) → AreSound t → IsFilled t row
+    → AreSound (record t { nodes = with_node t.nodes row.id (filled row.content row.changed) })
+filled_sound t row sound is =
+    let made = refilled_at t row in
+    let change = filled row.content row.changed in
+    let counts = length_with t.nodes row.id change in
+    let either : (k : ℕ) (d : NodeRow) → IsEither t.nodes row.id change (get_or t.nodes k d) (get_or made.nodes k d) =
+    each_either t.nodes row.id change in
     let place = λ (k : ℕ) (d : NodeRow).
-    same_either (λ (r : NodeRow). r.place) t.nodes node change (get_or t.nodes k d) (get_or made.nodes k d) (λ row. refl) (either k d) in
+    same_either (λ (r : NodeRow). r.place) t.nodes row.id change (get_or t.nodes k d) (get_or made.nodes k d) (λ row. refl) (either k d) in
     let name = λ (k : ℕ) (d : NodeRow).
-    same_either (λ (r : NodeRow). r.name) t.nodes node change (get_or t.nodes k d) (get_or made.nodes k d) (λ row. refl) (either k d) in
+    same_either (λ (r : NodeRow). r.name) t.nodes row.id change (get_or t.nodes k d) (get_or made.nodes k d) (λ row. refl) (either k d) in
     record {
-      counters = counters_up t.meta t.meta.next_node (blob_after t.meta.next_blob blob) now sound.counters (le_refl _) (blob_up t.meta.next_blob blob);
-      rising = rising_with t.nodes node change (λ row. refl) sound.rising;
-      nodes = with_each (IsNodeSound made) (IsNodeSound t) t.nodes node change (λ old. other_sound t now node content blob old later)
-          (λ old. brought_sound t now node content blob old sound later known) sound.nodes;
+      counters = sound.counters;
+      rising = rising_with t.nodes row.id change (λ row. refl) sound.rising;
+      nodes = with_each (IsNodeSound made) (IsNodeSound t) t.nodes row.id change (λ old. other_sound t row old)
+          (λ old. brought_sound t row old is) sound.nodes;
       names = λ i j d before within folder first second same. sound.names i j d before (omega (arith, counts)) folder
           (sym (place i d) ∙ first) (sym (place j d) ∙ second) (sym (name i d) ∙ same ∙ name j d);
-      roots = All-weaker (HasRoot t) (HasRoot made) (root_kept t made.meta made.nodes (kept_replaced t.nodes now node content)) t.users sound.roots;
+      roots = All-weaker (HasRoot t) (HasRoot made) (root_kept t t.meta made.nodes (kept_replaced t.nodes row.changed row.id row.content)) t.users
+          sound.roots;
       few_nodes = omega (arith, counts, sound.few_nodes);
-      few_pieces = omega (
-        arith,
-        known.pieces,
-        pieces_with t.nodes node change (length content) (λ row. omega arith),
-      );
+      few_pieces = elim is.few_pieces [
+        | inl few ↦ omega (arith, few, pieces_with t.nodes row.id change (length row.content) (λ row is. omega arith))
+        | inr kept ↦
+            omega (
+              arith,
+              sound.few_pieces,
+              pieces_with t.nodes row.id change 0
+                  (λ old there.
+                  let same : is.old ≡ old = same_Some is.old old (sym is.there ∙ there) in
+                  let counts : length row.content ≡ length old.content = ap (λ (c : List Piece). length c) kept ∙ ap (λ (r : NodeRow). length r.content) same in
+                  omega (arith, counts)),
+            )
+      ];
+      later = sound.later;
+      others = no_others made sound.later;
     }

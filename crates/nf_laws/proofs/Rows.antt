@@ -1,7 +1,7 @@
 -- Rows that may change while each node keeps its owner, place, name and kind.
 use Rattle.std.proofs.Common.{ℕ, ◌==◌, ◌≡◌, ◌≢◌, ◌≤◌, Bool, true, false, List, [], ◌∷◌, ◌++◌, Option, None, Some, find, length, option_map, refl, sym, ap, subst, ◌∙◌, arith, le_refl}
 use Rattle.std.specs.List.{All}
-use Rattle.std.specs.Option.{IfSome, option_and_then, option_map_or, option_or}
+use Rattle.std.specs.Option.{IfSome, option_map_or, option_or}
 use Rattle.std.proofs.lemmas.Bool.{cond_both, eqb-true, ne_eqb}
 use Rattle.std.proofs.lemmas.List.Elements.{All-cons, All-head, All-nil, All-tail, All-weaker}
 use Rattle.std.proofs.lemmas.List.Folds.{find-append}
@@ -14,10 +14,12 @@ use Rattle.nf_base.specs.declared.rows.NodeRow.{NodeRow}
 use Rattle.nf_base.specs.declared.rows.Place.{Place}
 use Rattle.nf_base.specs.declared.rows.Place.TheVariants.{Inside, Root, Trash}
 use Rattle.nf_base.specs.declared.rows.UserRow.{UserRow}
-use Rattle.nf_defs.specs.Prelude.{climb, content_of, folder_of, is_folder, is_folder_kind, node_row, owner_of, parent_of, Tables, user_row}
+use Rattle.nf_defs.specs.Prelude.{climb, content_of, folder_of, is_folder, is_folder_kind, node_row, owner_of, parent_of, Tables}
 use Rattle.nf_laws.proofs.Climbs.{climb_same, holds_some}
-use Rattle.nf_words.proofs.Known.{IsOfBody, found_has, found_passes}
-use Rattle.nf_words.specs.Prelude.{AreCounters, AreSound, blob_after, HasRoot, IsNodeSound, IsPieceSound, IsPlaceSound, root_of_user, stamped}
+use Rattle.nf_laws.specs.Numbers.{AreHigher}
+use Rattle.nf_words.proofs.Found.{found_has, found_passes}
+use Rattle.nf_words.specs.Others.{AreOthersSound, IsChunkSound, IsItemSound, IsMountSound, IsShareSound, IsUploadSound, IsVersionSound}
+use Rattle.nf_words.specs.Prelude.{AreCounters, AreSound, blob_after, HasNoLater, HasRoot, IsNodeSound, IsPieceSound, IsPlaceSound, IsTop, stamped}
 
 -- ---- what a look-up finds
 
@@ -78,20 +80,9 @@ pub folder_there : (rows : List NodeRow) (node : ℕ) → is_folder rows node �
     → (row : NodeRow) × (node_row rows node ≡ Some row) × (is_folder_kind row.kind ≡ true)
 folder_there rows node is = holds_some (λ row. is_folder_kind row.kind) (node_row rows node) is
 
--- no folder is above a user's root
-pub none_above : (t : Tables) (user : ℕ) → AreSound t → parent_of t.nodes (root_of_user t user) ≡ None
-none_above t user sound = of_user (user_row t.users user) refl
-  where
-    of_no_user : (o : Option NodeRow) → node_row t.nodes 0 ≡ o → option_and_then (λ row. folder_of row.place) o ≡ None
-    of_no_user None e = refl
-    of_no_user (Some row) e =
-        let h = row_is t 0 row sound e in absurd (omega (arith, h.0, h.1.some))
-
-    of_user : (o : Option UserRow) → user_row t.users user ≡ o → parent_of t.nodes (option_map_or (λ row. row.root) o 0) ≡ None
-    of_user None e = of_no_user (node_row t.nodes 0) refl
-    of_user (Some row) e =
-        let root = (found_is (HasRoot t) (λ row. row.id == user) t.users row sound.roots e).1 in
-        ap (option_and_then (λ row. folder_of row.place)) root.there ∙ ap folder_of root.place
+-- no folder is above a top
+pub none_over : (rows : List NodeRow) (top : ℕ) → IsTop rows top → parent_of rows top ≡ None
+none_over rows top is = rw is.there is.ends
 
 -- ---- what is in a folder
 
@@ -154,6 +145,11 @@ climb_kept k rows others node top kept is =
     (λ k node is. option_and_then_some (climb rows k) (parent_of rows node) top is
     (λ parent above rest. parent_kept rows others node parent kept above ∙ sym above)) k node is ∙ is
 
+-- a top stays one
+pub top_kept : (rows others : List NodeRow) (top : ℕ) → AreKept rows others → IsTop rows top → IsTop others top
+top_kept rows others top kept is =
+    let k = kept top is.row is.there in record { row = k.row; there = k.there; ends = ap folder_of k.place ∙ is.ends }
+
 -- a row that is there as it was
 pub kept_row : (rows : List NodeRow) (node : ℕ) (old : NodeRow) → node_row rows node ≡ Some old → Kept rows node old
 kept_row rows node old is = record { row = old; there = is; owner = refl; place = refl; name = refl; kind = refl }
@@ -182,16 +178,18 @@ pieces_kept t made pieces grows =
     All-weaker (IsPieceSound t) (IsPieceSound made)
     (λ piece sound. record { some = sound.some; few = sound.few; first = sound.first; given = omega (arith, sound.given) }) pieces
 
--- a node leads to its owner's root
-pub record IsRooted (t : Tables) (node : ℕ) (row : NodeRow) : Type 0 where
+-- a node leads to a top
+pub record IsRooted (t : Tables) (node : ℕ) : Type 0 where
   pub steps : ℕ
   pub shallow : steps ≤ MAX_DEPTH
-  pub climbs : climb t.nodes steps node ≡ Some (root_of_user t row.owner)
+  pub top : ℕ
+  pub climbs : climb t.nodes steps node ≡ Some top
+  pub ends : IsTop t.nodes top
 
 -- a sound row stays so in other tables and in another place, where it is rooted in them
 pub node_still : (t made : Tables) (row : NodeRow) (place : Place) (name : List ℕ) → t.meta.next_node ≤ made.meta.next_node
     → t.meta.next_blob ≤ made.meta.next_blob → t.meta.last ≤ made.meta.last → IsNodeSound t row
-    → IsPlaceSound made (record row { place = place; name = name }) place → IsRooted made row.id row
+    → IsPlaceSound made (record row { place = place; name = name }) place → IsRooted made row.id
     → IsNodeSound made (record row { place = place; name = name })
 node_still t made row place name nodes blobs later sound in_place rooted = record {
   some = sound.some;
@@ -202,7 +200,9 @@ node_still t made row place name nodes blobs later sound in_place rooted = recor
   place = in_place;
   steps = rooted.steps;
   shallow = rooted.shallow;
-  present = rooted.climbs;
+  top = rooted.top;
+  climbs = rooted.climbs;
+  ends = rooted.ends;
 }
 
 pub node_kept : (t : Tables) (meta : MetaRow) (others : List NodeRow) (row : NodeRow) → AreKept t.nodes others
@@ -213,7 +213,9 @@ node_kept t meta others row kept nodes blobs later sound =
     (record {
       steps = sound.steps;
       shallow = sound.shallow;
-      climbs = climb_kept sound.steps t.nodes others row.id (root_of_user t row.owner) kept sound.present;
+      top = sound.top;
+      climbs = climb_kept sound.steps t.nodes others row.id sound.top kept sound.climbs;
+      ends = top_kept t.nodes others sound.top kept sound.ends;
     })
 
 -- so does a root, where it is there
@@ -232,27 +234,28 @@ pub root_kept : (t : Tables) (meta : MetaRow) (others : List NodeRow) → AreKep
 root_kept t meta others kept user root = root_still t (with_nodes t meta others) user root (kept user.root root.row root.there)
 
 -- no counter falls below 1
-pub counters_up : (meta : MetaRow) (nodes blobs last : ℕ) → AreCounters meta → meta.next_node ≤ nodes → meta.next_blob ≤ blobs
-    → AreCounters (record meta { next_node = nodes; next_blob = blobs; last = last })
-counters_up meta nodes blobs last counters more_nodes more_blobs = record {
-  users = counters.users;
-  groups = counters.groups;
-  nodes = omega (arith, counters.nodes);
-  shares = counters.shares;
-  blobs = omega (arith, counters.blobs);
+pub counters_up : (before after : MetaRow) → AreCounters before → AreHigher before after → AreCounters after
+counters_up before after counters up = record {
+  users = omega (arith, counters.users, up.users);
+  groups = omega (arith, counters.groups, up.groups);
+  nodes = omega (arith, counters.nodes, up.nodes);
+  shares = omega (arith, counters.shares, up.shares);
+  blobs = omega (arith, counters.blobs, up.blobs);
 }
 
--- the piece of a body is sound, where its blob's number was given
-pub body_sound : (t : Tables) (meta : MetaRow) (others : List NodeRow) (blob : Option ℕ) (content : List Piece)
-    → AreCounters t.meta → IsOfBody t.meta blob content → blob_after t.meta.next_blob blob ≤ meta.next_blob
-    → All (IsPieceSound (with_nodes t meta others)) content
-body_sound t meta others None content counters none given =
-    subst (λ (c : List Piece). All (IsPieceSound (with_nodes t meta others)) c) (sym none) (All-nil (IsPieceSound (with_nodes t meta others)))
-body_sound t meta others (Some blob) content counters one given =
-    let P = IsPieceSound (with_nodes t meta others) in
-    subst (λ (c : List Piece). All P c) (sym one.1.4)
-    (All-cons P (record { blob = blob; size = one.1.0; digest = one.1.1 }) []
-    (record { some = one.1.2; few = one.1.3; first = omega (arith, counters.blobs, one.0); given = omega (arith, given, one.0) }) (All-nil P))
+pub none_higher : (meta : MetaRow) (now : ℕ) → AreHigher meta (record meta { last = now })
+none_higher meta now = record { users = le_refl _; groups = le_refl _; nodes = le_refl _; shares = le_refl _; blobs = le_refl _ }
+
+-- what there is none of keeps its rules
+pub no_others : (t : Tables) → HasNoLater t → AreOthersSound t
+no_others t (shares, (mounts, (versions, (items, (uploads, (chunks, end)))))) = record {
+  shares = subst (All (IsShareSound t)) (sym shares) (All-nil (IsShareSound t));
+  mounts = subst (All (IsMountSound t)) (sym mounts) (All-nil (IsMountSound t));
+  versions = subst (All (IsVersionSound t)) (sym versions) (All-nil (IsVersionSound t));
+  items = subst (All (IsItemSound t)) (sym items) (All-nil (IsItemSound t));
+  uploads = subst (All (IsUploadSound t)) (sym uploads) (All-nil (IsUploadSound t));
+  chunks = subst (All (IsChunkSound t)) (sym chunks) (All-nil (IsChunkSound t));
+}
 
 -- no blob's number is taken back
 pub blob_up : (next : ℕ) (blob : Option ℕ) → next ≤ blob_after next blob
@@ -278,17 +281,22 @@ stamped_some t made now (change ∷ changes) some = refl
 pub stamped_nodes : (t made : Tables) (now : ℕ) (changes : List Change) → 1 ≤ length changes → (stamped t made now changes).nodes ≡ made.nodes
 stamped_nodes t made now changes some = ap (λ (u : Tables). u.nodes) (stamped_some t made now changes some)
 
--- a later moment changes nothing else
-pub stamp_sound : (t : Tables) (now : ℕ) → AreSound t → t.meta.last ≤ now → AreSound (stamp t now)
-stamp_sound t now sound later =
-    let made = stamp t now in
+-- higher counters and a later moment change nothing else
+pub meta_sound : (t : Tables) (meta : MetaRow) → AreSound t → AreHigher t.meta meta → t.meta.last ≤ meta.last → AreSound (record t { meta = meta })
+meta_sound t meta sound up later =
+    let made : Tables = record t { meta = meta } in
     record {
-      counters = counters_up t.meta t.meta.next_node t.meta.next_blob now sound.counters (le_refl _) (le_refl _);
+      counters = counters_up t.meta meta sound.counters up;
       rising = sound.rising;
       nodes = All-weaker (IsNodeSound t) (IsNodeSound made)
-          (λ row. node_kept t made.meta t.nodes row (kept_row t.nodes) (le_refl _) (le_refl _) later) t.nodes sound.nodes;
+          (λ row. node_kept t meta t.nodes row (kept_row t.nodes) up.nodes up.blobs later) t.nodes sound.nodes;
       names = sound.names;
-      roots = All-weaker (HasRoot t) (HasRoot made) (root_kept t made.meta t.nodes (kept_row t.nodes)) t.users sound.roots;
+      roots = All-weaker (HasRoot t) (HasRoot made) (root_kept t meta t.nodes (kept_row t.nodes)) t.users sound.roots;
       few_nodes = sound.few_nodes;
       few_pieces = sound.few_pieces;
+      later = sound.later;
+      others = no_others made sound.later;
     }
+
+pub stamp_sound : (t : Tables) (now : ℕ) → AreSound t → t.meta.last ≤ now → AreSound (stamp t now)
+stamp_sound t now sound later = meta_sound t (record t.meta { last = now }) sound (none_higher t.meta now) later

@@ -1,42 +1,52 @@
 -- What a step changes, told as a list, and the tables that it makes.
-use Rattle.std.proofs.Common.{ℕ, zero, suc, ◌==◌, ◌&&◌, ◌≡◌, ◌≢◌, ◌<◌, ◌≤◌, Bool, true, false, not, List, [], ◌∷◌, ◌++◌, Option, None, Some, Result, Ok, Err, bytes_eq, map, option_map, length, get_or, if◌then◌else◌, refl, sym, ap, subst, ◌∙◌, arith, append_assoc, length-append}
+use Rattle.std.proofs.Common.{inl, inr, ℕ, ◌==◌, ◌≡◌, ◌≢◌, ◌<◌, ◌≤◌, Bool, true, false, not, List, [], ◌∷◌, ◌++◌, Option, None, Some, Result, Ok, Err, bytes_eq, map, option_map, length, get_or, if◌then◌else◌, refl, sym, ap, subst, ◌∙◌, arith, append_assoc, length-append}
 use Rattle.std.specs.Prelude.{is_some}
 use Rattle.std.specs.List.{All}
 use Rattle.std.specs.Option.{option_map_or}
-use Rattle.std.proofs.lemmas.Bool.{and_from, and_parts, both_ways, cond_both, eq-eqb, eqb-true}
+use Rattle.std.proofs.lemmas.Bool.{and_parts, both_ways, cond_both, eq-eqb, eqb-true}
 use Rattle.std.proofs.lemmas.List.Elements.{All-append, All-cons, All-map, All-nil, All-weaker}
 use Rattle.std.proofs.Math.Seq.{get_or-append_seam}
 use Rattle.std.proofs.lemmas.Option.{slice_get-get_or}
-use Rattle.nf_base.specs.Content.{content_eq}
 use Rattle.nf_base.specs.declared.changes.Change.{Change}
 use Rattle.nf_base.specs.declared.changes.Change.TheVariants.{Drop, Put}
 use Rattle.nf_base.specs.declared.changes.RowKey.TheVariants as keys
-use Rattle.nf_base.specs.declared.content.Piece.{Piece}
 use Rattle.nf_base.specs.declared.rows.MetaRow.{MetaRow}
 use Rattle.nf_base.specs.declared.rows.NodeRow.{NodeRow}
 use Rattle.nf_base.specs.declared.rows.Place.TheVariants.{Inside}
 use Rattle.nf_base.specs.declared.rows.Row.{Row}
 use Rattle.nf_base.specs.declared.rows.Row.TheVariants as rows
-use Rattle.nf_defs.specs.Prelude.{child_of, filled, is_folder_kind, is_under, IsDroppable, made, node_row, put_all, relinked, Tables, walk_of, with_node, without_under}
+use Rattle.nf_defs.specs.Prelude.{Access, child_of, content_of, is_folder, is_under, IsDroppable, made, node_row, put_all, relinked, Tables, walk_of, with_node, without_under}
 use Rattle.nf_defs.specs.declared.Found.TheVariants.{At, Free}
-use Rattle.nf_laws.proofs.Climbs.{climb_under, holds_some}
+use Rattle.nf_laws.proofs.Blobs.{Alters, given_alters, of_nodes, refilled_of}
+use Rattle.nf_laws.proofs.Climbs.{climb_under}
 use Rattle.nf_laws.proofs.Copied.{walk_first}
 use Rattle.nf_laws.proofs.Entries.{step_has}
 use Rattle.nf_laws.proofs.Gone.{all_cleared, clearing_sound, row_cleared}
+use Rattle.nf_laws.proofs.Lists.{AreNodes, lean_moves, nodes_alone, nodes_droppable, only_nodes, put_more}
 use Rattle.nf_laws.proofs.Mirrored.{mirrored}
 use Rattle.nf_laws.proofs.OneRow.{KeepsId, row_itself}
 use Rattle.nf_laws.proofs.Paths.{child_there, path_own}
 use Rattle.nf_laws.proofs.Puts.{AreNumbered, another, drops_for, drops_under, fewer, put_changed, put_new, puts_new, walk_there}
-use Rattle.nf_laws.proofs.Replaced.{content_decides}
 use Rattle.nf_laws.proofs.Rows.{row_id}
 use Rattle.nf_laws.specs.Tells.{ChangesTell}
-use Rattle.nf_words.proofs.Known.{Known, KnownContent, KnownCopies, KnownGone, KnownNew, KnownPath, KnownTransfer, known_change}
-use Rattle.nf_words.specs.Prelude.{AreSound, changed, changes_by, changes_of, changes_to, cleared, created, decision_of, dropped_for, dropped_under, IsSound, joined, MayAsk, meta_after, refilled, replaced, stamped, State, step, told, transferred, transferred_row, with_meta}
+use Rattle.nf_words.proofs.Ends.{known_change}
+use Rattle.nf_words.proofs.Fits.{KnownChange, KnownPath}
+use Rattle.nf_words.proofs.Known.{Known, KnownCopies, KnownGone, KnownTransfer}
+use Rattle.nf_words.specs.Prelude.{access_of, allowed_of, AreSound, Call, call_of, changed, changes_by, changes_of, changes_to, cleared, decision_of, dropped_for, dropped_under, end_refusal, ends_at, ends_goal, given, goal_at, IsSound, joined, listing_of, MayAsk, meta_after, node_at, places_of, raised, refilled, refusal_of, served, stamped, State, step, stored_at, told, transferred, transferred_row, unless_refused, with_meta}
 use Rattle.nf_words.specs.Changes.{new_meta, same_meta}
 use Rattle.nf_words.specs.declared.answer.Allowed.{Allowed}
 use Rattle.nf_words.specs.declared.answer.Allowed.TheVariants as allowed
 use Rattle.nf_words.specs.declared.answer.Denial.{Denial}
+use Rattle.nf_words.specs.declared.answer.Goal.{Goal}
+use Rattle.nf_words.specs.declared.answer.Goal.TheVariants.{Store}
+use Rattle.nf_words.specs.declared.answer.LockKey.{LockKey}
+use Rattle.nf_words.specs.declared.answer.LockKey.TheVariants.{Node, Slot}
+use Rattle.nf_words.specs.declared.answer.Report.{Report}
 use Rattle.nf_words.specs.declared.history.Event.{Event}
+use Rattle.nf_words.specs.declared.history.Event.TheVariants.{Begin, End}
+use Rattle.nf_words.specs.declared.history.Outcome.{Outcome}
+use Rattle.nf_words.specs.declared.history.Outcome.TheVariants.{Body}
+use Rattle.nf_words.specs.declared.request.Wanted.{Wanted}
 use Rattle.nf_words.specs.declared.request.Transfer.{Transfer}
 
 -- ---- the meta row
@@ -104,10 +114,23 @@ nodes_told t now meta nodes (change ∷ changes) puts differ moved =
       none = λ same. absurd (moved (ap (λ (u : Tables). u.nodes) same));
     }
 
--- ---- a node more, and another content
+-- ---- rows that are changed
 
 abbrev TellsAct : Tables → ℕ → Allowed → Type 0
 TellsAct t now act = Tell t (changed t now act) (changes_of t now act)
+
+-- a lean list tells of itself
+changes_told : (t : Tables) (now : ℕ) (who : Option ℕ) (changes : List Change) (blob : Option ℕ) (report : Report) → AreSound t
+    → KnownChange t now who changes blob → TellsAct t now (allowed.Change changes blob report)
+changes_told t now who [] blob report sound known = nothing_told t
+changes_told t now who (change ∷ changes) blob report sound known =
+    let all : List Change = change ∷ changes in
+    let up = raised t now all blob in
+    let nodes = only_nodes t who blob up all known.rows in
+    let alone = nodes_alone t all nodes in
+    subst (λ (made : Tables). Tell t (stamped t (record made { meta = up.meta }) now all) (with_meta t.meta up.meta all)) (sym alone)
+    (nodes_told t now up.meta (put_all t all).nodes all (λ rest. put_more t all rest ∙ ap (λ (u : Tables). put_all u rest) alone)
+    known.lean.differ (lean_moves t change changes sound.rising nodes known.lean))
 
 all_given : (t : Tables) → AreSound t → All (λ (row : NodeRow). row.id < t.meta.next_node) t.nodes
 all_given t sound k d within = (sound.nodes k d within).given
@@ -122,20 +145,6 @@ new_differs t row sound new = λ same.
     (λ old given. omega arith) t.nodes (all_given t sound) in
     one_longer t.nodes row (sym (put_new row t.nodes below) ∙ ap (λ (u : Tables). u.nodes) same)
 
-new_told : (t : Tables) (now : ℕ) (row : NodeRow) (blob : Option ℕ) → AreSound t → KnownNew t now row blob
-    → Tell t (stamped t (created t row blob) now (Put (rows.Node row) ∷ []))
-    (with_meta t.meta (record (created t row blob).meta { last = now }) (Put (rows.Node row) ∷ []))
-new_told t now row blob sound known =
-    let id : row.id ≡ t.meta.next_node = ap (λ (r : NodeRow). r.id) known.is_new in
-    nodes_told t now (created t row blob).meta (t.nodes ++ row ∷ []) (Put (rows.Node row) ∷ [])
-    (λ rest. puts_new t t.nodes (row ∷ []) rest t.meta.next_node (all_given t sound) (only id))
-    (All-cons (Differs t) (Put (rows.Node row)) [] (new_differs t row sound (omega arith)) (All-nil (Differs t)))
-    (one_longer t.nodes row)
-  where
-    only : row.id ≡ t.meta.next_node → AreNumbered t.meta.next_node (row ∷ [])
-    only id zero d within = omega arith
-    only id (suc k) d within = absurd (omega arith)
-
 -- a changed row of a node is put in its place
 changed_differs : (t : Tables) (node : ℕ) (change : NodeRow → NodeRow) (row : NodeRow) → KeepsId change
     → AreSound t → node_row t.nodes node ≡ Some row → change row ≢ row → Differs t (Put (rows.Node (change row)))
@@ -143,34 +152,6 @@ changed_differs t node change row keeps sound is other = λ same.
     another t.nodes (with_node t.nodes node change) node row (change row) is
     (row_itself t.nodes node change keeps ∙ ap (option_map change) is) other
     (sym (put_changed t.nodes node change row (keeps row) sound.rising is) ∙ ap (λ (u : Tables). u.nodes) same)
-
--- a content that isn't the same, or another moment, makes another row
-filled_other : (now : ℕ) (content : List Piece) (row : NodeRow)
-    → (content_eq row.content content && row.changed == now) ≡ false → filled content now row ≢ row
-filled_other now content row other = λ same.
-    both_ways (content_eq row.content content && row.changed == now) other
-    (and_from (content_eq row.content content) (row.changed == now)
-    ((content_decides row.content content).1 (sym (ap (λ (r : NodeRow). r.content) same)))
-    (eq-eqb row.changed now (sym (ap (λ (r : NodeRow). r.changed) same))))
-
-over_told : (t : Tables) (now node : ℕ) (content : List Piece) (blob : Option ℕ) → AreSound t → KnownContent t node content blob
-    → TellsAct t now (allowed.StoreOver node content blob)
-over_told t now node content blob sound known =
-    let file = holds_some (λ row. not (is_folder_kind row.kind)) (node_row t.nodes node) known.file in
-    let row : NodeRow = file.0 in
-    let after : Tables = replaced t now node content blob in
-    let new : Change = Put (rows.Node (filled content now row)) in
-    let Tells : List Change → Type 0 = λ changes. Tell t (stamped t after now changes) (with_meta t.meta (record after.meta { last = now }) changes) in
-    subst (λ (o : Option NodeRow). Tells (refilled o now content)) (sym file.1)
-    (cond_both (content_eq row.content content && row.changed == now) [] (new ∷ []) Tells (λ same. nothing_told t)
-    (λ other.
-    let differs = filled_other now content row other in
-    nodes_told t now after.meta after.nodes (new ∷ [])
-    (λ rest. ap (λ (all : List NodeRow). put_all (record t { nodes = all }) rest)
-    (put_changed t.nodes node (filled content now) row refl sound.rising file.1))
-    (All-cons (Differs t) new [] (changed_differs t node (filled content now) row (λ row. refl) sound file.1 differs) (All-nil (Differs t)))
-    (another t.nodes after.nodes node row (filled content now row) file.1
-    (row_itself t.nodes node (filled content now) (λ row. refl) ∙ ap (option_map (filled content now)) file.1) differs)))
 
 -- ---- nodes that go
 
@@ -290,9 +271,7 @@ copies_told t now who copies replaced sound known =
 -- ---- each act
 
 act_told : (t : Tables) (now : ℕ) (who : Option ℕ) (act : Allowed) → AreSound t → Known t now who act → TellsAct t now act
-act_told t now who (allowed.StoreNew row blob) sound known = new_told t now row blob sound known.new
-act_told t now who (allowed.StoreOver node content blob) sound known = over_told t now node content blob sound known.brought
-act_told t now who (allowed.Mkcol row) sound known = new_told t now row None sound known.new
+act_told t now who (allowed.Change changes blob report) sound known = changes_told t now who changes blob report sound known
 act_told t now who (allowed.Delete node) sound known = gone_told t now who node sound known
 act_told t now who (allowed.Move transfer name) sound known = moved_told t now who transfer name sound known
 act_told t now who (allowed.Copy copies replaced) sound known = copies_told t now who copies replaced sound known
@@ -312,11 +291,6 @@ put_droppable : (same : Bool) (row : Row) → All IsDroppable (if same then [] e
 put_droppable true row = All-nil IsDroppable
 put_droppable false row = All-cons IsDroppable (Put row) [] tt (All-nil IsDroppable)
 
-refilled_droppable : (o : Option NodeRow) (now : ℕ) (content : List Piece) → All IsDroppable (refilled o now content)
-refilled_droppable None now content = All-nil IsDroppable
-refilled_droppable (Some row) now content =
-    put_droppable (content_eq row.content content && row.changed == now) (rows.Node (filled content now row))
-
 replaced_droppable : (nodes : List NodeRow) (replaced : Option ℕ) → All IsDroppable (dropped_for nodes replaced)
 replaced_droppable nodes None = All-nil IsDroppable
 replaced_droppable nodes (Some top) = All-map IsDroppable (λ node. Drop (keys.Node node)) (walk_of nodes top) (λ k d within is. cc)
@@ -325,27 +299,78 @@ row_droppable : (o : Option NodeRow) (transfer : Transfer) (name : List ℕ) →
 row_droppable None transfer name = All-nil IsDroppable
 row_droppable (Some row) transfer name = put_droppable false (rows.Node (relinked transfer.folder name row))
 
-told_droppable : (t : Tables) (now : ℕ) (act : Allowed) → All IsDroppable (told t now act)
-told_droppable t now (allowed.StoreNew row blob) = put_droppable false (rows.Node row)
-told_droppable t now (allowed.StoreOver node content blob) = refilled_droppable (node_row t.nodes node) now content
-told_droppable t now (allowed.Mkcol row) = put_droppable false (rows.Node row)
-told_droppable t now (allowed.Delete node) = replaced_droppable t.nodes (Some node)
-told_droppable t now (allowed.Move transfer name) =
+-- where an act is a list, it is one of rows of nodes
+abbrev IsOfNodes : Allowed → Type 0
+IsOfNodes (allowed.Change changes blob report) = AreNodes changes
+IsOfNodes act = Unit {0}
+
+told_droppable : (t : Tables) (act : Allowed) → IsOfNodes act → All IsDroppable (told t act)
+told_droppable t (allowed.Change changes blob report) nodes = nodes_droppable changes nodes
+told_droppable t (allowed.Delete node) nodes = replaced_droppable t.nodes (Some node)
+told_droppable t (allowed.Move transfer name) nodes =
     All-append IsDroppable (dropped_for t.nodes transfer.replaced) (transferred_row (node_row t.nodes transfer.node) transfer name)
     (replaced_droppable t.nodes transfer.replaced) (row_droppable (node_row t.nodes transfer.node) transfer name)
-told_droppable t now (allowed.Copy copies replaced) =
+told_droppable t (allowed.Copy copies replaced) nodes =
     All-append IsDroppable (dropped_for t.nodes replaced) (map (λ row. Put (rows.Node row)) copies) (replaced_droppable t.nodes replaced)
     (All-map IsDroppable (λ row. Put (rows.Node row)) copies (λ k d within. tt))
-told_droppable t now act = All-nil IsDroppable
+told_droppable t act nodes = All-nil IsDroppable
 
 with_meta_droppable : (old meta : MetaRow) (changes : List Change) → All IsDroppable changes → All IsDroppable (with_meta old meta changes)
 with_meta_droppable old meta [] all = all
 with_meta_droppable old meta (change ∷ changes) all =
     All-append IsDroppable (change ∷ changes) (new_meta old meta) all (put_droppable (same_meta old meta) (rows.Meta meta))
 
-decided_droppable : (t : Tables) (now : ℕ) (decision : Result Allowed Denial) → All IsDroppable (changes_by t now decision)
-decided_droppable t now (Ok act) = with_meta_droppable t.meta (meta_after t now act) (told t now act) (told_droppable t now act)
-decided_droppable t now (Err refusal) = All-nil IsDroppable
+-- a decision changes rows of nodes alone
+abbrev DecidesNodes : Result Allowed Denial → Type 0
+DecidesNodes (Ok act) = IsOfNodes act
+DecidesNodes (Err refusal) = Unit {0}
+
+unless_nodes : (refusal : Option Denial) (act : Allowed) → IsOfNodes act → DecidesNodes (unless_refused refusal act)
+unless_nodes None act nodes = nodes
+unless_nodes (Some refusal) act nodes = tt
+
+begin_nodes : (call : Call) (asked : Wanted) → IsOfNodes (given (access_of call.state) call (places_of call) asked)
+begin_nodes call asked =
+    elim (given_alters call (places_of call) asked) [
+      | inl get ↦
+          subst (λ (w : Wanted). IsOfNodes (given (access_of call.state) call (places_of call) w)) (sym get.1)
+          (served_nodes call.state.tables (node_at (places_of call).source))
+      | inr alters ↦ alters_nodes (given (access_of call.state) call (places_of call) asked) alters
+    ]
+  where
+    served_nodes : (t : Tables) (o : Option ℕ) → IsOfNodes (served t o)
+    served_nodes t None = tt
+    served_nodes t (Some node) =
+        cond_both (is_folder t.nodes node) (allowed.List (listing_of t node)) (allowed.Get node (content_of t.nodes node)) IsOfNodes
+        (λ folder. tt) (λ file. tt)
+
+    alters_nodes : (act : Allowed) → Alters call.state.tables act → IsOfNodes act
+    alters_nodes (allowed.Change changes blob report) alters =
+        elim alters.1 [ inl empty ↦ of_nodes [] changes empty | inr old ↦ of_nodes (content_of call.state.tables.nodes old.0) changes old.1 ]
+    alters_nodes act alters = tt
+
+stored_nodes : (t : Tables) (now : ℕ) (key : LockKey) (digest : List ℕ) (size : ℕ) → IsOfNodes (stored_at t now key digest size)
+stored_nodes t now (Node node) digest size = let o = node_row t.nodes node in of_nodes _ (refilled o now _) (refilled_of o now _)
+stored_nodes t now (Slot folder name) digest size = tt
+
+goal_nodes : (access : Access) (t : Tables) (now : ℕ) (outcome : Outcome) (goal : Goal) → DecidesNodes (ends_goal access t now outcome goal)
+goal_nodes access t now (Body digest size) (Store by key wanted) =
+    unless_nodes (end_refusal t key size) (stored_at t now key digest size) (stored_nodes t now key digest size)
+goal_nodes access t now outcome goal = tt
+
+at_nodes : (access : Access) (t : Tables) (now : ℕ) (outcome : Outcome) (goal : Option Goal) → DecidesNodes (ends_at access t now outcome goal)
+at_nodes access t now outcome None = tt
+at_nodes access t now outcome (Some goal) = goal_nodes access t now outcome goal
+
+decision_nodes : (s : State) (seat now : ℕ) (event : Event) → DecidesNodes (decision_of s seat now event)
+decision_nodes s seat now (Begin words request) =
+    let call = call_of s seat now words request in
+    unless_nodes (refusal_of (access_of s) call) (allowed_of (access_of s) call) (begin_nodes call request.wanted)
+decision_nodes s seat now (End outcome) = at_nodes (access_of s) s.tables now outcome (goal_at s seat)
+
+decided_droppable : (t : Tables) (now : ℕ) (decision : Result Allowed Denial) → DecidesNodes decision → All IsDroppable (changes_by t now decision)
+decided_droppable t now (Ok act) nodes = with_meta_droppable t.meta (meta_after t now act) (told t act) (told_droppable t act nodes)
+decided_droppable t now (Err refusal) nodes = All-nil IsDroppable
 
 pub changes_tell : ChangesTell
 changes_tell = record {
@@ -356,5 +381,5 @@ changes_tell = record {
         λ nothing. sym tell.put ∙ ap (put_all s.tables) nothing,
         tell.none,
       );
-  droppable = λ s seat now event. decided_droppable s.tables now (decision_of s seat now event);
+  droppable = λ s seat now event. decided_droppable s.tables now (decision_of s seat now event) (decision_nodes s seat now event);
 }

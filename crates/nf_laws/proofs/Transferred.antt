@@ -27,7 +27,9 @@ use Rattle.nf_laws.proofs.Rows.{row_is, stamped_nodes}
 use Rattle.nf_laws.proofs.Upwards.{climbs_is_under, never_climbs}
 use Rattle.nf_laws.proofs.Walked.{no_ring}
 use Rattle.nf_laws.specs.Transfers.{AreCopied, CopiesMirror, IsMoved, Mirrors, MovesKeep, is_replaced}
-use Rattle.nf_words.proofs.Known.{KnownCopies, KnownTransfer, child_parent, known_change}
+use Rattle.nf_words.proofs.Ends.{known_change}
+use Rattle.nf_words.proofs.Found.{child_parent}
+use Rattle.nf_words.proofs.Known.{KnownCopies, KnownTransfer}
 use Rattle.nf_words.specs.Prelude.{actor_of, altered, AreSound, changed, cleared, dropped_for, joined, step, told, transferred_row}
 use Rattle.nf_words.specs.declared.answer.Allowed.TheVariants as allowed
 use Rattle.nf_words.specs.declared.request.Transfer.{Transfer}
@@ -87,7 +89,7 @@ copies_told : (t : Tables) (now : ℕ) (transfer : Transfer) (name : List ℕ) (
     → Mirrors t now transfer name copies
     → (changed t now (allowed.Copy copies replaced)).nodes ≡ cleared t.nodes replaced ++ copies
 copies_told t now transfer name copies replaced mirrors =
-    stamped_nodes t (joined t copies replaced) now (told t now (allowed.Copy copies replaced))
+    stamped_nodes t (joined t copies replaced) now (told t (allowed.Copy copies replaced))
     (omega (
       arith,
       mirrors.all,
@@ -96,7 +98,7 @@ copies_told t now transfer name copies replaced mirrors =
       length-append (dropped_for t.nodes replaced) (map (λ row. Put (rows.Node row)) copies),
     ))
 
-are_copied : (t : Tables) (now : ℕ) (who : Option ℕ) (copies : List NodeRow) (replaced : Option ℕ) → AreSound t
+pub are_copied : (t : Tables) (now : ℕ) (who : Option ℕ) (copies : List NodeRow) (replaced : Option ℕ) → AreSound t
     → KnownCopies t now who copies replaced → AreCopied t (cleared t.nodes replaced ++ copies) now copies replaced
 are_copied t now who copies replaced sound known =
     subst (λ (o : Option ℕ). AreCopied t (cleared t.nodes o ++ copies) now copies o) (sym known.replaced_is) (record {
@@ -222,7 +224,7 @@ same_walk (suc k) t who transfer name j folder sound known under =
 
 -- ---- the law
 
-moved_rows : (t : Tables) (who : Option ℕ) (transfer : Transfer) (name : List ℕ) → AreSound t → KnownTransfer t who transfer name
+pub moved_rows : (t : Tables) (who : Option ℕ) (transfer : Transfer) (name : List ℕ) → AreSound t → KnownTransfer t who transfer name
     → IsMoved t.nodes (nodes_after t transfer name) transfer name
 unfolding walk_of
 moved_rows t who transfer name sound known = record {
@@ -251,8 +253,8 @@ moves_keep s seat now event transfer name sound asked decides =
     let known = known_change s seat now event act sound asked decides in
     let own = path_own t who (At transfer.node) transfer.node sound.rows known.source refl in
     let row : length (transferred_row (node_row t.nodes transfer.node) transfer name) ≡ 1 = rw own.there refl in
-    let some : 1 ≤ length (told t now act) =
+    let some : 1 ≤ length (told t act) =
     omega (arith, row, length-append (dropped_for t.nodes transfer.replaced) (transferred_row (node_row t.nodes transfer.node) transfer name)) in
     let nodes : (step s seat now event).tables.nodes ≡ nodes_after t transfer name =
-    ap (λ (made : Tables). made.nodes) (step_changed s seat now event act decides) ∙ stamped_nodes t (altered t now act) now (told t now act) some in
+    ap (λ (made : Tables). made.nodes) (step_changed s seat now event act decides) ∙ stamped_nodes t (altered t now act) now (told t act) some in
     subst (λ (after : List NodeRow). IsMoved t.nodes after transfer name) (sym nodes) (moved_rows t who transfer name sound.rows known)

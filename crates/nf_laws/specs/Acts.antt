@@ -6,12 +6,12 @@ use Rattle.nf_base.specs.declared.rows.NodeKind.TheVariants.{File, Folder}
 use Rattle.nf_base.specs.declared.rows.NodeRow.{NodeRow}
 use Rattle.nf_base.specs.declared.rows.Place.TheVariants.{Inside}
 use Rattle.nf_defs.specs.Prelude.{child_of, is_folder, is_folder_kind, Leads, node_row, owner_of, Tables}
-use Rattle.nf_defs.specs.declared.Seeker.{Seeker}
 use Rattle.nf_defs.specs.declared.Seeker.TheVariants.{User}
 use Rattle.nf_laws.specs.Reads.{LeadsToKey}
 use Rattle.nf_laws.specs.Tree.{Under}
 use Rattle.nf_laws.specs.Wholes.{blob_in}
-use Rattle.nf_words.specs.Prelude.{after, answer_to, blob_for, call_of, content_in, IsSound, MayAsk, root_of, State, step, ticket_for, ticket_of, user_of, without_ticket}
+use Rattle.nf_words.specs.Prelude.{after, answer_to, blob_for, call_of, content_in, goal_at, IsSound, MayAsk, root_of, State, step, user_of, without_ticket}
+use Rattle.nf_words.specs.declared.answer.By.{By}
 use Rattle.nf_words.specs.declared.answer.Goal.TheVariants.{Store}
 use Rattle.nf_words.specs.declared.answer.LockKey.{LockKey}
 use Rattle.nf_words.specs.declared.answer.LockKey.TheVariants.{Node, Slot}
@@ -92,7 +92,7 @@ pub record IsGranted (s : State) (seat now : ℕ) (words : Words) (request : Req
   pub caller : user_of (call_of s seat now words request) ≡ Some user
   pub key : LockKey
   pub led : LeadsToKey s.tables.nodes (root_of (call_of s seat now words request)) path key
-  pub granted : answer_to s seat now (Begin words request) ≡ Ok (Granted (Store (User user) key size))
+  pub granted : answer_to s seat now (Begin words request) ≡ Ok (Granted (Store (record { seeker = User user; mount = None }) key size))
   pub rows : (step s seat now (Begin words request)).tables ≡ s.tables
 
 abbrev pub PutsAreGranted : Type 0
@@ -123,8 +123,8 @@ IsPut before after now (Slot folder name) content = IsAdded before after now fol
 
 abbrev pub PutsKeep : Type 0
 PutsKeep =
-    (s : State) (seat now : ℕ) (who : Seeker) (key : LockKey) (digest : List ℕ) (size : ℕ) → IsSound s
-    → ticket_of s seat ≡ Some (ticket_for seat (Store who key size))
+    (s : State) (seat now : ℕ) (by : By) (key : LockKey) (digest : List ℕ) (size : ℕ) → IsSound s
+    → goal_at s seat ≡ Some (Store by key size)
     → IsOk (answer_to s seat now (End (Body digest size)))
     → IsPut s.tables (step s seat now (End (Body digest size))).tables now key (content_in (blob_for s.tables.meta.next_blob size) digest size)
 

@@ -1,10 +1,10 @@
 -- What was stored is what is read.
-use Rattle.std.specs.Prelude.{◌≡◌, ℕ, ◌+◌, ◌≤◌, List, [], ◌∷◌, ◌++◌, length, take, Some, Ok, IsOk}
+use Rattle.std.specs.Prelude.{◌≡◌, ℕ, ◌+◌, ◌≤◌, List, [], ◌∷◌, ◌++◌, length, take, None, Some, Ok, IsOk}
 use Rattle.nf_base.specs.declared.content.Piece.{Piece}
 use Rattle.nf_base.specs.declared.rows.NodeRow.{NodeRow}
-use Rattle.nf_defs.specs.Prelude.{Leads, node_row, unshared}
-use Rattle.nf_defs.specs.declared.Seeker.{Seeker}
-use Rattle.nf_words.specs.Prelude.{after, answer_to, blob_for, Call, call_of, content_in, forbidden_rule, IsLegalFrom, IsSound, MayCome, not_you_rule, Pass, replay, root_of, State, ticket_for, ticket_of, token_rule}
+use Rattle.nf_defs.specs.Prelude.{Leads, node_row}
+use Rattle.nf_words.specs.Prelude.{access_of, after, answer_to, blob_for, Call, call_of, content_in, forbidden_rule, goal_at, IsLegalFrom, IsSound, MayCome, not_you_rule, replay, root_of, State, token_rule}
+use Rattle.nf_words.specs.declared.answer.By.{By}
 use Rattle.nf_words.specs.declared.answer.Goal.TheVariants.{Serve, Store}
 use Rattle.nf_words.specs.declared.answer.LockKey.{LockKey}
 use Rattle.nf_words.specs.declared.answer.LockKey.TheVariants.{Node, Slot}
@@ -29,11 +29,11 @@ pub record IsStored (n : ℕ) (s : State) (e : Entry) (root : ℕ) (path : List 
   pub sound : IsSound s
   pub may : MayCome n s e
   pub answered : e.mark ≡ Answered
-  pub who : Seeker
+  pub by : By
   pub key : LockKey
   pub size : ℕ
   pub digest : List ℕ
-  pub granted : ticket_of s e.seat ≡ Some (ticket_for e.seat (Store who key size))
+  pub granted : goal_at s e.seat ≡ Some (Store by key size)
   pub brought : e.event ≡ End (Body digest size)
   pub accepted : IsOk (answer_to s e.seat e.moment e.event)
   pub led : LeadsToKey s.tables.nodes root path key
@@ -45,8 +45,10 @@ PathStays before after root path =
     (k node : ℕ) → k ≤ length path → Leads before root (take k path) node → node_row after node ≡ node_row before node
 
 -- no rule of who asks or of names refuses the call
-abbrev pub IsWellAsked : Call → Type 0
-IsWellAsked call = Pass (token_rule ∷ not_you_rule ∷ forbidden_rule ∷ []) unshared call
+pub record IsWellAsked (call : Call) : Type 0 where
+  pub token : token_rule (access_of call.state) call ≡ None
+  pub not_you : not_you_rule (access_of call.state) call ≡ None
+  pub forbidden : forbidden_rule (access_of call.state) call ≡ None
 
 -- a GET of a path by whose root it is, which no rule of who asks or of names refuses
 pub record IsReadBy (s : State) (seat now : ℕ) (words : Words) (request : Request) (root : ℕ) (path : List (List ℕ)) : Type 0 where

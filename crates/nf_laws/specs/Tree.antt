@@ -1,5 +1,5 @@
 -- What the words about the tree of nodes mean.
-use Rattle.std.specs.Prelude.{◌≡◌, ◌≢◌, ◌↔◌, ℕ, ◌≤◌, All, AllPairs, Contains, true, false, List, [], Some, is_some, sum_by}
+use Rattle.std.specs.Prelude.{◌≡◌, ◌≢◌, ◌↔◌, ◌⊎◌, ℕ, ◌≤◌, All, AllPairs, Contains, true, false, List, [], Some, is_some, sum_by}
 use Rattle.std.specs.Cmp.Lexicographic.{slice_cmp}
 use Rattle.std.specs.Option.{option_map_or}
 use Rattle.std.specs.Ordering.{nat_cmp}
@@ -7,7 +7,8 @@ use Rattle.std.specs.declared.cmp.Ordering.TheVariants.{Less}
 use Rattle.nf_base.specs.declared.limits.TheConstants.{MAX_DEPTH}
 use Rattle.nf_base.specs.FreeNames.{is_taken}
 use Rattle.nf_base.specs.declared.rows.NodeRow.{NodeRow}
-use Rattle.nf_defs.specs.Prelude.{child_of, children_of, climb, depth, is_present, is_rooted, is_under, node_row, parent_of, Tables, taken_names, walk_of}
+use Rattle.nf_base.specs.declared.rows.Place.TheVariants.{Root, Trash}
+use Rattle.nf_defs.specs.Prelude.{child_of, children_of, climb, depth, is_present, is_rooted, is_under, node_row, owner_of, parent_of, Tables, taken_names, walk_of}
 use Rattle.nf_words.specs.Listing.{size_of}
 use Rattle.nf_words.specs.Prelude.{AreSound, bytes_of, root_of_user}
 
@@ -22,13 +23,28 @@ UnderIsDerived =
     (t : Tables) (top : ℕ) → AreSound t
     → All (λ (row : NodeRow). (is_under t.nodes row.id top ≡ true) ↔ Under t.nodes top row.id) t.nodes
 
--- every node is under a user's root
-abbrev pub NodesArePresent : Type 0
-NodesArePresent = (t : Tables) → AreSound t → All (λ (row : NodeRow). is_present t.users t.nodes row.id ≡ true) t.nodes
+-- in the trash: the node is a top there, or under one of the same owner
+pub record IsTrashed (rows : List NodeRow) (node : ℕ) : Type 0 where
+  pub top : NodeRow
+  pub there : node_row rows top.id ≡ Some top
+  pub place : top.place ≡ Trash
+  pub owner : top.owner ≡ owner_of rows node
+  pub under : is_under rows node top.id ≡ true
 
--- a node is present exactly where it is there; and it is then a root or under one, so all words for it are one
+-- every node is under a user's root, or in the trash
+abbrev pub NodesArePresent : Type 0
+NodesArePresent =
+    (t : Tables) → AreSound t → All (λ (row : NodeRow). (is_present t.users t.nodes row.id ≡ true) ⊎ IsTrashed t.nodes row.id) t.nodes
+
+-- none is in the trash yet: that kind of rows is still to come
+abbrev pub NothingIsTrashed : Type 0
+NothingIsTrashed = (t : Tables) (node : ℕ) → AreSound t → IsTrashed t.nodes node → ⊥
+
+-- a node is there exactly where it is present or in the trash, and never both; present, it is a root or under one, so these words are one
 pub record PresentIsThere : Type 0 where
-  pub there : (t : Tables) (node : ℕ) → AreSound t → is_present t.users t.nodes node ≡ is_some (node_row t.nodes node)
+  pub there : (t : Tables) (node : ℕ) → AreSound t
+      → (is_some (node_row t.nodes node) ≡ true) ↔ ((is_present t.users t.nodes node ≡ true) ⊎ IsTrashed t.nodes node)
+  pub apart : (t : Tables) (node : ℕ) → AreSound t → IsTrashed t.nodes node → is_present t.users t.nodes node ≡ false
   pub rooted : (t : Tables) (node : ℕ) → AreSound t → is_rooted t.nodes node ≡ is_present t.users t.nodes node
 
 -- a folder has a child of a name exactly where the name is among its taken ones
@@ -36,12 +52,17 @@ abbrev pub NamesAreTaken : Type 0
 NamesAreTaken =
     (rows : List NodeRow) (folder : ℕ) (name : List ℕ) → is_some (child_of rows folder name) ≡ is_taken name (taken_names rows folder)
 
--- so many folders up from a node as it is deep is its owner's root, and no node is deeper than `MAX_DEPTH`
+-- so many folders up from a node as it is deep is its owner's root, or one in its owner's trash; no node is deeper than `MAX_DEPTH`
+pub record ClimbsByDepth (t : Tables) (row : NodeRow) : Type 0 where
+  pub top : NodeRow
+  pub there : node_row t.nodes top.id ≡ Some top
+  pub owner : top.owner ≡ row.owner
+  pub place : ((top.place ≡ Root) × (top.id ≡ root_of_user t row.owner)) ⊎ (top.place ≡ Trash)
+  pub climbs : climb t.nodes (depth t.nodes row.id) row.id ≡ Some top.id
+  pub shallow : depth t.nodes row.id ≤ MAX_DEPTH
+
 abbrev pub DepthIsClimbed : Type 0
-DepthIsClimbed =
-    (t : Tables) → AreSound t
-    → All (λ (row : NodeRow).
-    (climb t.nodes (depth t.nodes row.id) row.id ≡ Some (root_of_user t row.owner)) × (depth t.nodes row.id ≤ MAX_DEPTH)) t.nodes
+DepthIsClimbed = (t : Tables) → AreSound t → All (ClimbsByDepth t) t.nodes
 
 -- no folder is under a node that is in it
 abbrev pub NoRings : Type 0

@@ -2,11 +2,9 @@
 use Rattle.std.specs.Prelude.{◌≡◌, ◌⊎◌, ℕ, ◌<◌, All, Contains, List, length, Option, None, Some}
 use Rattle.sha2.specs.Sha256.{sha256}
 use Rattle.nf_base.specs.declared.content.Piece.{Piece}
-use Rattle.nf_base.specs.declared.rows.NodeRow.{NodeRow}
 use Rattle.nf_base.specs.declared.rows.Row.{Row}
-use Rattle.nf_base.specs.declared.rows.Row.TheVariants.{Node}
 use Rattle.nf_defs.specs.Blobs.{Blobs, blob_at, with_blob}
-use Rattle.nf_words.specs.Prelude.{after, blob_to, IsSound, MayCome, opened, State}
+use Rattle.nf_words.specs.Prelude.{after, blob_to, contents_of, IsSound, MayCome, opened, row_content, State}
 use Rattle.nf_words.specs.declared.answer.Goal.{Goal}
 use Rattle.nf_words.specs.declared.answer.Goal.TheVariants.{Serve, Store}
 use Rattle.nf_words.specs.declared.history.Entry.{Entry}
@@ -26,11 +24,11 @@ pub record IsThere (blobs : Blobs) (piece : Piece) : Type 0 where
   pub size : length bytes ≡ piece.size
   pub digest : sha256 bytes ≡ piece.digest
 
--- one of the rows names the piece
+-- one of the rows names the piece, of whatever kind it is
 pub record IsNamed (rows : List Row) (piece : Piece) : Type 0 where
-  pub row : NodeRow
-  pub among : Contains rows (Node row)
-  pub named : Contains row.content piece
+  pub row : Row
+  pub among : Contains rows row
+  pub named : Contains (row_content row) piece
 
 -- a piece that the rows of the opening name, and whose bytes the store hadn't then
 pub record IsDamaged (opening : List Row) (blobs : Blobs) (piece : Piece) : Type 0 where
@@ -45,9 +43,9 @@ abbrev pub IsGoalHeld : List Row → Blobs → Blobs → Goal → Type 0
 IsGoalHeld opening start blobs (Serve content) = All (IsHeld opening start blobs) content
 IsGoalHeld opening start blobs (Store by key length) = Unit {0}
 
--- whole for a state, but for what was damaged at the start: each piece that a node or a granted GET names is there
+-- whole for a state, but for what was damaged at the start: each piece that a row or a granted GET names is there
 pub record IsWhole (opening : List Row) (start : Blobs) (s : State) (blobs : Blobs) : Type 0 where
-  pub nodes : All (λ (row : NodeRow). All (IsHeld opening start blobs) row.content) s.tables.nodes
+  pub rows : All (All (IsHeld opening start blobs)) (contents_of s.tables)
   pub tickets : All (λ (ticket : Ticket). IsGoalHeld opening start blobs ticket.goal) s.tickets
 
 -- nothing that the rows name is damaged

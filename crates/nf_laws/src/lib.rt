@@ -1,6 +1,7 @@
 //! Laws of the site's states and histories. The functions do nothing: each stands for the fact that it ensures.
 #![tactic(auto)]
 
+mod access;
 mod acts;
 mod history;
 mod owners;
@@ -11,6 +12,10 @@ mod tree;
 mod walks;
 mod wholes;
 
+pub use access::{
+    changes_what_may_be_changed, lists_what_may_be_read, own_alone, serves_what_may_be_read,
+    what_may_be_read_is_listed, what_may_be_read_is_served,
+};
 pub use acts::{cut_bodies_keep, deletes_keep, folders_are_made, puts_keep};
 pub use history::{counters_rise, numbers_are_new, stays_sound};
 pub use owners::{changes_only_own, lists_only_own, own_is_listed, own_is_served, serves_only_own};
@@ -19,7 +24,7 @@ pub use tells::changes_tell;
 pub use transfers::{copies_mirror, moves_keep};
 pub use tree::{
     children_are_by_name, depth_is_climbed, names_are_taken, no_rings, nodes_are_present,
-    present_is_there, sizes_are_sums, under_is_derived, walks_take_all_under,
+    nothing_is_trashed, present_is_there, sizes_are_sums, under_is_derived, walks_take_all_under,
 };
 pub use walks::walk_follows;
 pub use wholes::{blobs_are_new, opens_whole, stays_whole};

@@ -1,6 +1,6 @@
 //! Laws of the tree of nodes.
 
-ghost use Rattle.nf_laws.specs.Tree.{UnderIsDerived, NodesArePresent, PresentIsThere, NamesAreTaken, DepthIsClimbed, NoRings, ChildrenAreByName, WalksTakeAllUnder, SizesAreSums};
+ghost use Rattle.nf_laws.specs.Tree.{UnderIsDerived, NodesArePresent, NothingIsTrashed, PresentIsThere, NamesAreTaken, DepthIsClimbed, NoRings, ChildrenAreByName, WalksTakeAllUnder, SizesAreSums};
 
 /// A node is under a top where folders lead up to it, however many.
 #[tactic(auto, using(crate::proofs::Upwards::under_derived))]
@@ -8,13 +8,18 @@ pub fn under_is_derived()
     ensures { UnderIsDerived }
 {}
 
-/// Every node of sound tables is under a user's root.
+/// Every node of sound tables is under a user's root, or in the trash.
 #[tactic(auto, using(crate::proofs::Upwards::nodes_present))]
 pub fn nodes_are_present()
     ensures { NodesArePresent }
 {}
 
-/// A node is under a user's root, and so under a root, exactly where it is there.
+/// Nothing is in the trash of sound tables yet.
+pub fn nothing_is_trashed()
+    ensures { NothingIsTrashed }
+{}
+
+/// A node is there exactly where it is under a user's root, and so under a root, or in the trash, and never both.
 #[tactic(auto, using(crate::proofs::Presence::present_there))]
 pub fn present_is_there()
     ensures { PresentIsThere }
@@ -26,7 +31,7 @@ pub fn names_are_taken()
     ensures { NamesAreTaken }
 {}
 
-/// A node's depth is how many folders up its owner's root is, `MAX_DEPTH` at most.
+/// A node's depth is how many folders up its owner's root is, or the one in the trash that it is under, `MAX_DEPTH` at most.
 pub fn depth_is_climbed()
     ensures { DepthIsClimbed }
 {}

@@ -2,7 +2,7 @@
 
 ghost use Rattle.nf_laws.specs.Wholes.{BlobsAreNew, OpensWhole, StaysWhole};
 
-/// Blobs that hold each piece that a node or a granted GET names hold it after each step, with the body that the step stores.
+/// Blobs that hold each piece that a row or a granted GET names hold it after each step, with the body that the step stores.
 pub fn stays_whole()
     ensures { StaysWhole }
 {}

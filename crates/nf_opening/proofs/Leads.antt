@@ -1,20 +1,16 @@
--- The way from a node to its owner's root, step by step.
+-- The way from a node to a top, step by step.
 use Rattle.std.proofs.Common.{◌≡◌, ℕ, zero, suc, ◌+◌, ◌==◌, ◌&&◌, Bool, true, false, cond, Option, None, Some, refl, sym, ap, ◌∙◌, arith}
 use Rattle.std.specs.Option.{option_and_then, option_map_or}
 use Rattle.nf_base.specs.declared.rows.NodeRow.{NodeRow}
 use Rattle.nf_base.specs.declared.rows.Place.{Place}
 use Rattle.nf_base.specs.declared.rows.Place.TheVariants.{Root, Inside, Trash}
-use Rattle.nf_defs.specs.Prelude.{is_folder_kind, is_root_place, node_row, Tables}
-use Rattle.nf_words.specs.Sound.{root_of_user}
+use Rattle.nf_defs.specs.Prelude.{is_folder_kind, node_row, Tables}
 use Rattle.nf_rules.specs.Rules.{leads_from, leads_within}
-use Rattle.nf_opening.specs.Ways.{above_in, folder_above, is_own_root}
+use Rattle.nf_opening.specs.Ways.{above_in, folder_above, is_own_top, is_top_at}
 
 -- ---- one step
 
 module _ (t : Tables) (row : NodeRow) (onward : NodeRow → Bool) where
-  abbrev own : Place → Bool
-  own place = is_root_place place && row.id == root_of_user t row.owner
-
   no_folder : (parent : Option NodeRow)
       → option_and_then (λ (p : NodeRow). cond (is_folder_kind p.kind && p.owner == row.owner) (Some p) None) parent ≡ None
       → option_map_or (λ (p : NodeRow). is_folder_kind p.kind && p.owner == row.owner && onward p) parent false ≡ false
@@ -39,7 +35,7 @@ module _ (t : Tables) (row : NodeRow) (onward : NodeRow → Bool) where
       one false true is = absurd cc
       one false false is = absurd cc
 
-  no_step : (place : Place) → above_in t row.owner place ≡ None → leads_from t row place onward ≡ own place
+  no_step : (place : Place) → above_in t row.owner place ≡ None → leads_from t row place onward ≡ is_top_at t row place
   no_step Root none = refl
   no_step (Inside folder) none = no_folder (node_row t.nodes folder) none
   no_step Trash none = refl
@@ -49,15 +45,15 @@ module _ (t : Tables) (row : NodeRow) (onward : NodeRow → Bool) where
   one_step (Inside folder) up is = a_folder (node_row t.nodes folder) up is
   one_step Trash up is = absurd cc
 
--- no root is in a folder
-no_root : (t : Tables) (row up : NodeRow) (place : Place) → above_in t row.owner place ≡ Some up → own t row (λ p. false) place ≡ false
-no_root t row up Root is = absurd cc
-no_root t row up (Inside folder) is = refl
-no_root t row up Trash is = refl
+-- no top is in a folder
+no_top : (t : Tables) (row up : NodeRow) (place : Place) → above_in t row.owner place ≡ Some up → is_top_at t row place ≡ false
+no_top t row up Root is = absurd cc
+no_top t row up (Inside folder) is = refl
+no_top t row up Trash is = absurd cc
 
 -- ---- within so many steps
 
-pub leads_none : (k : ℕ) (t : Tables) (row : NodeRow) → folder_above t row ≡ None → leads_within k t row ≡ is_own_root t row
+pub leads_none : (k : ℕ) (t : Tables) (row : NodeRow) → folder_above t row ≡ None → leads_within k t row ≡ is_own_top t row
 unfolding leads_within
 leads_none zero t row none = no_step t row (λ parent. false) row.place none
 leads_none (suc k) t row none = no_step t row (leads_within k t) row.place none
@@ -69,10 +65,10 @@ leads_up k (suc j) t row up more is =
     let e : j ≡ k = omega arith in
     one_step t row (leads_within j t) row.place up is ∙ ap (λ (n : ℕ). leads_within n t up) e
 
-pub leads_zero : (k : ℕ) (t : Tables) (row : NodeRow) → k ≡ 0 → leads_within k t row ≡ is_own_root t row
+pub leads_zero : (k : ℕ) (t : Tables) (row : NodeRow) → k ≡ 0 → leads_within k t row ≡ is_own_top t row
 unfolding leads_within
 leads_zero k t row none = ap (λ (n : ℕ). leads_within n t row) none ∙ here (folder_above t row) refl
   where
-    here : (above : Option NodeRow) → folder_above t row ≡ above → leads_within 0 t row ≡ is_own_root t row
+    here : (above : Option NodeRow) → folder_above t row ≡ above → leads_within 0 t row ≡ is_own_top t row
     here None e = no_step t row (λ parent. false) row.place e
-    here (Some up) e = one_step t row (λ parent. false) row.place up e ∙ sym (no_root t row up row.place e)
+    here (Some up) e = one_step t row (λ parent. false) row.place up e ∙ sym (no_top t row up row.place e)

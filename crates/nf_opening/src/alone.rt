@@ -3,7 +3,8 @@
 ghost use Rattle.std.specs.Prelude.{◌≡◌, not, nat_lt};
 ghost use Rattle.nf_base.specs.declared.rows.Row.TheVariants as rows;
 ghost use Rattle.nf_defs.specs.Tables.{tables_of};
-ghost use Rattle.nf_rules.specs.Rules.{are_counters, are_numbers, first_index, has_ungiven_blob, is_given, is_later, is_lavish, is_place_given};
+ghost use Rattle.nf_rules.specs.Rules.{are_counters, are_numbers, first_index, has_ungiven_blob, is_given, is_lavish, is_place_given};
+ghost use Rattle.nf_words.specs.Prelude.{is_later};
 
 use crate::first::first;
 use nf_base::{BlobId, MAX_QUOTA, MetaRow, NodeId, NodeRow, Piece, Place, Row};

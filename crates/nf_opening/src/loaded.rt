@@ -1,7 +1,7 @@
 //! The tables of stored rows.
 
-ghost use Rattle.std.specs.Prelude.{◌≡◌, IfOk, OnOk, option_copied};
-ghost use Rattle.nf_defs.specs.Prelude.{AreRising, no_rows, node_row, put_row, tables_of, user_row};
+ghost use Rattle.std.specs.Prelude.{◌≡◌, IfOk, OnOk, is_some, option_copied};
+ghost use Rattle.nf_defs.specs.Prelude.{AreRising, item_row, no_rows, node_row, put_row, tables_of, user_row};
 ghost use Rattle.nf_rules.specs.Rules.{is_group};
 
 use crate::numbered::find_row;
@@ -135,5 +135,13 @@ impl Loaded {
         ensures { result ≡ is_group self.now id }
     {
         find_row(&self.groups, u64::from(id.number())).is_some()
+    }
+
+    /// Whether the trash has an item with that node as its top.
+    pub(crate) fn has_item(&self, node: NodeId) -> bool
+        requires { AreRising self.now }
+        ensures { result ≡ is_some (item_row self.now.items node) }
+    {
+        find_row(&self.items, node.number()).is_some()
     }
 }

@@ -3,7 +3,7 @@
 ghost use Rattle.std.specs.Prelude.{◌≡◌, ◌==◌, ◌∷◌, [], ℕ, find, option_copied};
 ghost use Rattle.nf_defs.specs.Rising.{IsRising};
 
-use nf_base::{GroupRow, NodeRow, UserRow};
+use nf_base::{GroupRow, ItemRow, NodeRow, UserRow};
 
 /// A row that a number tells from the others of its kind.
 pub(crate) trait Numbered {
@@ -45,5 +45,13 @@ impl Numbered for NodeRow {
 
     fn number(&self) -> u64 {
         self.id.number()
+    }
+}
+
+impl Numbered for ItemRow {
+    ghost number = { λ row. row.node };
+
+    fn number(&self) -> u64 {
+        self.node.number()
     }
 }

@@ -1,16 +1,16 @@
-//! The rule that users have their roots and that nodes lead to them.
+//! The rule that users have their roots and that nodes lead to them or into the trash.
 
 ghost use Rattle.std.specs.Prelude.{◌≡◌, not, option_copied};
 ghost use Rattle.nf_base.specs.declared.rows.Row.TheVariants as rows;
 ghost use Rattle.nf_defs.specs.Prelude.{AreRising, tables_of};
 ghost use Rattle.nf_rules.specs.Rules.{first_index, is_placed, is_root_of, leads};
-ghost use Rattle.nf_opening.specs.Ways.{folder_above, is_own_root};
+ghost use Rattle.nf_opening.specs.Ways.{folder_above, is_own_top};
 
 use crate::Loaded;
 use crate::first::first;
 use nf_base::{MAX_DEPTH, NodeKind, NodeRow, Place, Row, UserRow};
 
-/// The first user who has no root, or node that doesn't lead to one.
+/// The first user who has no root, or node that leads neither to one nor into the trash.
 pub(crate) fn first_astray(loaded: &Loaded, rows: &[Row]) -> Option<usize>
     requires tables { loaded.now ≡ tables_of rows.now }
     requires rising { AreRising loaded.now }
@@ -49,7 +49,7 @@ fn is_root_of(user: &UserRow, node: &NodeRow) -> bool
         && node.name.as_bytes() == user.name.as_bytes()
 }
 
-/// Whether the node leads to its owner's root, at most `MAX_DEPTH` folders up.
+/// Whether the node leads to its owner's root or into the trash, at most `MAX_DEPTH` folders up.
 fn leads(loaded: &Loaded, node: &NodeRow) -> bool
     requires { AreRising loaded.now }
     ensures { result ≡ leads loaded.now node.now }
@@ -59,10 +59,10 @@ fn leads(loaded: &Loaded, node: &NodeRow) -> bool
         let _ = step;
         match folder_above(loaded, at) {
             Some(folder) => at = folder,
-            None => return is_own_root(loaded, at),
+            None => return is_own_top(loaded, at),
         }
     }
-    is_own_root(loaded, at)
+    is_own_top(loaded, at)
 }
 
 /// The folder that a node is in, where it has the same owner.
@@ -81,12 +81,16 @@ fn folder_above<'a>(loaded: &'a Loaded, node: &NodeRow) -> Option<&'a NodeRow>
     }
 }
 
-fn is_own_root(loaded: &Loaded, node: &NodeRow) -> bool
+fn is_own_top(loaded: &Loaded, node: &NodeRow) -> bool
     requires { AreRising loaded.now }
-    ensures { result ≡ is_own_root loaded.now node.now }
+    ensures { result ≡ is_own_top loaded.now node.now }
 {
-    match loaded.user(node.owner) {
-        Some(user) => node.place == Place::Root && user.root == node.id,
-        None => node.place == Place::Root && node.id.number() == 0,
+    match node.place {
+        Place::Root => match loaded.user(node.owner) {
+            Some(user) => user.root == node.id,
+            None => node.id.number() == 0,
+        },
+        Place::Inside(_) => false,
+        Place::Trash => loaded.user(node.owner).is_some() && loaded.has_item(node.id),
     }
 }

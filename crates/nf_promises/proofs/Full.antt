@@ -75,7 +75,7 @@ passes_full : {C : Type 0} (reads : C → ℕ → C → Type 0) (body : List ℕ
 passes_full reads body a b (begun.Unasked refusal) (is, same) = cc
 passes_full reads body a b (begun.Asked (Ok (reply.Granted (goal.Serve content)))) starts =
     absurd (starts_not_full a.book b.book content starts.starts)
-passes_full reads body a b (begun.Asked (Ok (reply.Granted (goal.Store who key length)))) (now, answer, read, ends, is, only) =
+passes_full reads body a b (begun.Asked (Ok (reply.Granted (goal.Store by key length)))) (now, answer, read, ends, is, only) =
     let enters = ends.enters in
     absurd (end_not_full (state_after a.book enters.others) enters.entry _ enters.event_is (sym enters.answer_is ∙ answer_full answer is))
 passes_full reads body a b (begun.Asked answer) passes = answer_full answer passes.0

@@ -4,26 +4,26 @@ use Rattle.std.specs.Prelude.{IsOk, bytes_eq}
 use Rattle.std.specs.List.{list_all}
 use Rattle.std.specs.Option.{option_and_then, option_map_or}
 use Rattle.std.proofs.Math.Seq.{get_or-append_seam}
+use Rattle.std.proofs.lemmas.List.{append-nil}
 use Rattle.std.proofs.lemmas.Option.{unwrap_or-slice_get}
 use Rattle.sha2.specs.Sha256.{sha256}
 use Rattle.nf_base.specs.declared.content.Piece.{Piece}
 use Rattle.nf_base.specs.declared.rows.UserRow.{UserRow}
-use Rattle.nf_defs.specs.Prelude.{found_from, holder_of, Tables, unshared, user_row}
+use Rattle.nf_defs.specs.Prelude.{found_from, holder_of, Tables, user_row}
 use Rattle.nf_defs.specs.declared.Found.{Found}
 use Rattle.nf_defs.specs.declared.Found.TheVariants.{At, Free, Missing}
-use Rattle.nf_defs.specs.declared.Seeker.{Seeker}
-use Rattle.nf_defs.specs.declared.Seeker.TheVariants as seeker
 use Rattle.nf_laws.proofs.Owning.{changes_own}
 use Rattle.nf_laws.proofs.Paths.{found_free, found_leads}
 use Rattle.nf_laws.proofs.Reading.{stored_is_read}
 use Rattle.nf_laws.proofs.Stays.{sound_after}
 use Rattle.nf_laws.specs.Reads.{IsReadBy, IsStored, LeadsToKey}
-use Rattle.nf_words.proofs.Known.{call_passes}
-use Rattle.nf_words.proofs.Steps.{granted_step, put_grants_nothing}
-use Rattle.nf_words.specs.Prelude.{after, after_mark, answer_at, answer_to, answered_by, AreSound, asker_of, blob_by, blob_for, blob_of, blob_to, call_of, content_in, decided, decision_of, end_refusal, ends_ticket, forbidden_rule, found, IsSound, last_name, MayAsk, MayCome, named_in, not_you_rule, Pass, refusal_of, reply_to, root_of, rules, State, step, stored, stored_at, stores, ticket_for, ticket_of, token_rule, unless_refused}
+use Rattle.nf_words.proofs.Passing.{Passes, call_passes}
+use Rattle.nf_words.proofs.Steps.{granted_step, put_grants_nothing, reports_nothing}
+use Rattle.nf_words.specs.Prelude.{access_of, after, after_mark, answer_at, answer_to, answered_by, AreSound, blob_by, blob_for, blob_of, blob_to, by_of, call_of, content_in, decided, decision_of, end_refusal, ends_at, forbidden_rule, found, goal_at, is_caller, IsSound, last_name, MayAsk, MayCome, named_in, not_you_rule, refusal_of, reply_to, root_of, State, step, stored, stored_at, stores, token_rule, unless_refused}
 use Rattle.nf_words.specs.Calls.{caller_of}
 use Rattle.nf_words.specs.declared.answer.Allowed.{Allowed}
 use Rattle.nf_words.specs.declared.answer.Allowed.TheVariants as allowed
+use Rattle.nf_words.specs.declared.answer.By.{By}
 use Rattle.nf_words.specs.declared.answer.Denial.{Denial}
 use Rattle.nf_words.specs.declared.answer.Denial.TheVariants as denial
 use Rattle.nf_words.specs.declared.answer.Goal.TheVariants.{Serve, Store}
@@ -63,12 +63,13 @@ ok_answer s e event r event_is is =
 
 -- ---- the Begin of a PUT
 
-put_only : (d : Result Allowed Denial) (who : Seeker) (key : LockKey) (size : ℕ) → answered_by d ≡ Ok (Granted (Store who key size))
-    → d ≡ Ok (allowed.Put who key size)
-put_only (Ok (allowed.Put by at length)) who key size is = cc
-put_only (Ok (allowed.Move transfer name)) who key size is = absurd (put_grants_nothing transfer.replaced (Store who key size) (cc))
-put_only (Ok (allowed.Copy rows replaced)) who key size is = absurd (put_grants_nothing replaced (Store who key size) (cc))
-put_only other who key size is = absurd (cc)
+put_only : (d : Result Allowed Denial) (by : By) (key : LockKey) (size : ℕ) → answered_by d ≡ Ok (Granted (Store by key size))
+    → d ≡ Ok (allowed.Put by key size)
+put_only (Ok (allowed.Put who at length)) by key size is = cc
+put_only (Ok (allowed.Change changes blob report)) by key size is = absurd (reports_nothing report (Store by key size) (cc))
+put_only (Ok (allowed.Move transfer name)) by key size is = absurd (put_grants_nothing transfer.replaced (Store by key size) (cc))
+put_only (Ok (allowed.Copy rows replaced)) by key size is = absurd (put_grants_nothing replaced (Store by key size) (cc))
+put_only other by key size is = absurd (cc)
 
 -- the answers of a PUT's Begin, but for refusals
 abbrev pub IsOfPut : Reply → Type 0
@@ -78,10 +79,10 @@ IsOfPut Made = ⊥
 IsOfPut Done = ⊥
 IsOfPut (Listing lines) = ⊥
 
-stored_replies : (who : Seeker) (name : List ℕ) (n : ℕ) (place : Found) → IsOfPut (reply_to (stored who name n (Some place)))
-stored_replies who name n (At node) = tt
-stored_replies who name n (Free folder) = tt
-stored_replies who name n (Missing depth) = tt
+stored_replies : (by : By) (name : List ℕ) (n : ℕ) (place : Found) → IsOfPut (reply_to (stored by name n (Some place)))
+stored_replies by name n (At node) = tt
+stored_replies by name n (Free folder) = tt
+stored_replies by name n (Missing depth) = tt
 
 not_refused : (o : Option Denial) (act : Allowed) (r : Reply) → answered_by (unless_refused o act) ≡ Ok r → reply_to act ≡ r
 not_refused None act r is = cc
@@ -91,24 +92,24 @@ pub put_replies : (s : State) (seat now : ℕ) (words : Words) (caller : Caller)
     → answer_to s seat now (Begin words (put_of caller spot n)) ≡ Ok r → IsOfPut r
 put_replies s seat now words caller spot n r is =
     let call = call_of s seat now words (put_of caller spot n) in
-    let act : Allowed = stored (seeker.User (asker_of call)) (last_name spot) n (Some (found call spot)) in
-    subst (λ (r : Reply). IsOfPut r) (not_refused (refusal_of unshared call) act r is)
-    (stored_replies (seeker.User (asker_of call)) (last_name spot) n (found call spot))
+    let act : Allowed = stored (by_of call spot) (last_name spot) n (Some (found call spot)) in
+    subst (λ (r : Reply). IsOfPut r) (not_refused (refusal_of (access_of s) call) act r is)
+    (stored_replies (by_of call spot) (last_name spot) n (found call spot))
 
-stored_size : (by : Seeker) (name : List ℕ) (n : ℕ) (place : Found) (who : Seeker) (key : LockKey) (size : ℕ)
-    → stored by name n (Some place) ≡ allowed.Put who key size → n ≡ size
-stored_size by name n (At node) who key size is = cc
-stored_size by name n (Free folder) who key size is = cc
-stored_size by name n (Missing depth) who key size is = absurd (cc)
+stored_size : (who : By) (name : List ℕ) (n : ℕ) (place : Found) (by : By) (key : LockKey) (size : ℕ)
+    → stored who name n (Some place) ≡ allowed.Put by key size → n ≡ size
+stored_size who name n (At node) by key size is = cc
+stored_size who name n (Free folder) by key size is = cc
+stored_size who name n (Missing depth) by key size is = absurd (cc)
 
 -- what it is granted has the length that it asked for
-pub put_size : (s : State) (seat now : ℕ) (words : Words) (caller : Caller) (spot : Spot) (n : ℕ) (who : Seeker) (key : LockKey) (size : ℕ)
-    → answer_to s seat now (Begin words (put_of caller spot n)) ≡ Ok (Granted (Store who key size)) → n ≡ size
-put_size s seat now words caller spot n who key size is =
+pub put_size : (s : State) (seat now : ℕ) (words : Words) (caller : Caller) (spot : Spot) (n : ℕ) (by : By) (key : LockKey) (size : ℕ)
+    → answer_to s seat now (Begin words (put_of caller spot n)) ≡ Ok (Granted (Store by key size)) → n ≡ size
+put_size s seat now words caller spot n by key size is =
     let call = call_of s seat now words (put_of caller spot n) in
-    let decides = put_only (decision_of s seat now (Begin words (put_of caller spot n))) who key size is in
-    stored_size (seeker.User (asker_of call)) (last_name spot) n (found call spot) who key size
-    (call_passes call (allowed.Put who key size) decides).1
+    let decides = put_only (decision_of s seat now (Begin words (put_of caller spot n))) by key size is in
+    stored_size (by_of call spot) (last_name spot) n (found call spot) by key size
+    (call_passes call (allowed.Put by key size) decides).1
 
 last_is : (front : List (List ℕ)) (last : List ℕ) → unwrap_or (slice_get (front ++ last ∷ []) (length (front ++ last ∷ []) - 1)) [] ≡ last
 last_is front last =
@@ -116,44 +117,44 @@ last_is front last =
     let at : length names - 1 ≡ length front = omega (arith, length-append front (last ∷ [])) in
     unwrap_or-slice_get names (length names - 1) [] ∙ ap (λ (n : ℕ). get_or names n []) at ∙ get_or-append_seam front last [] []
 
-put_key : (t : Tables) (root user n : ℕ) (spot : Spot) (place : Found) (who : Seeker) (key : LockKey) (size : ℕ) → AreSound t
+put_key : (t : Tables) (root n : ℕ) (spot : Spot) (place : Found) (who by : By) (key : LockKey) (size : ℕ) → AreSound t
     → found_from t.nodes 0 root spot.path ≡ place
-    → stored (seeker.User user) (last_name spot) n (Some place) ≡ allowed.Put who key size → LeadsToKey t.nodes root spot.path key
-put_key t root user n spot (At node) who key size sound at is =
+    → stored who (last_name spot) n (Some place) ≡ allowed.Put by key size → LeadsToKey t.nodes root spot.path key
+put_key t root n spot (At node) who by key size sound at is =
     let same : Node node ≡ key = cc in
     subst (λ (k : LockKey). LeadsToKey t.nodes root spot.path k) same (found_leads t root spot.path node sound at)
-put_key t root user n spot (Free folder) who key size sound at is =
+put_key t root n spot (Free folder) who by key size sound at is =
     let same : Slot folder (last_name spot) ≡ key = cc in
     let free = found_free t root spot.path folder sound at in
     let named : last_name spot ≡ free.last =
     ap (λ (path : List (List ℕ)). unwrap_or (slice_get path (length path - 1)) []) free.parts ∙ last_is free.front free.last in
     subst (λ (k : LockKey). LeadsToKey t.nodes root spot.path k) same
     (free.front, free.parts ∙ ap (λ (l : List ℕ). free.front ++ l ∷ []) (sym named), free.led)
-put_key t root user n spot (Missing depth) who key size sound at is = absurd (cc)
+put_key t root n spot (Missing depth) who by key size sound at is = absurd (cc)
 
 -- what a Begin that is granted leaves
-record PutGranted (s : State) (e : Entry) (words : Words) (caller : Caller) (spot : Spot) (n : ℕ) (who : Seeker) (key : LockKey) (size : ℕ) : Type 0 where
+record PutGranted (s : State) (e : Entry) (words : Words) (caller : Caller) (spot : Spot) (n : ℕ) (by : By) (key : LockKey) (size : ℕ) : Type 0 where
   tables : (after s e).tables ≡ s.tables
-  ticket : ticket_of (after s e) e.seat ≡ Some (ticket_for e.seat (Store who key size))
+  goal : goal_at (after s e) e.seat ≡ Some (Store by key size)
   led : LeadsToKey s.tables.nodes (root_of (call_of s e.seat e.moment words (put_of caller spot n))) spot.path key
-  passes : Pass rules unshared (call_of s e.seat e.moment words (put_of caller spot n))
+  passes : Passes (access_of s) (call_of s e.seat e.moment words (put_of caller spot n))
 
-put_granted : (count : ℕ) (s : State) (e : Entry) (words : Words) (caller : Caller) (spot : Spot) (n : ℕ) (who : Seeker) (key : LockKey) (size : ℕ)
+put_granted : (count : ℕ) (s : State) (e : Entry) (words : Words) (caller : Caller) (spot : Spot) (n : ℕ) (by : By) (key : LockKey) (size : ℕ)
     → IsSound s → MayCome count s e → e.event ≡ Begin words (put_of caller spot n)
-    → answer_at s e e.mark ≡ Ok (Granted (Store who key size)) → PutGranted s e words caller spot n who key size
-put_granted count s e words caller spot n who key size sound may event_is is =
+    → answer_at s e e.mark ≡ Ok (Granted (Store by key size)) → PutGranted s e words caller spot n by key size
+put_granted count s e words caller spot n by key size sound may event_is is =
     let event : Event = Begin words (put_of caller spot n) in
     let call = call_of s e.seat e.moment words (put_of caller spot n) in
-    let act : Allowed = allowed.Put who key size in
-    let h = ok_answer s e event (Granted (Store who key size)) event_is is in
-    let decides : decision_of s e.seat e.moment event ≡ Ok act = put_only (decision_of s e.seat e.moment event) who key size h.1 in
+    let act : Allowed = allowed.Put by key size in
+    let h = ok_answer s e event (Granted (Store by key size)) event_is is in
+    let decides : decision_of s e.seat e.moment event ≡ Ok act = put_only (decision_of s e.seat e.moment event) by key size h.1 in
     let passes = call_passes call act decides in
     let becomes : after s e ≡ step s e.seat e.moment event = ap (after_mark s e) h.0 ∙ ap (step s e.seat e.moment) event_is in
     let asked : MayAsk s e.seat event = subst (λ (ev : Event). MayAsk s e.seat ev) event_is may.asked in
     record {
       tables = ap (λ (x : State). x.tables) becomes ∙ ap (λ (d : Result Allowed Denial). (decided s e.seat e.moment d).tables) decides;
-      ticket = ap (λ (x : State). ticket_of x e.seat) becomes ∙ granted_step s e.seat e.moment event (Store who key size) asked.0 h.1;
-      led = put_key s.tables (root_of call) (asker_of call) n spot (found call spot) who key size sound.rows refl passes.1;
+      goal = ap (λ (x : State). goal_at x e.seat) becomes ∙ granted_step s e.seat e.moment event (Store by key size) asked.0 h.1;
+      led = put_key s.tables (root_of call) n spot (found call spot) (by_of call spot) by key size sound.rows refl passes.1;
       passes = passes.0;
     }
 
@@ -181,26 +182,27 @@ callers_same a b (Token digest) same = λ i. holder_of (same i) digest
 
 get_reads : (a b : State) (seat now : ℕ) (words : Words) (caller : Caller) (spot : Spot) (n later moment : ℕ) (others : Words)
     → b.tables.users ≡ a.tables.users → b.tables.tokens ≡ a.tables.tokens
-    → Pass rules unshared (call_of a seat now words (put_of caller spot n))
+    → Passes (access_of a) (call_of a seat now words (put_of caller spot n))
     → IsReadBy b later moment others (get_of caller spot) (root_of (call_of a seat now words (put_of caller spot n))) spot.path
 unfolding token_rule not_you_rule forbidden_rule
-get_reads a b seat now words caller spot n later moment others users tokens pass =
+get_reads a b seat now words caller spot n later moment others users tokens passes =
     let who : caller_of b caller ≡ caller_of a caller = callers_same a b caller tokens in
     let row : option_and_then (user_row b.tables.users) (caller_of b caller) ≡ option_and_then (user_row a.tables.users) (caller_of a caller) =
     λ i. option_and_then (user_row (users i)) (who i) in
     let before = call_of a seat now words (put_of caller spot n) in
     let behind = call_of b later moment others (get_of caller spot) in
-    let token : token_rule unshared behind ≡ token_rule unshared before =
+    let token : token_rule (access_of b) behind ≡ token_rule (access_of a) before =
     ap (λ (o : Option ℕ). if is_some o then None else Some denial.Token) who in
-    let not_you : not_you_rule unshared behind ≡ not_you_rule unshared before =
-    ap (λ (o : Option UserRow).
+    let not_you : not_you_rule (access_of b) behind ≡ not_you_rule (access_of a) before =
+    ap (λ (names : List (List ℕ)). if list_all (is_caller behind) names then None else Some denial.NotYou) (append-nil (named_in spot.user))
+    ∙ ap (λ (o : Option UserRow).
     if list_all (λ name. option_map_or (λ row. bytes_eq row.name name) o false) (named_in spot.user) then None else Some denial.NotYou) row in
     record {
       spot = spot;
       wanted = refl;
       of_path = refl;
       from = ap (λ (o : Option UserRow). option_map_or (λ row. row.root) o 0) row;
-      asked = (token ∙ pass.0, (not_you ∙ pass.1.0, (pass.1.1.0, tt)));
+      asked = record { token = token ∙ passes.token; not_you = not_you ∙ passes.not_you; forbidden = passes.forbidden };
     }
 
 -- ---- both
@@ -216,35 +218,35 @@ pub record IsGot (s : State) (e : Entry) (caller : Caller) (spot : Spot) (body :
   pub blob : blob_to s e.seat e.moment e.event ≡ blob_for s.tables.meta.next_blob (length body)
 
 pub put_is_got : (count more : ℕ) (s : State) (first second : Entry) (words : Words) (caller : Caller) (spot : Spot) (n : ℕ)
-    (who : Seeker) (key : LockKey) (size : ℕ) (body : List ℕ) → IsSound s
+    (by : By) (key : LockKey) (size : ℕ) (body : List ℕ) → IsSound s
     → MayCome count s first → first.event ≡ Begin words (put_of caller spot n)
-    → answer_at s first first.mark ≡ Ok (Granted (Store who key size))
+    → answer_at s first first.mark ≡ Ok (Granted (Store by key size))
     → MayCome more (after s first) second → second.event ≡ event_of_body body → second.seat ≡ first.seat
     → IsOk (answer_at (after s first) second second.mark) → length body ≡ size → IsGot (after s first) second caller spot body
-put_is_got count more s first second words caller spot n who key size body sound may_first event_first granted_is may event seat ok long =
+put_is_got count more s first second words caller spot n by key size body sound may_first event_first granted_is may event seat ok long =
     let middle = after s first in
     let t = middle.tables in
     let root = root_of (call_of s first.seat first.moment words (put_of caller spot n)) in
-    let granted = put_granted count s first words caller spot n who key size sound may_first event_first granted_is in
+    let granted = put_granted count s first words caller spot n by key size sound may_first event_first granted_is in
     let sound_middle : IsSound middle = sound_after count s first sound may_first in
     let own = changes_own more middle second sound_middle may in
     let marked : second.mark ≡ mark.Answered = ok_marked middle second ok in
     let accepted : IsOk (answer_to middle second.seat second.moment second.event) =
     subst (λ (m : Mark). IsOk (answer_at middle second m)) marked ok in
-    let ticket : ticket_of middle second.seat ≡ Some (ticket_for second.seat (Store who key (length body))) =
-    ap (ticket_of middle) seat ∙ granted.ticket ∙ ap (λ (q : ℕ). Some (ticket_for q (Store who key size))) (sym seat)
-    ∙ ap (λ (l : ℕ). Some (ticket_for second.seat (Store who key l))) (sym long) in
+    let goal : goal_at middle second.seat ≡ Some (Store by key (length body)) =
+    ap (goal_at middle) seat ∙ granted.goal ∙ ap (λ (l : ℕ). Some (Store by key l)) (sym long) in
     let goes : decision_of middle second.seat second.moment second.event ≡ stores t second.moment key (sha256 body) (length body) =
-    ap (decision_of middle second.seat second.moment) event ∙ ap (ends_ticket t second.moment (Body (sha256 body) (length body))) ticket in
+    ap (decision_of middle second.seat second.moment) event
+    ∙ ap (ends_at (access_of middle) t second.moment (Body (sha256 body) (length body))) goal in
     let is_stored : IsStored more middle second root spot.path (content_of_body middle body) = record {
       sound = sound_middle;
       may = may;
       answered = marked;
-      who = who;
+      by = by;
       key = key;
       size = length body;
       digest = sha256 body;
-      granted = ticket;
+      granted = goal;
       brought = event;
       accepted = accepted;
       led = subst (λ (u : Tables). LeadsToKey u.nodes root spot.path key) (sym granted.tables) granted.led;

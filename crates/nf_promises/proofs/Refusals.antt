@@ -2,11 +2,11 @@
 use Rattle.std.proofs.Common.{ℕ, ◌≡◌, ◌⊎◌, ◌&&◌, Bool, true, false, Option, None, Some, Err, is_none, option_map, if◌then◌else◌, inl, inr, sym, ap, ◌∙◌}
 use Rattle.std.specs.Option.{option_or}
 use Rattle.std.proofs.lemmas.Bool.{false≢true}
-use Rattle.nf_defs.specs.Prelude.{child_of, is_file, is_folder, Tables}
+use Rattle.nf_defs.specs.Prelude.{Access, child_of, is_file, is_folder, Tables}
 use Rattle.nf_dav.specs.Asked.{request_of}
 use Rattle.nf_dav.proofs.NotAsked.{unasked_refusal}
 use Rattle.nf_http.specs.Head.{Head}
-use Rattle.nf_words.specs.Prelude.{answer_at, answer_to, answered_by, end_refusal, ends_goal, ends_ticket, key_lost, limit_at, pieces_of, place_of, State, stored_at, ticket_of, unless_refused}
+use Rattle.nf_words.specs.Prelude.{access_of, answer_at, answer_to, answered_by, end_refusal, ends_at, ends_goal, goal_at, key_lost, limit_at, pieces_of, place_of, State, stored_at, unless_refused}
 use Rattle.nf_words.specs.declared.answer.Allowed.{Allowed}
 use Rattle.nf_words.specs.declared.answer.Denial.{Denial}
 use Rattle.nf_words.specs.declared.answer.Denial.TheVariants as denial
@@ -21,7 +21,6 @@ use Rattle.nf_words.specs.declared.history.Mark.{Mark}
 use Rattle.nf_words.specs.declared.history.Mark.TheVariants as mark
 use Rattle.nf_words.specs.declared.history.Outcome.{Outcome}
 use Rattle.nf_words.specs.declared.history.Outcome.TheVariants.{Sent, Gone, Body}
-use Rattle.nf_words.specs.declared.history.Ticket.{Ticket}
 
 either_full : (o p : Option Denial) → option_or o p ≡ Some denial.RunFull → (o ≡ Some denial.RunFull) ⊎ (p ≡ Some denial.RunFull)
 either_full None p is = inr is
@@ -50,11 +49,12 @@ decided_full : (o : Option Denial) (act : Allowed) → answered_by (unless_refus
 decided_full None act is = absurd (cc)
 decided_full (Some refusal) act is = cc
 
-goal_not_full : (t : Tables) (now : ℕ) (outcome : Outcome) (goal : Goal) → answered_by (ends_goal t now outcome goal) ≡ Err denial.RunFull → ⊥
-goal_not_full t now Sent goal is = cc
-goal_not_full t now Gone goal is = cc
-goal_not_full t now (Body digest length) (Serve content) is = cc
-goal_not_full t now (Body digest length) (Store who key wanted) is =
+goal_not_full : (access : Access) (t : Tables) (now : ℕ) (outcome : Outcome) (goal : Goal)
+    → answered_by (ends_goal access t now outcome goal) ≡ Err denial.RunFull → ⊥
+goal_not_full access t now Sent goal is = cc
+goal_not_full access t now Gone goal is = cc
+goal_not_full access t now (Body digest length) (Serve content) is = cc
+goal_not_full access t now (Body digest length) (Store by key wanted) is =
     here (either_full (key_lost t key) (option_map denial.Limit (limit_at t (pieces_of length) (place_of key)))
     (decided_full (end_refusal t key length) (stored_at t now key digest length) is))
   where
@@ -63,16 +63,16 @@ goal_not_full t now (Body digest length) (Store who key wanted) is =
     here (inl first) = lost_not_full t key first
     here (inr second) = limit_not_full (limit_at t (pieces_of length) (place_of key)) second
 
-ticket_not_full : (t : Tables) (now : ℕ) (outcome : Outcome) (o : Option Ticket)
-    → answered_by (ends_ticket t now outcome o) ≡ Err denial.RunFull → ⊥
-ticket_not_full t now outcome None is = cc
-ticket_not_full t now outcome (Some ticket) is = goal_not_full t now outcome ticket.goal is
+seat_not_full : (access : Access) (t : Tables) (now : ℕ) (outcome : Outcome) (o : Option Goal)
+    → answered_by (ends_at access t now outcome o) ≡ Err denial.RunFull → ⊥
+seat_not_full access t now outcome None is = cc
+seat_not_full access t now outcome (Some goal) is = goal_not_full access t now outcome goal is
 
 pub end_not_full : (s : State) (e : Entry) (outcome : Outcome) → e.event ≡ End outcome → answer_at s e e.mark ≡ Err denial.RunFull → ⊥
 end_not_full s e outcome event is = here e.mark is
   where
     here : (m : Mark) → answer_at s e m ≡ Err denial.RunFull → ⊥
     here mark.Answered is =
-        ticket_not_full s.tables e.moment outcome (ticket_of s e.seat) (sym (ap (answer_to s e.seat e.moment) event) ∙ is)
+        seat_not_full (access_of s) s.tables e.moment outcome (goal_at s e.seat) (sym (ap (answer_to s e.seat e.moment) event) ∙ is)
     here mark.Store is = cc
     here mark.Memory is = cc

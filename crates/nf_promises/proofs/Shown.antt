@@ -60,7 +60,7 @@ body_truncated old new n other a b cuts ends = read_truncated old new n other a 
 
 cut_truncated : {C : Type 0} (begun : Begun) (old new : Option (List ℕ)) (n : ℕ) (fault : WireFault) (a b : Scene C)
     → cutting begun old new n fault → EndsBy fault a b ended.BadMessage → fault ≡ wire.Truncated
-cut_truncated (begun.Asked (Ok (reply.Granted (goal.Store who key length)))) old new n fault a b cuts ends =
+cut_truncated (begun.Asked (Ok (reply.Granted (goal.Store by key length)))) old new n fault a b cuts ends =
     body_truncated old new n fault a b cuts ends
 cut_truncated other old new n fault a b cuts ends = read_truncated old new n fault a b cuts ends
 

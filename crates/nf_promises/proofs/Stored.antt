@@ -56,7 +56,7 @@ module _ {C : Type 0} (reads : C → ℕ → C → Type 0) where
   passes_tells head (begun.Unasked refusal) v body a m x b judges same passes plain = absurd (subst IsPlain passes.0 plain)
   passes_tells head (begun.Asked (Ok (reply.Granted (goal.Serve content)))) v body a m x b judges same starts plain =
       absurd (plain_other v plain (starts_other x.book b.book content v starts.starts))
-  passes_tells head (begun.Asked (Ok (reply.Granted (goal.Store who key length)))) v body a m x b judges same stores plain =
+  passes_tells head (begun.Asked (Ok (reply.Granted (goal.Store by key length)))) v body a m x b judges same stores plain =
       stores.3.enters.rows
   passes_tells head (begun.Asked (Err refusal)) v body a m x b judges same passes plain = absurd (subst IsPlain passes.0 plain)
   passes_tells head (begun.Asked (Ok word)) v body a m x b (r, now, asked, read, begins, only) same passes plain =

@@ -11,10 +11,10 @@ use Rattle.nf_base.specs.declared.rows.TokenRow.{TokenRow}
 use Rattle.nf_base.specs.declared.rows.GroupRow.{GroupRow}
 use Rattle.nf_base.specs.declared.rows.MemberRow.{MemberRow}
 use Rattle.nf_base.specs.declared.rows.NodeRow.{NodeRow}
-use Rattle.nf_defs.specs.Prelude.{group_key, member_key, no_rows, node_key, put, put_row, put_rows, Tables, tables_of, token_key, user_key}
+use Rattle.nf_defs.specs.Prelude.{group_key, member_key, no_rows, node_key, put_row, put_rows, Tables, tables_of, token_key, user_key}
 use Rattle.nf_defs.proofs.Puts.{all_put}
-use Rattle.nf_rules.specs.Ruled.{HasNoLater}
-use Rattle.nf_rules.specs.Rules.{is_later, is_meta, lacks_meta}
+use Rattle.nf_words.specs.Later.{HasNoLater, is_later}
+use Rattle.nf_rules.specs.Rules.{is_meta, lacks_meta}
 
 -- each row but the meta row has it, and there is none of a kind that isn't built yet
 pub record Have (P : Row → Type 0) (t : Tables) : Type 0 where
@@ -25,19 +25,6 @@ pub record Have (P : Row → Type 0) (t : Tables) : Type 0 where
   pub nodes : All (λ (row : NodeRow). P (rows.Node row)) t.nodes
   pub later : HasNoLater t
 
--- whatever the rows of the kinds that are built
-pub later_stays : (t : Tables) (meta : MetaRow) (users : List UserRow) (tokens : List TokenRow) (groups : List GroupRow)
-    (members : List MemberRow) (nodes : List NodeRow) → HasNoLater t
-    → HasNoLater (record t { meta = meta; users = users; tokens = tokens; groups = groups; members = members; nodes = nodes })
-later_stays t meta users tokens groups members nodes h = record {
-  shares = h.shares;
-  mounts = h.mounts;
-  versions = h.versions;
-  items = h.items;
-  uploads = h.uploads;
-  chunks = h.chunks;
-}
-
 haves : (P : Row → Type 0) (t : Tables) → All (λ (row : UserRow). P (rows.User row)) t.users → All (λ (row : TokenRow). P (rows.Token row)) t.tokens
     → All (λ (row : GroupRow). P (rows.Group row)) t.groups → All (λ (row : MemberRow). P (rows.Member row)) t.members
     → All (λ (row : NodeRow). P (rows.Node row)) t.nodes → HasNoLater t → Have P t
@@ -45,23 +32,17 @@ haves P t a b c d e none = record { users = a; tokens = b; groups = c; members =
 
 one_more : (P : Row → Type 0) (t : Tables) (row : Row) → is_later row ≡ false → P row → Have P t → Have P (put_row t row)
 one_more P t (rows.Meta row) early it h =
-    haves P (put_row t (rows.Meta row)) h.users h.tokens h.groups h.members h.nodes
-    (later_stays t row t.users t.tokens t.groups t.members t.nodes h.later)
+    haves P (put_row t (rows.Meta row)) h.users h.tokens h.groups h.members h.nodes h.later
 one_more P t (rows.User row) early it h =
-    haves P (put_row t (rows.User row)) (all_put user_key (λ row. P (rows.User row)) row t.users it h.users) h.tokens h.groups h.members h.nodes
-    (later_stays t t.meta (put user_key row t.users) t.tokens t.groups t.members t.nodes h.later)
+    haves P (put_row t (rows.User row)) (all_put user_key (λ row. P (rows.User row)) row t.users it h.users) h.tokens h.groups h.members h.nodes h.later
 one_more P t (rows.Token row) early it h =
-    haves P (put_row t (rows.Token row)) h.users (all_put token_key (λ row. P (rows.Token row)) row t.tokens it h.tokens) h.groups h.members h.nodes
-    (later_stays t t.meta t.users (put token_key row t.tokens) t.groups t.members t.nodes h.later)
+    haves P (put_row t (rows.Token row)) h.users (all_put token_key (λ row. P (rows.Token row)) row t.tokens it h.tokens) h.groups h.members h.nodes h.later
 one_more P t (rows.Group row) early it h =
-    haves P (put_row t (rows.Group row)) h.users h.tokens (all_put group_key (λ row. P (rows.Group row)) row t.groups it h.groups) h.members h.nodes
-    (later_stays t t.meta t.users t.tokens (put group_key row t.groups) t.members t.nodes h.later)
+    haves P (put_row t (rows.Group row)) h.users h.tokens (all_put group_key (λ row. P (rows.Group row)) row t.groups it h.groups) h.members h.nodes h.later
 one_more P t (rows.Member row) early it h =
-    haves P (put_row t (rows.Member row)) h.users h.tokens h.groups (all_put member_key (λ row. P (rows.Member row)) row t.members it h.members) h.nodes
-    (later_stays t t.meta t.users t.tokens t.groups (put member_key row t.members) t.nodes h.later)
+    haves P (put_row t (rows.Member row)) h.users h.tokens h.groups (all_put member_key (λ row. P (rows.Member row)) row t.members it h.members) h.nodes h.later
 one_more P t (rows.Node row) early it h =
-    haves P (put_row t (rows.Node row)) h.users h.tokens h.groups h.members (all_put node_key (λ row. P (rows.Node row)) row t.nodes it h.nodes)
-    (later_stays t t.meta t.users t.tokens t.groups t.members (put node_key row t.nodes) h.later)
+    haves P (put_row t (rows.Node row)) h.users h.tokens h.groups h.members (all_put node_key (λ row. P (rows.Node row)) row t.nodes it h.nodes) h.later
 one_more P t other early it h = absurd (false≢true (sym early))
 
 -- rows that aren't of a later kind, each with it, leave it with each
@@ -79,7 +60,7 @@ all_have P all early each = had P no_rows all early each (record {
   groups = All-nil (λ row. P (rows.Group row));
   members = All-nil (λ row. P (rows.Member row));
   nodes = All-nil (λ row. P (rows.Node row));
-  later = record { shares = refl; mounts = refl; versions = refl; items = refl; uploads = refl; chunks = refl };
+  later = (refl, (refl, (refl, (refl, (refl, (refl, tt))))));
 })
 
 -- ---- the meta row

@@ -1,5 +1,6 @@
--- The way of a node to its owner's root, as a test and as a climb.
+-- The way of a node to a top, as a test and as a climb.
 use Rattle.std.proofs.Common.{◌≡◌, ℕ, zero, suc, ◌≤◌, ◌==◌, ◌-◌, Bool, true, false, ◌&&◌, Option, None, Some, refl, sym, ap, ◌∙◌, arith}
+use Rattle.std.specs.Prelude.{is_some}
 use Rattle.std.specs.Option.{option_and_then, option_map_or}
 use Rattle.std.proofs.lemmas.Bool.{and_from, and_parts, eq-eqb, eqb-true, false≢true}
 use Rattle.std.proofs.lemmas.Option.{none-some, same_Some}
@@ -7,11 +8,11 @@ use Rattle.nf_base.specs.declared.limits.TheConstants.{MAX_DEPTH}
 use Rattle.nf_base.specs.declared.rows.NodeRow.{NodeRow}
 use Rattle.nf_base.specs.declared.rows.Place.{Place}
 use Rattle.nf_base.specs.declared.rows.Place.TheVariants.{Root, Inside, Trash}
-use Rattle.nf_defs.specs.Prelude.{climb, folder_of, is_folder_kind, node_row, parent_of, Tables}
-use Rattle.nf_laws.proofs.Rows.{folder_there, found_is, none_above}
-use Rattle.nf_words.proofs.Known.{found_passes}
-use Rattle.nf_words.specs.Sound.{AreSound, IsNodeSound, IsPlaceSound, root_of_user}
-use Rattle.nf_rules.specs.Rules.{leads, leads_from, leads_within}
+use Rattle.nf_defs.specs.Prelude.{climb, folder_of, is_folder_kind, item_row, node_row, parent_of, Tables}
+use Rattle.nf_laws.proofs.Rows.{folder_there, found_is, none_over}
+use Rattle.nf_words.proofs.Found.{found_passes}
+use Rattle.nf_words.specs.Sound.{AreSound, IsNodeSound, IsPlaceSound, IsTop, root_of_user}
+use Rattle.nf_rules.specs.Rules.{is_user, leads, leads_from, leads_within}
 
 -- its folder is there, of the same owner, and leads on
 pub record LeadsOn (t : Tables) (row : NodeRow) (folder : ℕ) (onward : NodeRow → Bool) : Type 0 where
@@ -43,13 +44,13 @@ place_leads t row (Inside folder) onward is =
       ap (λ (o : Option NodeRow). option_map_or (λ row. is_folder_kind row.kind) o false) on.there ∙ on.kind,
       ap (λ (o : Option NodeRow). option_map_or (λ row. row.owner) o 0) on.there ∙ on.owner,
     )
-place_leads t row Trash onward is = absurd (false≢true is)
+place_leads t row Trash onward is = and_parts (is_user t row.owner) (is_some (item_row t.items row.id)) is
 
 -- ---- the climb
 
--- a climb of at most so many folders ends at the owner's root
+-- a climb of at most so many folders ends at a top
 abbrev pub Climbs : Tables → NodeRow → ℕ → Type 0
-Climbs t row most = (steps : ℕ) × (steps ≤ most) × (climb t.nodes steps row.id ≡ Some (root_of_user t row.owner))
+Climbs t row most = (steps : ℕ) × (steps ≤ most) × (top : ℕ) × (climb t.nodes steps row.id ≡ Some top) × IsTop t.nodes top
 
 -- a row that is found is found by its number
 found_by : (t : Tables) (node : ℕ) (row : NodeRow) → node_row t.nodes node ≡ Some row → (row.id ≡ node) × (node_row t.nodes row.id ≡ Some row)
@@ -59,9 +60,10 @@ found_by t node row is =
 
 climbs_from : (t : Tables) (row : NodeRow) (most : ℕ) (onward : NodeRow → Bool) → node_row t.nodes row.id ≡ Some row
     → ((parent : NodeRow) → node_row t.nodes parent.id ≡ Some parent → onward parent ≡ true
-    → (steps : ℕ) × (suc steps ≤ most) × (climb t.nodes steps parent.id ≡ Some (root_of_user t parent.owner)))
+    → (steps : ℕ) × (suc steps ≤ most) × (top : ℕ) × (climb t.nodes steps parent.id ≡ Some top) × IsTop t.nodes top)
     → (place : Place) → row.place ≡ place → leads_from t row place onward ≡ true → Climbs t row most
-climbs_from t row most onward there further Root at is = (0, omega arith, ap Some (eqb-true row.id (root_of_user t row.owner) is))
+climbs_from t row most onward there further Root at is =
+    (0, omega arith, row.id, refl, record { row = row; there = there; ends = ap folder_of at })
 climbs_from t row most onward there further (Inside folder) at is =
     let on = leads_on t row folder onward is in
     let by = found_by t folder on.parent on.there in
@@ -69,12 +71,14 @@ climbs_from t row most onward there further (Inside folder) at is =
     let above : parent_of t.nodes row.id ≡ Some folder = ap (option_and_then (λ row. folder_of row.place)) there ∙ ap folder_of at in (
       suc more.0,
       more.1,
+      more.2,
       ap (option_and_then (climb t.nodes more.0)) above
           ∙ ap (climb t.nodes more.0) (sym by.0)
-          ∙ more.2
-          ∙ ap (λ (user : ℕ). Some (root_of_user t user)) on.owner,
+          ∙ more.3,
+      more.4,
     )
-climbs_from t row most onward there further Trash at is = absurd (false≢true is)
+climbs_from t row most onward there further Trash at is =
+    (0, omega arith, row.id, refl, record { row = row; there = there; ends = ap folder_of at })
 
 climbs_within : (most : ℕ) (t : Tables) (row : NodeRow) → node_row t.nodes row.id ≡ Some row → leads_within most t row ≡ true
     → Climbs t row most
@@ -83,7 +87,8 @@ climbs_within zero t row there is =
     climbs_from t row 0 (λ parent. false) there (λ parent there is. absurd (false≢true is)) row.place refl is
 climbs_within (suc k) t row there is =
     climbs_from t row (suc k) (leads_within k t) there
-    (λ parent there is. let more = climbs_within k t parent there is in (more.0, omega (arith, more.1), more.2)) row.place refl is
+    (λ parent there is.
+    let more = climbs_within k t parent there is in (more.0, omega (arith, more.1), more.2, more.3, more.4)) row.place refl is
 
 pub climbs : (t : Tables) (row : NodeRow) → node_row t.nodes row.id ≡ Some row → leads t row ≡ true → Climbs t row MAX_DEPTH
 unfolding leads
@@ -96,15 +101,14 @@ place_of_leading t row is = place_leads t row row.place (leads_within (MAX_DEPTH
 -- ---- the other way round
 
 -- the climb goes through the folder that the node is in
-climb_on : (t : Tables) (row : NodeRow) (folder steps : ℕ) → AreSound t → node_row t.nodes row.id ≡ Some row → row.place ≡ Inside folder
-    → climb t.nodes steps row.id ≡ Some (root_of_user t row.owner)
-    → (less : ℕ) × (steps ≡ suc less) × (climb t.nodes less folder ≡ Some (root_of_user t row.owner))
-climb_on t row folder zero sound there at is =
+climb_on : (t : Tables) (row : NodeRow) (folder steps top : ℕ) → IsTop t.nodes top → node_row t.nodes row.id ≡ Some row
+    → row.place ≡ Inside folder → climb t.nodes steps row.id ≡ Some top
+    → (less : ℕ) × (steps ≡ suc less) × (climb t.nodes less folder ≡ Some top)
+climb_on t row folder zero top ends there at is =
     let above : parent_of t.nodes row.id ≡ Some folder = ap (option_and_then (λ row. folder_of row.place)) there ∙ ap folder_of at in
-    let none : parent_of t.nodes row.id ≡ None =
-    ap (parent_of t.nodes) (same_Some row.id (root_of_user t row.owner) is) ∙ none_above t row.owner sound in
+    let none : parent_of t.nodes row.id ≡ None = ap (parent_of t.nodes) (same_Some row.id top is) ∙ none_over t.nodes top ends in
     absurd (none-some folder (sym none ∙ above))
-climb_on t row folder (suc less) sound there at is =
+climb_on t row folder (suc less) top ends there at is =
     let above : parent_of t.nodes row.id ≡ Some folder = ap (option_and_then (λ row. folder_of row.place)) there ∙ ap folder_of at in
     (less, refl, sym (ap (option_and_then (climb t.nodes less)) above) ∙ is)
 
@@ -118,23 +122,22 @@ leads_from_place t row onward (Inside folder) sound further =
     let owner : parent.0.owner ≡ row.owner = sym (ap (λ (o : Option NodeRow). option_map_or (λ row. row.owner) o 0) parent.1) ∙ sound.1 in
     rw parent.1
     (and_from _ _ (and_from _ _ parent.2 (eq-eqb parent.0.owner row.owner owner)) (further folder parent.0 refl parent.1 owner))
-leads_from_place t row onward Trash sound further = absurd sound
+leads_from_place t row onward Trash sound further = and_from (is_user t row.owner) (is_some (item_row t.items row.id)) sound.0 sound.1
 
-leads_by : (most steps : ℕ) (t : Tables) (row : NodeRow) → AreSound t → IsNodeSound t row → node_row t.nodes row.id ≡ Some row → steps ≤ most
-    → climb t.nodes steps row.id ≡ Some (root_of_user t row.owner) → leads_within most t row ≡ true
+leads_by : (most steps : ℕ) (t : Tables) (row : NodeRow) (top : ℕ) → AreSound t → IsNodeSound t row → node_row t.nodes row.id ≡ Some row
+    → steps ≤ most → climb t.nodes steps row.id ≡ Some top → IsTop t.nodes top → leads_within most t row ≡ true
 unfolding leads_within
-leads_by zero steps t row sound own there few is =
+leads_by zero steps t row top sound own there few is ends =
     leads_from_place t row (λ parent. false) row.place own.place (λ folder parent at found owner.
-    let on = climb_on t row folder steps sound there at is in absurd (omega (arith, on.1)))
-leads_by (suc k) steps t row sound own there few is =
+    let on = climb_on t row folder steps top ends there at is in absurd (omega (arith, on.1)))
+leads_by (suc k) steps t row top sound own there few is ends =
     leads_from_place t row (leads_within k t) row.place own.place (λ folder parent at found owner.
-    let on = climb_on t row folder steps sound there at is in
+    let on = climb_on t row folder steps top ends there at is in
     let by = found_by t folder parent found in
-    let up : climb t.nodes on.0 parent.id ≡ Some (root_of_user t parent.owner) =
-    ap (climb t.nodes on.0) by.0 ∙ on.2 ∙ ap (λ (user : ℕ). Some (root_of_user t user)) (sym owner) in
-    leads_by k on.0 t parent sound (found_is (IsNodeSound t) (λ row. row.id == folder) t.nodes parent sound.nodes found).1 by.1
-    (omega (arith, on.1)) up)
+    let up : climb t.nodes on.0 parent.id ≡ Some top = ap (climb t.nodes on.0) by.0 ∙ on.2 in
+    leads_by k on.0 t parent top sound (found_is (IsNodeSound t) (λ row. row.id == folder) t.nodes parent sound.nodes found).1 by.1
+    (omega (arith, on.1)) up ends)
 
 pub sound_leads : (t : Tables) (row : NodeRow) → AreSound t → IsNodeSound t row → node_row t.nodes row.id ≡ Some row → leads t row ≡ true
 unfolding leads
-sound_leads t row sound own there = leads_by MAX_DEPTH own.steps t row sound own there own.shallow own.present
+sound_leads t row sound own there = leads_by MAX_DEPTH own.steps t row own.top sound own there own.shallow own.climbs own.ends

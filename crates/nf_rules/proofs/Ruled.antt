@@ -1,5 +1,5 @@
 -- The rows of tables that keep the rules break none.
-use Rattle.std.proofs.Common.{◌≡◌, ℕ, ◌==◌, Bool, true, false, not, List, get_or, length, Option, None, Some, refl, sym, ap, subst, ◌∙◌}
+use Rattle.std.proofs.Common.{arith, ◌≡◌, ℕ, ◌==◌, Bool, true, false, not, List, get_or, length, Option, None, Some, refl, sym, ap, subst, ◌∙◌}
 use Rattle.std.specs.Prelude.{is_some, nat_lt}
 use Rattle.std.specs.List.{All, AllByRecursion}
 use Rattle.std.specs.Option.{option_map_or}
@@ -22,11 +22,11 @@ use Rattle.nf_defs.proofs.Walks.{node_row_each}
 use Rattle.nf_defs.specs.Prelude.{is_root_place, piece_count, rows_of, Tables, tables_of, user_row}
 use Rattle.nf_laws.proofs.Rows.{folder_there, found_is}
 use Rattle.nf_rows.specs.Spelling.{Fits}
-use Rattle.nf_words.specs.Prelude.{AreCounters, count_of, HasRoot, IsNodeSound, IsPieceSound, IsPlaceSound}
+use Rattle.nf_words.specs.Prelude.{AreCounters, count_of, HasRoot, is_later, IsNodeSound, IsPieceSound, IsPlaceSound}
 use Rattle.nf_words.specs.declared.answer.Limit.TheVariants as limit
 use Rattle.nf_rules.specs.Laws.{RuledAreUnbroken}
 use Rattle.nf_rules.specs.Ruled.{AreRuled, IsGiven, IsMemberRuled, IsUserRuled}
-use Rattle.nf_rules.specs.Rules.{are_counters, are_numbers, first_broken, has_ungiven_blob, is_beyond, is_given, is_later, is_lavish, is_place_given, is_place_there, is_placed, is_root_of, is_user, names_are_there, rules}
+use Rattle.nf_rules.specs.Rules.{are_counters, are_numbers, first_broken, has_ungiven_blob, is_beyond, is_given, is_lavish, is_place_given, is_place_there, is_placed, is_root_of, is_user, names_are_there, rules}
 use Rattle.nf_rules.proofs.Apart.{keys_unshared, names_unshared}
 use Rattle.nf_rules.proofs.Firsts.{Keep, none_broken}
 use Rattle.nf_rules.proofs.Leading.{sound_leads}
@@ -96,7 +96,7 @@ numbers_are t h =
           (λ row own. and_from _ _ (is_given_from t.meta.next_group row.group own.given_group)
           (is_given_from t.meta.next_user row.user own.given_user)) t.members h.members;
       nodes = λ k d within. node_numbers t (get_or t.nodes k d) h (h.sound.nodes k d within) (h.owners k d within);
-      later = h.later;
+      later = h.sound.later;
     })
 
 -- ---- what is named is there
@@ -117,7 +117,7 @@ names_there t h =
           let row : NodeRow = get_or t.nodes k d in
           and_from (is_user t row.owner) (is_place_there t row.place) (h.owners k d within)
           (place_there t row row.place (h.sound.nodes k d within).place);
-      later = h.later;
+      later = h.sound.later;
     })
 
 -- ---- roots
@@ -138,7 +138,7 @@ all_placed t h =
       members = λ k d within. refl;
       nodes = λ k d within.
           sound_leads t (get_or t.nodes k d) h.sound (h.sound.nodes k d within) (node_row_each t.nodes h.sound.rising k d within);
-      later = h.later;
+      later = h.sound.later;
     })
 
 -- ---- limits
@@ -153,8 +153,8 @@ all_within t h =
       nodes = λ k d within.
           or_from _ _ (le-ltb (count_of limit.Nodes) (length t.nodes) h.sound.few_nodes)
           (and_right (nat_lt 0 (length (get_or t.nodes k d).content)) _
-          (le-ltb (count_of limit.Pieces) (piece_count t.nodes) h.sound.few_pieces));
-      later = h.later;
+          (le-ltb (count_of limit.Pieces) (piece_count t.nodes) (omega (arith, h.sound.few_pieces))));
+      later = h.sound.later;
     })
 
 none_lavish : (t : Tables) → AreRuled t → All (λ row. is_lavish row ≡ false) (early_rows t)
@@ -165,7 +165,7 @@ none_lavish t h =
       groups = λ k d within. refl;
       members = λ k d within. refl;
       nodes = λ k d within. refl;
-      later = h.later;
+      later = h.sound.later;
     })
 
 none_later : (t : Tables) → AreRuled t → All (λ row. is_later row ≡ false) (early_rows t)
@@ -176,7 +176,7 @@ none_later t h =
       groups = λ k d within. refl;
       members = λ k d within. refl;
       nodes = λ k d within. refl;
-      later = h.later;
+      later = h.sound.later;
     })
 
 -- ---- all rules
@@ -204,7 +204,7 @@ each_kept t fits h again =
 
 pub ruled_are_unbroken : RuledAreUnbroken
 ruled_are_unbroken t fits h =
-    let early : rows_of t ≡ early_rows t = all_early t h.later in
+    let early : rows_of t ≡ early_rows t = all_early t h.sound.later in
     subst (λ (all : List Row). first_broken rules all ≡ None) (sym early)
     (none_broken rules (early_rows t)
     (each_kept t (subst (λ (all : List Row). All Fits all) early fits) h (ap tables_of (sym early) ∙ tables_again t h.rising)))

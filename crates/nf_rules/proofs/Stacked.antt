@@ -8,7 +8,7 @@ use Rattle.nf_base.specs.declared.rows.Row.{Row}
 use Rattle.nf_base.specs.declared.rows.Row.TheVariants as rows
 use Rattle.nf_defs.specs.Tables.{Tables, rows_of}
 use Rattle.nf_rows.specs.Spelling.{kind_of}
-use Rattle.nf_rules.specs.Ruled.{HasNoLater}
+use Rattle.nf_words.specs.Later.{HasNoLater}
 use Rattle.nf_rules.proofs.Among.{Have}
 
 -- the rows of the kinds that are built
@@ -20,7 +20,7 @@ early_rows t =
 
 -- which are all rows of tables that have no other
 pub all_early : (t : Tables) → HasNoLater t → rows_of t ≡ early_rows t
-all_early t h = rw (h.shares, h.mounts, h.versions, h.items, h.uploads, h.chunks) refl
+all_early t (shares, (mounts, (versions, (items, (uploads, (chunks, end)))))) = rw (shares, mounts, versions, items, uploads, chunks) refl
 
 -- what the rows of tables have, their list has
 pub rows_have : (P : Row → Type 0) (t : Tables) → P (rows.Meta t.meta) → Have P t → All P (early_rows t)

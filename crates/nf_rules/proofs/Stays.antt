@@ -1,59 +1,23 @@
 -- Tables that keep the rules keep them by each entry that may come.
-use Rattle.std.proofs.Common.{◌≡◌, ℕ, zero, suc, ◌+◌, ◌<◌, ◌≤◌, ◌==◌, true, List, [], ◌∷◌, get_or, Option, None, Some, refl, sym, ap, subst, ◌∙◌, arith}
-use Rattle.std.specs.Prelude.{is_some}
-use Rattle.std.specs.List.{All, AllPairs}
-use Rattle.std.specs.Option.{option_and_then, option_map_or}
+use Rattle.std.proofs.Common.{◌≡◌, ℕ, ◌+◌, ◌<◌, ◌≤◌, List, [], ◌∷◌, get_or, sym, subst, arith}
+use Rattle.std.specs.List.{AllPairs}
 use Rattle.std.specs.declared.cmp.Ordering.TheVariants.{Less}
-use Rattle.std.proofs.lemmas.Bool.{eqb-true}
 use Rattle.std.proofs.lemmas.List.Elements.{All-weaker}
-use Rattle.std.proofs.lemmas.Option.{option_and_then_some, same_Some}
 use Rattle.nf_base.specs.declared.rows.MetaRow.{MetaRow}
 use Rattle.nf_base.specs.declared.rows.NodeRow.{NodeRow}
-use Rattle.nf_base.specs.declared.rows.UserRow.{UserRow}
 use Rattle.nf_defs.proofs.Loads.{rises}
 use Rattle.nf_defs.proofs.Puts.{compared}
-use Rattle.nf_defs.proofs.Walks.{node_row_each}
-use Rattle.nf_defs.specs.Prelude.{climb, folder_of, IsRising, node_key, node_row, parent_of, Tables, user_row}
+use Rattle.nf_defs.specs.Prelude.{IsRising, node_key, Tables}
 use Rattle.nf_laws.proofs.Counters.{after_up}
 use Rattle.nf_laws.proofs.Owning.{changes_own}
-use Rattle.nf_laws.proofs.Rows.{child_folder, folder_there, found_is, inside_folder, with_nodes}
+use Rattle.nf_laws.proofs.Rows.{with_nodes}
 use Rattle.nf_laws.proofs.Stays.{sound_after}
+use Rattle.nf_laws.proofs.Upwards.{owners_there}
 use Rattle.nf_laws.specs.Numbers.{AreHigher}
-use Rattle.nf_words.specs.Prelude.{after, AreSound, IsNodeSound, IsSound, MayCome, root_of_user, State}
+use Rattle.nf_words.specs.Prelude.{after, AreSound, IsSound, MayCome, State}
 use Rattle.nf_words.specs.declared.history.Entry.{Entry}
-use Rattle.nf_rules.proofs.Among.{later_stays}
 use Rattle.nf_rules.specs.Laws.{StaysRuled}
 use Rattle.nf_rules.specs.Ruled.{AreRuled, IsGiven, IsGroupRuled, IsMemberRuled, IsTokenRuled, IsUserRuled}
-use Rattle.nf_rules.specs.Rules.{is_user}
-
--- ---- owners
-
--- a climb from a node that is there ends at one that is there
-top_there : (j : ℕ) (t : Tables) (node top : ℕ) (row : NodeRow) → AreSound t → node_row t.nodes node ≡ Some row
-    → climb t.nodes j node ≡ Some top → (there : NodeRow) × (node_row t.nodes top ≡ Some there)
-top_there zero t node top row sound there is = (row, ap (node_row t.nodes) (sym (same_Some node top is)) ∙ there)
-top_there (suc j) t node top row sound there is =
-    option_and_then_some (climb t.nodes j) (parent_of t.nodes node) top is (λ parent above is.
-    let place : folder_of row.place ≡ Some parent = sym (ap (option_and_then (λ row. folder_of row.place)) there) ∙ above in
-    let own = (found_is (IsNodeSound t) (λ row. row.id == node) t.nodes row sound.nodes there).1 in
-    let folder = folder_there t.nodes parent (child_folder t row row.place parent own.place (inside_folder row.place parent place)) in
-    top_there j t parent top folder.0 sound folder.1 is)
-
--- who owns a node is a user, since a node climbs to its owner's root and none has the number 0
-owner_there : (t : Tables) (row : NodeRow) → AreSound t → IsNodeSound t row → node_row t.nodes row.id ≡ Some row → is_user t row.owner ≡ true
-owner_there t row sound own there = here (user_row t.users row.owner) refl
-  where
-    here : (o : Option UserRow) → user_row t.users row.owner ≡ o → is_some o ≡ true
-    here None e =
-        let none : root_of_user t row.owner ≡ 0 = ap (λ (o : Option UserRow). option_map_or (λ (user : UserRow). user.root) o 0) e in
-        let top = top_there own.steps t row.id (root_of_user t row.owner) row sound there own.present in
-        let found = found_is (IsNodeSound t) (λ (other : NodeRow). other.id == root_of_user t row.owner) t.nodes top.0 sound.nodes top.1 in
-        absurd (omega (arith, found.1.some, eqb-true top.0.id (root_of_user t row.owner) found.0))
-    here (Some user) e = refl
-
-pub owners_there : (t : Tables) → AreSound t → All (λ (row : NodeRow). is_user t row.owner ≡ true) t.nodes
-owners_there t sound k d within =
-    owner_there t (get_or t.nodes k d) sound (sound.nodes k d within) (node_row_each t.nodes sound.rising k d within)
 
 -- ---- the tables with other nodes
 
@@ -96,7 +60,6 @@ others_ruled t meta nodes h sound up =
       few_groups = h.few_groups;
       few_tokens = h.few_tokens;
       few_members = h.few_members;
-      later = later_stays t meta t.users t.tokens t.groups t.members nodes h.later;
     }
 
 -- ---- histories

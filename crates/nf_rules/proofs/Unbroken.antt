@@ -26,12 +26,13 @@ use Rattle.nf_defs.proofs.Tables.{tables_rise}
 use Rattle.nf_defs.proofs.Puts.{below_one}
 use Rattle.nf_defs.proofs.Walks.{node_row_each}
 use Rattle.nf_defs.specs.Prelude.{group_key, is_folder_kind, is_root_place, IsRising, key_cmp, node_key, node_row, numbers_of, piece_count, Tables, tables_of, user_key}
-use Rattle.nf_words.specs.Prelude.{AreCounters, AreSound, count_of, HasRoot, IsNodeSound}
+use Rattle.nf_words.specs.Prelude.{AreCounters, AreSound, count_of, HasNoLater, HasRoot, is_later, IsNodeSound, stored_pieces}
+use Rattle.nf_laws.proofs.Rows.{no_others}
 use Rattle.nf_words.specs.declared.answer.Limit.TheVariants as limit
 use Rattle.nf_rules.specs.Keys.{child_key, name_key}
 use Rattle.nf_rules.specs.Laws.{UnbrokenAreRuled}
 use Rattle.nf_rules.specs.Ruled.{IsGiven}
-use Rattle.nf_rules.specs.Rules.{AreUnbroken, are_counters, are_numbers, has_ungiven_blob, is_beyond, is_given, is_later, is_lavish, is_placed, is_root_of, lacks_meta, leads, names_are_there, rules}
+use Rattle.nf_rules.specs.Rules.{AreUnbroken, are_counters, are_numbers, has_ungiven_blob, is_beyond, is_given, is_lavish, is_placed, is_root_of, lacks_meta, leads, names_are_there, rules}
 use Rattle.nf_rules.proofs.Among.{all_have, meta_has}
 use Rattle.nf_rules.proofs.Firsts.{keep_each}
 use Rattle.nf_rules.proofs.Leading.{climbs, place_of_leading}
@@ -106,7 +107,9 @@ node_sound t row numbers kept leading there =
       place = place_of_leading t row leading;
       steps = up.0;
       shallow = up.1;
-      present = up.2;
+      top = up.2;
+      climbs = up.3;
+      ends = up.4;
     }
   where
     is_folder : (kind : NodeKind) → is_folder_kind kind ≡ true → kind ≡ Folder
@@ -203,6 +206,10 @@ known all none =
       modest = kept.1.1.1.1.1.1.1.0.0;
     }
 
+-- where there are no versions and no chunks, the nodes have all pieces
+pieces_early : (t : Tables) → HasNoLater t → stored_pieces t ≡ piece_count t.nodes
+pieces_early t (shares, (mounts, (versions, (items, (uploads, (chunks, end)))))) = rw (versions, chunks) (omega arith)
+
 sound : (all : List Row) → All IsKept all → Known all → AreSound (tables_of all)
 sound all kept h =
     let t : Tables = tables_of all in
@@ -231,7 +238,9 @@ sound all kept h =
           (All-weaker (λ (row : NodeRow). is_beyond t (rows.Node row) ≡ false)
           (λ (row : NodeRow). nat_lt (count_of limit.Nodes) (length t.nodes) ≡ false)
           (λ row fails. (or_parts (nat_lt (count_of limit.Nodes) (length t.nodes)) _ fails).0) t.nodes within.nodes);
-      few_pieces = few_pieces t within.nodes;
+      few_pieces = rw (pieces_early t among.later) (few_pieces t within.nodes);
+      later = among.later;
+      others = no_others t among.later;
     }
 
 pub unbroken_are_ruled : UnbrokenAreRuled
@@ -276,5 +285,4 @@ unbroken_are_ruled all kept none =
       few_groups = few t.groups MAX_GROUPS within.groups;
       few_tokens = few t.tokens MAX_TOKENS within.tokens;
       few_members = few t.members MAX_MEMBERS within.members;
-      later = among.later;
     }

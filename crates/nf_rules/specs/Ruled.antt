@@ -1,5 +1,5 @@
 -- What the rules say of tables.
-use Rattle.std.specs.Prelude.{◌≡◌, ◌≢◌, ℕ, ◌<◌, ◌≤◌, All, true, [], length}
+use Rattle.std.specs.Prelude.{◌≡◌, ◌≢◌, ℕ, ◌<◌, ◌≤◌, All, true, length}
 use Rattle.std.specs.List.{AllPairs}
 use Rattle.nf_base.specs.declared.limits.TheConstants.{MAX_GROUPS, MAX_MEMBERS, MAX_QUOTA, MAX_TOKENS, MAX_USERS}
 use Rattle.nf_base.specs.declared.rows.UserRow.{UserRow}
@@ -38,15 +38,6 @@ pub record IsMemberRuled (t : Tables) (row : MemberRow) : Type 0 where
   pub group : is_group t row.group ≡ true
   pub user : is_user t row.user ≡ true
 
--- there is no row of a kind that isn't built yet
-pub record HasNoLater (t : Tables) : Type 0 where
-  pub shares : t.shares ≡ []
-  pub mounts : t.mounts ≡ []
-  pub versions : t.versions ≡ []
-  pub items : t.items ≡ []
-  pub uploads : t.uploads ≡ []
-  pub chunks : t.chunks ≡ []
-
 -- the tables of rows that break no rule
 pub record AreRuled (t : Tables) : Type 0 where
   pub sound : AreSound t
@@ -62,4 +53,3 @@ pub record AreRuled (t : Tables) : Type 0 where
   pub few_groups : length t.groups ≤ MAX_GROUPS
   pub few_tokens : length t.tokens ≤ MAX_TOKENS
   pub few_members : length t.members ≤ MAX_MEMBERS
-  pub later : HasNoLater t

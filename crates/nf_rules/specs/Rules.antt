@@ -13,21 +13,12 @@ use Rattle.nf_base.specs.declared.rows.Row.{Row}
 use Rattle.nf_base.specs.declared.rows.Row.TheVariants as rows
 use Rattle.nf_base.specs.declared.rows.Place.{Place}
 use Rattle.nf_base.specs.declared.rows.Place.TheVariants.{Root, Inside, Trash}
-use Rattle.nf_defs.specs.Prelude.{is_folder_kind, is_root_place, node_row, piece_count, Tables, tables_of, user_row}
-use Rattle.nf_words.specs.Prelude.{count_of, root_of_user}
+use Rattle.nf_defs.specs.Prelude.{is_folder_kind, is_root_place, item_row, node_row, piece_count, Tables, tables_of, user_row}
+use Rattle.nf_words.specs.Prelude.{count_of, is_later, root_of_user}
 use Rattle.nf_words.specs.declared.answer.Limit.TheVariants as limit
 use Rattle.nf_rules.specs.Keys.{is_shared, name_key, spelled_key}
 
--- ---- 0: the row is of a kind that isn't built yet
-
-abbrev pub is_later : Row → Bool
-is_later (rows.Meta row) = false
-is_later (rows.User row) = false
-is_later (rows.Token row) = false
-is_later (rows.Group row) = false
-is_later (rows.Member row) = false
-is_later (rows.Node row) = false
-is_later other = true
+-- ---- 0: the row is of a kind that isn't built yet: is_later
 
 -- ---- 1: there is one meta row, and no key comes twice
 
@@ -98,19 +89,19 @@ names_are_there t other = true
 abbrev pub is_namesake : List Row → Row → Bool
 is_namesake all row = is_shared (map name_key all) (name_key row)
 
--- ---- 5: users have their roots, and nodes lead to them
+-- ---- 5: users have their roots, and nodes lead to them or into the trash
 
 abbrev pub is_root_of : UserRow → NodeRow → Bool
 is_root_of user node = is_root_place node.place && is_folder_kind node.kind && node.owner == user.id && bytes_eq node.name user.name
 
--- the node is its owner's root, or in a folder of the same owner from which a way leads on; nothing is in the trash yet
+-- the node is its owner's root, or in a folder of the same owner from which a way leads on, or in the trash of a user, with its item
 abbrev pub leads_from : Tables → NodeRow → Place → (NodeRow → Bool) → Bool
 leads_from t row Root onward = row.id == root_of_user t row.owner
 leads_from t row (Inside folder) onward =
     option_map_or (λ parent. is_folder_kind parent.kind && parent.owner == row.owner && onward parent) (node_row t.nodes folder) false
-leads_from t row Trash onward = false
+leads_from t row Trash onward = is_user t row.owner && is_some (item_row t.items row.id)
 
--- it leads to its owner's root, at most so many folders up
+-- it leads to its owner's root or into the trash, at most so many folders up
 unfoldable pub leads_within : ℕ → Tables → NodeRow → Bool
 leads_within zero t row = leads_from t row row.place (λ parent. false)
 leads_within (suc k) t row = leads_from t row row.place (leads_within k t)

@@ -4,10 +4,11 @@ use Rattle.std.proofs.lemmas.Bool.{eqb-true, ne_eqb}
 use Rattle.std.specs.List.{AllPairs}
 use Rattle.std.specs.Prelude.{filter, get_or}
 use Rattle.nf_words.proofs.Steps.{differ_replay, end_tickets}
-use Rattle.nf_words.specs.Prelude.{after, after_mark, decided, decision_of, goal_of, IsLegalFrom, replay, State, ticket_for, with_goal}
+use Rattle.nf_words.specs.Prelude.{after, after_mark, decided, decision_of, goal_of, hold_of, IsLegalFrom, replay, State, ticket_for, with_goal}
 use Rattle.nf_words.specs.declared.answer.Allowed.{Allowed}
 use Rattle.nf_words.specs.declared.answer.Denial.{Denial}
 use Rattle.nf_words.specs.declared.answer.Goal.{Goal}
+use Rattle.nf_words.specs.declared.answer.Hold.{Hold}
 use Rattle.nf_words.specs.declared.history.Entry.{Entry}
 use Rattle.nf_words.specs.declared.history.Event.{Event}
 use Rattle.nf_words.specs.declared.history.Event.TheVariants.{Begin, End}
@@ -46,12 +47,13 @@ one_taken seat (t ∷ tickets) differ = here (t.seat == seat) refl (one_taken se
         rw is (omega (arith, none))
     here false is rest = rw is (omega (arith, rest))
 
-more_with : (tickets : List Ticket) (seat : ℕ) (goal : Option Goal) → length tickets ≤ length (with_goal tickets seat goal)
-more_with tickets seat None = omega arith
-more_with tickets seat (Some goal) = omega (arith, length-append tickets (ticket_for seat goal ∷ []))
+more_with : (tickets : List Ticket) (seat : ℕ) (goal : Option Goal) (hold : Option Hold)
+    → length tickets ≤ length (with_goal tickets seat goal hold)
+more_with tickets seat None hold = omega arith
+more_with tickets seat (Some goal) hold = omega (arith, length-append tickets (ticket_for seat goal hold ∷ []))
 
 more_decided : (s : State) (seat now : ℕ) (decision : Result Allowed Denial) → length s.tickets ≤ length (decided s seat now decision).tickets
-more_decided s seat now (Ok act) = more_with s.tickets seat (goal_of act)
+more_decided s seat now (Ok act) = more_with s.tickets seat (goal_of act) (hold_of act)
 more_decided s seat now (Err refusal) = omega arith
 
 -- an entry ends one ticket at most

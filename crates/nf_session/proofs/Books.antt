@@ -2,7 +2,7 @@
 use Rattle.std.proofs.Common.{◌≡◌, ℕ, ◌+◌, List, [], ◌∷◌, ◌++◌, refl, sym, ◌∙◌, ap, subst, Ok}
 use Rattle.std.proofs.lemmas.Bool.{eqb-true, eqb-false}
 use Rattle.std.specs.Prelude.{Bool, true, false, ◌==◌, if◌then◌else◌, Option, None, Some, IsNone, find, option_map}
-use Rattle.nf_words.specs.Prelude.{after, after_mark, answer_at, answer_to, failed, IsLegalFrom, MayAsk, opened, replay, State, step, ticket_of}
+use Rattle.nf_words.specs.Prelude.{after, after_mark, answer_at, answer_to, failed, goal_at, IsLegalFrom, MayAsk, opened, replay, State, step, ticket_of}
 use Rattle.nf_words.specs.declared.answer.Goal.{Goal}
 use Rattle.nf_words.specs.declared.answer.Reply.TheVariants as reply
 use Rattle.nf_words.specs.declared.history.Entry.{Entry}
@@ -16,7 +16,7 @@ use Rattle.nf_words.specs.declared.request.Words.{Words}
 use Rattle.nf_words.proofs.Opens.{IsPlain, ends_grant_nothing, plain_keeps}
 use Rattle.nf_words.proofs.Steps.{end_frees, freed, granted_step, other_after}
 use Rattle.nf_session.specs.Book.{Answer, granted, held_after, own_from}
-use Rattle.nf_session.specs.Laws.{HeldIsTicket, OwnGrows, goal_in, own_at}
+use Rattle.nf_session.specs.Laws.{HeldIsTicket, OwnGrows, own_at}
 
 -- ---- the seat's own entries
 
@@ -42,49 +42,48 @@ plain_none (Ok (reply.Granted goal)) plain = absurd (plain goal refl)
 plain_none other plain = refl
 
 begin_holds : (s : State) (seat now : ℕ) (words : Words) (request : Request) → IsNone (ticket_of s seat) → (answer : Answer)
-    → answer_to s seat now (Begin words request) ≡ answer → granted answer ≡ goal_in (step s seat now (Begin words request)) seat
+    → answer_to s seat now (Begin words request) ≡ answer → granted answer ≡ goal_at (step s seat now (Begin words request)) seat
 begin_holds s seat now words request none answer is = here answer is
   where
-    keeps : IsPlain (answer_to s seat now (Begin words request)) → None ≡ goal_in (step s seat now (Begin words request)) seat
+    keeps : IsPlain (answer_to s seat now (Begin words request)) → None ≡ goal_at (step s seat now (Begin words request)) seat
     keeps plain =
         sym (ap (λ (z : List Ticket). option_map (λ (t : Ticket). t.goal) (find (λ ticket. ticket.seat == seat) z))
         (plain_keeps s seat now words request plain) ∙ ap (option_map (λ (t : Ticket). t.goal)) (none_of (ticket_of s seat) none))
 
     here : (answer : Answer) → answer_to s seat now (Begin words request) ≡ answer
-        → granted answer ≡ goal_in (step s seat now (Begin words request)) seat
-    here (Ok (reply.Granted goal)) is =
-        sym (ap (option_map (λ (t : Ticket). t.goal)) (granted_step s seat now (Begin words request) goal none is))
+        → granted answer ≡ goal_at (step s seat now (Begin words request)) seat
+    here (Ok (reply.Granted goal)) is = sym (granted_step s seat now (Begin words request) goal none is)
     here other is = keeps (λ goal granted. cc)
 
 step_holds : (s : State) (seat now : ℕ) (event : Event) → MayAsk s seat event
-    → granted (answer_to s seat now event) ≡ goal_in (step s seat now event) seat
+    → granted (answer_to s seat now event) ≡ goal_at (step s seat now event) seat
 step_holds s seat now (Begin words request) asked = begin_holds s seat now words request asked.0 _ refl
 step_holds s seat now (End outcome) asked =
     plain_none (answer_to s seat now (End outcome)) (ends_grant_nothing s seat now outcome)
     ∙ sym (ap (option_map (λ (t : Ticket). t.goal)) (end_frees s seat now outcome))
 
-failed_holds : (s : State) (seat now : ℕ) (event : Event) → MayAsk s seat event → None ≡ goal_in (failed s seat now event) seat
+failed_holds : (s : State) (seat now : ℕ) (event : Event) → MayAsk s seat event → None ≡ goal_at (failed s seat now event) seat
 failed_holds s seat now (Begin words request) asked = sym (ap (option_map (λ (t : Ticket). t.goal)) (none_of (ticket_of s seat) asked.0))
 failed_holds s seat now (End outcome) asked = sym (ap (option_map (λ (t : Ticket). t.goal)) (freed s seat))
 
-mark_holds : (s : State) (e : Entry) (m : Mark) → MayAsk s e.seat e.event → granted (answer_at s e m) ≡ goal_in (after_mark s e m) e.seat
+mark_holds : (s : State) (e : Entry) (m : Mark) → MayAsk s e.seat e.event → granted (answer_at s e m) ≡ goal_at (after_mark s e m) e.seat
 mark_holds s e mark.Answered asked = step_holds s e.seat e.moment e.event asked
 mark_holds s e mark.Store asked = failed_holds s e.seat e.moment e.event asked
 mark_holds s e mark.Memory asked = failed_holds s e.seat e.moment e.event asked
 
-held_from : (seat n : ℕ) (s : State) (es : List Entry) (before : Option Goal) → before ≡ goal_in s seat → IsLegalFrom n s es
-    → held_after before (own_from seat s es) ≡ goal_in (replay s es) seat
+held_from : (seat n : ℕ) (s : State) (es : List Entry) (before : Option Goal) → before ≡ goal_at s seat → IsLegalFrom n s es
+    → held_after before (own_from seat s es) ≡ goal_at (replay s es) seat
 held_from seat n s [] before is legal = is
 held_from seat n s (e ∷ es) before is legal =
     here (e.seat == seat) refl (λ before is. held_from seat (n + 1) (after s e) es before is legal.1)
   where
-    here : (own : Bool) → (e.seat == seat) ≡ own → ((before : Option Goal) → before ≡ goal_in (after s e) seat
-        → held_after before (own_from seat (after s e) es) ≡ goal_in (replay (after s e) es) seat)
+    here : (own : Bool) → (e.seat == seat) ≡ own → ((before : Option Goal) → before ≡ goal_at (after s e) seat
+        → held_after before (own_from seat (after s e) es) ≡ goal_at (replay (after s e) es) seat)
         → held_after before (if own then (e, answer_at s e e.mark) ∷ own_from seat (after s e) es else own_from seat (after s e) es)
-        ≡ goal_in (replay (after s e) es) seat
+        ≡ goal_at (replay (after s e) es) seat
     here true same rest =
         rest (granted (answer_at s e e.mark))
-        (subst (λ z. granted (answer_at s e e.mark) ≡ goal_in (after s e) z) (eqb-true e.seat seat same) (mark_holds s e e.mark legal.0.asked))
+        (subst (λ z. granted (answer_at s e e.mark) ≡ goal_at (after s e) z) (eqb-true e.seat seat same) (mark_holds s e e.mark legal.0.asked))
     here false differ rest =
         rest before
         (is ∙ sym (ap (option_map (λ (t : Ticket). t.goal)) (other_after s e seat (λ same. eqb-false e.seat seat differ (sym same)))))

@@ -125,7 +125,7 @@ pub passes_go : {C : Type 0} (reads : C → ℕ → C → Type 0) (body : List �
 passes_go reads body a b (begun.Unasked refusal) v (is, same) = plain_goes a b (Err refusal) v is (same_goes a b 1 same)
 passes_go reads body a b (begun.Asked (Ok (reply.Granted (goal.Serve content)))) v starts =
     quiet a b _ 1 _ starts.only refl refl refl (starts_move a.book b.book 1 content v starts.starts)
-passes_go reads body a b (begun.Asked (Ok (reply.Granted (goal.Store who key length)))) v (now, answer, read, ends, is, only) =
+passes_go reads body a b (begun.Asked (Ok (reply.Granted (goal.Store by key length)))) v (now, answer, read, ends, is, only) =
     plain_goes a b answer v is (asks_go a b 1 0 only (enters_move a.book b.book now _ answer ends.enters))
 passes_go reads body a b (begun.Asked answer) v passes = plain_goes a b answer v passes.0 (same_goes a b 1 passes.1)
 

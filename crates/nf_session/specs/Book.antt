@@ -172,7 +172,7 @@ is_unmade (Err refusal) = is_unmade_by refusal
 
 -- a Begin isn't answered as an End is, and grants no body that is too long
 abbrev pub IsOfBegin : Answer → Type 0
-IsOfBegin (Ok (reply.Granted (Store who key length))) = length ≤ MAX_BODY
+IsOfBegin (Ok (reply.Granted (Store by key length))) = length ≤ MAX_BODY
 IsOfBegin (Ok (reply.Granted (Serve content))) = Unit {0}
 IsOfBegin (Ok reply.Made) = Unit {0}
 IsOfBegin (Ok reply.Done) = Unit {0}

@@ -1,13 +1,12 @@
 -- What follows from the relation of a turn, and from a book that is one legal history.
-use Rattle.std.specs.Prelude.{◌≡◌, ◌⊎◌, ℕ, ◌+◌, ◌-◌, ◌^◌, ◌≤◌, ◌==◌, Bool, true, false, List, [], ◌∷◌, ◌++◌, length, count_by, Option, None, Some, Result, Ok, Err, option_map, if◌then◌else◌}
+use Rattle.std.specs.Prelude.{◌≡◌, ◌⊎◌, ℕ, ◌+◌, ◌-◌, ◌^◌, ◌≤◌, ◌==◌, Bool, true, false, List, [], ◌∷◌, ◌++◌, length, count_by, Option, None, Some, Result, Ok, Err, if◌then◌else◌}
 use mathlib.Core.Logic.{inl, inr}
 use Rattle.nf_base.specs.declared.limits.TheConstants.{MAX_MESSAGES}
 use Rattle.nf_http.specs.Head.{Head}
 use Rattle.nf_http.specs.declared.wire.WireFault.{WireFault}
 use Rattle.nf_http.specs.declared.wire.WireFault.TheVariants as wire
-use Rattle.nf_words.specs.Prelude.{answer_at, replay, State, ticket_of}
+use Rattle.nf_words.specs.Prelude.{answer_at, goal_at, replay, State}
 use Rattle.nf_words.specs.declared.answer.Denial.TheVariants as denial
-use Rattle.nf_words.specs.declared.answer.Goal.{Goal}
 use Rattle.nf_words.specs.declared.history.Entry.{Entry}
 use Rattle.nf_outside.specs.Causes.{Rose}
 use Rattle.nf_session.specs.Book.{Answer, Book, IsBook, Lasts, held, own_from, state_of}
@@ -125,13 +124,9 @@ StrikesCount {C} reads =
 
 -- ---- what is held
 
--- the goal of a seat's ticket
-abbrev pub goal_in : State → ℕ → Option Goal
-goal_in s seat = option_map (λ ticket. ticket.goal) (ticket_of s seat)
-
--- what a seat holds by its own entries is its ticket in the state of all that it has seen
+-- what a seat holds by its own entries is what it was granted in the state of all that it has seen
 abbrev pub HeldIsTicket : Type 0
-HeldIsTicket = (b : Book) → IsBook b → held b ≡ goal_in (state_of b) b.seat
+HeldIsTicket = (b : Book) → IsBook b → held b ≡ goal_at (state_of b) b.seat
 
 -- the entry with its answer, where it is the seat's
 abbrev pub own_at : ℕ → State → Entry → List (Entry × Answer)

@@ -1,9 +1,9 @@
 -- An entry that may come keeps what a site holds, and the tables bear what is decided.
 use Rattle.std.proofs.Common.{ℕ, ◌+◌, ◌≤◌, ◌≡◌, Bool, true, false, not, ◌==◌, List, [], ◌∷◌, ◌++◌, Option, IsSome, find, filter, length, vec_capacity, Result, Ok, Err, refl, sym, ap, subst, ◌∙◌, arith, length-append}
-use Rattle.std.specs.Prelude.{None, Some, is_some}
+use Rattle.std.specs.Prelude.{None, Some, is_some, option_map}
 use Rattle.nf_base.specs.declared.limits.TheConstants.{MAX_NODES}
 use Rattle.nf_base.specs.declared.rows.Row.{Row}
-use Rattle.nf_defs.specs.Tables.{Tables, tables_of}
+use Rattle.nf_defs.specs.Tables.{tables_of}
 use Rattle.nf_rules.specs.Ruled.{AreRuled}
 use Rattle.nf_rules.specs.Rules.{AreUnbroken}
 use Rattle.nf_rules.proofs.Stays.{stays_ruled}
@@ -13,9 +13,8 @@ use Rattle.std.specs.Prelude.{All}
 use Rattle.std.proofs.lemmas.Bool.{false≢true}
 use Rattle.std.proofs.lemmas.List.Elements.{All-nil}
 use Rattle.std.proofs.lemmas.List.Sums.{count_by-le-length, length-filter}
-use Rattle.nf_words.specs.Prelude.{actor_of, after, decided, decision_of, goal_of, IsSound, LeavesRoom, MayAsk, MayBear, MayCome, MayEnd, opened, replay, State, stepped_by, ticket_of, without_ticket}
+use Rattle.nf_words.specs.Prelude.{actor_of, after, decision_of, goal_of, IsSound, LeavesRoom, MayAsk, MayBear, MayCome, MayEnd, opened, replay, State, stepped_by, ticket_of, without_ticket}
 use Rattle.nf_words.specs.declared.answer.Allowed.{Allowed}
-use Rattle.nf_words.specs.declared.answer.Allowed.TheVariants as allowed
 use Rattle.nf_words.specs.declared.answer.Denial.{Denial}
 use Rattle.nf_words.specs.declared.history.Entry.{Entry}
 use Rattle.nf_words.specs.declared.history.Event.{Event}
@@ -28,7 +27,7 @@ use Rattle.nf_words.specs.declared.request.Request.{Request}
 use Rattle.nf_words.specs.declared.request.Words.{Words}
 use Rattle.nf_laws.proofs.Stays.{sound_after}
 use Rattle.nf_words.proofs.Histories.{legal_more, replay_more}
-use Rattle.nf_words.proofs.Known.{known_change}
+use Rattle.nf_words.proofs.Ends.{known_change}
 use Rattle.nf_words.proofs.Steps.{GrantsNothing, decided_tickets, end_nothing, end_tickets}
 use Rattle.nf_decide.proofs.Bears.{known_bears, known_few, sound_given}
 use Rattle.nf_decide.specs.Current.{AreGiven, BearsAct, FitsAct, FitsTicket}
@@ -64,7 +63,7 @@ end_leaves : (s : State) (seat moment : ℕ) (outcome : Outcome) (mark : Mark)
 end_leaves s seat moment outcome Answered = end_tickets s seat moment outcome
 end_leaves s seat moment outcome mark = refl
 
-has_ticket : (ticket : Option Ticket) (outcome : Outcome) → MayEnd ticket outcome → IsSome ticket
+has_ticket : (ticket : Option Ticket) (outcome : Outcome) → MayEnd (option_map (λ ticket. ticket.goal) ticket) outcome → IsSome ticket
 has_ticket None outcome may = absurd may
 has_ticket (Some ticket) outcome may = refl
 
@@ -145,7 +144,7 @@ pub opened_held : (site : Inside) (rows : List Row) → AreRuled (tables_of rows
 opened_held site rows ruled opening state none =
     let kept : kept_of site ≡ opened_over rows = λ i. record { opening = opening i; state = state i; history = none i } in
     let sound : IsSound (opened rows) =
-    record { rows = ruled.sound; seen = omega arith; seats = λ i j d before within. absurd (omega arith); goals = All-nil _ } in
+    record { rows = ruled.sound; seen = omega arith; seats = λ i j d before within. absurd (omega arith); tickets = All-nil _ } in
     record {
       history = subst IsHistory (sym kept) (record { legal = tt; replayed = refl });
       sound = subst IsSound (sym state) sound;
@@ -172,7 +171,7 @@ bears_plan old site plan act is held ready decides =
 
 -- what is decided doesn't pass the limit of nodes
 decided_few : (s : State) (seat now : ℕ) (event : Event) (decision : Result Allowed Denial) → IsSound s → MayAsk s seat event
-    → decision_of s seat now event ≡ decision → length s.tables.nodes + added_in decision ≤ MAX_NODES
+    → decision_of s seat now event ≡ decision → length s.tables.nodes + added_in s.tables decision ≤ MAX_NODES
 decided_few s seat now event (Ok act) sound asked is =
     known_few s.tables now (actor_of s seat event) act sound.rows (known_change s seat now event act sound asked is)
 decided_few s seat now event (Err refusal) sound asked is = omega (arith, sound.rows.few_nodes)
@@ -180,7 +179,7 @@ decided_few s seat now event (Err refusal) sound asked is = omega (arith, sound.
 -- what a plan adds
 pub plan_few : (site : Inside) (held : Held) (seat moment : ℕ) (event : Event) (plan : Planned) → held_of site ≡ held → IsHeld site
     → MayAsk held.kept.state seat event → plan ≡ plan_at held.kept.state seat moment event
-    → length held.kept.state.tables.nodes + added_in plan.decision ≤ MAX_NODES
+    → length held.kept.state.tables.nodes + added_in held.kept.state.tables plan.decision ≤ MAX_NODES
 plan_few site held seat moment event plan is inside asked planned =
     decided_few held.kept.state seat moment event plan.decision (subst (λ (x : Held). IsSound x.kept.state) is inside.sound) asked
     (sym (ap (λ (p : Planned). p.decision) planned))

@@ -1,6 +1,7 @@
 -- A site with its reserved room, of which "as before" doesn't speak.
 use Rattle.std.specs.Prelude.{ℕ, ◌+◌, ◌≤◌, length, Result, Ok, Err}
 use Rattle.nf_base.specs.declared.limits.TheConstants.{MAX_ENTRIES}
+use Rattle.nf_defs.specs.Tables.{Tables}
 use Rattle.nf_words.specs.declared.answer.Allowed.{Allowed}
 use Rattle.nf_words.specs.declared.answer.Denial.{Denial}
 use Rattle.nf_words.specs.declared.history.Event.{Event}
@@ -31,10 +32,10 @@ HasEntryRoom site (Begin words request) = HasRoom site
 HasEntryRoom site (End outcome) = Unit {0}
 
 -- how many nodes a decision adds
-abbrev pub added_in : Result Allowed Denial → ℕ
-added_in (Ok act) = added_by act
-added_in (Err refusal) = 0
+abbrev pub added_in : Tables → Result Allowed Denial → ℕ
+added_in t (Ok act) = added_by t act
+added_in t (Err refusal) = 0
 
 -- they fit
 abbrev pub FitsDecision : Held → Result Allowed Denial → Type 0
-FitsDecision site decision = FitsNodes site.kept.state.tables site.room.nodes (added_in decision)
+FitsDecision site decision = FitsNodes site.kept.state.tables site.room.nodes (added_in site.kept.state.tables decision)

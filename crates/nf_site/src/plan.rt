@@ -2,21 +2,23 @@
 
 ghost use Rattle.std.specs.Prelude.{◌≡◌, [], IfOk, Ok};
 ghost use Rattle.nf_site.specs.Held.{added_in};
-ghost use Rattle.nf_words.specs.Prelude.{blob_by, reply_by, reply_to};
+ghost use Rattle.nf_words.specs.Prelude.{blob_by, hold_of, reply_by, reply_to, reported};
 ghost use Rattle.nf_words.specs.declared.answer.Allowed.TheVariants.{Close};
 
 use nf_base::{BlobId, Changes, Moment, NodeId};
-use nf_decide::{added_by, blob_of};
-use nf_words::{Allowed, Denial, Event, Goal, Listing, ListingLine, LockKey, Reply};
+use nf_decide::{View, added_by, blob_of, copy_key, hold_of};
+use nf_words::{Allowed, Denial, Event, Goal, Hold, Listing, ListingLine, Reply, Report};
 use std::alloc::{AllocError, Global};
 use std::marker::Model;
 
-/// An act with its reply.
+/// An act with its reply, and what its seat holds for it.
 #[derive(Drop)]
 pub(crate) struct Deed {
     pub(crate) act: Allowed,
     pub(crate) reply: Reply,
+    pub(crate) hold: Option<Hold>,
     ghost replies: { reply ≡ reply_to act },
+    ghost holds: { hold ≡ hold_of act },
 }
 
 /// A step of a seat's event before it is made: what it does, its answer, and the rows that it changes.
@@ -49,6 +51,7 @@ impl Plan {
         let deed = Deed {
             act: Allowed::Close,
             reply: Reply::Closed,
+            hold: None,
         };
         Plan::new(seat, moment, event, Ok(deed), Changes::new(alloc))
     }
@@ -89,11 +92,11 @@ impl Plan {
     }
 
     /// How many nodes the step adds.
-    pub(crate) fn added(&self) -> usize
-        ensures { result ≡ added_in self.now.decision }
+    pub(crate) fn added(&self, view: &View<'_>) -> usize
+        ensures { result ≡ added_in view.now.tables self.now.decision }
     {
         match &self.decided {
-            Ok(deed) => added_by(&deed.act),
+            Ok(deed) => added_by(view, &deed.act),
             Err(_) => 0,
         }
     }
@@ -107,12 +110,13 @@ impl Plan {
 }
 
 impl Deed {
-    /// It copies what the reply hands out.
+    /// It copies what the reply hands out, and what is held.
     pub(crate) fn new(alloc: Global, act: Allowed) -> Result<Deed, AllocError>
         ensures { IfOk result (λ deed. deed.act ≡ act) }
     {
         let reply = reply_to(alloc, &act)?;
-        Ok(Deed { act, reply })
+        let hold = hold_of(&act)?;
+        Ok(Deed { act, reply, hold })
     }
 }
 
@@ -123,20 +127,25 @@ fn reply_to(alloc: Global, act: &Allowed) -> Result<Reply, AllocError>
     match act {
         Allowed::Get { node: _, content } => Ok(Reply::Granted(Goal::Serve(content.clone()?))),
         Allowed::List(listing) => Ok(Reply::Listing(copy_listing(alloc, listing)?)),
-        Allowed::Put {
-            seeker,
-            key,
-            length,
-        } => Ok(Reply::Granted(Goal::Store {
-            seeker: *seeker,
+        Allowed::Put { by, key, length } => Ok(Reply::Granted(Goal::Store {
+            by: *by,
             key: copy_key(key)?,
             length: *length,
         })),
-        Allowed::StoreNew { .. } | Allowed::Mkcol(_) => Ok(Reply::Made),
-        Allowed::StoreOver { .. } | Allowed::Delete(_) => Ok(Reply::Done),
+        Allowed::Change { report, .. } => Ok(reported(*report)),
+        Allowed::Delete(_) => Ok(Reply::Done),
         Allowed::Move { transfer, name: _ } => Ok(reply_by(transfer.replaced)),
         Allowed::Copy { rows: _, replaced } => Ok(reply_by(*replaced)),
         Allowed::Close => Ok(Reply::Closed),
+    }
+}
+
+fn reported(report: Report) -> Reply
+    ensures { result ≡ reported report }
+{
+    match report {
+        Report::Made => Reply::Made,
+        Report::Done => Reply::Done,
     }
 }
 
@@ -168,16 +177,4 @@ fn copy_line(line: &ListingLine) -> Result<ListingLine, AllocError>
         owner: line.owner.copy()?,
         ..*line
     })
-}
-
-fn copy_key(key: &LockKey) -> Result<LockKey, AllocError>
-    ensures { IfOk result (λ copy. copy ≡ key.now) }
-{
-    match key {
-        LockKey::Node(node) => Ok(LockKey::Node(*node)),
-        LockKey::Slot { folder, name } => Ok(LockKey::Slot {
-            folder: *folder,
-            name: name.copy()?,
-        }),
-    }
 }

@@ -8,7 +8,7 @@ ghost use Rattle.nf_site.specs.Held.{HasEntryRoom, HasRoom, entries_wanted};
 ghost use Rattle.nf_site.specs.Kept.{IsHistory, entry, entered, moment_of, stepped};
 ghost use Rattle.nf_site.specs.PlanView.{decision_in};
 ghost use Rattle.nf_site.specs.Plans.{IsPlannedAtEnd, IsReady, plan_at, plan_of};
-ghost use Rattle.nf_words.specs.Prelude.{answer_to, changes_to, decision_of, end_decision, IsSound, MayAsk, MayBear};
+ghost use Rattle.nf_words.specs.Prelude.{access_of, answer_to, changes_to, decision_of, end_decision, IsSound, MayAsk, MayBear};
 ghost use Rattle.nf_words.specs.declared.history.Event.TheVariants.{Begin, End};
 ghost use Rattle.nf_words.specs.declared.history.Mark.TheVariants.{Answered};
 ghost use Rattle.nf_site.specs.declared.site.RoomFault.TheVariants.{Full};
@@ -114,7 +114,8 @@ impl Site {
             Event::End(Outcome::Body { .. }) | Event::Begin { .. } => {}
         }
         let plan = self.plan_step(alloc, seat, moment, event)?;
-        self.current.reserve_nodes(plan.added())?;
+        let added = plan.added(&self.current.view());
+        self.current.reserve_nodes(added)?;
         Ok(plan)
     }
 
@@ -147,7 +148,7 @@ impl Site {
     {
         match self.decide(alloc, seat, moment, event)? {
             Ok(act) => {
-                let changes = changes(alloc, self.current.tables(), moment, &act)?;
+                let changes = changes(alloc, &self.current.view(), moment, &act)?;
                 Ok((Ok(Deed::new(alloc, act)?), changes))
             }
             Err(refusal) => Ok((Err(refusal), Changes::new(alloc))),
@@ -173,7 +174,7 @@ impl Site {
     {
         match event {
             Event::Begin { words, request } => Call {
-                state: &self.current,
+                view: self.current.view(),
                 seat,
                 now: moment,
                 words: *words,
@@ -192,10 +193,10 @@ impl Site {
         outcome: &Outcome,
     ) -> Result<Result<Allowed, Denial>, AllocError>
         requires { MayAsk self.now.kept.state seat (End outcome.now) }
-        ensures { IfOk result (λ decision. decision ≡ end_decision self.entry.now.kept.state seat moment outcome.now) }
+        ensures { IfOk result (λ decision. decision ≡ end_decision (access_of self.entry.now.kept.state) self.entry.now.kept.state seat moment outcome.now) }
     {
         match self.current.ticket(seat) {
-            Some(ticket) => decide_end(alloc, self.current.tables(), moment, &ticket.goal, outcome),
+            Some(ticket) => decide_end(alloc, &self.current.view(), moment, &ticket.goal, outcome),
             None => Ok(Ok(Allowed::Close)),
         }
     }
@@ -215,7 +216,8 @@ impl Site {
         } = plan;
         let answer = match decided {
             Ok(deed) => {
-                self.current.change(seat, moment, &event, deed.act);
+                self.current
+                    .change(seat, moment, &event, deed.act, deed.hold);
                 Ok(deed.reply)
             }
             Err(refusal) => {

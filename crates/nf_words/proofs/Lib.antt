@@ -1,6 +1,14 @@
-pub mod Histories
+pub mod Steps
+pub mod Passing
+pub mod Found
+pub mod Bodies
+pub mod Fits
 pub mod Known
+pub mod Starts
+pub mod Transfers
+pub mod Begins
+pub mod Ends
+pub mod Histories
 pub mod Marks
 pub mod Opens
 pub mod Orders
-pub mod Steps

@@ -1,16 +1,14 @@
 -- A step is never answered as failed.
-use Rattle.std.proofs.Common.{◌≡◌, ◌↔◌, ℕ, Bool, true, false, List, [], ◌∷◌, Result, Ok, Err, refl, subst}
+use Rattle.std.proofs.Common.{◌≡◌, ◌↔◌, ℕ, ◌&&◌, Bool, true, false, List, [], ◌∷◌, Result, Ok, Err, refl, subst}
 use Rattle.std.specs.Prelude.{Option, None, Some, option_map, option_and_then, is_some, if◌then◌else◌}
 use Rattle.std.specs.List.{list_all, list_any}
 use Rattle.std.proofs.lemmas.Bool.{both_ways}
 use Rattle.std.specs.Option.{IfSome, option_or}
 use Rattle.nf_base.specs.declared.rows.NodeRow.{NodeRow}
-use Rattle.nf_defs.specs.Prelude.{Access, Tables, unshared}
+use Rattle.nf_defs.specs.Prelude.{Access, Tables}
 use Rattle.nf_defs.specs.declared.Found.{Found}
 use Rattle.nf_defs.specs.declared.Found.TheVariants.{At, Missing}
-use Rattle.nf_words.specs.Prelude.{allowed_of, answer_at, answer_to, answered_by, Call, call_of, decision_of, end_refusal, ends_goal, ends_ticket, exists_rule, first_that_holds, forbidden_rule, has_forbidden, is_caller, is_kept, key_lost, limit_at, limit_rule, limited, not_you_rule, overwrite_rule, pieces_of, place_of, place_rule, places_of, refusal_of, Rule, rules, source_lost, State, stored_at, taken, target_lost, target_rule, ticket_of, token_rule, unfit, unless_refused, user_of, users_of}
-use Rattle.nf_words.specs.Calls.{paths_of}
-use Rattle.nf_words.specs.Places.{unreplaced}
+use Rattle.nf_words.specs.Prelude.{access_of, allowed_of, answer_at, answer_to, answered_by, asked_by, Call, call_of, decision_of, end_refusal, ends_at, ends_goal, exists_rule, first_that_holds, forbidden_rule, goal_at, has_forbidden, is_caller, is_kept, is_transfer, key_lost, limit_at, limit_rule, limited, not_you_rule, overwrite_rule, pieces_of, place_of, paths_of, place_rule, places_of, refusal_of, Rule, rules, source_lost, State, stored_at, taken, target_lost, target_rule, token_rule, unfit, unless_refused, user_of, users_of}
 use Rattle.nf_words.specs.declared.answer.Allowed.{Allowed}
 use Rattle.nf_words.specs.declared.answer.Denial.{Denial}
 use Rattle.nf_words.specs.declared.answer.Denial.TheVariants as denial
@@ -27,10 +25,10 @@ use Rattle.nf_words.specs.declared.history.Mark.{Mark}
 use Rattle.nf_words.specs.declared.history.Mark.TheVariants as mark
 use Rattle.nf_words.specs.declared.history.Outcome.{Outcome}
 use Rattle.nf_words.specs.declared.history.Outcome.TheVariants.{Body}
-use Rattle.nf_words.specs.declared.history.Ticket.{Ticket}
+use Rattle.nf_words.specs.declared.request.Making.{Making}
+use Rattle.nf_words.specs.declared.request.Making.TheVariants as making
 use Rattle.nf_words.specs.declared.request.Places.{Places}
-use Rattle.nf_words.specs.declared.request.Wanted.{Wanted}
-use Rattle.nf_words.specs.declared.request.Wanted.TheVariants.{Put, Mkcol, Move, Copy}
+use Rattle.nf_words.specs.declared.route.Route.TheVariants.{Files}
 
 -- a denial that no rule gives: the step failed, or there was no room for it
 abbrev pub is_failure : Denial → Bool
@@ -72,15 +70,10 @@ target_fine : (o : Option Found) → IsRefusal (option_and_then target_lost o)
 target_fine (Some (Missing depth)) = refl
 target_fine place = tt
 
-taken_fine : (rows : List NodeRow) (wanted : Wanted) (places : Places) → IsRefusal (taken rows wanted places)
-taken_fine rows (Put spot length) places = if_test _ denial.Exists refl
-taken_fine rows (Mkcol spot) places = if_test _ denial.Exists refl
-taken_fine rows wanted places = tt
-
-kept_fine : (wanted : Wanted) (places : Places) → IsRefusal (unreplaced wanted places)
-kept_fine (Move source target overwrite) places = if_test (is_kept overwrite places) denial.Overwrite refl
-kept_fine (Copy source target overwrite) places = if_test (is_kept overwrite places) denial.Overwrite refl
-kept_fine wanted places = tt
+taken_fine : (rows : List NodeRow) (places : Places) (makes : Making) → IsRefusal (taken rows places makes)
+taken_fine rows places (making.File length) = if_test _ (denial.Exists Files) refl
+taken_fine rows places making.Folder = if_test _ (denial.Exists Files) refl
+taken_fine rows places makes = tt
 
 -- each of some rules refuses so
 abbrev AreRefusals : List Rule → Type 0
@@ -98,11 +91,11 @@ token_fine access call = unless_test (is_some (user_of call)) denial.Token refl
 
 not_you_fine : (access : Access) (call : Call) → IsRefusal (not_you_rule access call)
 unfolding not_you_rule
-not_you_fine access call = unless_test (list_all (is_caller call) (users_of call.request.wanted)) denial.NotYou refl
+not_you_fine access call = unless_test (list_all (is_caller call) (users_of (asked_by call))) denial.NotYou refl
 
 forbidden_fine : (access : Access) (call : Call) → IsRefusal (forbidden_rule access call)
 unfolding forbidden_rule
-forbidden_fine access call = if_test (list_any has_forbidden (paths_of call.request.wanted)) denial.ForbiddenName refl
+forbidden_fine access call = if_test (list_any has_forbidden (paths_of (asked_by call))) denial.ForbiddenName refl
 
 place_fine : (access : Access) (call : Call) → IsRefusal (place_rule access call)
 unfolding place_rule
@@ -113,19 +106,19 @@ place_fine access call =
 
 exists_fine : (access : Access) (call : Call) → IsRefusal (exists_rule access call)
 unfolding exists_rule
-exists_fine access call = taken_fine call.state.tables.nodes call.request.wanted (places_of call)
+exists_fine access call = taken_fine call.state.tables.nodes (places_of call) (asked_by call).makes
 
 fit_fine : (access : Access) (call : Call) → IsRefusal (target_rule access call)
 unfolding target_rule
-fit_fine access call = faults (unfit call.state.tables.nodes call.request.wanted (places_of call))
+fit_fine access call = faults (unfit call.state.tables.nodes (asked_by call) (places_of call))
 
 overwrite_fine : (access : Access) (call : Call) → IsRefusal (overwrite_rule access call)
 unfolding overwrite_rule
-overwrite_fine access call = kept_fine call.request.wanted (places_of call)
+overwrite_fine access call = if_test (is_transfer (asked_by call).makes && is_kept (asked_by call).overwrites (places_of call)) denial.Overwrite refl
 
 limit_fine : (access : Access) (call : Call) → IsRefusal (limit_rule access call)
 unfolding limit_rule
-limit_fine access call = limits (limited call.state.tables call.request.wanted (places_of call))
+limit_fine access call = limits (limited call.state.tables (places_of call) (asked_by call).makes)
 
 refusals : (access : Access) (call : Call) → IsRefusal (refusal_of access call)
 refusals access call =
@@ -145,19 +138,20 @@ unless_fine : (o : Option Denial) (act : Allowed) → IsRefusal o → IsDecided 
 unless_fine None act fine = tt
 unless_fine (Some refusal) act fine = fine
 
-goal_fine : (t : Tables) (now : ℕ) (outcome : Outcome) (goal : Goal) → IsDecided (ends_goal t now outcome goal)
-goal_fine t now (Body digest size) (Store by key wanted) =
+goal_fine : (access : Access) (t : Tables) (now : ℕ) (outcome : Outcome) (goal : Goal) → IsDecided (ends_goal access t now outcome goal)
+goal_fine access t now (Body digest size) (Store by key wanted) =
     unless_fine (end_refusal t key size) (stored_at t now key digest size) (either (key_lost t key) _ (lost_fine t key) (limits (limit_at t (pieces_of size) (place_of key))))
-goal_fine t now outcome goal = tt
+goal_fine access t now outcome goal = tt
 
-ticket_fine : (t : Tables) (now : ℕ) (outcome : Outcome) (ticket : Option Ticket) → IsDecided (ends_ticket t now outcome ticket)
-ticket_fine t now outcome None = tt
-ticket_fine t now outcome (Some ticket) = goal_fine t now outcome ticket.goal
+at_fine : (access : Access) (t : Tables) (now : ℕ) (outcome : Outcome) (goal : Option Goal) → IsDecided (ends_at access t now outcome goal)
+at_fine access t now outcome None = tt
+at_fine access t now outcome (Some goal) = goal_fine access t now outcome goal
 
 decides : (s : State) (seat now : ℕ) (event : Event) → IsDecided (decision_of s seat now event)
 decides s seat now (Begin words request) =
-    let call = call_of s seat now words request in unless_fine (refusal_of unshared call) (allowed_of call) (refusals unshared call)
-decides s seat now (End outcome) = ticket_fine s.tables now outcome (ticket_of s seat)
+    let call = call_of s seat now words request in
+    unless_fine (refusal_of (access_of s) call) (allowed_of (access_of s) call) (refusals (access_of s) call)
+decides s seat now (End outcome) = at_fine (access_of s) s.tables now outcome (goal_at s seat)
 
 no_failure : (decision : Result Allowed Denial) (refusal : Denial) → IsDecided decision → is_failure refusal ≡ true
     → answered_by decision ≡ Err refusal → ⊥

@@ -3,15 +3,14 @@ use Rattle.std.proofs.Common.{◌≡◌, ◌≢◌, ℕ, Bool, true, false, List
 use Rattle.std.specs.Prelude.{Option, None, Some, is_some, if◌then◌else◌}
 use Rattle.std.specs.Option.{option_map_or, option_or}
 use Rattle.nf_base.specs.declared.rows.NodeRow.{NodeRow}
-use Rattle.nf_defs.specs.Prelude.{content_of, is_folder, is_root, Tables, unshared}
+use Rattle.nf_defs.specs.Prelude.{content_of, is_folder, is_root, Tables}
 use Rattle.nf_defs.specs.declared.Found.{Found}
 use Rattle.nf_defs.specs.declared.Found.TheVariants.{At, Free, Missing}
-use Rattle.nf_defs.specs.declared.Seeker.{Seeker}
-use Rattle.nf_defs.specs.declared.Seeker.TheVariants as seeker
-use Rattle.nf_words.specs.Prelude.{allowed_of, answer_to, answered_by, asker_of, Call, call_of, copied, decided, decision_of, deleted, end_refusal, ends_ticket, exists_rule, found, given, goal_of, is_there, last_name, listing_of, lost, made_folder, misplaced, moved, node_found, place_rule, refusal_of, reply_by, reply_to, rules, served, shown, source_lost, State, step, stored, stored_at, taken, target_lost, target_rule, ticket_for, ticket_of, transfer_of, unfit, unless_refused, with_goal}
+use Rattle.nf_words.specs.Prelude.{access_of, allowed_of, answer_to, answered_by, asked_of, by_of, Call, call_of, copied, decided, decision_of, deleted, end_refusal, ends_at, exists_rule, found, given, goal_at, goal_of, hold_of, is_there, last_name, listing_of, lost, made_folder, misplaced, moved, node_found, place_rule, refusal_of, reply_by, reply_to, reported, served, shown, source_lost, State, step, stored, stored_at, taken, target_lost, target_rule, transfer_of, unfit, unless_refused, with_goal}
 use Rattle.nf_words.specs.declared.answer.Allowed.{Allowed}
 use Rattle.nf_words.specs.declared.answer.Allowed.TheVariants as allowed
 use Rattle.nf_words.specs.declared.answer.Denial.{Denial}
+use Rattle.nf_words.specs.declared.answer.By.{By}
 use Rattle.nf_words.specs.declared.answer.Denial.TheVariants as denial
 use Rattle.nf_words.specs.declared.answer.Goal.{Goal}
 use Rattle.nf_words.specs.declared.answer.Goal.TheVariants.{Serve, Store}
@@ -19,17 +18,20 @@ use Rattle.nf_words.specs.declared.answer.LockKey.{LockKey}
 use Rattle.nf_words.specs.declared.answer.LockKey.TheVariants.{Node, Slot}
 use Rattle.nf_words.specs.declared.answer.Reply.{Reply}
 use Rattle.nf_words.specs.declared.answer.Reply.TheVariants.{Closed, Granted}
+use Rattle.nf_words.specs.declared.answer.Report.{Report}
+use Rattle.nf_words.specs.declared.answer.Report.TheVariants as report
 use Rattle.nf_words.specs.declared.answer.TargetFault.TheVariants as target
 use Rattle.nf_words.specs.declared.history.Event.TheVariants.{Begin, End}
 use Rattle.nf_words.specs.declared.history.Outcome.{Outcome}
 use Rattle.nf_words.specs.declared.history.Outcome.TheVariants.{Body}
-use Rattle.nf_words.specs.declared.history.Ticket.{Ticket}
 use Rattle.nf_words.specs.declared.request.Request.{Request}
 use Rattle.nf_words.specs.declared.request.Transfer.{Transfer}
 use Rattle.nf_words.specs.declared.request.Words.{Words}
 use Rattle.nf_words.specs.declared.request.Wanted.{Wanted}
+use Rattle.nf_words.specs.declared.route.Route.TheVariants.{Files}
 use Rattle.nf_words.specs.declared.request.Wanted.TheVariants.{Get, Put, Mkcol, Delete, Move, Copy}
-use Rattle.nf_words.proofs.Known.{each_passes, no_fault, places_at}
+use Rattle.nf_words.proofs.Begins.{places_at}
+use Rattle.nf_words.proofs.Passing.{no_fault, unrefused}
 use Rattle.nf_words.proofs.Steps.{end_nothing, never_granted, ok_reply}
 
 -- ---- never as the End of what stores nothing
@@ -38,7 +40,12 @@ put_opens : (replaced : Option ℕ) → reply_by replaced ≢ Closed
 put_opens None = λ is. cc
 put_opens (Some node) = λ is. cc
 
+report_opens : (report : Report) → reported report ≢ Closed
+report_opens report.Made = λ is. cc
+report_opens report.Done = λ is. cc
+
 closes : (act : Allowed) → reply_to act ≡ Closed → act ≡ allowed.Close
+closes (allowed.Change changes blob report) is = absurd (report_opens report is)
 closes (allowed.Move transfer name) is = absurd (put_opens transfer.replaced is)
 closes (allowed.Copy rows replaced) is = absurd (put_opens replaced is)
 closes allowed.Close is = refl
@@ -65,12 +72,12 @@ open_deleted : (place : Found) → source_lost place ≡ None → deleted (node_
 open_deleted (At node) there = λ is. cc
 open_deleted nowhere there = absurd (cc)
 
-open_put : (by : Seeker) (name : List ℕ) (length : ℕ) (place : Found) → target_lost place ≡ None → stored by name length (Some place) ≢ allowed.Close
+open_put : (by : By) (name : List ℕ) (length : ℕ) (place : Found) → target_lost place ≡ None → stored by name length (Some place) ≢ allowed.Close
 open_put by name length (Missing depth) there = absurd (cc)
 open_put by name length place there = λ is. cc
 
 open_made : (t : Tables) (now : ℕ) (name : List ℕ) (place : Found) → target_lost place ≡ None
-    → (if is_some (node_found place) then Some denial.Exists else None) ≡ None → made_folder t now name (Some place) ≢ allowed.Close
+    → (if is_some (node_found place) then Some (denial.Exists Files) else None) ≡ None → made_folder t now name (Some place) ≢ allowed.Close
 open_made t now name (Free folder) there free = λ is. cc
 open_made t now name place there free = absurd (cc)
 
@@ -91,11 +98,11 @@ only_source : (o : Option Denial) → option_or o None ≡ None → o ≡ None
 only_source None none = refl
 only_source (Some refusal) none = absurd (cc)
 
-open_given : (call : Call) (asked : Wanted) → lost (places_at call asked) ≡ None → taken call.state.tables.nodes asked (places_at call asked) ≡ None
-    → unfit call.state.tables.nodes asked (places_at call asked) ≡ None
-    → given call.state.tables call.now (asker_of call) asked (places_at call asked) ≢ allowed.Close
+open_given : (call : Call) (asked : Wanted) → lost (places_at call asked) ≡ None → taken call.state.tables.nodes (places_at call asked) (asked_of asked).makes ≡ None
+    → unfit call.state.tables.nodes (asked_of asked) (places_at call asked) ≡ None
+    → given (access_of call.state) call (places_at call asked) asked ≢ allowed.Close
 open_given call (Get spot) led free fits = open_served call.state.tables (found call spot) (only_source _ led)
-open_given call (Put spot length) led free fits = open_put (seeker.User (asker_of call)) (last_name spot) length (found call spot) led
+open_given call (Put spot length) led free fits = open_put (by_of call spot) (last_name spot) length (found call spot) led
 open_given call (Mkcol spot) led free fits = open_made call.state.tables call.now (last_name spot) (found call spot) led free
 open_given call (Delete spot) led free fits = open_deleted (found call spot) (only_source _ led)
 open_given call (Move source target overwrite) led free fits =
@@ -112,20 +119,20 @@ pub begins_open : (s : State) (seat now : ℕ) (words : Words) (request : Reques
 unfolding place_rule exists_rule target_rule
 begins_open s seat now words request =
     let call = call_of s seat now words request in
-    open_answer (refusal_of unshared call) (allowed_of call) (λ none.
-    let pass = each_passes rules unshared call none in
-    open_given call request.wanted pass.1.1.1.0 pass.1.1.1.1.0 (no_fault _ pass.1.1.1.1.1.0))
+    let access = access_of s in
+    open_answer (refusal_of access call) (allowed_of access call) (λ none.
+    let pass = unrefused access call none in open_given call request.wanted pass.place pass.exists (no_fault _ pass.target))
 
 open_stored : (t : Tables) (now : ℕ) (key : LockKey) (digest : List ℕ) (length : ℕ) → stored_at t now key digest length ≢ allowed.Close
 open_stored t now (Node node) digest length = λ is. cc
 open_stored t now (Slot folder name) digest length = λ is. cc
 
 -- nor is the End of a PUT with its body
-pub bodies_open : (s : State) (seat now : ℕ) (digest : List ℕ) (length : ℕ) (by : Seeker) (key : LockKey) (wanted : ℕ)
-    → ticket_of s seat ≡ Some (ticket_for seat (Store by key wanted))
+pub bodies_open : (s : State) (seat now : ℕ) (digest : List ℕ) (length : ℕ) (by : By) (key : LockKey) (wanted : ℕ)
+    → goal_at s seat ≡ Some (Store by key wanted)
     → answer_to s seat now (End (Body digest length)) ≢ Ok Closed
 bodies_open s seat now digest length by key wanted has =
-    subst (λ (ticket : Option Ticket). answered_by (ends_ticket s.tables now (Body digest length) ticket) ≢ Ok Closed) (sym has)
+    subst (λ (goal : Option Goal). answered_by (ends_at (access_of s) s.tables now (Body digest length) goal) ≢ Ok Closed) (sym has)
     (open_answer (end_refusal s.tables key length) (stored_at s.tables now key digest length) (λ none. open_stored s.tables now key digest length))
 
 -- ---- what grants nothing
@@ -145,7 +152,7 @@ no_goal act plain = refl
 
 plain_decided : (s : State) (seat now : ℕ) (decision : Result Allowed Denial) → IsPlain (answered_by decision)
     → (decided s seat now decision).tickets ≡ s.tickets
-plain_decided s seat now (Ok act) plain = ap (λ (goal : Option Goal). with_goal s.tickets seat goal) (no_goal act plain)
+plain_decided s seat now (Ok act) plain = ap (λ (goal : Option Goal). with_goal s.tickets seat goal (hold_of act)) (no_goal act plain)
 plain_decided s seat now (Err refusal) plain = refl
 
 -- a Begin that grants nothing keeps the tickets

@@ -1,22 +1,26 @@
 -- What one step does to the tickets.
 use Rattle.std.proofs.Common.{ℕ, suc, zero, ◌+◌, ◌==◌, ◌≡◌, ◌≢◌, ◌<◌, ◌≤◌, Bool, true, false, not, List, [], ◌∷◌, Option, None, Some, IsNone, find, filter, length, length-append, get_or, Result, Ok, Err, refl, sym, ap, subst, ◌∙◌, arith}
+use Rattle.std.specs.Prelude.{option_map}
 use Rattle.std.specs.List.{AllPairs}
 use Rattle.std.proofs.lemmas.Bool.{eqb-false}
 use Rattle.std.proofs.lemmas.List.Folds.{find-append}
 use Rattle.std.proofs.lemmas.List.Kept.{AllPairs-filter}
 use Rattle.std.proofs.lemmas.List.Quantifiers.{all_pairs_push}
 use Rattle.std.proofs.lemmas.Grind.{common_steps}
-use Rattle.nf_defs.specs.Tables.{Tables}
-use Rattle.nf_words.specs.Prelude.{after, after_mark, answer_to, answered_by, decided, decision_of, end_decision, end_refusal, ends_goal, ends_ticket, failed, goal_of, IsLegalFrom, MayAsk, replay, reply_by, reply_to, State, step, stored_at, ticket_for, ticket_of, unless_refused, with_goal, without, without_ticket}
+use Rattle.nf_defs.specs.Prelude.{Access, Tables}
+use Rattle.nf_words.specs.Prelude.{access_of, after, after_mark, answer_to, answered_by, decided, decision_of, end_decision, end_refusal, ends_at, ends_goal, failed, goal_at, goal_of, hold_of, IsLegalFrom, MayAsk, replay, reply_by, reply_to, reported, State, step, stored_at, ticket_for, ticket_of, unless_refused, with_goal, without, without_ticket}
 use Rattle.nf_words.specs.declared.answer.Allowed.{Allowed}
 use Rattle.nf_words.specs.declared.answer.Allowed.TheVariants as allowed
 use Rattle.nf_words.specs.declared.answer.Denial.{Denial}
 use Rattle.nf_words.specs.declared.answer.Goal.{Goal}
 use Rattle.nf_words.specs.declared.answer.Goal.TheVariants.{Store}
+use Rattle.nf_words.specs.declared.answer.Hold.{Hold}
 use Rattle.nf_words.specs.declared.answer.LockKey.{LockKey}
 use Rattle.nf_words.specs.declared.answer.LockKey.TheVariants.{Node, Slot}
 use Rattle.nf_words.specs.declared.answer.Reply.{Reply}
 use Rattle.nf_words.specs.declared.answer.Reply.TheVariants.{Granted}
+use Rattle.nf_words.specs.declared.answer.Report.{Report}
+use Rattle.nf_words.specs.declared.answer.Report.TheVariants as report
 use Rattle.nf_words.specs.declared.history.Entry.{Entry}
 use Rattle.nf_words.specs.declared.history.Event.{Event}
 use Rattle.nf_words.specs.declared.history.Event.TheVariants.{Begin, End}
@@ -65,14 +69,14 @@ other_without s seat (Begin words request) other differ = refl
 other_without s seat (End outcome) other differ =
     find-filter (λ ticket. ticket.seat == other) (λ ticket. not (ticket.seat == seat)) (λ ticket is. grind (arith, common_steps)) s.tickets
 
-other_goal : (tickets : List Ticket) (seat other : ℕ) (goal : Option Goal) → other ≢ seat
-    → find (λ ticket. ticket.seat == other) (with_goal tickets seat goal) ≡ find (λ ticket. ticket.seat == other) tickets
-other_goal tickets seat other None differ = refl
-other_goal tickets seat other (Some goal) differ = find-append (λ ticket. ticket.seat == other) tickets _ ∙ grind (arith, common_steps)
+other_goal : (tickets : List Ticket) (seat other : ℕ) (goal : Option Goal) (hold : Option Hold) → other ≢ seat
+    → find (λ ticket. ticket.seat == other) (with_goal tickets seat goal hold) ≡ find (λ ticket. ticket.seat == other) tickets
+other_goal tickets seat other None hold differ = refl
+other_goal tickets seat other (Some goal) hold differ = find-append (λ ticket. ticket.seat == other) tickets _ ∙ grind (arith, common_steps)
 
 other_decided : (s : State) (seat now other : ℕ) (decision : Result Allowed Denial)
     → other ≢ seat → ticket_of (decided s seat now decision) other ≡ ticket_of s other
-other_decided s seat now other (Ok act) differ = other_goal s.tickets seat other (goal_of act) differ
+other_decided s seat now other (Ok act) differ = other_goal s.tickets seat other (goal_of act) (hold_of act) differ
 other_decided s seat now other (Err refusal) differ = refl
 
 pub other_step : (s : State) (seat now : ℕ) (event : Event) (other : ℕ) → other ≢ seat → ticket_of (step s seat now event) other ≡ ticket_of s other
@@ -99,36 +103,37 @@ stores_nothing (Some refusal) t now key digest length = tt
 stores_nothing None t now (Node node) digest length = refl
 stores_nothing None t now (Slot folder name) digest length = refl
 
-goal_nothing : (t : Tables) (now : ℕ) (outcome : Outcome) (goal : Goal) → GrantsNothing (ends_goal t now outcome goal)
-goal_nothing t now (Body digest length) (Store by key wanted) = stores_nothing (end_refusal t key length) t now key digest length
-goal_nothing t now outcome goal = refl
+goal_nothing : (access : Access) (t : Tables) (now : ℕ) (outcome : Outcome) (goal : Goal) → GrantsNothing (ends_goal access t now outcome goal)
+goal_nothing access t now (Body digest length) (Store by key wanted) = stores_nothing (end_refusal t key length) t now key digest length
+goal_nothing access t now outcome goal = refl
 
-ticket_nothing : (t : Tables) (now : ℕ) (outcome : Outcome) (ticket : Option Ticket) → GrantsNothing (ends_ticket t now outcome ticket)
-ticket_nothing t now outcome None = refl
-ticket_nothing t now outcome (Some ticket) = goal_nothing t now outcome ticket.goal
+at_nothing : (access : Access) (t : Tables) (now : ℕ) (outcome : Outcome) (goal : Option Goal) → GrantsNothing (ends_at access t now outcome goal)
+at_nothing access t now outcome None = refl
+at_nothing access t now outcome (Some goal) = goal_nothing access t now outcome goal
 
 -- an End grants nothing
-pub end_nothing : (s : State) (seat now : ℕ) (outcome : Outcome) → GrantsNothing (end_decision s seat now outcome)
-end_nothing s seat now outcome = ticket_nothing s.tables now outcome (ticket_of s seat)
+pub end_nothing : (s : State) (seat now : ℕ) (outcome : Outcome) → GrantsNothing (end_decision (access_of s) s seat now outcome)
+end_nothing s seat now outcome = at_nothing (access_of s) s.tables now outcome (goal_at s seat)
 
 nothing_more : (s : State) (seat now : ℕ) (decision : Result Allowed Denial) → GrantsNothing decision
     → (decided s seat now decision).tickets ≡ s.tickets
-nothing_more s seat now (Ok act) nothing = ap (λ (g : Option Goal). with_goal s.tickets seat g) nothing
+nothing_more s seat now (Ok act) nothing = ap (λ (g : Option Goal). with_goal s.tickets seat g (hold_of act)) nothing
 nothing_more s seat now (Err refusal) nothing = refl
 
 -- an End leaves the tickets of the others
 pub end_tickets : (s : State) (seat now : ℕ) (outcome : Outcome)
     → (step s seat now (End outcome)).tickets ≡ (without_ticket s seat).tickets
 end_tickets s seat now outcome =
-    nothing_more (without_ticket s seat) seat now (end_decision s seat now outcome) (end_nothing s seat now outcome)
+    nothing_more (without_ticket s seat) seat now (end_decision (access_of s) s seat now outcome) (end_nothing s seat now outcome)
 
 -- whatever is decided adds one at most
-goal_tickets : (tickets : List Ticket) (seat : ℕ) (goal : Option Goal) → length (with_goal tickets seat goal) ≤ length tickets + 1
-goal_tickets tickets seat None = omega arith
-goal_tickets tickets seat (Some goal) = omega (arith, length-append tickets (ticket_for seat goal ∷ []))
+goal_tickets : (tickets : List Ticket) (seat : ℕ) (goal : Option Goal) (hold : Option Hold)
+    → length (with_goal tickets seat goal hold) ≤ length tickets + 1
+goal_tickets tickets seat None hold = omega arith
+goal_tickets tickets seat (Some goal) hold = omega (arith, length-append tickets (ticket_for seat goal hold ∷ []))
 
 pub decided_tickets : (s : State) (seat now : ℕ) (decision : Result Allowed Denial) → length (decided s seat now decision).tickets ≤ length s.tickets + 1
-decided_tickets s seat now (Ok act) = goal_tickets s.tickets seat (goal_of act)
+decided_tickets s seat now (Ok act) = goal_tickets s.tickets seat (goal_of act) (hold_of act)
 decided_tickets s seat now (Err refusal) = omega arith
 
 pub end_frees : (s : State) (seat now : ℕ) (outcome : Outcome) → ticket_of (step s seat now (End outcome)) seat ≡ None
@@ -136,17 +141,18 @@ end_frees s seat now outcome = ap (λ (ts : List Ticket). find (λ ticket. ticke
 
 -- ---- what an End that brings no body changes
 
-ticket_keeps : (s : State) (seat now : ℕ) (outcome : Outcome) (ticket : Option Ticket) → ((goal : Goal) → ends_goal s.tables now outcome goal ≡ Ok allowed.Close)
-    → (decided (without_ticket s seat) seat now (ends_ticket s.tables now outcome ticket)).tables ≡ s.tables
-ticket_keeps s seat now outcome None closes = refl
-ticket_keeps s seat now outcome (Some ticket) closes =
-    ap (λ (d : Result Allowed Denial). (decided (without_ticket s seat) seat now d).tables) (closes ticket.goal)
+goal_keeps : (s : State) (seat now : ℕ) (outcome : Outcome) (goal : Option Goal)
+    → ((goal : Goal) → ends_goal (access_of s) s.tables now outcome goal ≡ Ok allowed.Close)
+    → (decided (without_ticket s seat) seat now (ends_at (access_of s) s.tables now outcome goal)).tables ≡ s.tables
+goal_keeps s seat now outcome None closes = refl
+goal_keeps s seat now outcome (Some goal) closes =
+    ap (λ (d : Result Allowed Denial). (decided (without_ticket s seat) seat now d).tables) (closes goal)
 
 pub sent_keeps : (s : State) (seat now : ℕ) → (step s seat now (End Sent)).tables ≡ s.tables
-sent_keeps s seat now = ticket_keeps s seat now Sent (ticket_of s seat) (λ goal. refl)
+sent_keeps s seat now = goal_keeps s seat now Sent (goal_at s seat) (λ goal. refl)
 
 pub gone_keeps : (s : State) (seat now : ℕ) → (step s seat now (End Gone)).tables ≡ s.tables
-gone_keeps s seat now = ticket_keeps s seat now Gone (ticket_of s seat) (λ goal. refl)
+gone_keeps s seat now = goal_keeps s seat now Gone (goal_at s seat) (λ goal. refl)
 
 -- ---- a granted step
 
@@ -155,7 +161,13 @@ pub put_grants_nothing : (replaced : Option ℕ) (goal : Goal) → reply_by repl
 put_grants_nothing None goal = λ is. cc
 put_grants_nothing (Some node) goal = λ is. cc
 
+-- nor does a change
+pub reports_nothing : (report : Report) (goal : Goal) → reported report ≢ Granted goal
+reports_nothing report.Made goal = λ is. cc
+reports_nothing report.Done goal = λ is. cc
+
 goal_of_reply : (act : Allowed) (goal : Goal) → reply_to act ≡ Granted goal → goal_of act ≡ Some goal
+goal_of_reply (allowed.Change changes blob report) goal is = absurd (reports_nothing report goal is)
 goal_of_reply (allowed.Move transfer name) goal is = absurd (put_grants_nothing transfer.replaced goal is)
 goal_of_reply (allowed.Copy rows replaced) goal is = absurd (put_grants_nothing replaced goal is)
 goal_of_reply act goal is = cc
@@ -166,16 +178,17 @@ ok_reply x y e = cc
 pub granted_goal : (act : Allowed) (goal : Goal) → answered_by (Ok act) ≡ Ok (Granted goal) → goal_of act ≡ Some goal
 granted_goal act goal is = goal_of_reply act goal (ok_reply (reply_to act) (Granted goal) is)
 
-goal_found : (tickets : List Ticket) (seat : ℕ) (goal : Goal) → IsNone (find (λ ticket. ticket.seat == seat) tickets)
-    → find (λ ticket. ticket.seat == seat) (with_goal tickets seat (Some goal)) ≡ Some (ticket_for seat goal)
-goal_found tickets seat goal none = find-append (λ ticket. ticket.seat == seat) tickets _ ∙ grind (arith, common_steps)
+goal_found : (tickets : List Ticket) (seat : ℕ) (goal : Goal) (hold : Option Hold) → IsNone (find (λ ticket. ticket.seat == seat) tickets)
+    → find (λ ticket. ticket.seat == seat) (with_goal tickets seat (Some goal) hold) ≡ Some (ticket_for seat goal hold)
+goal_found tickets seat goal hold none = find-append (λ ticket. ticket.seat == seat) tickets _ ∙ grind (arith, common_steps)
 
 granted_decided : (s : State) (seat now : ℕ) (decision : Result Allowed Denial) (goal : Goal)
     → IsNone (ticket_of s seat) → answered_by decision ≡ Ok (Granted goal)
-    → ticket_of (decided s seat now decision) seat ≡ Some (ticket_for seat goal)
+    → goal_at (decided s seat now decision) seat ≡ Some goal
 granted_decided s seat now (Ok act) goal none is =
-    ap (λ (g : Option Goal). find (λ ticket. ticket.seat == seat) (with_goal s.tickets seat g)) (granted_goal act goal is)
-    ∙ goal_found s.tickets seat goal none
+    ap (option_map (λ (ticket : Ticket). ticket.goal))
+    (ap (λ (g : Option Goal). find (λ ticket. ticket.seat == seat) (with_goal s.tickets seat g (hold_of act))) (granted_goal act goal is)
+    ∙ goal_found s.tickets seat goal (hold_of act) none)
 granted_decided s seat now (Err refusal) goal none is = cc
 
 pub never_granted : (decision : Result Allowed Denial) (goal : Goal) → GrantsNothing decision → answered_by decision ≡ Ok (Granted goal) → ⊥
@@ -184,10 +197,10 @@ never_granted (Err refusal) goal nothing is = cc
 
 pub granted_step : (s : State) (seat now : ℕ) (event : Event) (goal : Goal)
     → IsNone (ticket_of s seat) → answer_to s seat now event ≡ Ok (Granted goal)
-    → ticket_of (step s seat now event) seat ≡ Some (ticket_for seat goal)
+    → goal_at (step s seat now event) seat ≡ Some goal
 granted_step s seat now (Begin words request) goal none is = granted_decided s seat now (decision_of s seat now (Begin words request)) goal none is
 granted_step s seat now (End outcome) goal none is =
-    absurd (never_granted (end_decision s seat now outcome) goal (end_nothing s seat now outcome) is)
+    absurd (never_granted (end_decision (access_of s) s seat now outcome) goal (end_nothing s seat now outcome) is)
 
 -- ---- no seat has two tickets
 
@@ -200,15 +213,15 @@ Differ s = AllPairs OfTwoSeats s.tickets
 differ_without : (s : State) (seat : ℕ) → Differ s → Differ (without_ticket s seat)
 differ_without s seat h = AllPairs-filter OfTwoSeats (λ ticket. not (ticket.seat == seat)) s.tickets h
 
-differ_goal : (tickets : List Ticket) (seat : ℕ) (goal : Option Goal) → IsNone (find (λ ticket. ticket.seat == seat) tickets)
-    → AllPairs OfTwoSeats tickets → AllPairs OfTwoSeats (with_goal tickets seat goal)
-differ_goal tickets seat None none h = h
-differ_goal tickets seat (Some goal) none h =
+differ_goal : (tickets : List Ticket) (seat : ℕ) (goal : Option Goal) (hold : Option Hold) → IsNone (find (λ ticket. ticket.seat == seat) tickets)
+    → AllPairs OfTwoSeats tickets → AllPairs OfTwoSeats (with_goal tickets seat goal hold)
+differ_goal tickets seat None hold none h = h
+differ_goal tickets seat (Some goal) hold none h =
     all_pairs_push OfTwoSeats tickets _ h (λ k d within. eqb-false _ _ (fails_each (λ ticket. ticket.seat == seat) tickets none k d within))
 
 differ_decided : (s : State) (seat now : ℕ) (decision : Result Allowed Denial)
     → IsNone (ticket_of s seat) → Differ s → Differ (decided s seat now decision)
-differ_decided s seat now (Ok act) none h = differ_goal s.tickets seat (goal_of act) none h
+differ_decided s seat now (Ok act) none h = differ_goal s.tickets seat (goal_of act) (hold_of act) none h
 differ_decided s seat now (Err refusal) none h = h
 
 differ_step : (s : State) (seat now : ℕ) (event : Event) → MayAsk s seat event → Differ s → Differ (step s seat now event)

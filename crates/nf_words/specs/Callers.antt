@@ -3,7 +3,8 @@ use Rattle.std.specs.Prelude.{ℕ, Bool, false, bytes_eq, List, Option, None, So
 use Rattle.std.specs.List.{list_all}
 use Rattle.std.specs.Option.{option_map_or}
 use Rattle.nf_defs.specs.Access.{Access}
-use Rattle.nf_words.specs.Calls.{Call, user_of, users_of, caller_row}
+use Rattle.nf_words.specs.Asked.{users_of}
+use Rattle.nf_words.specs.Calls.{Call, asked_by, caller_row, user_of}
 use Rattle.nf_words.specs.declared.answer.Denial.{Denial}
 use Rattle.nf_words.specs.declared.answer.Denial.TheVariants as denial
 
@@ -17,4 +18,4 @@ is_caller call name = option_map_or (λ row. bytes_eq row.name name) (caller_row
 
 -- `not-you`: a user in the path isn't the caller
 unfoldable pub not_you_rule : Access → Call → Option Denial
-not_you_rule access call = if list_all (is_caller call) (users_of call.request.wanted) then None else Some denial.NotYou
+not_you_rule access call = if list_all (is_caller call) (users_of (asked_by call)) then None else Some denial.NotYou

@@ -1,5 +1,5 @@
 -- What each act changes and is answered, where no rule refuses it.
-use Rattle.std.specs.Prelude.{ℕ, ◌+◌, ◌==◌, ◌&&◌, Bool, List, [], ◌∷◌, ◌++◌, length, map, Option, None, Some, if◌then◌else◌}
+use Rattle.std.specs.Prelude.{ℕ, ◌+◌, ◌==◌, ◌&&◌, Bool, List, [], ◌∷◌, ◌++◌, length, map, max, Option, None, Some, if◌then◌else◌}
 use Rattle.std.specs.Option.{option_map_or}
 use Rattle.nf_base.specs.Content.{content_eq}
 use Rattle.nf_base.specs.declared.changes.Change.{Change}
@@ -12,27 +12,31 @@ use Rattle.nf_base.specs.declared.rows.NodeKind.TheVariants.{Folder}
 use Rattle.nf_base.specs.declared.rows.NodeRow.{NodeRow}
 use Rattle.nf_base.specs.declared.rows.Place.TheVariants.{Inside}
 use Rattle.nf_base.specs.declared.rows.Row.TheVariants as rows
-use Rattle.nf_defs.specs.Prelude.{content_of, filled, is_folder, node_row, owner_of, relinked, Tables, walk_of, with_node, without_under}
+use Rattle.nf_defs.specs.Prelude.{Access, content_of, is_folder, node_row, owner_of, put_all, relinked, Tables, walk_of, with_node, without_under}
 use Rattle.nf_defs.specs.declared.Found.{Found}
 use Rattle.nf_defs.specs.declared.Found.TheVariants.{At, Free, Missing}
-use Rattle.nf_defs.specs.declared.Seeker.{Seeker}
-use Rattle.nf_defs.specs.declared.Seeker.TheVariants as seeker
 use Rattle.nf_words.specs.State.{State, ticket_for}
-use Rattle.nf_words.specs.Calls.{Call, asker_of, last_name, places_of}
+use Rattle.nf_words.specs.Calls.{Call, last_name, places_of, seeker_of, way_of}
 use Rattle.nf_words.specs.Copies.{copies_to}
 use Rattle.nf_words.specs.Listing.{listing_of}
 use Rattle.nf_words.specs.Places.{node_at, transfer_of}
 use Rattle.nf_words.specs.declared.request.Places.{Places}
+use Rattle.nf_words.specs.declared.request.Spot.{Spot}
 use Rattle.nf_words.specs.declared.request.Transfer.{Transfer}
 use Rattle.nf_words.specs.declared.request.Wanted.{Wanted}
 use Rattle.nf_words.specs.declared.request.Wanted.TheVariants as wanted
 use Rattle.nf_words.specs.declared.answer.Allowed.{Allowed}
 use Rattle.nf_words.specs.declared.answer.Allowed.TheVariants as allowed
+use Rattle.nf_words.specs.declared.answer.By.{By}
 use Rattle.nf_words.specs.declared.answer.Goal.{Goal}
 use Rattle.nf_words.specs.declared.answer.Goal.TheVariants.{Serve, Store}
+use Rattle.nf_words.specs.declared.answer.Hold.{Hold}
 use Rattle.nf_words.specs.declared.answer.LockKey.TheVariants.{Node, Slot}
+use Rattle.nf_words.specs.declared.answer.Mode.TheVariants.{Exclusive, Shared}
 use Rattle.nf_words.specs.declared.answer.Reply.{Reply}
 use Rattle.nf_words.specs.declared.answer.Reply.TheVariants.{Made, Done, Closed, Granted, Listing}
+use Rattle.nf_words.specs.declared.answer.Report.{Report}
+use Rattle.nf_words.specs.declared.answer.Report.TheVariants as report
 use Rattle.nf_words.specs.declared.history.Ticket.{Ticket}
 
 -- ---- what an act may do at the places that its paths lead to; elsewhere, where a rule refuses it, nothing
@@ -58,17 +62,25 @@ abbrev pub served : Tables → Option ℕ → Allowed
 served t node = option_map_or (shown t) node allowed.Close
 
 -- PUT stores over the file that is there, or under the name that is free
-abbrev pub stored : Seeker → List ℕ → ℕ → Option Found → Allowed
-stored who name length None = allowed.Close
-stored who name length (Some (At node)) = allowed.Put who (Node node) length
-stored who name length (Some (Free folder)) = allowed.Put who (Slot folder name) length
-stored who name length (Some (Missing depth)) = allowed.Close
+abbrev pub stored : By → List ℕ → ℕ → Option Found → Allowed
+stored by name length None = allowed.Close
+stored by name length (Some (At node)) = allowed.Put by (Node node) length
+stored by name length (Some (Free folder)) = allowed.Put by (Slot folder name) length
+stored by name length (Some (Missing depth)) = allowed.Close
+
+-- who asks, by the mount on a place's path
+abbrev pub by_of : Call → Spot → By
+by_of call spot = record { seeker = seeker_of call; mount = (way_of call spot).mount }
+
+-- a new node is made, whose body is in that blob
+abbrev pub makes : NodeRow → Option ℕ → Allowed
+makes row blob = allowed.Change (Put (rows.Node row) ∷ []) blob report.Made
 
 -- MKCOL makes a folder under the name that is free
 abbrev pub made_folder : Tables → ℕ → List ℕ → Option Found → Allowed
 made_folder t now name None = allowed.Close
 made_folder t now name (Some (At node)) = allowed.Close
-made_folder t now name (Some (Free folder)) = allowed.Mkcol (new_node t now folder name Folder [])
+made_folder t now name (Some (Free folder)) = makes (new_node t now folder name Folder []) None
 made_folder t now name (Some (Missing depth)) = allowed.Close
 
 -- DELETE removes the node that is there with all under it
@@ -83,16 +95,18 @@ abbrev pub copied : Tables → ℕ → List ℕ → Option Transfer → Allowed
 copied t now name transfer =
     option_map_or (λ transfer. allowed.Copy (copies_to t now transfer name) transfer.replaced) transfer allowed.Close
 
-abbrev pub given : Tables → ℕ → ℕ → Wanted → Places → Allowed
-given t now user (wanted.Get spot) places = served t (node_at places.source)
-given t now user (wanted.Put spot length) places = stored (seeker.User user) (last_name spot) length places.target
-given t now user (wanted.Mkcol spot) places = made_folder t now (last_name spot) places.target
-given t now user (wanted.Delete spot) places = deleted (node_at places.source)
-given t now user (wanted.Move source target overwrite) places = moved (last_name target) (transfer_of t.nodes places)
-given t now user (wanted.Copy source target overwrite) places = copied t now (last_name target) (transfer_of t.nodes places)
+abbrev pub given : Access → Call → Places → Wanted → Allowed
+given access call places (wanted.Get spot) = served call.state.tables (node_at places.source)
+given access call places (wanted.Put spot length) = stored (by_of call spot) (last_name spot) length places.target
+given access call places (wanted.Mkcol spot) = made_folder call.state.tables call.now (last_name spot) places.target
+given access call places (wanted.Delete spot) = deleted (node_at places.source)
+given access call places (wanted.Move source target overwrite) = moved (last_name target) (transfer_of call.state.tables.nodes places)
+given access call places (wanted.Copy source target overwrite) =
+    copied call.state.tables call.now (last_name target) (transfer_of call.state.tables.nodes places)
 
-abbrev pub allowed_of : Call → Allowed
-allowed_of call = given call.state.tables call.now (asker_of call) call.request.wanted (places_of call)
+-- what a call that no rule refuses may do, by what shares let their seekers do. No act reads the shares yet
+abbrev pub allowed_of : Access → Call → Allowed
+allowed_of access call = given access call (places_of call) call.request.wanted
 
 -- ---- the rows, but for the moment of the meta row
 
@@ -101,18 +115,22 @@ abbrev pub blob_after : ℕ → Option ℕ → ℕ
 blob_after next None = next
 blob_after next (Some id) = next + 1
 
--- the tables with a node more, whose body is in that blob
-abbrev pub created : Tables → NodeRow → Option ℕ → Tables
-created t row blob = record t {
-  meta = record t.meta { next_node = t.meta.next_node + 1; next_blob = blob_after t.meta.next_blob blob };
-  nodes = t.nodes ++ row ∷ [];
-}
+-- each counter is above the numbers that are put
+abbrev pub above : MetaRow → Change → MetaRow
+above meta (Put (rows.User row)) = record meta { next_user = max meta.next_user (row.id + 1) }
+above meta (Put (rows.Group row)) = record meta { next_group = max meta.next_group (row.id + 1) }
+above meta (Put (rows.Node row)) = record meta { next_node = max meta.next_node (row.id + 1) }
+above meta (Put (rows.Share row)) = record meta { next_share = max meta.next_share (row.id + 1) }
+above meta other = meta
 
--- the tables with another content of that node, whose body is in that blob; the old content is dropped
-abbrev pub replaced : Tables → ℕ → ℕ → List Piece → Option ℕ → Tables
-replaced t now node content blob = record t {
-  meta = record t.meta { next_blob = blob_after t.meta.next_blob blob };
-  nodes = with_node t.nodes node (filled content now);
+abbrev pub counted : MetaRow → List Change → MetaRow
+counted meta [] = meta
+counted meta (change ∷ changes) = counted (above meta change) changes
+
+-- the tables with their counters raised for some changes and a blob, at a moment: so each change meets tables that know its numbers
+abbrev pub raised : Tables → ℕ → List Change → Option ℕ → Tables
+raised t now changes blob = record t {
+  meta = record (counted t.meta changes) { next_blob = blob_after t.meta.next_blob blob; last = now };
 }
 
 -- the tables without the nodes under one, which are gone for good
@@ -139,10 +157,8 @@ joined t rows replaced = record t {
 abbrev pub altered : Tables → ℕ → Allowed → Tables
 altered t now (allowed.Get node content) = t
 altered t now (allowed.List listing) = t
-altered t now (allowed.Put who key length) = t
-altered t now (allowed.StoreNew row blob) = created t row blob
-altered t now (allowed.StoreOver node content blob) = replaced t now node content blob
-altered t now (allowed.Mkcol row) = created t row None
+altered t now (allowed.Put by key length) = t
+altered t now (allowed.Change changes blob report) = record (put_all t changes) { meta = (raised t now changes blob).meta }
 altered t now (allowed.Delete node) = removed t node
 altered t now (allowed.Move transfer name) = transferred t transfer name
 altered t now (allowed.Copy rows replaced) = joined t rows replaced
@@ -170,22 +186,26 @@ abbrev pub dropped_for : List NodeRow → Option ℕ → List Change
 dropped_for nodes replaced = option_map_or (dropped_under nodes) replaced []
 
 -- the rows that an act changes, but for the meta row
-abbrev pub told : Tables → ℕ → Allowed → List Change
-told t now (allowed.Get node content) = []
-told t now (allowed.List listing) = []
-told t now (allowed.Put who key length) = []
-told t now (allowed.StoreNew row blob) = Put (rows.Node row) ∷ []
-told t now (allowed.StoreOver node content blob) = refilled (node_row t.nodes node) now content
-told t now (allowed.Mkcol row) = Put (rows.Node row) ∷ []
-told t now (allowed.Delete node) = dropped_under t.nodes node
-told t now (allowed.Move transfer name) =
-    dropped_for t.nodes transfer.replaced ++ transferred_row (node_row t.nodes transfer.node) transfer name
-told t now (allowed.Copy copies replaced) = dropped_for t.nodes replaced ++ map (λ row. Put (rows.Node row)) copies
-told t now allowed.Close = []
+abbrev pub told : Tables → Allowed → List Change
+told t (allowed.Get node content) = []
+told t (allowed.List listing) = []
+told t (allowed.Put by key length) = []
+told t (allowed.Change changes blob report) = changes
+told t (allowed.Delete node) = dropped_under t.nodes node
+told t (allowed.Move transfer name) = dropped_for t.nodes transfer.replaced ++ transferred_row (node_row t.nodes transfer.node) transfer name
+told t (allowed.Copy copies replaced) = dropped_for t.nodes replaced ++ map (λ row. Put (rows.Node row)) copies
+told t allowed.Close = []
 
 -- the meta row after an act: its counters, and the moment
 abbrev pub meta_after : Tables → ℕ → Allowed → MetaRow
-meta_after t now act = record (altered t now act).meta { last = now }
+meta_after t now (allowed.Get node content) = record t.meta { last = now }
+meta_after t now (allowed.List listing) = record t.meta { last = now }
+meta_after t now (allowed.Put by key length) = record t.meta { last = now }
+meta_after t now (allowed.Change changes blob report) = (raised t now changes blob).meta
+meta_after t now (allowed.Delete node) = record t.meta { last = now }
+meta_after t now (allowed.Move transfer name) = record t.meta { last = now }
+meta_after t now (allowed.Copy rows replaced) = record t.meta { next_node = t.meta.next_node + length rows; last = now }
+meta_after t now allowed.Close = record t.meta { last = now }
 
 abbrev pub same_meta : MetaRow → MetaRow → Bool
 same_meta a b =
@@ -203,7 +223,7 @@ with_meta old meta (change ∷ changes) = (change ∷ changes) ++ new_meta old m
 
 -- what an act changes: the rows that differ, and no other
 abbrev pub changes_of : Tables → ℕ → Allowed → List Change
-changes_of t now act = with_meta t.meta (meta_after t now act) (told t now act)
+changes_of t now act = with_meta t.meta (meta_after t now act) (told t act)
 
 -- ---- the tables after an act
 
@@ -213,7 +233,7 @@ stamped before after now [] = before
 stamped before after now (change ∷ changes) = record after { meta = record after.meta { last = now } }
 
 abbrev pub changed : Tables → ℕ → Allowed → Tables
-changed t now act = stamped t (altered t now act) now (told t now act)
+changed t now act = stamped t (altered t now act) now (told t act)
 
 -- ---- the tickets
 
@@ -221,18 +241,27 @@ changed t now act = stamped t (altered t now act) now (told t now act)
 abbrev pub goal_of : Allowed → Option Goal
 goal_of (allowed.Get node content) = Some (Serve content)
 goal_of (allowed.List listing) = None
-goal_of (allowed.Put who key length) = Some (Store who key length)
-goal_of (allowed.StoreNew row blob) = None
-goal_of (allowed.StoreOver node content blob) = None
-goal_of (allowed.Mkcol row) = None
+goal_of (allowed.Put by key length) = Some (Store by key length)
+goal_of (allowed.Change changes blob report) = None
 goal_of (allowed.Delete node) = None
 goal_of (allowed.Move transfer name) = None
 goal_of (allowed.Copy rows replaced) = None
 goal_of allowed.Close = None
 
-abbrev pub with_goal : List Ticket → ℕ → Option Goal → List Ticket
-with_goal tickets seat None = tickets
-with_goal tickets seat (Some goal) = tickets ++ ticket_for seat goal ∷ []
+-- what it holds for that: a file that is sent beside others who read it, and what is stored over alone
+abbrev pub hold_of : Allowed → Option Hold
+hold_of (allowed.Get node content) = Some (record { key = Node node; mode = Shared })
+hold_of (allowed.List listing) = None
+hold_of (allowed.Put by key length) = Some (record { key = key; mode = Exclusive })
+hold_of (allowed.Change changes blob report) = None
+hold_of (allowed.Delete node) = None
+hold_of (allowed.Move transfer name) = None
+hold_of (allowed.Copy rows replaced) = None
+hold_of allowed.Close = None
+
+abbrev pub with_goal : List Ticket → ℕ → Option Goal → Option Hold → List Ticket
+with_goal tickets seat None hold = tickets
+with_goal tickets seat (Some goal) hold = tickets ++ ticket_for seat goal hold ∷ []
 
 -- ---- the bytes
 
@@ -240,10 +269,8 @@ with_goal tickets seat (Some goal) = tickets ++ ticket_for seat goal ∷ []
 abbrev pub blob_of : Allowed → Option ℕ
 blob_of (allowed.Get node content) = None
 blob_of (allowed.List listing) = None
-blob_of (allowed.Put who key length) = None
-blob_of (allowed.StoreNew row blob) = blob
-blob_of (allowed.StoreOver node content blob) = blob
-blob_of (allowed.Mkcol row) = None
+blob_of (allowed.Put by key length) = None
+blob_of (allowed.Change changes blob report) = blob
 blob_of (allowed.Delete node) = None
 blob_of (allowed.Move transfer name) = None
 blob_of (allowed.Copy rows replaced) = None
@@ -253,20 +280,22 @@ blob_of allowed.Close = None
 
 -- the state with an act done
 abbrev pub applied : State → ℕ → ℕ → Allowed → State
-applied s seat now act = record s { tables = changed s.tables now act; tickets = with_goal s.tickets seat (goal_of act) }
+applied s seat now act = record s { tables = changed s.tables now act; tickets = with_goal s.tickets seat (goal_of act) (hold_of act) }
 
 -- what is put at a place is made, where nothing was there
 abbrev pub reply_by : Option ℕ → Reply
 reply_by replaced = option_map_or (λ node. Done) replaced Made
 
+abbrev pub reported : Report → Reply
+reported report.Made = Made
+reported report.Done = Done
+
 -- what is answered
 abbrev pub reply_to : Allowed → Reply
 reply_to (allowed.Get node content) = Granted (Serve content)
 reply_to (allowed.List listing) = Listing listing
-reply_to (allowed.Put who key length) = Granted (Store who key length)
-reply_to (allowed.StoreNew row blob) = Made
-reply_to (allowed.StoreOver node content blob) = Done
-reply_to (allowed.Mkcol row) = Made
+reply_to (allowed.Put by key length) = Granted (Store by key length)
+reply_to (allowed.Change changes blob report) = reported report
 reply_to (allowed.Delete node) = Done
 reply_to (allowed.Move transfer name) = reply_by transfer.replaced
 reply_to (allowed.Copy rows replaced) = reply_by replaced

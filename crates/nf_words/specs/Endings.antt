@@ -3,12 +3,12 @@ use Rattle.std.specs.Prelude.{ℕ, ◌==◌, ◌&&◌, List, [], ◌∷◌, Opti
 use Rattle.std.specs.Option.{option_or}
 use Rattle.nf_base.specs.declared.content.Piece.{Piece}
 use Rattle.nf_base.specs.declared.rows.NodeKind.TheVariants.{File}
-use Rattle.nf_defs.specs.Prelude.{child_of, is_file, is_folder, Tables}
+use Rattle.nf_defs.specs.Prelude.{Access, child_of, is_file, is_folder, node_row, Tables}
 use Rattle.nf_defs.specs.declared.Found.{Found}
 use Rattle.nf_defs.specs.declared.Found.TheVariants.{At, Free}
-use Rattle.nf_words.specs.Changes.{new_node}
+use Rattle.nf_words.specs.Changes.{makes, new_node, refilled}
 use Rattle.nf_words.specs.Limits.{limit_at, pieces_of}
-use Rattle.nf_words.specs.State.{State, ticket_of}
+use Rattle.nf_words.specs.State.{State, goal_at}
 use Rattle.nf_words.specs.declared.answer.Allowed.{Allowed}
 use Rattle.nf_words.specs.declared.answer.Allowed.TheVariants as allowed
 use Rattle.nf_words.specs.declared.answer.Denial.{Denial}
@@ -19,7 +19,7 @@ use Rattle.nf_words.specs.declared.answer.LockKey.{LockKey}
 use Rattle.nf_words.specs.declared.answer.LockKey.TheVariants.{Node, Slot}
 use Rattle.nf_words.specs.declared.history.Outcome.{Outcome}
 use Rattle.nf_words.specs.declared.history.Outcome.TheVariants.{Sent, Gone, Body}
-use Rattle.nf_words.specs.declared.history.Ticket.{Ticket}
+use Rattle.nf_words.specs.declared.answer.Report.TheVariants.{Done}
 
 abbrev pub unless_refused : Option Denial → Allowed → Result Allowed Denial
 unless_refused None act = Ok act
@@ -49,26 +49,28 @@ abbrev pub content_in : Option ℕ → List ℕ → ℕ → List Piece
 content_in None digest length = []
 content_in (Some blob) digest length = record { blob = blob; size = length; digest = digest } ∷ []
 
--- what storing a body does
+-- what storing a body does: another content of the file, or a file under the free name
 abbrev pub stored_at : Tables → ℕ → LockKey → List ℕ → ℕ → Allowed
 stored_at t now (Node node) digest length =
-    let blob = blob_for t.meta.next_blob length in allowed.StoreOver node (content_in blob digest length) blob
+    let blob = blob_for t.meta.next_blob length in
+    allowed.Change (refilled (node_row t.nodes node) now (content_in blob digest length)) blob Done
 stored_at t now (Slot folder name) digest length =
-    let blob = blob_for t.meta.next_blob length in allowed.StoreNew (new_node t now folder name File (content_in blob digest length)) blob
+    let blob = blob_for t.meta.next_blob length in makes (new_node t now folder name File (content_in blob digest length)) blob
 
 abbrev pub stores : Tables → ℕ → LockKey → List ℕ → ℕ → Result Allowed Denial
 stores t now key digest length = unless_refused (end_refusal t key length) (stored_at t now key digest length)
 
--- what an End may do, by the goal of its seat's ticket
-abbrev pub ends_goal : Tables → ℕ → Outcome → Goal → Result Allowed Denial
-ends_goal t now Sent goal = Ok allowed.Close
-ends_goal t now Gone goal = Ok allowed.Close
-ends_goal t now (Body digest length) (Serve content) = Ok allowed.Close
-ends_goal t now (Body digest length) (Store who key wanted) = stores t now key digest length
+-- what an End may do, by the goal of its seat's ticket and by what shares let their seekers do. It doesn't read the shares yet
+abbrev pub ends_goal : Access → Tables → ℕ → Outcome → Goal → Result Allowed Denial
+ends_goal access t now Sent goal = Ok allowed.Close
+ends_goal access t now Gone goal = Ok allowed.Close
+ends_goal access t now (Body digest length) (Serve content) = Ok allowed.Close
+ends_goal access t now (Body digest length) (Store by key wanted) = stores t now key digest length
 
-abbrev pub ends_ticket : Tables → ℕ → Outcome → Option Ticket → Result Allowed Denial
-ends_ticket t now outcome None = Ok allowed.Close
-ends_ticket t now outcome (Some ticket) = ends_goal t now outcome ticket.goal
+-- of a seat that has none, nothing
+abbrev pub ends_at : Access → Tables → ℕ → Outcome → Option Goal → Result Allowed Denial
+ends_at access t now outcome None = Ok allowed.Close
+ends_at access t now outcome (Some goal) = ends_goal access t now outcome goal
 
-abbrev pub end_decision : State → ℕ → ℕ → Outcome → Result Allowed Denial
-end_decision s seat now outcome = ends_ticket s.tables now outcome (ticket_of s seat)
+abbrev pub end_decision : Access → State → ℕ → ℕ → Outcome → Result Allowed Denial
+end_decision access s seat now outcome = ends_at access s.tables now outcome (goal_at s seat)

@@ -1,8 +1,8 @@
 -- Legal histories: lists of entries, each of which may come in the state that those before it made.
 use Rattle.std.specs.Prelude.{◌≡◌, ◌≢◌, ℕ, ◌+◌, ◌≤◌, Bool, false, not, List, [], ◌∷◌, length, Option, None, Some, IsNone, IfSome, is_some, Result, Err}
 use Rattle.nf_base.specs.declared.limits.TheConstants.{MAX_BODY, MAX_ENTRIES}
-use Rattle.nf_words.specs.Calls.{source_of, target_of}
-use Rattle.nf_words.specs.State.{State, ticket_of}
+use Rattle.nf_words.specs.Asked.{asked_of}
+use Rattle.nf_words.specs.State.{State, goal_at, ticket_of}
 use Rattle.nf_words.specs.Step.{step, answer_to, changes_to, without}
 use Rattle.nf_words.specs.declared.answer.Denial.{Denial}
 use Rattle.nf_words.specs.declared.answer.Denial.TheVariants as denial
@@ -14,15 +14,14 @@ use Rattle.nf_words.specs.declared.history.Mark.{Mark}
 use Rattle.nf_words.specs.declared.history.Mark.TheVariants as mark
 use Rattle.nf_words.specs.declared.history.Outcome.{Outcome}
 use Rattle.nf_words.specs.declared.history.Outcome.TheVariants.{Sent, Gone, Body}
-use Rattle.nf_words.specs.declared.history.Ticket.{Ticket}
 use Rattle.nf_words.specs.declared.answer.Goal.{Goal}
 use Rattle.nf_words.specs.declared.answer.Goal.TheVariants.{Serve, Store}
 use Rattle.nf_words.specs.declared.request.Caller.{Caller}
 use Rattle.nf_words.specs.declared.request.Caller.TheVariants.{Absent, Token}
+use Rattle.nf_words.specs.declared.request.Making.{Making}
+use Rattle.nf_words.specs.declared.request.Making.TheVariants as making
 use Rattle.nf_words.specs.declared.request.Request.{Request}
 use Rattle.nf_words.specs.declared.request.Spot.{Spot}
-use Rattle.nf_words.specs.declared.request.Wanted.{Wanted}
-use Rattle.nf_words.specs.declared.request.Wanted.TheVariants.{Get, Put, Mkcol, Delete, Move, Copy}
 
 -- a step whose store failed or that found no memory: the rows stay, and the ticket of an End goes
 abbrev pub failed : State → ℕ → ℕ → Event → State
@@ -51,13 +50,12 @@ replay s (e ∷ es) = replay (after s e) es
 -- ---- what may be asked
 
 -- a body that is to be stored isn't too long
-abbrev pub IsShort : Wanted → Type 0
-IsShort (Get spot) = Unit {0}
-IsShort (Put spot length) = length ≤ MAX_BODY
-IsShort (Mkcol spot) = Unit {0}
-IsShort (Delete spot) = Unit {0}
-IsShort (Move source target overwrite) = Unit {0}
-IsShort (Copy source target overwrite) = Unit {0}
+abbrev pub IsShort : Making → Type 0
+IsShort making.Nothing = Unit {0}
+IsShort (making.File length) = length ≤ MAX_BODY
+IsShort making.Folder = Unit {0}
+IsShort making.Moved = Unit {0}
+IsShort making.Copied = Unit {0}
 
 -- who asks by a link; nobody does yet
 abbrev pub is_link : Caller → Bool
@@ -69,26 +67,26 @@ abbrev pub NamesUser : Caller → Spot → Type 0
 NamesUser caller spot = is_some spot.user ≡ not (is_link caller)
 
 pub record MayWant (request : Request) : Type 0 where
-  pub short : IsShort request.wanted
-  pub source : IfSome (source_of request.wanted) (NamesUser request.caller)
-  pub target : IfSome (target_of request.wanted) (NamesUser request.caller)
+  pub short : IsShort (asked_of request.wanted).makes
+  pub source : IfSome (asked_of request.wanted).source (NamesUser request.caller)
+  pub target : IfSome (asked_of request.wanted).target (NamesUser request.caller)
 
 -- a body is for a goal that stores one, and has its length
 abbrev pub MayBring : Goal → Outcome → Type 0
 MayBring goal Sent = Unit {0}
 MayBring goal Gone = Unit {0}
 MayBring (Serve content) (Body digest length) = ⊥
-MayBring (Store who key wanted) (Body digest length) = length ≡ wanted
+MayBring (Store by key wanted) (Body digest length) = length ≡ wanted
 
--- the End of what the seat has
-abbrev pub MayEnd : Option Ticket → Outcome → Type 0
+-- the End of what the seat was granted
+abbrev pub MayEnd : Option Goal → Outcome → Type 0
 MayEnd None outcome = ⊥
-MayEnd (Some ticket) outcome = MayBring ticket.goal outcome
+MayEnd (Some goal) outcome = MayBring goal outcome
 
 -- the event may come from the seat: a Begin where it has no ticket, an End where it has one
 abbrev pub MayAsk : State → ℕ → Event → Type 0
 MayAsk s seat (Begin words request) = IsNone (ticket_of s seat) × MayWant request
-MayAsk s seat (End outcome) = MayEnd (ticket_of s seat) outcome
+MayAsk s seat (End outcome) = MayEnd (goal_at s seat) outcome
 
 -- an End brings a body
 abbrev pub HasBody : Event → Type 0

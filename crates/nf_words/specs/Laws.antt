@@ -3,7 +3,7 @@ use Rattle.std.specs.Prelude.{◌≡◌, ◌≢◌, ◌↔◌, ℕ, List, [], �
 use Rattle.std.specs.List.{AllPairs}
 use Rattle.nf_base.specs.declared.rows.Row.{Row}
 use Rattle.nf_defs.specs.Access.{Access}
-use Rattle.nf_words.specs.State.{State, opened, ticket_for, ticket_of, without_ticket}
+use Rattle.nf_words.specs.State.{State, goal_at, opened, ticket_of, without_ticket}
 use Rattle.nf_words.specs.Calls.{Call}
 use Rattle.nf_words.specs.Rules.{Rule, rules, refusal_of}
 use Rattle.nf_words.specs.Step.{decision_of, step, answer_to}
@@ -51,12 +51,12 @@ EndsFree = (s : State) (seat now : ℕ) (outcome : Outcome) → ticket_of (step 
 abbrev pub FailedEndsFree : Type 0
 FailedEndsFree = (s : State) (seat now : ℕ) (outcome : Outcome) → ticket_of (failed s seat now (End outcome)) seat ≡ None
 
--- a step that is granted leaves its seat, which had no ticket, the ticket of its goal
+-- a step that is granted leaves its seat, which had no ticket, one of its goal
 abbrev pub GrantsTicket : Type 0
 GrantsTicket =
     (s : State) (seat now : ℕ) (event : Event) (goal : Goal)
     → IsNone (ticket_of s seat) → answer_to s seat now event ≡ Ok (Granted goal)
-    → ticket_of (step s seat now event) seat ≡ Some (ticket_for seat goal)
+    → goal_at (step s seat now event) seat ≡ Some goal
 
 -- an entry, however marked, leaves every other seat its ticket
 abbrev pub OthersKeep : Type 0

@@ -1,7 +1,10 @@
 pub mod State
+pub mod Asked
 pub mod Calls
 pub mod Callers
 pub mod Places
+pub mod Contents
+pub mod Needed
 pub mod Limits
 pub mod Listing
 pub mod Copies
@@ -12,5 +15,9 @@ pub mod Step
 pub mod Actors
 pub mod History
 pub mod Laws
+pub mod Later
+pub mod Others
 pub mod Sound
+pub mod Fine
+pub mod Lean
 pub mod Prelude

@@ -1,16 +1,17 @@
 -- The limits of the site, and the rule that none is passed.
 use Rattle.std.specs.Prelude.{ℕ, ◌+◌, ◌-◌, ◌==◌, ◌||◌, nat_lt, max, List, [], ◌∷◌, length, sum_by, Option, None, Some, option_map, option_and_then, if◌then◌else◌}
-use Rattle.nf_defs.specs.Prelude.{Access, content_of, depth, piece_count, Tables, walk_of}
+use Rattle.nf_defs.specs.Prelude.{Access, content_of, depth, Tables, walk_of}
 use Rattle.nf_base.specs.declared.limits.TheConstants.{MAX_DEPTH, MAX_NODES, MAX_STORED_PIECES}
 use Rattle.nf_base.specs.declared.rows.NodeRow.{NodeRow}
 use Rattle.nf_defs.specs.declared.Found.{Found}
 use Rattle.nf_defs.specs.declared.Found.TheVariants.{At, Free, Missing}
-use Rattle.nf_words.specs.Calls.{Call, places_of}
+use Rattle.nf_words.specs.Calls.{Call, asked_by, places_of}
+use Rattle.nf_words.specs.Contents.{stored_pieces}
 use Rattle.nf_words.specs.Places.{transfer_of}
+use Rattle.nf_words.specs.declared.request.Making.{Making}
+use Rattle.nf_words.specs.declared.request.Making.TheVariants as making
 use Rattle.nf_words.specs.declared.request.Places.{Places}
 use Rattle.nf_words.specs.declared.request.Transfer.{Transfer}
-use Rattle.nf_words.specs.declared.request.Wanted.{Wanted}
-use Rattle.nf_words.specs.declared.request.Wanted.TheVariants.{Get, Put, Mkcol, Delete, Move, Copy}
 use Rattle.nf_words.specs.declared.answer.Denial.{Denial}
 use Rattle.nf_words.specs.declared.answer.Denial.TheVariants as denial
 use Rattle.nf_words.specs.declared.answer.Limit.{Limit}
@@ -31,7 +32,7 @@ abbrev pub limit_passed : Tables → ℕ → ℕ → ℕ → ℕ → Option Limi
 limit_passed t nodes deep pieces blobs =
     if nat_lt (count_of limit.Nodes) (length t.nodes + nodes) || nat_lt last_number (t.meta.next_node + nodes) then Some limit.Nodes
     else if nat_lt (count_of limit.Depth) deep then Some limit.Depth
-    else if nat_lt (count_of limit.Pieces) (piece_count t.nodes + pieces) || nat_lt last_number (t.meta.next_blob + blobs) then Some limit.Pieces
+    else if nat_lt (count_of limit.Pieces) (stored_pieces t + pieces) || nat_lt last_number (t.meta.next_blob + blobs) then Some limit.Pieces
     else None
 
 -- the pieces of a body: an empty one has none
@@ -66,14 +67,14 @@ copy_limit t transfer =
     let nodes = walk_of t.nodes transfer.node in
     limit_passed t (length nodes) (deepest_in t.nodes transfer.node transfer.folder) (pieces_in t.nodes nodes) 0
 
-abbrev pub limited : Tables → Wanted → Places → Option Limit
-limited t (Get spot) places = None
-limited t (Put spot length) places = option_and_then (limit_at t (pieces_of length)) places.target
-limited t (Mkcol spot) places = option_and_then (limit_at t 0) places.target
-limited t (Delete spot) places = None
-limited t (Move source target overwrite) places = option_and_then (move_limit t) (transfer_of t.nodes places)
-limited t (Copy source target overwrite) places = option_and_then (copy_limit t) (transfer_of t.nodes places)
+-- the limit that is passed by what is made
+abbrev pub limited : Tables → Places → Making → Option Limit
+limited t places making.Nothing = None
+limited t places (making.File length) = option_and_then (limit_at t (pieces_of length)) places.target
+limited t places making.Folder = option_and_then (limit_at t 0) places.target
+limited t places making.Moved = option_and_then (move_limit t) (transfer_of t.nodes places)
+limited t places making.Copied = option_and_then (copy_limit t) (transfer_of t.nodes places)
 
 -- `limit`: the step would pass a limit
 unfoldable pub limit_rule : Access → Call → Option Denial
-limit_rule access call = option_map denial.Limit (limited call.state.tables call.request.wanted (places_of call))
+limit_rule access call = option_map denial.Limit (limited call.state.tables (places_of call) (asked_by call).makes)

@@ -7,15 +7,17 @@ use Rattle.nf_base.specs.declared.rows.NodeRow.{NodeRow}
 use Rattle.nf_defs.specs.Prelude.{Access, is_folder, is_root, is_under, parent_of}
 use Rattle.nf_defs.specs.declared.Found.{Found}
 use Rattle.nf_defs.specs.declared.Found.TheVariants.{At, Free, Missing}
-use Rattle.nf_words.specs.Calls.{Call, paths_of, places_of}
+use Rattle.nf_words.specs.Asked.{Asked, is_transfer, paths_of}
+use Rattle.nf_words.specs.Calls.{Call, asked_by, places_of}
+use Rattle.nf_words.specs.declared.request.Making.{Making}
+use Rattle.nf_words.specs.declared.request.Making.TheVariants as making
 use Rattle.nf_words.specs.declared.request.Places.{Places}
 use Rattle.nf_words.specs.declared.request.Transfer.{Transfer}
-use Rattle.nf_words.specs.declared.request.Wanted.{Wanted}
-use Rattle.nf_words.specs.declared.request.Wanted.TheVariants.{Get, Put, Mkcol, Delete, Move, Copy}
 use Rattle.nf_words.specs.declared.answer.Denial.{Denial}
 use Rattle.nf_words.specs.declared.answer.Denial.TheVariants as denial
 use Rattle.nf_words.specs.declared.answer.TargetFault.{TargetFault}
 use Rattle.nf_words.specs.declared.answer.TargetFault.TheVariants as target
+use Rattle.nf_words.specs.declared.route.Route.TheVariants.{Files}
 
 -- a name of the path is `.htaccess`
 abbrev pub has_forbidden : List (List ℕ) → Bool
@@ -23,7 +25,7 @@ has_forbidden path = list_any is_forbidden path
 
 -- `forbidden-name`
 unfoldable pub forbidden_rule : Access → Call → Option Denial
-forbidden_rule access call = if list_any has_forbidden (paths_of call.request.wanted) then Some denial.ForbiddenName else None
+forbidden_rule access call = if list_any has_forbidden (paths_of (asked_by call)) then Some denial.ForbiddenName else None
 
 -- ---- what isn't there
 
@@ -62,17 +64,16 @@ abbrev pub is_there : (ℕ → Bool) → Option Found → Bool
 is_there test place = option_map_or test (node_at place) false
 
 -- something is where a folder is to be made, or a folder where a file is to be stored
-abbrev pub taken : List NodeRow → Wanted → Places → Option Denial
-taken rows (Get spot) places = None
-taken rows (Put spot length) places = if is_there (is_folder rows) places.target then Some denial.Exists else None
-taken rows (Mkcol spot) places = if is_some (node_at places.target) then Some denial.Exists else None
-taken rows (Delete spot) places = None
-taken rows (Move source target overwrite) places = None
-taken rows (Copy source target overwrite) places = None
+abbrev pub taken : List NodeRow → Places → Making → Option Denial
+taken rows places making.Nothing = None
+taken rows places (making.File length) = if is_there (is_folder rows) places.target then Some (denial.Exists Files) else None
+taken rows places making.Folder = if is_some (node_at places.target) then Some (denial.Exists Files) else None
+taken rows places making.Moved = None
+taken rows places making.Copied = None
 
 -- `exists`
 unfoldable pub exists_rule : Access → Call → Option Denial
-exists_rule access call = taken call.state.tables.nodes call.request.wanted (places_of call)
+exists_rule access call = taken call.state.tables.nodes (places_of call) (asked_by call).makes
 
 -- ---- what is moved or copied, and where to
 
@@ -110,32 +111,25 @@ unfit_between rows places =
     if is_there (is_root rows) places.source then Some target.Root
     else option_map_or (misplaced rows) (transfer_of rows places) (Some target.Root)
 
--- what the act may not be done to
-abbrev pub unfit : List NodeRow → Wanted → Places → Option TargetFault
-unfit rows (Get spot) places = None
-unfit rows (Put spot length) places = None
-unfit rows (Mkcol spot) places = None
-unfit rows (Delete spot) places = if is_there (is_root rows) places.source then Some target.Root else None
-unfit rows (Move source target overwrite) places = unfit_between rows places
-unfit rows (Copy source target overwrite) places = unfit_between rows places
+-- what may not be done: a transfer that doesn't fit, or the removal of a root
+abbrev pub unfit : List NodeRow → Asked → Places → Option TargetFault
+unfit rows asked places =
+    if is_transfer asked.makes then unfit_between rows places
+    else if asked.removes && is_there (is_root rows) places.source then Some target.Root
+    else None
 
 -- `bad-target`
 unfoldable pub target_rule : Access → Call → Option Denial
 target_rule access call =
-    option_map denial.BadTarget (unfit call.state.tables.nodes call.request.wanted (places_of call))
+    option_map denial.BadTarget (unfit call.state.tables.nodes (asked_by call) (places_of call))
 
 -- something is at the target and isn't to be replaced
 abbrev pub is_kept : Bool → Places → Bool
-is_kept overwrite places = not overwrite && is_some (node_at places.target)
+is_kept overwrites places = not overwrites && is_some (node_at places.target)
 
-abbrev pub unreplaced : Wanted → Places → Option Denial
-unreplaced (Get spot) places = None
-unreplaced (Put spot length) places = None
-unreplaced (Mkcol spot) places = None
-unreplaced (Delete spot) places = None
-unreplaced (Move source target overwrite) places = if is_kept overwrite places then Some denial.Overwrite else None
-unreplaced (Copy source target overwrite) places = if is_kept overwrite places then Some denial.Overwrite else None
+abbrev pub unreplaced : Asked → Places → Option Denial
+unreplaced asked places = if is_transfer asked.makes && is_kept asked.overwrites places then Some denial.Overwrite else None
 
 -- `overwrite`
 unfoldable pub overwrite_rule : Access → Call → Option Denial
-overwrite_rule access call = unreplaced call.request.wanted (places_of call)
+overwrite_rule access call = unreplaced (asked_by call) (places_of call)

@@ -1,20 +1,27 @@
 -- The words of this layer that other files use, in one place to import them from.
-pub use Rattle.nf_words.specs.Actors.{actor_of}
+pub use Rattle.nf_words.specs.Actors.{actor_of, storer_of, user_in}
+pub use Rattle.nf_words.specs.Asked.{Asked, asked_of, asks_nothing, is_transfer, named_at, named_in, path_at, paths_of, users_of}
 pub use Rattle.nf_words.specs.Callers.{is_caller}
 unfoldable pub use Rattle.nf_words.specs.Callers.{not_you_rule, token_rule}
-pub use Rattle.nf_words.specs.Calls.{Call, asker_of, caller_row, found, last_name, named_in, places_of, root_of, source_of, target_of, user_of, users_of}
-pub use Rattle.nf_words.specs.Changes.{allowed_of, altered, blob_after, blob_of, changed, changes_of, cleared, copied, created, deleted, dropped_for, dropped_under, given, goal_of, joined, made_folder, meta_after, moved, new_node, refilled, removed, replaced, reply_by, reply_to, served, shown, stamped, stored, told, transferred, transferred_row, with_goal, with_meta}
+pub use Rattle.nf_words.specs.Calls.{Call, Way, asked_by, asker_of, caller_row, found, last_name, mount_of, places_of, root_of, seeker_of, user_of, way_by, way_of}
+pub use Rattle.nf_words.specs.Changes.{above, allowed_of, altered, blob_after, blob_of, by_of, changed, changes_of, cleared, copied, counted, deleted, dropped_for, dropped_under, given, goal_of, hold_of, joined, made_folder, makes, meta_after, moved, new_node, raised, refilled, removed, reply_by, reply_to, reported, served, shown, stamped, stored, told, transferred, transferred_row, with_goal, with_meta}
+pub use Rattle.nf_words.specs.Contents.{IsPieceSound, contents_of, row_content, stored_pieces}
 pub use Rattle.nf_words.specs.Copies.{copied_row, copies_of_all, copies_to, renamed}
 unfoldable pub use Rattle.nf_words.specs.Copies.{copies_within}
-pub use Rattle.nf_words.specs.Endings.{blob_for, content_in, end_decision, end_refusal, ends_goal, ends_ticket, key_lost, place_of, stored_at, stores, unless_refused}
+pub use Rattle.nf_words.specs.Endings.{blob_for, content_in, end_decision, end_refusal, ends_at, ends_goal, key_lost, place_of, stored_at, stores, unless_refused}
+pub use Rattle.nf_words.specs.Fine.{IsBorn, IsFilled}
 pub use Rattle.nf_words.specs.History.{IsLegal, IsLegalFrom, LeavesRoom, MayAsk, MayBear, MayBring, MayCome, MayEnd, MayWant, NamesUser, after, after_mark, answer_at, failed, replay}
+pub use Rattle.nf_words.specs.Later.{HasNoLater, is_later}
 pub use Rattle.nf_words.specs.Laws.{Pass}
+pub use Rattle.nf_words.specs.Lean.{IsLean, changed_key}
 pub use Rattle.nf_words.specs.Limits.{copy_limit, count_of, deepest, deepest_in, last_number, limit_at, limit_passed, limited, move_limit, pieces_in, pieces_of}
 unfoldable pub use Rattle.nf_words.specs.Limits.{limit_rule}
 pub use Rattle.nf_words.specs.Listing.{bytes_of, line_of, listing_of}
+pub use Rattle.nf_words.specs.Needed.{Need, allows, is_owner, is_within, may_by, needed, needed_by, needs, needs_at, needs_between, needs_in}
+pub use Rattle.nf_words.specs.Others.{AreOthersSound}
 pub use Rattle.nf_words.specs.Places.{folder_at, has_forbidden, is_kept, is_there, lost, misplaced, node_at, node_found, source_lost, taken, target_lost, transfer_of, transfer_to, unfit, unfit_between}
 unfoldable pub use Rattle.nf_words.specs.Places.{exists_rule, forbidden_rule, overwrite_rule, place_rule, target_rule}
 pub use Rattle.nf_words.specs.Rules.{Rule, first_that_holds, refusal_of, rules}
-pub use Rattle.nf_words.specs.Sound.{AreApart, AreCounters, AreSound, HasRoot, IsGoalSound, IsNodeSound, IsOwn, IsPieceSound, IsPlaceSound, IsSound, MayStoreAt, node_of_key, root_of_user}
-pub use Rattle.nf_words.specs.State.{State, opened, ticket_for, ticket_of, without_ticket}
+pub use Rattle.nf_words.specs.Sound.{AreApart, AreCounters, AreSound, HasRoot, HoldsFor, IsGoalSound, IsNodeSound, IsOwn, IsPlaceSound, IsSound, IsTicketSound, IsTop, MayStoreAt, node_of_key, root_of_user}
+pub use Rattle.nf_words.specs.State.{State, access_of, goal_at, opened, ticket_for, ticket_of, without_ticket}
 pub use Rattle.nf_words.specs.Step.{answer_to, answered_by, blob_by, blob_to, call_decision, call_of, changes_by, changes_to, decided, decision_of, step, stepped_by, without}

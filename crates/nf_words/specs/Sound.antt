@@ -1,24 +1,29 @@
 -- Sound states: their nodes and tickets keep the rules of the site. The acts that are built change no other row.
-use Rattle.std.specs.Prelude.{◌≡◌, ◌≢◌, ℕ, ◌<◌, ◌≤◌, All, true, [], length, Some}
+use Rattle.std.specs.Prelude.{◌≡◌, ◌≢◌, ℕ, ◌<◌, ◌≤◌, All, true, List, [], length, Option, None, Some, is_some}
 use Rattle.std.specs.List.{AllPairs}
 use Rattle.std.specs.Option.{option_map_or}
-use Rattle.nf_base.specs.declared.content.Piece.{Piece}
 use Rattle.nf_base.specs.declared.limits.TheConstants.{MAX_BODY}
 use Rattle.nf_base.specs.declared.rows.MetaRow.{MetaRow}
 use Rattle.nf_base.specs.declared.rows.NodeRow.{NodeRow}
 use Rattle.nf_base.specs.declared.rows.Place.{Place}
 use Rattle.nf_base.specs.declared.rows.Place.TheVariants.{Root, Inside, Trash}
 use Rattle.nf_base.specs.declared.rows.UserRow.{UserRow}
-use Rattle.nf_defs.specs.Prelude.{climb, is_folder, is_folder_kind, node_row, owner_of, piece_count, Tables, user_row}
+use Rattle.nf_defs.specs.Prelude.{climb, folder_of, is_folder, is_folder_kind, item_row, node_row, owner_of, Tables, user_row}
 use Rattle.nf_defs.specs.declared.Seeker.{Seeker}
 use Rattle.nf_defs.specs.declared.Seeker.TheVariants as seeker
+use Rattle.nf_words.specs.Contents.{IsPieceSound, stored_pieces}
+use Rattle.nf_words.specs.Later.{HasNoLater}
 use Rattle.nf_words.specs.Limits.{count_of}
+use Rattle.nf_words.specs.Others.{AreOthersSound}
 use Rattle.nf_words.specs.State.{State}
+use Rattle.nf_words.specs.declared.answer.By.{By}
 use Rattle.nf_words.specs.declared.answer.Goal.{Goal}
 use Rattle.nf_words.specs.declared.answer.Goal.TheVariants.{Serve, Store}
+use Rattle.nf_words.specs.declared.answer.Hold.{Hold}
 use Rattle.nf_words.specs.declared.answer.Limit.TheVariants as limit
 use Rattle.nf_words.specs.declared.answer.LockKey.{LockKey}
 use Rattle.nf_words.specs.declared.answer.LockKey.TheVariants.{Node, Slot}
+use Rattle.nf_words.specs.declared.answer.Mode.TheVariants.{Exclusive, Shared}
 use Rattle.nf_words.specs.declared.history.Ticket.{Ticket}
 
 -- ---- rows
@@ -31,24 +36,23 @@ pub record AreCounters (meta : MetaRow) : Type 0 where
   pub shares : 1 ≤ meta.next_share
   pub blobs : 1 ≤ meta.next_blob
 
--- a piece has from 1 to `MAX_BODY` bytes, in a blob whose number was given
-pub record IsPieceSound (t : Tables) (piece : Piece) : Type 0 where
-  pub some : 1 ≤ piece.size
-  pub few : piece.size ≤ MAX_BODY
-  pub first : 1 ≤ piece.blob
-  pub given : piece.blob < t.meta.next_blob
-
 -- the root of a user
 abbrev pub root_of_user : Tables → ℕ → ℕ
 root_of_user t user = option_map_or (λ row. row.root) (user_row t.users user) 0
 
--- what a node is inside is a folder of the same owner; nothing is in the trash yet
+-- what a node is inside is a folder of the same owner; what is inside none is its owner's root, or in the trash of a user, with its item
 abbrev pub IsPlaceSound : Tables → NodeRow → Place → Type 0
 IsPlaceSound t row Root = row.id ≡ root_of_user t row.owner
 IsPlaceSound t row (Inside folder) = (is_folder t.nodes folder ≡ true) × (owner_of t.nodes folder ≡ row.owner)
-IsPlaceSound t row Trash = ⊥
+IsPlaceSound t row Trash = (is_some (user_row t.users row.owner) ≡ true) × (is_some (item_row t.items row.id) ≡ true)
 
--- a node's number was given, and it leads to its owner's root in at most `MAX_DEPTH` steps; a folder has no content
+-- a node that is there and in no folder: where climbs end
+pub record IsTop (rows : List NodeRow) (top : ℕ) : Type 0 where
+  pub row : NodeRow
+  pub there : node_row rows top ≡ Some row
+  pub ends : folder_of row.place ≡ None
+
+-- a node's number was given, and it leads to a top in at most `MAX_DEPTH` steps; a folder has no content
 pub record IsNodeSound (t : Tables) (row : NodeRow) : Type 0 where
   pub some : 1 ≤ row.id
   pub given : row.id < t.meta.next_node
@@ -58,7 +62,9 @@ pub record IsNodeSound (t : Tables) (row : NodeRow) : Type 0 where
   pub place : IsPlaceSound t row row.place
   pub steps : ℕ
   pub shallow : steps ≤ count_of limit.Depth
-  pub present : climb t.nodes steps row.id ≡ Some (root_of_user t row.owner)
+  pub top : ℕ
+  pub climbs : climb t.nodes steps row.id ≡ Some top
+  pub ends : IsTop t.nodes top
 
 -- a user's root is there: a folder of the user's name and with place Root
 pub record HasRoot (t : Tables) (user : UserRow) : Type 0 where
@@ -80,7 +86,9 @@ pub record AreSound (t : Tables) : Type 0 where
   pub names : AllPairs AreApart t.nodes
   pub roots : All (HasRoot t) t.users
   pub few_nodes : length t.nodes ≤ count_of limit.Nodes
-  pub few_pieces : piece_count t.nodes ≤ count_of limit.Pieces
+  pub few_pieces : stored_pieces t ≤ count_of limit.Pieces
+  pub later : HasNoLater t
+  pub others : AreOthersSound t
 
 -- ---- tickets
 
@@ -94,15 +102,28 @@ pub record IsOwn (t : Tables) (user node : ℕ) : Type 0 where
   pub given : node < t.meta.next_node
   pub owner : (row : NodeRow) → node_row t.nodes node ≡ Some row → row.owner ≡ user
 
--- who stores owns what is stored over; nothing is shared yet
-abbrev pub MayStoreAt : Tables → Seeker → ℕ → Type 0
-MayStoreAt t (seeker.User user) node = IsOwn t user node
-MayStoreAt t (seeker.Link share) node = ⊥
+-- who stores owns what is stored over, and comes by no mount; nothing is shared yet
+abbrev pub MayStoreBy : Tables → Seeker → Option ℕ → ℕ → Type 0
+MayStoreBy t (seeker.User user) None node = IsOwn t user node
+MayStoreBy t (seeker.User user) (Some mount) node = ⊥
+MayStoreBy t (seeker.Link share) mount node = ⊥
+
+abbrev pub MayStoreAt : Tables → By → ℕ → Type 0
+MayStoreAt t by node = MayStoreBy t by.seeker by.mount node
 
 -- what is sent is in blobs whose numbers were given; what is stored is stored by an owner and isn't too long
 abbrev pub IsGoalSound : Tables → Goal → Type 0
 IsGoalSound t (Serve content) = All (IsPieceSound t) content
-IsGoalSound t (Store who key length) = (length ≤ MAX_BODY) × MayStoreAt t who (node_of_key key)
+IsGoalSound t (Store by key length) = (length ≤ MAX_BODY) × MayStoreAt t by (node_of_key key)
+
+-- a node that is sent is held beside others who read it, and what is stored over alone
+abbrev pub HoldsFor : Goal → Option Hold → Type 0
+HoldsFor (Serve content) hold = (node : ℕ) × (hold ≡ Some (record { key = Node node; mode = Shared }))
+HoldsFor (Store by key length) hold = hold ≡ Some (record { key = key; mode = Exclusive })
+
+pub record IsTicketSound (t : Tables) (ticket : Ticket) : Type 0 where
+  pub goal : IsGoalSound t ticket.goal
+  pub hold : HoldsFor ticket.goal ticket.hold
 
 -- ---- states
 
@@ -110,4 +131,4 @@ pub record IsSound (s : State) : Type 0 where
   pub rows : AreSound s.tables
   pub seen : s.tables.meta.last ≤ s.seen
   pub seats : AllPairs (λ (a b : Ticket). a.seat ≢ b.seat) s.tickets
-  pub goals : All (λ (ticket : Ticket). IsGoalSound s.tables ticket.goal) s.tickets
+  pub tickets : All (IsTicketSound s.tables) s.tickets

@@ -1,8 +1,10 @@
 -- The state of the site.
-use Rattle.std.specs.Prelude.{ℕ, ◌==◌, not, List, [], Option, find, filter}
+use Rattle.std.specs.Prelude.{ℕ, ◌==◌, not, List, [], Option, option_map, find, filter}
 use Rattle.nf_base.specs.declared.rows.Row.{Row}
+use Rattle.nf_defs.specs.Access.{Access, unshared}
 use Rattle.nf_defs.specs.Tables.{Tables, tables_of}
 use Rattle.nf_words.specs.declared.answer.Goal.{Goal}
+use Rattle.nf_words.specs.declared.answer.Hold.{Hold}
 use Rattle.nf_words.specs.declared.history.Ticket.{Ticket}
 
 -- the rows, the tickets in the order in which they were granted, and the greatest moment seen
@@ -15,12 +17,20 @@ pub record State : Type 0 where
 abbrev pub opened : List Row → State
 opened rows = record { tables = tables_of rows; tickets = []; seen = (tables_of rows).meta.last }
 
--- the ticket of a seat for what it was granted
-abbrev pub ticket_for : ℕ → Goal → Ticket
-ticket_for seat goal = record { seat = seat; goal = goal }
+-- what shares let their seekers do; nothing is shared yet
+abbrev pub access_of : State → Access
+access_of s = unshared
+
+-- the ticket of a seat for what it was granted, with what it holds
+abbrev pub ticket_for : ℕ → Goal → Option Hold → Ticket
+ticket_for seat goal hold = record { seat = seat; goal = goal; hold = hold }
 
 abbrev pub ticket_of : State → ℕ → Option Ticket
 ticket_of s seat = find (λ ticket. ticket.seat == seat) s.tickets
+
+-- what a seat was granted
+abbrev pub goal_at : State → ℕ → Option Goal
+goal_at s seat = option_map (λ ticket. ticket.goal) (ticket_of s seat)
 
 abbrev pub without_ticket : State → ℕ → State
 without_ticket s seat = record s { tickets = filter (λ ticket. not (ticket.seat == seat)) s.tickets }

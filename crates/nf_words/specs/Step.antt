@@ -1,8 +1,8 @@
 -- One step of the site: a Begin is refused by the first rule that holds, or allowed; an End frees the seat's ticket, whatever it answers.
 use Rattle.std.specs.Prelude.{ℕ, List, [], Option, None, Result, Ok, Err}
 use Rattle.nf_base.specs.declared.changes.Change.{Change}
-use Rattle.nf_defs.specs.Prelude.{Tables, unshared}
-use Rattle.nf_words.specs.State.{State, without_ticket}
+use Rattle.nf_defs.specs.Prelude.{Tables}
+use Rattle.nf_words.specs.State.{State, access_of, without_ticket}
 use Rattle.nf_words.specs.Calls.{Call}
 use Rattle.nf_words.specs.Rules.{refusal_of}
 use Rattle.nf_words.specs.Changes.{allowed_of, applied, blob_of, changes_of, reply_to}
@@ -20,12 +20,13 @@ call_of s seat now words request = record { state = s; seat = seat; now = now; w
 
 -- what a call may do
 abbrev pub call_decision : Call → Result Allowed Denial
-call_decision call = unless_refused (refusal_of unshared call) (allowed_of call)
+call_decision call =
+    let access = access_of call.state in unless_refused (refusal_of access call) (allowed_of access call)
 
 -- what a seat's event at a moment may do
 abbrev pub decision_of : State → ℕ → ℕ → Event → Result Allowed Denial
 decision_of s seat now (Begin words request) = call_decision (call_of s seat now words request)
-decision_of s seat now (End outcome) = end_decision s seat now outcome
+decision_of s seat now (End outcome) = end_decision (access_of s) s seat now outcome
 
 -- the state without what an event takes, whatever it answers
 abbrev pub without : State → ℕ → Event → State

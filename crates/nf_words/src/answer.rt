@@ -5,8 +5,8 @@ ghost use Rattle.nf_words.specs.Limits.{count_of};
 
 use crate::{Listing, Route, Transfer};
 use nf_base::{
-    BlobId, Content, Digest, MAX_DEPTH, MAX_NODES, MAX_STORED_PIECES, Name, NameFault, NodeId,
-    NodeRow,
+    BlobId, Changes, Content, Digest, MAX_DEPTH, MAX_NODES, MAX_STORED_PIECES, Name, NameFault,
+    NodeId, NodeRow,
 };
 use nf_defs::Seeker;
 use std::marker::Model;
@@ -32,8 +32,8 @@ pub enum Denial {
     NotFound,
     /// 405: the route doesn't have the method.
     Method(Route),
-    /// 405: what is to be made is there, or a file is to be stored where a folder is.
-    Exists,
+    /// 405: what is to be made on the route is there, or a file is to be stored where a folder is.
+    Exists(Route),
     /// 409: the folder of what is to be made isn't there.
     NoParent,
     /// 412: something is at the target that isn't to be replaced.
@@ -120,6 +120,13 @@ impl Limit {
     }
 }
 
+/// Who asks to store, and the node of the mount that the path goes by, if it goes by one.
+#[derive(Clone, Copy, PartialEq, Eq)]
+pub struct By {
+    pub seeker: Seeker,
+    pub mount: Option<NodeId>,
+}
+
 /// What a granted PUT is to change.
 #[derive(Drop)]
 pub enum LockKey {
@@ -129,17 +136,27 @@ pub enum LockKey {
     Slot { folder: NodeId, name: Name },
 }
 
+/// Whether a key is held beside others who read, or alone.
+#[derive(Clone, Copy, PartialEq, Eq)]
+pub enum Mode {
+    Shared,
+    Exclusive,
+}
+
+/// What a granted request holds from its Begin to its End.
+#[derive(Drop)]
+pub struct Hold {
+    pub key: LockKey,
+    pub mode: Mode,
+}
+
 /// What a granted request may do between its Begin and its End.
 #[derive(Drop)]
 pub enum Goal {
     /// Send this content.
     Serve(Content),
     /// Store a body of that many bytes for who asked.
-    Store {
-        seeker: Seeker,
-        key: LockKey,
-        length: u64,
-    },
+    Store { by: By, key: LockKey, length: u64 },
 }
 
 /// What a request that isn't refused is answered.
@@ -194,7 +211,16 @@ impl NodeRows {
     }
 }
 
-/// What a step that isn't refused does: one variant an act. A blob is one that the act stores, not one that it names again.
+/// What is told of a change that was made.
+#[derive(Clone, Copy, PartialEq, Eq)]
+pub enum Report {
+    /// What was asked for was made.
+    Made,
+    /// It was done.
+    Done,
+}
+
+/// What a step that isn't refused does. A blob is one that the act stores, not one that it names again.
 #[derive(Drop)]
 pub enum Allowed {
     /// GET of a file: the seat is given a ticket to send its content.
@@ -206,23 +232,16 @@ pub enum Allowed {
     List(Listing),
     /// PUT, at its Begin: the seat is given a ticket to store a body of that many bytes.
     Put {
-        seeker: Seeker,
+        by: By,
         key: LockKey,
         length: u64,
     },
-    /// PUT to a free name, at its End: a file is made, with the next number.
-    StoreNew {
-        row: NodeRow,
+    /// These rows are put and dropped, each of them once: MKCOL, and PUT at its End.
+    Change {
+        changes: Changes,
         blob: Option<BlobId>,
+        report: Report,
     },
-    /// PUT over a file, at its End: its content is replaced.
-    StoreOver {
-        node: NodeId,
-        content: Content,
-        blob: Option<BlobId>,
-    },
-    /// MKCOL: a folder is made, with the next number.
-    Mkcol(NodeRow),
     /// DELETE: the node is removed for good, with all under it.
     Delete(NodeId),
     /// MOVE: the node is in the folder, under that name.

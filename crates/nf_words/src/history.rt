@@ -2,7 +2,7 @@
 
 ghost use Rattle.std.specs.Prelude.{◌≡◌};
 
-use crate::{Goal, Request, Words};
+use crate::{Goal, Hold, Request, Words};
 use nf_base::{Digest, Moment};
 
 /// How a granted request ended.
@@ -43,19 +43,20 @@ pub struct Entry {
     pub mark: Mark,
 }
 
-/// What a granted request holds from its Begin to its End; at most one a seat.
+/// What a granted request may do and holds from its Begin to its End; at most one a seat.
 #[derive(Drop)]
 pub struct Ticket {
     pub seat: u64,
     pub goal: Goal,
+    pub hold: Option<Hold>,
 }
 
 impl Ticket {
     ghost use Rattle.nf_words.specs.State.{ticket_for};
 
-    pub fn new(seat: u64, goal: Goal) -> Self
-        ensures { result ≡ ticket_for seat goal }
+    pub fn new(seat: u64, goal: Goal, hold: Option<Hold>) -> Self
+        ensures { result ≡ ticket_for seat goal hold }
     {
-        Ticket { seat, goal }
+        Ticket { seat, goal, hold }
     }
 }

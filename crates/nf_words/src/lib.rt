@@ -10,8 +10,8 @@ mod request;
 mod route;
 
 pub use answer::{
-    Allowed, Answer, Damage, Denial, Goal, Limit, LockKey, Measure, NodeRows, Parameter, Reply,
-    TargetFault,
+    Allowed, Answer, By, Damage, Denial, Goal, Hold, Limit, LockKey, Measure, Mode, NodeRows,
+    Parameter, Reply, Report, TargetFault,
 };
 pub use history::{Entry, Event, Mark, Outcome, Ticket};
 pub use laws::{
@@ -19,5 +19,5 @@ pub use laws::{
     seats_differ,
 };
 pub use listing::{Listing, ListingLine};
-pub use request::{Caller, Places, Request, Spot, Transfer, Wanted, Words};
+pub use request::{Asked, Caller, Making, Places, Request, Spot, Transfer, Wanted, Words};
 pub use route::Route;

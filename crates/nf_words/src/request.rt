@@ -1,7 +1,11 @@
 //! Requests.
 
+ghost use Rattle.std.specs.Prelude.{◌≡◌};
+ghost use Rattle.nf_words.specs.Asked.{asked_of};
+
 use nf_base::{Digest, Name, NodeId, Path};
 use nf_defs::Found;
+use std::marker::Model;
 
 /// Who asks.
 #[derive(Drop)]
@@ -45,6 +49,108 @@ pub enum Wanted {
         target: Spot,
         overwrite: bool,
     },
+}
+
+/// What a request puts at its target.
+#[derive(Clone, Copy, PartialEq, Eq)]
+pub enum Making {
+    Nothing,
+    /// A file of so many bytes, or that content of the file that is there.
+    File { length: u64 },
+    /// A folder.
+    Folder,
+    /// What is at the source.
+    Moved,
+    /// A copy of it.
+    Copied,
+}
+
+/// What a request asks for, as the rules see it.
+#[derive(Drop)]
+pub struct Asked<'a> {
+    /// The place of what it acts upon.
+    pub source: Option<&'a Spot>,
+    /// The place of what it makes, or stores over.
+    pub target: Option<&'a Spot>,
+    pub makes: Making,
+    /// Whether what is at the source doesn't stay there.
+    pub removes: bool,
+    /// Whether what is at the target may be replaced.
+    pub overwrites: bool,
+}
+
+impl<'a> Model for Asked<'a> {
+    ghost use Rattle.std.specs.Prelude.{option_copied};
+    ghost use Rattle.nf_words.specs.Asked.{Asked};
+
+    ghost Value = { Asked };
+
+    ghost view = { λ asked. record {
+      source = option_copied asked.source;
+      target = option_copied asked.target;
+      makes = asked.makes;
+      removes = asked.removes;
+      overwrites = asked.overwrites;
+    } };
+}
+
+impl Wanted {
+    /// What it asks for: the clause of each act.
+    pub fn asked(&self) -> Asked<'_>
+        ensures { result ≡ asked_of self.now }
+    {
+        let nothing = Asked {
+            source: None,
+            target: None,
+            makes: Making::Nothing,
+            removes: false,
+            overwrites: false,
+        };
+        match self {
+            Wanted::Get(spot) => Asked {
+                source: Some(spot),
+                ..nothing
+            },
+            Wanted::Put { spot, length } => Asked {
+                target: Some(spot),
+                makes: Making::File { length: *length },
+                overwrites: true,
+                ..nothing
+            },
+            Wanted::Mkcol(spot) => Asked {
+                target: Some(spot),
+                makes: Making::Folder,
+                ..nothing
+            },
+            Wanted::Delete(spot) => Asked {
+                source: Some(spot),
+                removes: true,
+                ..nothing
+            },
+            Wanted::Move {
+                source,
+                target,
+                overwrite,
+            } => Asked {
+                source: Some(source),
+                target: Some(target),
+                makes: Making::Moved,
+                removes: true,
+                overwrites: *overwrite,
+            },
+            Wanted::Copy {
+                source,
+                target,
+                overwrite,
+            } => Asked {
+                source: Some(source),
+                target: Some(target),
+                makes: Making::Copied,
+                removes: false,
+                overwrites: *overwrite,
+            },
+        }
+    }
 }
 
 #[derive(Drop)]

@@ -26,4 +26,4 @@ unfolding walk_of
 copy_node-requires c =
     let walk = ap (λ (rows : List NodeRow). length (walk_within MAX_DEPTH rows c.args.transfer.now.node)) c.tree.ensures in
     let next = ap (λ (meta : MetaRow). meta.next_node) c.meta.ensures in
-    omega (arith, walk, next, numbers_for c.args.tables.now.tables c.args.transfer.now c.requires, c.new-rows.ensures.len)
+    omega (arith, walk, next, numbers_for c.args.view.now.tables c.args.transfer.now c.requires, c.new-rows.ensures.len)

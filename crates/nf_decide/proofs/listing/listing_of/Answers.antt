@@ -8,7 +8,7 @@ use Rattle.nf_decide.proofs.listing.listing_of.Goals as goal
 
 pub loop-child-preserved : goal.loop-child-preserved
 loop-child-preserved c =
-    let t = c.args.tables.now.tables in
+    let t = c.args.view.now.tables in
     let line : (ℕ → Option ListingLine) = λ node. option_and_then (line_of t) (node_row t.nodes node) in
     let items = c.deref-child-items.result.now in
     let so_far = take c.loop-child.child-index items in

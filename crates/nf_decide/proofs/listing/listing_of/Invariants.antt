@@ -7,4 +7,4 @@ use Rattle.nf_decide.proofs.listing.listing_of.Given as goal
 -- the lines of the children so far
 abbrev pub invariant-loop-child : goal.invariant-loop-child
 invariant-loop-child l =
-    l.lines.items ≡ filter_map (λ node. option_and_then (line_of l.tables.tables) (node_row l.tables.tables.nodes node)) (take l.child-index l.child-items)
+    l.lines.items ≡ filter_map (λ node. option_and_then (line_of l.view.tables) (node_row l.view.tables.nodes node)) (take l.child-index l.child-items)

@@ -1,5 +1,5 @@
 use Rattle.std.proofs.Common.{rules}
-use Rattle.nf_rules.specs.Rules.{is_later}
+use Rattle.nf_words.specs.Prelude.{is_later}
 use Rattle.nf_opening.proofs.alone.first_later.Goals as goal
 
 pub returns : goal.returns

@@ -12,7 +12,7 @@ loop-step-init c = refl
 pub returns-in-None : goal.returns-in-None
 returns-in-None c =
     let none = sym c.folder_above.ensures ∙ ap option_copied c.in-None.is in
-    c.is_own_root.ensures ∙ sym (leads_none (MAX_DEPTH - c.loop-step.step) c.args.loaded.now c.loop-step.at.now none)
+    c.is_own_top.ensures ∙ sym (leads_none (MAX_DEPTH - c.loop-step.step) c.args.loaded.now c.loop-step.at.now none)
     ∙ c.loop-step.invariant
 
 pub loop-step-preserved : goal.loop-step-preserved
@@ -23,5 +23,5 @@ loop-step-preserved c =
 
 pub returns : goal.returns
 returns c =
-    c.is_own_root-2.ensures ∙ sym (leads_zero (MAX_DEPTH - c.loop-step.step) c.args.loaded.now c.loop-step.at.now (omega arith))
+    c.is_own_top-2.ensures ∙ sym (leads_zero (MAX_DEPTH - c.loop-step.step) c.args.loaded.now c.loop-step.at.now (omega arith))
     ∙ c.loop-step.invariant

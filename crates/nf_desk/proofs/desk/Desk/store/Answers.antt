@@ -1,8 +1,9 @@
 use Rattle.std.proofs.Common.{length, refl, subst, List, ℕ}
 use Rattle.nf_session.specs.Book.{event_of_body, held}
+use Rattle.nf_words.specs.Prelude.{MayEnd}
 use Rattle.nf_words.specs.declared.history.Outcome.TheVariants.{Body}
 use Rattle.nf_desk.specs.Desk.{book_at, shown}
-use Rattle.nf_desk.specs.Stepping.{HeldMayEnd, standing}
+use Rattle.nf_desk.specs.Stepping.{standing}
 use Rattle.nf_desk.proofs.Desks.{ends_body, may_end}
 use Rattle.nf_desk.proofs.Turns.{served, steps_desk, steps_turn}
 use Rattle.nf_desk.proofs.desk.Desk.store.Goals as goal
@@ -12,7 +13,7 @@ store-answer-requires-clause-asked g c =
     let old = served c.self.inside.site c.self.inside.keeper c.self.inside.strikes c.self.inside.start in
     let a = shown g.K.Keeper old in
     may_end c.args.seat a (Body _ (length c.args.body.now)) c.history.ensures.legal
-    (subst (λ (digest : List ℕ). HeldMayEnd (held (book_at c.args.seat a)) (Body digest (length c.args.body.now))) c.requires.digest
+    (subst (λ (digest : List ℕ). MayEnd (held (book_at c.args.seat a)) (Body digest (length c.args.body.now))) c.requires.digest
     (rw (← c.self.view_is) at c.requires.granted))
 
 pub invariant_of-self : goal.invariant_of-self

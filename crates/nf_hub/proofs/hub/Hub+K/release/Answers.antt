@@ -1,10 +1,10 @@
 use Rattle.std.proofs.Common.{◌≡◌, sym, ap, ◌∙◌, subst, true}
 use Rattle.std.specs.Prelude.{Option, None, is_none}
 use Rattle.nf_desk.specs.Desk.{book_at, shown}
-use Rattle.nf_desk.specs.Stepping.{HeldMayEnd}
 use Rattle.nf_session.proofs.Helds.{enters_holds}
 use Rattle.nf_session.specs.Book.{Book, EndsEmpty, granted, held}
 use Rattle.nf_turn.specs.Memory.{having_passed}
+use Rattle.nf_words.specs.Prelude.{MayEnd}
 use Rattle.nf_words.specs.declared.answer.Goal.{Goal}
 use Rattle.nf_hub.proofs.Following.{ends_empty_after}
 use Rattle.nf_hub.proofs.Turning.{TakesIn, book_given, held_taken, over_turn, seat_after}
@@ -13,7 +13,7 @@ use Rattle.nf_hub.proofs.hub.Hub+K.release.Goals as goal
 
 pub finish-answer-requires-clause-granted : goal.finish-answer-requires-clause-granted
 finish-answer-requires-clause-granted g c =
-    subst (λ (o : Option Goal). HeldMayEnd o c.args.outcome)
+    subst (λ (o : Option Goal). MayEnd o c.args.outcome)
     (sym (held_taken g.K.Keeper c.args.self.now c.args.seat.now c.number-number.result c.take-desk.result c.number-number.ensures c.take-desk.ensures.value))
     c.requires.granted
 

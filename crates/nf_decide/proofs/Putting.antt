@@ -1,0 +1,114 @@
+-- Rows of nodes that are put among others.
+use Rattle.std.proofs.Common.{cond, count_by, length, length-append, ◌≡◌, ◌⊎◌, ℕ, ◌+◌, ◌<◌, ◌≤◌, ◌==◌, inl, inr, Bool, true, false, not, List, [], ◌∷◌, ◌++◌, Option, None, Some, refl, sym, ap, subst, ◌∙◌, arith}
+use Rattle.std.specs.Prelude.{is_some}
+use Rattle.std.specs.List.{AllPairs}
+use Rattle.std.specs.Option.{IfSome, option_map_or}
+use Rattle.std.proofs.lemmas.Bool.{both_ways, eqb-true, le-ltb}
+use Rattle.std.proofs.lemmas.List.Quantifiers.{all_pairs_push}
+use Rattle.std.proofs.lemmas.List.Sums.{sum_by-cons}
+use Rattle.nf_base.specs.declared.changes.Change.TheVariants.{Put}
+use Rattle.nf_base.specs.declared.rows.Row.TheVariants as rows
+use Rattle.nf_base.specs.declared.changes.Change.{Change}
+use Rattle.nf_base.specs.declared.rows.MetaRow.{MetaRow}
+use Rattle.nf_base.specs.declared.rows.NodeRow.{NodeRow}
+use Rattle.nf_defs.specs.Prelude.{filled, is_file, is_folder_kind, made, node_key, node_row, put, Tables, with_node}
+use Rattle.nf_laws.proofs.Lists.{Rising}
+use Rattle.nf_laws.proofs.OneRow.{length_with, rising_with}
+use Rattle.nf_laws.proofs.Puts.{put_changed, put_new}
+use Rattle.nf_words.proofs.Found.{found_has, found_passes}
+use Rattle.nf_words.specs.Prelude.{above, counted}
+use Rattle.nf_decide.specs.Current.{IsBorne, IsCounted, IsNew, IsRefilled, is_fresh}
+
+-- what is new isn't there
+never_new : (old : List NodeRow) (row was : NodeRow) → IsNew old row → node_row old row.id ≡ Some was → ⊥
+never_new old row was new there =
+    let less = subst (λ (o : Option NodeRow). IfSome o (λ (other : NodeRow). other.id < row.id)) there
+    (found_has (λ (other : NodeRow). other.id < row.id) (λ (other : NodeRow). other.id == row.id) old new) in
+    let same = eqb-true was.id row.id (found_passes (λ (other : NodeRow). other.id == row.id) old was there) in
+    absurd (omega (arith, less, same))
+
+-- where a node of its number is there, a row has another content
+pub is_refilled : (old : List NodeRow) (row : NodeRow) → is_some (node_row old row.id) ≡ true → IsNew old row ⊎ IsRefilled old row → IsRefilled old row
+is_refilled old row there (inr it) = it
+is_refilled old row there (inl new) = here (node_row old row.id) refl there
+  where
+    here : (o : Option NodeRow) → node_row old row.id ≡ o → is_some o ≡ true → IsRefilled old row
+    here None e there = absurd (cc)
+    here (Some was) e there = absurd (never_new old row was new e)
+
+-- elsewhere it is new
+pub is_new : (old : List NodeRow) (row : NodeRow) → is_some (node_row old row.id) ≡ false → IsNew old row ⊎ IsRefilled old row → IsNew old row
+is_new old row none (inl new) = new
+is_new old row none (inr it) = absurd (both_ways (is_some (node_row old row.id)) none (ap is_some it.there))
+
+pub file_there : (old : List NodeRow) (row : NodeRow) → IsRefilled old row → is_file old row.id ≡ true
+file_there old row it =
+    ap (λ (o : Option NodeRow). option_map_or (λ row. not (is_folder_kind row.kind)) o false) it.there ∙ ap not it.file
+
+pub refilled_put : (old : List NodeRow) (row : NodeRow) → AllPairs (λ (a b : NodeRow). a.id < b.id) old → IsRefilled old row
+    → put node_key row old ≡ with_node old row.id (filled row.content row.changed)
+refilled_put old row rising it =
+    ap (λ (r : NodeRow). put node_key r old) it.same ∙ put_changed old row.id (filled row.content row.changed) it.was refl rising it.there
+
+pub new_put : (old : List NodeRow) (row : NodeRow) → IsNew old row → put node_key row old ≡ old ++ row ∷ []
+new_put old row new = put_new row old new
+
+-- the counters are raised for one change more
+pub counted_more : (meta : MetaRow) (changes : List Change) (change : Change)
+    → counted meta (changes ++ change ∷ []) ≡ above (counted meta changes) change
+counted_more meta [] change = refl
+counted_more meta (first ∷ changes) change = counted_more (above meta first) changes change
+
+-- what has a number above it has one where the counter is higher
+pub counted_later : (next more : ℕ) (change : Change) → next ≤ more → IsCounted next change → IsCounted more change
+counted_later next more (Put (rows.Node row)) higher counted = omega (arith, higher, counted)
+counted_later next more change higher counted = absurd counted
+
+-- ---- a change that can be borne
+
+pub borne_next : (next : ℕ) (t : Tables) (change : Change) → IsBorne next t change → (made t change).meta.next_node ≡ t.meta.next_node
+borne_next next t (Put (rows.Node row)) borne = refl
+borne_next next t change borne = absurd borne
+
+-- what is so of the new rows, and of those with another content, is so of the rows after it
+borne_has : (P : List NodeRow → Type 0) (next : ℕ) (t : Tables) (change : Change) → Rising t.nodes → IsBorne next t change
+    → ((row : NodeRow) → change ≡ Put (rows.Node row) → next ≤ row.id → IsNew t.nodes row → P (t.nodes ++ row ∷ []))
+    → ((row : NodeRow) → change ≡ Put (rows.Node row) → row.id < next → P (with_node t.nodes row.id (filled row.content row.changed)))
+    → P (made t change).nodes
+borne_has P next t (Put (rows.Node row)) rising borne new refilled =
+    elim borne [
+      | inl it ↦ subst P (sym (new_put t.nodes row it.1)) (new row refl it.0 it.1)
+      | inr it ↦ subst P (sym (refilled_put t.nodes row rising it.1)) (refilled row refl it.0)
+    ]
+borne_has P next t change rising borne new refilled = absurd borne
+
+pub borne_rising : (next : ℕ) (t : Tables) (change : Change) → Rising t.nodes → IsBorne next t change → Rising (made t change).nodes
+borne_rising next t change rising borne =
+    borne_has Rising next t change rising borne
+    (λ row is fresh new. all_pairs_push (λ (a b : NodeRow). a.id < b.id) t.nodes row rising new)
+    (λ row is old. rising_with t.nodes row.id (filled row.content row.changed) (λ r. refl) rising)
+
+pub counts_one : (b : Bool) → b ≡ true → ◌≡◌ {A = ℕ} (cond b 1 0) 1
+counts_one b is = rw is refl
+
+pub counts_none : (b : Bool) → b ≡ false → ◌≡◌ {A = ℕ} (cond b 1 0) 0
+counts_none b is = rw is refl
+
+pub count_by-cons : {X : Type 0} (p : X → Bool) (x : X) (xs : List X) → count_by p (x ∷ xs) ≡ cond (p x) 1 0 + count_by p xs
+count_by-cons p = sum_by-cons (λ x. cond (p x) 1 0)
+
+-- one counts no more than it does before others
+pub count_front : {X : Type 0} (p : X → Bool) (x : X) (xs : List X) → count_by p (x ∷ []) ≤ count_by p (x ∷ xs)
+count_front p x xs = omega (arith, count_by-cons p x xs, count_by-cons p x [])
+
+-- the others find the room that is left
+pub borne_room : (next : ℕ) (t : Tables) (change : Change) (rest : List Change) → Rising t.nodes → IsBorne next t change
+    → length (made t change).nodes + count_by (is_fresh next) rest ≤ length t.nodes + count_by (is_fresh next) (change ∷ rest)
+borne_room next t change rest rising borne =
+    let counts = count_by-cons (is_fresh next) change rest in
+    borne_has (λ (nodes : List NodeRow). length nodes + count_by (is_fresh next) rest ≤ length t.nodes + count_by (is_fresh next) (change ∷ rest))
+    next t change rising borne
+    (λ row is fresh new.
+    let one = counts_one (is_fresh next change) (ap (is_fresh next) is ∙ ap not (le-ltb row.id next fresh)) in
+    omega (arith, counts, one, length-append t.nodes (row ∷ [])))
+    (λ row is old. omega (arith, counts, length_with t.nodes row.id (filled row.content row.changed)))

@@ -1,0 +1,84 @@
+//! What a decision reads of the site: its parts, lent one by one.
+
+ghost use Rattle.std.specs.Prelude.{◌≡◌};
+ghost use Rattle.nf_tree.specs.Order.{AreRisingNodes};
+ghost use Rattle.nf_words.specs.Contents.{stored_pieces};
+
+use nf_base::{MetaRow, Moment};
+use nf_people::People;
+use nf_tree::Tree;
+use nf_words::Ticket;
+use std::marker::Model;
+
+/// The rows of each kind that is built, the tickets and the greatest moment seen. There are no rows of the other kinds.
+#[derive(Drop)]
+pub struct View<'a> {
+    pub meta: &'a MetaRow,
+    pub people: &'a People,
+    pub tree: &'a Tree,
+    pub tickets: &'a [Ticket],
+    pub seen: Moment,
+}
+
+impl<'a> Model for View<'a> {
+    ghost use Rattle.std.specs.Prelude.{[]};
+    ghost use Rattle.nf_words.specs.State.{State};
+
+    ghost Value = { State };
+
+    ghost view = { λ v. record {
+      tables = record {
+        meta = v.meta.now;
+        users = v.people.now.users;
+        tokens = v.people.now.tokens;
+        groups = v.people.now.groups;
+        members = v.people.now.members;
+        nodes = v.tree.now.rows;
+        shares = [];
+        mounts = [];
+        versions = [];
+        items = [];
+        uploads = [];
+        chunks = [];
+      };
+      tickets = v.tickets.now;
+      seen = v.seen;
+    } };
+}
+
+impl<'a> View<'a> {
+    pub(crate) fn meta(&self) -> &MetaRow
+        ensures { result.now ≡ self.now.tables.meta }
+    {
+        self.meta
+    }
+
+    pub(crate) fn people(&self) -> &People
+        ensures users { result.now.users ≡ self.now.tables.users }
+        ensures tokens { result.now.tokens ≡ self.now.tables.tokens }
+        ensures groups { result.now.groups ≡ self.now.tables.groups }
+        ensures members { result.now.members ≡ self.now.tables.members }
+    {
+        self.people
+    }
+
+    pub(crate) fn tree(&self) -> &Tree
+        ensures { result.now.rows ≡ self.now.tables.nodes }
+    {
+        self.tree
+    }
+
+    /// How many pieces the rows name, with repeats.
+    pub(crate) fn stored_pieces(&self) -> usize
+        ensures { result ≡ stored_pieces self.now.tables }
+    {
+        self.tree.pieces()
+    }
+
+    /// Tells callers that the nodes are by rising number; it does nothing.
+    pub(crate) fn keeps(&self)
+        ensures { AreRisingNodes self.now.tables.nodes }
+    {
+        let _ = self.tree.nodes();
+    }
+}

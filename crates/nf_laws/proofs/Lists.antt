@@ -1,0 +1,214 @@
+-- Lists of changed rows: what each known change keeps, all of them keep. By the kind of the row, whatever the act.
+use Rattle.std.proofs.Common.{◌≡◌, ◌≢◌, ℕ, suc, ◌==◌, ◌<◌, ◌≤◌, inl, inr, false, List, [], ◌∷◌, ◌++◌, Option, Some, if◌then◌else◌, refl, sym, ap, subst, ◌∙◌, arith, le_refl}
+use Rattle.std.specs.List.{All, AllPairs}
+use Rattle.std.specs.declared.cmp.Ordering.{Ordering}
+use Rattle.std.specs.declared.cmp.Ordering.TheVariants.{Equal, Greater, Less}
+use Rattle.std.proofs.lemmas.Bool.{cond_both, ne_eqb}
+use Rattle.std.proofs.lemmas.List.Elements.{All-cons, All-head, All-nil, All-tail}
+use Rattle.std.proofs.lemmas.List.Quantifiers.{all_pairs_push}
+use Rattle.std.proofs.lemmas.Slice.Eq.{bytes_eq-Decides}
+use Rattle.nf_base.specs.declared.changes.Change.{Change}
+use Rattle.nf_base.specs.declared.changes.Change.TheVariants.{Put}
+use Rattle.nf_base.specs.declared.changes.RowKey.TheVariants as keys
+use Rattle.nf_base.specs.declared.rows.MetaRow.{MetaRow}
+use Rattle.nf_base.specs.declared.rows.NodeRow.{NodeRow}
+use Rattle.nf_base.specs.declared.rows.Row.TheVariants.{Group, Node, Share, User}
+use Rattle.nf_defs.proofs.Lookups.{equal_bytes}
+use Rattle.nf_defs.specs.Prelude.{by_order, filled, IsDroppable, key_cmp, made, node_key, node_row, put, put_all, Tables, with_node}
+use Rattle.nf_laws.proofs.Added.{born_sound}
+use Rattle.nf_laws.proofs.Puts.{put_changed, put_new}
+use Rattle.nf_laws.proofs.Replaced.{filled_sound}
+use Rattle.nf_laws.proofs.Rows.{blob_up, meta_sound}
+use Rattle.nf_laws.specs.Numbers.{AreHigher}
+use Rattle.nf_laws.proofs.OneRow.{rising_with}
+use Rattle.nf_words.proofs.Fits.{KnownBorn, KnownChange, KnownFilled, KnownRow, KnownRows, put_found}
+use Rattle.nf_words.specs.Prelude.{above, altered, AreSound, changed_key, counted, IsBorn, IsFilled, IsLean, raised}
+use Rattle.nf_words.specs.declared.answer.Allowed.TheVariants as allowed
+use Rattle.nf_words.specs.declared.answer.Report.{Report}
+
+-- ---- the counters, which are raised first
+
+higher_then : (a b c : MetaRow) → AreHigher a b → AreHigher b c → AreHigher a c
+higher_then a b c first second = record {
+  users = omega (arith, first.users, second.users);
+  groups = omega (arith, first.groups, second.groups);
+  nodes = omega (arith, first.nodes, second.nodes);
+  shares = omega (arith, first.shares, second.shares);
+  blobs = omega (arith, first.blobs, second.blobs);
+}
+
+above_higher : (meta : MetaRow) (change : Change) → AreHigher meta (above meta change)
+above_higher meta (Put (User row)) = record { users = omega arith; groups = le_refl _; nodes = le_refl _; shares = le_refl _; blobs = le_refl _ }
+above_higher meta (Put (Group row)) = record { users = le_refl _; groups = omega arith; nodes = le_refl _; shares = le_refl _; blobs = le_refl _ }
+above_higher meta (Put (Node row)) = record { users = le_refl _; groups = le_refl _; nodes = omega arith; shares = le_refl _; blobs = le_refl _ }
+above_higher meta (Put (Share row)) = record { users = le_refl _; groups = le_refl _; nodes = le_refl _; shares = omega arith; blobs = le_refl _ }
+above_higher meta change = record { users = le_refl _; groups = le_refl _; nodes = le_refl _; shares = le_refl _; blobs = le_refl _ }
+
+pub counted_higher : (meta : MetaRow) (changes : List Change) → AreHigher meta (counted meta changes)
+counted_higher meta [] = record { users = le_refl _; groups = le_refl _; nodes = le_refl _; shares = le_refl _; blobs = le_refl _ }
+counted_higher meta (change ∷ changes) =
+    higher_then meta (above meta change) (counted (above meta change) changes) (above_higher meta change) (counted_higher (above meta change) changes)
+
+pub raised_higher : (t : Tables) (now : ℕ) (changes : List Change) (blob : Option ℕ) → AreHigher t.meta (raised t now changes blob).meta
+raised_higher t now changes blob =
+    let up = counted_higher t.meta changes in
+    record {
+      users = up.users;
+      groups = up.groups;
+      nodes = up.nodes;
+      shares = up.shares;
+      blobs = blob_up t.meta.next_blob blob;
+    }
+
+pub raised_sound : (t : Tables) (now : ℕ) (changes : List Change) (blob : Option ℕ) → AreSound t → t.meta.last ≤ now
+    → AreSound (raised t now changes blob)
+raised_sound t now changes blob sound later =
+    meta_sound t (raised t now changes blob).meta sound (raised_higher t now changes blob) later
+
+-- ---- the rows
+
+-- the tables with a new node, and those with another content of a file
+abbrev pub with_born : Tables → NodeRow → Tables
+with_born t row = record t { nodes = t.nodes ++ row ∷ [] }
+
+abbrev pub with_filled : Tables → NodeRow → Tables
+with_filled t row = record t { nodes = with_node t.nodes row.id (filled row.content row.changed) }
+
+abbrev pub Rising : List NodeRow → Type 0
+Rising rows = AllPairs (λ (a b : NodeRow). a.id < b.id) rows
+
+pub born_made : (t : Tables) (row : NodeRow) → IsBorn t row → made t (Put (Node row)) ≡ with_born t row
+born_made t row born = ap (λ (nodes : List NodeRow). record t { nodes = nodes }) (put_new row t.nodes born.newest)
+
+pub filled_made : (t : Tables) (row : NodeRow) → Rising t.nodes → IsFilled t row → made t (Put (Node row)) ≡ with_filled t row
+filled_made t row rising is =
+    ap (λ (nodes : List NodeRow). record t { nodes = nodes })
+    (ap (λ (r : NodeRow). put node_key r t.nodes) is.same
+    ∙ put_changed t.nodes row.id (filled row.content row.changed) is.old refl rising is.there)
+
+-- ---- lists of rows of nodes
+
+abbrev pub AreNodes : List Change → Type 0
+AreNodes [] = Unit {0}
+AreNodes (Put (Node row) ∷ changes) = AreNodes changes
+AreNodes (change ∷ changes) = ⊥
+
+-- the meta row may be set before or behind them
+meta_first : (t : Tables) (meta : MetaRow) (changes : List Change) → AreNodes changes
+    → put_all (record t { meta = meta }) changes ≡ record (put_all t changes) { meta = meta }
+meta_first t meta [] nodes = refl
+meta_first t meta (Put (Node row) ∷ changes) nodes = meta_first (made t (Put (Node row))) meta changes nodes
+meta_first t meta (change ∷ changes) nodes = absurd nodes
+
+-- no other row becomes another
+pub nodes_alone : (t : Tables) (changes : List Change) → AreNodes changes → put_all t changes ≡ record t { nodes = (put_all t changes).nodes }
+nodes_alone t [] nodes = refl
+nodes_alone t (Put (Node row) ∷ changes) nodes = nodes_alone (made t (Put (Node row))) changes nodes
+nodes_alone t (change ∷ changes) nodes = absurd nodes
+
+pub nodes_droppable : (changes : List Change) → AreNodes changes → All IsDroppable changes
+nodes_droppable [] nodes = All-nil IsDroppable
+nodes_droppable (Put (Node row) ∷ changes) nodes = All-cons IsDroppable (Put (Node row)) changes tt (nodes_droppable changes nodes)
+nodes_droppable (change ∷ changes) nodes = absurd nodes
+
+pub put_more : (t : Tables) (changes more : List Change) → put_all t (changes ++ more) ≡ put_all (put_all t changes) more
+put_more t [] more = refl
+put_more t (change ∷ changes) more = put_more (made t change) changes more
+
+-- a node of another number keeps its row
+pub put_other : (row : NodeRow) (old : List NodeRow) (node : ℕ) → node ≢ row.id → node_row (put node_key row old) node ≡ node_row old node
+put_other row [] node other = rw (ne_eqb row.id node (λ same. other (sym same))) refl
+put_other row (x ∷ old) node other = here (key_cmp (node_key row) (node_key x)) refl (put_other row old node other)
+  where
+    differs : (row.id == node) ≡ false
+    differs = ne_eqb row.id node (λ same. other (sym same))
+
+    here : (o : Ordering) → key_cmp (node_key row) (node_key x) ≡ o → node_row (put node_key row old) node ≡ node_row old node
+        → node_row (by_order o (row ∷ x ∷ old) (row ∷ old) (x ∷ put node_key row old)) node ≡ node_row (x ∷ old) node
+    here Less e rest = simp differs refl
+    here Equal e rest =
+        let keyed : row.id ∷ [] ≡ x.id ∷ [] = (bytes_eq-Decides (node_key row) (node_key x)).0 (equal_bytes (node_key row) (node_key x) Equal e) in
+        let same : row.id ≡ x.id = cc in
+        simp (differs, ne_eqb x.id node (λ is. other (sym is ∙ sym same))) refl
+    here Greater e rest = ap (λ (o : Option NodeRow). if x.id == node then Some x else o) rest
+
+others_stay : (t : Tables) (changes : List Change) (node : ℕ) → AreNodes changes
+    → All (λ (change : Change). keys.Node node ≢ changed_key change) changes → node_row (put_all t changes).nodes node ≡ node_row t.nodes node
+others_stay t [] node nodes other = refl
+others_stay t (Put (Node row) ∷ changes) node nodes other =
+    let Other : Change → Type 0 = λ change. keys.Node node ≢ changed_key change in
+    others_stay (made t (Put (Node row))) changes node nodes (All-tail Other (Put (Node row)) changes other)
+    ∙ put_other row t.nodes node (λ same. All-head Other (Put (Node row)) changes other (ap keys.Node same))
+others_stay t (change ∷ changes) node nodes other = absurd nodes
+
+same_rows : (rows : List NodeRow) (node : ℕ) → with_node rows node (λ row. row) ≡ rows
+same_rows [] node = refl
+same_rows (x ∷ rows) node =
+    cond_both (x.id == node) (x ∷ rows) (x ∷ with_node rows node (λ row. row)) (λ made. made ≡ x ∷ rows) (λ e. refl)
+    (λ e. ap (λ (all : List NodeRow). x ∷ all) (same_rows rows node))
+
+-- so a lean list that isn't empty makes other nodes
+pub lean_moves : (t : Tables) (change : Change) (changes : List Change) → Rising t.nodes → AreNodes (change ∷ changes)
+    → IsLean t (change ∷ changes) → (put_all t (change ∷ changes)).nodes ≢ t.nodes
+lean_moves t (Put (Node row)) changes rising nodes lean = λ same.
+    let Other : Change → Type 0 = λ (other : Change). keys.Node row.id ≢ changed_key other in
+    let others : All Other changes = λ k d within. lean.once 0 (suc k) d (omega arith) (omega arith) in
+    let last : node_row (put_all t (Put (Node row) ∷ changes)).nodes row.id ≡ Some row =
+    others_stay (made t (Put (Node row))) changes row.id nodes others ∙ put_found row t.nodes in
+    let there : node_row t.nodes row.id ≡ Some row = sym (ap (λ (all : List NodeRow). node_row all row.id) same) ∙ last in
+    All-head (λ (c : Change). made t c ≢ t) (Put (Node row)) changes lean.differ
+    (ap (λ (all : List NodeRow). record t { nodes = all })
+    (put_changed t.nodes row.id (λ r. r) row refl rising there ∙ same_rows t.nodes row.id))
+lean_moves t change changes rising nodes lean = absurd nodes
+
+-- what is known of a list's changes, in the tables before it
+module _ (first : Tables) (who blob : Option ℕ) where
+  -- what a new node keeps, and another content, each change keeps
+  row_has : (P : Tables → Type 0) (t : Tables) (change : Change) → Rising t.nodes → KnownRow first who blob t change
+      → ((row : NodeRow) → KnownBorn first who blob t row → P (with_born t row))
+      → ((row : NodeRow) → KnownFilled first who blob t row → P (with_filled t row)) → P (made t change)
+  row_has P t (Put (Node row)) rising known born filled =
+      elim known [
+        | inl it ↦ subst P (sym (born_made t row it.born)) (born row it)
+        | inr it ↦ subst P (sym (filled_made t row rising it.filled)) (filled row it)
+      ]
+  row_has P t change rising known born filled = absurd known
+
+  pub rising_row : (t : Tables) (change : Change) → Rising t.nodes → KnownRow first who blob t change → Rising (made t change).nodes
+  rising_row t change rising known =
+      row_has (λ (u : Tables). Rising u.nodes) t change rising known
+      (λ row it. all_pairs_push (λ (a b : NodeRow). a.id < b.id) t.nodes row rising it.born.newest)
+      (λ row it. rising_with t.nodes row.id (filled row.content row.changed) (λ r. refl) rising)
+
+  -- and all of them
+  rows_have : (P : Tables → Type 0)
+      → ((t : Tables) (row : NodeRow) → P t → KnownBorn first who blob t row → P (with_born t row))
+      → ((t : Tables) (row : NodeRow) → P t → KnownFilled first who blob t row → P (with_filled t row))
+      → (t : Tables) (changes : List Change) → Rising t.nodes → P t → KnownRows first who blob t changes → P (put_all t changes)
+  rows_have P born filled t [] rising has known = has
+  rows_have P born filled t (change ∷ changes) rising has known =
+      rows_have P born filled (made t change) changes (rising_row t change rising known.0)
+      (row_has P t change rising known.0 (λ row it. born t row has it) (λ row it. filled t row has it)) known.1
+
+  -- of which none is of another kind
+  pub only_nodes : (t : Tables) (changes : List Change) → KnownRows first who blob t changes → AreNodes changes
+  only_nodes t [] known = tt
+  only_nodes t (Put (Node row) ∷ changes) known = only_nodes (made t (Put (Node row))) changes known.1
+  only_nodes t (change ∷ changes) known = absurd known.0
+
+-- what the tables with raised counters have, and each change keeps, the tables have after them
+pub changes_have : (P : Tables → Type 0) (t : Tables) (now : ℕ) (who : Option ℕ) (changes : List Change) (blob : Option ℕ) (report : Report)
+    → Rising t.nodes → KnownChange t now who changes blob
+    → ((u : Tables) (row : NodeRow) → P u → KnownBorn t who blob u row → P (with_born u row))
+    → ((u : Tables) (row : NodeRow) → P u → KnownFilled t who blob u row → P (with_filled u row))
+    → P (raised t now changes blob) → P (altered t now (allowed.Change changes blob report))
+changes_have P t now who changes blob report rising known born filled has =
+    let up = raised t now changes blob in
+    subst P (meta_first t up.meta changes (only_nodes t who blob up changes known.rows)) (rows_have t who blob P born filled up changes rising has known.rows)
+
+-- so they stay sound
+pub changes_sound : (t : Tables) (now : ℕ) (who : Option ℕ) (changes : List Change) (blob : Option ℕ) (report : Report)
+    → AreSound t → t.meta.last ≤ now → KnownChange t now who changes blob → AreSound (altered t now (allowed.Change changes blob report))
+changes_sound t now who changes blob report sound later known =
+    changes_have AreSound t now who changes blob report sound.rising known
+    (λ u row s it. born_sound u row s it.born) (λ u row s it. filled_sound u row s it.filled) (raised_sound t now changes blob sound later)

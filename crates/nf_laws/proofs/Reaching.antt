@@ -1,0 +1,109 @@
+-- What who asks may do: all that is the own, since nothing is shared yet.
+use Rattle.std.proofs.Common.{ℕ, ◌==◌, ◌≡◌, false, true, List, Option, None, Some, Ok, refl, sym, ap, ◌∙◌}
+use Rattle.std.specs.List.{list_any}
+use Rattle.std.specs.Option.{option_map_or}
+use Rattle.std.proofs.Math.Bool.{or-false}
+use Rattle.std.proofs.lemmas.Bool.{eq-eqb, eqb-true}
+use Rattle.std.proofs.lemmas.Option.{same_Some}
+use Rattle.nf_base.specs.declared.content.Piece.{Piece}
+use Rattle.nf_base.specs.declared.perms.Act.{Act}
+use Rattle.nf_base.specs.declared.perms.Act.TheVariants.{Read}
+use Rattle.nf_base.specs.declared.rows.NodeRow.{NodeRow}
+use Rattle.nf_defs.specs.Prelude.{is_folder, node_row, unshared}
+use Rattle.nf_defs.specs.declared.Found.TheVariants.{At}
+use Rattle.nf_defs.specs.declared.Seeker.{Seeker}
+use Rattle.nf_defs.specs.declared.Seeker.TheVariants.{Link, User}
+use Rattle.nf_laws.proofs.Climbs.{holds_some}
+use Rattle.nf_laws.proofs.Owning.{lists_own, serves_own}
+use Rattle.nf_laws.proofs.Paths.{leads_found}
+use Rattle.nf_laws.proofs.Reading.{granted, shows}
+use Rattle.nf_laws.specs.Access.{IsReadable, ListsWhatMayBeRead, OwnAlone, Owns, ServesWhatMayBeRead, WhatMayBeReadIsListed, WhatMayBeReadIsServed}
+use Rattle.nf_laws.specs.Owners.{IsFound}
+use Rattle.nf_words.proofs.Starts.{has_row, row_of_caller}
+use Rattle.nf_words.specs.Prelude.{access_of, allows, answered_by, AreSound, asker_of, Call, call_of, found, is_owner, may_by, MayWant, not_you_rule, root_of, seeker_of, user_of}
+use Rattle.nf_words.specs.declared.answer.Allowed.TheVariants as allowed
+use Rattle.nf_words.specs.declared.listing.ListingLine.{ListingLine}
+
+-- ---- where nothing is shared
+
+none_granted : (seeker : Seeker) (now : ℕ) (act : Act) (mount : Option ℕ)
+    → option_map_or (λ shared. list_any (allows now act) (unshared seeker shared)) mount false ≡ false
+none_granted seeker now act None = refl
+none_granted seeker now act (Some shared) = refl
+
+-- owners alone may do anything
+owners_may : (rows : List NodeRow) (seeker : Seeker) (now : ℕ) (act : Act) (node : ℕ) (mount : Option ℕ)
+    → may_by unshared rows seeker now act node mount ≡ is_owner rows seeker node
+owners_may rows seeker now act node mount = rw (none_granted seeker now act mount) (or-false (is_owner rows seeker node))
+
+owns : (rows : List NodeRow) (seeker : Seeker) (node : ℕ) → is_owner rows seeker node ≡ true → Owns rows seeker node
+owns rows (User user) node is =
+    let row = holds_some (λ row. row.owner == user) (node_row rows node) is in
+    record { row = row.0; there = row.1; owner = ap User (sym (eqb-true row.0.owner user row.2)) }
+owns rows (Link share) node is = absurd (cc)
+
+pub own_may : (rows : List NodeRow) (seeker : Seeker) (now : ℕ) (act : Act) (node : ℕ) (mount : Option ℕ)
+    → Owns rows seeker node → may_by unshared rows seeker now act node mount ≡ true
+own_may rows seeker now act node mount own =
+    owners_may rows seeker now act node mount ∙ rw (own.owner, own.there) (eq-eqb own.row.owner own.row.owner refl)
+
+pub own_alone : OwnAlone
+own_alone rows seeker now act node mount = (
+  λ may. owns rows seeker node (sym (owners_may rows seeker now act node mount) ∙ may),
+  own_may rows seeker now act node mount,
+)
+
+-- ---- what is read
+
+-- who asks is the holder of the token
+pub asker_is : (call : Call) (user : ℕ) → MayWant call.request → not_you_rule (access_of call.state) call ≡ None
+    → user_of call ≡ Some user → asker_of call ≡ user
+asker_is call user may passes holder =
+    let row = has_row call may passes in
+    let is = row_of_caller call.state.tables.users (user_of call) row.0 row.1 in
+    rw row.1 (same_Some row.0.id user (sym is.0 ∙ holder))
+
+-- what is found as the caller's own may be read
+readable : (call : Call) (row : NodeRow) → MayWant call.request → IsFound call row → IsReadable call row
+readable call row may is =
+    let own : seeker_of call ≡ User row.owner = ap User (asker_is call is.user may is.well.not_you is.caller ∙ sym is.own) in
+    record {
+      spot = is.spot;
+      asked = is.asked;
+      well = is.well;
+      there = is.there;
+      led = is.led;
+      may = own_may call.state.tables.nodes (seeker_of call) call.now Read row.id None
+          (record { row = row; there = is.there; owner = own });
+    }
+
+pub serves_readable : ServesWhatMayBeRead
+serves_readable s seat now words request content sound may is =
+    let own = serves_own s seat now words request content sound may is in
+    let found = readable (call_of s seat now words request) own.row may own.found in
+    record { row = own.row; readable = found; file = own.file; sent = own.sent }
+
+pub lists_readable : ListsWhatMayBeRead
+lists_readable s seat now words request listing sound may is =
+    let own = lists_own s seat now words request listing sound may is in
+    let found = readable (call_of s seat now words request) own.row may own.found in
+    record { row = own.row; readable = found; folder = own.folder; listed = own.listed }
+
+-- what may be read is where the path leads
+at_readable : (call : Call) (row : NodeRow) → AreSound call.state.tables → (is : IsReadable call row) → found call is.spot ≡ At row.id
+at_readable call row sound is = leads_found call.state.tables 0 (root_of call) is.spot.path row.id sound is.led
+
+pub readable_served : WhatMayBeReadIsServed
+readable_served s seat now words request content sound is =
+    let call = call_of s seat now words request in
+    let it = is.readable in
+    granted call it.spot is.row.id is.row it.asked (at_readable call is.row sound.rows it) it.there is.file it.well
+    ∙ ap (λ (c : List Piece). answered_by (Ok (allowed.Get is.row.id c))) is.sent
+
+pub readable_listed : WhatMayBeReadIsListed
+readable_listed s seat now words request listing sound is =
+    let call = call_of s seat now words request in
+    let it = is.readable in
+    let folder : is_folder s.tables.nodes is.row.id ≡ true = rw it.there is.folder in
+    ap answered_by (shows call it.spot is.row.id it.asked (at_readable call is.row sound.rows it) it.well)
+    ∙ rw folder (ap (λ (lines : List ListingLine). answered_by (Ok (allowed.List lines))) (sym is.listed))

@@ -1,0 +1,163 @@
+-- What who acts may read is served, and what they may change is changed, and nothing else. Nothing is shared yet, so that it is their own.
+use Rattle.std.specs.Prelude.{◌≡◌, ◌≢◌, ◌↔◌, ℕ, All, Contains, true, false, drop, List, [], Option, None, Some, Ok, option_and_then}
+use Rattle.std.specs.Option.{option_map_or}
+use Rattle.nf_base.specs.declared.content.Piece.{Piece}
+use Rattle.nf_base.specs.declared.perms.Act.{Act}
+use Rattle.nf_base.specs.declared.perms.Act.TheVariants.{Create, Delete, Read, Update}
+use Rattle.nf_base.specs.declared.rows.NodeRow.{NodeRow}
+use Rattle.nf_base.specs.declared.rows.Place.TheVariants.{Inside}
+use Rattle.nf_defs.specs.Prelude.{is_folder_kind, Leads, node_row, parent_of, Tables, unshared}
+use Rattle.nf_defs.specs.declared.Seeker.{Seeker}
+use Rattle.nf_defs.specs.declared.Seeker.TheVariants.{User}
+use Rattle.nf_laws.specs.Reads.{IsWellAsked}
+use Rattle.nf_laws.specs.Tree.{Under}
+use Rattle.nf_words.specs.Prelude.{access_of, after, answer_to, Call, call_of, goal_at, IsSound, listing_of, may_by, MayCome, MayWant, Need, needed, needed_by, root_of, seeker_of, State, way_of}
+use Rattle.nf_words.specs.declared.answer.Goal.{Goal}
+use Rattle.nf_words.specs.declared.answer.Goal.TheVariants.{Serve, Store}
+use Rattle.nf_words.specs.declared.answer.Reply.TheVariants.{Granted, Listing}
+use Rattle.nf_words.specs.declared.history.Entry.{Entry}
+use Rattle.nf_words.specs.declared.history.Event.{Event}
+use Rattle.nf_words.specs.declared.history.Event.TheVariants.{Begin, End}
+use Rattle.nf_words.specs.declared.listing.ListingLine.{ListingLine}
+use Rattle.nf_words.specs.declared.request.Request.{Request}
+use Rattle.nf_words.specs.declared.request.Spot.{Spot}
+use Rattle.nf_words.specs.declared.request.Wanted.TheVariants.{Get}
+use Rattle.nf_words.specs.declared.request.Words.{Words}
+
+-- ---- who may do what
+
+-- the seeker is a user who owns the node
+pub record Owns (rows : List NodeRow) (seeker : Seeker) (node : ℕ) : Type 0 where
+  pub row : NodeRow
+  pub there : node_row rows node ≡ Some row
+  pub owner : seeker ≡ User row.owner
+
+-- where nothing is shared an owner alone may do anything
+abbrev pub OwnAlone : Type 0
+OwnAlone =
+    (rows : List NodeRow) (seeker : Seeker) (now : ℕ) (act : Act) (node : ℕ) (mount : Option ℕ)
+    → (may_by unshared rows seeker now act node mount ≡ true) ↔ Owns rows seeker node
+
+-- ---- what is read
+
+-- a path leads from the caller's root, or behind its first name from the node of the mount that it goes by
+abbrev pub LeadsBy : Call → Spot → Option ℕ → ℕ → Type 0
+LeadsBy call spot None node = Leads call.state.tables.nodes (root_of call) spot.path node
+LeadsBy call spot (Some mount) node = Leads call.state.tables.nodes mount (drop 1 spot.path) node
+
+-- a GET, which no rule of who asks or of names refuses, and whose path leads to a node at which the caller may read by its mount
+pub record IsReadable (call : Call) (row : NodeRow) : Type 0 where
+  pub spot : Spot
+  pub asked : call.request.wanted ≡ Get spot
+  pub well : IsWellAsked call
+  pub there : node_row call.state.tables.nodes row.id ≡ Some row
+  pub led : LeadsBy call spot (way_of call spot).mount row.id
+  pub may : may_by (access_of call.state) call.state.tables.nodes (seeker_of call) call.now Read row.id (way_of call spot).mount ≡ true
+
+-- the content is that of a file that may be read so
+pub record IsReadableFile (call : Call) (content : List Piece) : Type 0 where
+  pub row : NodeRow
+  pub readable : IsReadable call row
+  pub file : is_folder_kind row.kind ≡ false
+  pub sent : row.content ≡ content
+
+-- what is served of a request that may be asked is what the caller may read
+abbrev pub ServesWhatMayBeRead : Type 0
+ServesWhatMayBeRead =
+    (s : State) (seat now : ℕ) (words : Words) (request : Request) (content : List Piece) → IsSound s → MayWant request
+    → answer_to s seat now (Begin words request) ≡ Ok (Granted (Serve content))
+    → IsReadableFile (call_of s seat now words request) content
+
+-- and what may be read and is named is served
+abbrev pub WhatMayBeReadIsServed : Type 0
+WhatMayBeReadIsServed =
+    (s : State) (seat now : ℕ) (words : Words) (request : Request) (content : List Piece) → IsSound s
+    → IsReadableFile (call_of s seat now words request) content
+    → answer_to s seat now (Begin words request) ≡ Ok (Granted (Serve content))
+
+-- the listing is of what is in a folder that may be read so
+pub record IsReadableFolder (call : Call) (listing : List ListingLine) : Type 0 where
+  pub row : NodeRow
+  pub readable : IsReadable call row
+  pub folder : is_folder_kind row.kind ≡ true
+  pub listed : listing ≡ listing_of call.state.tables row.id
+
+abbrev pub ListsWhatMayBeRead : Type 0
+ListsWhatMayBeRead =
+    (s : State) (seat now : ℕ) (words : Words) (request : Request) (listing : List ListingLine) → IsSound s → MayWant request
+    → answer_to s seat now (Begin words request) ≡ Ok (Listing listing)
+    → IsReadableFolder (call_of s seat now words request) listing
+
+abbrev pub WhatMayBeReadIsListed : Type 0
+WhatMayBeReadIsListed =
+    (s : State) (seat now : ℕ) (words : Words) (request : Request) (listing : List ListingLine) → IsSound s
+    → IsReadableFolder (call_of s seat now words request) listing
+    → answer_to s seat now (Begin words request) ≡ Ok (Listing listing)
+
+-- ---- what is needed, and by whom
+
+-- what storing needs; sending was needed before
+abbrev pub needs_of_goal : Goal → List Need
+needs_of_goal (Serve content) = []
+needs_of_goal (Store by key length) = needed_by by key
+
+-- who was granted to store
+abbrev pub seeker_of_goal : Goal → Option Seeker
+seeker_of_goal (Serve content) = None
+seeker_of_goal (Store by key length) = Some by.seeker
+
+-- an event needs what its request or its goal needs
+abbrev pub needs_of : State → ℕ → ℕ → Event → List Need
+needs_of s seat now (Begin words request) = needed (call_of s seat now words request)
+needs_of s seat now (End outcome) = option_map_or needs_of_goal (goal_at s seat) []
+
+-- who asks, or was granted to store
+abbrev pub seeker_at : State → ℕ → ℕ → Event → Option Seeker
+seeker_at s seat now (Begin words request) = Some (seeker_of (call_of s seat now words request))
+seeker_at s seat now (End outcome) = option_and_then seeker_of_goal (goal_at s seat)
+
+-- ---- what is changed
+
+-- the act is needed at the node
+abbrev pub IsNeeded : List Need → Act → ℕ → Type 0
+IsNeeded needs act node = (mount : Option ℕ) × Contains needs (record { act = act; node = node; mount = mount })
+
+-- a new node in a folder, or in one that was made in it so
+pub data IsMadeIn (before after : List NodeRow) (folder : ℕ) : ℕ → Type 0 where
+  in_it : (node : ℕ) → node_row before node ≡ None → parent_of after node ≡ Some folder → IsMadeIn before after folder node
+  in_made : (node parent : ℕ) → node_row before node ≡ None → parent_of after node ≡ Some parent
+      → IsMadeIn before after folder parent → IsMadeIn before after folder node
+
+-- what becomes of a node that isn't as it was follows from what is needed
+pub data Follows (needs : List Need) (before after : List NodeRow) (node : ℕ) : Type 0 where
+  -- it is updated: another name, content or moment
+  is_updated : (old row : NodeRow) → IsNeeded needs Update node → node_row before node ≡ Some old → node_row after node ≡ Some row
+      → row ≡ record old { name = row.name; content = row.content; changed = row.changed } → Follows needs before after node
+  -- it is made where something is created
+  is_made : (folder : ℕ) → IsNeeded needs Create folder → IsMadeIn before after folder node → Follows needs before after node
+  -- it is gone with what is deleted
+  is_gone : (top : ℕ) → IsNeeded needs Delete top → Under before top node → node_row after node ≡ None → Follows needs before after node
+  -- it is moved, so that it is deleted here and created there
+  is_moved : (folder : ℕ) (old row : NodeRow) → IsNeeded needs Delete node → IsNeeded needs Create folder
+      → node_row before node ≡ Some old → node_row after node ≡ Some row
+      → row ≡ record old { place = Inside folder; name = row.name } → Follows needs before after node
+
+-- the seeker may do what is needed
+abbrev pub MayDo : State → ℕ → Seeker → Need → Type 0
+MayDo s now seeker need = may_by (access_of s) s.tables.nodes seeker now need.act need.node need.mount ≡ true
+
+-- who acts may do all that is needed, and what became of the node follows from it
+pub record IsAllowed (s : State) (now : ℕ) (who : Option Seeker) (needs : List Need) (after : List NodeRow) (node : ℕ) : Type 0 where
+  pub seeker : Seeker
+  pub acts : who ≡ Some seeker
+  pub may : All (MayDo s now seeker) needs
+  pub follows : Follows needs s.tables.nodes after node
+
+-- each node whose row is another is allowed to be, and of the rows that are no nodes the meta row alone is another
+pub record ChangesAllowed (s : State) (e : Entry) (after : Tables) : Type 0 where
+  pub nodes : (node : ℕ) → node_row after.nodes node ≢ node_row s.tables.nodes node
+      → IsAllowed s e.moment (seeker_at s e.seat e.moment e.event) (needs_of s e.seat e.moment e.event) after.nodes node
+  pub rest : after ≡ record s.tables { meta = after.meta; nodes = after.nodes }
+
+abbrev pub ChangesWhatMayBeChanged : Type 0
+ChangesWhatMayBeChanged = (n : ℕ) (s : State) (e : Entry) → IsSound s → MayCome n s e → ChangesAllowed s e (after s e).tables

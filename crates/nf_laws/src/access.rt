@@ -1,0 +1,38 @@
+//! Who may read and change what.
+
+ghost use Rattle.nf_laws.specs.Access.{ChangesWhatMayBeChanged, ListsWhatMayBeRead, OwnAlone, ServesWhatMayBeRead, WhatMayBeReadIsListed, WhatMayBeReadIsServed};
+
+/// Where nothing is shared, a user may do anything at a node that the user owns, and nobody may do anything elsewhere.
+#[tactic(auto, using(crate::proofs::Reaching::own_alone))]
+pub fn own_alone()
+    ensures { OwnAlone }
+{}
+
+/// What a GET is granted is the content of a file at which the caller may read, and to which the path leads: from the caller's
+/// root, or from the node of the mount that it goes by.
+#[tactic(auto, using(crate::proofs::Reaching::serves_readable))]
+pub fn serves_what_may_be_read()
+    ensures { ServesWhatMayBeRead }
+{}
+
+/// And each such file is granted to a GET of its path that no rule of who asks or of names refuses.
+pub fn what_may_be_read_is_served()
+    ensures { WhatMayBeReadIsServed }
+{}
+
+/// What a GET of a folder is answered is what is in a folder at which the caller may read, and to which the path leads so.
+#[tactic(auto, using(crate::proofs::Reaching::lists_readable))]
+pub fn lists_what_may_be_read()
+    ensures { ListsWhatMayBeRead }
+{}
+
+/// And each such folder is listed to a GET of its path that no rule of who asks or of names refuses.
+pub fn what_may_be_read_is_listed()
+    ensures { WhatMayBeReadIsListed }
+{}
+
+/// A step makes a node's row another only where who acts may do all that the request needs, and what became of the node follows
+/// from that: it is updated, made, moved, or gone with what is deleted. Of the other rows the meta row alone becomes another.
+pub fn changes_what_may_be_changed()
+    ensures { ChangesWhatMayBeChanged }
+{}

@@ -1,0 +1,120 @@
+-- What a look-up by names finds.
+use Rattle.std.proofs.Common.{◌≡◌, ℕ, ◌+◌, ◌-◌, ◌<◌, ◌&&◌, bytes_eq, find, slice_get, unwrap_or, sym, Bool, true, false, List, [], ◌∷◌, length, suc, ◌∙◌, Option, option_map, if◌then◌else◌, refl, ap, subst, arith}
+use Rattle.std.specs.Prelude.{None, Some}
+use Rattle.std.specs.List.{All, AllPairs}
+use Rattle.std.specs.Option.{IfSome, option_and_then}
+use Rattle.std.proofs.lemmas.Bool.{and_parts}
+use Rattle.std.proofs.lemmas.List.Elements.{All-head, All-tail}
+use Rattle.std.proofs.lemmas.Option.{none-some, same_Some}
+use Rattle.nf_base.specs.declared.rows.NodeRow.{NodeRow}
+use Rattle.nf_defs.specs.Prelude.{child_of, folder_of, found_from, is_folder, is_in, node_row, onward, parent_of}
+use Rattle.nf_defs.specs.declared.Found.TheVariants.{At, Free, Missing}
+use Rattle.nf_defs.proofs.Walks.{inside_of, node_row_each}
+
+-- ---- look-ups
+
+-- what a look-up finds passes its test
+pub found_passes : {X : Type 0} (test : X → Bool) (xs : List X) (found : X) → find test xs ≡ Some found → test found ≡ true
+found_passes test [] found is = absurd (cc)
+found_passes {X = X} test (x ∷ xs) found is = here (test x) refl is (λ is. found_passes test xs found is)
+  where
+    here : (a : Bool) → test x ≡ a → find test (x ∷ xs) ≡ Some found → (find test xs ≡ Some found → test found ≡ true) → test found ≡ true
+    here true e is rest = subst (λ (y : X). test y ≡ true) (same_Some x found (simp e at is)) e
+    here false e is rest = rest (simp e at is)
+
+-- what all have, what a look-up finds has
+pub found_has : {X : Type 0} (P : X → Type 0) (test : X → Bool) (xs : List X) → All P xs → IfSome (find test xs) P
+found_has P test [] all = tt
+found_has {X = X} P test (x ∷ xs) all = here (test x) refl (found_has P test xs (All-tail P x xs all))
+  where
+    here : (a : Bool) → test x ≡ a → IfSome (find test xs) P → IfSome (find test (x ∷ xs)) P
+    here true e rest = simp e (All-head P x xs all)
+    here false e rest = simp e rest
+
+-- a folder's child is in it
+pub child_parent : (rows : List NodeRow) (folder : ℕ) (name : List ℕ) (node : ℕ) → AllPairs (λ (a b : NodeRow). a.id < b.id) rows
+    → child_of rows folder name ≡ Some node → parent_of rows node ≡ Some folder
+child_parent rows folder name node rising is = here (find test rows) refl is
+  where
+    test : NodeRow → Bool
+    test row = is_in folder row && bytes_eq row.name name
+
+    here : (o : Option NodeRow) → find test rows ≡ o → option_map (λ row. row.id) o ≡ Some node → parent_of rows node ≡ Some folder
+    here None e is = absurd (none-some node is)
+    here (Some row) e is =
+        let passes = and_parts (is_in folder row) (bytes_eq row.name name) (found_passes test rows row e) in
+        let there = subst (λ (o : Option NodeRow). IfSome o (λ (row : NodeRow). node_row rows row.id ≡ Some row)) e
+        (found_has (λ (row : NodeRow). node_row rows row.id ≡ Some row) test rows (node_row_each rows rising)) in
+        subst (λ (n : ℕ). parent_of rows n ≡ Some folder) (same_Some row.id node is)
+        (ap (λ (o : Option NodeRow). option_and_then (λ row. folder_of row.place) o) there ∙ ap folder_of (inside_of folder row.place passes.0))
+
+-- ---- paths
+
+-- the last of some names
+abbrev pub last_of : List (List ℕ) → List ℕ
+last_of names = unwrap_or (slice_get names (length names - 1)) []
+
+last_more : (a b : List ℕ) (names : List (List ℕ)) → last_of (a ∷ b ∷ names) ≡ last_of (b ∷ names)
+last_more a b names =
+    let e : length (a ∷ b ∷ names) - 1 ≡ suc (length (b ∷ names) - 1) = omega arith in
+    ap (λ (k : ℕ). unwrap_or (slice_get (a ∷ b ∷ names) k) []) e
+
+-- names that lead to a free name lead to a folder that has no such child
+pub free_known : (rows : List NodeRow) (before at : ℕ) (names : List (List ℕ)) (folder : ℕ)
+    → found_from rows before at names ≡ Free folder → (is_folder rows folder ≡ true) × (child_of rows folder (last_of names) ≡ None)
+free_known rows before at [] folder is = absurd (cc)
+free_known rows before at (name ∷ names) folder is =
+    here (is_folder rows at) (child_of rows at name) names refl refl is (λ child. free_known rows (before + 1) child names folder)
+  where
+    here : (folds : Bool) (child : Option ℕ) (names : List (List ℕ)) → is_folder rows at ≡ folds → child_of rows at name ≡ child
+        → (if folds then onward before at names child (λ child. found_from rows (before + 1) child names) else Missing before) ≡ Free folder
+        → ((child : ℕ) → found_from rows (before + 1) child names ≡ Free folder
+        → (is_folder rows folder ≡ true) × (child_of rows folder (last_of names) ≡ None))
+        → (is_folder rows folder ≡ true) × (child_of rows folder (last_of (name ∷ names)) ≡ None)
+    here true None [] folds none is rest = (cc, cc)
+    here true (Some child) (n ∷ names) folds none is rest = (
+      (rest child is).0,
+      ap (λ (last : List ℕ). child_of rows folder last) (last_more name n names) ∙ (rest child is).1,
+    )
+    here folds child names folded found is rest = absurd (cc)
+
+-- a node is its folder's child of that name
+record LastStep (rows : List NodeRow) (name : List ℕ) (node : ℕ) : Type 0 where
+  folder : ℕ
+  folds : is_folder rows folder ≡ true
+  child : child_of rows folder name ≡ Some node
+
+-- no name leads anywhere else, and the last one leads from a folder to its child
+abbrev EndsAt : List NodeRow → ℕ → List (List ℕ) → ℕ → Type 0
+EndsAt rows at [] node = at ≡ node
+EndsAt rows at (name ∷ names) node = LastStep rows (last_of (name ∷ names)) node
+
+last_step : (rows : List NodeRow) (before at : ℕ) (names : List (List ℕ)) (node : ℕ)
+    → found_from rows before at names ≡ At node → EndsAt rows at names node
+last_step rows before at [] node is = cc
+last_step rows before at (name ∷ names) node is =
+    here (is_folder rows at) (child_of rows at name) names refl refl is (λ child is. last_step rows (before + 1) child names node is)
+  where
+    here : (folds : Bool) (child : Option ℕ) (names : List (List ℕ)) → is_folder rows at ≡ folds → child_of rows at name ≡ child
+        → (if folds then onward before at names child (λ child. found_from rows (before + 1) child names) else Missing before) ≡ At node
+        → ((child : ℕ) → found_from rows (before + 1) child names ≡ At node → EndsAt rows child names node)
+        → LastStep rows (last_of (name ∷ names)) node
+    here true None [] folds there is rest = absurd (cc)
+    here true (Some child) [] folds there is rest = record { folder = at; folds = folds; child = there ∙ ap Some (rest child is) }
+    here true (Some child) (n ∷ names) folds there is rest =
+        subst (λ (last : List ℕ). LastStep rows last node) (sym (last_more name n names)) (rest child is)
+    here folds child names folded there is rest = absurd (cc)
+
+-- names that lead to a node in a folder, from one that is in none, lead to the folder's child of the last name
+pub at_known : (rows : List NodeRow) (at : ℕ) (names : List (List ℕ)) (node folder : ℕ) → AllPairs (λ (a b : NodeRow). a.id < b.id) rows
+    → parent_of rows at ≡ None → found_from rows 0 at names ≡ At node → parent_of rows node ≡ Some folder
+    → (is_folder rows folder ≡ true) × (child_of rows folder (last_of names) ≡ Some node)
+at_known rows at [] node folder rising top is above =
+    absurd (none-some folder (sym top ∙ ap (parent_of rows) (last_step rows 0 at [] node is) ∙ above))
+at_known rows at (name ∷ names) node folder rising top is above =
+    let step = last_step rows 0 at (name ∷ names) node is in
+    let same : step.folder ≡ folder =
+    same_Some step.folder folder (sym (child_parent rows step.folder (last_of (name ∷ names)) node rising step.child) ∙ above) in (
+      subst (λ (n : ℕ). is_folder rows n ≡ true) same step.folds,
+      subst (λ (n : ℕ). child_of rows n (last_of (name ∷ names)) ≡ Some node) same step.child,
+    )

@@ -1,0 +1,78 @@
+-- What a call that no rule refuses passes, by the names of the rules.
+use Rattle.std.proofs.Common.{◌≡◌, Bool, true, false, List, [], ◌∷◌, Ok, refl}
+use Rattle.std.specs.Prelude.{None, Option, Some, option_map, if◌then◌else◌}
+use Rattle.std.specs.Option.{option_or}
+use Rattle.nf_defs.specs.Access.{Access}
+use Rattle.nf_words.specs.Prelude.{access_of, allowed_of, Call, call_decision, exists_rule, first_that_holds, forbidden_rule, limit_rule, not_you_rule, overwrite_rule, Pass, place_rule, refusal_of, Rule, rules, target_rule, token_rule, unless_refused}
+use Rattle.nf_words.specs.declared.answer.Allowed.{Allowed}
+use Rattle.nf_words.specs.declared.answer.Denial.{Denial}
+use Rattle.nf_words.specs.declared.answer.Denial.TheVariants as denial
+use Rattle.nf_words.specs.declared.answer.Limit.{Limit}
+use Rattle.nf_words.specs.declared.answer.TargetFault.{TargetFault}
+
+-- the rules pass it. A new rule adds a field, and its place in `named` and `in_order`
+pub record Passes (access : Access) (call : Call) : Type 0 where
+  pub token : token_rule access call ≡ None
+  pub not_you : not_you_rule access call ≡ None
+  pub forbidden : forbidden_rule access call ≡ None
+  pub place : place_rule access call ≡ None
+  pub exists : exists_rule access call ≡ None
+  pub target : target_rule access call ≡ None
+  pub overwrite : overwrite_rule access call ≡ None
+  pub limit : limit_rule access call ≡ None
+
+named : (access : Access) (call : Call) → Pass rules access call → Passes access call
+named access call (token, (not_you, (forbidden, (place, (exists, (target, (overwrite, (limit, end)))))))) = record {
+  token = token;
+  not_you = not_you;
+  forbidden = forbidden;
+  place = place;
+  exists = exists;
+  target = target;
+  overwrite = overwrite;
+  limit = limit;
+}
+
+pub in_order : (access : Access) (call : Call) → Passes access call → Pass rules access call
+in_order access call p =
+    (p.token, (p.not_you, (p.forbidden, (p.place, (p.exists, (p.target, (p.overwrite, (p.limit, tt))))))))
+
+-- ---- of a call
+
+pub both_none : (a b : Option Denial) → option_or a b ≡ None → (a ≡ None) × (b ≡ None)
+both_none None b none = (refl, none)
+both_none (Some refusal) b none = absurd (cc)
+
+each_passes : (all : List Rule) (access : Access) (call : Call) → first_that_holds all access call ≡ None → Pass all access call
+each_passes [] access call none = tt
+each_passes (rule ∷ others) access call none =
+    let h = both_none (rule access call) (first_that_holds others access call) none in (h.0, each_passes others access call h.1)
+
+-- what isn't refused passes every rule
+pub unrefused : (access : Access) (call : Call) → refusal_of access call ≡ None → Passes access call
+unrefused access call none = named access call (each_passes rules access call none)
+
+pub not_refused : (refusal : Option Denial) (act got : Allowed) → unless_refused refusal act ≡ Ok got → (refusal ≡ None) × (act ≡ got)
+not_refused None act got is = (refl, cc)
+not_refused (Some refusal) act got is = absurd (cc)
+
+-- a call that may do something passes every rule, and may do what is given
+pub call_passes : (call : Call) (act : Allowed) → call_decision call ≡ Ok act
+    → Passes (access_of call.state) call × (allowed_of (access_of call.state) call ≡ act)
+call_passes call act is =
+    let access = access_of call.state in
+    let h = not_refused (refusal_of access call) (allowed_of access call) act is in (unrefused access call h.0, h.1)
+
+-- ---- of a rule
+
+pub no_fault : (fault : Option TargetFault) → option_map denial.BadTarget fault ≡ None → fault ≡ None
+no_fault None none = refl
+no_fault (Some fault) none = absurd (cc)
+
+pub no_limit : (passed : Option Limit) → option_map denial.Limit passed ≡ None → passed ≡ None
+no_limit None none = refl
+no_limit (Some passed) none = absurd (cc)
+
+pub if_none : (b : Bool) (refusal : Denial) → (if b then None else Some refusal) ≡ None → b ≡ true
+if_none true refusal none = refl
+if_none false refusal none = absurd (cc)

@@ -1,0 +1,94 @@
+-- Who asks, and where the paths of a call that no rule refuses start.
+use Rattle.std.proofs.Common.{◌≡◌, ℕ, ◌==◌, ◌++◌, bytes_eq, sym, true, false, List, [], ◌∙◌, Option, refl, ap, subst}
+use Rattle.std.specs.Prelude.{None, Some, is_some}
+use Rattle.std.specs.List.{list_all}
+use Rattle.std.specs.Option.{IfSome, option_and_then, option_map_or}
+use Rattle.std.proofs.lemmas.Bool.{and_parts, eqb-true, false≢true}
+use Rattle.std.proofs.lemmas.List.{append-nil}
+use Rattle.nf_base.specs.declared.rows.NodeRow.{NodeRow}
+use Rattle.nf_base.specs.declared.rows.UserRow.{UserRow}
+use Rattle.nf_defs.specs.Prelude.{folder_of, found_from, parent_of, user_row}
+use Rattle.nf_defs.specs.declared.Found.{Found}
+use Rattle.nf_words.proofs.Found.{found_has, found_passes}
+use Rattle.nf_words.proofs.Fits.{KnownPath}
+use Rattle.nf_words.proofs.Passing.{if_none}
+use Rattle.nf_words.specs.Prelude.{access_of, AreSound, asked_of, Call, caller_row, found, HasRoot, is_caller, MayWant, named_in, NamesUser, not_you_rule, root_of, user_of, users_of}
+use Rattle.nf_words.specs.declared.request.Caller.{Caller}
+use Rattle.nf_words.specs.declared.request.Caller.TheVariants.{Absent, Token}
+use Rattle.nf_words.specs.declared.request.Spot.{Spot}
+use Rattle.nf_words.specs.declared.request.Wanted.{Wanted}
+use Rattle.nf_words.specs.declared.request.Wanted.TheVariants.{Get, Put, Mkcol, Delete, Move, Copy}
+
+caller_there : (call : Call) (name : List ℕ) → is_caller call name ≡ true → (row : UserRow) × (caller_row call ≡ Some row)
+caller_there call name is = here (caller_row call) refl is
+  where
+    here : (o : Option UserRow) → caller_row call ≡ o → option_map_or (λ row. bytes_eq row.name name) o false ≡ true
+        → (row : UserRow) × (caller_row call ≡ Some row)
+    here None e is = absurd (false≢true is)
+    here (Some row) e is = (row, e)
+
+no_link : (caller : Caller) (spot : Spot) → NamesUser caller spot → is_some spot.user ≡ true
+no_link Absent spot names = names
+no_link (Token digest) spot names = names
+
+-- a place that names its user, before others, is in the files of the caller, whose row is there
+of_caller : (call : Call) (spot : Spot) (others : List (List ℕ)) → NamesUser call.request.caller spot
+    → list_all (is_caller call) (named_in spot.user ++ others) ≡ true → (row : UserRow) × (caller_row call ≡ Some row)
+of_caller call spot others names all = here spot.user (no_link call.request.caller spot names) all
+  where
+    here : (name : Option (List ℕ)) → is_some name ≡ true → list_all (is_caller call) (named_in name ++ others) ≡ true
+        → (row : UserRow) × (caller_row call ≡ Some row)
+    here None named all = absurd (cc)
+    here (Some name) named all = caller_there call name (and_parts (is_caller call name) (list_all (is_caller call) others) all).0
+
+-- so the caller's row is there
+pub has_row : (call : Call) → MayWant call.request → not_you_rule (access_of call.state) call ≡ None
+    → (row : UserRow) × (caller_row call ≡ Some row)
+unfolding not_you_rule
+has_row call may passes = here call.request.wanted (if_none _ _ passes) may.source may.target
+  where
+    alone : (name : Option (List ℕ)) → list_all (is_caller call) (named_in name ++ []) ≡ list_all (is_caller call) (named_in name)
+    alone name = ap (list_all (is_caller call)) (append-nil (named_in name))
+
+    here : (wanted : Wanted) → list_all (is_caller call) (users_of (asked_of wanted)) ≡ true
+        → IfSome (asked_of wanted).source (NamesUser call.request.caller) → IfSome (asked_of wanted).target (NamesUser call.request.caller)
+        → (row : UserRow) × (caller_row call ≡ Some row)
+    here (Get spot) all source target = of_caller call spot [] source all
+    here (Put spot length) all source target = of_caller call spot [] target (alone spot.user ∙ all)
+    here (Mkcol spot) all source target = of_caller call spot [] target (alone spot.user ∙ all)
+    here (Delete spot) all source target = of_caller call spot [] source all
+    here (Move from to overwrite) all source target = of_caller call from (named_in to.user) source all
+    here (Copy from to overwrite) all source target = of_caller call from (named_in to.user) source all
+
+-- the caller's row is that of the user who asks
+pub row_of_caller : (rows : List UserRow) (who : Option ℕ) (row : UserRow) → option_and_then (user_row rows) who ≡ Some row
+    → (who ≡ Some row.id) × (user_row rows row.id ≡ Some row)
+row_of_caller rows None row is = absurd (cc)
+row_of_caller rows (Some user) row is =
+    let e : row.id ≡ user = eqb-true row.id user (found_passes (λ (row : UserRow). row.id == user) rows row is) in
+    (ap Some (sym e), subst (λ (u : ℕ). user_row rows u ≡ Some row) (sym e) is)
+
+-- its path leads from the caller's root
+unfoldable pub path_known : (call : Call) (spot : Spot) (place : Found) (row : UserRow) → caller_row call ≡ Some row → found call spot ≡ place
+    → KnownPath call.state.tables (user_of call) place
+path_known call spot place row is leads =
+    let h = row_of_caller call.state.tables.users (user_of call) row is in
+    let root : root_of call ≡ row.root = ap (λ (o : Option UserRow). option_map_or (λ row. row.root) o 0) is in
+    record {
+      row = row;
+      caller = h.0;
+      there = h.1;
+      names = spot.path;
+      leads = subst (λ (n : ℕ). found_from call.state.tables.nodes 0 n spot.path ≡ place) root leads;
+    }
+
+-- the caller's root is in no folder
+pub root_known : (call : Call) (row : UserRow) → AreSound call.state.tables → caller_row call ≡ Some row
+    → parent_of call.state.tables.nodes (root_of call) ≡ None
+root_known call row sound is =
+    let t = call.state.tables in
+    let there = (row_of_caller t.users (user_of call) row is).1 in
+    let root = subst (λ (o : Option UserRow). IfSome o (HasRoot t)) there
+    (found_has (HasRoot t) (λ (user : UserRow). user.id == row.id) t.users sound.roots) in
+    ap (λ (o : Option UserRow). parent_of t.nodes (option_map_or (λ row. row.root) o 0)) is
+    ∙ ap (λ (o : Option NodeRow). option_and_then (λ row. folder_of row.place) o) root.there ∙ ap folder_of root.place

@@ -1,0 +1,59 @@
+-- What a request asks for: a record, with one clause an act. The rules go by it, whatever the act.
+use Rattle.std.specs.Prelude.{ℕ, Bool, true, false, List, [], ◌∷◌, ◌++◌, Option, None, Some}
+use Rattle.std.specs.Option.{option_map_or}
+use Rattle.nf_words.specs.declared.request.Making.{Making}
+use Rattle.nf_words.specs.declared.request.Making.TheVariants as making
+use Rattle.nf_words.specs.declared.request.Spot.{Spot}
+use Rattle.nf_words.specs.declared.request.Wanted.{Wanted}
+use Rattle.nf_words.specs.declared.request.Wanted.TheVariants.{Get, Put, Mkcol, Delete, Move, Copy}
+
+-- the place of what it acts upon, that of what it makes or stores over, what it makes there, whether what is at the source doesn't
+-- stay, and whether what is at the target may be replaced
+pub record Asked : Type 0 where
+  pub source : Option Spot
+  pub target : Option Spot
+  pub makes : Making
+  pub removes : Bool
+  pub overwrites : Bool
+
+abbrev pub asks_nothing : Asked
+asks_nothing = record { source = None; target = None; makes = making.Nothing; removes = false; overwrites = false }
+
+abbrev pub asked_of : Wanted → Asked
+asked_of (Get spot) = record asks_nothing { source = Some spot }
+asked_of (Put spot length) = record asks_nothing { target = Some spot; makes = making.File length; overwrites = true }
+asked_of (Mkcol spot) = record asks_nothing { target = Some spot; makes = making.Folder }
+asked_of (Delete spot) = record asks_nothing { source = Some spot; removes = true }
+asked_of (Move source target overwrite) =
+    record { source = Some source; target = Some target; makes = making.Moved; removes = true; overwrites = overwrite }
+asked_of (Copy source target overwrite) =
+    record { source = Some source; target = Some target; makes = making.Copied; removes = false; overwrites = overwrite }
+
+-- ---- what follows from it
+
+-- the user that a place names, if it does
+abbrev pub named_in : Option (List ℕ) → List (List ℕ)
+named_in None = []
+named_in (Some name) = name ∷ []
+
+abbrev pub named_at : Option Spot → List (List ℕ)
+named_at place = option_map_or (λ spot. named_in spot.user) place []
+
+-- the users that it names
+abbrev pub users_of : Asked → List (List ℕ)
+users_of asked = named_at asked.source ++ named_at asked.target
+
+abbrev pub path_at : Option Spot → List (List (List ℕ))
+path_at place = option_map_or (λ spot. spot.path ∷ []) place []
+
+-- its paths
+abbrev pub paths_of : Asked → List (List (List ℕ))
+paths_of asked = path_at asked.source ++ path_at asked.target
+
+-- what is at the source is put at the target, or copied there
+abbrev pub is_transfer : Making → Bool
+is_transfer making.Nothing = false
+is_transfer (making.File length) = false
+is_transfer making.Folder = false
+is_transfer making.Moved = true
+is_transfer making.Copied = true

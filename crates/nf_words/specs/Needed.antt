@@ -1,0 +1,95 @@
+-- The acts that a request needs, each at its node by the mount of its path, and whether who asks may do them. No rule asks it yet.
+use Rattle.std.specs.Prelude.{ℕ, ◌==◌, ◌&&◌, ◌||◌, nat_lt, not, Bool, false, true, List, [], ◌∷◌, ◌++◌, Option, None, Some, is_some, option_map, option_and_then, if◌then◌else◌}
+use Rattle.std.specs.List.{list_any}
+use Rattle.std.specs.Option.{option_map_or, option_or}
+use Rattle.nf_base.specs.Perms.{has}
+use Rattle.nf_base.specs.declared.perms.Act.{Act}
+use Rattle.nf_base.specs.declared.perms.Act.TheVariants.{Read, Update, Create, Delete}
+use Rattle.nf_base.specs.declared.rows.NodeRow.{NodeRow}
+use Rattle.nf_defs.specs.Prelude.{Access, node_row}
+use Rattle.nf_defs.specs.declared.Grant.{Grant}
+use Rattle.nf_defs.specs.declared.Seeker.{Seeker}
+use Rattle.nf_defs.specs.declared.Seeker.TheVariants.{User, Link}
+use Rattle.nf_words.specs.Asked.{Asked}
+use Rattle.nf_words.specs.Calls.{Call, Way, asked_by, way_of}
+use Rattle.nf_words.specs.Places.{folder_at, node_found}
+use Rattle.nf_words.specs.declared.answer.By.{By}
+use Rattle.nf_words.specs.declared.answer.LockKey.{LockKey}
+use Rattle.nf_words.specs.declared.answer.LockKey.TheVariants.{Node, Slot}
+use Rattle.nf_words.specs.declared.request.Making.{Making}
+use Rattle.nf_words.specs.declared.request.Making.TheVariants as making
+
+-- ---- who may do what
+
+-- a grant lets its seeker do the act, as long as it hasn't ended
+abbrev pub allows : ℕ → Act → Grant → Bool
+allows now act grant = has grant.mask act && option_map_or (nat_lt now) grant.until true
+
+-- the seeker is a user who owns the node
+abbrev pub is_owner : List NodeRow → Seeker → ℕ → Bool
+is_owner rows (User user) node = option_map_or (λ row. row.owner == user) (node_row rows node) false
+is_owner rows (Link share) node = false
+
+-- the seeker may do the act at the node: as its owner, or by a grant on the node of the mount that the path goes by
+abbrev pub may_by : Access → List NodeRow → Seeker → ℕ → Act → ℕ → Option ℕ → Bool
+may_by access rows seeker now act node mount =
+    is_owner rows seeker node || option_map_or (λ shared. list_any (allows now act) (access seeker shared)) mount false
+
+-- ---- what is needed
+
+-- an act at a node, by the mount of the path that names it
+pub record Need : Type 0 where
+  pub act : Act
+  pub node : ℕ
+  pub mount : Option ℕ
+
+-- the act at that node, if there is one
+abbrev pub needs : Act → Option ℕ → Option ℕ → List Need
+needs act None mount = []
+needs act (Some node) mount = record { act = act; node = node; mount = mount } ∷ []
+
+-- the act at the node to which a way leads
+abbrev pub needs_at : Act → Way → List Need
+needs_at act way = needs act (node_found way.place) way.mount
+
+-- the folder of what is at a place or is put there; a root stands for its own
+abbrev pub folder_for : List NodeRow → Way → Option ℕ
+folder_for rows way = option_or (folder_at rows way.place) (node_found way.place)
+
+-- that something is made there
+abbrev pub needs_in : List NodeRow → Way → List Need
+needs_in rows way = needs Create (folder_for rows way) way.mount
+
+-- the target's folder is that of the source
+abbrev pub is_within : List NodeRow → Option Way → Option Way → Bool
+is_within rows source target =
+    let from = option_and_then (folder_for rows) source in
+    option_map_or (λ to. option_map_or (λ folder. folder == to) from false) (option_and_then (folder_for rows) target) false
+
+-- what is acted upon is read where it stays, and else deleted, or updated if it stays in its folder
+abbrev pub source_act : Asked → Bool → Act
+source_act asked within = if not asked.removes then Read else if within then Update else Delete
+
+-- what is there is updated by a body, and has to go at a transfer; what wasn't in the folder is created in it
+abbrev pub target_needs : Making → List NodeRow → Bool → Way → List Need
+target_needs making.Nothing rows within way = []
+target_needs (making.File length) rows within way = if is_some (node_found way.place) then needs_at Update way else needs_in rows way
+target_needs making.Folder rows within way = needs_in rows way
+target_needs making.Moved rows within way = (if within then [] else needs_in rows way) ++ needs_at Delete way
+target_needs making.Copied rows within way = needs_in rows way ++ needs_at Delete way
+
+abbrev pub needs_between : List NodeRow → Asked → Option Way → Option Way → List Need
+needs_between rows asked source target =
+    let within = is_within rows source target in
+    option_map_or (needs_at (source_act asked within)) source [] ++ option_map_or (target_needs asked.makes rows within) target []
+
+-- what a request needs
+abbrev pub needed : Call → List Need
+needed call =
+    let asked = asked_by call in
+    needs_between call.state.tables.nodes asked (option_map (way_of call) asked.source) (option_map (way_of call) asked.target)
+
+-- what the End of a PUT needs: that the file is updated, or that one is created in the folder
+abbrev pub needed_by : By → LockKey → List Need
+needed_by by (Node node) = needs Update (Some node) by.mount
+needed_by by (Slot folder name) = needs Create (Some folder) by.mount
