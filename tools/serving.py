@@ -65,12 +65,17 @@ class Client:
             self.stream.close()
         self.stream = None
 
-    def ask(self, method, path, body=None, token=None, user=None, expect=False, **fields):
-        """Sends a request and reads its whole answer. With `expect` the body is sent once the server wants it."""
+    def connect(self):
+        connection = socket.create_connection(("127.0.0.1", self.port), self.timeout)
+        connection.setsockopt(socket.IPPROTO_TCP, socket.TCP_NODELAY, 1)
+        return connection
+
+    def ask(self, method, path, body=None, token=None, user=None, expect=False, amid=None, **fields):
+        """Sends a request and reads its whole answer. With `expect` the body is sent once the server wants it. `amid` is called before a
+        body is sent, or else between the head and the body of the answer."""
         try:
             if not self.stream:
-                connection = socket.create_connection(("127.0.0.1", self.port), self.timeout)
-                connection.setsockopt(socket.IPPROTO_TCP, socket.TCP_NODELAY, 1)
+                connection = self.connect()
                 self.stream = connection.makefile("rwb", 65536)
                 connection.close()
             head = f"{method} {target(user or self.user, path)} HTTP/1.1\r\nHost: 127.0.0.1\r\n"
@@ -82,10 +87,13 @@ class Client:
             if expect:
                 fields["Expect"] = "100-continue"
             head += "".join(f"{name}: {value}\r\n" for name, value in fields.items()) + "\r\n"
-            self.stream.write(head.encode() + (body if body and not expect else b""))
+            waits = body is not None and (expect or amid)
+            self.stream.write(head.encode() + (b"" if waits else body or b""))
             self.stream.flush()
-            answer = self.read()
-            if expect and answer.status == 100:
+            answer = self.read(amid) if expect or not waits else None
+            if waits and (not answer or answer.status == 100):
+                if amid:
+                    amid()
                 self.stream.write(body)
                 self.stream.flush()
                 answer = self.read()
@@ -96,7 +104,7 @@ class Client:
             self.close()
         return answer
 
-    def read(self):
+    def read(self, amid=None):
         status, fields = None, {}
         while (line := self.stream.readline()) != b"\r\n":
             if not line.endswith(b"\r\n"):
@@ -106,6 +114,8 @@ class Client:
             else:
                 name, value = line.decode().rstrip().split(": ", 1)
                 fields[name] = value
+        if amid and status != 100:
+            amid()
         size = int(fields.get("Content-Length", 0))
         body = self.stream.read(size)
         if len(body) != size:

@@ -67,7 +67,13 @@ opens_behind k b later it history unbroken fit rows front tells told =
     (subst (λ (es : List Entry). IsLegal (opened b.opening) es) front
     (subst (λ (all : List Row). IsLegal (opened all) k.history) (sym rows) history.legal)) in
     let sound : IsSound (opened b.opening) =
-    record { rows = first.sound; seen = omega arith; seats = λ i j d before within. absurd (omega arith); tickets = All-nil _ } in
+    record {
+      rows = first.sound;
+      seen = omega arith;
+      seats = λ i j d before within. absurd (omega arith);
+      tickets = All-nil _;
+      apart = λ i j d before within. absurd (omega arith);
+    } in
     let ruled = stays_ruled 0 (opened b.opening) b.known first sound legal in
     opens_tables (state_of b).tables it (same_Some it.rows _ (sym told ∙ tells.are))
     (record {

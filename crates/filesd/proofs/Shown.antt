@@ -11,7 +11,7 @@ use Rattle.nf_site.specs.Demo.{hello, demo_rows}
 use Rattle.nf_defs.specs.Prelude.{found_from, holder_of, user_row}
 use Rattle.nf_defs.specs.declared.Found.{Found}
 use Rattle.nf_defs.specs.declared.Found.TheVariants.{At}
-use Rattle.nf_words.specs.Prelude.{access_of, allowed_of, answer_to, answered_by, blob_for, Call, call_of, caller_row, content_in, exists_rule, forbidden_rule, found, given, limit_rule, lost, not_you_rule, opened, overwrite_rule, place_rule, places_of, root_of, rules, target_rule, token_rule, unless_refused}
+use Rattle.nf_words.specs.Prelude.{access_of, allowed_of, answer_to, answered_by, blob_for, Call, call_of, caller_row, content_in, exists_rule, forbidden_rule, found, given, limit_rule, locked_rule, lost, not_you_rule, opened, overwrite_rule, place_rule, places_of, root_of, rules, target_rule, token_rule, unless_refused}
 use Rattle.nf_words.specs.declared.answer.Denial.{Denial}
 use Rattle.nf_words.specs.declared.answer.Denial.TheVariants as denial
 use Rattle.nf_words.specs.declared.answer.Goal.TheVariants.{Serve}
@@ -53,7 +53,7 @@ holds = ap (λ (rows : List TokenRow). holder_of rows secret) tokens ∙ holder_
 hello_granted : (seat now : ℕ) (words : Words)
     → answer_to (opened demo_rows) seat now (Begin words (get_of (Token secret) spot))
     ≡ Ok (Granted (Serve (content_in (blob_for 1 6) (sha256 hello) 6)))
-unfolding token_rule not_you_rule forbidden_rule place_rule exists_rule target_rule overwrite_rule limit_rule
+unfolding token_rule not_you_rule forbidden_rule place_rule exists_rule target_rule overwrite_rule locked_rule limit_rule
 hello_granted seat now words =
     let s = opened demo_rows in
     let access = access_of s in
@@ -75,6 +75,7 @@ hello_granted seat now words =
       exists = refl;
       target = refl;
       overwrite = refl;
+      locked = refl;
       limit = refl;
     } in
     ap (λ (refusal : Option Denial). answered_by (unless_refused refusal (allowed_of access call)))

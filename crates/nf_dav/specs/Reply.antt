@@ -13,6 +13,8 @@ use Rattle.nf_words.specs.declared.answer.Denial.TheVariants as denial
 use Rattle.nf_routes.specs.Methods.{allow_of}
 use Rattle.nf_words.specs.declared.answer.Limit.{Limit}
 use Rattle.nf_words.specs.declared.answer.Limit.TheVariants as limit
+use Rattle.nf_words.specs.declared.answer.LockKey.{LockKey}
+use Rattle.nf_words.specs.declared.answer.LockKey.TheVariants.{Node, Slot}
 use Rattle.nf_words.specs.declared.answer.Parameter.{Parameter}
 use Rattle.nf_words.specs.declared.answer.Parameter.TheVariants as parameter
 use Rattle.nf_words.specs.declared.answer.TargetFault.{TargetFault}
@@ -37,6 +39,7 @@ status_of denial.NoParent = codes "409 Conflict"
 status_of denial.Overwrite = codes "412 Precondition Failed"
 status_of denial.TooLarge = codes "413 Payload Too Large"
 status_of denial.Body = codes "415 Unsupported Media Type"
+status_of (denial.Locked key) = codes "423 Locked"
 status_of denial.Head = codes "431 Request Header Fields Too Large"
 status_of denial.Store = codes "500 Internal Server Error"
 status_of (denial.Damaged damage) = codes "500 Internal Server Error"
@@ -62,6 +65,7 @@ reason_of denial.NoParent = codes "no-parent"
 reason_of denial.Overwrite = codes "overwrite"
 reason_of denial.TooLarge = codes "too-large"
 reason_of denial.Body = codes "body"
+reason_of (denial.Locked key) = codes "locked"
 reason_of denial.Head = codes "head"
 reason_of denial.Store = codes "store"
 reason_of (denial.Damaged damage) = codes "damaged"
@@ -140,6 +144,13 @@ limit_object count which =
     (member (codes "count") (number (unsigned count))
     (member (codes "reason") (string (codes "limit")) (member (codes "which") (string which) no_members)))
 
+abbrev pub locked_object : LockKey → Data
+locked_object (Node node) = object (member (codes "node") (number (unsigned node)) (member (codes "reason") (string (codes "locked")) no_members))
+locked_object (Slot folder name) =
+    object
+    (member (codes "folder") (number (unsigned folder))
+    (member (codes "name") (string name) (member (codes "reason") (string (codes "locked")) no_members)))
+
 abbrev pub reason_object : List ℕ → Data
 reason_object reason = object (member (codes "reason") (string reason) no_members)
 
@@ -149,6 +160,7 @@ refusal_object (denial.BadName f) = name_object (fault_word f)
 refusal_object (denial.BadParameter field) = field_object (field_word field)
 refusal_object (denial.BadTarget cause) = target_object (cause_word cause)
 refusal_object (denial.Damaged damage) = damage_object damage.blob
+refusal_object (denial.Locked key) = locked_object key
 refusal_object (denial.Limit l) = limit_object (count_of l) (limit_word l)
 refusal_object other = reason_object (reason_of other)
 
@@ -168,6 +180,7 @@ code_of denial.NoParent = 409
 code_of denial.Overwrite = 412
 code_of denial.TooLarge = 413
 code_of denial.Body = 415
+code_of (denial.Locked key) = 423
 code_of denial.Head = 431
 code_of denial.Store = 500
 code_of (denial.Damaged damage) = 500

@@ -5,8 +5,8 @@ ghost use Rattle.std.specs.String.{string_bytes};
 ghost use Rattle.serde_json.specs.View.{view};
 ghost use Rattle.nf_dav.specs.Reply.{kind_word as word_of_kind, line_object, listing_body, listing_object};
 
-use crate::objects::{Said, object_of};
-use nf_base::{Name, NodeKind};
+use crate::objects::{Said, object_of, text_of};
+use nf_base::NodeKind;
 use nf_words::{Listing, ListingLine};
 use serde_json::{Value, json};
 use std::alloc::{AllocError, Global};
@@ -62,15 +62,5 @@ fn kind_word(kind: NodeKind) -> &'static str
     match kind {
         NodeKind::Folder => "folder",
         NodeKind::File => "file",
-    }
-}
-
-// A name is UTF-8.
-fn text_of(name: &Name) -> &str
-    ensures { result.now ≡ name.now }
-{
-    match std::str::from_utf8(name.as_bytes()) {
-        Ok(text) => text,
-        Err(_) => unreachable!(),
     }
 }

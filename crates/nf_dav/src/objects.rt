@@ -4,6 +4,7 @@ ghost use Rattle.std.specs.Prelude.{◌≡◌, IfOk};
 ghost use Rattle.serde_json.specs.View.{view};
 ghost use Rattle.nf_dav.specs.Objects.{data_of, object_of as the_object_of};
 
+use nf_base::Name;
 use serde_json::{Map, ToValue, Value, put};
 use std::alloc::{AllocError, Global};
 
@@ -31,5 +32,15 @@ fn value_of(alloc: Global, said: &Said<'_>) -> Result<Value, AllocError>
     match said {
         Said::Text(text) => text.to_value(alloc),
         Said::Number(number) => number.to_value(alloc),
+    }
+}
+
+/// The text of a name, which is UTF-8.
+pub(crate) fn text_of(name: &Name) -> &str
+    ensures { result.now ≡ name.now }
+{
+    match std::str::from_utf8(name.as_bytes()) {
+        Ok(text) => text,
+        Err(_) => unreachable!(),
     }
 }

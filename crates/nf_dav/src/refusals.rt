@@ -3,11 +3,11 @@
 ghost use Rattle.std.specs.Prelude.{◌≡◌, IfOk};
 ghost use Rattle.std.specs.String.{string_bytes};
 ghost use Rattle.serde_json.specs.View.{view};
-ghost use Rattle.nf_dav.specs.Reply.{envelope as envelope_of, meta_object, refusal_body, refusal_object};
+ghost use Rattle.nf_dav.specs.Reply.{envelope as envelope_of, locked_object, meta_object, refusal_body, refusal_object};
 
-use crate::objects::{Said, object_of};
+use crate::objects::{Said, object_of, text_of};
 use crate::words::{cause_word, code, fault_word, field_word, limit_word, reason};
-use nf_words::Denial;
+use nf_words::{Denial, LockKey};
 use serde_json::{Map, Value, put};
 use std::alloc::{AllocError, Global};
 
@@ -74,11 +74,30 @@ fn refusal_value(alloc: Global, denial: &Denial) -> Result<Value, AllocError>
             let blob = Said::Number(damage.blob.number());
             object_of(alloc, &[("blob", blob), reason])
         }
+        Denial::Locked(key) => locked_value(alloc, key),
         Denial::Limit(limit) => {
             let count = Said::Number(u64::from(limit.count()));
             let which = Said::Text(limit_word(*limit));
             object_of(alloc, &[("count", count), reason, ("which", which)])
         }
         _ => object_of(alloc, &[reason]),
+    }
+}
+
+/// What is held: a node, or a name in a folder.
+fn locked_value(alloc: Global, key: &LockKey) -> Result<Value, AllocError>
+    ensures { IfOk result (λ value. view value ≡ locked_object key.now) }
+{
+    let reason = ("reason", Said::Text("locked"));
+    match key {
+        LockKey::Node(node) => {
+            let node = Said::Number(node.number());
+            object_of(alloc, &[("node", node), reason])
+        }
+        LockKey::Slot { folder, name } => {
+            let folder = Said::Number(folder.number());
+            let name = Said::Text(text_of(name));
+            object_of(alloc, &[("folder", folder), ("name", name), reason])
+        }
     }
 }

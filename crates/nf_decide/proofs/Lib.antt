@@ -1,7 +1,7 @@
 pub mod Putting
 pub mod Bears
 pub mod Copies
-pub mod Limited
+pub mod Late
 pub mod Named
 pub mod Numbers
 pub mod Openings

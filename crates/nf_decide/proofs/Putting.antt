@@ -17,7 +17,12 @@ use Rattle.nf_laws.proofs.OneRow.{length_with, rising_with}
 use Rattle.nf_laws.proofs.Puts.{put_changed, put_new}
 use Rattle.nf_words.proofs.Found.{found_has, found_passes}
 use Rattle.nf_words.specs.Prelude.{above, counted}
-use Rattle.nf_decide.specs.Current.{IsBorne, IsCounted, IsNew, IsRefilled, is_fresh}
+use Rattle.nf_decide.specs.Current.{IsBorne, IsCounted, IsNew, IsNodePut, IsRefilled, is_fresh}
+
+-- only rows of nodes are put
+pub borne_node : (next : ℕ) (t : Tables) (change : Change) → IsBorne next t change → IsNodePut change
+borne_node next t (Put (rows.Node row)) borne = tt
+borne_node next t change borne = absurd borne
 
 -- what is new isn't there
 never_new : (old : List NodeRow) (row was : NodeRow) → IsNew old row → node_row old row.id ≡ Some was → ⊥

@@ -67,6 +67,10 @@ pub record IsRefilled (old : List NodeRow) (row : NodeRow) : Type 0 where
   pub file : is_folder_kind was.kind ≡ false
   pub same : row ≡ filled row.content row.changed was
 
+abbrev pub IsNodePut : Change → Type 0
+IsNodePut (Put (rows.Node row)) = Unit {0}
+IsNodePut other = ⊥
+
 -- a change can be borne by the tables that it meets, where that was the next number of a node at first
 abbrev pub IsBorne : ℕ → Tables → Change → Type 0
 IsBorne next t (Put (rows.Node row)) = ((next ≤ row.id) × IsNew t.nodes row) ⊎ ((row.id < next) × IsRefilled t.nodes row)

@@ -1,6 +1,20 @@
 -- The tables as the program holds them.
-use Rattle.std.specs.Prelude.{ℕ, ◌+◌, ◌≤◌, length}
-use Rattle.nf_defs.specs.Tables.{Tables}
+use Rattle.std.specs.Prelude.{ℕ, ◌+◌, ◌≤◌, List, length}
+use Rattle.nf_base.specs.declared.rows.MetaRow.{MetaRow}
+use Rattle.nf_base.specs.declared.rows.NodeRow.{NodeRow}
+use Rattle.nf_defs.specs.Tables.{Tables, no_rows}
+use Rattle.nf_people.specs.People.{PeopleValue}
+
+-- the tables of the rows of each kind that is built; there are none of the others
+abbrev pub tables_in : MetaRow → PeopleValue → List NodeRow → Tables
+tables_in meta people nodes = record no_rows {
+  meta = meta;
+  users = people.users;
+  tokens = people.tokens;
+  groups = people.groups;
+  members = people.members;
+  nodes = nodes;
+}
 
 -- the tables, and how many nodes fit without more memory
 pub record Rows : Type 0 where

@@ -1,6 +1,8 @@
 //! What each act may do where its paths lead. Where a rule refuses it, nothing.
 
-ghost use Rattle.std.specs.Prelude.{◌≡◌, ◌≢◌, ℕ, IfOk, IfSome, IsSome, None, Some, []};
+ghost use Rattle.std.specs.Prelude.{◌≡◌, ◌≢◌, ℕ, IfOk, IfSome, IsSome, None, Some, [], ◌∷◌};
+ghost use Rattle.nf_base.specs.declared.changes.Change.TheVariants.{Put};
+ghost use Rattle.nf_base.specs.declared.rows.Row.TheVariants as kinds;
 ghost use Rattle.nf_base.specs.Kept.{IsPlain};
 ghost use Rattle.nf_defs.specs.declared.Found.TheVariants.{Free};
 ghost use Rattle.nf_words.specs.Prelude.{copied, copy_limit, deleted, last_name, made_folder, makes, moved, new_node, served, shown, stored};
@@ -74,13 +76,20 @@ pub(crate) fn makes(
 ) -> Result<Allowed, AllocError>
     ensures { IfOk result (λ allowed. allowed ≡ makes row blob) }
 {
-    let mut changes = Changes::new(alloc);
-    changes.push(Change::Put(Row::Node(row)))?;
     Ok(Allowed::Change {
-        changes,
+        changes: only(alloc, row)?,
         blob,
         report: Report::Made,
     })
+}
+
+/// The change that puts a node's row.
+pub(crate) fn only(alloc: Global, row: NodeRow) -> Result<Changes, AllocError>
+    ensures { IfOk result (λ changes. changes ≡ Put (kinds.Node row) ∷ []) }
+{
+    let mut changes = Changes::new(alloc);
+    changes.push(Change::Put(Row::Node(row)))?;
+    Ok(changes)
 }
 
 /// MKCOL makes a folder under the name that is free.

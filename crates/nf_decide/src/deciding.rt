@@ -1,18 +1,19 @@
 //! The rules that refuse a request, and what a request that none of them refuses may do.
 
-ghost use Rattle.std.specs.Prelude.{◌≡◌, ◌≤◌, IfOk, IfSome, None, Some, false, length, option_and_then, option_copied, option_map};
+ghost use Rattle.std.specs.Prelude.{◌≡◌, ◌≤◌, IfOk, IfSome, OnOk, None, Some, false, length, option_and_then, option_copied, option_map};
 ghost use Rattle.std.specs.Option.{option_map_or};
 ghost use Rattle.nf_base.specs.declared.limits.TheConstants.{MAX_DEPTH};
 ghost use Rattle.nf_defs.specs.Prelude.{found_from, is_folder, user_row};
 ghost use Rattle.nf_defs.specs.declared.Seeker.TheVariants.{User};
 ghost use Rattle.nf_words.specs.Prelude.{access_of, allowed_of, asked_by, asker_of, call_decision, caller_row, exists_rule, forbidden_rule, has_forbidden, is_there, is_transfer, limit_at, limited, not_you_rule, overwrite_rule, place_rule, places_of, target_rule, token_rule, unfit, user_of};
 ghost use Rattle.nf_decide.specs.Asked.{is_called, is_forbidden, names_caller};
-ghost use Rattle.nf_decide.specs.Deciding.{Follows, IsNamed, early_refusal};
+ghost use Rattle.nf_decide.specs.Deciding.{Follows, IsNamed, early_refusal, late_refusal, locked_at, place_refusal};
 ghost use Rattle.nf_tree.specs.Order.{AreRisingNodes};
 
 use crate::acting::{copied, deleted, made_folder, moved, served, stored};
 use crate::asked::{is_kept, lost, node_at};
 use crate::limits::{copy_limit, limit_at, move_limit, pieces_of};
+use crate::locking::locked;
 use crate::nodes::is_folder;
 use crate::transferring::{is_root_at, transfer_of, unfit_between};
 use crate::view::View;
@@ -66,13 +67,34 @@ impl<'a> Call<'a> {
             Ok(seen) => seen,
             Err(refusal) => return Ok(Err(refusal)),
         };
-        match self.limit(alloc, &seen.places)? {
-            Some(limit) => Ok(Err(Denial::Limit(limit))),
+        match self.late(alloc, &seen.places)? {
+            Some(refusal) => Ok(Err(refusal)),
             None => Ok(Ok(self.allowed(alloc, &seen)?)),
         }
     }
 
-    /// The rules in their order, but for the limits. The caller's row is looked up once, and each path once.
+    /// The rules behind those that are judged: the locks, then the limits. They alone take memory.
+    fn late(&self, alloc: Global, places: &Places) -> Result<Option<Denial>, AllocError>
+        requires { places.now ≡ places_of self.now }
+        ensures { IfOk result (λ refusal. refusal ≡ late_refusal (access_of self.entry.now.state) self.entry.now) }
+    {
+        match self.locked(alloc, places)? {
+            Some(refusal) => Ok(Some(refusal)),
+            None => match self.limit(alloc, places)? {
+                Some(limit) => Ok(Some(Denial::Limit(limit))),
+                None => Ok(None),
+            },
+        }
+    }
+
+    fn locked(&self, alloc: Global, places: &Places) -> Result<Option<Denial>, AllocError>
+        ensures { IfOk result (λ refusal. refusal ≡ locked_at self.entry.now places.now) }
+    {
+        let asked = self.request.wanted.asked();
+        locked(alloc, &self.view, self.seat, &asked, places)
+    }
+
+    /// The rules before the locks, in their order. The caller's row is looked up once, and each path once.
     fn judge(&self) -> Result<Seen, Denial>
         ensures judged { Follows (early_refusal (access_of self.entry.now.state)) self.entry.now result }
         ensures asker { IfOk result (λ seen. seen.asker ≡ asker_of self.entry.now) }
@@ -88,14 +110,23 @@ impl<'a> Call<'a> {
         self.not_you(caller)?;
         self.forbidden()?;
         let places = self.places(caller);
-        self.lost(&places)?;
-        self.exists(&places)?;
-        self.target(&places)?;
-        self.overwrite(&places)?;
+        self.places_fit(&places)?;
         Ok(Seen {
             asker: asker_of(caller),
             places,
         })
+    }
+
+    /// The rules of what the paths lead to, in their order.
+    fn places_fit(&self, places: &Places) -> Result<(), Denial>
+        requires { places.now ≡ places_of self.now }
+        ensures rules { Follows (place_refusal (access_of self.entry.now.state)) self.entry.now result }
+        ensures target { OnOk result (target_rule (access_of self.entry.now.state) self.entry.now ≡ None) }
+    {
+        self.lost(places)?;
+        self.exists(places)?;
+        self.target(places)?;
+        self.overwrite(places)
     }
 
     /// The user whose token the caller shows.

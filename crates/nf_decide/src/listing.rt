@@ -55,6 +55,7 @@ fn line(
 ) -> Result<ListingLine, AllocError>
     ensures { IfOk result (λ line. line ≡ record { changed = row.now.changed; id = row.now.id; kind = row.now.kind; name = row.now.name; owner = owner.now.name; permissions = all_permissions; size = size_of tree.now.rows row.now.id }) }
 {
+    let size = size_of(alloc, tree, row.id)?;
     Ok(ListingLine {
         changed: row.changed,
         id: row.id,
@@ -62,7 +63,7 @@ fn line(
         name: row.name.copy()?,
         owner: owner.name.copy()?,
         permissions: all_permissions(),
-        size: size_of(alloc, tree, row.id)?,
+        size,
     })
 }
 

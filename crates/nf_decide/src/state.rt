@@ -137,16 +137,8 @@ impl State {
         requires given { AreGiven self.old.state.tables }
         ensures { self.new.state ≡ applied self.old.state seat moment act }
     {
-        match act {
-            Allowed::Get { node: _, content } => self.grant(seat, Goal::Serve(content), hold),
-            Allowed::List(_) | Allowed::Close => {}
-            Allowed::Put { by, key, length } => {
-                self.grant(seat, Goal::Store { by, key, length }, hold);
-            }
-            Allowed::Change { changes, blob, .. } => self.tables.change(moment, changes, blob),
-            Allowed::Delete(node) => self.tables.remove(moment, node),
-            Allowed::Move { transfer, name } => self.tables.transfer(moment, &transfer, name),
-            Allowed::Copy { rows, replaced } => self.tables.join(moment, rows, &replaced),
+        if let Some(goal) = self.tables.alter(moment, act) {
+            self.grant(seat, goal, hold);
         }
     }
 

@@ -1,15 +1,16 @@
 //! The rows of the site in memory.
 
 ghost use Rattle.std.specs.Prelude.{◌≡◌, ◌⊎◌, ℕ, ◌+◌, ◌<◌, ◌≤◌, ◌∷◌, ◌++◌, [], false, is_some, All, AllPairs, count_by, length, map, max, slice_get, IfOk, OnOk, None, Some};
+ghost use Rattle.nf_base.specs.declared.changes.Change.TheVariants.{Put};
 ghost use Rattle.nf_base.specs.declared.limits.TheConstants.{MAX_NODES};
 ghost use Rattle.nf_base.specs.declared.rows.NodeRow.{NodeRow};
 ghost use Rattle.nf_base.specs.declared.rows.Row.TheVariants as kinds;
 ghost use Rattle.nf_base.specs.declared.rows.MetaRow.{MetaRow};
 ghost use Rattle.nf_defs.specs.Prelude.{made, node_key, node_row, put, put_all, rows_of};
-ghost use Rattle.nf_words.specs.Prelude.{above, blob_after, changed, cleared, counted, last_number};
+ghost use Rattle.nf_words.specs.Prelude.{above, blob_after, changed, cleared, counted, goal_of, last_number};
 ghost use Rattle.nf_words.specs.declared.answer.Report.TheVariants.{Done};
 ghost use Rattle.nf_words.specs.declared.answer.Allowed.TheVariants as allowed;
-ghost use Rattle.nf_decide.specs.Current.{AreBorne, AreGiven, BearsChanges, HasNumbers, IsBorne, IsCounted, IsNew, IsRefilled, IsThere, is_fresh};
+ghost use Rattle.nf_decide.specs.Current.{AreBorne, AreGiven, BearsAct, BearsChanges, HasNumbers, IsBorne, IsCounted, IsNew, IsNodePut, IsRefilled, IsThere, added_by, is_fresh};
 ghost use Rattle.nf_rules.specs.Ruled.{AreRuled};
 ghost use Rattle.nf_decide.specs.Rows.{FitsNodes};
 
@@ -18,7 +19,7 @@ use nf_base::{BlobId, Change, Changes, MetaRow, Moment, Name, NodeId, NodeRow, R
 use nf_opening::Loaded;
 use nf_people::{People, PeopleRows};
 use nf_tree::Tree;
-use nf_words::{NodeRows, Ticket, Transfer};
+use nf_words::{Allowed, Goal, NodeRows, Ticket, Transfer};
 use std::alloc::{AllocError, Global};
 use std::marker::Model;
 
@@ -31,27 +32,13 @@ pub(crate) struct Tables {
 }
 
 impl Model for Tables {
-    ghost use Rattle.std.specs.Prelude.{[]};
-    ghost use Rattle.nf_decide.specs.Rows.{Rows};
+    ghost use Rattle.nf_decide.specs.Rows.{Rows, tables_in};
 
     ghost Value = { Rows };
 
     ghost view = { λ t. record {
+      tables = tables_in t.meta t.people t.tree.rows;
       room = t.tree.room;
-      tables = record {
-        meta = t.meta;
-        users = t.people.users;
-        tokens = t.people.tokens;
-        groups = t.people.groups;
-        members = t.people.members;
-        nodes = t.tree.rows;
-        shares = [];
-        mounts = [];
-        versions = [];
-        items = [];
-        uploads = [];
-        chunks = [];
-      };
     } };
 }
 
@@ -61,19 +48,13 @@ impl Tables {
         requires { AreRuled loaded }
         ensures { IfOk result (λ held. held.tables ≡ loaded) }
     {
-        let people = People::load(
-            alloc,
-            PeopleRows {
-                users: loaded.users,
-                tokens: loaded.tokens,
-                groups: loaded.groups,
-                members: loaded.members,
-            },
-        )?;
+        let meta = loaded.meta;
+        let (rows, nodes) = parts(loaded);
+        let people = People::load(alloc, rows)?;
         Ok(Tables {
-            meta: loaded.meta,
+            meta,
             people,
-            tree: Tree::load(alloc, loaded.nodes)?,
+            tree: Tree::load(alloc, nodes)?,
         })
     }
 
@@ -116,8 +97,39 @@ impl Tables {
         }
     }
 
+    /// Makes the changes of an act, and answers what it grants.
+    pub(crate) fn alter(&mut self, moment: Moment, act: Allowed) -> Option<Goal>
+        requires room { FitsNodes self.old.tables self.old.room (added_by self.old.tables act) }
+        requires bears { BearsAct self.old.tables act }
+        requires given { AreGiven self.old.tables }
+        ensures tables { self.new.tables ≡ changed self.old.tables moment act }
+        ensures goal { result ≡ goal_of act }
+    {
+        match act {
+            Allowed::Get { node: _, content } => Some(Goal::Serve(content)),
+            Allowed::Put { by, key, length } => Some(Goal::Store { by, key, length }),
+            Allowed::List(_) | Allowed::Close => None,
+            Allowed::Change { changes, blob, .. } => {
+                self.change(moment, changes, blob);
+                None
+            }
+            Allowed::Delete(node) => {
+                self.remove(moment, node);
+                None
+            }
+            Allowed::Move { transfer, name } => {
+                self.transfer(moment, &transfer, name);
+                None
+            }
+            Allowed::Copy { rows, replaced } => {
+                self.join(moment, rows, &replaced);
+                None
+            }
+        }
+    }
+
     /// Puts rows, with the counters above their numbers and behind the blob. It takes no memory, and nor does any other change.
-    pub(crate) fn change(&mut self, moment: Moment, changes: Changes, blob: Option<BlobId>)
+    fn change(&mut self, moment: Moment, changes: Changes, blob: Option<BlobId>)
         requires room { FitsNodes self.old.tables self.old.room (count_by (is_fresh self.old.tables.meta.next_node) changes) }
         requires bears { BearsChanges self.old.tables changes blob }
         requires given { AreGiven self.old.tables }
@@ -143,20 +155,18 @@ impl Tables {
     }
 
     /// Makes a change. Only rows of nodes are changed yet.
+    #[tactic(auto, using(crate::proofs::Putting::borne_node))]
     fn make(&mut self, change: Change)
         requires room { FitsNodes self.old.tables self.old.room (count_by (is_fresh self.old.tables.meta.next_node) (change ∷ [])) }
         requires borne { IsBorne self.old.tables.meta.next_node self.old.tables change }
         ensures tables { self.new.tables ≡ made self.old.tables change }
         ensures room { self.new.room ≡ self.old.room }
     {
-        match change {
-            Change::Put(Row::Node(row)) => put_node(&mut self.tree, row),
-            Change::Put(_) | Change::Drop(_) => {}
-        }
+        put_node(&mut self.tree, node_in(change));
     }
 
     /// Takes a node out for good, with all under it.
-    pub(crate) fn remove(&mut self, moment: Moment, node: NodeId)
+    fn remove(&mut self, moment: Moment, node: NodeId)
         ensures { self.new.tables ≡ changed self.old.tables moment (allowed.Delete node) }
     {
         self.tree.purge(node);
@@ -164,7 +174,7 @@ impl Tables {
     }
 
     /// Puts a node into another folder, under that name. What is to be replaced there goes.
-    pub(crate) fn transfer(&mut self, moment: Moment, transfer: &Transfer, name: Name)
+    fn transfer(&mut self, moment: Moment, transfer: &Transfer, name: Name)
         requires { IsThere self.old.tables transfer.now }
         ensures { self.new.tables ≡ changed self.old.tables moment (allowed.Move transfer.now name) }
     {
@@ -174,7 +184,7 @@ impl Tables {
     }
 
     /// Puts new nodes in, with the next numbers. What is to be replaced goes.
-    pub(crate) fn join(&mut self, moment: Moment, rows: NodeRows, replaced: &Option<NodeId>)
+    fn join(&mut self, moment: Moment, rows: NodeRows, replaced: &Option<NodeId>)
         requires room { FitsNodes self.old.tables self.old.room (length rows) }
         requires given { AreGiven self.old.tables }
         requires numbers { HasNumbers self.old.tables rows }
@@ -217,6 +227,23 @@ impl Tables {
     }
 }
 
+/// The rows of people, and those of nodes.
+fn parts(loaded: Loaded) -> (PeopleRows, Vec<NodeRow>)
+    ensures users { result.0.users.items ≡ loaded.users }
+    ensures tokens { result.0.tokens.items ≡ loaded.tokens }
+    ensures groups { result.0.groups.items ≡ loaded.groups }
+    ensures members { result.0.members.items ≡ loaded.members }
+    ensures nodes { result.1.items ≡ loaded.nodes }
+{
+    let people = PeopleRows {
+        users: loaded.users,
+        tokens: loaded.tokens,
+        groups: loaded.groups,
+        members: loaded.members,
+    };
+    (people, loaded.nodes)
+}
+
 /// Puts rows with the next numbers behind the others, and answers the number after theirs.
 fn add_all(tree: &mut Tree, next: NodeId, rows: NodeRows) -> NodeId
     requires room { length tree.old.rows + length rows ≤ tree.old.room }
@@ -249,6 +276,17 @@ fn push_nodes(list: &mut RowList, nodes: &[NodeRow]) -> Result<(), AllocError>
         list.push(Row::Node(copy(node)?))?;
     }
     Ok(())
+}
+
+/// The node that a change puts.
+fn node_in(change: Change) -> NodeRow
+    requires { IsNodePut change }
+    ensures { Put (kinds.Node result) ≡ change }
+{
+    match change {
+        Change::Put(Row::Node(row)) => row,
+        Change::Put(_) | Change::Drop(_) => unreachable!(),
+    }
 }
 
 /// Puts a node at the end, or another content of a file in the place of the old one.

@@ -6,6 +6,8 @@ ghost use Rattle.nf_base.specs.declared.changes.RowKey.TheVariants as keys;
 ghost use Rattle.nf_base.specs.declared.rows.Row.TheVariants as kinds;
 ghost use Rattle.nf_defs.specs.Tree.{node_row, relinked};
 ghost use Rattle.nf_words.specs.Changes.{blob_of, changes_of, dropped_for, dropped_under, hold_of, meta_after, told, transferred_row, with_meta};
+ghost use Rattle.nf_words.specs.declared.answer.LockKey.TheVariants as lock_keys;
+ghost use Rattle.nf_words.specs.declared.answer.Mode.TheVariants.{Exclusive, Shared};
 ghost use Rattle.nf_decide.specs.Current.{BearsAct, added_by, is_fresh};
 
 use crate::tables::{copy, raised};
@@ -223,33 +225,34 @@ pub fn blob_of(act: &Allowed) -> Option<BlobId>
 pub fn hold_of(act: &Allowed) -> Result<Option<Hold>, AllocError>
     ensures { IfOk result (λ hold. hold ≡ hold_of act.now) }
 {
-    Ok(match act {
-        Allowed::Get { node, .. } => Some(Hold {
-            key: LockKey::Node(*node),
-            mode: Mode::Shared,
-        }),
-        Allowed::Put { key, .. } => Some(Hold {
-            key: copy_key(key)?,
-            mode: Mode::Exclusive,
-        }),
+    match act {
+        Allowed::Get { node, .. } => Ok(Some(beside(*node))),
+        Allowed::Put { key, .. } => Ok(Some(alone(key)?)),
         Allowed::List(_)
         | Allowed::Change { .. }
         | Allowed::Delete(_)
         | Allowed::Move { .. }
         | Allowed::Copy { .. }
-        | Allowed::Close => None,
-    })
+        | Allowed::Close => Ok(None),
+    }
 }
 
-/// An equal key.
-pub fn copy_key(key: &LockKey) -> Result<LockKey, AllocError>
-    ensures { IfOk result (λ copy. copy ≡ key.now) }
+/// A file that is held beside others who read it.
+fn beside(node: NodeId) -> Hold
+    ensures { result ≡ record { key = lock_keys.Node node; mode = Shared } }
 {
-    match key {
-        LockKey::Node(node) => Ok(LockKey::Node(*node)),
-        LockKey::Slot { folder, name } => Ok(LockKey::Slot {
-            folder: *folder,
-            name: name.copy()?,
-        }),
+    Hold {
+        key: LockKey::Node(node),
+        mode: Mode::Shared,
     }
+}
+
+/// A key that is held alone.
+fn alone(key: &LockKey) -> Result<Hold, AllocError>
+    ensures { IfOk result (λ hold. hold ≡ record { key = key.now; mode = Exclusive }) }
+{
+    Ok(Hold {
+        key: key.copy()?,
+        mode: Mode::Exclusive,
+    })
 }

@@ -21,26 +21,13 @@ pub struct View<'a> {
 }
 
 impl<'a> Model for View<'a> {
-    ghost use Rattle.std.specs.Prelude.{[]};
     ghost use Rattle.nf_words.specs.State.{State};
+    ghost use Rattle.nf_decide.specs.Rows.{tables_in};
 
     ghost Value = { State };
 
     ghost view = { λ v. record {
-      tables = record {
-        meta = v.meta.now;
-        users = v.people.now.users;
-        tokens = v.people.now.tokens;
-        groups = v.people.now.groups;
-        members = v.people.now.members;
-        nodes = v.tree.now.rows;
-        shares = [];
-        mounts = [];
-        versions = [];
-        items = [];
-        uploads = [];
-        chunks = [];
-      };
+      tables = tables_in v.meta.now v.people.now v.tree.now.rows;
       tickets = v.tickets.now;
       seen = v.seen;
     } };
@@ -66,6 +53,12 @@ impl<'a> View<'a> {
         ensures { result.now.rows ≡ self.now.tables.nodes }
     {
         self.tree
+    }
+
+    pub(crate) fn tickets(&self) -> &[Ticket]
+        ensures { result.now ≡ self.now.tickets }
+    {
+        self.tickets
     }
 
     /// How many pieces the rows name, with repeats.

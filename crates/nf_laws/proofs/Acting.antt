@@ -1,5 +1,5 @@
 -- What a DELETE, a MKCOL and a PUT change.
-use Rattle.std.proofs.Common.{is_none, max, ℕ, ◌+◌, ◌-◌, ◌==◌, ◌&&◌, ◌≡◌, ◌<◌, ◌≤◌, Bool, true, false, not, List, [], ◌∷◌, ◌++◌, Option, None, Some, Result, Ok, if◌then◌else◌, length, get_or, map, slice_get, unwrap_or, inl, inr, refl, sym, ap, subst, ◌∙◌, arith, length-append}
+use Rattle.std.proofs.Common.{max, ℕ, ◌+◌, ◌-◌, ◌==◌, ◌&&◌, ◌≡◌, ◌<◌, ◌≤◌, Bool, true, false, not, List, [], ◌∷◌, ◌++◌, Option, None, Some, Result, Ok, if◌then◌else◌, length, get_or, map, slice_get, unwrap_or, inl, inr, refl, sym, ap, subst, ◌∙◌, arith, length-append}
 use Rattle.std.specs.Prelude.{IsOk}
 use Rattle.std.proofs.Math.Seq.{get_or-append_seam}
 use Rattle.std.proofs.lemmas.Bool.{and_parts, cases_Bool, eqb-true, false_from_ne_true, ne_eqb, not-true}
@@ -33,12 +33,12 @@ use Rattle.nf_laws.specs.Acts.{DeletesKeep, FoldersAreMade, IsAdded, IsDeleted, 
 use Rattle.nf_laws.specs.Reads.{LeadsToKey}
 use Rattle.nf_laws.specs.Walks.{LeadsToFree}
 use Rattle.nf_words.proofs.Bodies.{content_decides}
-use Rattle.nf_words.proofs.Ends.{known_change}
+use Rattle.nf_words.proofs.Ends.{known_change, goal_held}
 use Rattle.nf_words.proofs.Fits.{newest, put_found}
 use Rattle.nf_words.proofs.Found.{free_known}
 use Rattle.nf_words.proofs.Known.{Known}
-use Rattle.nf_words.proofs.Passing.{both_none, call_passes, if_none, not_refused}
-use Rattle.nf_words.specs.Prelude.{access_of, actor_of, allowed_of, answered_by, AreSound, asker_of, blob_after, blob_for, Call, call_decision, call_of, changed, content_in, decision_of, end_refusal, ends_at, exists_rule, found, key_lost, last_name, lost, makes, MayAsk, MayEnd, new_node, place_rule, refilled, refusal_of, removed, root_of, step, stored_at, stores, taken, told}
+use Rattle.nf_words.proofs.Passing.{call_passes}
+use Rattle.nf_words.specs.Prelude.{access_of, actor_of, allowed_of, answered_by, AreSound, asker_of, blob_after, blob_for, Call, call_decision, call_of, changed, content_in, decision_of, end_refusal, ends_at, exists_rule, found, IsHeld, IsStorable, last_name, lost, makes, MayAsk, MayEnd, new_node, place_rule, refilled, refusal_of, removed, root_of, step, stored_at, stores, taken, told}
 use Rattle.nf_words.specs.declared.answer.Allowed.{Allowed}
 use Rattle.nf_words.specs.declared.answer.Allowed.TheVariants as allowed
 use Rattle.nf_words.specs.declared.answer.Denial.{Denial}
@@ -52,6 +52,7 @@ use Rattle.nf_words.specs.declared.history.Outcome.TheVariants.{Body}
 use Rattle.nf_words.specs.declared.request.Making.TheVariants as making
 use Rattle.nf_words.specs.declared.request.Spot.{Spot}
 use Rattle.nf_words.specs.declared.request.Wanted.TheVariants as wanted
+use Rattle.std.specs.Option.{IfSome}
 
 -- ---- a call that isn't refused
 
@@ -295,24 +296,19 @@ over_rows t now node content blob row sound there file stored counts =
           moment = inr refl;
         }
 
-pub put_rows : (t : Tables) (now : ℕ) (who : Option ℕ) (key : LockKey) (digest : List ℕ) (size : ℕ) → AreSound t → key_lost t key ≡ None
+pub put_rows : (t : Tables) (now : ℕ) (who : Option ℕ) (key : LockKey) (digest : List ℕ) (size : ℕ) → AreSound t → IsHeld t key
     → Known t now who (stored_at t now key digest size)
     → IsPut t (changed t now (stored_at t now key digest size)) now key (content_in (blob_for t.meta.next_blob size) digest size)
 put_rows t now who (Node node) digest size sound there known =
     let blob = blob_for t.meta.next_blob size in
     let content = content_in blob digest size in
-    let file = holds_some (λ row. not (is_folder_kind row.kind)) (node_row t.nodes node) (if_none _ _ there) in
+    let file = holds_some (λ row. not (is_folder_kind row.kind)) (node_row t.nodes node) there in
     subst (λ (o : Option NodeRow). IsRefilled t (changed t now (allowed.Change (refilled o now content) blob Done)) now node content) (sym file.1)
     (over_rows t now node content blob file.0 sound file.1 (not-true (is_folder_kind file.0.kind) file.2)
     (λ none. known.stored (ap (λ (o : Option NodeRow). refilled o now content) file.1 ∙ none)) (blobs_counted t.meta.next_blob size digest))
 put_rows t now who (Slot folder name) digest size sound there known =
-    let free = and_parts _ _ (if_none _ _ there) in
-    added_rows t now folder name File (content_in (blob_for t.meta.next_blob size) digest size) (blob_for t.meta.next_blob size) sound free.0
-    (no_child (child_of t.nodes folder name) free.1) (blobs_counted t.meta.next_blob size digest)
-  where
-    no_child : (o : Option ℕ) → is_none o ≡ true → o ≡ None
-    no_child None is = refl
-    no_child (Some child) is = absurd (cc)
+    added_rows t now folder name File (content_in (blob_for t.meta.next_blob size) digest size) (blob_for t.meta.next_blob size) sound there.0 there.1
+    (blobs_counted t.meta.next_blob size digest)
 
 pub puts_keep : PutsKeep
 puts_keep s seat now by key digest size sound granted ok =
@@ -324,6 +320,6 @@ puts_keep s seat now by key digest size sound granted ok =
     none_refused (end_refusal t key size) act (subst (λ (d : Result Allowed Denial). IsOk (answered_by d)) goes ok) in
     let may : MayAsk s seat event = subst (λ (o : Option Goal). MayEnd o (Body digest size)) (sym granted) refl in
     let known = known_change s seat now event act sound may (goes ∙ none) in
-    let there = (both_none (key_lost t key) _ (not_refused (end_refusal t key size) act act none).0).0 in
+    let there = subst (λ (o : Option Goal). IfSome o (IsStorable t)) granted (goal_held s seat sound) in
     subst (λ (made : Tables). IsPut t made now key (content_in (blob_for t.meta.next_blob size) digest size))
     (sym (step_changed s seat now event act (goes ∙ none))) (put_rows t now (actor_of s seat event) key digest size sound.rows there known)

@@ -30,14 +30,14 @@ use Rattle.nf_laws.proofs.Upwards.{climbs_is_under}
 use Rattle.nf_laws.specs.Acts.{IsPut}
 use Rattle.nf_laws.specs.Access.{ChangesWhatMayBeChanged, Follows, IsAllowed, IsNeeded, MayDo, Owns, is_moved, is_updated, needs_of, needs_of_goal, seeker_at, seeker_of_goal}
 use Rattle.nf_words.proofs.Begins.{places_at}
-use Rattle.nf_words.proofs.Ends.{goal_sound, known_change}
+use Rattle.nf_words.proofs.Ends.{goal_sound, known_change, goal_held}
 use Rattle.nf_words.proofs.Fits.{KnownPath}
 use Rattle.nf_words.proofs.Found.{free_known}
 use Rattle.nf_words.proofs.Known.{Known, KnownTransfer}
-use Rattle.nf_words.proofs.Passing.{both_none, call_passes, no_fault, no_limit, not_refused}
+use Rattle.nf_words.proofs.Passing.{call_passes, no_fault, no_limit, not_refused}
 use Rattle.nf_words.proofs.Starts.{has_row, path_known, row_of_caller}
 use Rattle.nf_words.proofs.Transfers.{copies_known, moved_known, transfer_parts}
-use Rattle.nf_words.specs.Prelude.{access_of, actor_of, AreSound, asked_of, blob_for, by_of, Call, call_of, caller_row, changed, content_in, copied, copies_to, copy_limit, decision_of, deleted, end_refusal, ends_at, folder_at, found, given, goal_at, is_within, IsGoalSound, IsSound, joined, key_lost, last_name, limit_rule, limited, listing_of, made_folder, MayAsk, MayEnd, MayStoreAt, move_limit, moved, Need, needed, needed_by, needs, needs_at, needs_between, needs_in, node_found, node_of_key, removed, root_of, seeker_of, served, State, stored, stored_at, target_rule, told, transfer_of, transferred, unfit, unfit_between, user_of, Way, way_of}
+use Rattle.nf_words.specs.Prelude.{access_of, actor_of, AreSound, asked_of, blob_for, by_of, Call, call_of, caller_row, changed, content_in, copied, copies_to, copy_limit, decision_of, deleted, end_refusal, ends_at, folder_at, found, given, goal_at, is_within, IsGoalSound, IsSound, IsStorable, joined, last_name, limit_rule, limited, listing_of, made_folder, MayAsk, MayEnd, MayStoreAt, move_limit, moved, Need, needed, needed_by, needs, needs_at, needs_between, needs_in, node_found, node_of_key, removed, root_of, seeker_of, served, State, stored, stored_at, target_rule, told, transfer_of, transferred, unfit, unfit_between, user_of, Way, way_of}
 use Rattle.nf_words.specs.Sound.{MayStoreBy}
 use Rattle.nf_words.specs.declared.answer.Allowed.{Allowed}
 use Rattle.nf_words.specs.declared.answer.Allowed.TheVariants as allowed
@@ -379,22 +379,21 @@ AllAllowed s now acts needs made =
     (node : ℕ) → node_row made.nodes node ≢ node_row s.tables.nodes node → IsAllowed s now acts needs made.nodes node
 
 end_allowed : (s : State) (now : ℕ) (outcome : Outcome) (who : Option ℕ) (goal : Option Goal) (act : Allowed) → AreSound s.tables
-    → IfSome goal (IsGoalSound s.tables) → MayEnd goal outcome → ends_at (access_of s) s.tables now outcome goal ≡ Ok act
+    → IfSome goal (IsGoalSound s.tables) → IfSome goal (IsStorable s.tables) → MayEnd goal outcome → ends_at (access_of s) s.tables now outcome goal ≡ Ok act
     → Known s.tables now who act
     → AllAllowed s now (option_and_then seeker_of_goal goal) (option_map_or needs_of_goal goal []) (changed s.tables now act)
-end_allowed s now outcome who None act sound of may is known = absurd may
-end_allowed s now (Body digest size) who (Some (Serve content)) act sound of may is known = absurd may
-end_allowed s now (Body digest size) who (Some (Store by key wanted)) act sound of may is known =
+end_allowed s now outcome who None act sound of held may is known = absurd may
+end_allowed s now (Body digest size) who (Some (Serve content)) act sound of held may is known = absurd may
+end_allowed s now (Body digest size) who (Some (Store by key wanted)) act sound of held may is known =
     let t = s.tables in
     let stores = stored_at t now key digest size in
     let h = not_refused (end_refusal t key size) stores act is in
-    let there = (both_none (key_lost t key) _ h.0).0 in
     let content = content_in (blob_for t.meta.next_blob size) digest size in
-    let put = put_rows t now who key digest size sound there (subst (λ (a : Allowed). Known t now who a) (sym h.1) known) in
+    let put = put_rows t now who key digest size sound held (subst (λ (a : Allowed). Known t now who a) (sym h.1) known) in
     allowed_so s now (Some by.seeker) by.seeker (needed_by by key) (changed t now act) refl
     (subst (λ (a : Allowed). Fits t by.seeker (needed_by by key) (changed t now a)) h.1
     (put_fits t (changed t now stores) now by key content of.1 put))
-end_allowed s now outcome who (Some goal) act sound of may is known =
+end_allowed s now outcome who (Some goal) act sound of held may is known =
     let closes : allowed.Close ≡ act = cc in
     subst (λ (a : Allowed). AllAllowed s now (seeker_of_goal goal) (needs_of_goal goal) (changed s.tables now a)) closes
     (λ node differs. absurd (differs refl))
@@ -411,7 +410,7 @@ act_allowed s seat now (Begin words request) act sound may is =
     allowed_so s now (Some (seeker_of call)) (User row.0.id) (needed call) (changed s.tables now act) (rw row.1 refl)
     (subst (λ (a : Allowed). Fits s.tables (User row.0.id) (needed call) (changed s.tables now a)) passes.1 fits)
 act_allowed s seat now (End outcome) act sound may is =
-    end_allowed s now outcome (actor_of s seat (End outcome)) (goal_at s seat) act sound.rows (goal_sound s seat sound) may is
+    end_allowed s now outcome (actor_of s seat (End outcome)) (goal_at s seat) act sound.rows (goal_sound s seat sound) (goal_held s seat sound) may is
     (known_change s seat now (End outcome) act sound may is)
 
 pub changes_allowed : ChangesWhatMayBeChanged

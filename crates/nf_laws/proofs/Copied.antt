@@ -53,7 +53,7 @@ walk_first rows top = (refl, omega arith)
 -- ---- copies
 
 module _ (t : Tables) (now : ℕ) (transfer : Transfer) (name : List ℕ) (rows : List NodeRow) (mirrors : Mirrors t now transfer name rows) where
-  copy_at : (k : ℕ) (d : NodeRow) → k < length rows → IsCopyOf t now transfer name k (get_or rows k d)
+  pub copy_at : (k : ℕ) (d : NodeRow) → k < length rows → IsCopyOf t now transfer name k (get_or rows k d)
   copy_at k d within = mirrors.each k (get_or rows k d) (slice_get-get_or rows k d within)
 
   pub copies_owned : All (λ (copy : NodeRow). copy.owner ≡ owner_of t.nodes transfer.folder) rows

@@ -9,8 +9,11 @@ pub mod Copied
 pub mod Counters
 pub mod Entries
 pub mod Following
+pub mod Free
 pub mod Gone
+pub mod Held
 pub mod Lists
+pub mod Locking
 pub mod Mirrored
 pub mod Moved
 pub mod Numbers

@@ -163,32 +163,33 @@ lean_moves t change changes rising nodes lean = absurd nodes
 
 -- what is known of a list's changes, in the tables before it
 module _ (first : Tables) (who blob : Option ℕ) where
-  -- what a new node keeps, and another content, each change keeps
-  row_has : (P : Tables → Type 0) (t : Tables) (change : Change) → Rising t.nodes → KnownRow first who blob t change
-      → ((row : NodeRow) → KnownBorn first who blob t row → P (with_born t row))
-      → ((row : NodeRow) → KnownFilled first who blob t row → P (with_filled t row)) → P (made t change)
-  row_has P t (Put (Node row)) rising known born filled =
+  -- what a new node keeps, and another content, each change keeps; it may have a further property
+  row_has : (P : Tables → Type 0) (Q : Change → Type 0) (t : Tables) (change : Change) → Rising t.nodes → KnownRow first who blob t change
+      → ((row : NodeRow) → KnownBorn first who blob t row → Q (Put (Node row)) → P (with_born t row))
+      → ((row : NodeRow) → KnownFilled first who blob t row → Q (Put (Node row)) → P (with_filled t row)) → Q change → P (made t change)
+  row_has P Q t (Put (Node row)) rising known born filled has =
       elim known [
-        | inl it ↦ subst P (sym (born_made t row it.born)) (born row it)
-        | inr it ↦ subst P (sym (filled_made t row rising it.filled)) (filled row it)
+        | inl it ↦ subst P (sym (born_made t row it.born)) (born row it has)
+        | inr it ↦ subst P (sym (filled_made t row rising it.filled)) (filled row it has)
       ]
-  row_has P t change rising known born filled = absurd known
+  row_has P Q t change rising known born filled has = absurd known
 
   pub rising_row : (t : Tables) (change : Change) → Rising t.nodes → KnownRow first who blob t change → Rising (made t change).nodes
   rising_row t change rising known =
-      row_has (λ (u : Tables). Rising u.nodes) t change rising known
-      (λ row it. all_pairs_push (λ (a b : NodeRow). a.id < b.id) t.nodes row rising it.born.newest)
-      (λ row it. rising_with t.nodes row.id (filled row.content row.changed) (λ r. refl) rising)
+      row_has (λ (u : Tables). Rising u.nodes) (λ change. Unit {0}) t change rising known
+      (λ row it any. all_pairs_push (λ (a b : NodeRow). a.id < b.id) t.nodes row rising it.born.newest)
+      (λ row it any. rising_with t.nodes row.id (filled row.content row.changed) (λ r. refl) rising) tt
 
   -- and all of them
-  rows_have : (P : Tables → Type 0)
-      → ((t : Tables) (row : NodeRow) → P t → KnownBorn first who blob t row → P (with_born t row))
-      → ((t : Tables) (row : NodeRow) → P t → KnownFilled first who blob t row → P (with_filled t row))
-      → (t : Tables) (changes : List Change) → Rising t.nodes → P t → KnownRows first who blob t changes → P (put_all t changes)
-  rows_have P born filled t [] rising has known = has
-  rows_have P born filled t (change ∷ changes) rising has known =
-      rows_have P born filled (made t change) changes (rising_row t change rising known.0)
-      (row_has P t change rising known.0 (λ row it. born t row has it) (λ row it. filled t row has it)) known.1
+  rows_have : (P : Tables → Type 0) (Q : Change → Type 0)
+      → ((t : Tables) (row : NodeRow) → P t → KnownBorn first who blob t row → Q (Put (Node row)) → P (with_born t row))
+      → ((t : Tables) (row : NodeRow) → P t → KnownFilled first who blob t row → Q (Put (Node row)) → P (with_filled t row))
+      → (t : Tables) (changes : List Change) → Rising t.nodes → P t → KnownRows first who blob t changes → All Q changes → P (put_all t changes)
+  rows_have P Q born filled t [] rising has known each = has
+  rows_have P Q born filled t (change ∷ changes) rising has known each =
+      rows_have P Q born filled (made t change) changes (rising_row t change rising known.0)
+      (row_has P Q t change rising known.0 (λ row it is. born t row has it is) (λ row it is. filled t row has it is) (All-head Q change changes each))
+      known.1 (All-tail Q change changes each)
 
   -- of which none is of another kind
   pub only_nodes : (t : Tables) (changes : List Change) → KnownRows first who blob t changes → AreNodes changes
@@ -196,15 +197,26 @@ module _ (first : Tables) (who blob : Option ℕ) where
   only_nodes t (Put (Node row) ∷ changes) known = only_nodes (made t (Put (Node row))) changes known.1
   only_nodes t (change ∷ changes) known = absurd known.0
 
--- what the tables with raised counters have, and each change keeps, the tables have after them
+-- what the tables with raised counters have, and each change of some further property keeps, the tables have after them
+pub changes_all : (P : Tables → Type 0) (Q : Change → Type 0) (t : Tables) (now : ℕ) (who : Option ℕ) (changes : List Change) (blob : Option ℕ)
+    (report : Report) → Rising t.nodes → KnownChange t now who changes blob → All Q changes
+    → ((u : Tables) (row : NodeRow) → P u → KnownBorn t who blob u row → Q (Put (Node row)) → P (with_born u row))
+    → ((u : Tables) (row : NodeRow) → P u → KnownFilled t who blob u row → Q (Put (Node row)) → P (with_filled u row))
+    → P (raised t now changes blob) → P (altered t now (allowed.Change changes blob report))
+changes_all P Q t now who changes blob report rising known each born filled has =
+    let up = raised t now changes blob in
+    subst P (meta_first t up.meta changes (only_nodes t who blob up changes known.rows))
+    (rows_have t who blob P Q born filled up changes rising has known.rows each)
+
+-- where they have none
 pub changes_have : (P : Tables → Type 0) (t : Tables) (now : ℕ) (who : Option ℕ) (changes : List Change) (blob : Option ℕ) (report : Report)
     → Rising t.nodes → KnownChange t now who changes blob
     → ((u : Tables) (row : NodeRow) → P u → KnownBorn t who blob u row → P (with_born u row))
     → ((u : Tables) (row : NodeRow) → P u → KnownFilled t who blob u row → P (with_filled u row))
     → P (raised t now changes blob) → P (altered t now (allowed.Change changes blob report))
 changes_have P t now who changes blob report rising known born filled has =
-    let up = raised t now changes blob in
-    subst P (meta_first t up.meta changes (only_nodes t who blob up changes known.rows)) (rows_have t who blob P born filled up changes rising has known.rows)
+    changes_all P (λ change. Unit {0}) t now who changes blob report rising known (λ k d within. tt)
+    (λ u row h it any. born u row h it) (λ u row h it any. filled u row h it) has
 
 -- so they stay sound
 pub changes_sound : (t : Tables) (now : ℕ) (who : Option ℕ) (changes : List Change) (blob : Option ℕ) (report : Report)

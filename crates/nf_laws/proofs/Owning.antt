@@ -3,7 +3,7 @@ use Rattle.std.proofs.Common.{if◌then◌else◌, ℕ, ◌==◌, ◌≡◌, ◌
 use Rattle.std.specs.Prelude.{IsSome, is_some}
 use Rattle.std.specs.List.{All, filter_map}
 use Rattle.std.specs.Option.{option_and_then, option_map_or}
-use Rattle.std.proofs.lemmas.Bool.{cond_both, eq-eqb, not-false}
+use Rattle.std.proofs.lemmas.Bool.{cond_both, eq-eqb, not-false, both_ways}
 use Rattle.std.proofs.lemmas.List.{append-nil}
 use Rattle.std.proofs.lemmas.List.Elements.{All-filter, All-head, All-map, All-tail, filter-append}
 use Rattle.std.proofs.lemmas.Option.{same_Some}
@@ -29,7 +29,7 @@ use Rattle.nf_laws.proofs.Reading.{granted, shows}
 use Rattle.nf_laws.proofs.Rows.{folder_there, found_is, row_id, stamp}
 use Rattle.nf_laws.proofs.Upwards.{owners_there}
 use Rattle.nf_laws.specs.Owners.{ChangesOnlyOwn, ChangesOwn, IsFound, ListsAll, ListsOwn, OwnIsListed, OwnIsServed, ServesOwn, nodes_of_others}
-use Rattle.nf_laws.specs.Reads.{IsWellAsked}
+use Rattle.nf_laws.specs.Reads.{IsWellAsked, IsFreeToRead}
 use Rattle.nf_words.proofs.Begins.{call_known, places_at}
 use Rattle.nf_words.proofs.Fits.{KnownBorn, KnownChange, KnownFilled, KnownPath}
 use Rattle.nf_words.proofs.Known.{Known, KnownCopies}
@@ -47,6 +47,7 @@ use Rattle.nf_words.specs.declared.request.Spot.{Spot}
 use Rattle.nf_words.specs.declared.request.Wanted.{Wanted}
 use Rattle.nf_words.specs.declared.request.Wanted.TheVariants.{Get}
 use Rattle.nf_words.proofs.Steps.{ok_reply, put_grants_nothing, reports_nothing}
+use Rattle.nf_laws.proofs.Free.{unlocked_free}
 
 -- ---- what is served
 
@@ -153,7 +154,13 @@ serves_own s seat now words request content sound may is =
     let at = get_at s.tables (found call spot.0) get.0 content spot.2 in
     let of = of_caller call spot.0 get.0 (At get.0) sound.rows known.path (well_asked call passes.0) spot.1 at.0 in
     let there : node_row s.tables.nodes get.0 ≡ Some of.0 = ap (node_row s.tables.nodes) (sym of.2) ∙ of.1.there in
-    record { row = of.0; found = of.1; file = rw there at known.no_folder; sent = sym (at.1 ∙ rw there refl) }
+    record {
+      row = of.0;
+      found = of.1;
+      file = rw there at known.no_folder;
+      free = subst (IsFreeToRead s seat) (sym of.2) (unlocked_free call spot.0 get.0 spot.1 at.0 passes.0.locked known.no_folder);
+      sent = sym (at.1 ∙ rw there refl);
+    }
 
 pub lists_own : ListsOwn
 lists_own s seat now words request listing sound may is =
@@ -181,14 +188,15 @@ at_found call row sound is = leads_found call.state.tables 0 (root_of call) is.s
 pub own_served : OwnIsServed
 own_served s seat now words request content sound is =
     let call = call_of s seat now words request in
-    granted call is.found.spot is.row.id is.row is.found.asked (at_found call is.row sound.rows is.found) is.found.there is.file is.found.well
+    granted call is.found.spot is.row.id is.row is.found.asked (at_found call is.row sound.rows is.found) is.found.there is.file is.found.well is.free
     ∙ ap (λ (c : List Piece). answered_by (Ok (allowed.Get is.row.id c))) is.sent
 
 pub own_listed : OwnIsListed
 own_listed s seat now words request listing sound is =
     let call = call_of s seat now words request in
     let folder : is_folder s.tables.nodes is.row.id ≡ true = rw is.found.there is.folder in
-    ap answered_by (shows call is.found.spot is.row.id is.found.asked (at_found call is.row sound.rows is.found) is.found.well)
+    ap answered_by (shows call is.found.spot is.row.id is.found.asked (at_found call is.row sound.rows is.found) is.found.well
+    (λ file. absurd (both_ways (is_folder s.tables.nodes is.row.id) file folder)))
     ∙ rw folder (ap (λ (lines : List ListingLine). answered_by (Ok (allowed.List lines))) (sym is.listed))
 
 -- ---- each node in a folder has a line

@@ -3,7 +3,7 @@ use Rattle.std.proofs.Common.{ℕ, ◌==◌, ◌≡◌, false, true, List, Optio
 use Rattle.std.specs.List.{list_any}
 use Rattle.std.specs.Option.{option_map_or}
 use Rattle.std.proofs.Math.Bool.{or-false}
-use Rattle.std.proofs.lemmas.Bool.{eq-eqb, eqb-true}
+use Rattle.std.proofs.lemmas.Bool.{eq-eqb, eqb-true, both_ways}
 use Rattle.std.proofs.lemmas.Option.{same_Some}
 use Rattle.nf_base.specs.declared.content.Piece.{Piece}
 use Rattle.nf_base.specs.declared.perms.Act.{Act}
@@ -81,7 +81,7 @@ pub serves_readable : ServesWhatMayBeRead
 serves_readable s seat now words request content sound may is =
     let own = serves_own s seat now words request content sound may is in
     let found = readable (call_of s seat now words request) own.row may own.found in
-    record { row = own.row; readable = found; file = own.file; sent = own.sent }
+    record { row = own.row; readable = found; file = own.file; free = own.free; sent = own.sent }
 
 pub lists_readable : ListsWhatMayBeRead
 lists_readable s seat now words request listing sound may is =
@@ -97,7 +97,7 @@ pub readable_served : WhatMayBeReadIsServed
 readable_served s seat now words request content sound is =
     let call = call_of s seat now words request in
     let it = is.readable in
-    granted call it.spot is.row.id is.row it.asked (at_readable call is.row sound.rows it) it.there is.file it.well
+    granted call it.spot is.row.id is.row it.asked (at_readable call is.row sound.rows it) it.there is.file it.well is.free
     ∙ ap (λ (c : List Piece). answered_by (Ok (allowed.Get is.row.id c))) is.sent
 
 pub readable_listed : WhatMayBeReadIsListed
@@ -105,5 +105,6 @@ readable_listed s seat now words request listing sound is =
     let call = call_of s seat now words request in
     let it = is.readable in
     let folder : is_folder s.tables.nodes is.row.id ≡ true = rw it.there is.folder in
-    ap answered_by (shows call it.spot is.row.id it.asked (at_readable call is.row sound.rows it) it.well)
+    ap answered_by (shows call it.spot is.row.id it.asked (at_readable call is.row sound.rows it) it.well
+    (λ file. absurd (both_ways (is_folder s.tables.nodes is.row.id) file folder)))
     ∙ rw folder (ap (λ (lines : List ListingLine). answered_by (Ok (allowed.List lines))) (sym is.listed))

@@ -1,7 +1,7 @@
 -- What a PUT stored is what a later GET of the path is granted.
-use Rattle.std.proofs.Common.{ℕ, suc, ◌+◌, ◌==◌, ◌&&◌, ◌≡◌, true, false, not, List, [], ◌∷◌, ◌++◌, Option, None, Some, Result, Ok, length, take, option_map, refl, sym, ap, subst, ◌∙◌, arith, le_refl}
+use Rattle.std.proofs.Common.{ℕ, suc, ◌+◌, ◌==◌, ◌&&◌, ◌≡◌, true, false, not, List, [], ◌∷◌, ◌++◌, Option, None, Some, Result, Ok, length, take, option_map, refl, sym, ap, subst, ◌∙◌, arith, le_refl, ◌≢◌, ◌<◌, get_or}
 use Rattle.std.specs.Prelude.{IsOk}
-use Rattle.std.specs.Option.{option_map_or}
+use Rattle.std.specs.Option.{option_map_or, IfSome}
 use Rattle.std.proofs.Math.Seq.{take-length}
 use Rattle.std.proofs.lemmas.Bool.{and_parts, cond_both, false≢true, not-true}
 use Rattle.nf_base.specs.Content.{content_eq}
@@ -23,16 +23,16 @@ use Rattle.nf_laws.proofs.Puts.{put_changed, put_new}
 use Rattle.nf_laws.proofs.Replaced.{kept_replaced}
 use Rattle.nf_laws.proofs.Rows.{AreKept, folder_kept, kept_joined, row_id}
 use Rattle.nf_laws.proofs.Stays as states
-use Rattle.nf_laws.specs.Reads.{IsStored, IsWellAsked, LeadsToKey, PathStays, StoredIsRead}
+use Rattle.nf_laws.specs.Reads.{IsStored, IsWellAsked, LeadsToKey, PathStays, StoredIsRead, IsFreeToRead}
 use Rattle.nf_words.proofs.Bodies.{content_decides}
 use Rattle.nf_words.proofs.Fits.{newest}
 use Rattle.nf_words.proofs.Orders.{none_of}
-use Rattle.nf_words.proofs.Passing.{Passes, both_none, if_none, in_order, not_refused}
-use Rattle.nf_words.specs.Prelude.{access_of, actor_of, after, after_mark, allowed_of, answered_by, AreSound, blob_for, Call, call_decision, call_of, changed, content_in, decision_of, end_refusal, ends_at, exists_rule, found, IsSound, key_lost, limit_rule, makes, new_node, overwrite_rule, place_rule, refilled, replay, rules, shown, State, stored_at, stores, target_rule, unless_refused}
+use Rattle.nf_words.proofs.Passing.{Passes, in_order}
+use Rattle.nf_words.specs.Prelude.{access_of, actor_of, after, after_mark, allowed_of, answered_by, AreSound, blob_for, Call, call_decision, call_of, changed, content_in, decision_of, end_refusal, ends_at, exists_rule, found, IsSound, IsHeld, IsStorable, limit_rule, makes, new_node, overwrite_rule, place_rule, refilled, replay, rules, shown, State, stored_at, stores, target_rule, unless_refused, AreApartHolds, HoldsFor, IsTicketSound, step, ticket_of, without_ticket}
 use Rattle.nf_words.specs.declared.answer.Allowed.{Allowed}
 use Rattle.nf_words.specs.declared.answer.Allowed.TheVariants as allowed
 use Rattle.nf_words.specs.declared.answer.Denial.{Denial}
-use Rattle.nf_words.specs.declared.answer.Goal.TheVariants.{Serve}
+use Rattle.nf_words.specs.declared.answer.Goal.TheVariants.{Serve, Store}
 use Rattle.nf_words.specs.declared.answer.LockKey.{LockKey}
 use Rattle.nf_words.specs.declared.answer.LockKey.TheVariants.{Node, Slot}
 use Rattle.nf_words.specs.declared.answer.Reply.TheVariants.{Granted}
@@ -42,6 +42,20 @@ use Rattle.nf_words.specs.declared.history.Mark.{Mark}
 use Rattle.nf_words.specs.declared.history.Outcome.TheVariants.{Body}
 use Rattle.nf_words.specs.declared.request.Spot.{Spot}
 use Rattle.nf_words.specs.declared.request.Wanted.TheVariants.{Get}
+use Rattle.nf_words.proofs.Ends.{goal_held}
+use Rattle.nf_laws.proofs.Free.{free_unlocked}
+use Rattle.nf_words.specs.declared.answer.Goal.{Goal}
+use Rattle.nf_laws.proofs.Held.{held_given}
+use Rattle.nf_words.proofs.Steps.{end_tickets}
+use Rattle.nf_words.proofs.Found.{found_has}
+use Rattle.nf_words.proofs.Spared.{found_apart, holds_turned}
+use Rattle.nf_words.specs.declared.answer.Hold.{Hold}
+use Rattle.nf_words.specs.declared.answer.Mode.TheVariants.{Exclusive}
+use Rattle.nf_words.specs.declared.history.Event.{Event}
+use Rattle.nf_words.specs.declared.history.Ticket.{Ticket}
+use Rattle.std.proofs.lemmas.List.Elements.{All-filter, filter_passes}
+use Rattle.std.proofs.lemmas.Option.{none-some, same_Some}
+use Rattle.std.specs.List.{All}
 
 -- ---- paths that stay
 
@@ -78,9 +92,8 @@ leads_stay before behind _ _ _ (leads_on at name names child node folds there pl
 
 -- ---- what is stored
 
--- a path leads to a file of that content
-record HasFile (rows : List NodeRow) (root : ℕ) (path : List (List ℕ)) (content : List Piece) : Type 0 where
-  node : ℕ
+-- a path leads to a file of that number and content
+record HasFile (rows : List NodeRow) (root : ℕ) (path : List (List ℕ)) (content : List Piece) (node : ℕ) : Type 0 where
   led : Leads rows root path node
   row : NodeRow
   there : node_row rows node ≡ Some row
@@ -89,15 +102,14 @@ record HasFile (rows : List NodeRow) (root : ℕ) (path : List (List ℕ)) (cont
 
 over_file : (t : Tables) (now node root : ℕ) (path : List (List ℕ)) (content : List Piece) (blob : Option ℕ) (who : Option ℕ) (old : NodeRow)
     → AreSound t → node_row t.nodes node ≡ Some old → is_folder_kind old.kind ≡ false → Leads t.nodes root path node
-    → HasFile (changed t now (allowed.Change (refilled (Some old) now content) blob Done)).nodes root path content
+    → HasFile (changed t now (allowed.Change (refilled (Some old) now content) blob Done)).nodes root path content node
 over_file t now node root path content blob who old sound there file led =
-    let HasIt : List Change → Type 0 = λ changes. HasFile (changed t now (allowed.Change changes blob Done)).nodes root path content in
+    let HasIt : List Change → Type 0 = λ changes. HasFile (changed t now (allowed.Change changes blob Done)).nodes root path content node in
     let change = filled content now in
     let after : List NodeRow = with_node t.nodes node change in
     let put : put node_key (change old) t.nodes ≡ after = put_changed t.nodes node change old refl sound.rising there in
     cond_both (content_eq old.content content && old.changed == now) [] (Put (rows.Node (change old)) ∷ []) HasIt
     (λ same. record {
-      node = node;
       led = led;
       row = old;
       there = there;
@@ -105,9 +117,8 @@ over_file t now node root path content blob who old sound there file led =
       filled = (content_decides old.content content).0 (and_parts (content_eq old.content content) (old.changed == now) same).0;
     })
     (λ other.
-    subst (λ (nodes : List NodeRow). HasFile nodes root path content) (sym put)
+    subst (λ (nodes : List NodeRow). HasFile nodes root path content node) (sym put)
     (record {
-      node = node;
       led = leads_kept t.nodes after root path node (kept_replaced t.nodes now node content) led;
       row = change old;
       there = row_itself t.nodes node change (λ row. refl) ∙ ap (option_map change) there;
@@ -117,14 +128,13 @@ over_file t now node root path content blob who old sound there file led =
 
 new_file : (t : Tables) (now folder root : ℕ) (name : List ℕ) (front : List (List ℕ)) (content : List Piece) (blob : Option ℕ) → AreSound t
     → is_folder t.nodes folder ≡ true → Leads t.nodes root front folder
-    → HasFile (changed t now (makes (new_node t now folder name File content) blob)).nodes root (front ++ name ∷ []) content
+    → HasFile (changed t now (makes (new_node t now folder name File content) blob)).nodes root (front ++ name ∷ []) content t.meta.next_node
 new_file t now folder root name front content blob sound folds led =
     let row = new_node t now folder name File content in
     let behind : List NodeRow = t.nodes ++ row ∷ [] in
     let kept = kept_joined t.nodes (row ∷ []) in
-    subst (λ (nodes : List NodeRow). HasFile nodes root (front ++ name ∷ []) content) (sym (put_new row t.nodes (newest t sound)))
+    subst (λ (nodes : List NodeRow). HasFile nodes root (front ++ name ∷ []) content t.meta.next_node) (sym (put_new row t.nodes (newest t sound)))
     (record {
-      node = row.id;
       row = row;
       led = leads_more behind root front folder row (leads_kept t.nodes behind root front folder kept led)
           (folder_kept t.nodes behind folder kept folds).0 (new_there t.nodes row (newest t sound)) refl;
@@ -133,27 +143,33 @@ new_file t now folder root name front content blob sound folds led =
       filled = refl;
     })
 
+-- the number of the file that is stored over, or of the new one
+abbrev stored_node : Tables → LockKey → ℕ
+stored_node t (Node node) = node
+stored_node t (Slot folder name) = t.meta.next_node
+
 stored_file : (t : Tables) (now : ℕ) (who : Option ℕ) (key : LockKey) (digest : List ℕ) (size root : ℕ) (path : List (List ℕ)) → AreSound t
-    → key_lost t key ≡ None → LeadsToKey t.nodes root path key
+    → IsHeld t key → LeadsToKey t.nodes root path key
     → HasFile (changed t now (stored_at t now key digest size)).nodes root path (content_in (blob_for t.meta.next_blob size) digest size)
+    (stored_node t key)
 stored_file t now who (Node node) digest size root path sound there led =
     let content = content_in (blob_for t.meta.next_blob size) digest size in
     let blob = blob_for t.meta.next_blob size in
-    let file = holds_some (λ row. not (is_folder_kind row.kind)) (node_row t.nodes node) (if_none _ _ there) in
-    subst (λ (o : Option NodeRow). HasFile (changed t now (allowed.Change (refilled o now content) blob Done)).nodes root path content) (sym file.1)
+    let file = holds_some (λ row. not (is_folder_kind row.kind)) (node_row t.nodes node) there in
+    subst (λ (o : Option NodeRow). HasFile (changed t now (allowed.Change (refilled o now content) blob Done)).nodes root path content node) (sym file.1)
     (over_file t now node root path content blob who file.0 sound file.1 (not-true (is_folder_kind file.0.kind) file.2) led)
 stored_file t now who (Slot folder name) digest size root path sound there (front, parts, led) =
     let blob = blob_for t.meta.next_blob size in
     let content = content_in blob digest size in
-    subst (λ (names : List (List ℕ)). HasFile (changed t now (stored_at t now (Slot folder name) digest size)).nodes root names content) (sym parts)
-    (new_file t now folder root name front content blob sound (and_parts _ _ (if_none _ _ there)).0 led)
+    subst (λ (names : List (List ℕ)). HasFile (changed t now (stored_at t now (Slot folder name) digest size)).nodes root names content t.meta.next_node) (sym parts)
+    (new_file t now folder root name front content blob sound there.0 led)
 
 pub none_refused : (refusal : Option Denial) (act : Allowed) → IsOk (answered_by (unless_refused refusal act)) → unless_refused refusal act ≡ Ok act
 none_refused None act ok = refl
 none_refused (Some refusal) act ok = absurd (false≢true ok)
 
-entry_file : (n : ℕ) (s : State) (e : Entry) (root : ℕ) (path : List (List ℕ)) (content : List Piece) → IsStored n s e root path content
-    → HasFile (after s e).tables.nodes root path content
+entry_file : (n : ℕ) (s : State) (e : Entry) (root : ℕ) (path : List (List ℕ)) (content : List Piece) → (is : IsStored n s e root path content)
+    → HasFile (after s e).tables.nodes root path content (stored_node s.tables is.key)
 entry_file n s e root path content is =
     let t = s.tables in
     let act = stored_at t e.moment is.key is.digest is.size in
@@ -164,19 +180,19 @@ entry_file n s e root path content is =
     let becomes : (after s e).tables ≡ changed t e.moment act =
     ap (λ (m : Mark). (after_mark s e m).tables) is.answered
     ∙ step_changed s e.seat e.moment e.event act (goes ∙ none) in
-    let passes = not_refused (end_refusal t is.key is.size) act act none in
-    let there = (both_none (key_lost t is.key) _ passes.0).0 in
+    let there = subst (λ (o : Option Goal). IfSome o (IsStorable t)) is.granted (goal_held s e.seat is.sound) in
     let file = stored_file t e.moment (actor_of s e.seat e.event) is.key is.digest is.size root path is.sound.rows there is.led in
-    subst (λ (c : List Piece). HasFile (after s e).tables.nodes root path c) (sym is.body)
-    (subst (λ (u : Tables). HasFile u.nodes root path (content_in (blob_for t.meta.next_blob is.size) is.digest is.size)) (sym becomes) file)
+    subst (λ (c : List Piece). HasFile (after s e).tables.nodes root path c (stored_node t is.key)) (sym is.body)
+    (subst (λ (u : Tables). HasFile u.nodes root path (content_in (blob_for t.meta.next_blob is.size) is.digest is.size) (stored_node t is.key))
+    (sym becomes) file)
 
 -- ---- what is read
 
 -- a call of a GET that the rules of who asks and of names pass is shown what its path leads to
 pub shows : (call : Call) (spot : Spot) (node : ℕ) → call.request.wanted ≡ Get spot → found call spot ≡ At node → IsWellAsked call
-    → call_decision call ≡ Ok (shown call.state.tables node)
+    → (is_folder call.state.tables.nodes node ≡ false → IsFreeToRead call.state call.seat node) → call_decision call ≡ Ok (shown call.state.tables node)
 unfolding place_rule exists_rule target_rule overwrite_rule limit_rule
-shows call spot node wanted at asked =
+shows call spot node wanted at asked free =
     let access = access_of call.state in
     let passes : Passes access call = record {
       token = asked.token;
@@ -186,6 +202,7 @@ shows call spot node wanted at asked =
       exists = rw wanted refl;
       target = rw wanted refl;
       overwrite = rw wanted refl;
+      locked = free_unlocked call spot node wanted at free;
       limit = rw wanted refl;
     } in
     ap (λ (refusal : Option Denial). unless_refused refusal (allowed_of access call)) (none_of rules access call (in_order access call passes))
@@ -194,10 +211,10 @@ shows call spot node wanted at asked =
 -- so it is granted the content of a file
 pub granted : (call : Call) (spot : Spot) (node : ℕ) (row : NodeRow) → call.request.wanted ≡ Get spot → found call spot ≡ At node
     → node_row call.state.tables.nodes node ≡ Some row → is_folder_kind row.kind ≡ false → IsWellAsked call
-    → answered_by (call_decision call) ≡ Ok (Granted (Serve row.content))
-granted call spot node row wanted at there file asked =
+    → IsFreeToRead call.state call.seat node → answered_by (call_decision call) ≡ Ok (Granted (Serve row.content))
+granted call spot node row wanted at there file asked free =
     let folder : is_folder call.state.tables.nodes node ≡ false = rw there file in
-    ap answered_by (shows call spot node wanted at asked) ∙ rw (folder, there) refl
+    ap answered_by (shows call spot node wanted at asked (λ no_folder. free)) ∙ rw (folder, there) refl
 
 pub stored_is_read : StoredIsRead
 stored_is_read n s e es root path content seat now words request is legal same reads =
@@ -206,12 +223,80 @@ stored_is_read n s e es root path content seat now words request is legal same r
     let call = call_of last seat now words request in
     let sound : IsSound last = states.stays (n + 1) first es (states.sound_after n s e is.sound is.may) legal in
     let file = entry_file n s e root path content is in
-    let led = leads_stay first.tables.nodes last.tables.nodes root path file.node file.led same in
-    let there : node_row last.tables.nodes file.node ≡ Some file.row =
-    same (length path) file.node (le_refl _)
-    (subst (λ (names : List (List ℕ)). Leads first.tables.nodes root names file.node) (sym (take-length path)) file.led)
+    let node = stored_node s.tables is.key in
+    let led = leads_stay first.tables.nodes last.tables.nodes root path node file.led same in
+    let there : node_row last.tables.nodes node ≡ Some file.row =
+    same (length path) node (le_refl _)
+    (subst (λ (names : List (List ℕ)). Leads first.tables.nodes root names node) (sym (take-length path)) file.led)
     ∙ file.there in
-    let at : found call reads.spot ≡ At file.node =
-    (λ i. found_from last.tables.nodes 0 (reads.from i) (reads.of_path i)) ∙ leads_found last.tables 0 root path file.node sound.rows led in
-    granted call reads.spot file.node file.row reads.wanted at there file.file reads.asked
-    ∙ ap (λ (c : List Piece). answered_by (Ok (allowed.Get file.node c))) file.filled
+    let at : found call reads.spot ≡ At node =
+    (λ i. found_from last.tables.nodes 0 (reads.from i) (reads.of_path i)) ∙ leads_found last.tables 0 root path node sound.rows led in
+    granted call reads.spot node file.row reads.wanted at there file.file reads.asked (reads.free node led)
+    ∙ ap (λ (c : List Piece). answered_by (Ok (allowed.Get node c))) file.filled
+
+-- ---- who stores over it
+
+-- right after its End nobody stores over what was stored
+pub stored_free : (n : ℕ) (s : State) (e : Entry) (root : ℕ) (path : List (List ℕ)) (content : List Piece) (is : IsStored n s e root path content)
+    (node seat : ℕ) → Leads (after s e).tables.nodes root path node → IsFreeToRead (after s e) seat node
+stored_free n s e root path content is node seat led =
+    subst (λ (tickets : List Ticket). All Free tickets) (sym tickets)
+    (λ k d within other holds.
+    let ticket = get_or (without_ticket s e.seat).tickets k d in
+    never ticket (All-filter (λ ticket. not (ticket.seat == e.seat)) (IsTicketSound s.tables) s.tickets is.sound.tickets k d within)
+    (apart k d within (not-true (ticket.seat == e.seat) (filter_passes (λ ticket. not (ticket.seat == e.seat)) s.tickets k d within))) holds)
+  where
+    Free : Ticket → Type 0
+    Free ticket = ticket.seat ≢ seat → ticket.hold ≢ Some (record { key = Node node; mode = Exclusive })
+
+    t : Tables
+    t = s.tables
+
+    tickets : (after s e).tickets ≡ (without_ticket s e.seat).tickets
+    tickets =
+        ap (λ (m : Mark). (after_mark s e m).tickets) is.answered
+        ∙ ap (λ (event : Event). (step s e.seat e.moment event).tickets) is.brought ∙ end_tickets s e.seat e.moment (Body is.digest is.size)
+
+    -- the node is the one that was stored
+    stored : node ≡ stored_node t is.key
+    stored =
+        let made = states.sound_after n s e is.sound is.may in
+        let file = entry_file n s e root path content is in
+        let both = sym (leads_found (after s e).tables 0 root path node made.rows led)
+        ∙ leads_found (after s e).tables 0 root path (stored_node t is.key) made.rows file.led in cc
+
+    -- which nobody else held
+    own : (ticket : Ticket) × (ticket_of s e.seat ≡ Some ticket) × (ticket.goal ≡ Store is.by is.key is.size)
+    own = here (ticket_of s e.seat) refl is.granted
+      where
+        here : (o : Option Ticket) → ticket_of s e.seat ≡ o → option_map (λ ticket. ticket.goal) o ≡ Some (Store is.by is.key is.size)
+            → (ticket : Ticket) × (ticket_of s e.seat ≡ Some ticket) × (ticket.goal ≡ Store is.by is.key is.size)
+        here None at granted = absurd (none-some (Store is.by is.key is.size) granted)
+        here (Some ticket) at granted = (ticket, at, same_Some ticket.goal (Store is.by is.key is.size) granted)
+
+    held : own.0.hold ≡ Some (record { key = is.key; mode = Exclusive })
+    held =
+        let sound = subst (λ (o : Option Ticket). IfSome o (IsTicketSound t)) own.1
+        (found_has (IsTicketSound t) (λ (ticket : Ticket). ticket.seat == e.seat) s.tickets is.sound.tickets) in
+        subst (λ (goal : Goal). HoldsFor goal own.0.hold) own.2 sound.hold
+
+    apart : All (λ (ticket : Ticket). (ticket.seat == e.seat) ≡ false → AreApartHolds (Some (record { key = is.key; mode = Exclusive })) ticket.hold)
+        (without_ticket s e.seat).tickets
+    apart =
+        All-filter (λ ticket. not (ticket.seat == e.seat))
+        (λ (ticket : Ticket). (ticket.seat == e.seat) ≡ false → AreApartHolds (Some (record { key = is.key; mode = Exclusive })) ticket.hold) s.tickets
+        (λ k d within other.
+        subst (λ (o : Option Hold). AreApartHolds o (get_or s.tickets k d).hold) held
+        (found_apart (λ (a b : Ticket). AreApartHolds a.hold b.hold) holds_turned (λ ticket. ticket.seat == e.seat) s.tickets own.0 is.sound.apart own.1
+        k d within other))
+
+    never : (ticket : Ticket) → IsTicketSound t ticket → AreApartHolds (Some (record { key = is.key; mode = Exclusive })) ticket.hold
+        → ticket.hold ≢ Some (record { key = Node node; mode = Exclusive })
+    never ticket sound differs holds =
+        let there = subst (λ (o : Option Hold). IfSome o (λ (hold : Hold). IsHeld t hold.key)) holds sound.held in
+        let other = subst (λ (o : Option Hold). AreApartHolds (Some (record { key = is.key; mode = Exclusive })) o) holds differs in
+        here is.key stored (λ same. let both = other same in cc) (held_given t (Node node) is.sound.rows there)
+      where
+        here : (key : LockKey) → node ≡ stored_node t key → (key ≡ Node node → ⊥) → node < t.meta.next_node → ⊥
+        here (Node one) same other given = other (ap Node (sym same))
+        here (Slot folder name) same other given = omega (arith, same, given)

@@ -1,36 +1,43 @@
 -- A sound state stays sound by each entry that may come.
-use Rattle.std.proofs.Common.{ℕ, ◌+◌, ◌≡◌, ◌≤◌, List, [], ◌∷◌, Option, None, Some, refl, sym, subst, ◌∙◌, arith, le_refl}
-use Rattle.std.specs.List.{All}
+use Rattle.std.proofs.Common.{ℕ, ◌+◌, ◌≡◌, ◌≤◌, get_or, not, ◌==◌, false, true, List, [], ◌∷◌, Option, None, Some, ap, refl, sym, subst, ◌∙◌, arith, le_refl}
+use Rattle.std.specs.List.{All, AllPairs}
 use Rattle.std.specs.Option.{IfSome}
-use Rattle.std.proofs.lemmas.List.Elements.{All-weaker}
+use Rattle.std.proofs.lemmas.List.Kept.{AllPairs-filter}
+use Rattle.std.proofs.lemmas.List.Quantifiers.{all_pairs_push}
 use Rattle.nf_base.specs.declared.content.Piece.{Piece}
-use Rattle.nf_defs.specs.Tables.{Tables}
+use Rattle.nf_defs.specs.Prelude.{is_file, is_folder, Tables}
+use Rattle.nf_defs.specs.declared.Found.TheVariants.{At}
 use Rattle.nf_defs.specs.declared.Seeker.{Seeker}
 use Rattle.nf_defs.specs.declared.Seeker.TheVariants as seeker
 use Rattle.nf_laws.proofs.Copied.{copied_sound}
 use Rattle.nf_laws.proofs.Counters.{changed_up}
 use Rattle.nf_laws.proofs.Entries.{entry_has, tickets_left, tickets_with}
 use Rattle.nf_laws.proofs.Gone.{left_sound}
+use Rattle.nf_laws.proofs.Held.{act_stays, held_on}
 use Rattle.nf_laws.proofs.Lists.{changes_sound}
 use Rattle.nf_laws.proofs.Moved.{transferred_sound}
 use Rattle.nf_laws.proofs.Owned.{KeepsOwners, owners_kept}
-use Rattle.nf_laws.proofs.Paths.{IsFor, is_own, path_own}
+use Rattle.nf_laws.proofs.Paths.{IsFor, IsOf, is_own, path_own}
 use Rattle.nf_laws.proofs.Rows.{content_has, pieces_kept, stamp, stamp_sound, stamped_has}
-use Rattle.nf_words.specs.Prelude.{after, after_mark, altered, AreSound, changed, goal_of, hold_of, HoldsFor, IsGoalSound, IsLegalFrom, IsPieceSound, IsSound, IsTicketSound, MayCome, MayStoreAt, node_of_key, place_of, removed, replay, State, ticket_for, told, transferred, with_goal, without}
+use Rattle.nf_words.specs.Prelude.{after, after_mark, altered, AreApartHolds, AreSound, changed, goal_of, hold_of, HoldsFor, IsGoalSound, IsHeld, IsLegalFrom, IsPieceSound, IsSound, IsTicketSound, MayCome, MayStoreAt, node_of_key, place_of, removed, replay, State, ticket_for, told, transferred, with_goal, without}
 use Rattle.nf_words.specs.Sound.{MayStoreBy}
 use Rattle.nf_words.specs.declared.answer.Allowed.{Allowed}
 use Rattle.nf_words.specs.declared.answer.Allowed.TheVariants as allowed
 use Rattle.nf_words.specs.declared.answer.By.{By}
 use Rattle.nf_words.specs.declared.answer.Goal.{Goal}
 use Rattle.nf_words.specs.declared.answer.Goal.TheVariants.{Serve, Store}
+use Rattle.nf_words.specs.declared.answer.Hold.{Hold}
 use Rattle.nf_words.specs.declared.answer.LockKey.{LockKey}
 use Rattle.nf_words.specs.declared.answer.LockKey.TheVariants.{Node, Slot}
 use Rattle.nf_words.specs.declared.history.Entry.{Entry}
+use Rattle.nf_words.specs.declared.history.Event.{Event}
+use Rattle.nf_words.specs.declared.history.Event.TheVariants.{Begin, End}
 use Rattle.nf_words.specs.declared.history.Mark.{Mark}
 use Rattle.nf_words.specs.declared.history.Mark.TheVariants as mark
 use Rattle.nf_words.specs.declared.history.Ticket.{Ticket}
 use Rattle.nf_words.proofs.Ends.{known_change}
 use Rattle.nf_words.proofs.Known.{Known, KnownGranted}
+use Rattle.nf_words.proofs.Spared.{Spares, step_spares}
 use Rattle.nf_words.proofs.Steps.{differ_replay}
 
 -- ---- the rows
@@ -86,6 +93,20 @@ granted_holds (allowed.Get node content) = (node, refl)
 granted_holds (allowed.Put by key length) = refl
 granted_holds act = tt
 
+-- what a path leads to and is no folder is a file
+file_there : (t : Tables) (user node : ℕ) → IsOf t user node → is_folder t.nodes node ≡ false → is_file t.nodes node ≡ true
+file_there t user node of no_folder = rw of.there (ap not (simp of.there at no_folder))
+
+-- what is granted is there, and held from then on
+granted_held : (t : Tables) (now : ℕ) (who : Option ℕ) (act : Allowed) → AreSound t → Known t now who act
+    → IfSome (hold_of act) (λ (hold : Hold). IsHeld (changed t now act) hold.key)
+granted_held t now who (allowed.Get node content) sound known =
+    file_there t known.path.row.id node (path_own t who (At node) node sound known.path refl) known.no_folder
+granted_held t now who (allowed.Put by (Node node) length) sound known =
+    file_there t known.path.row.id node (path_own t who (At node) node sound known.path refl) known.fits
+granted_held t now who (allowed.Put by (Slot folder name) length) sound known = known.fits
+granted_held t now who act sound known = tt
+
 both_some : {X : Type 0} (P Q : X → Type 0) (o : Option X) → IfSome o P → IfSome o Q → IfSome o (λ (x : X). P x × Q x)
 both_some P Q None p q = tt
 both_some P Q (Some x) p q = (p, q)
@@ -93,33 +114,67 @@ both_some P Q (Some x) p q = (p, q)
 granted_ticket : (t : Tables) (now seat : ℕ) (who : Option ℕ) (act : Allowed) → AreSound t → Known t now who act
     → IfSome (goal_of act) (λ (goal : Goal). IsTicketSound (changed t now act) (ticket_for seat goal (hold_of act)))
 granted_ticket t now seat who act sound known =
-    here (goal_of act) (both_some (IsGoalSound (changed t now act)) (λ (goal : Goal). HoldsFor goal (hold_of act)) (goal_of act)
+    here (goal_of act) (granted_held t now who act sound known) (both_some (IsGoalSound (changed t now act)) (λ (goal : Goal). HoldsFor goal (hold_of act)) (goal_of act)
     (granted_sound t now who act sound known) (granted_holds act))
   where
-    here : (o : Option Goal) → IfSome o (λ (goal : Goal). IsGoalSound (changed t now act) goal × HoldsFor goal (hold_of act))
+    here : (o : Option Goal) → IfSome (hold_of act) (λ (hold : Hold). IsHeld (changed t now act) hold.key)
+        → IfSome o (λ (goal : Goal). IsGoalSound (changed t now act) goal × HoldsFor goal (hold_of act))
         → IfSome o (λ (goal : Goal). IsTicketSound (changed t now act) (ticket_for seat goal (hold_of act)))
-    here None both = tt
-    here (Some goal) both = record { goal = both.0; hold = both.1 }
+    here None held both = tt
+    here (Some goal) held both = record { goal = both.0; hold = both.1; held = held }
+
+-- what stays held by a ticket that a step leaves alone
+spared_held : (t : Tables) (now : ℕ) (who : Option ℕ) (act : Allowed) (o : Option Hold) → AreSound t → Known t now who act
+    → IfSome o (λ (hold : Hold). IsHeld t hold.key) → IfSome o (λ (hold : Hold). Spares t now who hold act)
+    → IfSome o (λ (hold : Hold). IsHeld (changed t now act) hold.key)
+spared_held t now who act None sound known held spares = tt
+spared_held t now who act (Some hold) sound known held spares =
+    held_on t (changed t now act) hold.key (act_stays t hold sound held now who act known spares) held
+
+-- the new hold agrees with each that its step leaves alone
+granted_apart : (t : Tables) (now : ℕ) (who : Option ℕ) (act : Allowed) (o : Option Hold) → IfSome o (λ (hold : Hold). Spares t now who hold act)
+    → AreApartHolds o (hold_of act)
+granted_apart t now who act None spares = tt
+granted_apart t now who (allowed.Get node content) (Some hold) spares = λ same. let both = spares (sym same) in (both.1, both.0)
+granted_apart t now who (allowed.Put by key length) (Some hold) spares = λ same. let both = spares (sym same) in (both.1, both.0)
+granted_apart t now who act (Some hold) spares = tt
+
+-- holds of different tickets agree
+abbrev AreApart : Ticket → Ticket → Type 0
+AreApart a b = AreApartHolds a.hold b.hold
+
+apart_with : (tickets : List Ticket) (seat : ℕ) (goal : Option Goal) (hold : Option Hold) → AllPairs AreApart tickets
+    → All (λ (ticket : Ticket). AreApartHolds ticket.hold hold) tickets → AllPairs AreApart (with_goal tickets seat goal hold)
+apart_with tickets seat None hold pairs each = pairs
+apart_with tickets seat (Some goal) hold pairs each = all_pairs_push AreApart tickets (ticket_for seat goal hold) pairs each
+
+apart_left : (s : State) (seat : ℕ) (event : Event) → AllPairs AreApart s.tickets → AllPairs AreApart (without s seat event).tickets
+apart_left s seat (Begin words request) pairs = pairs
+apart_left s seat (End outcome) pairs = AllPairs-filter AreApart (λ ticket. not (ticket.seat == seat)) s.tickets pairs
 
 -- ---- the state
 
 -- what is sound of a state at the moment, but for the seats of its tickets
 abbrev Holds : ℕ → Tables → List Ticket → Type 0
-Holds now t tickets = AreSound t × (t.meta.last ≤ now) × All (IsTicketSound t) tickets
+Holds now t tickets = AreSound t × (t.meta.last ≤ now) × All (IsTicketSound t) tickets × AllPairs AreApart tickets
 
 act_holds : (t : Tables) (tickets : List Ticket) (seat now : ℕ) (who : Option ℕ) (act : Allowed) → Known t now who act → Holds now t tickets
+    → All (λ (ticket : Ticket). IfSome ticket.hold (λ (hold : Hold). Spares t now who hold act)) tickets
     → Holds now (changed t now act) (with_goal tickets seat (goal_of act) (hold_of act))
-act_holds t tickets seat now who act known h =
+act_holds t tickets seat now who act known h spares =
     let made = changed t now act in
     let up = changed_up t now act in
-    let left = All-weaker (IsTicketSound t) (IsTicketSound made)
-    (λ ticket is. record {
-      goal = goal_stays t made ticket.goal up.nodes up.blobs (owners_kept t now who act h.0 known) is.goal;
+    let left : All (IsTicketSound made) tickets = λ k d within.
+    let is = h.2 k d within in
+    record {
+      goal = goal_stays t made (get_or tickets k d).goal up.nodes up.blobs (owners_kept t now who act h.0 known) is.goal;
       hold = is.hold;
-    }) tickets h.2 in (
+      held = spared_held t now who act (get_or tickets k d).hold h.0 known is.held (spares k d within);
+    } in (
       stamped_has AreSound t (altered t now act) now (told t act) h.0 (altered_sound t now who act h.0 h.1 known),
       stamped_has (λ (u : Tables). u.meta.last ≤ now) t (altered t now act) now (told t act) h.1 (le_refl _),
       tickets_with (IsTicketSound made) tickets seat (goal_of act) (hold_of act) left (granted_ticket t now seat who act h.0 known),
+      apart_with tickets seat (goal_of act) (hold_of act) h.3 (λ k d within. granted_apart t now who act (get_or tickets k d).hold (spares k d within)),
     )
 
 seen_after : (s : State) (e : Entry) (m : Mark) → (after_mark s e m).seen ≡ e.moment
@@ -128,15 +183,21 @@ seen_after s e m = refl
 
 pub sound_after : (n : ℕ) (s : State) (e : Entry) → IsSound s → MayCome n s e → IsSound (after s e)
 sound_after n s e sound may =
-    let first : Holds e.moment s.tables (without s e.seat e.event).tickets =
-    (sound.rows, omega (arith, sound.seen, may.not_before), tickets_left (IsTicketSound s.tables) s e.seat e.event sound.tickets) in
+    let first : Holds e.moment s.tables (without s e.seat e.event).tickets = (
+      sound.rows,
+      omega (arith, sound.seen, may.not_before),
+      tickets_left (IsTicketSound s.tables) s e.seat e.event sound.tickets,
+      apart_left s e.seat e.event sound.apart,
+    ) in
     let h = entry_has (λ t tickets blob. Holds e.moment t tickets) s e e.mark first (λ act is.
-    act_holds s.tables _ e.seat e.moment _ act (known_change s e.seat e.moment e.event act sound may.asked is) first) in
+    act_holds s.tables _ e.seat e.moment _ act (known_change s e.seat e.moment e.event act sound may.asked is) first
+    (step_spares s e.seat e.moment e.event act sound may.asked is)) in
     record {
       rows = h.0;
       seen = omega (arith, h.1, seen_after s e e.mark);
       seats = differ_replay n s (e ∷ []) sound.seats (may, tt);
       tickets = h.2;
+      apart = h.3;
     }
 
 pub stays : (n : ℕ) (s : State) (es : List Entry) → IsSound s → IsLegalFrom n s es → IsSound (replay s es)

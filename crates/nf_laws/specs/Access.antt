@@ -9,7 +9,7 @@ use Rattle.nf_base.specs.declared.rows.Place.TheVariants.{Inside}
 use Rattle.nf_defs.specs.Prelude.{is_folder_kind, Leads, node_row, parent_of, Tables, unshared}
 use Rattle.nf_defs.specs.declared.Seeker.{Seeker}
 use Rattle.nf_defs.specs.declared.Seeker.TheVariants.{User}
-use Rattle.nf_laws.specs.Reads.{IsWellAsked}
+use Rattle.nf_laws.specs.Reads.{IsFreeToRead, IsWellAsked}
 use Rattle.nf_laws.specs.Tree.{Under}
 use Rattle.nf_words.specs.Prelude.{access_of, after, answer_to, Call, call_of, goal_at, IsSound, listing_of, may_by, MayCome, MayWant, Need, needed, needed_by, root_of, seeker_of, State, way_of}
 use Rattle.nf_words.specs.declared.answer.Goal.{Goal}
@@ -54,11 +54,12 @@ pub record IsReadable (call : Call) (row : NodeRow) : Type 0 where
   pub led : LeadsBy call spot (way_of call spot).mount row.id
   pub may : may_by (access_of call.state) call.state.tables.nodes (seeker_of call) call.now Read row.id (way_of call spot).mount ≡ true
 
--- the content is that of a file that may be read so
+-- the content is that of a file that may be read so, which nobody else stores over
 pub record IsReadableFile (call : Call) (content : List Piece) : Type 0 where
   pub row : NodeRow
   pub readable : IsReadable call row
   pub file : is_folder_kind row.kind ≡ false
+  pub free : IsFreeToRead call.state call.seat row.id
   pub sent : row.content ≡ content
 
 -- what is served of a request that may be asked is what the caller may read

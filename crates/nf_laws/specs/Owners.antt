@@ -4,7 +4,7 @@ use Rattle.std.specs.Option.{option_map_or}
 use Rattle.nf_base.specs.declared.content.Piece.{Piece}
 use Rattle.nf_base.specs.declared.rows.NodeRow.{NodeRow}
 use Rattle.nf_defs.specs.Prelude.{children_of, is_folder_kind, Leads, node_row, Tables}
-use Rattle.nf_laws.specs.Reads.{IsWellAsked}
+use Rattle.nf_laws.specs.Reads.{IsWellAsked, IsFreeToRead}
 use Rattle.nf_words.specs.Prelude.{actor_of, after, answer_to, AreSound, Call, call_of, IsSound, listing_of, MayCome, MayWant, root_of, State, user_of}
 use Rattle.nf_words.specs.declared.answer.Goal.TheVariants.{Serve}
 use Rattle.nf_words.specs.declared.answer.Reply.TheVariants.{Granted, Listing}
@@ -29,11 +29,12 @@ pub record IsFound (call : Call) (row : NodeRow) : Type 0 where
   pub led : Leads call.state.tables.nodes (root_of call) spot.path row.id
   pub own : row.owner ≡ user
 
--- the content is that of a file that is found so
+-- the content is that of a file that is found so, which nobody else stores over
 pub record IsServed (call : Call) (content : List Piece) : Type 0 where
   pub row : NodeRow
   pub found : IsFound call row
   pub file : is_folder_kind row.kind ≡ false
+  pub free : IsFreeToRead call.state call.seat row.id
   pub sent : row.content ≡ content
 
 -- what is served of a request that may be asked is the caller's own

@@ -1,5 +1,5 @@
 -- What was stored is what is read.
-use Rattle.std.specs.Prelude.{◌≡◌, ℕ, ◌+◌, ◌≤◌, List, [], ◌∷◌, ◌++◌, length, take, None, Some, Ok, IsOk}
+use Rattle.std.specs.Prelude.{◌≡◌, ℕ, ◌+◌, ◌≤◌, List, [], ◌∷◌, ◌++◌, length, take, None, Some, Ok, IsOk, ◌≢◌, All}
 use Rattle.nf_base.specs.declared.content.Piece.{Piece}
 use Rattle.nf_base.specs.declared.rows.NodeRow.{NodeRow}
 use Rattle.nf_defs.specs.Prelude.{Leads, node_row}
@@ -17,6 +17,8 @@ use Rattle.nf_words.specs.declared.request.Request.{Request}
 use Rattle.nf_words.specs.declared.request.Spot.{Spot}
 use Rattle.nf_words.specs.declared.request.Wanted.TheVariants.{Get}
 use Rattle.nf_words.specs.declared.request.Words.{Words}
+use Rattle.nf_words.specs.declared.answer.Mode.TheVariants.{Exclusive}
+use Rattle.nf_words.specs.declared.history.Ticket.{Ticket}
 
 -- a path leads from a root to the file that is stored over, or to the folder and the name that is free in it
 abbrev pub LeadsToKey : List NodeRow → ℕ → List (List ℕ) → LockKey → Type 0
@@ -50,13 +52,19 @@ pub record IsWellAsked (call : Call) : Type 0 where
   pub not_you : not_you_rule (access_of call.state) call ≡ None
   pub forbidden : forbidden_rule (access_of call.state) call ≡ None
 
--- a GET of a path by whose root it is, which no rule of who asks or of names refuses
+-- no other seat stores over the node
+abbrev pub IsFreeToRead : State → ℕ → ℕ → Type 0
+IsFreeToRead s seat node =
+    All (λ (ticket : Ticket). ticket.seat ≢ seat → ticket.hold ≢ Some (record { key = Node node; mode = Exclusive })) s.tickets
+
+-- a GET of a path by whose root it is, which no rule of who asks or of names refuses, and where nobody else stores
 pub record IsReadBy (s : State) (seat now : ℕ) (words : Words) (request : Request) (root : ℕ) (path : List (List ℕ)) : Type 0 where
   pub spot : Spot
   pub wanted : request.wanted ≡ Get spot
   pub of_path : spot.path ≡ path
   pub from : root_of (call_of s seat now words request) ≡ root
   pub asked : IsWellAsked (call_of s seat now words request)
+  pub free : (node : ℕ) → Leads s.tables.nodes root path node → IsFreeToRead s seat node
 
 -- what a PUT stored is what a later GET of the path is granted, while the nodes of its path stay as they are
 abbrev pub StoredIsRead : Type 0

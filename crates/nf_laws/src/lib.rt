@@ -4,6 +4,7 @@
 mod access;
 mod acts;
 mod history;
+mod locks;
 mod owners;
 mod reads;
 mod tells;
@@ -18,6 +19,7 @@ pub use access::{
 };
 pub use acts::{cut_bodies_keep, deletes_keep, folders_are_made, puts_keep};
 pub use history::{counters_rise, numbers_are_new, stays_sound};
+pub use locks::{held_is_there, holds_agree, locked_exactly, others_spare};
 pub use owners::{changes_only_own, lists_only_own, own_is_listed, own_is_served, serves_only_own};
 pub use reads::stored_is_read;
 pub use tells::changes_tell;

@@ -9,14 +9,14 @@ use Rattle.std.proofs.lemmas.Option.{unwrap_or-slice_get}
 use Rattle.sha2.specs.Sha256.{sha256}
 use Rattle.nf_base.specs.declared.content.Piece.{Piece}
 use Rattle.nf_base.specs.declared.rows.UserRow.{UserRow}
-use Rattle.nf_defs.specs.Prelude.{found_from, holder_of, Tables, user_row}
+use Rattle.nf_defs.specs.Prelude.{found_from, holder_of, Leads, Tables, user_row}
 use Rattle.nf_defs.specs.declared.Found.{Found}
 use Rattle.nf_defs.specs.declared.Found.TheVariants.{At, Free, Missing}
 use Rattle.nf_laws.proofs.Owning.{changes_own}
 use Rattle.nf_laws.proofs.Paths.{found_free, found_leads}
-use Rattle.nf_laws.proofs.Reading.{stored_is_read}
+use Rattle.nf_laws.proofs.Reading.{stored_free, stored_is_read}
 use Rattle.nf_laws.proofs.Stays.{sound_after}
-use Rattle.nf_laws.specs.Reads.{IsReadBy, IsStored, LeadsToKey}
+use Rattle.nf_laws.specs.Reads.{IsFreeToRead, IsReadBy, IsStored, LeadsToKey}
 use Rattle.nf_words.proofs.Passing.{Passes, call_passes}
 use Rattle.nf_words.proofs.Steps.{granted_step, put_grants_nothing, reports_nothing}
 use Rattle.nf_words.specs.Prelude.{access_of, after, after_mark, answer_at, answer_to, answered_by, AreSound, blob_by, blob_for, blob_of, blob_to, by_of, call_of, content_in, decided, decision_of, end_refusal, ends_at, forbidden_rule, found, goal_at, is_caller, IsSound, last_name, MayAsk, MayCome, named_in, not_you_rule, refusal_of, reply_to, root_of, State, step, stored, stored_at, stores, token_rule, unless_refused}
@@ -183,9 +183,10 @@ callers_same a b (Token digest) same = λ i. holder_of (same i) digest
 get_reads : (a b : State) (seat now : ℕ) (words : Words) (caller : Caller) (spot : Spot) (n later moment : ℕ) (others : Words)
     → b.tables.users ≡ a.tables.users → b.tables.tokens ≡ a.tables.tokens
     → Passes (access_of a) (call_of a seat now words (put_of caller spot n))
+    → ((node : ℕ) → Leads b.tables.nodes (root_of (call_of a seat now words (put_of caller spot n))) spot.path node → IsFreeToRead b later node)
     → IsReadBy b later moment others (get_of caller spot) (root_of (call_of a seat now words (put_of caller spot n))) spot.path
 unfolding token_rule not_you_rule forbidden_rule
-get_reads a b seat now words caller spot n later moment others users tokens passes =
+get_reads a b seat now words caller spot n later moment others users tokens passes free =
     let who : caller_of b caller ≡ caller_of a caller = callers_same a b caller tokens in
     let row : option_and_then (user_row b.tables.users) (caller_of b caller) ≡ option_and_then (user_row a.tables.users) (caller_of a caller) =
     λ i. option_and_then (user_row (users i)) (who i) in
@@ -203,6 +204,7 @@ get_reads a b seat now words caller spot n later moment others users tokens pass
       of_path = refl;
       from = ap (λ (o : Option UserRow). option_map_or (λ row. row.root) o 0) row;
       asked = record { token = token ∙ passes.token; not_you = not_you ∙ passes.not_you; forbidden = passes.forbidden };
+      free = free;
     }
 
 -- ---- both
@@ -257,7 +259,8 @@ put_is_got count more s first second words caller spot n by key size body sound 
     record {
       got = λ later moment others. stored_is_read more middle second [] root spot.path (content_of_body middle body) later moment others (get_of caller spot)
           is_stored tt (λ k node few led. refl)
-          (get_reads s (after middle second) first.seat first.moment words caller spot n later moment others users tokens granted.passes);
+          (get_reads s (after middle second) first.seat first.moment words caller spot n later moment others users tokens granted.passes
+          (λ node. stored_free more middle second root spot.path (content_of_body middle body) is_stored node later));
       blob = ap blob_by goes ∙ stores_blob t second.moment key (sha256 body) (length body)
           (subst (λ (d : Result Allowed Denial). IsOk (answered_by d)) goes accepted);
     }

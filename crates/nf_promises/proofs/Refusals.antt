@@ -1,20 +1,17 @@
 -- What refuses for want of room: a Begin alone.
-use Rattle.std.proofs.Common.{ℕ, ◌≡◌, ◌⊎◌, ◌&&◌, Bool, true, false, Option, None, Some, Err, is_none, option_map, if◌then◌else◌, inl, inr, sym, ap, ◌∙◌}
-use Rattle.std.specs.Option.{option_or}
+use Rattle.std.proofs.Common.{ℕ, ◌≡◌, Option, None, Some, Err, option_map, sym, ap, ◌∙◌}
 use Rattle.std.proofs.lemmas.Bool.{false≢true}
-use Rattle.nf_defs.specs.Prelude.{Access, child_of, is_file, is_folder, Tables}
+use Rattle.nf_defs.specs.Prelude.{Access, Tables}
 use Rattle.nf_dav.specs.Asked.{request_of}
 use Rattle.nf_dav.proofs.NotAsked.{unasked_refusal}
 use Rattle.nf_http.specs.Head.{Head}
-use Rattle.nf_words.specs.Prelude.{access_of, answer_at, answer_to, answered_by, end_refusal, ends_at, ends_goal, goal_at, key_lost, limit_at, pieces_of, place_of, State, stored_at, unless_refused}
+use Rattle.nf_words.specs.Prelude.{access_of, answer_at, answer_to, answered_by, end_refusal, ends_at, ends_goal, goal_at, limit_at, pieces_of, place_of, State, stored_at, unless_refused}
 use Rattle.nf_words.specs.declared.answer.Allowed.{Allowed}
 use Rattle.nf_words.specs.declared.answer.Denial.{Denial}
 use Rattle.nf_words.specs.declared.answer.Denial.TheVariants as denial
 use Rattle.nf_words.specs.declared.answer.Goal.{Goal}
 use Rattle.nf_words.specs.declared.answer.Goal.TheVariants.{Serve, Store}
 use Rattle.nf_words.specs.declared.answer.Limit.{Limit}
-use Rattle.nf_words.specs.declared.answer.LockKey.{LockKey}
-use Rattle.nf_words.specs.declared.answer.LockKey.TheVariants.{Node, Slot}
 use Rattle.nf_words.specs.declared.history.Entry.{Entry}
 use Rattle.nf_words.specs.declared.history.Event.TheVariants.{End}
 use Rattle.nf_words.specs.declared.history.Mark.{Mark}
@@ -22,24 +19,12 @@ use Rattle.nf_words.specs.declared.history.Mark.TheVariants as mark
 use Rattle.nf_words.specs.declared.history.Outcome.{Outcome}
 use Rattle.nf_words.specs.declared.history.Outcome.TheVariants.{Sent, Gone, Body}
 
-either_full : (o p : Option Denial) → option_or o p ≡ Some denial.RunFull → (o ≡ Some denial.RunFull) ⊎ (p ≡ Some denial.RunFull)
-either_full None p is = inr is
-either_full (Some refusal) p is = inl is
-
 -- ---- a request
 
 pub request_not_full : (head : Head) → request_of head ≡ Err denial.RunFull → ⊥
 request_not_full head is = false≢true (unasked_refusal head denial.RunFull is)
 
 -- ---- an End
-
-found_not_full : (a : Bool) → (if a then None else Some denial.NotFound) ≡ Some denial.RunFull → ⊥
-found_not_full true is = cc
-found_not_full false is = cc
-
-lost_not_full : (t : Tables) (key : LockKey) → key_lost t key ≡ Some denial.RunFull → ⊥
-lost_not_full t (Node node) is = found_not_full (is_file t.nodes node) is
-lost_not_full t (Slot folder name) is = found_not_full (is_folder t.nodes folder && is_none (child_of t.nodes folder name)) is
 
 limit_not_full : (o : Option Limit) → option_map denial.Limit o ≡ Some denial.RunFull → ⊥
 limit_not_full None is = cc
@@ -55,13 +40,8 @@ goal_not_full access t now Sent goal is = cc
 goal_not_full access t now Gone goal is = cc
 goal_not_full access t now (Body digest length) (Serve content) is = cc
 goal_not_full access t now (Body digest length) (Store by key wanted) is =
-    here (either_full (key_lost t key) (option_map denial.Limit (limit_at t (pieces_of length) (place_of key)))
-    (decided_full (end_refusal t key length) (stored_at t now key digest length) is))
-  where
-    here : (key_lost t key ≡ Some denial.RunFull)
-        ⊎ (option_map denial.Limit (limit_at t (pieces_of length) (place_of key)) ≡ Some denial.RunFull) → ⊥
-    here (inl first) = lost_not_full t key first
-    here (inr second) = limit_not_full (limit_at t (pieces_of length) (place_of key)) second
+    limit_not_full (limit_at t (pieces_of length) (place_of key))
+    (decided_full (end_refusal t key length) (stored_at t now key digest length) is)
 
 seat_not_full : (access : Access) (t : Tables) (now : ℕ) (outcome : Outcome) (o : Option Goal)
     → answered_by (ends_at access t now outcome o) ≡ Err denial.RunFull → ⊥

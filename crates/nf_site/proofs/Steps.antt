@@ -144,7 +144,13 @@ pub opened_held : (site : Inside) (rows : List Row) → AreRuled (tables_of rows
 opened_held site rows ruled opening state none =
     let kept : kept_of site ≡ opened_over rows = λ i. record { opening = opening i; state = state i; history = none i } in
     let sound : IsSound (opened rows) =
-    record { rows = ruled.sound; seen = omega arith; seats = λ i j d before within. absurd (omega arith); tickets = All-nil _ } in
+    record {
+      rows = ruled.sound;
+      seen = omega arith;
+      seats = λ i j d before within. absurd (omega arith);
+      tickets = All-nil _;
+      apart = λ i j d before within. absurd (omega arith);
+    } in
     record {
       history = subst IsHistory (sym kept) (record { legal = tt; replayed = refl });
       sound = subst IsSound (sym state) sound;

@@ -6,7 +6,7 @@ ghost use Rattle.nf_words.specs.Prelude.{blob_by, hold_of, reply_by, reply_to, r
 ghost use Rattle.nf_words.specs.declared.answer.Allowed.TheVariants.{Close};
 
 use nf_base::{BlobId, Changes, Moment, NodeId};
-use nf_decide::{View, added_by, blob_of, copy_key, hold_of};
+use nf_decide::{View, added_by, blob_of, hold_of};
 use nf_words::{Allowed, Denial, Event, Goal, Hold, Listing, ListingLine, Reply, Report};
 use std::alloc::{AllocError, Global};
 use std::marker::Model;
@@ -114,10 +114,19 @@ impl Deed {
     pub(crate) fn new(alloc: Global, act: Allowed) -> Result<Deed, AllocError>
         ensures { IfOk result (λ deed. deed.act ≡ act) }
     {
-        let reply = reply_to(alloc, &act)?;
-        let hold = hold_of(&act)?;
+        let (reply, hold) = copied(alloc, &act)?;
         Ok(Deed { act, reply, hold })
     }
+}
+
+/// The reply of an act, and what is held for it.
+fn copied(alloc: Global, act: &Allowed) -> Result<(Reply, Option<Hold>), AllocError>
+    ensures reply { IfOk result (λ made. made.0 ≡ reply_to act.now) }
+    ensures hold { IfOk result (λ made. made.1 ≡ hold_of act.now) }
+{
+    let reply = reply_to(alloc, act)?;
+    let hold = hold_of(act)?;
+    Ok((reply, hold))
 }
 
 /// The reply of an act.
@@ -129,7 +138,7 @@ fn reply_to(alloc: Global, act: &Allowed) -> Result<Reply, AllocError>
         Allowed::List(listing) => Ok(Reply::Listing(copy_listing(alloc, listing)?)),
         Allowed::Put { by, key, length } => Ok(Reply::Granted(Goal::Store {
             by: *by,
-            key: copy_key(key)?,
+            key: key.copy()?,
             length: *length,
         })),
         Allowed::Change { report, .. } => Ok(reported(*report)),

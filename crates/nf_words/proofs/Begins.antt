@@ -16,9 +16,10 @@ use Rattle.nf_words.proofs.Passing.{call_passes, no_fault, no_limit}
 use Rattle.nf_words.proofs.Starts.{has_row, path_known}
 use Rattle.nf_words.proofs.Transfers.{copied_known, moved_known}
 use Rattle.nf_words.specs.History.{IsShort}
-use Rattle.nf_words.specs.Prelude.{access_of, AreSound, asked_of, by_of, Call, call_decision, caller_row, deleted, found, given, is_there, IsSound, last_name, limit_at, limit_rule, limited, listing_of, made_folder, MayWant, node_at, root_of, served, shown, stored, target_rule, unfit, user_of}
+use Rattle.nf_words.specs.Prelude.{access_of, AreSound, asked_of, by_of, Call, call_decision, caller_row, deleted, exists_rule, found, given, is_there, IsSound, last_name, limit_at, limit_rule, limited, listing_of, made_folder, MayWant, node_at, root_of, served, shown, stored, taken, target_rule, unfit, user_of}
 use Rattle.nf_words.specs.declared.answer.Allowed.{Allowed}
 use Rattle.nf_words.specs.declared.answer.Allowed.TheVariants as allowed
+use Rattle.nf_words.specs.declared.answer.Denial.{Denial}
 use Rattle.nf_words.specs.declared.answer.TargetFault.{TargetFault}
 use Rattle.nf_words.specs.declared.request.Places.{Places}
 use Rattle.nf_words.specs.declared.request.Spot.{Spot}
@@ -47,13 +48,20 @@ served_known call spot (At node) row is leads = shown_known call spot node row i
 served_known call spot nowhere row is leads = tt
 
 granted_known : (call : Call) (spot : Spot) (length : ℕ) (place : Found) (row : UserRow) → caller_row call ≡ Some row → length ≤ MAX_BODY
-    → found call spot ≡ place
+    → found call spot ≡ place → is_there (is_folder call.state.tables.nodes) (Some place) ≡ false
     → Known call.state.tables call.now (user_of call) (stored (by_of call spot) (last_name spot) length (Some place))
 unfolding path_known
-granted_known call spot length (Missing depth) row is short leads = tt
-granted_known call spot length place row is short leads = record {
+granted_known call spot length (Missing depth) row is short leads file = tt
+granted_known call spot length (At node) row is short leads file = record {
   short = short;
-  path = path_known call spot place row is leads;
+  path = path_known call spot (At node) row is leads;
+  fits = file;
+  storer = ap (λ (o : Option UserRow). record { seeker = seeker.User (option_map_or (λ row. row.id) o 0); mount = None }) is;
+}
+granted_known call spot length (Free folder) row is short leads file = record {
+  short = short;
+  path = path_known call spot (Free folder) row is leads;
+  fits = free_known call.state.tables.nodes 0 (root_of call) spot.path folder leads;
   storer = ap (λ (o : Option UserRow). record { seeker = seeker.User (option_map_or (λ row. row.id) o 0); mount = None }) is;
 }
 
@@ -74,6 +82,10 @@ deleted_known : (call : Call) (spot : Spot) (place : Found) (row : UserRow) → 
 deleted_known call spot (At node) row is leads fits = record { no_root = fits; path = path_known call spot (At node) row is leads }
 deleted_known call spot nowhere row is leads fits = tt
 
+unless : (b : Bool) (refusal : Denial) → (if b then Some refusal else None) ≡ None → b ≡ false
+unless true refusal none = absurd (cc)
+unless false refusal none = refl
+
 -- where the paths of something wanted lead
 abbrev pub places_at : Call → Wanted → Places
 places_at call wanted =
@@ -81,21 +93,22 @@ places_at call wanted =
 
 wanted_known : (call : Call) (wanted : Wanted) (row : UserRow) → AreSound call.state.tables → caller_row call ≡ Some row
     → IsShort (asked_of wanted).makes
+    → taken call.state.tables.nodes (places_at call wanted) (asked_of wanted).makes ≡ None
     → unfit call.state.tables.nodes (asked_of wanted) (places_at call wanted) ≡ None
     → limited call.state.tables (places_at call wanted) (asked_of wanted).makes ≡ None
     → Known call.state.tables call.now (user_of call) (given (access_of call.state) call (places_at call wanted) wanted)
-wanted_known call (Get spot) row sound is short fits some = served_known call spot (found call spot) row is refl
-wanted_known call (Put spot length) row sound is short fits some = granted_known call spot length (found call spot) row is short refl
-wanted_known call (Mkcol spot) row sound is short fits some = folder_known call spot (found call spot) row sound is refl some
-wanted_known call (Delete spot) row sound is short fits some = deleted_known call spot (found call spot) row is refl (passed _ _ fits)
-wanted_known call (Move source target overwrite) row sound is short fits some = moved_known call source target row sound is fits some
-wanted_known call (Copy source target overwrite) row sound is short fits some = copied_known call source target row sound is fits some
+wanted_known call (Get spot) row sound is short free fits some = served_known call spot (found call spot) row is refl
+wanted_known call (Put spot length) row sound is short free fits some = granted_known call spot length (found call spot) row is short refl (unless _ _ free)
+wanted_known call (Mkcol spot) row sound is short free fits some = folder_known call spot (found call spot) row sound is refl some
+wanted_known call (Delete spot) row sound is short free fits some = deleted_known call spot (found call spot) row is refl (passed _ _ fits)
+wanted_known call (Move source target overwrite) row sound is short free fits some = moved_known call source target row sound is fits some
+wanted_known call (Copy source target overwrite) row sound is short free fits some = copied_known call source target row sound is fits some
 
 pub call_known : (call : Call) (act : Allowed) → IsSound call.state → MayWant call.request → call_decision call ≡ Ok act
     → Known call.state.tables call.now (user_of call) act
-unfolding target_rule limit_rule
+unfolding exists_rule target_rule limit_rule
 call_known call act sound may is =
     let h = call_passes call act is in
     let row = has_row call may h.0.not_you in
     subst (λ (a : Allowed). Known call.state.tables call.now (user_of call) a) h.1
-    (wanted_known call call.request.wanted row.0 sound.rows row.1 may.short (no_fault _ h.0.target) (no_limit _ h.0.limit))
+    (wanted_known call call.request.wanted row.0 sound.rows row.1 may.short h.0.exists (no_fault _ h.0.target) (no_limit _ h.0.limit))

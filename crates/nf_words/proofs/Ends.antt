@@ -1,8 +1,8 @@
 -- What is known of an End, and of every step, that no rule refuses.
-use Rattle.std.proofs.Common.{◌≡◌, ℕ, ◌+◌, ◌≤◌, ◌==◌, inl, is_none, not, sym, true, false, List, Result, Ok, Option, refl, subst, arith}
+use Rattle.std.proofs.Common.{◌≡◌, ℕ, ◌+◌, ◌≤◌, ◌==◌, inl, not, sym, true, false, List, Result, Ok, Option, refl, subst, arith}
 use Rattle.std.specs.Prelude.{None, Some, option_map, option_and_then}
 use Rattle.std.specs.Option.{IfSome, option_map_or}
-use Rattle.std.proofs.lemmas.Bool.{and_parts, not-true}
+use Rattle.std.proofs.lemmas.Bool.{not-true}
 use Rattle.nf_base.specs.declared.limits.TheConstants.{MAX_BODY}
 use Rattle.nf_base.specs.declared.rows.NodeKind.TheVariants.{File}
 use Rattle.nf_base.specs.declared.rows.NodeRow.{NodeRow}
@@ -14,8 +14,8 @@ use Rattle.nf_words.proofs.Bodies.{body_known}
 use Rattle.nf_words.proofs.Fits.{KnownOwn, Within, new_known, over_known, within}
 use Rattle.nf_words.proofs.Found.{found_has}
 use Rattle.nf_words.proofs.Known.{Known}
-use Rattle.nf_words.proofs.Passing.{both_none, if_none, no_limit, not_refused}
-use Rattle.nf_words.specs.Prelude.{access_of, actor_of, AreSound, blob_for, call_of, content_in, decision_of, end_refusal, ends_at, ends_goal, goal_at, IsGoalSound, IsSound, IsTicketSound, key_lost, limit_at, MayAsk, MayBring, MayEnd, MayStoreAt, node_of_key, pieces_of, place_of, refilled, State, stored_at, storer_of, ticket_of, user_in}
+use Rattle.nf_words.proofs.Passing.{no_limit, not_refused}
+use Rattle.nf_words.specs.Prelude.{access_of, actor_of, AreSound, blob_for, call_of, content_in, decision_of, end_refusal, ends_at, ends_goal, goal_at, HoldsFor, IsGoalSound, IsHeld, IsSound, IsStorable, IsTicketSound, limit_at, MayAsk, MayBring, MayEnd, MayStoreAt, node_of_key, pieces_of, place_of, refilled, State, stored_at, storer_of, ticket_of, user_in}
 use Rattle.nf_words.specs.Sound.{MayStoreBy}
 use Rattle.nf_words.specs.declared.answer.Allowed.{Allowed}
 use Rattle.nf_words.specs.declared.answer.Allowed.TheVariants as allowed
@@ -23,6 +23,7 @@ use Rattle.nf_words.specs.declared.answer.By.{By}
 use Rattle.nf_words.specs.declared.answer.Denial.{Denial}
 use Rattle.nf_words.specs.declared.answer.Goal.{Goal}
 use Rattle.nf_words.specs.declared.answer.Goal.TheVariants.{Serve, Store}
+use Rattle.nf_words.specs.declared.answer.Hold.{Hold}
 use Rattle.nf_words.specs.declared.answer.LockKey.{LockKey}
 use Rattle.nf_words.specs.declared.answer.LockKey.TheVariants.{Node, Slot}
 use Rattle.nf_words.specs.declared.answer.Report.TheVariants.{Done}
@@ -47,50 +48,44 @@ file_row (Some row) is = (row, refl, not-true (is_folder_kind row.kind) is)
 
 key_known : (t : Tables) (now : ℕ) (by : By) (key : LockKey) (digest : List ℕ) (size : ℕ) → AreSound t → size ≤ MAX_BODY
     → MayStoreAt t by (node_of_key key)
-    → key_lost t key ≡ None → limit_at t (pieces_of size) (place_of key) ≡ None
+    → IsHeld t key → limit_at t (pieces_of size) (place_of key) ≡ None
     → Known t now (user_in by.seeker) (stored_at t now key digest size)
-key_known t now by (Node node) digest size sound few own found some =
+key_known t now by (Node node) digest size sound few own held some =
     let body = body_known t.meta digest size few in
     let blob = blob_for t.meta.next_blob size in
     let content = content_in blob digest size in
-    let file = file_row (node_row t.nodes node) (if_none _ _ found) in
+    let file = file_row (node_row t.nodes node) held in
     subst (λ (o : Option NodeRow). Known t now (user_in by.seeker) (allowed.Change (refilled o now content) blob Done)) (sym file.1)
     (over_known t now node content (user_in by.seeker) blob file.0 sound file.1 file.2
     (omega (arith, body.counted, (within t 0 0 (pieces_of size) (pieces_of size) some).next_blob))
     (inl (omega (arith, body.pieces, (within t 0 0 (pieces_of size) (pieces_of size) some).pieces))) (inl body.of_body)
     (inl (own_known t by node own)))
-key_known t now by (Slot folder name) digest size sound few own found some =
+key_known t now by (Slot folder name) digest size sound few own held some =
     let body = body_known t.meta digest size few in
     let blob = blob_for t.meta.next_blob size in
-    let free = and_parts _ _ (if_none _ _ found) in
-    new_known t now folder name File (content_in blob digest size) (user_in by.seeker) blob (pieces_of size) sound free.0 (no_child _ free.1)
+    new_known t now folder name File (content_in blob digest size) (user_in by.seeker) blob (pieces_of size) sound held.0 held.1
     (subst (λ (n : ℕ). Within t 1 (depth t.nodes folder + 1) n (pieces_of size)) (sym body.pieces)
     (within t 1 (depth t.nodes folder + 1) (pieces_of size) (pieces_of size) some))
     (omega (arith, body.counted)) body.of_body (λ e. absurd (cc)) (inl (own_known t by folder own))
-  where
-    no_child : (o : Option ℕ) → is_none o ≡ true → o ≡ None
-    no_child None is = refl
-    no_child (Some child) is = absurd (cc)
 
 closes : (t : Tables) (now : ℕ) (who : Option ℕ) (act : Allowed) → ◌≡◌ {A = Result Allowed Denial} (Ok allowed.Close) (Ok act) → Known t now who act
 closes t now who act is = let e : allowed.Close ≡ act = cc in subst (λ (a : Allowed). Known t now who a) e tt
 
 goal_known : (access : Access) (t : Tables) (now : ℕ) (goal : Goal) (outcome : Outcome) (act : Allowed) → AreSound t
-    → IsGoalSound t goal → MayBring goal outcome → ends_goal access t now outcome goal ≡ Ok act → Known t now (storer_of goal) act
-goal_known access t now (Serve content) (Body digest size) act sound goal may is = absurd may
-goal_known access t now (Store by key wanted) (Body digest size) act sound goal may is =
+    → IsGoalSound t goal → IsStorable t goal → MayBring goal outcome → ends_goal access t now outcome goal ≡ Ok act → Known t now (storer_of goal) act
+goal_known access t now (Serve content) (Body digest size) act sound goal held may is = absurd may
+goal_known access t now (Store by key wanted) (Body digest size) act sound goal held may is =
     let h = not_refused (end_refusal t key size) (stored_at t now key digest size) act is in
-    let none = both_none (key_lost t key) _ h.0 in
     let short : size ≤ MAX_BODY = omega (arith, may, goal.0) in
     subst (λ (a : Allowed). Known t now (user_in by.seeker) a) h.1
-    (key_known t now by key digest size sound short goal.1 none.0 (no_limit _ none.1))
-goal_known access t now goal without act sound of may is = closes t now (storer_of goal) act is
+    (key_known t now by key digest size sound short goal.1 held (no_limit _ h.0))
+goal_known access t now goal without act sound of held may is = closes t now (storer_of goal) act is
 
 end_known : (access : Access) (t : Tables) (now : ℕ) (goal : Option Goal) (outcome : Outcome) (act : Allowed) → AreSound t
-    → IfSome goal (IsGoalSound t) → MayEnd goal outcome → ends_at access t now outcome goal ≡ Ok act
+    → IfSome goal (IsGoalSound t) → IfSome goal (IsStorable t) → MayEnd goal outcome → ends_at access t now outcome goal ≡ Ok act
     → Known t now (option_and_then storer_of goal) act
-end_known access t now None outcome act sound of may is = absurd may
-end_known access t now (Some goal) outcome act sound of may is = goal_known access t now goal outcome act sound of may is
+end_known access t now None outcome act sound of held may is = absurd may
+end_known access t now (Some goal) outcome act sound of held may is = goal_known access t now goal outcome act sound of held may is
 
 -- what a seat was granted is sound
 pub goal_sound : (s : State) (seat : ℕ) → IsSound s → IfSome (goal_at s seat) (IsGoalSound s.tables)
@@ -100,10 +95,22 @@ goal_sound s seat sound = here (ticket_of s seat) (found_has (IsTicketSound s.ta
     here None none = tt
     here (Some ticket) is = is.goal
 
+-- what is stored over is there, or its name is free, as long as the seat holds it
+stored_held : (t : Tables) (goal : Goal) (hold : Option Hold) → HoldsFor goal hold → IfSome hold (λ (hold : Hold). IsHeld t hold.key) → IsStorable t goal
+stored_held t (Serve content) hold for held = tt
+stored_held t (Store by key length) hold for held = subst (λ (o : Option Hold). IfSome o (λ (hold : Hold). IsHeld t hold.key)) for held
+
+pub goal_held : (s : State) (seat : ℕ) → IsSound s → IfSome (goal_at s seat) (IsStorable s.tables)
+goal_held s seat sound = here (ticket_of s seat) (found_has (IsTicketSound s.tables) (λ (ticket : Ticket). ticket.seat == seat) s.tickets sound.tickets)
+  where
+    here : (o : Option Ticket) → IfSome o (IsTicketSound s.tables) → IfSome (option_map (λ ticket. ticket.goal) o) (IsStorable s.tables)
+    here None none = tt
+    here (Some ticket) is = stored_held s.tables ticket.goal ticket.hold is.hold is.held
+
 -- ---- every step
 
 pub known_change : (s : State) (seat now : ℕ) (event : Event) (act : Allowed) → IsSound s
     → MayAsk s seat event → decision_of s seat now event ≡ Ok act → Known s.tables now (actor_of s seat event) act
 known_change s seat now (Begin words request) act sound asked is = call_known (call_of s seat now words request) act sound asked.1 is
 known_change s seat now (End outcome) act sound asked is =
-    end_known (access_of s) s.tables now (goal_at s seat) outcome act sound.rows (goal_sound s seat sound) asked is
+    end_known (access_of s) s.tables now (goal_at s seat) outcome act sound.rows (goal_sound s seat sound) (goal_held s seat sound) asked is

@@ -15,6 +15,7 @@ use Rattle.nf_words.specs.declared.answer.Allowed.{Allowed}
 use Rattle.nf_words.specs.declared.answer.Allowed.TheVariants as allowed
 use Rattle.nf_words.specs.declared.answer.By.{By}
 use Rattle.nf_words.specs.declared.answer.LockKey.{LockKey}
+use Rattle.nf_words.specs.declared.answer.LockKey.TheVariants.{Node, Slot}
 use Rattle.nf_words.specs.declared.listing.ListingLine.{ListingLine}
 use Rattle.nf_words.specs.declared.request.Transfer.{Transfer}
 
@@ -23,9 +24,15 @@ pub record KnownServed (t : Tables) (who : Option ℕ) (node : ℕ) (content : L
   pub of_node : content ≡ content_of t.nodes node
   pub path : KnownPath t who (At node)
 
+-- a folder isn't stored over, and a name is free
+abbrev pub FitsKey : Tables → LockKey → Type 0
+FitsKey t (Node node) = is_folder t.nodes node ≡ false
+FitsKey t (Slot folder name) = (is_folder t.nodes folder ≡ true) × (child_of t.nodes folder name ≡ None)
+
 pub record KnownGranted (t : Tables) (who : Option ℕ) (by : By) (key : LockKey) (length : ℕ) : Type 0 where
   pub short : length ≤ MAX_BODY
   pub path : KnownPath t who (place_of key)
+  pub fits : FitsKey t key
   pub storer : by ≡ record { seeker = seeker.User path.row.id; mount = None }
 
 pub record KnownListed (t : Tables) (who : Option ℕ) (listing : List ListingLine) : Type 0 where

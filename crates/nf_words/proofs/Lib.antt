@@ -4,6 +4,7 @@ pub mod Found
 pub mod Bodies
 pub mod Fits
 pub mod Known
+pub mod Spared
 pub mod Starts
 pub mod Transfers
 pub mod Begins

@@ -1,14 +1,15 @@
 -- A step is never answered as failed.
-use Rattle.std.proofs.Common.{◌≡◌, ◌↔◌, ℕ, ◌&&◌, Bool, true, false, List, [], ◌∷◌, Result, Ok, Err, refl, subst}
+use Rattle.std.proofs.Common.{◌≡◌, ◌↔◌, ℕ, ◌&&◌, Bool, true, false, inl, inr, List, [], ◌∷◌, ◌++◌, Result, Ok, Err, refl, subst}
 use Rattle.std.specs.Prelude.{Option, None, Some, option_map, option_and_then, is_some, if◌then◌else◌}
 use Rattle.std.specs.List.{list_all, list_any}
-use Rattle.std.proofs.lemmas.Bool.{both_ways}
+use Rattle.std.proofs.lemmas.Bool.{both_ways, cases_Bool}
+use Rattle.std.proofs.lemmas.Option.{same_Some}
 use Rattle.std.specs.Option.{IfSome, option_or}
 use Rattle.nf_base.specs.declared.rows.NodeRow.{NodeRow}
 use Rattle.nf_defs.specs.Prelude.{Access, Tables}
 use Rattle.nf_defs.specs.declared.Found.{Found}
 use Rattle.nf_defs.specs.declared.Found.TheVariants.{At, Missing}
-use Rattle.nf_words.specs.Prelude.{access_of, allowed_of, answer_at, answer_to, answered_by, asked_by, Call, call_of, decision_of, end_refusal, ends_at, ends_goal, exists_rule, first_that_holds, forbidden_rule, goal_at, has_forbidden, is_caller, is_kept, is_transfer, key_lost, limit_at, limit_rule, limited, not_you_rule, overwrite_rule, pieces_of, place_of, paths_of, place_rule, places_of, refusal_of, Rule, rules, source_lost, State, stored_at, taken, target_lost, target_rule, token_rule, unfit, unless_refused, user_of, users_of}
+use Rattle.nf_words.specs.Prelude.{access_of, allowed_of, answer_at, answer_to, answered_by, asked_by, Call, call_of, decision_of, earlier_rules, end_refusal, ends_at, ends_goal, exists_rule, first_that_holds, forbidden_rule, goal_at, has_forbidden, is_caller, is_kept, is_transfer, key_in_way, later_rules, limit_at, limit_rule, limited, locked_rule, not_you_rule, overwrite_rule, Pass, pieces_of, place_of, paths_of, place_rule, places_of, refusal_of, Rule, rules, source_lost, State, stored_at, taken, target_lost, target_rule, token_rule, touches, unfit, unless_refused, user_of, users_of}
 use Rattle.nf_words.specs.declared.answer.Allowed.{Allowed}
 use Rattle.nf_words.specs.declared.answer.Denial.{Denial}
 use Rattle.nf_words.specs.declared.answer.Denial.TheVariants as denial
@@ -16,7 +17,6 @@ use Rattle.nf_words.specs.declared.answer.Goal.{Goal}
 use Rattle.nf_words.specs.declared.answer.Goal.TheVariants.{Store}
 use Rattle.nf_words.specs.declared.answer.Limit.{Limit}
 use Rattle.nf_words.specs.declared.answer.LockKey.{LockKey}
-use Rattle.nf_words.specs.declared.answer.LockKey.TheVariants.{Node, Slot}
 use Rattle.nf_words.specs.declared.answer.TargetFault.{TargetFault}
 use Rattle.nf_words.specs.declared.history.Entry.{Entry}
 use Rattle.nf_words.specs.declared.history.Event.{Event}
@@ -37,23 +37,38 @@ is_failure denial.RunFull = true
 is_failure denial.Memory = true
 is_failure other = false
 
+-- nor by the rules of who asks, of names and of places, which are tried first: it is a failure, or by a later rule
+abbrev pub is_later : Denial → Bool
+is_later (denial.Locked key) = true
+is_later (denial.Limit limit) = true
+is_later refusal = is_failure refusal
+
+later_failure : (refusal : Denial) → is_later refusal ≡ false → is_failure refusal ≡ false
+later_failure (denial.Locked key) h = refl
+later_failure (denial.Limit limit) h = refl
+later_failure refusal h = h
+
 -- none, or a refusal by a rule
 abbrev IsRefusal : Option Denial → Type 0
 IsRefusal o = IfSome o (λ (refusal : Denial). is_failure refusal ≡ false)
 
-unless_test : (b : Bool) (refusal : Denial) → is_failure refusal ≡ false → IsRefusal (if b then None else Some refusal)
+-- none, or a refusal by a rule that is tried first
+abbrev IsEarly : Option Denial → Type 0
+IsEarly o = IfSome o (λ (refusal : Denial). is_later refusal ≡ false)
+
+unless_test : (b : Bool) (refusal : Denial) → is_later refusal ≡ false → IsEarly (if b then None else Some refusal)
 unless_test true refusal fine = tt
 unless_test false refusal fine = fine
 
-if_test : (b : Bool) (refusal : Denial) → is_failure refusal ≡ false → IsRefusal (if b then Some refusal else None)
+if_test : (b : Bool) (refusal : Denial) → is_later refusal ≡ false → IsEarly (if b then Some refusal else None)
 if_test true refusal fine = fine
 if_test false refusal fine = tt
 
-either : (a b : Option Denial) → IsRefusal a → IsRefusal b → IsRefusal (option_or a b)
+either : (a b : Option Denial) → IsEarly a → IsEarly b → IsEarly (option_or a b)
 either None b fine more = more
 either (Some refusal) b fine more = fine
 
-faults : (o : Option TargetFault) → IsRefusal (option_map denial.BadTarget o)
+faults : (o : Option TargetFault) → IsEarly (option_map denial.BadTarget o)
 faults None = tt
 faults (Some fault) = refl
 
@@ -61,73 +76,103 @@ limits : (o : Option Limit) → IsRefusal (option_map denial.Limit o)
 limits None = tt
 limits (Some limit) = refl
 
-source_fine : (o : Option Found) → IsRefusal (option_and_then source_lost o)
+source_fine : (o : Option Found) → IsEarly (option_and_then source_lost o)
 source_fine None = tt
 source_fine (Some (At node)) = tt
 source_fine (Some nowhere) = refl
 
-target_fine : (o : Option Found) → IsRefusal (option_and_then target_lost o)
+target_fine : (o : Option Found) → IsEarly (option_and_then target_lost o)
 target_fine (Some (Missing depth)) = refl
 target_fine place = tt
 
-taken_fine : (rows : List NodeRow) (places : Places) (makes : Making) → IsRefusal (taken rows places makes)
+taken_fine : (rows : List NodeRow) (places : Places) (makes : Making) → IsEarly (taken rows places makes)
 taken_fine rows places (making.File length) = if_test _ (denial.Exists Files) refl
 taken_fine rows places making.Folder = if_test _ (denial.Exists Files) refl
 taken_fine rows places makes = tt
 
 -- each of some rules refuses so
-abbrev AreRefusals : List Rule → Type 0
-AreRefusals [] = Unit {0}
-AreRefusals (rule ∷ others) = ((access : Access) (call : Call) → IsRefusal (rule access call)) × AreRefusals others
+abbrev AreEarly : List Rule → Type 0
+AreEarly [] = Unit {0}
+AreEarly (rule ∷ others) = ((access : Access) (call : Call) → IsEarly (rule access call)) × AreEarly others
 
-first_fine : (all : List Rule) (access : Access) (call : Call) → AreRefusals all → IsRefusal (first_that_holds all access call)
-first_fine [] access call fine = tt
-first_fine (rule ∷ others) access call fine =
-    either (rule access call) (first_that_holds others access call) (fine.0 access call) (first_fine others access call fine.1)
+-- a later refusal is by the rules behind those that are tried first, which pass
+pub early_pass : (all behind : List Rule) (access : Access) (call : Call) (refusal : Denial) → AreEarly all → is_later refusal ≡ true
+    → first_that_holds (all ++ behind) access call ≡ Some refusal → Pass all access call × (first_that_holds behind access call ≡ Some refusal)
+early_pass [] behind access call refusal early later is = (tt, is)
+early_pass (rule ∷ others) behind access call refusal early later is =
+    here (rule access call) refl (early.0 access call) is (λ is. early_pass others behind access call refusal early.1 later is)
+  where
+    here : (o : Option Denial) → rule access call ≡ o → IsEarly o → option_or o (first_that_holds (others ++ behind) access call) ≡ Some refusal
+        → (first_that_holds (others ++ behind) access call ≡ Some refusal → Pass others access call × (first_that_holds behind access call ≡ Some refusal))
+        → Pass (rule ∷ others) access call × (first_that_holds behind access call ≡ Some refusal)
+    here None e fine is rest = let h = rest is in ((e, h.0), h.1)
+    here (Some other) e fine is rest =
+        absurd (both_ways (is_later refusal) (subst (λ (d : Denial). is_later d ≡ false) (same_Some other refusal is) fine) later)
 
-token_fine : (access : Access) (call : Call) → IsRefusal (token_rule access call)
+token_fine : (access : Access) (call : Call) → IsEarly (token_rule access call)
 unfolding token_rule
 token_fine access call = unless_test (is_some (user_of call)) denial.Token refl
 
-not_you_fine : (access : Access) (call : Call) → IsRefusal (not_you_rule access call)
+not_you_fine : (access : Access) (call : Call) → IsEarly (not_you_rule access call)
 unfolding not_you_rule
 not_you_fine access call = unless_test (list_all (is_caller call) (users_of (asked_by call))) denial.NotYou refl
 
-forbidden_fine : (access : Access) (call : Call) → IsRefusal (forbidden_rule access call)
+forbidden_fine : (access : Access) (call : Call) → IsEarly (forbidden_rule access call)
 unfolding forbidden_rule
 forbidden_fine access call = if_test (list_any has_forbidden (paths_of (asked_by call))) denial.ForbiddenName refl
 
-place_fine : (access : Access) (call : Call) → IsRefusal (place_rule access call)
+place_fine : (access : Access) (call : Call) → IsEarly (place_rule access call)
 unfolding place_rule
 place_fine access call =
     let places = places_of call in
     either (option_and_then source_lost places.source) (option_and_then target_lost places.target)
     (source_fine places.source) (target_fine places.target)
 
-exists_fine : (access : Access) (call : Call) → IsRefusal (exists_rule access call)
+exists_fine : (access : Access) (call : Call) → IsEarly (exists_rule access call)
 unfolding exists_rule
 exists_fine access call = taken_fine call.state.tables.nodes (places_of call) (asked_by call).makes
 
-fit_fine : (access : Access) (call : Call) → IsRefusal (target_rule access call)
+fit_fine : (access : Access) (call : Call) → IsEarly (target_rule access call)
 unfolding target_rule
 fit_fine access call = faults (unfit call.state.tables.nodes (asked_by call) (places_of call))
 
-overwrite_fine : (access : Access) (call : Call) → IsRefusal (overwrite_rule access call)
+overwrite_fine : (access : Access) (call : Call) → IsEarly (overwrite_rule access call)
 unfolding overwrite_rule
 overwrite_fine access call = if_test (is_transfer (asked_by call).makes && is_kept (asked_by call).overwrites (places_of call)) denial.Overwrite refl
+
+keys : (o : Option LockKey) → IsRefusal (option_map denial.Locked o)
+keys None = tt
+keys (Some key) = refl
+
+locked_fine : (access : Access) (call : Call) → IsRefusal (locked_rule access call)
+unfolding locked_rule
+locked_fine access call =
+    keys (key_in_way call.state.tables.nodes call.seat (touches call.state.tables.nodes (asked_by call) (places_of call)) call.state.tickets)
 
 limit_fine : (access : Access) (call : Call) → IsRefusal (limit_rule access call)
 unfolding limit_rule
 limit_fine access call = limits (limited call.state.tables (places_of call) (asked_by call).makes)
 
-refusals : (access : Access) (call : Call) → IsRefusal (refusal_of access call)
-refusals access call =
-    first_fine rules access call
-    (token_fine, (not_you_fine, (forbidden_fine, (place_fine, (exists_fine, (fit_fine, (overwrite_fine, (limit_fine, tt))))))))
+pub early : AreEarly earlier_rules
+early = (token_fine, (not_you_fine, (forbidden_fine, (place_fine, (exists_fine, (fit_fine, (overwrite_fine, tt)))))))
 
-lost_fine : (t : Tables) (key : LockKey) → IsRefusal (key_lost t key)
-lost_fine t (Node node) = unless_test _ denial.NotFound refl
-lost_fine t (Slot folder name) = unless_test _ denial.NotFound refl
+either_later : (a b : Option Denial) → IsRefusal a → IsRefusal b → IsRefusal (option_or a (option_or b None))
+either_later None None fine more = tt
+either_later None (Some refusal) fine more = more
+either_later (Some refusal) b fine more = fine
+
+refusals : (access : Access) (call : Call) → IsRefusal (refusal_of access call)
+refusals access call = here (refusal_of access call) refl
+  where
+    here : (o : Option Denial) → refusal_of access call ≡ o → IsRefusal o
+    here None is = tt
+    here (Some refusal) is =
+        elim (cases_Bool (is_later refusal)) [
+          | inl later ↦
+              (subst IsRefusal (early_pass earlier_rules later_rules access call refusal early later is).1
+              (either_later (locked_rule access call) (limit_rule access call) (locked_fine access call) (limit_fine access call)))
+          | inr first ↦ later_failure refusal first
+        ]
 
 -- a decision isn't a failure
 abbrev IsDecided : Result Allowed Denial → Type 0
@@ -140,7 +185,7 @@ unless_fine (Some refusal) act fine = fine
 
 goal_fine : (access : Access) (t : Tables) (now : ℕ) (outcome : Outcome) (goal : Goal) → IsDecided (ends_goal access t now outcome goal)
 goal_fine access t now (Body digest size) (Store by key wanted) =
-    unless_fine (end_refusal t key size) (stored_at t now key digest size) (either (key_lost t key) _ (lost_fine t key) (limits (limit_at t (pieces_of size) (place_of key))))
+    unless_fine (end_refusal t key size) (stored_at t now key digest size) (limits (limit_at t (pieces_of size) (place_of key)))
 goal_fine access t now outcome goal = tt
 
 at_fine : (access : Access) (t : Tables) (now : ℕ) (outcome : Outcome) (goal : Option Goal) → IsDecided (ends_at access t now outcome goal)

@@ -3,11 +3,12 @@ use Rattle.std.proofs.Common.{◌≡◌, Bool, true, false, List, [], ◌∷◌,
 use Rattle.std.specs.Prelude.{None, Option, Some, option_map, if◌then◌else◌}
 use Rattle.std.specs.Option.{option_or}
 use Rattle.nf_defs.specs.Access.{Access}
-use Rattle.nf_words.specs.Prelude.{access_of, allowed_of, Call, call_decision, exists_rule, first_that_holds, forbidden_rule, limit_rule, not_you_rule, overwrite_rule, Pass, place_rule, refusal_of, Rule, rules, target_rule, token_rule, unless_refused}
+use Rattle.nf_words.specs.Prelude.{access_of, allowed_of, Call, call_decision, exists_rule, first_that_holds, forbidden_rule, limit_rule, locked_rule, not_you_rule, overwrite_rule, Pass, place_rule, refusal_of, Rule, rules, target_rule, token_rule, unless_refused}
 use Rattle.nf_words.specs.declared.answer.Allowed.{Allowed}
 use Rattle.nf_words.specs.declared.answer.Denial.{Denial}
 use Rattle.nf_words.specs.declared.answer.Denial.TheVariants as denial
 use Rattle.nf_words.specs.declared.answer.Limit.{Limit}
+use Rattle.nf_words.specs.declared.answer.LockKey.{LockKey}
 use Rattle.nf_words.specs.declared.answer.TargetFault.{TargetFault}
 
 -- the rules pass it. A new rule adds a field, and its place in `named` and `in_order`
@@ -19,10 +20,11 @@ pub record Passes (access : Access) (call : Call) : Type 0 where
   pub exists : exists_rule access call ≡ None
   pub target : target_rule access call ≡ None
   pub overwrite : overwrite_rule access call ≡ None
+  pub locked : locked_rule access call ≡ None
   pub limit : limit_rule access call ≡ None
 
 named : (access : Access) (call : Call) → Pass rules access call → Passes access call
-named access call (token, (not_you, (forbidden, (place, (exists, (target, (overwrite, (limit, end)))))))) = record {
+named access call (token, (not_you, (forbidden, (place, (exists, (target, (overwrite, (locked, (limit, end))))))))) = record {
   token = token;
   not_you = not_you;
   forbidden = forbidden;
@@ -30,12 +32,13 @@ named access call (token, (not_you, (forbidden, (place, (exists, (target, (overw
   exists = exists;
   target = target;
   overwrite = overwrite;
+  locked = locked;
   limit = limit;
 }
 
 pub in_order : (access : Access) (call : Call) → Passes access call → Pass rules access call
 in_order access call p =
-    (p.token, (p.not_you, (p.forbidden, (p.place, (p.exists, (p.target, (p.overwrite, (p.limit, tt))))))))
+    (p.token, (p.not_you, (p.forbidden, (p.place, (p.exists, (p.target, (p.overwrite, (p.locked, (p.limit, tt)))))))))
 
 -- ---- of a call
 
@@ -68,6 +71,10 @@ call_passes call act is =
 pub no_fault : (fault : Option TargetFault) → option_map denial.BadTarget fault ≡ None → fault ≡ None
 no_fault None none = refl
 no_fault (Some fault) none = absurd (cc)
+
+pub no_key : (key : Option LockKey) → option_map denial.Locked key ≡ None → key ≡ None
+no_key None none = refl
+no_key (Some key) none = absurd (cc)
 
 pub no_limit : (passed : Option Limit) → option_map denial.Limit passed ≡ None → passed ≡ None
 no_limit None none = refl

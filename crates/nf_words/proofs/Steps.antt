@@ -51,7 +51,7 @@ find-filter-not p (x ∷ xs) = here (p x) refl (find-filter-not p xs)
     here false e rest = simp e rest
 
 -- where a look-up finds nothing, each element fails
-fails_each : {X : Type 0} (p : X → Bool) (xs : List X) → IsNone (find p xs) → (k : ℕ) (d : X) → k < length xs → p (get_or xs k d) ≡ false
+pub fails_each : {X : Type 0} (p : X → Bool) (xs : List X) → IsNone (find p xs) → (k : ℕ) (d : X) → k < length xs → p (get_or xs k d) ≡ false
 fails_each p [] none k d within = absurd (omega arith)
 fails_each p (x ∷ xs) none k d within = here (p x) k refl none within (λ none k within. fails_each p xs none k d within)
   where
@@ -64,7 +64,7 @@ fails_each p (x ∷ xs) none k d within = here (p x) k refl none within (λ none
 pub freed : (s : State) (seat : ℕ) → ticket_of (without_ticket s seat) seat ≡ None
 freed s seat = find-filter-not (λ ticket. ticket.seat == seat) s.tickets
 
-other_without : (s : State) (seat : ℕ) (event : Event) (other : ℕ) → other ≢ seat → ticket_of (without s seat event) other ≡ ticket_of s other
+pub other_without : (s : State) (seat : ℕ) (event : Event) (other : ℕ) → other ≢ seat → ticket_of (without s seat event) other ≡ ticket_of s other
 other_without s seat (Begin words request) other differ = refl
 other_without s seat (End outcome) other differ =
     find-filter (λ ticket. ticket.seat == other) (λ ticket. not (ticket.seat == seat)) (λ ticket is. grind (arith, common_steps)) s.tickets

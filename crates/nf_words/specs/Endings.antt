@@ -1,9 +1,8 @@
 -- The End of a request in two steps. One with a body is decided by the tables of its own moment, not by those of its Begin.
-use Rattle.std.specs.Prelude.{ℕ, ◌==◌, ◌&&◌, List, [], ◌∷◌, Option, None, Some, is_none, option_map, Result, Ok, Err, if◌then◌else◌}
-use Rattle.std.specs.Option.{option_or}
+use Rattle.std.specs.Prelude.{ℕ, ◌==◌, List, [], ◌∷◌, Option, None, Some, option_map, Result, Ok, Err, if◌then◌else◌}
 use Rattle.nf_base.specs.declared.content.Piece.{Piece}
 use Rattle.nf_base.specs.declared.rows.NodeKind.TheVariants.{File}
-use Rattle.nf_defs.specs.Prelude.{Access, child_of, is_file, is_folder, node_row, Tables}
+use Rattle.nf_defs.specs.Prelude.{Access, node_row, Tables}
 use Rattle.nf_defs.specs.declared.Found.{Found}
 use Rattle.nf_defs.specs.declared.Found.TheVariants.{At, Free}
 use Rattle.nf_words.specs.Changes.{makes, new_node, refilled}
@@ -30,15 +29,9 @@ abbrev pub place_of : LockKey → Found
 place_of (Node node) = At node
 place_of (Slot folder name) = Free folder
 
--- `not-found`: the file isn't there any more; or the folder isn't, or has such a name by now
-abbrev pub key_lost : Tables → LockKey → Option Denial
-key_lost t (Node node) = if is_file t.nodes node then None else Some denial.NotFound
-key_lost t (Slot folder name) =
-    if is_folder t.nodes folder && is_none (child_of t.nodes folder name) then None else Some denial.NotFound
-
--- the first rule that refuses the End of a PUT: `not-found`, `limit`
+-- the rule that refuses the End of a PUT: `limit`. What is held is still there
 abbrev pub end_refusal : Tables → LockKey → ℕ → Option Denial
-end_refusal t key length = option_or (key_lost t key) (option_map denial.Limit (limit_at t (pieces_of length) (place_of key)))
+end_refusal t key length = option_map denial.Limit (limit_at t (pieces_of length) (place_of key))
 
 -- the blob of a body: the next one, or none for an empty body
 abbrev pub blob_for : ℕ → ℕ → Option ℕ

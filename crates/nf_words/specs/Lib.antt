@@ -8,6 +8,8 @@ pub mod Needed
 pub mod Limits
 pub mod Listing
 pub mod Copies
+pub mod Holds
+pub mod Locks
 pub mod Rules
 pub mod Changes
 pub mod Endings

@@ -8,20 +8,23 @@ pub use Rattle.nf_words.specs.Changes.{above, allowed_of, altered, blob_after, b
 pub use Rattle.nf_words.specs.Contents.{IsPieceSound, contents_of, row_content, stored_pieces}
 pub use Rattle.nf_words.specs.Copies.{copied_row, copies_of_all, copies_to, renamed}
 unfoldable pub use Rattle.nf_words.specs.Copies.{copies_within}
-pub use Rattle.nf_words.specs.Endings.{blob_for, content_in, end_decision, end_refusal, ends_at, ends_goal, key_lost, place_of, stored_at, stores, unless_refused}
+pub use Rattle.nf_words.specs.Endings.{blob_for, content_in, end_decision, end_refusal, ends_at, ends_goal, place_of, stored_at, stores, unless_refused}
 pub use Rattle.nf_words.specs.Fine.{IsBorn, IsFilled}
 pub use Rattle.nf_words.specs.History.{IsLegal, IsLegalFrom, LeavesRoom, MayAsk, MayBear, MayBring, MayCome, MayEnd, MayWant, NamesUser, after, after_mark, answer_at, failed, replay}
+pub use Rattle.nf_words.specs.Holds.{AreApartHolds, AreKeysApart, blocks, clashes, covers, IsHeld, is_exclusive, key_in_way, least, lesser, mode_of, node_of_key, same_key, Touch, touch_key, touch_under}
 pub use Rattle.nf_words.specs.Later.{HasNoLater, is_later}
 pub use Rattle.nf_words.specs.Laws.{Pass}
 pub use Rattle.nf_words.specs.Lean.{IsLean, changed_key}
 pub use Rattle.nf_words.specs.Limits.{copy_limit, count_of, deepest, deepest_in, last_number, limit_at, limit_passed, limited, move_limit, pieces_in, pieces_of}
 unfoldable pub use Rattle.nf_words.specs.Limits.{limit_rule}
 pub use Rattle.nf_words.specs.Listing.{bytes_of, line_of, listing_of}
+pub use Rattle.nf_words.specs.Locks.{source_touches, target_name, target_touches, touched, touches, transfer_touches}
+unfoldable pub use Rattle.nf_words.specs.Locks.{locked_rule}
 pub use Rattle.nf_words.specs.Needed.{Need, allows, is_owner, is_within, may_by, needed, needed_by, needs, needs_at, needs_between, needs_in}
 pub use Rattle.nf_words.specs.Others.{AreOthersSound}
 pub use Rattle.nf_words.specs.Places.{folder_at, has_forbidden, is_kept, is_there, lost, misplaced, node_at, node_found, source_lost, taken, target_lost, transfer_of, transfer_to, unfit, unfit_between}
 unfoldable pub use Rattle.nf_words.specs.Places.{exists_rule, forbidden_rule, overwrite_rule, place_rule, target_rule}
-pub use Rattle.nf_words.specs.Rules.{Rule, first_that_holds, refusal_of, rules}
-pub use Rattle.nf_words.specs.Sound.{AreApart, AreCounters, AreSound, HasRoot, HoldsFor, IsGoalSound, IsNodeSound, IsOwn, IsPlaceSound, IsSound, IsTicketSound, IsTop, MayStoreAt, node_of_key, root_of_user}
+pub use Rattle.nf_words.specs.Rules.{Rule, earlier_rules, first_that_holds, later_rules, refusal_of, rules}
+pub use Rattle.nf_words.specs.Sound.{AreApart, AreCounters, AreSound, HasRoot, HoldsFor, IsGoalSound, IsNodeSound, IsOwn, IsPlaceSound, IsSound, IsStorable, IsTicketSound, IsTop, MayStoreAt, root_of_user}
 pub use Rattle.nf_words.specs.State.{State, access_of, goal_at, opened, ticket_for, ticket_of, without_ticket}
 pub use Rattle.nf_words.specs.Step.{answer_to, answered_by, blob_by, blob_to, call_decision, call_of, changes_by, changes_to, decided, decision_of, step, stepped_by, without}

@@ -1,20 +1,21 @@
 -- The order of the rules that refuse a request. Adding one is a line here and its definition.
-use Rattle.std.specs.Prelude.{List, [], ◌∷◌, Option, None}
+use Rattle.std.specs.Prelude.{List, [], ◌∷◌, ◌++◌, Option, None}
 use Rattle.std.specs.Option.{option_or}
 use Rattle.nf_defs.specs.Access.{Access}
 use Rattle.nf_words.specs.Calls.{Call}
 use Rattle.nf_words.specs.Callers.{token_rule, not_you_rule}
 use Rattle.nf_words.specs.Places.{forbidden_rule, place_rule, exists_rule, target_rule, overwrite_rule}
 use Rattle.nf_words.specs.Limits.{limit_rule}
+use Rattle.nf_words.specs.Locks.{locked_rule}
 use Rattle.nf_words.specs.declared.answer.Denial.{Denial}
 
 -- a test of a call by what shares let their seekers do, which refuses it or passes. None reads the shares yet
 abbrev pub Rule : Type 0
 Rule = Access → Call → Option Denial
 
--- the order in which they are tried
-abbrev pub rules : List Rule
-rules =
+-- the rules of who asks, of names and of places
+abbrev pub earlier_rules : List Rule
+earlier_rules =
     token_rule
     ∷ not_you_rule
     ∷ forbidden_rule
@@ -22,8 +23,15 @@ rules =
     ∷ exists_rule
     ∷ target_rule
     ∷ overwrite_rule
-    ∷ limit_rule
     ∷ []
+
+-- those of what others hold and of limits
+abbrev pub later_rules : List Rule
+later_rules = locked_rule ∷ limit_rule ∷ []
+
+-- the order in which they are tried
+abbrev pub rules : List Rule
+rules = earlier_rules ++ later_rules
 
 -- the answer of the first rule that holds
 abbrev pub first_that_holds : List Rule → Access → Call → Option Denial

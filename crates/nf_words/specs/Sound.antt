@@ -1,5 +1,5 @@
 -- Sound states: their nodes and tickets keep the rules of the site. The acts that are built change no other row.
-use Rattle.std.specs.Prelude.{◌≡◌, ◌≢◌, ℕ, ◌<◌, ◌≤◌, All, true, List, [], length, Option, None, Some, is_some}
+use Rattle.std.specs.Prelude.{◌≡◌, ◌≢◌, ℕ, ◌<◌, ◌≤◌, All, true, List, [], length, Option, None, Some, IfSome, is_some}
 use Rattle.std.specs.List.{AllPairs}
 use Rattle.std.specs.Option.{option_map_or}
 use Rattle.nf_base.specs.declared.limits.TheConstants.{MAX_BODY}
@@ -13,6 +13,7 @@ use Rattle.nf_defs.specs.declared.Seeker.{Seeker}
 use Rattle.nf_defs.specs.declared.Seeker.TheVariants as seeker
 use Rattle.nf_words.specs.Contents.{IsPieceSound, stored_pieces}
 use Rattle.nf_words.specs.Later.{HasNoLater}
+use Rattle.nf_words.specs.Holds.{AreApartHolds, IsHeld, node_of_key}
 use Rattle.nf_words.specs.Limits.{count_of}
 use Rattle.nf_words.specs.Others.{AreOthersSound}
 use Rattle.nf_words.specs.State.{State}
@@ -21,8 +22,7 @@ use Rattle.nf_words.specs.declared.answer.Goal.{Goal}
 use Rattle.nf_words.specs.declared.answer.Goal.TheVariants.{Serve, Store}
 use Rattle.nf_words.specs.declared.answer.Hold.{Hold}
 use Rattle.nf_words.specs.declared.answer.Limit.TheVariants as limit
-use Rattle.nf_words.specs.declared.answer.LockKey.{LockKey}
-use Rattle.nf_words.specs.declared.answer.LockKey.TheVariants.{Node, Slot}
+use Rattle.nf_words.specs.declared.answer.LockKey.TheVariants.{Node}
 use Rattle.nf_words.specs.declared.answer.Mode.TheVariants.{Exclusive, Shared}
 use Rattle.nf_words.specs.declared.history.Ticket.{Ticket}
 
@@ -92,11 +92,6 @@ pub record AreSound (t : Tables) : Type 0 where
 
 -- ---- tickets
 
--- the node that is stored over, or the folder of the free name
-abbrev pub node_of_key : LockKey → ℕ
-node_of_key (Node node) = node
-node_of_key (Slot folder name) = folder
-
 -- a node's number was given, and as long as the node is there it is that user's
 pub record IsOwn (t : Tables) (user node : ℕ) : Type 0 where
   pub given : node < t.meta.next_node
@@ -121,9 +116,15 @@ abbrev pub HoldsFor : Goal → Option Hold → Type 0
 HoldsFor (Serve content) hold = (node : ℕ) × (hold ≡ Some (record { key = Node node; mode = Shared }))
 HoldsFor (Store by key length) hold = hold ≡ Some (record { key = key; mode = Exclusive })
 
+-- what is stored over is there, or its name is free
+abbrev pub IsStorable : Tables → Goal → Type 0
+IsStorable t (Serve content) = Unit {0}
+IsStorable t (Store by key length) = IsHeld t key
+
 pub record IsTicketSound (t : Tables) (ticket : Ticket) : Type 0 where
   pub goal : IsGoalSound t ticket.goal
   pub hold : HoldsFor ticket.goal ticket.hold
+  pub held : IfSome ticket.hold (λ hold. IsHeld t hold.key)
 
 -- ---- states
 
@@ -132,3 +133,4 @@ pub record IsSound (s : State) : Type 0 where
   pub seen : s.tables.meta.last ≤ s.seen
   pub seats : AllPairs (λ (a b : Ticket). a.seat ≢ b.seat) s.tickets
   pub tickets : All (IsTicketSound s.tables) s.tickets
+  pub apart : AllPairs (λ (a b : Ticket). AreApartHolds a.hold b.hold) s.tickets

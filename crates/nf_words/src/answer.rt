@@ -1,6 +1,6 @@
 //! Answers.
 
-ghost use Rattle.std.specs.Prelude.{◌≡◌};
+ghost use Rattle.std.specs.Prelude.{◌≡◌, IfOk};
 ghost use Rattle.nf_words.specs.Limits.{count_of};
 
 use crate::{Listing, Route, Transfer};
@@ -9,6 +9,7 @@ use nf_base::{
     NodeId, NodeRow,
 };
 use nf_defs::Seeker;
+use std::alloc::AllocError;
 use std::marker::Model;
 
 /// Why a request is refused. Each has a status of RFC 9110 or RFC 4918 and a reason of its own.
@@ -42,6 +43,8 @@ pub enum Denial {
     TooLarge,
     /// 415: the request takes no body.
     Body,
+    /// 423: another session holds what would be read, changed or named so; that is the key that it holds.
+    Locked(LockKey),
     /// 431: the head is over `MAX_HEAD` bytes or `MAX_FIELDS` fields.
     Head,
     /// 500: the store failed.
@@ -134,6 +137,21 @@ pub enum LockKey {
     Node(NodeId),
     /// A free name in a folder.
     Slot { folder: NodeId, name: Name },
+}
+
+impl LockKey {
+    /// An equal key.
+    pub fn copy(&self) -> Result<LockKey, AllocError>
+        ensures { IfOk result (λ copy. copy ≡ self.now) }
+    {
+        match self {
+            LockKey::Node(node) => Ok(LockKey::Node(*node)),
+            LockKey::Slot { folder, name } => Ok(LockKey::Slot {
+                folder: *folder,
+                name: name.copy()?,
+            }),
+        }
+    }
 }
 
 /// Whether a key is held beside others who read, or alone.

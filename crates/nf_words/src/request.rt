@@ -1,7 +1,8 @@
 //! Requests.
 
 ghost use Rattle.std.specs.Prelude.{◌≡◌};
-ghost use Rattle.nf_words.specs.Asked.{asked_of};
+ghost use Rattle.nf_words.specs.Asked.{asked_of, asks_nothing};
+ghost use Rattle.nf_words.specs.declared.request.Wanted.TheVariants as wanted;
 
 use nf_base::{Digest, Name, NodeId, Path};
 use nf_defs::Found;
@@ -94,62 +95,80 @@ impl<'a> Model for Asked<'a> {
     } };
 }
 
-impl Wanted {
-    /// What it asks for: the clause of each act.
-    pub fn asked(&self) -> Asked<'_>
-        ensures { result ≡ asked_of self.now }
+impl<'a> Asked<'a> {
+    /// What names no place.
+    fn nothing() -> Self
+        ensures { result ≡ asks_nothing }
     {
-        let nothing = Asked {
+        Asked {
             source: None,
             target: None,
             makes: Making::Nothing,
             removes: false,
             overwrites: false,
-        };
+        }
+    }
+}
+
+impl Wanted {
+    /// What it asks for: the clause of each act.
+    pub fn asked(&self) -> Asked<'_>
+        ensures { result ≡ asked_of self.now }
+    {
         match self {
             Wanted::Get(spot) => Asked {
                 source: Some(spot),
-                ..nothing
+                ..Asked::nothing()
             },
             Wanted::Put { spot, length } => Asked {
                 target: Some(spot),
                 makes: Making::File { length: *length },
                 overwrites: true,
-                ..nothing
+                ..Asked::nothing()
             },
             Wanted::Mkcol(spot) => Asked {
                 target: Some(spot),
                 makes: Making::Folder,
-                ..nothing
+                ..Asked::nothing()
             },
             Wanted::Delete(spot) => Asked {
                 source: Some(spot),
                 removes: true,
-                ..nothing
+                ..Asked::nothing()
             },
             Wanted::Move {
                 source,
                 target,
                 overwrite,
-            } => Asked {
-                source: Some(source),
-                target: Some(target),
-                makes: Making::Moved,
-                removes: true,
-                overwrites: *overwrite,
-            },
+            } => moves(source, target, *overwrite),
             Wanted::Copy {
                 source,
                 target,
                 overwrite,
-            } => Asked {
-                source: Some(source),
-                target: Some(target),
-                makes: Making::Copied,
-                removes: false,
-                overwrites: *overwrite,
-            },
+            } => copies(source, target, *overwrite),
         }
+    }
+}
+
+fn moves<'a>(source: &'a Spot, target: &'a Spot, overwrites: bool) -> Asked<'a>
+    ensures { result ≡ asked_of (wanted.Move source.now target.now overwrites) }
+{
+    Asked {
+        removes: true,
+        makes: Making::Moved,
+        ..copies(source, target, overwrites)
+    }
+}
+
+fn copies<'a>(source: &'a Spot, target: &'a Spot, overwrites: bool) -> Asked<'a>
+    ensures { result ≡ asked_of (wanted.Copy source.now target.now overwrites) }
+{
+    Asked {
+        source: Some(source),
+        target: Some(target),
+        makes: Making::Copied,
+        removes: false,
+        overwrites,
     }
 }
 

@@ -12,7 +12,7 @@ use nf_hub::{Began, Hub, Seat, Ticket};
 use nf_keeper::{Keeper, MemKeeper};
 use nf_session::Ending;
 use nf_site::demo_rows;
-use nf_words::{Answer, Caller, Denial, Goal, Reply, Request, Spot, Wanted, Words};
+use nf_words::{Answer, Caller, Denial, Goal, LockKey, Reply, Request, Spot, Wanted, Words};
 use std::alloc::{AllocError, Global};
 use std::process::Abort;
 use std::sync::Wait;
@@ -169,8 +169,8 @@ fn start<K: Keeper + Drop>(alloc: Global, keeper: K, opening: Opening) -> Starte
     Ok((Shared { alloc, hub, stage }, seat))
 }
 
-/// How what is asked amid a PUT is answered, where the PUT then finds its place no more.
-fn overtaken<K: Keeper + Drop + Send, R: Threads + Wait + Sync>(
+/// What is in the way of what is asked amid a PUT, where that is refused and the PUT is then stored.
+fn in_way<K: Keeper + Drop + Send, R: Threads + Wait + Sync>(
     rt: &R,
     shared: &Shared<K>,
     put: &[&str],
@@ -178,20 +178,38 @@ fn overtaken<K: Keeper + Drop + Send, R: Threads + Wait + Sync>(
     path: &[&str],
     first: &mut Seat<K>,
     second: &mut Seat<K>,
-) -> Option<Reply>
+) -> Option<LockKey>
     requires { IsIdleSeat K.Keeper shared.now.hub first.old × IsIdleSeat K.Keeper shared.now.hub second.old }
     ensures { IsIdleSeat K.Keeper shared.now.hub first.new × IsIdleSeat K.Keeper shared.now.hub second.new }
 {
-    let (put, other) = put_amid(rt, shared, put, act, path, first, second);
-    if matches!(put, Err(Denial::NotFound)) {
-        other.ok()
-    } else {
-        None
+    let (put, asked) = put_amid(rt, shared, put, act, path, first, second);
+    if put.is_err() {
+        return None;
+    }
+    match asked {
+        Err(Denial::Locked(key)) => Some(key),
+        _ => None,
     }
 }
 
-// One free name, a file that is removed, and a folder that is.
-fn overtake<K: Keeper + Drop + Send, R: Threads + Wait + Sync + Abort>(
+fn is_slot(key: &Option<LockKey>, number: u64, text: &str) -> bool {
+    match key {
+        Some(LockKey::Slot { folder, name }) => {
+            folder.number() == number && name.as_bytes() == text.as_bytes()
+        }
+        Some(LockKey::Node(_)) | None => false,
+    }
+}
+
+fn is_node(key: &Option<LockKey>, number: u64) -> bool {
+    match key {
+        Some(LockKey::Node(node)) => node.number() == number,
+        Some(LockKey::Slot { .. }) | None => false,
+    }
+}
+
+// One free name, a file that is to be removed, and a folder that is.
+fn meet<K: Keeper + Drop + Send, R: Threads + Wait + Sync + Abort>(
     rt: &R,
     shared: &Shared<K>,
     a: &mut Seat<K>,
@@ -200,13 +218,13 @@ fn overtake<K: Keeper + Drop + Send, R: Threads + Wait + Sync + Abort>(
     requires { IsIdleSeat K.Keeper shared.now.hub a.old × IsIdleSeat K.Keeper shared.now.hub b.old }
     ensures { IsIdleSeat K.Keeper shared.now.hub a.new × IsIdleSeat K.Keeper shared.now.hub b.new }
 {
-    let made = overtaken(rt, shared, &["x"], Act::Put, &["x"], a, b);
-    assert!(rt; matches!(made, Some(Reply::Made)));
-    let removed = overtaken(rt, shared, &["x"], Act::Delete, &["x"], b, a);
-    assert!(rt; matches!(removed, Some(Reply::Done)));
+    let name = in_way(rt, shared, &["x"], Act::Put, &["x"], a, b);
+    assert!(rt; is_slot(&name, 1, "x"));
+    let file = in_way(rt, shared, &["x"], Act::Delete, &["x"], b, a);
+    assert!(rt; is_node(&file, 5));
     let _ = ask(rt, shared, (0, 0), Act::Mkcol, &["d"], b);
-    let removed = overtaken(rt, shared, &["d", "x"], Act::Delete, &["d"], a, b);
-    assert!(rt; matches!(removed, Some(Reply::Done)));
+    let name = in_way(rt, shared, &["d", "x"], Act::Delete, &["d"], a, b);
+    assert!(rt; is_slot(&name, 6, "x"));
 }
 
 #[test]
@@ -215,10 +233,10 @@ fn what_two_seats_do_to_each_other(rt: HostRuntime) -> Result<(), Fail> {
     let started = start(alloc, MemKeeper::new(alloc, &[])?, demonstration(alloc)?);
     let (shared, mut a) = started.ok().ok_or("no hub")?;
     let mut b = shared.hub.split(&mut a).ok_or("no seat")?;
-    overtake(&rt, &shared, &mut a, &mut b);
+    meet(&rt, &shared, &mut a, &mut b);
     shared.hub.join(&mut a, b);
     assert!(rt; a.whole());
-    assert!(rt; shared.hub.close(a).0.history().len() == 11);
+    assert!(rt; shared.hub.close(a).0.history().len() == 10);
     Ok(())
 }
 

@@ -83,7 +83,7 @@ fn demo_keeper<R: Threads + Wait + Sync>(rt: &R, alloc: Global) -> Result<MemKee
 }
 
 /// How a run by these words ends over the demonstration rows, with these workers.
-fn status_of<R, D>(
+pub fn status_of<R, D>(
     rt: &R,
     alloc: Global,
     words: &[&str],

@@ -7,4 +7,6 @@ mod doors;
 #[cfg(test)]
 mod faults;
 #[cfg(test)]
+mod holds;
+#[cfg(test)]
 mod words;

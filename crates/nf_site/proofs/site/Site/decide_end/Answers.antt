@@ -1,7 +1,7 @@
-use Rattle.std.proofs.Common.{Option, ◌==◌, sym, subst}
+use Rattle.std.proofs.Common.{Option, option_map, sym, subst}
 use Rattle.std.specs.Option.{IfSome}
-use Rattle.nf_words.proofs.Found.{found_has}
-use Rattle.nf_words.specs.Sound.{IsGoalSound, IsTicketSound}
+use Rattle.nf_words.proofs.Ends.{goal_held, goal_sound}
+use Rattle.nf_words.specs.Sound.{IsGoalSound, IsStorable}
 use Rattle.nf_words.specs.State.{State}
 use Rattle.nf_words.specs.declared.history.Ticket.{Ticket}
 use Rattle.nf_site.proofs.site.Site.decide_end.Goals as goal
@@ -10,7 +10,14 @@ use Rattle.nf_site.proofs.site.Site.decide_end.Goals as goal
 pub decide_end-requires-clause-sound : goal.decide_end-requires-clause-sound
 decide_end-requires-clause-sound c =
     let s = c.self.inside.current.state in
-    let IsFit = IsTicketSound s.tables in
-    let sound = found_has IsFit (λ ticket. ticket.seat == c.args.seat) s.tickets c.self.invariant.sound.tickets in
     subst (λ (it : State). IsGoalSound it.tables c.in-Some.ticket.now.goal) (sym c.view.ensures)
-    (subst (λ (o : Option Ticket). IfSome o IsFit) (sym c.in-Some.ensures) sound).goal
+    (subst (λ (o : Option Ticket). IfSome (option_map (λ ticket. ticket.goal) o) (IsGoalSound s.tables)) (sym c.in-Some.ensures)
+    (goal_sound s c.args.seat c.self.invariant.sound))
+
+-- and what it is to store over is there
+pub decide_end-requires-clause-held : goal.decide_end-requires-clause-held
+decide_end-requires-clause-held c =
+    let s = c.self.inside.current.state in
+    subst (λ (it : State). IsStorable it.tables c.in-Some.ticket.now.goal) (sym c.view.ensures)
+    (subst (λ (o : Option Ticket). IfSome (option_map (λ ticket. ticket.goal) o) (IsStorable s.tables)) (sym c.in-Some.ensures)
+    (goal_held s c.args.seat c.self.invariant.sound))

@@ -1,0 +1,75 @@
+-- The rules that take memory come behind the others.
+use Rattle.std.proofs.Common.{◌≡◌, List, [], ◌∷◌, ◌++◌, Option, None, Some, Ok, Err, option_map, refl, sym, ap, ◌∙◌}
+use Rattle.std.specs.Option.{option_or}
+use Rattle.nf_defs.specs.Access.{Access}
+use Rattle.nf_words.proofs.Passing.{no_limit}
+use Rattle.nf_words.specs.Prelude.{access_of, allowed_of, asked_by, Call, call_decision, earlier_rules, first_that_holds, later_rules, limit_rule, limited, locked_rule, places_of, refusal_of, Rule, unless_refused}
+use Rattle.nf_words.specs.declared.answer.Allowed.{Allowed}
+use Rattle.nf_words.specs.declared.answer.Denial.{Denial}
+use Rattle.nf_words.specs.declared.answer.Denial.TheVariants as denial
+use Rattle.nf_words.specs.declared.answer.Limit.{Limit}
+use Rattle.nf_words.specs.declared.request.Places.{Places}
+use Rattle.nf_decide.specs.Deciding.{early_refusal, late_refusal, locked_at}
+
+first_of_both : (before behind : List Rule) (access : Access) (call : Call)
+    → first_that_holds (before ++ behind) access call ≡ option_or (first_that_holds before access call) (first_that_holds behind access call)
+first_of_both [] behind access call = refl
+first_of_both (rule ∷ before) behind access call = here (rule access call) (first_of_both before behind access call)
+  where
+    here : (o : Option Denial)
+        → first_that_holds (before ++ behind) access call ≡ option_or (first_that_holds before access call) (first_that_holds behind access call)
+        → option_or o (first_that_holds (before ++ behind) access call)
+        ≡ option_or (option_or o (first_that_holds before access call)) (first_that_holds behind access call)
+    here None rest = rest
+    here (Some refusal) rest = refl
+
+-- ---- of a call that no earlier rule refuses
+
+refused_as : (call : Call) → early_refusal (access_of call.state) call ≡ None
+    → refusal_of (access_of call.state) call ≡ late_refusal (access_of call.state) call
+refused_as call early =
+    first_of_both earlier_rules later_rules (access_of call.state) call
+    ∙ ap (λ (o : Option Denial). option_or o (late_refusal (access_of call.state) call)) early
+
+pub refused_late : (call : Call) (refusal : Denial) → early_refusal (access_of call.state) call ≡ None
+    → Some refusal ≡ late_refusal (access_of call.state) call → Err refusal ≡ call_decision call
+refused_late call refusal early is =
+    ap (λ (o : Option Denial). unless_refused o (allowed_of (access_of call.state) call)) (is ∙ sym (refused_as call early))
+
+pub allowed_late : (call : Call) (act : Allowed) → early_refusal (access_of call.state) call ≡ None
+    → None ≡ late_refusal (access_of call.state) call → act ≡ allowed_of (access_of call.state) call → Ok act ≡ call_decision call
+allowed_late call act early is does =
+    ap Ok does ∙ ap (λ (o : Option Denial). unless_refused o (allowed_of (access_of call.state) call)) (is ∙ sym (refused_as call early))
+
+-- ---- the two of them
+
+or_none : (o : Option Denial) → option_or o None ≡ o
+or_none None = refl
+or_none (Some refusal) = refl
+
+pub locked_late : (call : Call) (places : Places) (refusal : Denial) → places ≡ places_of call → Some refusal ≡ locked_at call places
+    → Some refusal ≡ late_refusal (access_of call.state) call
+unfolding locked_rule
+locked_late call places refusal same is =
+    ap (λ (o : Option Denial). option_or o (first_that_holds (limit_rule ∷ []) (access_of call.state) call)) (is ∙ ap (locked_at call) same)
+
+pub limited_late : (call : Call) (places : Places) (passed : Option Limit) → places ≡ places_of call → None ≡ locked_at call places
+    → passed ≡ limited call.state.tables places (asked_by call).makes
+    → option_map denial.Limit passed ≡ late_refusal (access_of call.state) call
+unfolding locked_rule limit_rule
+limited_late call places passed same free is =
+    ap (λ (o : Option Limit). option_map denial.Limit o) is
+    ∙ ap (λ (places : Places). option_map denial.Limit (limited call.state.tables places (asked_by call).makes)) same
+    ∙ sym (or_none (limit_rule (access_of call.state) call))
+    ∙ ap (λ (o : Option Denial). option_or o (first_that_holds (limit_rule ∷ []) (access_of call.state) call)) (free ∙ ap (locked_at call) same)
+
+-- a call that neither refuses passes no limit
+pub few : (call : Call) → None ≡ late_refusal (access_of call.state) call
+    → limited call.state.tables (places_of call) (asked_by call).makes ≡ None
+unfolding limit_rule
+few call none = no_limit _ (here (locked_rule (access_of call.state) call) (limit_rule (access_of call.state) call) (sym none))
+  where
+    here : (a b : Option Denial) → option_or a (option_or b None) ≡ None → b ≡ None
+    here None None none = refl
+    here None (Some refusal) none = absurd (cc)
+    here (Some refusal) b none = absurd (cc)
