@@ -189,7 +189,9 @@ def locked(key):
 
 def steps_of(told):
     """The steps of a request, by how it was answered."""
-    ask, (stopped, went_on) = told.ask, told.amid or (told.got, told.sent)
+    # Nobody waits for a body without bytes: such a PUT may be over before its client goes on.
+    waits = told.amid and (told.is_file or told.ask.body)
+    ask, (stopped, went_on) = told.ask, told.amid if waits else (told.got, told.sent)
     if ask.method == "PUT" and told.status in (201, 204):
         return [Step(told, False, told.sent, stopped if ask.expects else told.got), Step(told, True, went_on, told.got)]
     if told.is_file:
