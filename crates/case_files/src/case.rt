@@ -19,9 +19,37 @@ pub struct Run {
     /// What is put into the keeper before the run.
     pub damage: Vec<Damage>,
     pub exchanges: Vec<Exchange>,
+    /// Where several seats take part, whose step each exchange is. Else there are none.
+    pub steps: Vec<Step>,
     /// The exit status.
     pub status: u8,
 }
+
+/// A seat's step. Its exchange has the message or the body in `send`.
+#[derive(Clone, Copy, PartialEq, Eq)]
+pub struct Step {
+    /// From 1 on.
+    pub seat: u8,
+    pub kind: StepKind,
+}
+
+#[derive(Clone, Copy, PartialEq, Eq)]
+pub enum StepKind {
+    /// A message that is answered at once.
+    Ask,
+    /// A message whose request is granted. The seat's next step ends it. Its `answer` is `GRANTED`.
+    Begin,
+    /// The end of what was granted, with its body where it has one, and its answer.
+    End,
+    /// The end of what was granted without its body, or unread. Its `answer` is `GONE`.
+    Gone,
+}
+
+/// What a step is to come to by which something is granted.
+pub const GRANTED: &str = "granted\n";
+
+/// What a step is to come to by which what was granted ends without an answer.
+pub const GONE: &str = "gone\n";
 
 /// Other bytes under a blob's number.
 #[derive(Drop)]

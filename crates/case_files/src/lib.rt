@@ -2,13 +2,14 @@
 #![tactic(auto)]
 
 mod case;
+mod events;
 mod judging;
 mod reading;
 mod showing;
 mod tally;
 mod texts;
 
-pub use case::{Case, Damage, Exchange, Outcome, Run, Unread};
+pub use case::{Case, Damage, Exchange, GONE, GRANTED, Outcome, Run, Step, StepKind, Unread};
 pub use judging::judge;
 pub use reading::case_of;
 pub use tally::{Judged, Tally};

@@ -5,7 +5,8 @@ ghost use Rattle.serde_json.specs.Find.{as_array, get};
 ghost use Rattle.serde_json.specs.View.{items_view, view};
 ghost use Rattle.case_files.specs.Listed.{Lists, ListsRuns, listed};
 
-use crate::case::{Case, Damage, Exchange, Run, Unread};
+use crate::case::{Case, Damage, Exchange, Run, Step, Unread};
+use crate::events::events;
 use crate::texts::bytes_of;
 use serde_json::Value;
 use std::alloc::Global;
@@ -66,17 +67,20 @@ fn run_of(alloc: Global, run: &Value) -> Result<Run, Unread> {
             "failing",
             "damage",
             "exchanges",
+            "events",
             "input",
             "output",
             "status",
         ],
     )?;
     let status = small_number(member(run, "status")?)?;
+    let (exchanges, steps) = script_of(alloc, run)?;
     Ok(Run {
         words: words(alloc, list(run, "words")?)?,
         clock: numbers(alloc, list(run, "clock")?)?,
         damage: damage_of(alloc, run)?,
-        exchanges: exchanges_of(alloc, run)?,
+        exchanges,
+        steps,
         status,
     })
 }
@@ -97,6 +101,21 @@ fn one_damage(alloc: Global, blob: &str, text: &Value) -> Result<Damage, Unread>
         blob: blob.parse().map_err(|_| Unread::Malformed)?,
         bytes: bytes(alloc, text)?,
     })
+}
+
+// The events, each as an exchange, or what one session exchanges.
+fn script_of(alloc: Global, run: &Value) -> Result<(Vec<Exchange>, Vec<Step>), Unread> {
+    match run.get("events") {
+        None => Ok((exchanges_of(alloc, run)?, Vec::new(alloc))),
+        Some(listed) => match run
+            .get("exchanges")
+            .or(run.get("input"))
+            .or(run.get("output"))
+        {
+            None => events(alloc, items(listed)?),
+            Some(_) => Err(Unread::Malformed),
+        },
+    }
 }
 
 // The exchanges, or the whole input and output as one.
@@ -158,7 +177,7 @@ fn numbers(alloc: Global, listed: &[Value]) -> Result<Vec<u64>, Unread> {
     Ok(numbers)
 }
 
-fn small_number(value: &Value) -> Result<u8, Unread> {
+pub(crate) fn small_number(value: &Value) -> Result<u8, Unread> {
     u8::try_from(number(value)?).map_err(|_| Unread::Malformed)
 }
 
@@ -166,7 +185,7 @@ fn number(value: &Value) -> Result<u64, Unread> {
     value.as_u64().ok_or(Unread::Malformed)
 }
 
-fn bytes(alloc: Global, value: &Value) -> Result<Vec<u8>, Unread> {
+pub(crate) fn bytes(alloc: Global, value: &Value) -> Result<Vec<u8>, Unread> {
     bytes_of(alloc, text(value)?)
 }
 
@@ -189,14 +208,14 @@ fn items(value: &Value) -> Result<&[Value], Unread>
     }
 }
 
-fn member<'a>(value: &'a Value, name: &str) -> Result<&'a Value, Unread>
+pub(crate) fn member<'a>(value: &'a Value, name: &str) -> Result<&'a Value, Unread>
     ensures { IfOk result (λ found. get name.now (view value.now) ≡ Some (view found.now)) }
 {
     value.get(name).ok_or(Unread::Malformed)
 }
 
 // A member that isn't known might change what the run means.
-fn has_only(value: &Value, known: &[&str]) -> Result<(), Unread> {
+pub(crate) fn has_only(value: &Value, known: &[&str]) -> Result<(), Unread> {
     let Some(members) = value.as_object() else {
         return Err(Unread::Malformed);
     };

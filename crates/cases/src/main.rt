@@ -1,9 +1,13 @@
-//! Runs the cases of a folder through the server's top call, and by two seats of a hub, and tells which of them differ.
+//! Runs the cases of a folder through the server's top call, and by several seats of a hub, and tells which of them differ.
 #![tactic(auto)]
 
+mod connection;
+mod events;
 mod folder;
 mod running;
 mod seats;
+mod stage;
+mod transcript;
 
 use case_files::{Judged, Run, Tally, case_of, judge};
 use running::{Keepers, serve};

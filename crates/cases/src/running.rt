@@ -1,5 +1,6 @@
 //! A run of a case, with all that it depends on in memory.
 
+use crate::events::serve_events;
 use crate::seats::serve_by_seats;
 use case_files::{Damage, Outcome, Run};
 use filesd::{Finished, run};
@@ -70,7 +71,7 @@ fn serve_in_turn<R: Threads + Wait + Sync>(
     case: &Run,
     mut keeper: MemKeeper,
 ) -> Result<(Vec<u8>, MemKeeper), AllocError> {
-    if is_batch(&case.words) && case.exchanges.len() < MAX_MESSAGES {
+    if is_batch(&case.words) && case.steps.is_empty() && case.exchanges.len() < MAX_MESSAGES {
         put_damage(&mut keeper, &case.damage)?;
         return serve_by_seats(rt, alloc, case, keeper);
     }
@@ -86,6 +87,9 @@ fn serve_in_pieces<R: Threads + Wait + Sync>(
     pieces: &[usize],
 ) -> Result<(Outcome, MemKeeper), AllocError> {
     put_damage(&mut keeper, &case.damage)?;
+    if !case.steps.is_empty() {
+        return serve_events(rt, alloc, case, keeper, pieces);
+    }
     let mut ends = ends_of(alloc, case, pieces)?;
     let finished = run_between(rt, alloc, case, keeper, &mut ends);
     let outcome = Outcome {
