@@ -1,0 +1,4 @@
+pub mod Access
+pub mod Broken
+pub mod Laws
+pub mod Shares
