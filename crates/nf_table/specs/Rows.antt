@@ -1,7 +1,7 @@
 -- Rows of one kind as a table holds them, and what is looked up in them.
-use Rattle.std.specs.Prelude.{ℕ, ◌≤◌, Bool, List, length, take, Option, find, bytes_eq}
+use Rattle.std.specs.Prelude.{◌≡◌, ℕ, ◌≤◌, Bool, List, length, take, Option, MatchOption, find, bytes_eq}
 use Rattle.std.specs.declared.cmp.Ordering.{Ordering}
-use Rattle.nf_defs.specs.Prelude.{IsRising, key_cmp}
+use Rattle.nf_defs.specs.Prelude.{IsRising, key_cmp, put}
 
 -- rows, and how many of them fit without more memory
 pub record TableValue (R : Type 0) : Type 0 where
@@ -16,6 +16,11 @@ pub record IsTable {R : Type 0} (key : R → List ℕ) (rows : List R) (room : �
 -- the row with that key
 abbrev pub row_at : {R : Type 0} → (R → List ℕ) → List ℕ → List R → Option R
 row_at key numbers rows = find (λ row. bytes_eq (key row) numbers) rows
+
+-- the row with that key is what may become of it, and the others stay; without that row all stay
+abbrev pub Changes : {R : Type 0} → (R → List ℕ) → List ℕ → (R → R → Type 0) → List R → List R → Type 0
+Changes {R} key numbers Becomes rows rows' =
+    MatchOption (row_at key numbers rows) (rows' ≡ rows) (λ (row : R). (row' : R) × Becomes row row' × (rows' ≡ put key row' rows))
 
 -- how a key, as far as a front is long, stands to that front
 abbrev pub front_cmp : List ℕ → List ℕ → Ordering

@@ -1,15 +1,16 @@
 //! A table of rows.
 
-ghost use Rattle.std.specs.Prelude.{◌≡◌, ◌+◌, ◌≤◌, ◌<◌, [], None, bytes_eq, filter, length, reverse, OnOk, option_copied};
+ghost use Rattle.std.specs.Prelude.{◌≡◌, ◌+◌, ◌≤◌, ◌<◌, [], None, bytes_eq, filter, length, reverse, IsOk, OnOk, option_copied};
+ghost use Rattle.std.specs.Fn.{FnOnceReturnsAtMut};
 ghost use Rattle.std.specs.List.{list_any};
 ghost use Rattle.nf_defs.specs.Prelude.{dropped, IsRising, put};
-ghost use Rattle.nf_table.specs.Rows.{begins, row_at};
+ghost use Rattle.nf_table.specs.Rows.{Changes, begins, row_at};
 ghost use Rattle.nf_table.specs.Swaps.{AreOwn, IsOwn, swapped, taken, tried, turned};
 
 use crate::keys::{BegunBy, front_of};
 use crate::places::{exchange, place_for, put_at};
 use crate::swaps::Swap;
-use nf_defs::{FoundBy, Keyed, drop_row, row_of};
+use nf_defs::{FoundBy, Keyed, drop_row, place_of, row_of};
 use std::alloc::{AllocError, Global};
 use std::marker::Model;
 
@@ -67,6 +68,7 @@ impl<R: Keyed + Drop> Table<R> {
     /// Makes room for so many rows more. The one error is that there is no memory for them.
     pub fn reserve(&mut self, count: usize) -> Result<(), AllocError>
         ensures room { OnOk result (length self.new.rows + count ≤ self.new.room) }
+        ensures fits { length self.old.rows + count ≤ self.old.room → IsOk result }
         ensures rows { self.new.rows ≡ self.old.rows }
     {
         self.rows.reserve(count)
@@ -99,6 +101,21 @@ impl<R: Keyed + Drop> Table<R> {
     {
         let place = place_for(&self.rows, &row);
         put_at(&mut self.rows, place, row);
+    }
+
+    /// Changes the row with that key, where it is there, by a change that leaves its key. It takes no memory.
+    pub fn change<K, F: FnOnce(&mut R)>(&mut self, key: &K, change: F)
+    where
+        R: FoundBy<K>,
+        requires calls { F.IsAlwaysCallable change }
+        requires key { (row : R) (row' : R) → FnOnceReturnsAtMut F.FnOnce change row tt row' → R.key row' ≡ R.key row }
+        ensures rows { Changes R.key (R.numbers key.now) (λ row row'. FnOnceReturnsAtMut F.FnOnce change row tt row') self.old.rows self.new.rows }
+        ensures count { length self.new.rows ≡ length self.old.rows }
+        ensures room { self.new.room ≡ self.old.room }
+    {
+        if let Some(at) = place_of(&self.rows, key) {
+            change(&mut self.rows[at]);
+        }
     }
 
     /// Takes the row with that key out, and tells whether it was there. It takes no memory.

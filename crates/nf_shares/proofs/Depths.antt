@@ -1,0 +1,56 @@
+-- The length of a chain, one share at a time.
+use Rattle.std.proofs.Common.{ℕ, zero, suc, ◌+◌, ◌≡◌, ◌==◌, Bool, true, false, List, [], ◌∷◌, Option, None, Some, length, refl, ap, ◌∙◌, arith}
+use Rattle.std.specs.Prelude.{option_map, option_and_then, unwrap_or, if◌then◌else◌}
+use Rattle.nf_access.specs.declared.TheConstants.{MAX_CHAIN}
+use Rattle.nf_base.specs.declared.rows.ShareRow.{ShareRow}
+use Rattle.nf_access.specs.Shares.{chain_of, chain_up, chain_within, share_row}
+
+-- the length of the chain of a share, where it has at most so many
+abbrev pub reach : ℕ → List ShareRow → ℕ → Option ℕ
+reach most rows id = option_map length (chain_within most rows id)
+
+pub reach_zero : (most : ℕ) (rows : List ShareRow) (id : ℕ) → most ≡ 0 → reach most rows id ≡ None
+unfolding chain_within
+reach_zero most rows id none = rw none refl
+
+pub reach_none : (most : ℕ) (rows : List ShareRow) (id : ℕ) → share_row rows id ≡ None → reach most rows id ≡ None
+unfolding chain_within
+reach_none zero rows id none = refl
+reach_none (suc k) rows id none = rw none refl
+
+at_parent : (k : ℕ) (rows : List ShareRow) (id : ℕ) (row : ShareRow) (parent : Option ℕ) → share_row rows id ≡ Some row → row.parent ≡ parent
+    → chain_within (suc k) rows id ≡ chain_up row parent (chain_within k rows)
+unfolding chain_within
+at_parent k rows id row parent here up =
+    ap (option_and_then (λ row. chain_up row row.parent (chain_within k rows))) here ∙ ap (λ (o : Option ℕ). chain_up row o (chain_within k rows)) up
+
+pub reach_first : (most k : ℕ) (rows : List ShareRow) (id : ℕ) (row : ShareRow) (own : Bool) → most ≡ k + 1 → share_row rows id ≡ Some row
+    → row.parent ≡ None → (row.initiator == row.owner) ≡ own → reach most rows id ≡ (if own then Some 1 else None)
+reach_first zero k rows id row own more here first is = absurd (omega arith)
+reach_first (suc j) k rows id row own more here first is =
+    ap (option_map length) (at_parent j rows id row None here first ∙ ap (λ b. if b then Some (row ∷ []) else None) is) ∙ counted own
+  where
+    counted : (own : Bool) → option_map length (if own then Some (row ∷ []) else None) ≡ (if own then Some 1 else None)
+    counted true = refl
+    counted false = refl
+
+pub reach_up : (most k : ℕ) (rows : List ShareRow) (id parent : ℕ) (row : ShareRow) → most ≡ k + 1 → share_row rows id ≡ Some row
+    → row.parent ≡ Some parent → reach most rows id ≡ option_map (λ n. n + 1) (reach k rows parent)
+reach_up zero k rows id parent row more here up = absurd (omega arith)
+reach_up (suc j) k rows id parent row more here up =
+    let same : j ≡ k = omega arith in
+    ap (option_map length) (at_parent j rows id row (Some parent) here up)
+    ∙ onto (chain_within j rows parent)
+    ∙ ap (λ (k : ℕ). option_map (λ n. n + 1) (reach k rows parent)) same
+  where
+    onto : (o : Option (List ShareRow)) → option_map length (option_map (λ up. row ∷ up) o) ≡ option_map (λ n. n + 1) (option_map length o)
+    onto None = refl
+    onto (Some up) = ap Some (omega arith)
+
+pub reach_all : (rows : List ShareRow) (id : ℕ) → unwrap_or (reach MAX_CHAIN rows id) 0 ≡ length (chain_of rows id)
+unfolding chain_of
+reach_all rows id = over (chain_within MAX_CHAIN rows id)
+  where
+    over : (o : Option (List ShareRow)) → unwrap_or (option_map length o) 0 ≡ length (unwrap_or o [])
+    over None = refl
+    over (Some chain) = refl

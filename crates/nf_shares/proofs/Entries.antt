@@ -1,0 +1,234 @@
+-- Shares by their nodes: what is found there, and what a new share and a changed one leave.
+use Rattle.std.proofs.Common.{ℕ, ◌<◌, ◌≡◌, ◌≢◌, ◌==◌, ◌&&◌, Bool, true, false, cond, List, [], ◌∷◌, ◌++◌, length, get_or, map, take, ◌+◌, Option, Some, None, option_map, refl, sym, ap, subst, ◌∙◌, arith}
+use Rattle.std.specs.Cmp.{nat_cmp_total, tied_itself}
+use Rattle.std.specs.List.{All, filter, find}
+use Rattle.std.specs.Option.{IfSome, MatchOption, option_map_or}
+use Rattle.std.specs.declared.cmp.Ordering.{Ordering}
+use Rattle.std.specs.declared.cmp.Ordering.TheVariants.{Less, Equal, Greater}
+use Rattle.std.proofs.lemmas.Bool.{cond_both}
+use Rattle.std.proofs.lemmas.Bool.Decides.{nat_tests}
+use Rattle.std.proofs.lemmas.List.{get_or-take, get_or_default, take_more}
+use Rattle.std.proofs.Math.Seq.{length-take-le}
+use Rattle.std.proofs.lemmas.List.Elements.{All-cons, All-head, All-nil, All-tail, All-weaker, filter_agree}
+use Rattle.std.proofs.lemmas.Slice.Eq.{bytes_eq-Decides}
+use Rattle.nf_access.specs.Shares.{share_row}
+use Rattle.nf_base.specs.declared.rows.ShareRow.{ShareRow}
+use Rattle.nf_defs.specs.Prelude.{by_order, IsRising, key_cmp, put, share_key}
+use Rattle.nf_defs.proofs.Lookups.{equal_bytes}
+use Rattle.nf_defs.proofs.Puts.{below_one, below_rest, key_total, put_last, put_rising, tail_rising, turned}
+use Rattle.nf_shares.specs.Kept.{IsNodeIndex, StaysInPlace, entry_key, ids_of}
+use Rattle.nf_shares.specs.declared.nodes.NodeShare.{NodeShare}
+use Rattle.nf_table.specs.Rows.{Changes, begins, row_at}
+
+tied : (a b : List ℕ) → key_cmp a b ≡ Equal → a ≡ b
+tied a b e = (bytes_eq-Decides a b).0 (equal_bytes a b Equal e)
+
+and_true : (b : Bool) → b && true ≡ b
+and_true true = refl
+and_true false = refl
+
+-- ---- a row put among others, and the numbers of those that pass a test
+
+abbrev numbered : ℕ → List ℕ
+numbered n = n ∷ []
+
+module _ {R : Type 0} (key : R → List ℕ) (number : R → ℕ) (p : R → Bool) (row : R) where
+  -- a row of the same key passes as the new one does, and rows that pass stand as their numbers do
+  record Agrees (y : R) : Type 0 where
+    alike : key_cmp (key row) (key y) ≡ Equal → p y ≡ p row
+    ordered : p row ≡ true → p y ≡ true → key_cmp (numbered (number row)) (numbered (number y)) ≡ key_cmp (key row) (key y)
+
+  abbrev numbers : List R → List ℕ
+  numbers rows = map number (filter p rows)
+
+  put_below : (rows : List R) → p row ≡ true → All Agrees rows → All (λ (y : R). key_cmp (key row) (key y) ≡ Less) rows
+      → put numbered (number row) (numbers rows) ≡ number row ∷ numbers rows
+  put_below [] passes agree below = refl
+  put_below (x ∷ xs) passes agree below =
+      let rest = put_below xs passes (All-tail Agrees x xs agree) (All-tail (λ (y : R). key_cmp (key row) (key y) ≡ Less) x xs below) in
+      let first = (All-head Agrees x xs agree).ordered passes in
+      let less = All-head (λ (y : R). key_cmp (key row) (key y) ≡ Less) x xs below in
+      here (p x) (λ e. first e ∙ less) rest
+    where
+      here : (b : Bool) → (b ≡ true → key_cmp (numbered (number row)) (numbered (number x)) ≡ Less)
+          → put numbered (number row) (numbers xs) ≡ number row ∷ numbers xs
+          → put numbered (number row) (map number (cond b (x ∷ filter p xs) (filter p xs))) ≡ number row ∷ map number (cond b (x ∷ filter p xs) (filter p xs))
+      here true less rest = rw (less refl) refl
+      here false less rest = rest
+
+  put_numbers : (rows : List R) → IsRising key rows → All Agrees rows
+      → numbers (put key row rows) ≡ cond (p row) (put numbered (number row) (numbers rows)) (numbers rows)
+  put_numbers [] rising agree = grind arith
+  put_numbers (x ∷ xs) rising agree =
+      here (key_cmp (key row) (key x)) refl (put_numbers xs (tail_rising key x xs rising) (All-tail Agrees x xs agree))
+    where
+      first : Agrees x
+      first = All-head Agrees x xs agree
+
+      here : (r : Ordering) → key_cmp (key row) (key x) ≡ r
+          → numbers (put key row xs) ≡ cond (p row) (put numbered (number row) (numbers xs)) (numbers xs)
+          → numbers (by_order r (row ∷ x ∷ xs) (row ∷ xs) (x ∷ put key row xs))
+          ≡ cond (p row) (put numbered (number row) (numbers (x ∷ xs))) (numbers (x ∷ xs))
+      here Less e rest =
+          let below : All (λ (y : R). key_cmp (key row) (key y) ≡ Less) (x ∷ xs) =
+          All-cons (λ (y : R). key_cmp (key row) (key y) ≡ Less) x xs e
+          (All-weaker (λ (y : R). key_cmp (key x) (key y) ≡ Less) (λ (y : R). key_cmp (key row) (key y) ≡ Less)
+          (λ y. key_total.trans (key row) (key x) (key y) e) xs (below_rest key x xs rising)) in
+          grind (arith, λ (passes : p row ≡ true). put_below (x ∷ xs) passes agree below)
+      here Equal e rest = let same = first.alike e in let order = first.ordered in grind arith
+      here Greater e rest = let order = first.ordered in grind arith
+
+-- ---- a new share
+
+module _ (index : List NodeShare) (rows : List ShareRow) (row : ShareRow) where
+  abbrev entry : NodeShare
+  entry = record { node = row.node; share = row.id }
+
+  entries_agree : (node : ℕ) → All (Agrees entry_key (λ e. e.share) (λ e. e.node == node) entry) index
+  entries_agree node k d within = record {
+    alike = λ same. ap (λ (n : ℕ). n == node) (let e = tied (entry_key entry) (entry_key (get_or index k d)) same in cc);
+    ordered = λ mine its.
+        let same : row.node ≡ (get_or index k d).node = grind (arith, nat_tests) in
+        rw (same, tied_itself nat_cmp_total (get_or index k d).node) refl;
+  }
+
+  rows_agree : (node : ℕ) → All (λ (y : ShareRow). row.id ≢ y.id) rows → All (Agrees share_key (λ r. r.id) (λ r. r.node == node) row) rows
+  rows_agree node differ k d within = record {
+    alike = λ same. absurd (differ k d within (let e = tied (share_key row) (share_key (get_or rows k d)) same in cc));
+    ordered = λ _ _. refl;
+  }
+
+  pub index_put : All (λ (y : ShareRow). row.id ≢ y.id) rows → IsNodeIndex index rows → IsNodeIndex (put entry_key entry index) (put share_key row rows)
+  index_put differ is = record {
+    entries_rise = put_rising entry_key entry index is.entries_rise;
+    rows_rise = put_rising share_key row rows is.rows_rise;
+    numbers = λ node.
+        put_numbers entry_key (λ e. e.share) (λ e. e.node == node) entry index is.entries_rise (entries_agree node)
+        ∙ ap (λ (ids : List ℕ). cond (row.node == node) (put numbered row.id ids) ids) (is.numbers node)
+        ∙ sym (put_numbers share_key (λ r. r.id) (λ r. r.node == node) row rows is.rows_rise (rows_agree node differ));
+  }
+
+-- the entries of one row more
+pub index_more : (index : List NodeShare) (rows : List ShareRow) (i : ℕ) (row : ShareRow) → i < length rows → row ≡ get_or rows i row
+    → IsRising share_key rows → IsNodeIndex index (take i rows) → IsNodeIndex (put entry_key (entry index rows row) index) (take (i + 1) rows)
+index_more index rows i row within at rising is =
+    let next : put share_key row (take i rows) ≡ take (i + 1) rows =
+    put_last share_key row (take i rows) below ∙ ap (λ (last : ShareRow). take i rows ++ last ∷ []) at ∙ sym (take_more rows i row within) in
+    subst (IsNodeIndex (put entry_key (entry index rows row) index)) next
+    (index_put index (take i rows) row
+    (λ k d less same. let lower = below_one (get_or (take i rows) k d).id row.id (below k d less) in omega arith)
+    is)
+  where
+    below : All (λ (y : ShareRow). key_cmp (share_key y) (share_key row) ≡ Less) (take i rows)
+    below k d less =
+        let before : k < i = let n = length-take-le i rows (omega arith) in omega arith in
+        rw (get_or-take i rows k d before, at, get_or_default rows i row d within) (rising k i d before within)
+
+-- ---- the entries of a node
+
+pub front_numbers : (index : List NodeShare) (rows : List ShareRow) (node : ℕ) → IsNodeIndex index rows
+    → map (λ entry. entry.share) (filter (λ entry. begins (entry_key entry) (node ∷ [])) index) ≡ ids_of (λ row. row.node == node) rows
+front_numbers index rows node is =
+    ap (map (λ (entry : NodeShare). entry.share))
+    (filter_agree (λ entry. begins (entry_key entry) (node ∷ [])) (λ entry. entry.node == node) (λ entry. and_true (entry.node == node)) index)
+    ∙ is.numbers node
+
+-- ---- rows that are found
+
+found_has : {X : Type 0} (P : X → Type 0) (test : X → Bool) (xs : List X) → All P xs → IfSome (find test xs) P
+found_has P test [] all = tt
+found_has P test (x ∷ xs) all =
+    cond_both (test x) (Some x) (find test xs) (λ (o : Option _). IfSome o P) (λ _. All-head P x xs all) (λ _. found_has P test xs (All-tail P x xs all))
+
+pub none_has : (id : ℕ) (rows : List ShareRow) → share_row rows id ≡ None → All (λ (y : ShareRow). id ≢ y.id) rows
+none_has id [] none = All-nil (λ (y : ShareRow). id ≢ y.id)
+none_has id (x ∷ xs) none = here (x.id == id) refl none (none_has id xs)
+  where
+    here : (b : Bool) → (x.id == id) ≡ b → cond b (Some x) (share_row xs id) ≡ None
+        → (share_row xs id ≡ None → All (λ (y : ShareRow). id ≢ y.id) xs) → All (λ (y : ShareRow). id ≢ y.id) (x ∷ xs)
+    here true e none rest = absurd (cc)
+    here false e none rest = All-cons (λ (y : ShareRow). id ≢ y.id) x xs (λ same. grind (arith, nat_tests)) (rest none)
+
+own : (rows : List ShareRow) → IsRising share_key rows → All (λ (row : ShareRow). share_row rows row.id ≡ Some row) rows
+own [] rising = All-nil (λ (row : ShareRow). share_row [] row.id ≡ Some row)
+own (x ∷ xs) rising =
+    All-cons (λ (row : ShareRow). share_row (x ∷ xs) row.id ≡ Some row) x xs (grind (arith, nat_tests))
+    (λ k d within.
+    let less = below_one x.id (get_or xs k d).id (below_rest share_key x xs rising k d within) in
+    let rest = own xs (tail_rising share_key x xs rising) k d within in
+    grind (arith, nat_tests))
+
+-- ---- a changed share
+
+module _ (id : ℕ) (old new : ShareRow) (same_id : new.id ≡ old.id) (same_node : new.node ≡ old.node) where
+  abbrev ids : ℕ → List ShareRow → List ℕ
+  ids node rows = ids_of (λ row. row.node == node) rows
+
+  kept : (node : ℕ) (rows : List ShareRow) → IsRising share_key rows → share_row rows id ≡ Some old → ids node (put share_key new rows) ≡ ids node rows
+  kept node [] rising found = absurd (cc)
+  kept node (x ∷ xs) rising found = here (x.id == id) found (kept node xs (tail_rising share_key x xs rising))
+    where
+      here : (b : Bool) → cond b (Some x) (share_row xs id) ≡ Some old
+          → (share_row xs id ≡ Some old → ids node (put share_key new xs) ≡ ids node xs) → ids node (put share_key new (x ∷ xs)) ≡ ids node (x ∷ xs)
+      here true first rest =
+          let it : x ≡ old = cc in
+          let tie : key_cmp (share_key new) (share_key x) ≡ Equal = rw (same_id, it) (tied_itself key_total (share_key old)) in
+          rw tie (grind arith)
+      here false later rest =
+          let below = subst (λ (o : Option ShareRow). IfSome o (λ y. key_cmp (share_key x) (share_key y) ≡ Less)) later
+          (found_has (λ (y : ShareRow). key_cmp (share_key x) (share_key y) ≡ Less) (λ (y : ShareRow). y.id == id) xs (below_rest share_key x xs rising)) in
+          let above : key_cmp (share_key new) (share_key x) ≡ Greater = rw same_id (turned (share_key x) (share_key old) Less below) in
+          let behind = rest later in
+          rw above (grind arith)
+
+-- the test of a share's number is that of its key
+by_id : (rows : List ShareRow) (id : ℕ) → row_at share_key (id ∷ []) rows ≡ share_row rows id
+by_id rows id = ap (λ (test : ShareRow → Bool). find test rows) (λ i row. and_true (row.id == id) i)
+
+module _ (rows rows' : List ShareRow) (id : ℕ) (Becomes : ShareRow → ShareRow → Type 0) (changes : Changes share_key (id ∷ []) Becomes rows rows') where
+  abbrev ChangesAt : Option ShareRow → Type 0
+  ChangesAt o = MatchOption o (rows' ≡ rows) (λ (row : ShareRow). (row' : ShareRow) × Becomes row row' × (rows' ≡ put share_key row' rows))
+
+  changes_at : ChangesAt (share_row rows id)
+  changes_at = subst ChangesAt (by_id rows id) changes
+
+  pub index_changed : (index : List NodeShare) → ((row row' : ShareRow) → Becomes row row' → StaysInPlace row row') → IsNodeIndex index rows
+      → IsNodeIndex index rows'
+  index_changed index stays is = here (share_row rows id) refl changes_at
+    where
+      here : (o : Option ShareRow) → share_row rows id ≡ o → ChangesAt o → IsNodeIndex index rows'
+      here None found same = subst (IsNodeIndex index) (sym same) is
+      here (Some row) found (row', becomes, put_is) =
+          let (same_id, same_node) = stays row row' becomes in
+          subst (IsNodeIndex index) (sym put_is)
+          (record {
+            entries_rise = is.entries_rise;
+            rows_rise = put_rising share_key row' rows is.rows_rise;
+            numbers = λ node. is.numbers node ∙ sym (kept id row row' same_id same_node node rows is.rows_rise found);
+          })
+
+-- ---- the first share of a node that passes a test
+
+find_map : {X : Type 0} (f : X → ℕ) (test : ℕ → Bool) (xs : List X) → find test (map f xs) ≡ option_map f (find (λ x. test (f x)) xs)
+find_map f test [] = refl
+find_map f test (x ∷ xs) = let rest = find_map f test xs in grind arith
+
+find_filter : {X : Type 0} (p test : X → Bool) (xs : List X) → find test (filter p xs) ≡ find (λ x. p x && test x) xs
+find_filter p test [] = refl
+find_filter p test (x ∷ xs) = let rest = find_filter p test xs in grind arith
+
+find_agree : {X : Type 0} (p q : X → Bool) (xs : List X) → All (λ x. p x ≡ q x) xs → find p xs ≡ find q xs
+find_agree p q [] agree = refl
+find_agree p q (x ∷ xs) agree =
+    rw (All-head (λ x. p x ≡ q x) x xs agree) (ap (cond (q x) (Some x)) (find_agree p q xs (All-tail (λ x. p x ≡ q x) x xs agree)))
+
+-- where the numbers of the rows that pass are asked for their rows
+pub first_of : (rows : List ShareRow) (p test : ShareRow → Bool) → IsRising share_key rows
+    → find (λ id. option_map_or test (share_row rows id) false) (ids_of p rows) ≡ option_map (λ row. row.id) (find (λ row. p row && test row) rows)
+first_of rows p test rising =
+    let passes : ℕ → Bool = λ id. option_map_or test (share_row rows id) false in
+    find_map (λ row. row.id) passes (filter p rows)
+    ∙ ap (option_map (λ (row : ShareRow). row.id))
+    (find_filter p (λ row. passes row.id) rows
+    ∙ find_agree (λ row. p row && passes row.id) (λ row. p row && test row) rows
+    (λ k d within. ap (λ (o : Option ShareRow). p (get_or rows k d) && option_map_or test o false) (own rows rising k d within)))

@@ -1,0 +1,13 @@
+//! The shares of the site: found by their numbers and by their nodes, and made where nothing stands against it.
+#![tactic(auto)]
+
+mod faults;
+mod nodes;
+mod rows;
+mod shares;
+
+pub use faults::ShareFault;
+pub use shares::Shares;
+
+/// The most shares, of all users together.
+pub const MAX_SHARES: usize = 65_536;

@@ -1,0 +1,103 @@
+//! What is asked of one row of a share.
+
+ghost use Rattle.std.specs.Prelude.{◌≡◌, ◌==◌, find, option_copied};
+ghost use Rattle.nf_access.specs.Shares.{receives, is_before};
+ghost use Rattle.nf_defs.specs.declared.Seeker.TheVariants as seeker;
+ghost use Rattle.nf_shares.specs.Kept.{is_link, is_child_of};
+ghost use Rattle.nf_shares.specs.Making.{is_again, is_self_share, is_same_recipient, has_token_of};
+
+use nf_access::Facts;
+use nf_base::{Moment, Name, ShareId, ShareKind, ShareRow, UserId};
+
+/// Whether the user receives the share.
+pub(crate) fn receives<F: Facts>(facts: &F, user: UserId, row: &ShareRow) -> bool
+    ensures { result ≡ receives (F.members facts.now) (seeker.User user) row.now }
+{
+    let named = match &row.kind {
+        ShareKind::User(own) => *own == user,
+        ShareKind::Group(group) => facts.is_member(*group, user),
+        ShareKind::Link(_) => false,
+    };
+    named && row.owner != user
+}
+
+pub(crate) fn is_link(token: &Name, kind: &ShareKind) -> bool
+    ensures { result ≡ is_link token.now kind.now }
+{
+    match kind {
+        ShareKind::Link(own) => own.as_bytes() == token.as_bytes(),
+        _ => false,
+    }
+}
+
+pub(crate) fn is_child_of(id: ShareId, parent: Option<ShareId>) -> bool
+    ensures { result ≡ is_child_of id parent }
+{
+    match parent {
+        Some(parent) => parent == id,
+        None => false,
+    }
+}
+
+// ---- making one
+
+pub(crate) fn is_self_share(row: &ShareRow) -> bool
+    ensures { result ≡ is_self_share row.now row.now.kind }
+{
+    match &row.kind {
+        ShareKind::User(user) => *user == row.initiator || *user == row.owner,
+        _ => false,
+    }
+}
+
+fn is_same_recipient(one: &ShareKind, other: &ShareKind) -> bool
+    ensures { result ≡ is_same_recipient one.now other.now }
+{
+    match (one, other) {
+        (ShareKind::User(one), ShareKind::User(other)) => one == other,
+        (ShareKind::Group(one), ShareKind::Group(other)) => one == other,
+        _ => false,
+    }
+}
+
+fn is_before(now: Moment, until: Option<Moment>) -> bool
+    ensures { result ≡ is_before now until }
+{
+    match until {
+        Some(end) => now < end,
+        None => true,
+    }
+}
+
+fn is_again(row: &ShareRow, now: Moment, other: &ShareRow) -> bool
+    ensures { result ≡ is_again row.now now other.now }
+{
+    !other.ended
+        && is_before(now, other.until)
+        && other.node == row.node
+        && other.initiator == row.initiator
+        && is_same_recipient(&other.kind, &row.kind)
+}
+
+/// The first share that gives the same already.
+pub(crate) fn again<'a>(rows: &'a [ShareRow], row: &ShareRow, now: Moment) -> Option<&'a ShareRow>
+    ensures { option_copied result ≡ find (is_again row.now now) rows.now }
+{
+    rows.iter().find(|other| is_again(row, now, other))
+}
+
+fn has_token_of(kind: &ShareKind, other: &ShareRow) -> bool
+    ensures { result ≡ has_token_of kind.now other.now }
+{
+    match kind {
+        ShareKind::Link(token) => is_link(token, &other.kind),
+        _ => false,
+    }
+}
+
+/// The first share whose link has the same token.
+pub(crate) fn token_of<'a>(rows: &'a [ShareRow], row: &ShareRow) -> Option<&'a ShareRow>
+    ensures { option_copied result ≡ find (has_token_of row.now.kind) rows.now }
+{
+    rows.iter().find(|other| has_token_of(&row.kind, other))
+}

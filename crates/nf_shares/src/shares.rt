@@ -1,0 +1,290 @@
+//! The shares of the site.
+
+ghost use Rattle.std.specs.Prelude.{◌≡◌, ◌≢◌, ◌==◌, ◌≤◌, true, false, None, [], ◌∷◌, length, map, find, option_copied, option_map, Err, IfOk, IfSome, IsOk, IsSome, OnOk};
+ghost use Rattle.std.specs.Fn.{FnOnceReturnsAtMut};
+ghost use Rattle.std.specs.Option.{option_map_or};
+ghost use Rattle.nf_base.specs.declared.rows.ShareRow.{ShareRow};
+ghost use Rattle.nf_access.specs.Shares.{chain_of, chain_within, receives, share_row};
+ghost use Rattle.nf_defs.specs.Prelude.{IsRising, share_key};
+ghost use Rattle.nf_defs.specs.declared.Seeker.TheVariants as seeker;
+ghost use Rattle.nf_shares.specs.Kept.{FitsShare, StaysInPlace, changed, ids_of, is_child_of, is_received_on, link_of};
+ghost use Rattle.nf_shares.specs.Making.{Follows, Makes, fault_of};
+ghost use Rattle.nf_table.specs.Rows.{Changes};
+ghost use Rattle.nf_shares.specs.declared.faults.ShareFault.TheVariants as fault;
+
+use crate::MAX_SHARES;
+use crate::faults::ShareFault;
+use crate::nodes::{NodeShare, node_index};
+use crate::rows::{again, is_child_of, is_link, is_self_share, receives, token_of};
+use nf_access::{Facts, MAX_CHAIN};
+use nf_base::{Moment, Name, NodeId, Perms, ShareId, ShareRow, UserId};
+use nf_table::{ShareKey, Table};
+use std::alloc::{AllocError, Global};
+use std::marker::Model;
+
+/// The shares, by rising number, and by their nodes. None of them ever goes.
+#[derive(Drop)]
+pub struct Shares {
+    rows: Table<ShareRow>,
+    by_node: Table<NodeShare>,
+}
+
+impl Model for Shares {
+    ghost use Rattle.nf_shares.specs.Kept.{IsNodeIndex, KeptShares, room_of};
+
+    ghost Value = { KeptShares };
+
+    ghost view = { λ shares. record { rows = shares.rows.rows; room = room_of shares.rows shares.by_node } };
+
+    ghost invariant = { λ shares. IsNodeIndex shares.by_node.rows shares.rows.rows };
+}
+
+impl Shares {
+    pub fn new(alloc: Global) -> Self
+        ensures { result.rows ≡ [] }
+    {
+        Shares {
+            rows: Table::new(alloc),
+            by_node: Table::new(alloc),
+        }
+    }
+
+    /// The shares of these rows.
+    pub fn load(alloc: Global, rows: Vec<ShareRow>) -> Result<Self, AllocError>
+        requires { IsRising share_key rows.items }
+        ensures { IfOk result (λ shares. shares.rows ≡ rows.items) }
+    {
+        let by_node = node_index(alloc, &rows)?;
+        Ok(Shares {
+            rows: Table::of(rows),
+            by_node,
+        })
+    }
+
+    /// All rows, by rising number.
+    pub fn rows(&self) -> &[ShareRow]
+        ensures rows { result.now ≡ self.now.rows }
+        ensures rising { IsRising share_key self.now.rows }
+    {
+        self.rows.rows()
+    }
+
+    /// Makes room for one share more.
+    pub fn reserve(&mut self) -> Result<(), AllocError>
+        ensures room { OnOk result (FitsShare self.new) }
+        ensures fits { FitsShare self.old → IsOk result }
+        ensures rows { self.new.rows ≡ self.old.rows }
+    {
+        self.rows.reserve(1)?;
+        self.by_node.reserve(1)
+    }
+
+    pub fn row(&self, id: ShareId) -> Option<&ShareRow>
+        ensures { option_copied result ≡ share_row self.now.rows id }
+    {
+        self.rows.find(&ShareKey { id })
+    }
+
+    /// The share whose link has that token.
+    pub fn by_link(&self, token: &Name) -> Option<ShareId>
+        ensures { result ≡ link_of self.now.rows token.now }
+    {
+        let row = self.rows().iter().find(|row| is_link(token, &row.kind))?;
+        Some(row.id)
+    }
+
+    /// How many shares the share's chain has; 0 where there is none.
+    pub fn depth(&self, id: ShareId) -> usize
+        ensures { result ≡ length (chain_of self.now.rows id) }
+    {
+        self.depth_within(id, MAX_CHAIN).unwrap_or(0)
+    }
+
+    pub fn count(&self) -> usize
+        ensures { result ≡ length self.now.rows }
+    {
+        self.rows.count()
+    }
+
+    /// The first share on the node that the user receives, ended ones included.
+    pub fn first_received<F: Facts>(&self, facts: &F, user: UserId, node: NodeId) -> Option<ShareId>
+        ensures { result ≡ option_map (λ row. row.id) (find (is_received_on (F.members facts.now) (seeker.User user) node) self.now.rows) }
+    {
+        self.first_of(facts, user, self.entries(node))
+    }
+
+    /// The shares of a node.
+    pub fn on_node(&self, alloc: Global, node: NodeId) -> Result<Vec<ShareId>, AllocError>
+        ensures { IfOk result (λ ids. ids.items ≡ ids_of (λ row. row.node == node) self.now.rows) }
+    {
+        self.entries(node)
+            .iter()
+            .map(|entry| entry.share)
+            .collect(alloc)
+    }
+
+    /// The shares that pass this one on.
+    pub fn children(&self, alloc: Global, id: ShareId) -> Result<Vec<ShareId>, AllocError>
+        ensures { IfOk result (λ ids. ids.items ≡ ids_of (λ row. is_child_of id row.parent) self.now.rows) }
+    {
+        self.rows()
+            .iter()
+            .filter(|row| is_child_of(id, row.parent))
+            .map(|row| row.id)
+            .collect(alloc)
+    }
+
+    /// The shares that the user made.
+    pub fn made_by(&self, alloc: Global, user: UserId) -> Result<Vec<ShareId>, AllocError>
+        ensures { IfOk result (λ ids. ids.items ≡ ids_of (λ row. row.initiator == user) self.now.rows) }
+    {
+        self.rows()
+            .iter()
+            .filter(|row| row.initiator == user)
+            .map(|row| row.id)
+            .collect(alloc)
+    }
+
+    /// The shares that the user receives.
+    pub fn received<F: Facts>(
+        &self,
+        alloc: Global,
+        facts: &F,
+        user: UserId,
+    ) -> Result<Vec<ShareId>, AllocError>
+        ensures { IfOk result (λ ids. ids.items ≡ ids_of (receives (F.members facts.now) (seeker.User user)) self.now.rows) }
+    {
+        self.rows()
+            .iter()
+            .filter(|row| receives(facts, user, row))
+            .map(|row| row.id)
+            .collect(alloc)
+    }
+
+    /// Puts in a share of a new number, or says why it can't be made. Where there is room for it, there is memory.
+    pub fn create(&mut self, row: ShareRow, now: Moment) -> Result<(), ShareFault>
+        requires { share_row self.old.rows row.id ≡ None }
+        ensures makes { Makes self.old.rows row now result self.new.rows }
+        ensures room { FitsShare self.old → result ≢ Err fault.Memory }
+    {
+        self.check(&row, now)?;
+        self.reserve()?;
+        self.by_node.put(NodeShare {
+            node: row.node,
+            share: row.id,
+        });
+        self.rows.put(row);
+        Ok(())
+    }
+
+    /// Ends a share. It takes no memory.
+    pub fn end(&mut self, id: ShareId)
+        requires { IsSome (share_row self.old.rows id) }
+        ensures rows { self.new.rows ≡ changed (λ row. record row { ended = true }) id self.old.rows }
+        ensures room { self.new.room ≡ self.old.room }
+    {
+        self.change(id, |row| row.ended = true);
+    }
+
+    /// Gives a share other permissions. It takes no memory.
+    pub fn set_perms(&mut self, id: ShareId, perms: Perms)
+        requires { IsSome (share_row self.old.rows id) }
+        ensures rows { self.new.rows ≡ changed (λ row. record row { perms = perms }) id self.old.rows }
+        ensures room { self.new.room ≡ self.old.room }
+    {
+        self.change(id, |row| row.perms = perms);
+    }
+
+    /// Gives a share another end moment, or none. It takes no memory.
+    pub fn set_until(&mut self, id: ShareId, until: Option<Moment>)
+        requires { IsSome (share_row self.old.rows id) }
+        ensures rows { self.new.rows ≡ changed (λ row. record row { until = until }) id self.old.rows }
+        ensures room { self.new.room ≡ self.old.room }
+    {
+        self.change(id, |row| row.until = until);
+    }
+}
+
+impl Shares {
+    /// How many shares the share's chain has, where they are at most so many.
+    fn depth_within(&self, id: ShareId, most: usize) -> Option<usize>
+        requires { most ≤ MAX_CHAIN }
+        ensures depth { result ≡ option_map length (chain_within most self.now.rows id) }
+        ensures few { IfSome result (λ n. n ≤ most) }
+    {
+        if most == 0 {
+            return None;
+        }
+        let row = self.row(id)?;
+        match row.parent {
+            None if row.initiator == row.owner => Some(1),
+            None => None,
+            Some(parent) => {
+                let above = self.depth_within(parent, most - 1)?;
+                Some(above + 1)
+            }
+        }
+    }
+
+    /// The entries of a node's shares.
+    fn entries(&self, node: NodeId) -> &[NodeShare]
+        ensures numbers { map (λ entry. entry.share) result.now ≡ ids_of (λ row. row.node == node) self.now.rows }
+        ensures rising { IsRising share_key self.now.rows }
+    {
+        self.by_node.front(&node)
+    }
+
+    /// The first of these entries' shares that the user receives.
+    fn first_of<F: Facts>(&self, facts: &F, user: UserId, entries: &[NodeShare]) -> Option<ShareId>
+        ensures { result ≡ find (λ id. option_map_or (receives (F.members facts.now) (seeker.User user)) (share_row self.now.rows id) false) (map (λ entry. entry.share) entries.now) }
+    {
+        entries
+            .iter()
+            .map(|entry| entry.share)
+            .find(|id| self.is_received(facts, user, *id))
+    }
+
+    /// Whether there is a share of that number, which the user receives.
+    fn is_received<F: Facts>(&self, facts: &F, user: UserId, id: ShareId) -> bool
+        ensures { result ≡ option_map_or (receives (F.members facts.now) (seeker.User user)) (share_row self.now.rows id) false }
+    {
+        match self.row(id) {
+            Some(row) => receives(facts, user, row),
+            None => false,
+        }
+    }
+
+    /// Changes the share of that number by a change that leaves its number and its node. It takes no memory.
+    fn change<F: FnOnce(&mut ShareRow)>(&mut self, id: ShareId, change: F)
+        requires calls { F.IsAlwaysCallable change }
+        requires place { (row : ShareRow) (row' : ShareRow) → FnOnceReturnsAtMut F.FnOnce change row tt row' → StaysInPlace row row' }
+        ensures rows { Changes share_key (id ∷ []) (λ row row'. FnOnceReturnsAtMut F.FnOnce change row tt row') self.old.rows self.new.rows }
+        ensures room { self.new.room ≡ self.old.room }
+    {
+        self.rows.change(&ShareKey { id }, change);
+    }
+
+    /// Why the share can't be made, memory aside.
+    fn check(&self, row: &ShareRow, now: Moment) -> Result<(), ShareFault>
+        ensures { Follows (fault_of self.now.rows row.now now) result }
+    {
+        if is_self_share(row) {
+            return Err(ShareFault::SelfShare);
+        }
+        if let Some(other) = again(self.rows(), row, now) {
+            return Err(ShareFault::Already(other.id));
+        }
+        if let Some(parent) = row.parent
+            && self.depth(parent) >= MAX_CHAIN
+        {
+            return Err(ShareFault::Chain);
+        }
+        if token_of(self.rows(), row).is_some() {
+            return Err(ShareFault::TokenTaken);
+        }
+        if self.count() >= MAX_SHARES {
+            return Err(ShareFault::Limit);
+        }
+        Ok(())
+    }
+}
