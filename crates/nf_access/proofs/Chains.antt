@@ -15,7 +15,7 @@ own_row shares share [] chain = chain.0
 own_row shares share (parent ∷ up) chain = chain.0
 
 -- a chain is found
-chain_found : (k : ℕ) (shares : List ShareRow) (share : ShareRow) (up : List ShareRow) → IsChain shares (share ∷ up) → length (share ∷ up) ≤ k
+pub chain_found : (k : ℕ) (shares : List ShareRow) (share : ShareRow) (up : List ShareRow) → IsChain shares (share ∷ up) → length (share ∷ up) ≤ k
     → chain_within k shares share.id ≡ Some (share ∷ up)
 unfolding chain_within
 chain_found zero shares share up chain short = absurd (omega arith)

@@ -5,3 +5,4 @@ pub mod Unders
 pub mod Granted
 pub mod Places
 pub mod Breaks
+pub mod Kept

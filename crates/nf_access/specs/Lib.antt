@@ -1,4 +1,6 @@
 pub mod Access
 pub mod Broken
+pub mod Kept
 pub mod Laws
+pub mod Mounts
 pub mod Shares

@@ -1,5 +1,6 @@
 //! What the words about access come to, each as the contract of a function without a body.
 
+ghost use Rattle.nf_access.specs.Kept.{ChainedIsBounded};
 ghost use Rattle.nf_access.specs.Laws.{BrokenIsFound, ChainsStayUnder, GrantsAreChains, GrantsStay, MasksLackNothing, ReachIsAChain};
 
 /// What the grants of the chains allow is what can be derived from the shares.
@@ -30,4 +31,9 @@ pub fn grants_stay()
 /// A refusal has a first broken link, and it is found.
 pub fn broken_is_found()
     ensures { BrokenIsFound }
+{}
+
+/// Rows whose shares each have a chain, and whose nodes each lead to a top, have all that the laws of access ask of them.
+pub fn chained_is_bounded()
+    ensures { ChainedIsBounded }
 {}

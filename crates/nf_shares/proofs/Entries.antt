@@ -1,5 +1,5 @@
 -- Shares by their nodes: what is found there, and what a new share and a changed one leave.
-use Rattle.std.proofs.Common.{ℕ, ◌<◌, ◌≡◌, ◌≢◌, ◌==◌, ◌&&◌, Bool, true, false, cond, List, [], ◌∷◌, ◌++◌, length, get_or, map, take, ◌+◌, Option, Some, None, option_map, refl, sym, ap, subst, ◌∙◌, arith}
+use Rattle.std.proofs.Common.{ℕ, ◌≡◌, ◌≢◌, ◌==◌, ◌&&◌, Bool, true, false, cond, List, [], ◌∷◌, get_or, map, Option, Some, None, option_map, refl, sym, ap, subst, ◌∙◌, arith}
 use Rattle.std.specs.Cmp.{nat_cmp_total, tied_itself}
 use Rattle.std.specs.List.{All, filter, find}
 use Rattle.std.specs.Option.{IfSome, MatchOption, option_map_or}
@@ -7,16 +7,16 @@ use Rattle.std.specs.declared.cmp.Ordering.{Ordering}
 use Rattle.std.specs.declared.cmp.Ordering.TheVariants.{Less, Equal, Greater}
 use Rattle.std.proofs.lemmas.Bool.{cond_both}
 use Rattle.std.proofs.lemmas.Bool.Decides.{nat_tests}
-use Rattle.std.proofs.lemmas.List.{get_or-take, get_or_default, take_more}
-use Rattle.std.proofs.Math.Seq.{length-take-le}
 use Rattle.std.proofs.lemmas.List.Elements.{All-cons, All-head, All-nil, All-tail, All-weaker, filter_agree}
 use Rattle.std.proofs.lemmas.Slice.Eq.{bytes_eq-Decides}
+use Rattle.nf_access.proofs.Kept.{share_row_each}
 use Rattle.nf_access.specs.Shares.{share_row}
 use Rattle.nf_base.specs.declared.rows.ShareRow.{ShareRow}
 use Rattle.nf_defs.specs.Prelude.{by_order, IsRising, key_cmp, put, share_key}
 use Rattle.nf_defs.proofs.Lookups.{equal_bytes}
-use Rattle.nf_defs.proofs.Puts.{below_one, below_rest, key_total, put_last, put_rising, tail_rising, turned}
-use Rattle.nf_shares.specs.Kept.{IsNodeIndex, StaysInPlace, entry_key, ids_of}
+use Rattle.nf_defs.proofs.Puts.{below_rest, key_total, put_rising, tail_rising, turned}
+use Rattle.nf_shares.specs.Kept.{IsNodeIndex, StaysInPlace, entry_key, entry_of, ids_of}
+use Rattle.nf_shares.specs.Making.{is_again}
 use Rattle.nf_shares.specs.declared.nodes.NodeShare.{NodeShare}
 use Rattle.nf_table.specs.Rows.{Changes, begins, row_at}
 
@@ -81,12 +81,9 @@ module _ {R : Type 0} (key : R → List ℕ) (number : R → ℕ) (p : R → Boo
 -- ---- a new share
 
 module _ (index : List NodeShare) (rows : List ShareRow) (row : ShareRow) where
-  abbrev entry : NodeShare
-  entry = record { node = row.node; share = row.id }
-
-  entries_agree : (node : ℕ) → All (Agrees entry_key (λ e. e.share) (λ e. e.node == node) entry) index
+  entries_agree : (node : ℕ) → All (Agrees entry_key (λ e. e.share) (λ e. e.node == node) (entry_of row)) index
   entries_agree node k d within = record {
-    alike = λ same. ap (λ (n : ℕ). n == node) (let e = tied (entry_key entry) (entry_key (get_or index k d)) same in cc);
+    alike = λ same. ap (λ (n : ℕ). n == node) (let e = tied (entry_key (entry_of row)) (entry_key (get_or index k d)) same in cc);
     ordered = λ mine its.
         let same : row.node ≡ (get_or index k d).node = grind (arith, nat_tests) in
         rw (same, tied_itself nat_cmp_total (get_or index k d).node) refl;
@@ -98,31 +95,15 @@ module _ (index : List NodeShare) (rows : List ShareRow) (row : ShareRow) where
     ordered = λ _ _. refl;
   }
 
-  pub index_put : All (λ (y : ShareRow). row.id ≢ y.id) rows → IsNodeIndex index rows → IsNodeIndex (put entry_key entry index) (put share_key row rows)
+  pub index_put : All (λ (y : ShareRow). row.id ≢ y.id) rows → IsNodeIndex index rows → IsNodeIndex (put entry_key (entry_of row) index) (put share_key row rows)
   index_put differ is = record {
-    entries_rise = put_rising entry_key entry index is.entries_rise;
+    entries_rise = put_rising entry_key (entry_of row) index is.entries_rise;
     rows_rise = put_rising share_key row rows is.rows_rise;
     numbers = λ node.
-        put_numbers entry_key (λ e. e.share) (λ e. e.node == node) entry index is.entries_rise (entries_agree node)
+        put_numbers entry_key (λ e. e.share) (λ e. e.node == node) (entry_of row) index is.entries_rise (entries_agree node)
         ∙ ap (λ (ids : List ℕ). cond (row.node == node) (put numbered row.id ids) ids) (is.numbers node)
         ∙ sym (put_numbers share_key (λ r. r.id) (λ r. r.node == node) row rows is.rows_rise (rows_agree node differ));
   }
-
--- the entries of one row more
-pub index_more : (index : List NodeShare) (rows : List ShareRow) (i : ℕ) (row : ShareRow) → i < length rows → row ≡ get_or rows i row
-    → IsRising share_key rows → IsNodeIndex index (take i rows) → IsNodeIndex (put entry_key (entry index rows row) index) (take (i + 1) rows)
-index_more index rows i row within at rising is =
-    let next : put share_key row (take i rows) ≡ take (i + 1) rows =
-    put_last share_key row (take i rows) below ∙ ap (λ (last : ShareRow). take i rows ++ last ∷ []) at ∙ sym (take_more rows i row within) in
-    subst (IsNodeIndex (put entry_key (entry index rows row) index)) next
-    (index_put index (take i rows) row
-    (λ k d less same. let lower = below_one (get_or (take i rows) k d).id row.id (below k d less) in omega arith)
-    is)
-  where
-    below : All (λ (y : ShareRow). key_cmp (share_key y) (share_key row) ≡ Less) (take i rows)
-    below k d less =
-        let before : k < i = let n = length-take-le i rows (omega arith) in omega arith in
-        rw (get_or-take i rows k d before, at, get_or_default rows i row d within) (rising k i d before within)
 
 -- ---- the entries of a node
 
@@ -148,15 +129,6 @@ none_has id (x ∷ xs) none = here (x.id == id) refl none (none_has id xs)
         → (share_row xs id ≡ None → All (λ (y : ShareRow). id ≢ y.id) xs) → All (λ (y : ShareRow). id ≢ y.id) (x ∷ xs)
     here true e none rest = absurd (cc)
     here false e none rest = All-cons (λ (y : ShareRow). id ≢ y.id) x xs (λ same. grind (arith, nat_tests)) (rest none)
-
-own : (rows : List ShareRow) → IsRising share_key rows → All (λ (row : ShareRow). share_row rows row.id ≡ Some row) rows
-own [] rising = All-nil (λ (row : ShareRow). share_row [] row.id ≡ Some row)
-own (x ∷ xs) rising =
-    All-cons (λ (row : ShareRow). share_row (x ∷ xs) row.id ≡ Some row) x xs (grind (arith, nat_tests))
-    (λ k d within.
-    let less = below_one x.id (get_or xs k d).id (below_rest share_key x xs rising k d within) in
-    let rest = own xs (tail_rising share_key x xs rising) k d within in
-    grind (arith, nat_tests))
 
 -- ---- a changed share
 
@@ -231,4 +203,8 @@ first_of rows p test rising =
     ∙ ap (option_map (λ (row : ShareRow). row.id))
     (find_filter p (λ row. passes row.id) rows
     ∙ find_agree (λ row. p row && passes row.id) (λ row. p row && test row) rows
-    (λ k d within. ap (λ (o : Option ShareRow). p (get_or rows k d) && option_map_or test o false) (own rows rising k d within)))
+    (λ k d within. ap (λ (o : Option ShareRow). p (get_or rows k d) && option_map_or test o false) (share_row_each rows rising k d within)))
+
+-- a share that gives the same already is one of the same node
+pub again_there : (rows : List ShareRow) (row : ShareRow) (now : ℕ) → find (λ other. other.node == row.node && is_again row now other) rows ≡ find (is_again row now) rows
+again_there rows row now = find_agree (λ other. other.node == row.node && is_again row now other) (is_again row now) rows (λ k d within. grind arith)

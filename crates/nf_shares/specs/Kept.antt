@@ -53,6 +53,10 @@ StaysInPlace row row' = (row'.id ≡ row.id) × (row'.node ≡ row.node)
 abbrev pub entry_key : NodeShare → List ℕ
 entry_key entry = entry.node ∷ entry.share ∷ []
 
+-- the entry of a row
+abbrev pub entry_of : ShareRow → NodeShare
+entry_of row = record { node = row.node; share = row.id }
+
 -- both are by rising key; and of each node, the entries have the numbers of the rows, in their order
 pub record IsNodeIndex (index : List NodeShare) (rows : List ShareRow) : Type 0 where
   pub entries_rise : IsRising entry_key index

@@ -7,6 +7,8 @@ mod rows;
 mod shares;
 
 pub use faults::ShareFault;
+pub use nodes::NodeShare;
+pub use rows::{is_before, receives};
 pub use shares::Shares;
 
 /// The most shares, of all users together.

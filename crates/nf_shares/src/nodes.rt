@@ -1,8 +1,8 @@
 //! Shares by their nodes.
 
-ghost use Rattle.std.specs.Prelude.{◌≡◌, [], ◌∷◌, IfOk};
+ghost use Rattle.std.specs.Prelude.{◌≡◌, [], ◌∷◌, map, IfOk};
 ghost use Rattle.nf_defs.specs.Prelude.{IsRising, key_cmp, share_key};
-ghost use Rattle.nf_shares.specs.Kept.{IsNodeIndex, entry_key};
+ghost use Rattle.nf_shares.specs.Kept.{IsNodeIndex, entry_key, entry_of};
 ghost use Rattle.nf_table.specs.Rows.{front_cmp};
 
 use nf_base::{NodeId, ShareId, ShareRow};
@@ -13,9 +13,9 @@ use std::cmp::Ordering;
 
 /// A node, and a share of it.
 #[derive(Clone, Copy)]
-pub(crate) struct NodeShare {
-    pub(crate) node: NodeId,
-    pub(crate) share: ShareId,
+pub struct NodeShare {
+    pub node: NodeId,
+    pub share: ShareId,
 }
 
 impl Keyed for NodeShare {
@@ -37,18 +37,32 @@ impl BegunBy<NodeId> for NodeShare {
     }
 }
 
-/// The shares of these rows by their nodes. A new share is mostly one of a new node, so that most entries go to the end.
+/// The entries of these rows, in their order.
+fn entries_of(alloc: Global, rows: &[ShareRow]) -> Result<Vec<NodeShare>, AllocError>
+    ensures { IfOk result (λ entries. entries.items ≡ map entry_of rows.now) }
+{
+    rows.iter()
+        .map(|row| NodeShare {
+            node: row.node,
+            share: row.id,
+        })
+        .collect(alloc)
+}
+
+/// The entries by rising key. The rows are by their numbers, so it is enough to sort by nodes where those of one node stay in order.
+fn sorted_entries(alloc: Global, rows: &[ShareRow]) -> Result<Vec<NodeShare>, AllocError>
+    requires { IsRising share_key rows.now }
+    ensures { IfOk result (λ entries. IsNodeIndex entries.items rows.now) }
+{
+    let mut entries = entries_of(alloc, rows)?;
+    entries.sort_by_key(|entry| entry.node)?;
+    Ok(entries)
+}
+
+/// The shares of these rows by their nodes.
 pub(crate) fn node_index(alloc: Global, rows: &[ShareRow]) -> Result<Table<NodeShare>, AllocError>
     requires { IsRising share_key rows.now }
     ensures { IfOk result (λ index. IsNodeIndex index.rows rows.now) }
 {
-    let mut index = Table::new(alloc);
-    index.reserve(rows.len())?;
-    for row in rows {
-        index.put(NodeShare {
-            node: row.node,
-            share: row.id,
-        });
-    }
-    Ok(index)
+    Ok(Table::of(sorted_entries(alloc, rows)?))
 }

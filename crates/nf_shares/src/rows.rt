@@ -10,7 +10,7 @@ use nf_access::Facts;
 use nf_base::{Moment, Name, ShareId, ShareKind, ShareRow, UserId};
 
 /// Whether the user receives the share.
-pub(crate) fn receives<F: Facts>(facts: &F, user: UserId, row: &ShareRow) -> bool
+pub fn receives<F: Facts>(facts: &F, user: UserId, row: &ShareRow) -> bool
     ensures { result ≡ receives (F.members facts.now) (seeker.User user) row.now }
 {
     let named = match &row.kind {
@@ -60,7 +60,8 @@ fn is_same_recipient(one: &ShareKind, other: &ShareKind) -> bool
     }
 }
 
-fn is_before(now: Moment, until: Option<Moment>) -> bool
+/// Whether the end moment is still to come, where there is one.
+pub fn is_before(now: Moment, until: Option<Moment>) -> bool
     ensures { result ≡ is_before now until }
 {
     match until {
@@ -69,7 +70,8 @@ fn is_before(now: Moment, until: Option<Moment>) -> bool
     }
 }
 
-fn is_again(row: &ShareRow, now: Moment, other: &ShareRow) -> bool
+/// Whether the other share gives the same already.
+pub(crate) fn is_again(row: &ShareRow, now: Moment, other: &ShareRow) -> bool
     ensures { result ≡ is_again row.now now other.now }
 {
     !other.ended
@@ -79,25 +81,12 @@ fn is_again(row: &ShareRow, now: Moment, other: &ShareRow) -> bool
         && is_same_recipient(&other.kind, &row.kind)
 }
 
-/// The first share that gives the same already.
-pub(crate) fn again<'a>(rows: &'a [ShareRow], row: &ShareRow, now: Moment) -> Option<&'a ShareRow>
-    ensures { option_copied result ≡ find (is_again row.now now) rows.now }
-{
-    rows.iter().find(|other| is_again(row, now, other))
-}
-
-fn has_token_of(kind: &ShareKind, other: &ShareRow) -> bool
-    ensures { result ≡ has_token_of kind.now other.now }
-{
-    match kind {
-        ShareKind::Link(token) => is_link(token, &other.kind),
-        _ => false,
-    }
-}
-
 /// The first share whose link has the same token.
 pub(crate) fn token_of<'a>(rows: &'a [ShareRow], row: &ShareRow) -> Option<&'a ShareRow>
     ensures { option_copied result ≡ find (has_token_of row.now.kind) rows.now }
 {
-    rows.iter().find(|other| has_token_of(&row.kind, other))
+    match &row.kind {
+        ShareKind::Link(token) => rows.iter().find(|other| is_link(token, &other.kind)),
+        ShareKind::User(_) | ShareKind::Group(_) => None,
+    }
 }

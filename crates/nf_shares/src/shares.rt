@@ -8,14 +8,14 @@ ghost use Rattle.nf_access.specs.Shares.{chain_of, chain_within, receives, share
 ghost use Rattle.nf_defs.specs.Prelude.{IsRising, share_key};
 ghost use Rattle.nf_defs.specs.declared.Seeker.TheVariants as seeker;
 ghost use Rattle.nf_shares.specs.Kept.{FitsShare, StaysInPlace, changed, ids_of, is_child_of, is_received_on, link_of};
-ghost use Rattle.nf_shares.specs.Making.{Follows, Makes, fault_of};
+ghost use Rattle.nf_shares.specs.Making.{Follows, Makes, fault_of, is_again};
 ghost use Rattle.nf_table.specs.Rows.{Changes};
 ghost use Rattle.nf_shares.specs.declared.faults.ShareFault.TheVariants as fault;
 
 use crate::MAX_SHARES;
 use crate::faults::ShareFault;
 use crate::nodes::{NodeShare, node_index};
-use crate::rows::{again, is_child_of, is_link, is_self_share, receives, token_of};
+use crate::rows::{is_again, is_child_of, is_link, is_self_share, receives, token_of};
 use nf_access::{Facts, MAX_CHAIN};
 use nf_base::{Moment, Name, NodeId, Perms, ShareId, ShareRow, UserId};
 use nf_table::{ShareKey, Table};
@@ -111,6 +111,14 @@ impl Shares {
         ensures { result ≡ option_map (λ row. row.id) (find (is_received_on (F.members facts.now) (seeker.User user) node) self.now.rows) }
     {
         self.first_of(facts, user, self.entries(node))
+    }
+
+    /// The entries of a node's shares.
+    pub fn entries(&self, node: NodeId) -> &[NodeShare]
+        ensures numbers { map (λ entry. entry.share) result.now ≡ ids_of (λ row. row.node == node) self.now.rows }
+        ensures rising { IsRising share_key self.now.rows }
+    {
+        self.by_node.front(&node)
     }
 
     /// The shares of a node.
@@ -226,14 +234,6 @@ impl Shares {
         }
     }
 
-    /// The entries of a node's shares.
-    fn entries(&self, node: NodeId) -> &[NodeShare]
-        ensures numbers { map (λ entry. entry.share) result.now ≡ ids_of (λ row. row.node == node) self.now.rows }
-        ensures rising { IsRising share_key self.now.rows }
-    {
-        self.by_node.front(&node)
-    }
-
     /// The first of these entries' shares that the user receives.
     fn first_of<F: Facts>(&self, facts: &F, user: UserId, entries: &[NodeShare]) -> Option<ShareId>
         ensures { result ≡ find (λ id. option_map_or (receives (F.members facts.now) (seeker.User user)) (share_row self.now.rows id) false) (map (λ entry. entry.share) entries.now) }
@@ -250,6 +250,33 @@ impl Shares {
     {
         match self.row(id) {
             Some(row) => receives(facts, user, row),
+            None => false,
+        }
+    }
+
+    /// The first share that gives the same already. It is one of the same node.
+    fn again(&self, row: &ShareRow, now: Moment) -> Option<ShareId>
+        ensures { result ≡ option_map (λ row. row.id) (find (is_again row.now now) self.now.rows) }
+    {
+        self.again_of(row, now, self.entries(row.node))
+    }
+
+    /// The first of these entries' shares that gives the same already.
+    fn again_of(&self, row: &ShareRow, now: Moment, entries: &[NodeShare]) -> Option<ShareId>
+        ensures { result ≡ find (λ id. option_map_or (is_again row.now now) (share_row self.now.rows id) false) (map (λ entry. entry.share) entries.now) }
+    {
+        entries
+            .iter()
+            .map(|entry| entry.share)
+            .find(|id| self.gives_again(row, now, *id))
+    }
+
+    /// Whether there is a share of that number, which gives the same already.
+    fn gives_again(&self, row: &ShareRow, now: Moment, id: ShareId) -> bool
+        ensures { result ≡ option_map_or (is_again row.now now) (share_row self.now.rows id) false }
+    {
+        match self.row(id) {
+            Some(other) => is_again(row, now, other),
             None => false,
         }
     }
@@ -271,8 +298,8 @@ impl Shares {
         if is_self_share(row) {
             return Err(ShareFault::SelfShare);
         }
-        if let Some(other) = again(self.rows(), row, now) {
-            return Err(ShareFault::Already(other.id));
+        if let Some(other) = self.again(row, now) {
+            return Err(ShareFault::Already(other));
         }
         if let Some(parent) = row.parent
             && self.depth(parent) >= MAX_CHAIN

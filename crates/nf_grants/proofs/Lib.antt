@@ -1,0 +1,4 @@
+pub mod Lines
+pub mod Walks
+pub mod OnNodes
+pub mod Refused

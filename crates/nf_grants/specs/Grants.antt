@@ -1,0 +1,37 @@
+-- What links grant, and what is told of a refusal.
+use Rattle.std.specs.Prelude.{◌≡◌, ℕ, Bool, true, false, Option, Some, None, option_and_then, if◌then◌else◌}
+use Rattle.nf_access.specs.Access.{grant_by}
+use Rattle.nf_access.specs.Broken.{broken_in}
+use Rattle.nf_access.specs.Shares.{Ground, chain_of, receives, share_row}
+use Rattle.nf_base.specs.declared.perms.Act.{Act}
+use Rattle.nf_base.specs.declared.rows.ShareKind.{ShareKind}
+use Rattle.nf_base.specs.declared.rows.ShareKind.TheVariants as kind
+use Rattle.nf_base.specs.declared.rows.ShareRow.{ShareRow}
+use Rattle.nf_defs.specs.declared.Grant.{Grant}
+use Rattle.nf_defs.specs.declared.Seeker.{Seeker}
+use Rattle.nf_grants.specs.declared.breaking.Broken.{Broken}
+use Rattle.nf_grants.specs.declared.breaking.Broken.TheVariants.{NoShare, Link}
+
+abbrev pub is_link_kind : ShareKind → Bool
+is_link_kind (kind.User user) = false
+is_link_kind (kind.Group group) = false
+is_link_kind (kind.Link token) = true
+
+-- what a share gives by its chain, where it is there and passes the test
+abbrev pub grant_where : (ShareRow → Bool) → Ground → ℕ → Option Grant
+grant_where test g id =
+    option_and_then (λ share. if test share then grant_by g share.id (chain_of g.shares share.id) else None) (share_row g.shares id)
+
+-- what a share gives a seeker, where it is there and the seeker receives it
+abbrev pub grant_to : Ground → Seeker → ℕ → Option Grant
+grant_to g who id = grant_where (receives g.members who) g id
+
+-- what a link gives whoever holds it: what its chain gives, where the share is there and is a link
+abbrev pub link_grant : Ground → ℕ → Option Grant
+link_grant g id = grant_where (λ share. is_link_kind share.kind) g id
+
+-- what is told of a refusal, from the first share that is received: that there is none, or the first broken link of its chain
+abbrev pub Tells : Ground → ℕ → Option Act → Option ShareRow → Broken → Type 0
+Tells g now act received NoShare = received ≡ None
+Tells g now act received (Link link cause) =
+    (share : ShareRow) × (received ≡ Some share) × (broken_in g now act None (chain_of g.shares share.id) ≡ Some (link, cause))

@@ -1,0 +1,5 @@
+pub mod Keys
+pub mod Puts
+pub mod Found
+pub mod Loaded
+pub mod Naming

@@ -1,0 +1,7 @@
+//! Tests of shares and mounts by public calls: chains and limits, which no case of the suite reaches.
+#![tactic(auto)]
+
+#[cfg(test)]
+mod mounts;
+#[cfg(test)]
+mod shares;

@@ -1,0 +1,100 @@
+//! Chains at their longest, and as many shares as may be, made by loops.
+
+use nf_access::MAX_CHAIN;
+use nf_base::{Act, Moment, NodeId, Perms, ShareId, ShareKind, ShareRow, UserId};
+use nf_defs::{Grant, Seeker};
+use nf_grants::Ground;
+use nf_people::People;
+use nf_shares::{MAX_SHARES, ShareFault, Shares};
+use nf_tree::Tree;
+use std::alloc::Global;
+use std::test::Fail;
+
+/// A share of user 1's node of that number, with all permissions: for the user whose number is one more than the share's. It is the first,
+/// or passes on the share before it.
+fn share(number: u32, node: u32, passes_on: bool) -> Result<ShareRow, Fail> {
+    let owner = UserId::new(1);
+    let parent = passes_on.then_some(ShareId::new(number.wrapping_sub(1).into()));
+    Ok(ShareRow {
+        id: ShareId::new(number.into()),
+        kind: ShareKind::User(UserId::new(number.wrapping_add(1))),
+        node: NodeId::new(node.into()),
+        owner,
+        initiator: if passes_on {
+            UserId::new(number)
+        } else {
+            owner
+        },
+        parent,
+        perms: Perms::read(31).ok_or("no permissions")?,
+        until: None,
+        ended: false,
+        made: Moment::new(1_000),
+    })
+}
+
+/// Makes a share of a number that no share has.
+fn make(shares: &mut Shares, row: ShareRow) -> Result<Result<(), ShareFault>, Fail> {
+    if shares.row(row.id).is_some() {
+        return Err("its number is another's")?;
+    }
+    Ok(shares.create(row, Moment::new(1_000)))
+}
+
+/// So many shares, each passing on the one before it, or each of a node of its own.
+fn shares(alloc: Global, count: u32, pass_on: bool) -> Result<Shares, Fail> {
+    let mut shares = Shares::new(alloc);
+    for number in 1..=count {
+        let node = if pass_on { 7 } else { number };
+        let row = share(number, node, pass_on && number > 1)?;
+        if make(&mut shares, row)?.is_err() {
+            return Err("a share isn't made")?;
+        }
+    }
+    Ok(shares)
+}
+
+#[test]
+fn a_chain_of_sixteen_is_the_longest(rt: HostRuntime) -> Result<(), Fail> {
+    let mut shares = shares(rt.alloc(), MAX_CHAIN as u32, true)?;
+    assert!(rt; shares.depth(ShareId::new(16)) == 16);
+    let made = make(&mut shares, share(17, 7, true)?)?;
+    assert!(rt; made == Err(ShareFault::Chain));
+    Ok(())
+}
+
+/// The one grant of a user on node 7.
+fn grant_on_seven(alloc: Global, shares: &Shares, user: u32) -> Result<Grant, Fail> {
+    let (people, tree) = (People::new(alloc), Tree::new(alloc));
+    let ground = Ground::new(&people, &tree, shares);
+    let (user, node) = (UserId::new(user), NodeId::new(7));
+    let grants = ground.grants(alloc, Seeker::User(user), node)?;
+    let grant = grants.first().ok_or("nothing is granted")?;
+    if ground.allows(user, node, Act::Share, Moment::new(1_000)) != Some(grant.share) {
+        return Err("it isn't allowed")?;
+    }
+    Ok(*grant)
+}
+
+#[test]
+fn the_last_of_a_chain_is_granted_what_all_allow(rt: HostRuntime) -> Result<(), Fail> {
+    let alloc = rt.alloc();
+    let mut shares = shares(alloc, 16, true)?;
+    let grant = grant_on_seven(alloc, &shares, 17)?;
+    assert!(rt; grant.share == ShareId::new(16) && grant.mask.bits() == 31);
+    if shares.row(ShareId::new(3)).is_some() {
+        let perms = Perms::read(17).ok_or("no permissions")?;
+        shares.set_perms(ShareId::new(3), perms);
+    }
+    assert!(rt; grant_on_seven(alloc, &shares, 17)?.mask.bits() == 17);
+    Ok(())
+}
+
+#[test]
+fn as_many_shares_as_may_be(rt: HostRuntime) -> Result<(), Fail> {
+    let mut shares = shares(rt.alloc(), MAX_SHARES as u32, false)?;
+    assert!(rt; shares.count() == 65_536);
+    let made = make(&mut shares, share(65_537, 7, false)?)?;
+    assert!(rt; made == Err(ShareFault::Limit));
+    Ok(())
+}
