@@ -8,7 +8,7 @@ use Rattle.nf_access.proofs.LookUps.{find_among, map_some}
 use Rattle.nf_access.specs.Access.{IsChain}
 use Rattle.nf_access.specs.Laws.{IsBounded}
 use Rattle.nf_access.specs.Shares.{Ground, chain_of, chain_up, chain_within, share_row}
-use Rattle.nf_access.specs.declared.TheConstants.{MAX_CHAIN}
+use Rattle.nf_base.specs.declared.limits.TheConstants.{MAX_CHAIN}
 
 pub own_row : (shares : List ShareRow) (share : ShareRow) (up : List ShareRow) → IsChain shares (share ∷ up) → share_row shares share.id ≡ Some share
 own_row shares share [] chain = chain.0

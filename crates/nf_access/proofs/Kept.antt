@@ -13,7 +13,7 @@ use Rattle.nf_access.proofs.LookUps.{find_among}
 use Rattle.nf_access.specs.Access.{IsChain, Under, itself, inside}
 use Rattle.nf_access.specs.Kept.{ChainedIsBounded, IsShallow}
 use Rattle.nf_access.specs.Shares.{chain_up, chain_within, share_row}
-use Rattle.nf_access.specs.declared.TheConstants.{MAX_CHAIN}
+use Rattle.nf_base.specs.declared.limits.TheConstants.{MAX_CHAIN}
 use Rattle.nf_base.specs.declared.limits.TheConstants.{MAX_DEPTH}
 use Rattle.nf_base.specs.declared.rows.NodeRow.{NodeRow}
 use Rattle.nf_base.specs.declared.rows.ShareRow.{ShareRow}

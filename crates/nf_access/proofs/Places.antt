@@ -8,7 +8,7 @@ use Rattle.nf_access.proofs.Chains.{found_chain}
 use Rattle.nf_access.specs.Access.{IsChain, grant_by, grant_of}
 use Rattle.nf_access.specs.Laws.{AreSamePlaces, GrantsStay}
 use Rattle.nf_access.specs.Shares.{Ground, chain_of, chain_within, follows, receives, share_row, stands}
-use Rattle.nf_access.specs.declared.TheConstants.{MAX_CHAIN}
+use Rattle.nf_base.specs.declared.limits.TheConstants.{MAX_CHAIN}
 use Rattle.nf_base.specs.declared.limits.TheConstants.{MAX_DEPTH}
 use Rattle.nf_base.specs.declared.rows.NodeRow.{NodeRow}
 use Rattle.nf_base.specs.declared.rows.ShareRow.{ShareRow}

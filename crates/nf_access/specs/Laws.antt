@@ -5,7 +5,7 @@ use Rattle.nf_access.specs.Access.{Allows, IsChain, Reaches, Stands, Under, allo
 use Rattle.nf_access.specs.Broken.{IsFirstBroken, broken_in, first_received}
 use Rattle.nf_access.specs.Shares.{Ground, chain_of, mask_of, share_row}
 use Rattle.nf_access.specs.declared.Cause.{Cause}
-use Rattle.nf_access.specs.declared.TheConstants.{MAX_CHAIN}
+use Rattle.nf_base.specs.declared.limits.TheConstants.{MAX_CHAIN}
 use Rattle.nf_base.specs.Perms.{has}
 use Rattle.nf_base.specs.declared.perms.Act.{Act}
 use Rattle.nf_base.specs.declared.rows.NodeRow.{NodeRow}

@@ -1,14 +1,16 @@
 -- Shares: who receives one, and the chain of shares that it stands on.
-use Rattle.std.specs.Prelude.{ℕ, zero, suc, Bool, true, false, not, ◌&&◌, ◌==◌, nat_lt, min, List, [], ◌∷◌, find, Option, Some, None, option_map, option_and_then, unwrap_or, bit_and, if◌then◌else◌}
-use Rattle.nf_base.specs.Perms.{has}
+use Rattle.std.specs.Prelude.{ℕ, zero, suc, Bool, true, false, not, ◌&&◌, ◌==◌, nat_lt, min, List, [], ◌∷◌, find, Option, Some, None, option_map, option_and_then, unwrap_or, bit_and, bit_or, if◌then◌else◌}
+use Rattle.nf_base.specs.Perms.{bit_of, has}
 use Rattle.nf_base.specs.declared.perms.Act.TheVariants as act
 use Rattle.nf_base.specs.declared.rows.MemberRow.{MemberRow}
+use Rattle.nf_base.specs.declared.rows.NodeKind.{NodeKind}
+use Rattle.nf_base.specs.declared.rows.NodeKind.TheVariants as node
 use Rattle.nf_base.specs.declared.rows.NodeRow.{NodeRow}
 use Rattle.nf_base.specs.declared.rows.ShareRow.{ShareRow}
 use Rattle.nf_base.specs.declared.rows.ShareKind.{ShareKind}
 use Rattle.nf_base.specs.declared.rows.ShareKind.TheVariants as kind
 use Rattle.nf_defs.specs.People.{is_member_of}
-use Rattle.nf_access.specs.declared.TheConstants.{MAX_CHAIN}
+use Rattle.nf_base.specs.declared.limits.TheConstants.{MAX_CHAIN}
 use Rattle.nf_defs.specs.Tables.{Tables}
 use Rattle.nf_defs.specs.Tree.{is_under}
 use Rattle.nf_defs.specs.declared.Seeker.{Seeker}
@@ -26,6 +28,23 @@ ground_of t = record { members = t.members; nodes = t.nodes; shares = t.shares }
 -- the row of a share
 abbrev pub share_row : List ShareRow → ℕ → Option ShareRow
 share_row shares id = find (λ row. row.id == id) shares
+
+-- ---- permissions
+
+-- all that a share of a file or a folder may allow: of a file neither create nor delete
+abbrev pub most_of_node : NodeKind → ℕ
+most_of_node node.File = 19
+most_of_node node.Folder = 31
+
+-- and all that one for such seekers may: a link isn't passed on
+abbrev pub most_of_share : ShareKind → ℕ
+most_of_share (kind.User user) = 31
+most_of_share (kind.Group group) = 31
+most_of_share (kind.Link token) = 15
+
+-- the permissions of a share for which some are asked: of these what it may allow, and read always
+abbrev pub perms_of_share : NodeKind → ShareKind → ℕ → ℕ
+perms_of_share of to wanted = bit_or (bit_and wanted (bit_and (most_of_node of) (most_of_share to))) (bit_of act.Read)
 
 -- ---- receiving
 

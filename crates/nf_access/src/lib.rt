@@ -3,15 +3,15 @@
 #![tactic(auto)]
 
 pub mod laws;
+mod perms;
+
+pub use perms::perms_of_share;
 
 ghost use Rattle.std.specs.Prelude.{◌≡◌, List};
 ghost use Rattle.nf_base.specs.declared.rows.MemberRow.{MemberRow};
 ghost use Rattle.nf_defs.specs.People.{is_member_of};
 
 use nf_base::{GroupId, UserId};
-
-/// How many shares a chain has at most, from its first to the one that is received.
-pub const MAX_CHAIN: usize = 16;
 
 /// Why a share of a chain is broken. At one share the first of these that holds is told.
 #[derive(Clone, Copy, PartialEq, Eq)]

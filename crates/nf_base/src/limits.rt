@@ -30,6 +30,15 @@ pub const MAX_TOKENS: usize = 16_384;
 /// The most members, of all groups together.
 pub const MAX_MEMBERS: usize = 65_536;
 
+/// The most shares, of all users together.
+pub const MAX_SHARES: usize = 65_536;
+
+/// The most shares of a chain, from its first to the one that is received.
+pub const MAX_CHAIN: usize = 16;
+
+/// The most mounts, of all users together, with those that were left.
+pub const MAX_MOUNTS: usize = 262_144;
+
 /// The most bytes that a user's quota may allow: 1 TiB.
 pub const MAX_QUOTA: u64 = 1_099_511_627_776;
 

@@ -8,7 +8,7 @@ use Rattle.nf_access.specs.Broken.{broken_in, first_received}
 use Rattle.nf_access.specs.Laws.{IsBounded, IsRefused}
 use Rattle.nf_access.specs.Shares.{Ground, chain_of, chain_within, receives}
 use Rattle.nf_access.specs.declared.Cause.{Cause}
-use Rattle.nf_access.specs.declared.TheConstants.{MAX_CHAIN}
+use Rattle.nf_base.specs.declared.limits.TheConstants.{MAX_CHAIN}
 use Rattle.nf_base.specs.declared.perms.Act.{Act}
 use Rattle.nf_base.specs.declared.rows.ShareRow.{ShareRow}
 use Rattle.nf_defs.specs.declared.Seeker.{Seeker}

@@ -6,7 +6,7 @@ use Rattle.nf_access.specs.Access.{grant_by}
 use Rattle.nf_access.specs.Broken.{broken_in, cause_at}
 use Rattle.nf_access.specs.Shares.{Ground, chain_of, earlier, end_of, follows, mask_of, share_row, stands}
 use Rattle.nf_access.specs.declared.Cause.{Cause}
-use Rattle.nf_access.specs.declared.TheConstants.{MAX_CHAIN}
+use Rattle.nf_base.specs.declared.limits.TheConstants.{MAX_CHAIN}
 use Rattle.nf_base.specs.declared.perms.Act.{Act}
 use Rattle.nf_base.specs.declared.rows.ShareRow.{ShareRow}
 use Rattle.nf_defs.specs.declared.Grant.{Grant}

@@ -8,8 +8,8 @@ ghost use Rattle.nf_defs.specs.declared.Seeker.TheVariants as seeker;
 ghost use Rattle.nf_grants.specs.Grants.{Tells};
 
 use crate::ground::Ground;
-use nf_access::{Cause, MAX_CHAIN};
-use nf_base::{Act, Moment, NodeId, ShareId, ShareRow, UserId};
+use nf_access::Cause;
+use nf_base::{Act, MAX_CHAIN, Moment, NodeId, ShareId, ShareRow, UserId};
 use nf_defs::Seeker;
 use nf_shares::is_before;
 

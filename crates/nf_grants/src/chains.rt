@@ -6,8 +6,7 @@ ghost use Rattle.nf_access.specs.Shares.{chain_of, chain_up, chain_within, earli
 ghost use Rattle.nf_grants.specs.Grants.{grant_to, is_link_kind};
 
 use crate::ground::Ground;
-use nf_access::MAX_CHAIN;
-use nf_base::{Moment, ShareId, ShareKind, ShareRow};
+use nf_base::{MAX_CHAIN, Moment, ShareId, ShareKind, ShareRow};
 use nf_defs::{Grant, Seeker};
 
 /// The earlier of two end moments, where there are any.

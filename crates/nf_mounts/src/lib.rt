@@ -7,6 +7,3 @@ mod names;
 
 pub use faults::RenameFault;
 pub use mounts::Mounts;
-
-/// The most mounts, of all users together, with those that were left.
-pub const MAX_MOUNTS: usize = 262_144;

@@ -7,10 +7,9 @@ ghost use Rattle.nf_base.specs.FreeNames.{is_taken};
 ghost use Rattle.nf_defs.specs.Prelude.{IsRising, child_of, mount_key, node_row, put};
 ghost use Rattle.nf_mounts.specs.Kept.{Renames, is_named, left_row, names_beside};
 
-use crate::MAX_MOUNTS;
 use crate::faults::RenameFault;
 use crate::names::{MountName, NamedMount, first_named, name_index, renew};
-use nf_base::{Digest, MountRow, Name, NodeId, UserId, free_name};
+use nf_base::{Digest, MAX_MOUNTS, MountRow, Name, NodeId, UserId, free_name};
 use nf_people::People;
 use nf_table::{MountKey, Table};
 use nf_tree::Tree;
@@ -131,7 +130,7 @@ impl Mounts {
     pub fn is_name_free(&self, people: &People, tree: &Tree, user: UserId, name: &Name) -> bool
         ensures { result ≡ not (is_taken name.now (names_in_root people.now.users tree.now.rows self.now.rows user)) }
     {
-        tree.child(root_of(people, user), name).is_none() && self.at(user, name).is_none()
+        child_in_root(people, tree, user, name).is_none() && self.at(user, name).is_none()
     }
 
     /// The row that gives the user a mount of a node, under a free name, where it has none. The one error is that there is no
@@ -177,6 +176,7 @@ impl Mounts {
     }
 
     /// The row of the user's mount of the node under another name, which no other child and no other mount in its root may have.
+    /// Whether the mount is there isn't looked at.
     pub fn renamed(
         &self,
         people: &People,
@@ -223,7 +223,7 @@ impl Mounts {
     ) -> bool
         ensures { result ≡ is_taken name.now (names_beside people.now.users tree.now.rows self.now.rows user node) }
     {
-        tree.child(root_of(people, user), name).is_some()
+        child_in_root(people, tree, user, name).is_some()
             || self.at_but(user, name, Some(node)).is_some()
     }
 
@@ -260,4 +260,11 @@ fn root_of(people: &People, user: UserId) -> NodeId
         Some(row) => row.root,
         None => NodeId::new(0),
     }
+}
+
+/// The child of that name in the user's root.
+fn child_in_root(people: &People, tree: &Tree, user: UserId, name: &Name) -> Option<NodeId>
+    ensures { result ≡ child_of tree.now.rows (root_folder people.now.users user) name.now }
+{
+    tree.child(root_of(people, user), name)
 }

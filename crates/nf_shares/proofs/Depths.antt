@@ -1,7 +1,7 @@
 -- The length of a chain, one share at a time.
 use Rattle.std.proofs.Common.{ℕ, zero, suc, ◌+◌, ◌≡◌, ◌==◌, Bool, true, false, List, [], ◌∷◌, Option, None, Some, length, refl, ap, ◌∙◌, arith}
 use Rattle.std.specs.Prelude.{option_map, option_and_then, unwrap_or, if◌then◌else◌}
-use Rattle.nf_access.specs.declared.TheConstants.{MAX_CHAIN}
+use Rattle.nf_base.specs.declared.limits.TheConstants.{MAX_CHAIN}
 use Rattle.nf_base.specs.declared.rows.ShareRow.{ShareRow}
 use Rattle.nf_access.specs.Shares.{chain_of, chain_up, chain_within, share_row}
 

@@ -37,9 +37,6 @@ abbrev pub is_child_of : ℕ → Option ℕ → Bool
 is_child_of id None = false
 is_child_of id (Some parent) = parent == id
 
-abbrev pub is_received_on : List MemberRow → Seeker → ℕ → ShareRow → Bool
-is_received_on members who node row = row.node == node && receives members who row
-
 -- the rows where the share of that number is what a function makes of it
 abbrev pub changed : (ShareRow → ShareRow) → ℕ → List ShareRow → List ShareRow
 changed f id rows = option_map_or (λ row. put share_key (f row) rows) (share_row rows id) rows

@@ -2,13 +2,13 @@
 use Rattle.std.specs.Prelude.{◌≡◌, ℕ, Bool, false, not, ◌&&◌, ◌||◌, ◌==◌, nat_le, List, find, length, Option, None, Some, option_map, Result, Ok, Err, if◌then◌else◌}
 use Rattle.std.specs.Option.{option_or, option_map_or}
 use Rattle.nf_access.specs.Shares.{chain_of, is_before}
-use Rattle.nf_access.specs.declared.TheConstants.{MAX_CHAIN}
+use Rattle.nf_base.specs.declared.limits.TheConstants.{MAX_CHAIN}
 use Rattle.nf_base.specs.declared.rows.ShareKind.{ShareKind}
 use Rattle.nf_base.specs.declared.rows.ShareKind.TheVariants as kind
 use Rattle.nf_base.specs.declared.rows.ShareRow.{ShareRow}
 use Rattle.nf_defs.specs.Prelude.{put, share_key}
 use Rattle.nf_shares.specs.Kept.{is_link}
-use Rattle.nf_shares.specs.declared.TheConstants.{MAX_SHARES}
+use Rattle.nf_base.specs.declared.limits.TheConstants.{MAX_SHARES}
 use Rattle.nf_shares.specs.declared.faults.ShareFault.{ShareFault}
 use Rattle.nf_shares.specs.declared.faults.ShareFault.TheVariants as fault
 
@@ -54,6 +54,6 @@ Makes old row now (Err fault.Memory) new = (fault_of old row now ≡ None) × (n
 Makes old row now (Err other) new = (fault_of old row now ≡ Some other) × (new ≡ old)
 
 -- the test answers the first fault, or none
-abbrev pub Follows : {A : Type 0} → Option ShareFault → Result A ShareFault → Type 0
-Follows fault (Ok _) = fault ≡ None
-Follows fault (Err other) = fault ≡ Some other
+abbrev pub IsFirstFault : {A : Type 0} → Option ShareFault → Result A ShareFault → Type 0
+IsFirstFault fault (Ok _) = fault ≡ None
+IsFirstFault fault (Err other) = fault ≡ Some other

@@ -10,6 +10,3 @@ pub use faults::ShareFault;
 pub use nodes::NodeShare;
 pub use rows::{is_before, receives};
 pub use shares::Shares;
-
-/// The most shares, of all users together.
-pub const MAX_SHARES: usize = 65_536;

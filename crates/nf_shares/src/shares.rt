@@ -4,20 +4,20 @@ ghost use Rattle.std.specs.Prelude.{◌≡◌, ◌≢◌, ◌==◌, ◌≤◌, t
 ghost use Rattle.std.specs.Fn.{FnOnceReturnsAtMut};
 ghost use Rattle.std.specs.Option.{option_map_or};
 ghost use Rattle.nf_base.specs.declared.rows.ShareRow.{ShareRow};
+ghost use Rattle.nf_access.specs.Broken.{first_received};
 ghost use Rattle.nf_access.specs.Shares.{chain_of, chain_within, receives, share_row};
 ghost use Rattle.nf_defs.specs.Prelude.{IsRising, share_key};
 ghost use Rattle.nf_defs.specs.declared.Seeker.TheVariants as seeker;
-ghost use Rattle.nf_shares.specs.Kept.{FitsShare, StaysInPlace, changed, ids_of, is_child_of, is_received_on, link_of};
-ghost use Rattle.nf_shares.specs.Making.{Follows, Makes, fault_of, is_again};
+ghost use Rattle.nf_shares.specs.Kept.{FitsShare, StaysInPlace, changed, ids_of, is_child_of, link_of};
+ghost use Rattle.nf_shares.specs.Making.{IsFirstFault, Makes, fault_of, is_again};
 ghost use Rattle.nf_table.specs.Rows.{Changes};
 ghost use Rattle.nf_shares.specs.declared.faults.ShareFault.TheVariants as fault;
 
-use crate::MAX_SHARES;
 use crate::faults::ShareFault;
 use crate::nodes::{NodeShare, node_index};
 use crate::rows::{is_again, is_child_of, is_link, is_self_share, receives, token_of};
-use nf_access::{Facts, MAX_CHAIN};
-use nf_base::{Moment, Name, NodeId, Perms, ShareId, ShareRow, UserId};
+use nf_access::Facts;
+use nf_base::{MAX_CHAIN, MAX_SHARES, Moment, Name, NodeId, Perms, ShareId, ShareRow, UserId};
 use nf_table::{ShareKey, Table};
 use std::alloc::{AllocError, Global};
 use std::marker::Model;
@@ -108,7 +108,7 @@ impl Shares {
 
     /// The first share on the node that the user receives, ended ones included.
     pub fn first_received<F: Facts>(&self, facts: &F, user: UserId, node: NodeId) -> Option<ShareId>
-        ensures { result ≡ option_map (λ row. row.id) (find (is_received_on (F.members facts.now) (seeker.User user) node) self.now.rows) }
+        ensures { result ≡ option_map (λ row. row.id) (first_received (F.members facts.now) self.now.rows (seeker.User user) node) }
     {
         self.first_of(facts, user, self.entries(node))
     }
@@ -293,7 +293,7 @@ impl Shares {
 
     /// Why the share can't be made, memory aside.
     fn check(&self, row: &ShareRow, now: Moment) -> Result<(), ShareFault>
-        ensures { Follows (fault_of self.now.rows row.now now) result }
+        ensures { IsFirstFault (fault_of self.now.rows row.now now) result }
     {
         if is_self_share(row) {
             return Err(ShareFault::SelfShare);

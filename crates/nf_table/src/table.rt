@@ -70,6 +70,7 @@ impl<R: Keyed + Drop> Table<R> {
         ensures room { OnOk result (length self.new.rows + count ≤ self.new.room) }
         ensures fits { length self.old.rows + count ≤ self.old.room → IsOk result }
         ensures rows { self.new.rows ≡ self.old.rows }
+        ensures kept { self.old.room ≤ self.new.room }
     {
         self.rows.reserve(count)
     }

@@ -1,13 +1,12 @@
 -- The acts that a request needs, each at its node by the mount of its path, and whether who asks may do them. No rule asks it yet.
-use Rattle.std.specs.Prelude.{ℕ, ◌==◌, ◌&&◌, ◌||◌, nat_lt, not, Bool, false, true, List, [], ◌∷◌, ◌++◌, Option, None, Some, is_some, option_map, option_and_then, if◌then◌else◌}
+use Rattle.std.specs.Prelude.{ℕ, ◌==◌, ◌&&◌, ◌||◌, not, Bool, false, true, List, [], ◌∷◌, ◌++◌, Option, None, Some, is_some, option_map, option_and_then, if◌then◌else◌}
 use Rattle.std.specs.List.{list_any}
 use Rattle.std.specs.Option.{option_map_or, option_or}
-use Rattle.nf_base.specs.Perms.{has}
+use Rattle.nf_access.specs.Access.{allows}
 use Rattle.nf_base.specs.declared.perms.Act.{Act}
 use Rattle.nf_base.specs.declared.perms.Act.TheVariants.{Read, Update, Create, Delete}
 use Rattle.nf_base.specs.declared.rows.NodeRow.{NodeRow}
 use Rattle.nf_defs.specs.Prelude.{Access, node_row}
-use Rattle.nf_defs.specs.declared.Grant.{Grant}
 use Rattle.nf_defs.specs.declared.Seeker.{Seeker}
 use Rattle.nf_defs.specs.declared.Seeker.TheVariants.{User, Link}
 use Rattle.nf_words.specs.Asked.{Asked}
@@ -20,10 +19,6 @@ use Rattle.nf_words.specs.declared.request.Making.{Making}
 use Rattle.nf_words.specs.declared.request.Making.TheVariants as making
 
 -- ---- who may do what
-
--- a grant lets its seeker do the act, as long as it hasn't ended
-abbrev pub allows : ℕ → Act → Grant → Bool
-allows now act grant = has grant.mask act && option_map_or (nat_lt now) grant.until true
 
 -- the seeker is a user who owns the node
 abbrev pub is_owner : List NodeRow → Seeker → ℕ → Bool

@@ -1,38 +1,62 @@
 -- What the rows of shares, mounts, versions, the trash and uploads keep. As long as a kind isn't built, there is none of it.
-use Rattle.std.specs.Prelude.{◌≡◌, ◌≢◌, ℕ, ◌==◌, ◌&&◌, ◌<◌, ◌≤◌, All, false, true, bytes_eq, find, List, [], Option, None, Some, IfSome, is_some}
-use Rattle.nf_base.specs.declared.limits.TheConstants.{MAX_PIECES}
+use Rattle.std.specs.Prelude.{◌≡◌, ◌≢◌, ℕ, ◌==◌, ◌&&◌, ◌<◌, ◌≤◌, All, false, true, bytes_eq, find, length, List, [], Option, None, Some, IfSome, is_some}
+use Rattle.std.specs.List.{AllPairs, list_any}
+use Rattle.nf_access.specs.Mounts.{root_folder}
+use Rattle.nf_access.specs.Shares.{chain_within, perms_of_share}
+use Rattle.nf_base.specs.declared.limits.TheConstants.{MAX_CHAIN, MAX_MOUNTS, MAX_PIECES, MAX_SHARES}
 use Rattle.nf_base.specs.declared.rows.ChunkRow.{ChunkRow}
 use Rattle.nf_base.specs.declared.rows.ItemRow.{ItemRow}
 use Rattle.nf_base.specs.declared.rows.MountRow.{MountRow}
 use Rattle.nf_base.specs.declared.rows.NodeRow.{NodeRow}
 use Rattle.nf_base.specs.declared.rows.Place.TheVariants.{Trash}
+use Rattle.nf_base.specs.declared.rows.ShareKind.{ShareKind}
+use Rattle.nf_base.specs.declared.rows.ShareKind.TheVariants as to
 use Rattle.nf_base.specs.declared.rows.ShareRow.{ShareRow}
 use Rattle.nf_base.specs.declared.rows.UploadRow.{UploadRow}
 use Rattle.nf_base.specs.declared.rows.VersionRow.{VersionRow}
-use Rattle.nf_defs.specs.Prelude.{is_file, is_root, node_row, Tables, user_row}
+use Rattle.nf_defs.specs.Prelude.{child_of, is_file, is_root_place, IsRising, mount_key, node_row, share_key, Tables, user_row}
 use Rattle.nf_words.specs.Contents.{IsPieceSound}
-
-abbrev pub share_row : List ShareRow → ℕ → Option ShareRow
-share_row rows id = find (λ row. row.id == id) rows
 
 abbrev pub upload_row : List UploadRow → ℕ → List ℕ → Option UploadRow
 upload_row rows user dir = find (λ row. row.user == user && bytes_eq row.dir dir) rows
 
--- a share's number was given, and an earlier one is passed on; the first was made by the node's owner. Where it isn't ended, its node
--- is there, is its owner's and is no root
+-- the share names a user or a group that is there, or is a link
+abbrev pub IsKindSound : Tables → ShareKind → Type 0
+IsKindSound t (to.User user) = is_some (user_row t.users user) ≡ true
+IsKindSound t (to.Group group) = list_any (λ row. row.id == group) t.groups ≡ true
+IsKindSound t (to.Link token) = Unit {0}
+
+-- the share is its owner's node's, which is no root, and allows what a share of such a node may
+pub record IsOfNode (row : ShareRow) (of : NodeRow) : Type 0 where
+  pub owner : of.owner ≡ row.owner
+  pub no_root : is_root_place of.place ≡ false
+  pub perms : perms_of_share of.kind row.kind row.perms ≡ row.perms
+
+-- a share's number was given, and so were its node's and its users'; it has a chain, and passes on an earlier share. Its node is there where
+-- it isn't ended, and as long as it is there the share is of it
 pub record IsShareSound (t : Tables) (row : ShareRow) : Type 0 where
   pub some : 1 ≤ row.id
   pub given : row.id < t.meta.next_share
   pub made : row.made ≤ t.meta.last
-  pub first : row.parent ≡ None → row.initiator ≡ row.owner
-  pub parent : IfSome row.parent (λ (id : ℕ). (id < row.id) × (is_some (share_row t.shares id) ≡ true))
-  pub node : row.ended ≡ false → (of : NodeRow) × (node_row t.nodes row.node ≡ Some of) × (of.owner ≡ row.owner)
-  pub no_root : is_root t.nodes row.node ≡ false
+  pub node : row.node < t.meta.next_node
+  pub owner : is_some (user_row t.users row.owner) ≡ true
+  pub initiator : is_some (user_row t.users row.initiator) ≡ true
+  pub kind : IsKindSound t row.kind
+  pub chained : is_some (chain_within MAX_CHAIN t.shares row.id) ≡ true
+  pub parent : IfSome row.parent (λ (id : ℕ). id < row.id)
+  pub present : row.ended ≡ false → is_some (node_row t.nodes row.node) ≡ true
+  pub of_node : (of : NodeRow) → node_row t.nodes row.node ≡ Some of → IsOfNode row of
 
--- a mount is a user's who is there, and of nobody's own node
+-- a mount is a user's who is there, and of nobody's own node. Where it wasn't left, no child of the user's root has its name
 pub record IsMountSound (t : Tables) (row : MountRow) : Type 0 where
   pub user : is_some (user_row t.users row.user) ≡ true
+  pub node : row.node < t.meta.next_node
   pub others : (of : NodeRow) → node_row t.nodes row.node ≡ Some of → of.owner ≢ row.user
+  pub free : row.left ≡ false → child_of t.nodes (root_folder t.users row.user) row.name ≡ None
+
+-- two mounts of one user that weren't left have different names
+abbrev pub AreMountsApart : MountRow → MountRow → Type 0
+AreMountsApart a b = a.user ≡ b.user → a.left ≡ false → b.left ≡ false → a.name ≢ b.name
 
 -- a version is of a file, and has a content
 pub record IsVersionSound (t : Tables) (row : VersionRow) : Type 0 where
@@ -63,7 +87,12 @@ pub record IsChunkSound (t : Tables) (row : ChunkRow) : Type 0 where
 
 pub record AreOthersSound (t : Tables) : Type 0 where
   pub shares : All (IsShareSound t) t.shares
+  pub shares_rise : IsRising share_key t.shares
+  pub few_shares : length t.shares ≤ MAX_SHARES
   pub mounts : All (IsMountSound t) t.mounts
+  pub mounts_rise : IsRising mount_key t.mounts
+  pub mounts_apart : AllPairs AreMountsApart t.mounts
+  pub few_mounts : length t.mounts ≤ MAX_MOUNTS
   pub versions : All (IsVersionSound t) t.versions
   pub items : All (IsItemSound t) t.items
   pub uploads : All (IsUploadSound t) t.uploads

@@ -20,7 +20,7 @@ unfoldable pub use Rattle.nf_words.specs.Limits.{limit_rule}
 pub use Rattle.nf_words.specs.Listing.{bytes_of, line_of, listing_of}
 pub use Rattle.nf_words.specs.Locks.{source_touches, target_name, target_touches, touched, touches, transfer_touches}
 unfoldable pub use Rattle.nf_words.specs.Locks.{locked_rule}
-pub use Rattle.nf_words.specs.Needed.{Need, allows, is_owner, is_within, may_by, needed, needed_by, needs, needs_at, needs_between, needs_in}
+pub use Rattle.nf_words.specs.Needed.{Need, is_owner, is_within, may_by, needed, needed_by, needs, needs_at, needs_between, needs_in}
 pub use Rattle.nf_words.specs.Others.{AreOthersSound}
 pub use Rattle.nf_words.specs.Places.{folder_at, has_forbidden, is_kept, is_there, lost, misplaced, node_at, node_found, source_lost, taken, target_lost, transfer_of, transfer_to, unfit, unfit_between}
 unfoldable pub use Rattle.nf_words.specs.Places.{exists_rule, forbidden_rule, overwrite_rule, place_rule, target_rule}

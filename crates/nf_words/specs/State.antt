@@ -1,7 +1,9 @@
 -- The state of the site.
 use Rattle.std.specs.Prelude.{ℕ, ◌==◌, not, List, [], Option, option_map, find, filter}
 use Rattle.nf_base.specs.declared.rows.Row.{Row}
-use Rattle.nf_defs.specs.Access.{Access, unshared}
+use Rattle.nf_access.specs.Access.{by_chains}
+use Rattle.nf_access.specs.Shares.{ground_of}
+use Rattle.nf_defs.specs.Access.{Access}
 use Rattle.nf_defs.specs.Tables.{Tables, tables_of}
 use Rattle.nf_words.specs.declared.answer.Goal.{Goal}
 use Rattle.nf_words.specs.declared.answer.Hold.{Hold}
@@ -17,9 +19,9 @@ pub record State : Type 0 where
 abbrev pub opened : List Row → State
 opened rows = record { tables = tables_of rows; tickets = []; seen = (tables_of rows).meta.last }
 
--- what shares let their seekers do; nothing is shared yet
+-- what shares let their seekers do: what the chains grant that stand
 abbrev pub access_of : State → Access
-access_of s = unshared
+access_of s = by_chains (ground_of s.tables)
 
 -- the ticket of a seat for what it was granted, with what it holds
 abbrev pub ticket_for : ℕ → Goal → Option Hold → Ticket

@@ -1,7 +1,7 @@
 //! As many mounts as may be, made by a loop.
 
-use nf_base::{MountRow, Name, NodeId, UserId};
-use nf_mounts::{MAX_MOUNTS, Mounts};
+use nf_base::{MAX_MOUNTS, MountRow, Name, NodeId, UserId};
+use nf_mounts::Mounts;
 use std::alloc::Global;
 use std::test::Fail;
 

@@ -1,11 +1,10 @@
 //! Chains at their longest, and as many shares as may be, made by loops.
 
-use nf_access::MAX_CHAIN;
-use nf_base::{Act, Moment, NodeId, Perms, ShareId, ShareKind, ShareRow, UserId};
+use nf_base::{Act, MAX_CHAIN, MAX_SHARES, Moment, NodeId, Perms, ShareId, ShareKind, ShareRow, UserId};
 use nf_defs::{Grant, Seeker};
 use nf_grants::Ground;
 use nf_people::People;
-use nf_shares::{MAX_SHARES, ShareFault, Shares};
+use nf_shares::{ShareFault, Shares};
 use nf_tree::Tree;
 use std::alloc::Global;
 use std::test::Fail;

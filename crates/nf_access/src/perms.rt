@@ -1,0 +1,35 @@
+//! The permissions that a share may have.
+
+ghost use Rattle.std.specs.Prelude.{◌≡◌, ◌<◌, bit_and, bit_or};
+ghost use Rattle.nf_base.specs.Perms.{bit_of};
+ghost use Rattle.nf_base.specs.declared.perms.Act.TheVariants as act;
+ghost use Rattle.nf_access.specs.Shares.{most_of_node, most_of_share, perms_of_share};
+
+use nf_base::{NodeKind, Perms, ShareKind};
+
+/// The permissions of a share for which some are asked: those of a file lack create and delete, those of a link lack share, and read
+/// is always among them.
+pub fn perms_of_share(node: NodeKind, to: &ShareKind, wanted: Perms) -> Perms
+    ensures { result ≡ perms_of_share node to.now wanted }
+{
+    let bits = wanted.bits() & (most_of_node(node) & most_of_share(to)) | 1;
+    Perms::read(bits).unwrap()
+}
+
+fn most_of_node(node: NodeKind) -> u8
+    ensures { result ≡ most_of_node node }
+{
+    match node {
+        NodeKind::File => 19,
+        NodeKind::Folder => 31,
+    }
+}
+
+fn most_of_share(to: &ShareKind) -> u8
+    ensures { result ≡ most_of_share to.now }
+{
+    match to {
+        ShareKind::User(_) | ShareKind::Group(_) => 31,
+        ShareKind::Link(_) => 15,
+    }
+}
