@@ -1,10 +1,14 @@
 -- Mounts: shared nodes under names in the roots of those who receive them.
 use Rattle.std.specs.Prelude.{ℕ, Bool, false, not, ◌&&◌, ◌==◌, bytes_eq, zero, suc, ◌+◌, List, [], ◌++◌, map, filter, find, length, Option, Some, None, option_map, if◌then◌else◌}
+use Rattle.std.specs.List.{list_any}
 use Rattle.std.specs.Option.{option_map_or}
+use Rattle.nf_access.specs.Access.{is_open}
 use Rattle.nf_base.specs.FreeNames.{candidate, is_taken}
 use Rattle.nf_base.specs.declared.rows.MountRow.{MountRow}
 use Rattle.nf_base.specs.declared.rows.NodeRow.{NodeRow}
 use Rattle.nf_base.specs.declared.rows.UserRow.{UserRow}
+use Rattle.nf_defs.specs.Access.{Access}
+use Rattle.nf_defs.specs.declared.Seeker.TheVariants.{User}
 use Rattle.nf_defs.specs.Prelude.{mount_key, node_row, put, taken_names, user_row}
 
 -- the row is that of the user's mount of the node
@@ -21,6 +25,11 @@ is_shown_to user row = row.user == user && not row.left
 -- the node of the user's mount of that name
 abbrev pub mount_at : List MountRow → ℕ → List ℕ → Option ℕ
 mount_at mounts user name = option_map (λ row. row.node) (find (λ row. is_shown_to user row && bytes_eq row.name name) mounts)
+
+-- the mounts of a user that are listed: those that weren't left and on whose node a grant is open
+abbrev pub listed : Access → ℕ → List MountRow → ℕ → List MountRow
+listed access now mounts user =
+    filter (λ row. is_shown_to user row && list_any (is_open now) (access (User user) row.node)) mounts
 
 -- the root of a user
 abbrev pub root_folder : List UserRow → ℕ → ℕ

@@ -1,5 +1,5 @@
 -- What the rules say of tables.
-use Rattle.std.specs.Prelude.{◌≡◌, ◌≢◌, ℕ, ◌<◌, ◌≤◌, All, true, length}
+use Rattle.std.specs.Prelude.{◌≡◌, ◌≢◌, ℕ, ◌<◌, ◌≤◌, All, List, true, length}
 use Rattle.std.specs.List.{AllPairs}
 use Rattle.nf_base.specs.declared.limits.TheConstants.{MAX_GROUPS, MAX_MEMBERS, MAX_QUOTA, MAX_TOKENS, MAX_USERS}
 use Rattle.nf_base.specs.declared.rows.UserRow.{UserRow}
@@ -7,9 +7,12 @@ use Rattle.nf_base.specs.declared.rows.TokenRow.{TokenRow}
 use Rattle.nf_base.specs.declared.rows.GroupRow.{GroupRow}
 use Rattle.nf_base.specs.declared.rows.MemberRow.{MemberRow}
 use Rattle.nf_base.specs.declared.rows.NodeRow.{NodeRow}
+use Rattle.nf_base.specs.declared.rows.MountRow.{MountRow}
+use Rattle.nf_base.specs.declared.rows.ShareKind.TheVariants as to
+use Rattle.nf_base.specs.declared.rows.ShareRow.{ShareRow}
 use Rattle.nf_defs.specs.Prelude.{AreRising, Tables}
 use Rattle.nf_words.specs.Sound.{AreSound}
-use Rattle.nf_rules.specs.Rules.{is_group, is_user}
+use Rattle.nf_rules.specs.Rules.{are_share_names_there, are_share_numbers, is_group, is_share_kept, is_user}
 
 -- the number was given, where that is the next
 pub record IsGiven (next id : ℕ) : Type 0 where
@@ -38,6 +41,17 @@ pub record IsMemberRuled (t : Tables) (row : MemberRow) : Type 0 where
   pub group : is_group t row.group ≡ true
   pub user : is_user t row.user ≡ true
 
+-- a share keeps the rules of its numbers, of what it names, and of shares
+pub record IsShareRuled (t : Tables) (row : ShareRow) : Type 0 where
+  pub numbers : are_share_numbers t.meta row ≡ true
+  pub names : are_share_names_there t row ≡ true
+  pub kept : is_share_kept t row ≡ true
+
+-- a mount's user and node were given
+pub record IsMountRuled (t : Tables) (row : MountRow) : Type 0 where
+  pub user : IsGiven t.meta.next_user row.user
+  pub node : IsGiven t.meta.next_node row.node
+
 -- the tables of rows that break no rule
 pub record AreRuled (t : Tables) : Type 0 where
   pub sound : AreSound t
@@ -47,8 +61,11 @@ pub record AreRuled (t : Tables) : Type 0 where
   pub tokens : All (IsTokenRuled t) t.tokens
   pub groups : All (IsGroupRuled t) t.groups
   pub members : All (IsMemberRuled t) t.members
+  pub shares : All (IsShareRuled t) t.shares
+  pub mounts : All (IsMountRuled t) t.mounts
   pub user_names : AllPairs (λ (a b : UserRow). a.name ≢ b.name) t.users
   pub group_names : AllPairs (λ (a b : GroupRow). a.name ≢ b.name) t.groups
+  pub tokens_apart : AllPairs (λ (a b : ShareRow). (token : List ℕ) → a.kind ≡ to.Link token → b.kind ≢ to.Link token) t.shares
   pub few_users : length t.users ≤ MAX_USERS
   pub few_groups : length t.groups ≤ MAX_GROUPS
   pub few_tokens : length t.tokens ≤ MAX_TOKENS

@@ -1,9 +1,10 @@
 -- The rules that stored rows keep. A row breaks a rule among all the rows that were loaded; rows that break a rule together each
 -- break it.
-use Rattle.std.specs.Prelude.{◌≡◌, ℕ, zero, suc, ◌==◌, ◌&&◌, ◌||◌, Bool, false, true, not, nat_lt, bytes_eq, List, [], ◌∷◌, map, length, Option, None, Some, option_map, is_some, if◌then◌else◌}
+use Rattle.std.specs.Prelude.{◌≡◌, ℕ, zero, suc, ◌==◌, ◌&&◌, ◌||◌, ◌%◌, Bool, false, true, not, nat_lt, bytes_eq, List, [], ◌∷◌, map, length, Option, None, Some, option_map, is_some, if◌then◌else◌}
 use Rattle.std.specs.List.{list_any}
 use Rattle.std.specs.Option.{option_map_or, option_or}
-use Rattle.nf_base.specs.declared.limits.TheConstants.{MAX_DEPTH, MAX_GROUPS, MAX_MEMBERS, MAX_QUOTA, MAX_TOKENS, MAX_USERS}
+use Rattle.nf_access.specs.Shares.{chain_within, perms_of_share, share_row}
+use Rattle.nf_base.specs.declared.limits.TheConstants.{MAX_CHAIN, MAX_DEPTH, MAX_GROUPS, MAX_MEMBERS, MAX_MOUNTS, MAX_QUOTA, MAX_SHARES, MAX_TOKENS, MAX_USERS}
 use Rattle.nf_base.specs.declared.content.Piece.{Piece}
 use Rattle.nf_base.specs.declared.rows.MetaRow.{MetaRow}
 use Rattle.nf_base.specs.declared.rows.NodeRow.{NodeRow}
@@ -11,9 +12,12 @@ use Rattle.nf_base.specs.declared.rows.UserRow.{UserRow}
 use Rattle.nf_base.specs.declared.rows.GroupRow.{GroupRow}
 use Rattle.nf_base.specs.declared.rows.Row.{Row}
 use Rattle.nf_base.specs.declared.rows.Row.TheVariants as rows
+use Rattle.nf_base.specs.declared.rows.ShareKind.{ShareKind}
+use Rattle.nf_base.specs.declared.rows.ShareKind.TheVariants as to
+use Rattle.nf_base.specs.declared.rows.ShareRow.{ShareRow}
 use Rattle.nf_base.specs.declared.rows.Place.{Place}
 use Rattle.nf_base.specs.declared.rows.Place.TheVariants.{Root, Inside, Trash}
-use Rattle.nf_defs.specs.Prelude.{is_folder_kind, is_root_place, item_row, node_row, piece_count, Tables, tables_of, user_row}
+use Rattle.nf_defs.specs.Prelude.{is_folder_kind, is_root_place, is_under, item_row, node_row, piece_count, Tables, tables_of, user_row}
 use Rattle.nf_words.specs.Prelude.{count_of, is_later, root_of_user}
 use Rattle.nf_words.specs.declared.answer.Limit.TheVariants as limit
 use Rattle.nf_rules.specs.Keys.{is_shared, name_key, spelled_key}
@@ -50,6 +54,22 @@ is_place_given next Trash = true
 abbrev pub has_ungiven_blob : ℕ → List Piece → Bool
 has_ungiven_blob next content = list_any (λ (piece : Piece). not (is_given next piece.blob)) content
 
+-- the midnight after one of the days from 1970-01-01 to 9998-12-31, in UTC
+abbrev pub is_end_moment : ℕ → Bool
+is_end_moment moment = nat_lt 0 moment && moment % 86400 == 0 && not (nat_lt 253370764800 moment)
+
+abbrev pub is_recipient_given : MetaRow → ShareKind → Bool
+is_recipient_given meta (to.User user) = is_given meta.next_user user
+is_recipient_given meta (to.Group group) = is_given meta.next_group group
+is_recipient_given meta (to.Link token) = true
+
+abbrev pub are_share_numbers : MetaRow → ShareRow → Bool
+are_share_numbers meta row =
+    is_given meta.next_share row.id && is_given meta.next_node row.node && is_given meta.next_user row.owner
+    && is_given meta.next_user row.initiator && is_recipient_given meta row.kind
+    && option_map_or (is_given meta.next_share) row.parent true && option_map_or is_end_moment row.until true
+    && not (nat_lt meta.last row.made)
+
 abbrev pub are_numbers : MetaRow → Row → Bool
 are_numbers meta (rows.Meta row) = are_counters row
 are_numbers meta (rows.User row) = is_given meta.next_user row.id && is_given meta.next_node row.root
@@ -59,6 +79,8 @@ are_numbers meta (rows.Member row) = is_given meta.next_group row.group && is_gi
 are_numbers meta (rows.Node row) =
     is_given meta.next_node row.id && is_given meta.next_user row.owner && is_place_given meta.next_node row.place
     && not (has_ungiven_blob meta.next_blob row.content) && not (nat_lt meta.last row.changed)
+are_numbers meta (rows.Share row) = are_share_numbers meta row
+are_numbers meta (rows.Mount row) = is_given meta.next_user row.user && is_given meta.next_node row.node
 are_numbers meta other = true
 
 -- ---- 3: what a row names is there
@@ -77,17 +99,33 @@ is_place_there t Root = true
 is_place_there t (Inside folder) = is_node t folder
 is_place_there t Trash = true
 
+abbrev pub is_share : Tables → ℕ → Bool
+is_share t share = is_some (share_row t.shares share)
+
+abbrev pub is_recipient_there : Tables → ShareKind → Bool
+is_recipient_there t (to.User user) = is_user t user
+is_recipient_there t (to.Group group) = is_group t group
+is_recipient_there t (to.Link token) = true
+
+-- the node of a share may be gone where it is ended, and that of a mount always
+abbrev pub are_share_names_there : Tables → ShareRow → Bool
+are_share_names_there t row =
+    is_user t row.owner && is_user t row.initiator && is_recipient_there t row.kind && option_map_or (is_share t) row.parent true
+    && (row.ended || is_node t row.node)
+
 abbrev pub names_are_there : Tables → Row → Bool
 names_are_there t (rows.User row) = is_node t row.root
 names_are_there t (rows.Token row) = is_user t row.user
 names_are_there t (rows.Member row) = is_group t row.group && is_user t row.user
 names_are_there t (rows.Node row) = is_user t row.owner && is_place_there t row.place
+names_are_there t (rows.Share row) = are_share_names_there t row
+names_are_there t (rows.Mount row) = is_user t row.user
 names_are_there t other = true
 
--- ---- 4: no name is there twice, among the users, the groups, or the children of a folder
+-- ---- 4: no name is there twice, among the users, the groups, the tokens of links, or the children of a folder with the mounts of a root
 
 abbrev pub is_namesake : List Row → Row → Bool
-is_namesake all row = is_shared (map name_key all) (name_key row)
+is_namesake all row = let t = tables_of all in is_shared (map (name_key t) all) (name_key t row)
 
 -- ---- 5: users have their roots, and nodes lead to them or into the trash
 
@@ -114,6 +152,33 @@ is_placed t (rows.User row) = option_map_or (is_root_of row) (node_row t.nodes r
 is_placed t (rows.Node row) = leads t row
 is_placed t other = true
 
+-- ---- 6: shares have chains and are of their owners' nodes, and mounts of others'
+
+-- the first share of a chain was made by the node's owner, and each other comes after the one that it passes on
+abbrev pub is_linked : Tables → ShareRow → Bool
+is_linked t row =
+    option_map_or (λ parent. nat_lt parent row.id) row.parent (row.initiator == row.owner)
+    && is_some (chain_within MAX_CHAIN t.shares row.id)
+
+-- the node is the owner's and no root, and a share of it may allow what this one does
+abbrev pub is_of_node : ShareRow → NodeRow → Bool
+is_of_node row of = of.owner == row.owner && not (is_root_place of.place) && perms_of_share of.kind row.kind row.perms == row.perms
+
+-- the node leads to its owner's root
+abbrev pub is_in_root : Tables → NodeRow → Bool
+is_in_root t of = is_under t.nodes of.id (root_of_user t of.owner)
+
+-- where it isn't ended its node is neither gone nor in the trash
+abbrev pub is_share_kept : Tables → ShareRow → Bool
+is_share_kept t row =
+    is_linked t row && (row.ended || option_map_or (is_in_root t) (node_row t.nodes row.node) false)
+    && option_map_or (is_of_node row) (node_row t.nodes row.node) true
+
+abbrev pub is_shared_well : Tables → Row → Bool
+is_shared_well t (rows.Share row) = is_share_kept t row
+is_shared_well t (rows.Mount row) = option_map_or (λ of. not (of.owner == row.user)) (node_row t.nodes row.node) true
+is_shared_well t other = true
+
 -- ---- 7: the limits
 
 -- the row is one of too many
@@ -125,6 +190,8 @@ is_beyond t (rows.Member row) = nat_lt MAX_MEMBERS (length t.members)
 is_beyond t (rows.Node row) =
     nat_lt (count_of limit.Nodes) (length t.nodes)
     || nat_lt 0 (length row.content) && nat_lt (count_of limit.Pieces) (piece_count t.nodes)
+is_beyond t (rows.Share row) = nat_lt MAX_SHARES (length t.shares)
+is_beyond t (rows.Mount row) = nat_lt MAX_MOUNTS (length t.mounts)
 is_beyond t other = false
 
 -- ---- 8: the quotas
@@ -153,6 +220,7 @@ rules =
     ∷ record { number = 3; breaks = λ all row. not (names_are_there (tables_of all) row); lacks = nothing }
     ∷ record { number = 4; breaks = is_namesake; lacks = nothing }
     ∷ record { number = 5; breaks = λ all row. not (is_placed (tables_of all) row); lacks = nothing }
+    ∷ record { number = 6; breaks = λ all row. not (is_shared_well (tables_of all) row); lacks = nothing }
     ∷ record { number = 7; breaks = λ all row. is_beyond (tables_of all) row; lacks = nothing }
     ∷ record { number = 8; breaks = λ all row. is_lavish row; lacks = nothing }
     ∷ []
