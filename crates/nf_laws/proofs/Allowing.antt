@@ -369,7 +369,7 @@ allowed_so s now acts seeker needs made is fits node differs =
       seeker = seeker;
       acts = is;
       may = All-weaker (IsAtOwn s.tables seeker) (MayDo s now seeker)
-          (λ need own. own_may s.tables.nodes seeker now need.act need.node need.mount own) needs it.0;
+          (λ need own. own_may (access_of s) s.tables.nodes seeker now need.act need.node need.mount own) needs it.0;
       follows = it.1;
     }
 

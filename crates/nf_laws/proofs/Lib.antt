@@ -24,6 +24,7 @@ pub mod Owning
 pub mod Paths
 pub mod Presence
 pub mod Puts
+pub mod Reached
 pub mod Reaching
 pub mod Reading
 pub mod Replaced

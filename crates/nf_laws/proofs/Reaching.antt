@@ -1,15 +1,15 @@
--- What who asks may do: all that is the own, since nothing is shared yet.
-use Rattle.std.proofs.Common.{ℕ, ◌==◌, ◌≡◌, false, true, List, Option, None, Some, Ok, refl, sym, ap, ◌∙◌}
+-- What who asks may do: all that is the own.
+use Rattle.std.proofs.Common.{ℕ, ◌==◌, ◌||◌, ◌≡◌, Bool, false, true, List, Option, None, Some, Ok, refl, sym, ap, ◌∙◌}
 use Rattle.std.specs.List.{list_any}
 use Rattle.std.specs.Option.{option_map_or}
-use Rattle.std.proofs.Math.Bool.{or-false}
 use Rattle.std.proofs.lemmas.Bool.{eq-eqb, eqb-true, both_ways}
 use Rattle.std.proofs.lemmas.Option.{same_Some}
+use Rattle.nf_access.specs.Access.{allows}
 use Rattle.nf_base.specs.declared.content.Piece.{Piece}
 use Rattle.nf_base.specs.declared.perms.Act.{Act}
 use Rattle.nf_base.specs.declared.perms.Act.TheVariants.{Read}
 use Rattle.nf_base.specs.declared.rows.NodeRow.{NodeRow}
-use Rattle.nf_defs.specs.Prelude.{is_folder, node_row, unshared}
+use Rattle.nf_defs.specs.Prelude.{Access, is_folder, node_row}
 use Rattle.nf_defs.specs.declared.Found.TheVariants.{At}
 use Rattle.nf_defs.specs.declared.Seeker.{Seeker}
 use Rattle.nf_defs.specs.declared.Seeker.TheVariants.{Link, User}
@@ -17,41 +17,26 @@ use Rattle.nf_laws.proofs.Climbs.{holds_some}
 use Rattle.nf_laws.proofs.Owning.{lists_own, serves_own}
 use Rattle.nf_laws.proofs.Paths.{leads_found}
 use Rattle.nf_laws.proofs.Reading.{granted, shows}
-use Rattle.nf_laws.specs.Access.{IsReadable, ListsWhatMayBeRead, OwnAlone, Owns, ServesWhatMayBeRead, WhatMayBeReadIsListed, WhatMayBeReadIsServed}
+use Rattle.nf_laws.specs.Access.{IsReadable, ListsWhatMayBeRead, Owns, ServesWhatMayBeRead, WhatMayBeReadIsListed, WhatMayBeReadIsServed}
 use Rattle.nf_laws.specs.Owners.{IsFound}
 use Rattle.nf_words.proofs.Starts.{has_row, row_of_caller}
-use Rattle.nf_words.specs.Prelude.{access_of, allows, answered_by, AreSound, asker_of, Call, call_of, found, is_owner, may_by, MayWant, not_you_rule, root_of, seeker_of, user_of}
+use Rattle.nf_words.specs.Prelude.{access_of, answered_by, AreSound, asker_of, Call, call_of, found, is_owner, may_by, MayWant, not_you_rule, root_of, seeker_of, user_of}
 use Rattle.nf_words.specs.declared.answer.Allowed.TheVariants as allowed
 use Rattle.nf_words.specs.declared.listing.ListingLine.{ListingLine}
 
--- ---- where nothing is shared
+-- ---- who may
 
-none_granted : (seeker : Seeker) (now : ℕ) (act : Act) (mount : Option ℕ)
-    → option_map_or (λ shared. list_any (allows now act) (unshared seeker shared)) mount false ≡ false
-none_granted seeker now act None = refl
-none_granted seeker now act (Some shared) = refl
-
--- owners alone may do anything
-owners_may : (rows : List NodeRow) (seeker : Seeker) (now : ℕ) (act : Act) (node : ℕ) (mount : Option ℕ)
-    → may_by unshared rows seeker now act node mount ≡ is_owner rows seeker node
-owners_may rows seeker now act node mount = rw (none_granted seeker now act mount) (or-false (is_owner rows seeker node))
-
-owns : (rows : List NodeRow) (seeker : Seeker) (node : ℕ) → is_owner rows seeker node ≡ true → Owns rows seeker node
+pub owns : (rows : List NodeRow) (seeker : Seeker) (node : ℕ) → is_owner rows seeker node ≡ true → Owns rows seeker node
 owns rows (User user) node is =
     let row = holds_some (λ row. row.owner == user) (node_row rows node) is in
     record { row = row.0; there = row.1; owner = ap User (sym (eqb-true row.0.owner user row.2)) }
 owns rows (Link share) node is = absurd (cc)
 
-pub own_may : (rows : List NodeRow) (seeker : Seeker) (now : ℕ) (act : Act) (node : ℕ) (mount : Option ℕ)
-    → Owns rows seeker node → may_by unshared rows seeker now act node mount ≡ true
-own_may rows seeker now act node mount own =
-    owners_may rows seeker now act node mount ∙ rw (own.owner, own.there) (eq-eqb own.row.owner own.row.owner refl)
-
-pub own_alone : OwnAlone
-own_alone rows seeker now act node mount = (
-  λ may. owns rows seeker node (sym (owners_may rows seeker now act node mount) ∙ may),
-  own_may rows seeker now act node mount,
-)
+pub own_may : (access : Access) (rows : List NodeRow) (seeker : Seeker) (now : ℕ) (act : Act) (node : ℕ) (mount : Option ℕ)
+    → Owns rows seeker node → may_by access rows seeker now act node mount ≡ true
+own_may access rows seeker now act node mount own =
+    let is : is_owner rows seeker node ≡ true = rw (own.owner, own.there) (eq-eqb own.row.owner own.row.owner refl) in
+    ap (λ (b : Bool). b || option_map_or (λ shared. list_any (allows now act) (access seeker shared)) mount false) is
 
 -- ---- what is read
 
@@ -73,7 +58,7 @@ readable call row may is =
       well = is.well;
       there = is.there;
       led = is.led;
-      may = own_may call.state.tables.nodes (seeker_of call) call.now Read row.id None
+      may = own_may (access_of call.state) call.state.tables.nodes (seeker_of call) call.now Read row.id None
           (record { row = row; there = is.there; owner = own });
     }
 

@@ -1,12 +1,15 @@
--- What who acts may read is served, and what they may change is changed, and nothing else. Nothing is shared yet, so that it is their own.
-use Rattle.std.specs.Prelude.{◌≡◌, ◌≢◌, ◌↔◌, ℕ, All, Contains, true, false, drop, List, [], Option, None, Some, Ok, option_and_then}
+-- What who acts may read is served, and what they may change is changed, and nothing else.
+use Rattle.std.specs.Prelude.{◌≡◌, ◌≢◌, ◌↔◌, ◌⊎◌, ℕ, All, Contains, true, false, drop, List, [], Option, None, Some, Ok, option_and_then}
 use Rattle.std.specs.Option.{option_map_or}
+use Rattle.nf_access.specs.Access.{Allows}
+use Rattle.nf_access.specs.Shares.{ground_of}
 use Rattle.nf_base.specs.declared.content.Piece.{Piece}
 use Rattle.nf_base.specs.declared.perms.Act.{Act}
 use Rattle.nf_base.specs.declared.perms.Act.TheVariants.{Create, Delete, Read, Update}
 use Rattle.nf_base.specs.declared.rows.NodeRow.{NodeRow}
 use Rattle.nf_base.specs.declared.rows.Place.TheVariants.{Inside}
-use Rattle.nf_defs.specs.Prelude.{is_folder_kind, Leads, node_row, parent_of, Tables, unshared}
+use Rattle.nf_base.specs.declared.rows.ShareRow.{ShareRow}
+use Rattle.nf_defs.specs.Prelude.{is_folder_kind, Leads, node_row, parent_of, Tables}
 use Rattle.nf_defs.specs.declared.Seeker.{Seeker}
 use Rattle.nf_defs.specs.declared.Seeker.TheVariants.{User}
 use Rattle.nf_laws.specs.Reads.{IsFreeToRead, IsWellAsked}
@@ -32,11 +35,18 @@ pub record Owns (rows : List NodeRow) (seeker : Seeker) (node : ℕ) : Type 0 wh
   pub there : node_row rows node ≡ Some row
   pub owner : seeker ≡ User row.owner
 
--- where nothing is shared an owner alone may do anything
-abbrev pub OwnAlone : Type 0
-OwnAlone =
-    (rows : List NodeRow) (seeker : Seeker) (now : ℕ) (act : Act) (node : ℕ) (mount : Option ℕ)
-    → (may_by unshared rows seeker now act node mount ≡ true) ↔ Owns rows seeker node
+-- a chain of live shares reaches the seeker on the node of the mount, and each of them allows the act
+abbrev pub IsReached : State → Seeker → ℕ → Act → Option ℕ → Type 0
+IsReached s seeker now act None = ⊥
+IsReached s seeker now act (Some mount) =
+    (share : ShareRow) × (up : List ShareRow) × Allows (ground_of s.tables) now seeker mount act share up
+
+-- in a sound state a seeker may do an act at a node, by a mount, exactly where it owns the node or is reached by such a chain
+abbrev pub OwnersAndReachedMay : Type 0
+OwnersAndReachedMay =
+    (s : State) (seeker : Seeker) (now : ℕ) (act : Act) (node : ℕ) (mount : Option ℕ) → IsSound s
+    → (may_by (access_of s) s.tables.nodes seeker now act node mount ≡ true)
+    ↔ (Owns s.tables.nodes seeker node ⊎ IsReached s seeker now act mount)
 
 -- ---- what is read
 

@@ -1,11 +1,12 @@
 //! Who may read and change what.
 
-ghost use Rattle.nf_laws.specs.Access.{ChangesWhatMayBeChanged, ListsWhatMayBeRead, OwnAlone, ServesWhatMayBeRead, WhatMayBeReadIsListed, WhatMayBeReadIsServed};
+ghost use Rattle.nf_laws.specs.Access.{ChangesWhatMayBeChanged, ListsWhatMayBeRead, OwnersAndReachedMay, ServesWhatMayBeRead, WhatMayBeReadIsListed, WhatMayBeReadIsServed};
 
-/// Where nothing is shared, a user may do anything at a node that the user owns, and nobody may do anything elsewhere.
-#[tactic(auto, using(crate::proofs::Reaching::own_alone))]
-pub fn own_alone()
-    ensures { OwnAlone }
+/// A user may do anything at a node that the user owns. Elsewhere one may do an act by a mount exactly where a chain of live shares
+/// reaches one on the mount's node, and each of its shares allows the act.
+#[tactic(auto, using(crate::proofs::Reached::owners_and_reached))]
+pub fn owners_and_reached_may()
+    ensures { OwnersAndReachedMay }
 {}
 
 /// What a GET is granted is the content of a file at which the caller may read, and to which the path leads: from the caller's

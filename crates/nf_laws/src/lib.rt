@@ -14,8 +14,8 @@ mod walks;
 mod wholes;
 
 pub use access::{
-    changes_what_may_be_changed, lists_what_may_be_read, own_alone, serves_what_may_be_read,
-    what_may_be_read_is_listed, what_may_be_read_is_served,
+    changes_what_may_be_changed, lists_what_may_be_read, owners_and_reached_may,
+    serves_what_may_be_read, what_may_be_read_is_listed, what_may_be_read_is_served,
 };
 pub use acts::{cut_bodies_keep, deletes_keep, folders_are_made, puts_keep};
 pub use history::{counters_rise, numbers_are_new, stays_sound};

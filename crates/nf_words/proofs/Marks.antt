@@ -9,7 +9,7 @@ use Rattle.nf_base.specs.declared.rows.NodeRow.{NodeRow}
 use Rattle.nf_defs.specs.Prelude.{Access, Tables}
 use Rattle.nf_defs.specs.declared.Found.{Found}
 use Rattle.nf_defs.specs.declared.Found.TheVariants.{At, Missing}
-use Rattle.nf_words.specs.Prelude.{access_of, allowed_of, answer_at, answer_to, answered_by, asked_by, Call, call_of, decision_of, earlier_rules, end_refusal, ends_at, ends_goal, exists_rule, first_that_holds, forbidden_rule, goal_at, has_forbidden, is_caller, is_kept, is_transfer, key_in_way, later_rules, limit_at, limit_rule, limited, locked_rule, not_you_rule, overwrite_rule, Pass, pieces_of, place_of, paths_of, place_rule, places_of, refusal_of, Rule, rules, source_lost, State, stored_at, taken, target_lost, target_rule, token_rule, touches, unfit, unless_refused, user_of, users_of}
+use Rattle.nf_words.specs.Prelude.{access_of, allowed_of, answer_at, answer_to, answered_by, asked_by, Call, call_of, decision_of, earlier_rules, end_refusal, ends_at, ends_goal, exists_rule, first_that_holds, forbidden_rule, goal_at, has_forbidden, is_caller, is_kept, is_transfer, key_in_way, later_rules, limit_at, limit_rule, limited, locked_rule, not_you_rule, overwrite_rule, Pass, pieces_of, place_of, paths_of, place_rule, places_of, refusal_of, Rule, source_lost, State, stored_at, taken, target_lost, target_rule, token_rule, touches, unfit, unless_refused, user_of, users_of}
 use Rattle.nf_words.specs.declared.answer.Allowed.{Allowed}
 use Rattle.nf_words.specs.declared.answer.Denial.{Denial}
 use Rattle.nf_words.specs.declared.answer.Denial.TheVariants as denial
