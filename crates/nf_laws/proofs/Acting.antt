@@ -38,7 +38,8 @@ use Rattle.nf_words.proofs.Fits.{newest, put_found}
 use Rattle.nf_words.proofs.Found.{free_known}
 use Rattle.nf_words.proofs.Known.{Known}
 use Rattle.nf_words.proofs.Passing.{call_passes}
-use Rattle.nf_words.specs.Prelude.{access_of, actor_of, allowed_of, answered_by, AreSound, asker_of, blob_after, blob_for, Call, call_decision, call_of, changed, content_in, decision_of, end_refusal, ends_at, exists_rule, found, IsHeld, IsStorable, last_name, lost, makes, MayAsk, MayEnd, new_node, place_rule, refilled, refusal_of, removed, root_of, step, stored_at, stores, taken, told}
+use Rattle.nf_words.proofs.Starts.{from_root, led_from_root}
+use Rattle.nf_words.specs.Prelude.{access_of, actor_of, allowed_of, answered_by, AreSound, asker_of, blob_after, blob_for, Call, call_decision, call_of, changed, content_in, decision_of, end_refusal, ends_at, exists_rule, found, IsHeld, IsStorable, last_name, lost, makes, MayAsk, MayEnd, new_node, place_rule, refilled, refusal_of, removed, root_of, seeker_of, step, stored, stored_at, stores, taken, told, Way}
 use Rattle.nf_words.specs.declared.answer.Allowed.{Allowed}
 use Rattle.nf_words.specs.declared.answer.Allowed.TheVariants as allowed
 use Rattle.nf_words.specs.declared.answer.Denial.{Denial}
@@ -108,7 +109,7 @@ deletes_keep s seat now words request spot sound may asked ok =
     step_changed s seat now (Begin words request) act (is.0 ∙ ap (λ (a : Allowed). Ok a) at.2)
     ∙ stamped_some t (removed t at.0) now (told t act) (some_dropped t.nodes at.0) in
     subst (λ (made : Tables). IsDeleted t made now (root_of call) spot.path) (sym becomes)
-    (deleted_rows t now at.0 (root_of call) spot.path sound.rows (found_leads t (root_of call) spot.path at.0 sound.rows at.1))
+    (deleted_rows t now at.0 (root_of call) spot.path sound.rows (found_leads t (root_of call) spot.path at.0 sound.rows (led_from_root call spot (At at.0) sound.rows at.1)))
 
 -- ---- a node more
 
@@ -179,12 +180,13 @@ folders_made s seat now words request spot sound may asked ok =
     let row = new_node t now folder (last_name spot) Folder [] in
     let act = makes row None in
     let decides : decision_of s seat now (Begin words request) ≡ Ok act = is.0 ∙ ap (λ (a : Allowed). Ok a) at.2 in
-    let free = free_known t.nodes 0 (root_of call) spot.path folder at.1 in
+    let led = led_from_root call spot (Free folder) sound.rows at.1 in
+    let free = free_known t.nodes 0 (root_of call) spot.path folder led in
     subst (λ (made : Tables). IsFolderMade t made now (root_of call) spot.path) (sym (step_changed s seat now (Begin words request) act decides))
     (record {
       folder = folder;
       name = last_name spot;
-      led = free_key t (root_of call) folder spot (found_free t (root_of call) spot.path folder sound.rows at.1);
+      led = free_key t (root_of call) folder spot (found_free t (root_of call) spot.path folder sound.rows led);
       added = added_rows t now folder (last_name spot) Folder [] None sound.rows free.0 free.1 (omega arith);
     })
 
@@ -208,11 +210,27 @@ grants_at call spot size sound asked passes = here (found call spot) refl (rw as
     t : Tables
     t = call.state.tables
 
+    by : By
+    by = alone (asker_of call)
+
+    puts : (key : LockKey) (place : Found) → found call spot ≡ place → stored by (last_name spot) size (Some place) ≡ allowed.Put by key size
+        → allowed_of (access_of call.state) call ≡ allowed.Put by key size
+    puts key place e is =
+        rw asked
+        (ap (λ (way : Way). stored (record { seeker = seeker_of call; mount = way.mount }) (last_name spot) size (Some (found call spot)))
+        (from_root call spot sound.later)
+        ∙ ap (λ (place : Found). stored by (last_name spot) size (Some place)) e ∙ is)
+
     here : (place : Found) → found call spot ≡ place → lost (record { source = None; target = Some place }) ≡ None
         → (key : LockKey) × LeadsToKey t.nodes (root_of call) spot.path key × (allowed_of (access_of call.state) call ≡ allowed.Put (alone (asker_of call)) key size)
-    here (At node) e there = (Node node, found_leads t (root_of call) spot.path node sound e, rw (asked, e) refl)
+    here (At node) e there =
+        (Node node, found_leads t (root_of call) spot.path node sound (led_from_root call spot (At node) sound e), puts (Node node) (At node) e refl)
     here (Free folder) e there =
-        (Slot folder (last_name spot), free_key t (root_of call) folder spot (found_free t (root_of call) spot.path folder sound e), rw (asked, e) refl)
+        (
+          Slot folder (last_name spot),
+          free_key t (root_of call) folder spot (found_free t (root_of call) spot.path folder sound (led_from_root call spot (Free folder) sound e)),
+          puts (Slot folder (last_name spot)) (Free folder) e refl,
+        )
     here (Missing depth) e there = absurd (cc)
 
 pub puts_granted : PutsAreGranted

@@ -35,9 +35,9 @@ use Rattle.nf_words.proofs.Fits.{KnownPath}
 use Rattle.nf_words.proofs.Found.{free_known}
 use Rattle.nf_words.proofs.Known.{Known, KnownTransfer}
 use Rattle.nf_words.proofs.Passing.{call_passes, no_fault, no_limit, not_refused}
-use Rattle.nf_words.proofs.Starts.{has_row, path_known, row_of_caller}
+use Rattle.nf_words.proofs.Starts.{from_root, has_row, led_from_root, path_known, row_of_caller}
 use Rattle.nf_words.proofs.Transfers.{copies_known, moved_known, transfer_parts}
-use Rattle.nf_words.specs.Prelude.{access_of, actor_of, AreSound, asked_of, blob_for, by_of, Call, call_of, caller_row, changed, content_in, copied, copies_to, copy_limit, decision_of, deleted, end_refusal, ends_at, folder_at, found, given, goal_at, is_within, IsGoalSound, IsSound, IsStorable, joined, last_name, limit_rule, limited, listing_of, made_folder, MayAsk, MayEnd, MayStoreAt, move_limit, moved, Need, needed, needed_by, needs, needs_at, needs_between, needs_in, node_found, node_of_key, removed, root_of, seeker_of, served, State, stored, stored_at, target_rule, told, transfer_of, transferred, unfit, unfit_between, user_of, Way, way_of}
+use Rattle.nf_words.specs.Prelude.{access_of, actor_of, AreSound, asked_by, asked_of, blob_for, by_of, Call, call_of, caller_row, changed, content_in, copied, copies_to, copy_limit, decision_of, deleted, end_refusal, ends_at, folder_at, found, given, goal_at, is_within, IsGoalSound, IsSound, IsStorable, joined, last_name, limit_rule, limited, listing_of, made_folder, MayAsk, MayEnd, MayStoreAt, move_limit, moved, Need, needed, needed_by, needs, needs_at, needs_between, needs_in, node_found, node_of_key, removed, root_of, seeker_of, served, State, stored, stored_at, target_rule, told, transfer_of, transferred, unfit, unfit_between, user_of, Way, way_of}
 use Rattle.nf_words.specs.Sound.{MayStoreBy}
 use Rattle.nf_words.specs.declared.answer.Allowed.{Allowed}
 use Rattle.nf_words.specs.declared.answer.Allowed.TheVariants as allowed
@@ -253,10 +253,25 @@ module _ (call : Call) (row : UserRow) (sound : AreSound call.state.tables) (is 
 
   -- ---- what each may ask for
 
+  abbrev way : Spot → Way
+  way spot = unmounted (found call spot)
+
   abbrev needed_for : Wanted → List Need
   needed_for wanted =
       let asked = asked_of wanted in
-      needs_between t.nodes asked (option_map (way_of call) asked.source) (option_map (way_of call) asked.target)
+      needs_between t.nodes asked (option_map way asked.source) (option_map way asked.target)
+
+  -- which is what is needed, as long as there are no mounts
+  needed_is : needed_for call.request.wanted ≡ needed call
+  needed_is =
+      let asked = asked_by call in
+      ap (λ (f : Spot → Way). needs_between t.nodes asked (option_map f asked.source) (option_map f asked.target))
+      (λ i spot. sym (way_is spot) i)
+    where
+      way_is : (spot : Spot) → way_of call spot ≡ way spot
+      way_is spot =
+          let from = from_root call spot sound.later in
+          from ∙ ap unmounted (sym (ap (λ (way : Way). way.place) from))
 
   served_fits : (place : Found) (needs : List Need) → Fits t seeker needs (changed t call.now (served t (node_found place)))
   served_fits (At node) needs =
@@ -275,8 +290,8 @@ module _ (call : Call) (row : UserRow) (sound : AreSound call.state.tables) (is 
       let name = last_name spot in
       let made = changed t call.now (made_folder t call.now name (Some (Free folder))) in
       let need = need_of act.Create folder in
-      let free = free_known t.nodes 0 (root_of call) spot.path folder leads in
-      one_fits t made seeker need (owns_at (Free folder) folder (path_known call spot (Free folder) row is leads) refl)
+      let free = free_known t.nodes 0 (root_of call) spot.path folder (led_from_root call spot (Free folder) sound leads) in
+      one_fits t made seeker need (owns_at (Free folder) folder (path_known call spot (Free folder) row sound is leads) refl)
       (added_follow t made call.now folder name Folder [] (need ∷ [])
       (added_rows t call.now folder name Folder [] None sound free.0 free.1 (omega arith)) (first_needed need []))
   made_fits spot nowhere leads = same_fits t seeker (needs_in t.nodes (unmounted nowhere))
@@ -286,7 +301,7 @@ module _ (call : Call) (row : UserRow) (sound : AreSound call.state.tables) (is 
   deleted_fits spot (At top) leads =
       let need = need_of act.Delete top in
       stamped_has (Fits t seeker (need ∷ [])) t (removed t top) call.now (told t (allowed.Delete top)) (same_fits t seeker (need ∷ []))
-      (one_fits t (removed t top) seeker need (owns_at (At top) top (path_known call spot (At top) row is leads) refl)
+      (one_fits t (removed t top) seeker need (owns_at (At top) top (path_known call spot (At top) row sound is leads) refl)
       (deleted_follow t top (need ∷ []) (first_needed need [])))
   deleted_fits spot nowhere leads = same_fits t seeker []
 
@@ -406,7 +421,10 @@ act_allowed s seat now (Begin words request) act sound may is =
     let call = call_of s seat now words request in
     let passes = call_passes call act is in
     let row = has_row call may.1 passes.0.not_you in
-    let fits = begin_fits call row.0 sound.rows row.1 request.wanted (no_fault _ passes.0.target) (no_limit _ passes.0.limit) in
+    let fits = subst (λ (needs : List Need). Fits s.tables (User row.0.id) needs
+        (changed s.tables now (given (access_of s) call (places_at call request.wanted) request.wanted)))
+    (needed_is call row.0 sound.rows row.1)
+    (begin_fits call row.0 sound.rows row.1 request.wanted (no_fault _ passes.0.target) (no_limit _ passes.0.limit)) in
     allowed_so s now (Some (seeker_of call)) (User row.0.id) (needed call) (changed s.tables now act) (rw row.1 refl)
     (subst (λ (a : Allowed). Fits s.tables (User row.0.id) (needed call) (changed s.tables now a)) passes.1 fits)
 act_allowed s seat now (End outcome) act sound may is =

@@ -34,7 +34,8 @@ use Rattle.nf_words.proofs.Begins.{call_known, places_at}
 use Rattle.nf_words.proofs.Fits.{KnownBorn, KnownChange, KnownFilled, KnownPath}
 use Rattle.nf_words.proofs.Known.{Known, KnownCopies}
 use Rattle.nf_words.proofs.Passing.{Passes, call_passes}
-use Rattle.nf_words.specs.Prelude.{access_of, actor_of, allowed_of, altered, answered_by, AreSound, Call, call_decision, call_of, cleared, found, given, IsOwn, line_of, listing_of, node_found, reply_by, reported, root_of, served, user_of}
+use Rattle.nf_words.proofs.Starts.{from_root, led_from_root}
+use Rattle.nf_words.specs.Prelude.{access_of, actor_of, allowed_of, altered, answered_by, AreSound, Call, call_decision, call_of, cleared, found, given, IsOwn, line_of, listing_of, node_found, reply_by, reported, root_of, served, user_of, Way}
 use Rattle.nf_words.specs.declared.answer.Allowed.{Allowed}
 use Rattle.nf_words.specs.declared.answer.Allowed.TheVariants as allowed
 use Rattle.nf_words.specs.declared.answer.Denial.{Denial}
@@ -122,7 +123,7 @@ of_caller : (call : Call) (spot : Spot) (node : ℕ) (place : Found) → AreSoun
 of_caller call spot node place sound path well wanted leads =
     let t = call.state.tables in
     let root : root_of call ≡ path.row.root = rw (path.caller, path.there) refl in
-    let led = found_leads t (root_of call) spot.path node sound leads in
+    let led = found_leads t (root_of call) spot.path node sound (led_from_root call spot (At node) sound leads) in
     let own = leads_own t path.row.id (root_of call) spot.path node sound led (rw root (root_own t path.row sound path.there)) in
     let id = row_id t.nodes node own.row own.there in (
       own.row,
@@ -183,7 +184,8 @@ lists_own s seat now words request listing sound may is =
 
 -- what is found is where the path leads
 at_found : (call : Call) (row : NodeRow) → AreSound call.state.tables → (is : IsFound call row) → found call is.spot ≡ At row.id
-at_found call row sound is = leads_found call.state.tables 0 (root_of call) is.spot.path row.id sound is.led
+at_found call row sound is =
+    ap (λ (way : Way). way.place) (from_root call is.spot sound.later) ∙ leads_found call.state.tables 0 (root_of call) is.spot.path row.id sound is.led
 
 pub own_served : OwnIsServed
 own_served s seat now words request content sound is =

@@ -1,5 +1,5 @@
 -- What who asks may do: all that is the own.
-use Rattle.std.proofs.Common.{ℕ, ◌==◌, ◌||◌, ◌≡◌, Bool, false, true, List, Option, None, Some, Ok, refl, sym, ap, ◌∙◌}
+use Rattle.std.proofs.Common.{ℕ, ◌==◌, ◌||◌, ◌≡◌, Bool, drop, subst, false, true, List, Option, None, Some, Ok, refl, sym, ap, ◌∙◌}
 use Rattle.std.specs.List.{list_any}
 use Rattle.std.specs.Option.{option_map_or}
 use Rattle.std.proofs.lemmas.Bool.{eq-eqb, eqb-true, both_ways}
@@ -9,7 +9,7 @@ use Rattle.nf_base.specs.declared.content.Piece.{Piece}
 use Rattle.nf_base.specs.declared.perms.Act.{Act}
 use Rattle.nf_base.specs.declared.perms.Act.TheVariants.{Read}
 use Rattle.nf_base.specs.declared.rows.NodeRow.{NodeRow}
-use Rattle.nf_defs.specs.Prelude.{Access, is_folder, node_row}
+use Rattle.nf_defs.specs.Prelude.{Access, is_folder, node_row, Tables}
 use Rattle.nf_defs.specs.declared.Found.TheVariants.{At}
 use Rattle.nf_defs.specs.declared.Seeker.{Seeker}
 use Rattle.nf_defs.specs.declared.Seeker.TheVariants.{Link, User}
@@ -17,10 +17,10 @@ use Rattle.nf_laws.proofs.Climbs.{holds_some}
 use Rattle.nf_laws.proofs.Owning.{lists_own, serves_own}
 use Rattle.nf_laws.proofs.Paths.{leads_found}
 use Rattle.nf_laws.proofs.Reading.{granted, shows}
-use Rattle.nf_laws.specs.Access.{IsReadable, ListsWhatMayBeRead, Owns, ServesWhatMayBeRead, WhatMayBeReadIsListed, WhatMayBeReadIsServed}
+use Rattle.nf_laws.specs.Access.{IsReadable, LeadsBy, ListsWhatMayBeRead, Owns, ServesWhatMayBeRead, WhatMayBeReadIsListed, WhatMayBeReadIsServed}
 use Rattle.nf_laws.specs.Owners.{IsFound}
-use Rattle.nf_words.proofs.Starts.{has_row, row_of_caller}
-use Rattle.nf_words.specs.Prelude.{access_of, answered_by, AreSound, asker_of, Call, call_of, found, is_owner, may_by, MayWant, not_you_rule, root_of, seeker_of, user_of}
+use Rattle.nf_words.proofs.Starts.{has_row, row_of_caller, unmounted}
+use Rattle.nf_words.specs.Prelude.{access_of, answered_by, AreSound, asker_of, Call, call_of, found, is_owner, may_by, MayWant, mount_of, not_you_rule, root_of, seeker_of, user_of, way_by}
 use Rattle.nf_words.specs.declared.answer.Allowed.TheVariants as allowed
 use Rattle.nf_words.specs.declared.listing.ListingLine.{ListingLine}
 
@@ -49,34 +49,41 @@ asker_is call user may passes holder =
     rw row.1 (same_Some row.0.id user (sym is.0 ∙ holder))
 
 -- what is found as the caller's own may be read
-readable : (call : Call) (row : NodeRow) → MayWant call.request → IsFound call row → IsReadable call row
-readable call row may is =
+readable : (call : Call) (row : NodeRow) → AreSound call.state.tables → MayWant call.request → IsFound call row → IsReadable call row
+readable call row sound may is =
     let own : seeker_of call ≡ User row.owner = ap User (asker_is call is.user may is.well.not_you is.caller ∙ sym is.own) in
     record {
       spot = is.spot;
       asked = is.asked;
       well = is.well;
       there = is.there;
-      led = is.led;
-      may = own_may (access_of call.state) call.state.tables.nodes (seeker_of call) call.now Read row.id None
+      led = subst (λ (mount : Option ℕ). LeadsBy call is.spot mount row.id) (sym (unmounted call is.spot sound.later)) is.led;
+      may = own_may (access_of call.state) call.state.tables.nodes (seeker_of call) call.now Read row.id (mount_of call is.spot)
           (record { row = row; there = is.there; owner = own });
     }
 
 pub serves_readable : ServesWhatMayBeRead
 serves_readable s seat now words request content sound may is =
     let own = serves_own s seat now words request content sound may is in
-    let found = readable (call_of s seat now words request) own.row may own.found in
+    let found = readable (call_of s seat now words request) own.row sound.rows may own.found in
     record { row = own.row; readable = found; file = own.file; free = own.free; sent = own.sent }
 
 pub lists_readable : ListsWhatMayBeRead
 lists_readable s seat now words request listing sound may is =
     let own = lists_own s seat now words request listing sound may is in
-    let found = readable (call_of s seat now words request) own.row may own.found in
+    let found = readable (call_of s seat now words request) own.row sound.rows may own.found in
     record { row = own.row; readable = found; folder = own.folder; listed = own.listed }
 
 -- what may be read is where the path leads
 at_readable : (call : Call) (row : NodeRow) → AreSound call.state.tables → (is : IsReadable call row) → found call is.spot ≡ At row.id
-at_readable call row sound is = leads_found call.state.tables 0 (root_of call) is.spot.path row.id sound is.led
+at_readable call row sound is = here (mount_of call is.spot) is.led
+  where
+    t : Tables
+    t = call.state.tables
+
+    here : (mount : Option ℕ) → LeadsBy call is.spot mount row.id → (way_by t.nodes (root_of call) is.spot.path mount).place ≡ At row.id
+    here None led = leads_found t 0 (root_of call) is.spot.path row.id sound led
+    here (Some mount) led = leads_found t 1 mount (drop 1 is.spot.path) row.id sound led
 
 pub readable_served : WhatMayBeReadIsServed
 readable_served s seat now words request content sound is =

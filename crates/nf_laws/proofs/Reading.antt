@@ -28,7 +28,8 @@ use Rattle.nf_words.proofs.Bodies.{content_decides}
 use Rattle.nf_words.proofs.Fits.{newest}
 use Rattle.nf_words.proofs.Orders.{none_of}
 use Rattle.nf_words.proofs.Passing.{Passes, in_order}
-use Rattle.nf_words.specs.Prelude.{access_of, actor_of, after, after_mark, allowed_of, answered_by, AreSound, blob_for, Call, call_decision, call_of, changed, content_in, decision_of, end_refusal, ends_at, exists_rule, found, IsSound, IsHeld, IsStorable, limit_rule, makes, new_node, overwrite_rule, place_rule, refilled, replay, rules, shown, State, stored_at, stores, target_rule, unless_refused, AreApartHolds, HoldsFor, IsTicketSound, step, ticket_of, without_ticket}
+use Rattle.nf_words.proofs.Starts.{from_root}
+use Rattle.nf_words.specs.Prelude.{access_of, actor_of, after, after_mark, allowed_of, answered_by, AreSound, blob_for, Call, call_decision, call_of, changed, content_in, decision_of, end_refusal, ends_at, exists_rule, found, IsSound, IsHeld, IsStorable, limit_rule, makes, new_node, overwrite_rule, place_rule, refilled, replay, rules, shown, State, stored_at, stores, target_rule, unless_refused, AreApartHolds, HoldsFor, IsTicketSound, step, ticket_of, without_ticket, Way}
 use Rattle.nf_words.specs.declared.answer.Allowed.{Allowed}
 use Rattle.nf_words.specs.declared.answer.Allowed.TheVariants as allowed
 use Rattle.nf_words.specs.declared.answer.Denial.{Denial}
@@ -230,7 +231,8 @@ stored_is_read n s e es root path content seat now words request is legal same r
     (subst (λ (names : List (List ℕ)). Leads first.tables.nodes root names node) (sym (take-length path)) file.led)
     ∙ file.there in
     let at : found call reads.spot ≡ At node =
-    (λ i. found_from last.tables.nodes 0 (reads.from i) (reads.of_path i)) ∙ leads_found last.tables 0 root path node sound.rows led in
+    ap (λ (way : Way). way.place) (from_root call reads.spot sound.rows.later)
+    ∙ (λ i. found_from last.tables.nodes 0 (reads.from i) (reads.of_path i)) ∙ leads_found last.tables 0 root path node sound.rows led in
     granted call reads.spot node file.row reads.wanted at there file.file reads.asked (reads.free node led)
     ∙ ap (λ (c : List Piece). answered_by (Ok (allowed.Get node c))) file.filled
 

@@ -14,7 +14,7 @@ use Rattle.nf_defs.specs.declared.Seeker.{Seeker}
 use Rattle.nf_defs.specs.declared.Seeker.TheVariants.{User}
 use Rattle.nf_laws.specs.Reads.{IsFreeToRead, IsWellAsked}
 use Rattle.nf_laws.specs.Tree.{Under}
-use Rattle.nf_words.specs.Prelude.{access_of, after, answer_to, Call, call_of, goal_at, IsSound, listing_of, may_by, MayCome, MayWant, Need, needed, needed_by, root_of, seeker_of, State, way_of}
+use Rattle.nf_words.specs.Prelude.{access_of, after, answer_to, Call, call_of, goal_at, IsSound, listing_of, may_by, MayCome, MayWant, mount_of, Need, needed, needed_by, root_of, seeker_of, State}
 use Rattle.nf_words.specs.declared.answer.Goal.{Goal}
 use Rattle.nf_words.specs.declared.answer.Goal.TheVariants.{Serve, Store}
 use Rattle.nf_words.specs.declared.answer.Reply.TheVariants.{Granted, Listing}
@@ -61,8 +61,8 @@ pub record IsReadable (call : Call) (row : NodeRow) : Type 0 where
   pub asked : call.request.wanted ≡ Get spot
   pub well : IsWellAsked call
   pub there : node_row call.state.tables.nodes row.id ≡ Some row
-  pub led : LeadsBy call spot (way_of call spot).mount row.id
-  pub may : may_by (access_of call.state) call.state.tables.nodes (seeker_of call) call.now Read row.id (way_of call spot).mount ≡ true
+  pub led : LeadsBy call spot (mount_of call spot) row.id
+  pub may : may_by (access_of call.state) call.state.tables.nodes (seeker_of call) call.now Read row.id (mount_of call spot) ≡ true
 
 -- the content is that of a file that may be read so, which nobody else stores over
 pub record IsReadableFile (call : Call) (content : List Piece) : Type 0 where

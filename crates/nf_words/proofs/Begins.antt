@@ -1,5 +1,5 @@
 -- What is known of a Begin that no rule refuses.
-use Rattle.std.proofs.Common.{◌≡◌, ℕ, ◌+◌, ◌≤◌, inr, Bool, true, false, [], Option, option_map, Ok, if◌then◌else◌, refl, ap, subst, arith}
+use Rattle.std.proofs.Common.{◌≡◌, ℕ, ◌+◌, ◌≤◌, inr, Bool, true, false, [], Option, option_map, Ok, if◌then◌else◌, refl, ap, subst, ◌∙◌, arith}
 use Rattle.std.specs.Prelude.{None, Some}
 use Rattle.std.specs.Option.{option_map_or}
 use Rattle.nf_base.specs.declared.limits.TheConstants.{MAX_BODY}
@@ -13,10 +13,10 @@ use Rattle.nf_words.proofs.Fits.{new_known, within}
 use Rattle.nf_words.proofs.Found.{free_known}
 use Rattle.nf_words.proofs.Known.{Known}
 use Rattle.nf_words.proofs.Passing.{call_passes, no_fault, no_limit}
-use Rattle.nf_words.proofs.Starts.{has_row, path_known}
+use Rattle.nf_words.proofs.Starts.{from_root, has_row, led_from_root, path_known}
 use Rattle.nf_words.proofs.Transfers.{copied_known, moved_known}
 use Rattle.nf_words.specs.History.{IsShort}
-use Rattle.nf_words.specs.Prelude.{access_of, AreSound, asked_of, by_of, Call, call_decision, caller_row, deleted, exists_rule, found, given, is_there, IsSound, last_name, limit_at, limit_rule, limited, listing_of, made_folder, MayWant, node_at, root_of, served, shown, stored, taken, target_rule, unfit, user_of}
+use Rattle.nf_words.specs.Prelude.{access_of, AreSound, asked_of, by_of, Call, call_decision, caller_row, deleted, exists_rule, found, given, is_there, IsSound, last_name, limit_at, limit_rule, limited, listing_of, made_folder, MayWant, node_at, root_of, seeker_of, served, shown, stored, taken, target_rule, unfit, user_of, Way}
 use Rattle.nf_words.specs.declared.answer.Allowed.{Allowed}
 use Rattle.nf_words.specs.declared.answer.Allowed.TheVariants as allowed
 use Rattle.nf_words.specs.declared.answer.Denial.{Denial}
@@ -30,39 +30,46 @@ passed : (b : Bool) (fault : TargetFault) → (if b then Some fault else None) �
 passed true fault none = absurd (cc)
 passed false fault none = refl
 
-shown_known : (call : Call) (spot : Spot) (node : ℕ) (row : UserRow) → caller_row call ≡ Some row → found call spot ≡ At node
+shown_known : (call : Call) (spot : Spot) (node : ℕ) (row : UserRow) → AreSound call.state.tables → caller_row call ≡ Some row → found call spot ≡ At node
     → Known call.state.tables call.now (user_of call) (shown call.state.tables node)
-shown_known call spot node row is leads = here (is_folder t.nodes node) refl
+shown_known call spot node row sound is leads = here (is_folder t.nodes node) refl
   where
     t : Tables
     t = call.state.tables
 
     here : (folds : Bool) → is_folder t.nodes node ≡ folds
         → Known t call.now (user_of call) (if folds then allowed.List (listing_of t node) else allowed.Get node (content_of t.nodes node))
-    here true folds = record { folder = node; there = folds; of_folder = refl; path = path_known call spot (At node) row is leads }
-    here false folds = record { no_folder = folds; of_node = refl; path = path_known call spot (At node) row is leads }
+    here true folds = record { folder = node; there = folds; of_folder = refl; path = path_known call spot (At node) row sound is leads }
+    here false folds = record { no_folder = folds; of_node = refl; path = path_known call spot (At node) row sound is leads }
 
-served_known : (call : Call) (spot : Spot) (place : Found) (row : UserRow) → caller_row call ≡ Some row → found call spot ≡ place
+served_known : (call : Call) (spot : Spot) (place : Found) (row : UserRow) → AreSound call.state.tables → caller_row call ≡ Some row → found call spot ≡ place
     → Known call.state.tables call.now (user_of call) (served call.state.tables (node_at (Some place)))
-served_known call spot (At node) row is leads = shown_known call spot node row is leads
-served_known call spot nowhere row is leads = tt
+served_known call spot (At node) row sound is leads = shown_known call spot node row sound is leads
+served_known call spot nowhere row sound is leads = tt
 
-granted_known : (call : Call) (spot : Spot) (length : ℕ) (place : Found) (row : UserRow) → caller_row call ≡ Some row → length ≤ MAX_BODY
+-- who asks comes by no mount
+alone : (call : Call) (spot : Spot) (row : UserRow) → AreSound call.state.tables → caller_row call ≡ Some row
+    → by_of call spot ≡ record { seeker = seeker.User row.id; mount = None }
+alone call spot row sound is =
+    ap (λ (way : Way). record { seeker = seeker_of call; mount = way.mount }) (from_root call spot sound.later)
+    ∙ ap (λ (o : Option UserRow). record { seeker = seeker.User (option_map_or (λ row. row.id) o 0); mount = None }) is
+
+granted_known : (call : Call) (spot : Spot) (length : ℕ) (place : Found) (row : UserRow) → AreSound call.state.tables → caller_row call ≡ Some row → length ≤ MAX_BODY
     → found call spot ≡ place → is_there (is_folder call.state.tables.nodes) (Some place) ≡ false
     → Known call.state.tables call.now (user_of call) (stored (by_of call spot) (last_name spot) length (Some place))
 unfolding path_known
-granted_known call spot length (Missing depth) row is short leads file = tt
-granted_known call spot length (At node) row is short leads file = record {
+granted_known call spot length (Missing depth) row sound is short leads file = tt
+granted_known call spot length (At node) row sound is short leads file = record {
   short = short;
-  path = path_known call spot (At node) row is leads;
+  path = path_known call spot (At node) row sound is leads;
   fits = file;
-  storer = ap (λ (o : Option UserRow). record { seeker = seeker.User (option_map_or (λ row. row.id) o 0); mount = None }) is;
+  storer = alone call spot row sound is;
 }
-granted_known call spot length (Free folder) row is short leads file = record {
+granted_known call spot length (Free folder) row sound is short leads file = record {
   short = short;
-  path = path_known call spot (Free folder) row is leads;
-  fits = free_known call.state.tables.nodes 0 (root_of call) spot.path folder leads;
-  storer = ap (λ (o : Option UserRow). record { seeker = seeker.User (option_map_or (λ row. row.id) o 0); mount = None }) is;
+  path = path_known call spot (Free folder) row sound is leads;
+  fits = free_known call.state.tables.nodes 0 (root_of call) spot.path folder (led_from_root call spot (Free folder) sound leads);
+  storer = alone call spot row sound is;
 }
 
 folder_known : (call : Call) (spot : Spot) (place : Found) (row : UserRow) → AreSound call.state.tables → caller_row call ≡ Some row
@@ -71,16 +78,16 @@ folder_known : (call : Call) (spot : Spot) (place : Found) (row : UserRow) → A
 folder_known call spot (At node) row sound is leads some = tt
 folder_known call spot (Free folder) row sound is leads some =
     let t = call.state.tables in
-    let free = free_known t.nodes 0 (root_of call) spot.path folder leads in
+    let free = free_known t.nodes 0 (root_of call) spot.path folder (led_from_root call spot (Free folder) sound leads) in
     new_known t call.now folder (last_name spot) Folder [] (user_of call) None 0 sound free.0 free.1
-    (within t 1 (depth t.nodes folder + 1) 0 0 some) (omega arith) refl (λ _. refl) (inr (path_known call spot (Free folder) row is leads))
+    (within t 1 (depth t.nodes folder + 1) 0 0 some) (omega arith) refl (λ _. refl) (inr (path_known call spot (Free folder) row sound is leads))
 folder_known call spot (Missing depth) row sound is leads some = tt
 
-deleted_known : (call : Call) (spot : Spot) (place : Found) (row : UserRow) → caller_row call ≡ Some row → found call spot ≡ place
+deleted_known : (call : Call) (spot : Spot) (place : Found) (row : UserRow) → AreSound call.state.tables → caller_row call ≡ Some row → found call spot ≡ place
     → is_there (is_root call.state.tables.nodes) (Some place) ≡ false
     → Known call.state.tables call.now (user_of call) (deleted (node_at (Some place)))
-deleted_known call spot (At node) row is leads fits = record { no_root = fits; path = path_known call spot (At node) row is leads }
-deleted_known call spot nowhere row is leads fits = tt
+deleted_known call spot (At node) row sound is leads fits = record { no_root = fits; path = path_known call spot (At node) row sound is leads }
+deleted_known call spot nowhere row sound is leads fits = tt
 
 unless : (b : Bool) (refusal : Denial) → (if b then Some refusal else None) ≡ None → b ≡ false
 unless true refusal none = absurd (cc)
@@ -97,10 +104,10 @@ wanted_known : (call : Call) (wanted : Wanted) (row : UserRow) → AreSound call
     → unfit call.state.tables.nodes (asked_of wanted) (places_at call wanted) ≡ None
     → limited call.state.tables (places_at call wanted) (asked_of wanted).makes ≡ None
     → Known call.state.tables call.now (user_of call) (given (access_of call.state) call (places_at call wanted) wanted)
-wanted_known call (Get spot) row sound is short free fits some = served_known call spot (found call spot) row is refl
-wanted_known call (Put spot length) row sound is short free fits some = granted_known call spot length (found call spot) row is short refl (unless _ _ free)
+wanted_known call (Get spot) row sound is short free fits some = served_known call spot (found call spot) row sound is refl
+wanted_known call (Put spot length) row sound is short free fits some = granted_known call spot length (found call spot) row sound is short refl (unless _ _ free)
 wanted_known call (Mkcol spot) row sound is short free fits some = folder_known call spot (found call spot) row sound is refl some
-wanted_known call (Delete spot) row sound is short free fits some = deleted_known call spot (found call spot) row is refl (passed _ _ fits)
+wanted_known call (Delete spot) row sound is short free fits some = deleted_known call spot (found call spot) row sound is refl (passed _ _ fits)
 wanted_known call (Move source target overwrite) row sound is short free fits some = moved_known call source target row sound is fits some
 wanted_known call (Copy source target overwrite) row sound is short free fits some = copied_known call source target row sound is fits some
 

@@ -12,7 +12,7 @@ use Rattle.nf_defs.specs.declared.Found.TheVariants.{At, Free, Missing}
 use Rattle.nf_words.proofs.Fits.{KnownPath, within}
 use Rattle.nf_words.proofs.Found.{at_known, free_known}
 use Rattle.nf_words.proofs.Known.{Known, KnownCopies, KnownTransfer, target_place}
-use Rattle.nf_words.proofs.Starts.{path_known, root_known}
+use Rattle.nf_words.proofs.Starts.{led_from_root, path_known, root_known}
 use Rattle.nf_words.specs.Prelude.{AreSound, Call, caller_row, copied, copies_to, copy_limit, deepest_in, folder_at, found, last_name, misplaced, move_limit, moved, node_found, pieces_in, root_of, transfer_of, transfer_to, unfit_between, user_of}
 use Rattle.nf_words.specs.declared.answer.TargetFault.TheVariants as target
 use Rattle.nf_words.specs.declared.request.Places.{Places}
@@ -46,20 +46,21 @@ target_known : (call : Call) (spot : Spot) (place : Found) (row : UserRow) (tran
     → KnownTarget call.state.tables (user_of call) transfer (last_name spot)
 target_known call spot (At node) row transfer sound is leads replaced above =
     let t = call.state.tables in
-    let step = at_known t.nodes (root_of call) spot.path node transfer.folder sound.rising (root_known call row sound is) leads above in
+    let step = at_known t.nodes (root_of call) spot.path node transfer.folder sound.rising (root_known call row sound is)
+    (led_from_root call spot (At node) sound leads) above in
     record {
       path = subst (λ (o : Option ℕ). KnownPath t (user_of call) (option_map_or At o (Free transfer.folder))) replaced
-          (path_known call spot (At node) row is leads);
+          (path_known call spot (At node) row sound is leads);
       in_folder = step.0;
       there = step.1 ∙ replaced;
     }
 target_known call spot (Free folder) row transfer sound is leads replaced above =
     let t = call.state.tables in
     let same = same_Some folder transfer.folder above in
-    let free = free_known t.nodes 0 (root_of call) spot.path folder leads in
+    let free = free_known t.nodes 0 (root_of call) spot.path folder (led_from_root call spot (Free folder) sound leads) in
     record {
       path = subst (λ (o : Option ℕ). KnownPath t (user_of call) (option_map_or At o (Free transfer.folder))) replaced
-          (subst (λ (n : ℕ). KnownPath t (user_of call) (Free n)) same (path_known call spot (Free folder) row is leads));
+          (subst (λ (n : ℕ). KnownPath t (user_of call) (Free n)) same (path_known call spot (Free folder) row sound is leads));
       in_folder = subst (λ (n : ℕ). is_folder t.nodes n ≡ true) same free.0;
       there = subst (λ (n : ℕ). child_of t.nodes n (last_name spot) ≡ None) same free.1 ∙ replaced;
     }
@@ -101,7 +102,7 @@ module _ (call : Call) (source target : Spot) (row : UserRow) (sound : AreSound 
           let fit = fit_parts t.nodes (is_root t.nodes node) transfer (transfer_to t.nodes node (found call target)) led fits in
           let placed = none_misplaced _ _ _ fit.1 in
           record {
-            source = subst (λ (n : ℕ). KnownPath t (user_of call) (At n)) parts.0 (path_known call source (At node) row is leads);
+            source = subst (λ (n : ℕ). KnownPath t (user_of call) (At n)) parts.0 (path_known call source (At node) row sound is leads);
             target = at.path;
             no_root = subst (λ (n : ℕ). is_root t.nodes n ≡ false) parts.0 fit.0;
             in_folder = at.in_folder;

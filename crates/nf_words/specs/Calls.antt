@@ -1,9 +1,10 @@
 -- A request as the rules see it: who asks, what it names, and where its paths lead.
-use Rattle.std.specs.Prelude.{ℕ, ◌-◌, List, [], drop, length, Option, None, Some, option_map, option_and_then, slice_get, unwrap_or}
+use Rattle.std.specs.Prelude.{ℕ, ◌-◌, List, [], ◌∷◌, drop, length, Option, None, Some, is_some, option_map, option_and_then, slice_get, unwrap_or, if◌then◌else◌}
 use Rattle.std.specs.Option.{option_map_or}
+use Rattle.nf_access.specs.Mounts.{mount_at}
 use Rattle.nf_base.specs.declared.rows.NodeRow.{NodeRow}
 use Rattle.nf_base.specs.declared.rows.UserRow.{UserRow}
-use Rattle.nf_defs.specs.Prelude.{found_from, holder_of, user_row}
+use Rattle.nf_defs.specs.Prelude.{child_of, found_from, holder_of, Tables, user_row}
 use Rattle.nf_defs.specs.declared.Found.{Found}
 use Rattle.nf_defs.specs.declared.Seeker.{Seeker}
 use Rattle.nf_defs.specs.declared.Seeker.TheVariants.{User}
@@ -63,9 +64,14 @@ pub record Way : Type 0 where
   pub mount : Option ℕ
   pub place : Found
 
--- the node of the mount that a place's path goes by; there are no mounts yet
+-- the node of the user's mount by which names lead on from the root: that of the first name, where no child of the root has it
+abbrev pub mounted : Tables → ℕ → ℕ → List (List ℕ) → Option ℕ
+mounted t user root [] = None
+mounted t user root (name ∷ names) = if is_some (child_of t.nodes root name) then None else mount_at t.mounts user name
+
+-- the node of the mount that a place's path goes by
 abbrev pub mount_of : Call → Spot → Option ℕ
-mount_of call spot = None
+mount_of call spot = mounted call.state.tables (asker_of call) (root_of call) spot.path
 
 -- names lead from a root, or, behind the first of them, from the node of a mount
 abbrev pub way_by : List NodeRow → ℕ → List (List ℕ) → Option ℕ → Way

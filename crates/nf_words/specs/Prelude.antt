@@ -3,7 +3,7 @@ pub use Rattle.nf_words.specs.Actors.{actor_of, storer_of, user_in}
 pub use Rattle.nf_words.specs.Asked.{Asked, asked_of, asks_nothing, is_transfer, named_at, named_in, path_at, paths_of, users_of}
 pub use Rattle.nf_words.specs.Callers.{is_caller}
 unfoldable pub use Rattle.nf_words.specs.Callers.{not_you_rule, token_rule}
-pub use Rattle.nf_words.specs.Calls.{Call, Way, asked_by, asker_of, caller_row, found, last_name, mount_of, places_of, root_of, seeker_of, user_of, way_by, way_of}
+pub use Rattle.nf_words.specs.Calls.{Call, Way, asked_by, asker_of, caller_row, found, last_name, mount_of, mounted, places_of, root_of, seeker_of, user_of, way_by, way_of}
 pub use Rattle.nf_words.specs.Changes.{above, allowed_of, altered, blob_after, blob_of, by_of, changed, changes_of, cleared, copied, counted, deleted, dropped_for, dropped_under, given, goal_of, hold_of, joined, made_folder, makes, meta_after, moved, new_node, raised, refilled, removed, reply_by, reply_to, reported, served, shown, stamped, stored, told, transferred, transferred_row, with_goal, with_meta}
 pub use Rattle.nf_words.specs.Contents.{IsPieceSound, contents_of, row_content, stored_pieces}
 pub use Rattle.nf_words.specs.Copies.{copied_row, copies_of_all, copies_to, renamed}
