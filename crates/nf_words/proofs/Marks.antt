@@ -1,15 +1,23 @@
 -- A step is never answered as failed.
 use Rattle.std.proofs.Common.{◌≡◌, ◌↔◌, ℕ, ◌&&◌, Bool, true, false, inl, inr, List, [], ◌∷◌, ◌++◌, Result, Ok, Err, refl, subst}
-use Rattle.std.specs.Prelude.{Option, None, Some, option_map, option_and_then, is_some, if◌then◌else◌}
+use Rattle.std.specs.Prelude.{Option, None, Some, find, option_map, option_and_then, is_some, if◌then◌else◌}
 use Rattle.std.specs.List.{list_all, list_any}
 use Rattle.std.proofs.lemmas.Bool.{both_ways, cases_Bool}
 use Rattle.std.proofs.lemmas.Option.{same_Some}
-use Rattle.std.specs.Option.{IfSome, option_or}
+use Rattle.std.specs.Option.{IfSome, option_map_or, option_or}
+use Rattle.nf_access.specs.Access.{is_open}
+use Rattle.nf_access.specs.Broken.{broken_in, first_received}
+use Rattle.nf_access.specs.Shares.{chain_of, ground_of}
+use Rattle.nf_access.specs.declared.Cause.{Cause}
+use Rattle.nf_base.specs.declared.perms.Act.{Act}
 use Rattle.nf_base.specs.declared.rows.NodeRow.{NodeRow}
+use Rattle.nf_base.specs.declared.rows.ShareRow.{ShareRow}
+use Rattle.nf_defs.specs.declared.Seeker.{Seeker}
+use Rattle.nf_words.specs.declared.request.Spot.{Spot}
 use Rattle.nf_defs.specs.Prelude.{Access, Tables}
 use Rattle.nf_defs.specs.declared.Found.{Found}
 use Rattle.nf_defs.specs.declared.Found.TheVariants.{At, Missing}
-use Rattle.nf_words.specs.Prelude.{access_of, allowed_of, answer_at, answer_to, answered_by, asked_by, Call, call_of, decision_of, earlier_rules, end_refusal, ends_at, ends_goal, exists_rule, first_that_holds, forbidden_rule, goal_at, has_forbidden, is_caller, is_kept, is_transfer, key_in_way, later_rules, limit_at, limit_rule, limited, locked_rule, not_you_rule, overwrite_rule, Pass, pieces_of, place_of, paths_of, place_rule, places_of, refusal_of, Rule, source_lost, State, stored_at, taken, target_lost, target_rule, token_rule, touches, unfit, unless_refused, user_of, users_of}
+use Rattle.nf_words.specs.Prelude.{access_of, acts_rule, allowed_of, answer_at, answer_to, answered_by, asked_by, broken_by, Call, call_of, decision_of, earlier_rules, end_refusal, ends_at, ends_goal, exists_rule, first_that_holds, forbidden_rule, goal_at, has_forbidden, is_caller, is_kept, is_refused, is_transfer, key_in_way, later_rules, limit_at, limit_rule, limited, locked_rule, Need, need_broken, needed, not_you_rule, overwrite_rule, Pass, pieces_of, place_of, paths_of, place_rule, places_of, refusal_of, Rule, seeker_of, source_lost, source_refused, State, stored_at, taken, target_lost, target_refused, target_rule, told_broken, token_rule, touches, unfit, unless_refused, unreached, unreached_by, user_of, users_of, Way, way_of}
 use Rattle.nf_words.specs.declared.answer.Allowed.{Allowed}
 use Rattle.nf_words.specs.declared.answer.Denial.{Denial}
 use Rattle.nf_words.specs.declared.answer.Denial.TheVariants as denial
@@ -121,12 +129,73 @@ forbidden_fine : (access : Access) (call : Call) → IsEarly (forbidden_rule acc
 unfolding forbidden_rule
 forbidden_fine access call = if_test (list_any has_forbidden (paths_of (asked_by call))) denial.ForbiddenName refl
 
+told_fine : (o : Option (ℕ × Cause)) → is_later (told_broken o) ≡ false
+told_fine None = refl
+told_fine (Some broken) = refl
+
+broken_fine : (t : Tables) (seeker : Seeker) (now : ℕ) (act : Option Act) (mount : ℕ) → is_later (broken_by t seeker now act mount) ≡ false
+broken_fine t seeker now act mount = here (first_received t.members t.shares seeker mount)
+  where
+    here : (o : Option ShareRow)
+        → is_later (option_map_or (λ share. told_broken (broken_in (ground_of t) now act None (chain_of t.shares share.id))) o denial.NoShare) ≡ false
+    here None = refl
+    here (Some share) = told_fine (broken_in (ground_of t) now act None (chain_of t.shares share.id))
+
+reach_fine : (access : Access) (call : Call) (way : Way) → IsEarly (unreached access call way)
+reach_fine access call way = here way.mount
+  where
+    here : (mount : Option ℕ) → IsEarly (option_and_then (unreached_by access call.state.tables (seeker_of call) call.now) mount)
+    here None = tt
+    here (Some mount) =
+        unless_test (list_any (is_open call.now) (access (seeker_of call) mount)) (broken_by call.state.tables (seeker_of call) call.now None mount)
+        (broken_fine call.state.tables (seeker_of call) call.now None mount)
+
 place_fine : (access : Access) (call : Call) → IsEarly (place_rule access call)
 unfolding place_rule
 place_fine access call =
-    let places = places_of call in
-    either (option_and_then source_lost places.source) (option_and_then target_lost places.target)
-    (source_fine places.source) (target_fine places.target)
+    either (option_and_then of_source (asked_by call).source) (option_and_then of_target (asked_by call).target)
+    (sources (asked_by call).source) (targets (asked_by call).target)
+  where
+    of_source : Spot → Option Denial
+    of_source spot = source_refused access call (way_of call spot)
+
+    of_target : Spot → Option Denial
+    of_target spot = target_refused access call (way_of call spot)
+
+    tested : (b : Bool) (way : Way) → IsEarly (if b then None else unreached access call way)
+    tested true way = tt
+    tested false way = reach_fine access call way
+
+    sources : (source : Option Spot) → IsEarly (option_and_then of_source source)
+    sources None = tt
+    sources (Some spot) =
+        let way = way_of call spot in
+        either (if (asked_by call).removes && way.itself then None else unreached access call way) (source_lost way.place)
+        (tested ((asked_by call).removes && way.itself) way) (source_fine (Some way.place))
+
+    targets : (target : Option Spot) → IsEarly (option_and_then of_target target)
+    targets None = tt
+    targets (Some spot) =
+        let way = way_of call spot in
+        either (unreached access call way) (target_lost way.place) (reach_fine access call way) (target_fine (Some way.place))
+
+acts_fine : (access : Access) (call : Call) → IsEarly (acts_rule access call)
+unfolding acts_rule
+acts_fine access call = here (find (is_refused access t seeker call.now) (needed call))
+  where
+    t : Tables
+    t = call.state.tables
+
+    seeker : Seeker
+    seeker = seeker_of call
+
+    by_mount : (act : Act) (mount : Option ℕ) → is_later (option_map_or (broken_by t seeker call.now (Some act)) mount denial.NoShare) ≡ false
+    by_mount act None = refl
+    by_mount act (Some mount) = broken_fine t seeker call.now (Some act) mount
+
+    here : (o : Option Need) → IsEarly (option_map (need_broken t seeker call.now) o)
+    here None = tt
+    here (Some need) = by_mount need.act need.mount
 
 exists_fine : (access : Access) (call : Call) → IsEarly (exists_rule access call)
 unfolding exists_rule
@@ -154,7 +223,7 @@ unfolding limit_rule
 limit_fine access call = limits (limited call.state.tables (places_of call) (asked_by call).makes)
 
 pub early : AreEarly earlier_rules
-early = (token_fine, (not_you_fine, (forbidden_fine, (place_fine, (exists_fine, (fit_fine, (overwrite_fine, tt)))))))
+early = (token_fine, (not_you_fine, (forbidden_fine, (place_fine, (acts_fine, (exists_fine, (fit_fine, (overwrite_fine, tt))))))))
 
 either_later : (a b : Option Denial) → IsRefusal a → IsRefusal b → IsRefusal (option_or a (option_or b None))
 either_later None None fine more = tt

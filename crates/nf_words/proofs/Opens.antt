@@ -31,7 +31,7 @@ use Rattle.nf_words.specs.declared.request.Wanted.{Wanted}
 use Rattle.nf_words.specs.declared.route.Route.TheVariants.{Files}
 use Rattle.nf_words.specs.declared.request.Wanted.TheVariants.{Get, Put, Mkcol, Delete, Move, Copy}
 use Rattle.nf_words.proofs.Begins.{places_at}
-use Rattle.nf_words.proofs.Passing.{no_fault, unrefused}
+use Rattle.nf_words.proofs.Passing.{no_fault, place_passes, unrefused}
 use Rattle.nf_words.proofs.Steps.{end_nothing, never_granted, ok_reply}
 
 -- ---- never as the End of what stores nothing
@@ -116,12 +116,12 @@ open_given call (Copy source target overwrite) led free fits =
 
 -- a Begin isn't
 pub begins_open : (s : State) (seat now : ℕ) (words : Words) (request : Request) → answer_to s seat now (Begin words request) ≢ Ok Closed
-unfolding place_rule exists_rule target_rule
+unfolding exists_rule target_rule
 begins_open s seat now words request =
     let call = call_of s seat now words request in
     let access = access_of s in
     open_answer (refusal_of access call) (allowed_of access call) (λ none.
-    let pass = unrefused access call none in open_given call request.wanted pass.place pass.exists (no_fault _ pass.target))
+    let pass = unrefused access call none in open_given call request.wanted (place_passes access call pass.place) pass.exists (no_fault _ pass.target))
 
 open_stored : (t : Tables) (now : ℕ) (key : LockKey) (digest : List ℕ) (length : ℕ) → stored_at t now key digest length ≢ allowed.Close
 open_stored t now (Node node) digest length = λ is. cc

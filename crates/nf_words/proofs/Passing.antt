@@ -1,15 +1,16 @@
 -- What a call that no rule refuses passes, by the names of the rules.
-use Rattle.std.proofs.Common.{◌≡◌, Bool, true, false, List, [], ◌∷◌, Ok, refl}
-use Rattle.std.specs.Prelude.{None, Option, Some, option_map, if◌then◌else◌}
+use Rattle.std.proofs.Common.{◌≡◌, Bool, true, false, List, [], ◌∷◌, Ok, refl, ap, ◌∙◌}
+use Rattle.std.specs.Prelude.{None, Option, Some, option_map, option_and_then, if◌then◌else◌}
 use Rattle.std.specs.Option.{option_or}
 use Rattle.nf_defs.specs.Access.{Access}
-use Rattle.nf_words.specs.Prelude.{access_of, allowed_of, Call, call_decision, exists_rule, first_that_holds, forbidden_rule, limit_rule, locked_rule, not_you_rule, overwrite_rule, Pass, place_rule, refusal_of, Rule, rules, target_rule, token_rule, unless_refused}
+use Rattle.nf_words.specs.Prelude.{access_of, acts_rule, allowed_of, asked_by, Call, call_decision, exists_rule, first_that_holds, forbidden_rule, found, limit_rule, locked_rule, lost, not_you_rule, overwrite_rule, Pass, place_rule, places_of, refusal_of, Rule, rules, source_lost, source_refused, target_lost, target_refused, target_rule, token_rule, unless_refused, way_of}
 use Rattle.nf_words.specs.declared.answer.Allowed.{Allowed}
 use Rattle.nf_words.specs.declared.answer.Denial.{Denial}
 use Rattle.nf_words.specs.declared.answer.Denial.TheVariants as denial
 use Rattle.nf_words.specs.declared.answer.Limit.{Limit}
 use Rattle.nf_words.specs.declared.answer.LockKey.{LockKey}
 use Rattle.nf_words.specs.declared.answer.TargetFault.{TargetFault}
+use Rattle.nf_words.specs.declared.request.Spot.{Spot}
 
 -- the rules pass it. A new rule adds a field, and its place in `named` and `in_order`
 pub record Passes (access : Access) (call : Call) : Type 0 where
@@ -17,6 +18,7 @@ pub record Passes (access : Access) (call : Call) : Type 0 where
   pub not_you : not_you_rule access call ≡ None
   pub forbidden : forbidden_rule access call ≡ None
   pub place : place_rule access call ≡ None
+  pub acts : acts_rule access call ≡ None
   pub exists : exists_rule access call ≡ None
   pub target : target_rule access call ≡ None
   pub overwrite : overwrite_rule access call ≡ None
@@ -24,11 +26,12 @@ pub record Passes (access : Access) (call : Call) : Type 0 where
   pub limit : limit_rule access call ≡ None
 
 named : (access : Access) (call : Call) → Pass rules access call → Passes access call
-named access call (token, (not_you, (forbidden, (place, (exists, (target, (overwrite, (locked, (limit, end))))))))) = record {
+named access call (token, (not_you, (forbidden, (place, (acts, (exists, (target, (overwrite, (locked, (limit, end)))))))))) = record {
   token = token;
   not_you = not_you;
   forbidden = forbidden;
   place = place;
+  acts = acts;
   exists = exists;
   target = target;
   overwrite = overwrite;
@@ -38,7 +41,7 @@ named access call (token, (not_you, (forbidden, (place, (exists, (target, (overw
 
 pub in_order : (access : Access) (call : Call) → Passes access call → Pass rules access call
 in_order access call p =
-    (p.token, (p.not_you, (p.forbidden, (p.place, (p.exists, (p.target, (p.overwrite, (p.locked, (p.limit, tt)))))))))
+    (p.token, (p.not_you, (p.forbidden, (p.place, (p.acts, (p.exists, (p.target, (p.overwrite, (p.locked, (p.limit, tt))))))))))
 
 -- ---- of a call
 
@@ -50,6 +53,32 @@ each_passes : (all : List Rule) (access : Access) (call : Call) → first_that_h
 each_passes [] access call none = tt
 each_passes (rule ∷ others) access call none =
     let h = both_none (rule access call) (first_that_holds others access call) none in (h.0, each_passes others access call h.1)
+
+-- what a place that isn't refused leads to isn't lost
+pub place_passes : (access : Access) (call : Call) → place_rule access call ≡ None → lost (places_of call) ≡ None
+unfolding place_rule
+place_passes access call none = here (asked_by call).source (asked_by call).target none
+  where
+    sources : Option Spot → Option Denial
+    sources source = option_and_then (λ spot. source_refused access call (way_of call spot)) source
+
+    targets : Option Spot → Option Denial
+    targets target = option_and_then (λ spot. target_refused access call (way_of call spot)) target
+
+    source_is : (source : Option Spot) → sources source ≡ None → option_and_then source_lost (option_map (found call) source) ≡ None
+    source_is None none = refl
+    source_is (Some spot) none = (both_none _ (source_lost (found call spot)) none).1
+
+    target_is : (target : Option Spot) → targets target ≡ None → option_and_then target_lost (option_map (found call) target) ≡ None
+    target_is None none = refl
+    target_is (Some spot) none = (both_none _ (target_lost (found call spot)) none).1
+
+    here : (source target : Option Spot) → option_or (sources source) (targets target) ≡ None
+        → lost (record { source = option_map (found call) source; target = option_map (found call) target }) ≡ None
+    here source target none =
+        let both = both_none (sources source) (targets target) none in
+        ap (λ (o : Option Denial). option_or o (option_and_then target_lost (option_map (found call) target))) (source_is source both.0)
+        ∙ target_is target both.1
 
 -- what isn't refused passes every rule
 pub unrefused : (access : Access) (call : Call) → refusal_of access call ≡ None → Passes access call

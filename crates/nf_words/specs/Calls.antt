@@ -1,5 +1,5 @@
 -- A request as the rules see it: who asks, what it names, and where its paths lead.
-use Rattle.std.specs.Prelude.{ℕ, ◌-◌, List, [], ◌∷◌, drop, length, Option, None, Some, is_some, option_map, option_and_then, slice_get, unwrap_or, if◌then◌else◌}
+use Rattle.std.specs.Prelude.{ℕ, ◌-◌, Bool, true, false, List, [], ◌∷◌, drop, length, Option, None, Some, is_some, option_map, option_and_then, slice_get, unwrap_or, if◌then◌else◌}
 use Rattle.std.specs.Option.{option_map_or}
 use Rattle.nf_access.specs.Mounts.{mount_at}
 use Rattle.nf_base.specs.declared.rows.NodeRow.{NodeRow}
@@ -59,10 +59,17 @@ root_of call = option_map_or (λ row. row.root) (caller_row call) 0
 
 -- ---- where its paths lead
 
--- where a path leads, and the node of the mount that it goes by, if it goes by one
+-- where a path leads, the node of the mount that it goes by, if it goes by one, and whether it is the path of the mount itself
 pub record Way : Type 0 where
   pub mount : Option ℕ
+  pub itself : Bool
   pub place : Found
+
+-- there is one name
+abbrev pub is_one : List (List ℕ) → Bool
+is_one [] = false
+is_one (name ∷ []) = true
+is_one (name ∷ other ∷ names) = false
 
 -- the node of the user's mount by which names lead on from the root: that of the first name, where no child of the root has it
 abbrev pub mounted : Tables → ℕ → ℕ → List (List ℕ) → Option ℕ
@@ -75,8 +82,9 @@ mount_of call spot = mounted call.state.tables (asker_of call) (root_of call) sp
 
 -- names lead from a root, or, behind the first of them, from the node of a mount
 abbrev pub way_by : List NodeRow → ℕ → List (List ℕ) → Option ℕ → Way
-way_by rows root names None = record { mount = None; place = found_from rows 0 root names }
-way_by rows root names (Some node) = record { mount = Some node; place = found_from rows 1 node (drop 1 names) }
+way_by rows root names None = record { mount = None; itself = false; place = found_from rows 0 root names }
+way_by rows root names (Some node) =
+    record { mount = Some node; itself = is_one names; place = found_from rows 1 node (drop 1 names) }
 
 abbrev pub way_of : Call → Spot → Way
 way_of call spot = way_by call.state.tables.nodes (root_of call) spot.path (mount_of call spot)

@@ -23,3 +23,4 @@ pub mod Sound
 pub mod Fine
 pub mod Lean
 pub mod Prelude
+pub mod Reached

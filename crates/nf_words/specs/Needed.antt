@@ -1,5 +1,5 @@
--- The acts that a request needs, each at its node by the mount of its path, and whether who asks may do them. No rule asks it yet.
-use Rattle.std.specs.Prelude.{ℕ, ◌==◌, ◌||◌, not, Bool, false, List, [], ◌∷◌, ◌++◌, Option, None, Some, is_some, option_map, option_and_then, if◌then◌else◌}
+-- The acts that a request needs, each at its node by the mount of its path, and whether who asks may do them.
+use Rattle.std.specs.Prelude.{ℕ, ◌&&◌, ◌==◌, ◌||◌, not, Bool, false, List, [], ◌∷◌, ◌++◌, Option, None, Some, is_some, option_map, option_and_then, if◌then◌else◌}
 use Rattle.std.specs.List.{list_any}
 use Rattle.std.specs.Option.{option_map_or, option_or}
 use Rattle.nf_access.specs.Access.{allows}
@@ -10,7 +10,7 @@ use Rattle.nf_defs.specs.Prelude.{Access, node_row}
 use Rattle.nf_defs.specs.declared.Seeker.{Seeker}
 use Rattle.nf_defs.specs.declared.Seeker.TheVariants.{User, Link}
 use Rattle.nf_words.specs.Asked.{Asked}
-use Rattle.nf_words.specs.Calls.{Call, Way, asked_by, way_of}
+use Rattle.nf_words.specs.Calls.{Call, Way, asked_by, root_of, way_of}
 use Rattle.nf_words.specs.Places.{folder_at, node_found}
 use Rattle.nf_words.specs.declared.answer.By.{By}
 use Rattle.nf_words.specs.declared.answer.LockKey.{LockKey}
@@ -47,42 +47,49 @@ needs act (Some node) mount = record { act = act; node = node; mount = mount } �
 abbrev pub needs_at : Act → Way → List Need
 needs_at act way = needs act (node_found way.place) way.mount
 
--- the folder of what is at a place or is put there; a root stands for its own
-abbrev pub folder_for : List NodeRow → Way → Option ℕ
-folder_for rows way = option_or (folder_at rows way.place) (node_found way.place)
+-- the folder of what is at a place or is put there: a root stands for its own, and a mount is in the caller's root
+abbrev pub folder_for : List NodeRow → ℕ → Way → Option ℕ
+folder_for rows root way = if way.itself then Some root else option_or (folder_at rows way.place) (node_found way.place)
 
--- that something is made there
-abbrev pub needs_in : List NodeRow → Way → List Need
-needs_in rows way = needs Create (folder_for rows way) way.mount
+-- that something is made there; the mount of a path that is the mount's own isn't on the way
+abbrev pub needs_in : List NodeRow → ℕ → Way → List Need
+needs_in rows root way = needs Create (folder_for rows root way) (if way.itself then None else way.mount)
 
 -- the target's folder is that of the source
-abbrev pub is_within : List NodeRow → Option Way → Option Way → Bool
-is_within rows source target =
-    let from = option_and_then (folder_for rows) source in
-    option_map_or (λ to. option_map_or (λ folder. folder == to) from false) (option_and_then (folder_for rows) target) false
+abbrev pub is_within : List NodeRow → ℕ → Option Way → Option Way → Bool
+is_within rows root source target =
+    let from = option_and_then (folder_for rows root) source in
+    option_map_or (λ to. option_map_or (λ folder. folder == to) from false) (option_and_then (folder_for rows root) target) false
 
 -- what is acted upon is read where it stays, and else deleted, or updated if it stays in its folder
 abbrev pub source_act : Asked → Bool → Act
 source_act asked within = if not asked.removes then Read else if within then Update else Delete
 
 -- what is there is updated by a body, and has to go at a transfer; what wasn't in the folder is created in it
-abbrev pub target_needs : Making → List NodeRow → Bool → Way → List Need
-target_needs making.Nothing rows within way = []
-target_needs (making.File length) rows within way = if is_some (node_found way.place) then needs_at Update way else needs_in rows way
-target_needs making.Folder rows within way = needs_in rows way
-target_needs making.Moved rows within way = (if within then [] else needs_in rows way) ++ needs_at Delete way
-target_needs making.Copied rows within way = needs_in rows way ++ needs_at Delete way
+abbrev pub target_needs : Making → List NodeRow → ℕ → Bool → Way → List Need
+target_needs making.Nothing rows root within way = []
+target_needs (making.File length) rows root within way =
+    if is_some (node_found way.place) then needs_at Update way else needs_in rows root way
+target_needs making.Folder rows root within way = needs_in rows root way
+target_needs making.Moved rows root within way = (if within then [] else needs_in rows root way) ++ needs_at Delete way
+target_needs making.Copied rows root within way = needs_in rows root way ++ needs_at Delete way
 
-abbrev pub needs_between : List NodeRow → Asked → Option Way → Option Way → List Need
-needs_between rows asked source target =
-    let within = is_within rows source target in
-    option_map_or (needs_at (source_act asked within)) source [] ++ option_map_or (target_needs asked.makes rows within) target []
+-- a mount that is to be left or to have another name: its own path is that of what wouldn't stay
+abbrev pub is_mount_asked : Asked → Option Way → Bool
+is_mount_asked asked source = asked.removes && option_map_or (λ way. way.itself) source false
+
+-- leaving or renaming one's own mount needs nothing
+abbrev pub needs_between : List NodeRow → ℕ → Asked → Option Way → Option Way → List Need
+needs_between rows root asked source target =
+    let within = is_within rows root source target in
+    if is_mount_asked asked source then []
+    else option_map_or (needs_at (source_act asked within)) source [] ++ option_map_or (target_needs asked.makes rows root within) target []
 
 -- what a request needs
 abbrev pub needed : Call → List Need
 needed call =
     let asked = asked_by call in
-    needs_between call.state.tables.nodes asked (option_map (way_of call) asked.source) (option_map (way_of call) asked.target)
+    needs_between call.state.tables.nodes (root_of call) asked (option_map (way_of call) asked.source) (option_map (way_of call) asked.target)
 
 -- what the End of a PUT needs: that the file is updated, or that one is created in the folder
 abbrev pub needed_by : By → LockKey → List Need

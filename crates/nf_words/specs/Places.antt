@@ -44,10 +44,6 @@ target_lost (Missing depth) = Some denial.NoParent
 abbrev pub lost : Places → Option Denial
 lost places = option_or (option_and_then source_lost places.source) (option_and_then target_lost places.target)
 
--- `not-found` and `no-parent`
-unfoldable pub place_rule : Access → Call → Option Denial
-place_rule access call = lost (places_of call)
-
 -- ---- what is there
 
 -- the node at a place, if one is there

@@ -3,7 +3,7 @@ pub use Rattle.nf_words.specs.Actors.{actor_of, storer_of, user_in}
 pub use Rattle.nf_words.specs.Asked.{Asked, asked_of, asks_nothing, is_transfer, named_at, named_in, path_at, paths_of, users_of}
 pub use Rattle.nf_words.specs.Callers.{is_caller}
 unfoldable pub use Rattle.nf_words.specs.Callers.{not_you_rule, token_rule}
-pub use Rattle.nf_words.specs.Calls.{Call, Way, asked_by, asker_of, caller_row, found, last_name, mount_of, mounted, places_of, root_of, seeker_of, user_of, way_by, way_of}
+pub use Rattle.nf_words.specs.Calls.{Call, Way, asked_by, asker_of, caller_row, found, is_one, last_name, mount_of, mounted, places_of, root_of, seeker_of, user_of, way_by, way_of}
 pub use Rattle.nf_words.specs.Changes.{above, allowed_of, altered, blob_after, blob_of, by_of, changed, changes_of, cleared, copied, counted, deleted, dropped_for, dropped_under, given, goal_of, hold_of, joined, made_folder, makes, meta_after, moved, new_node, raised, refilled, removed, reply_by, reply_to, reported, served, shown, stamped, stored, told, transferred, transferred_row, with_goal, with_meta}
 pub use Rattle.nf_words.specs.Contents.{IsPieceSound, contents_of, row_content, stored_pieces}
 pub use Rattle.nf_words.specs.Copies.{copied_row, copies_of_all, copies_to, renamed}
@@ -20,10 +20,12 @@ unfoldable pub use Rattle.nf_words.specs.Limits.{limit_rule}
 pub use Rattle.nf_words.specs.Listing.{bytes_of, line_of, listing_of}
 pub use Rattle.nf_words.specs.Locks.{source_touches, target_name, target_touches, touched, touches, transfer_touches}
 unfoldable pub use Rattle.nf_words.specs.Locks.{locked_rule}
-pub use Rattle.nf_words.specs.Needed.{Need, is_owner, is_within, may_by, needed, needed_by, needs, needs_at, needs_between, needs_in}
+pub use Rattle.nf_words.specs.Needed.{folder_for, is_mount_asked, Need, is_owner, is_within, may_by, needed, needed_by, needs, needs_at, needs_between, needs_in}
 pub use Rattle.nf_words.specs.Others.{AreOthersSound}
 pub use Rattle.nf_words.specs.Places.{folder_at, has_forbidden, is_kept, is_there, lost, misplaced, node_at, node_found, source_lost, taken, target_lost, transfer_of, transfer_to, unfit, unfit_between}
-unfoldable pub use Rattle.nf_words.specs.Places.{exists_rule, forbidden_rule, overwrite_rule, place_rule, target_rule}
+unfoldable pub use Rattle.nf_words.specs.Places.{exists_rule, forbidden_rule, overwrite_rule, target_rule}
+pub use Rattle.nf_words.specs.Reached.{broken_by, is_refused, need_broken, source_refused, target_refused, told_broken, unreached, unreached_by}
+unfoldable pub use Rattle.nf_words.specs.Reached.{acts_rule, place_rule}
 pub use Rattle.nf_words.specs.Rules.{Rule, earlier_rules, first_that_holds, later_rules, refusal_of, rules}
 pub use Rattle.nf_words.specs.Sound.{AreApart, AreCounters, AreSound, HasRoot, HoldsFor, IsGoalSound, IsNodeSound, IsOwn, IsPlaceSound, IsSound, IsStorable, IsTicketSound, IsTop, MayStoreAt, root_of_user}
 pub use Rattle.nf_words.specs.State.{State, access_of, goal_at, opened, ticket_for, ticket_of, without_ticket}

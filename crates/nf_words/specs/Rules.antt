@@ -4,22 +4,24 @@ use Rattle.std.specs.Option.{option_or}
 use Rattle.nf_defs.specs.Access.{Access}
 use Rattle.nf_words.specs.Calls.{Call}
 use Rattle.nf_words.specs.Callers.{token_rule, not_you_rule}
-use Rattle.nf_words.specs.Places.{forbidden_rule, place_rule, exists_rule, target_rule, overwrite_rule}
+use Rattle.nf_words.specs.Places.{forbidden_rule, exists_rule, target_rule, overwrite_rule}
+use Rattle.nf_words.specs.Reached.{acts_rule, place_rule}
 use Rattle.nf_words.specs.Limits.{limit_rule}
 use Rattle.nf_words.specs.Locks.{locked_rule}
 use Rattle.nf_words.specs.declared.answer.Denial.{Denial}
 
--- a test of a call by what shares let their seekers do, which refuses it or passes. None reads the shares yet
+-- a test of a call by what shares let their seekers do, which refuses it or passes
 abbrev pub Rule : Type 0
 Rule = Access → Call → Option Denial
 
--- the rules of who asks, of names and of places
+-- the rules of who asks, of names, of places and of what who asks may do there
 abbrev pub earlier_rules : List Rule
 earlier_rules =
     token_rule
     ∷ not_you_rule
     ∷ forbidden_rule
     ∷ place_rule
+    ∷ acts_rule
     ∷ exists_rule
     ∷ target_rule
     ∷ overwrite_rule

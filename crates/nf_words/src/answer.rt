@@ -4,9 +4,10 @@ ghost use Rattle.std.specs.Prelude.{◌≡◌, IfOk};
 ghost use Rattle.nf_words.specs.Limits.{count_of};
 
 use crate::{Listing, Route, Transfer};
+use nf_access::Cause;
 use nf_base::{
     BlobId, Changes, Content, Digest, MAX_DEPTH, MAX_NODES, MAX_STORED_PIECES, Name, NameFault,
-    NodeId, NodeRow,
+    NodeId, NodeRow, ShareId,
 };
 use nf_defs::Seeker;
 use std::alloc::AllocError;
@@ -27,6 +28,11 @@ pub enum Denial {
     NotYou,
     /// 403: a name in the path is `.htaccess`.
     ForbiddenName,
+    /// 403: by the mount on the path the caller may not do that, since the chain of the share on it is broken: at that share, the
+    /// first such one from its owner's end, and for that cause.
+    BrokenLink { share: ShareId, cause: Cause },
+    /// 403: the caller receives no share on the node of the path's mount.
+    NoShare,
     /// 403: that can't be done to what the path leads to.
     BadTarget(TargetFault),
     /// 404: there is no such file or folder, or no such route.

@@ -1,0 +1,75 @@
+-- The rules of access: what a path's mount reaches who asks by, and what may be done by it. What is told of a refusal.
+use Rattle.std.specs.Prelude.{ℕ, ◌&&◌, not, Bool, find, Option, None, Some, option_map, option_and_then, if◌then◌else◌}
+use Rattle.std.specs.List.{list_any}
+use Rattle.std.specs.Option.{option_map_or, option_or}
+use Rattle.nf_access.specs.Access.{is_open}
+use Rattle.nf_access.specs.Broken.{broken_in, first_received}
+use Rattle.nf_access.specs.Shares.{chain_of, ground_of}
+use Rattle.nf_access.specs.declared.Cause.{Cause}
+use Rattle.nf_base.specs.declared.perms.Act.{Act}
+use Rattle.nf_base.specs.declared.rows.ShareRow.{ShareRow}
+use Rattle.nf_defs.specs.Prelude.{Access, Tables}
+use Rattle.nf_defs.specs.declared.Seeker.{Seeker}
+use Rattle.nf_words.specs.Calls.{Call, Way, asked_by, seeker_of, way_of}
+use Rattle.nf_words.specs.Needed.{Need, may_by, needed}
+use Rattle.nf_words.specs.Places.{source_lost, target_lost}
+use Rattle.nf_words.specs.declared.answer.Denial.{Denial}
+use Rattle.nf_words.specs.declared.answer.Denial.TheVariants as denial
+use Rattle.nf_words.specs.declared.request.Spot.{Spot}
+
+-- ---- what is told
+
+abbrev pub told_broken : Option (ℕ × Cause) → Denial
+told_broken None = denial.NoShare
+told_broken (Some broken) = denial.BrokenLink broken.0 broken.1
+
+-- why a seeker may not do an act by a mount, or isn't reached where none is asked: the first broken link of the first share that it receives
+abbrev pub broken_by : Tables → Seeker → ℕ → Option Act → ℕ → Denial
+broken_by t seeker now act mount =
+    let g = ground_of t in
+    option_map_or (λ share. told_broken (broken_in g now act None (chain_of t.shares share.id))) (first_received t.members t.shares seeker mount)
+    denial.NoShare
+
+-- ---- the reach test
+
+-- no grant on the mount's node is open
+abbrev pub unreached_by : Access → Tables → Seeker → ℕ → ℕ → Option Denial
+unreached_by access t seeker now mount =
+    if list_any (is_open now) (access seeker mount) then None else Some (broken_by t seeker now None mount)
+
+-- it is made where a path goes by a mount
+abbrev pub unreached : Access → Call → Way → Option Denial
+unreached access call way = option_and_then (unreached_by access call.state.tables (seeker_of call) call.now) way.mount
+
+-- ---- what isn't there, or isn't reached
+
+-- the mount is tested before any further name; not where it is to be left or renamed itself
+abbrev pub source_refused : Access → Call → Way → Option Denial
+source_refused access call way =
+    option_or (if (asked_by call).removes && way.itself then None else unreached access call way) (source_lost way.place)
+
+abbrev pub target_refused : Access → Call → Way → Option Denial
+target_refused access call way = option_or (unreached access call way) (target_lost way.place)
+
+-- `no-share`, `broken-link`, `not-found` and `no-parent`: of the source, then of the target
+unfoldable pub place_rule : Access → Call → Option Denial
+place_rule access call =
+    let asked = asked_by call in
+    option_or (option_and_then (λ spot. source_refused access call (way_of call spot)) asked.source)
+    (option_and_then (λ spot. target_refused access call (way_of call spot)) asked.target)
+
+-- ---- the acts
+
+-- who asks may not do it
+abbrev pub is_refused : Access → Tables → Seeker → ℕ → Need → Bool
+is_refused access t seeker now need = not (may_by access t.nodes seeker now need.act need.node need.mount)
+
+-- where no mount is on the way there is no share either
+abbrev pub need_broken : Tables → Seeker → ℕ → Need → Denial
+need_broken t seeker now need = option_map_or (broken_by t seeker now (Some need.act)) need.mount denial.NoShare
+
+-- `no-share` and `broken-link`, of the first act that is needed and may not be done
+unfoldable pub acts_rule : Access → Call → Option Denial
+acts_rule access call =
+    option_map (need_broken call.state.tables (seeker_of call) call.now)
+    (find (is_refused access call.state.tables (seeker_of call) call.now) (needed call))
