@@ -37,7 +37,7 @@ use Rattle.nf_words.proofs.Ends.{known_change, goal_held}
 use Rattle.nf_words.proofs.Fits.{newest, put_found}
 use Rattle.nf_words.proofs.Found.{free_known}
 use Rattle.nf_words.proofs.Known.{Known}
-use Rattle.nf_words.proofs.Passing.{call_passes}
+use Rattle.nf_words.proofs.Passing.{call_passes, place_passes}
 use Rattle.nf_words.proofs.Starts.{from_root, led_from_root}
 use Rattle.nf_words.specs.Prelude.{access_of, actor_of, allowed_of, answered_by, AreSound, asker_of, blob_after, blob_for, Call, call_decision, call_of, changed, content_in, decision_of, end_refusal, ends_at, exists_rule, found, IsHeld, IsStorable, last_name, lost, makes, MayAsk, MayEnd, new_node, place_rule, refilled, refusal_of, removed, root_of, seeker_of, step, stored, stored_at, stores, taken, told, Way}
 use Rattle.nf_words.specs.declared.answer.Allowed.{Allowed}
@@ -89,8 +89,7 @@ deleted_rows t now top root path sound led = record {
 -- a DELETE that is accepted is of the node to which its path leads
 deletes_at : (call : Call) (spot : Spot) → call.request.wanted ≡ wanted.Delete spot → place_rule (access_of call.state) call ≡ None
     → (top : ℕ) × (found call spot ≡ At top) × (allowed_of (access_of call.state) call ≡ allowed.Delete top)
-unfolding place_rule
-deletes_at call spot asked passes = here (found call spot) refl (rw asked at passes)
+deletes_at call spot asked passes = here (found call spot) refl (rw asked at (place_passes (access_of call.state) call passes))
   where
     here : (place : Found) → found call spot ≡ place → lost (record { source = Some place; target = None }) ≡ None
         → (top : ℕ) × (found call spot ≡ At top) × (allowed_of (access_of call.state) call ≡ allowed.Delete top)
@@ -141,8 +140,9 @@ makes_at : (call : Call) (spot : Spot) → call.request.wanted ≡ wanted.Mkcol 
     → place_rule (access_of call.state) call ≡ None → exists_rule (access_of call.state) call ≡ None
     → (folder : ℕ) × (found call spot ≡ Free folder)
     × (allowed_of (access_of call.state) call ≡ makes (new_node call.state.tables call.now folder (last_name spot) Folder []) None)
-unfolding place_rule exists_rule
-makes_at call spot asked passes free = here (found call spot) refl (rw asked at passes) (rw asked at free)
+unfolding exists_rule
+makes_at call spot asked passes free =
+    here (found call spot) refl (rw asked at (place_passes (access_of call.state) call passes)) (rw asked at free)
   where
     t : Tables
     t = call.state.tables
@@ -204,8 +204,8 @@ grants_at : (call : Call) (spot : Spot) (size : ℕ) → AreSound call.state.tab
     → place_rule (access_of call.state) call ≡ None
     → (key : LockKey) × LeadsToKey call.state.tables.nodes (root_of call) spot.path key
     × (allowed_of (access_of call.state) call ≡ allowed.Put (alone (asker_of call)) key size)
-unfolding place_rule
-grants_at call spot size sound asked passes = here (found call spot) refl (rw asked at passes)
+grants_at call spot size sound asked passes =
+    here (found call spot) refl (rw asked at (place_passes (access_of call.state) call passes))
   where
     t : Tables
     t = call.state.tables
@@ -333,9 +333,9 @@ puts_keep s seat now by key digest size sound granted ok =
     let t = s.tables in
     let event = End (Body digest size) in
     let act = stored_at t now key digest size in
-    let goes : decision_of s seat now event ≡ stores t now key digest size = ap (ends_at (access_of s) t now (Body digest size)) granted in
-    let none : stores t now key digest size ≡ Ok act =
-    none_refused (end_refusal t key size) act (subst (λ (d : Result Allowed Denial). IsOk (answered_by d)) goes ok) in
+    let goes : decision_of s seat now event ≡ stores (access_of s) t now by key digest size = ap (ends_at (access_of s) t now (Body digest size)) granted in
+    let none : stores (access_of s) t now by key digest size ≡ Ok act =
+    none_refused (end_refusal (access_of s) t now by key size) act (subst (λ (d : Result Allowed Denial). IsOk (answered_by d)) goes ok) in
     let may : MayAsk s seat event = subst (λ (o : Option Goal). MayEnd o (Body digest size)) (sym granted) refl in
     let known = known_change s seat now event act sound may (goes ∙ none) in
     let there = subst (λ (o : Option Goal). IfSome o (IsStorable t)) granted (goal_held s seat sound) in

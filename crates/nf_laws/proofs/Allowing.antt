@@ -58,22 +58,12 @@ use Rattle.nf_words.specs.declared.request.Wanted.TheVariants.{Get, Put, Mkcol, 
 
 -- ---- what fits
 
--- it is needed at a node of who acts
-abbrev IsAtOwn : Tables → Seeker → Need → Type 0
-IsAtOwn t seeker need = Owns t.nodes seeker need.node
+-- where a row is another what became of the node follows from what is needed
+abbrev Fits : Tables → List Need → Tables → Type 0
+Fits t needs made = AllFollow needs t.nodes made.nodes
 
--- so is all, where a row is another, and what became of the node follows
-abbrev Fits : Tables → Seeker → List Need → Tables → Type 0
-Fits t seeker needs made =
-    (node : ℕ) → node_row made.nodes node ≢ node_row t.nodes node → All (IsAtOwn t seeker) needs × Follows needs t.nodes made.nodes node
-
-same_fits : (t : Tables) (seeker : Seeker) (needs : List Need) → Fits t seeker needs t
-same_fits t seeker needs node differs = absurd (differs refl)
-
-one_fits : (t made : Tables) (seeker : Seeker) (need : Need) → IsAtOwn t seeker need → AllFollow (need ∷ []) t.nodes made.nodes
-    → Fits t seeker (need ∷ []) made
-one_fits t made seeker need own follow node differs =
-    (All-cons (IsAtOwn t seeker) need [] own (All-nil (IsAtOwn t seeker)), follow node differs)
+same_fits : (t : Tables) (needs : List Need) → Fits t needs t
+same_fits t needs node differs = absurd (differs refl)
 
 -- the first of what is needed
 first_needed : (need : Need) (others : List Need) → IsNeeded (need ∷ others) need.act need.node
@@ -85,7 +75,7 @@ second_needed first need others = (need.mount, (1, omega arith, refl))
 -- ---- what is needed where no mount is
 
 abbrev unmounted : Found → Way
-unmounted place = record { mount = None; place = place }
+unmounted place = record { mount = None; itself = false; place = place }
 
 abbrev need_of : Act → ℕ → Need
 need_of act node = record { act = act; node = node; mount = None }
@@ -110,16 +100,16 @@ between rows (At node) to transfer is =
     let parts = transfer_parts rows node to transfer is in record { source = ap At parts.0; replaced = parts.1; folder = parts.2 }
 between rows nowhere to transfer is = absurd (none-some transfer is)
 
-move_needs : (rows : List NodeRow) (source target : Spot) (overwrite : Bool) (from to : Found) (transfer : Transfer) (b : Bool)
-    → IsBetween rows from to transfer → is_within rows (Some (unmounted from)) (Some (unmounted to)) ≡ b
-    → needs_between rows (asked_of (Move source target overwrite)) (Some (unmounted from)) (Some (unmounted to)) ≡ moved_needs b transfer
-move_needs rows source target overwrite from to transfer true is within = rw (within, is.source, is.replaced) refl
-move_needs rows source target overwrite from to transfer false is within = rw (within, is.source, is.replaced, is.folder) refl
+move_needs : (rows : List NodeRow) (root : ℕ) (source target : Spot) (overwrite : Bool) (from to : Found) (transfer : Transfer) (b : Bool)
+    → IsBetween rows from to transfer → is_within rows root (Some (unmounted from)) (Some (unmounted to)) ≡ b
+    → needs_between rows root (asked_of (Move source target overwrite)) (Some (unmounted from)) (Some (unmounted to)) ≡ moved_needs b transfer
+move_needs rows root source target overwrite from to transfer true is within = rw (within, is.source, is.replaced) refl
+move_needs rows root source target overwrite from to transfer false is within = rw (within, is.source, is.replaced, is.folder) refl
 
-copy_needs : (rows : List NodeRow) (source target : Spot) (overwrite : Bool) (from to : Found) (transfer : Transfer)
+copy_needs : (rows : List NodeRow) (root : ℕ) (source target : Spot) (overwrite : Bool) (from to : Found) (transfer : Transfer)
     → IsBetween rows from to transfer
-    → needs_between rows (asked_of (Copy source target overwrite)) (Some (unmounted from)) (Some (unmounted to)) ≡ copied_needs transfer
-copy_needs rows source target overwrite from to transfer is = rw (is.source, is.replaced, is.folder) refl
+    → needs_between rows root (asked_of (Copy source target overwrite)) (Some (unmounted from)) (Some (unmounted to)) ≡ copied_needs transfer
+copy_needs rows root source target overwrite from to transfer is = rw (is.source, is.replaced, is.folder) refl
 
 -- what has to go is deleted, whatever else is needed
 replaced_needed : (front : List Need) (replaced : Option ℕ)
@@ -129,10 +119,10 @@ replaced_needed front (Some top) =
     (None, Contains-append_right front (need_of act.Delete top ∷ []) (need_of act.Delete top) (0, omega arith, refl))
 
 -- a node that is moved within its folder is in the target's
-within_folder : (t : Tables) (from to : Found) (transfer : Transfer) → AreSound t → is_under t.nodes transfer.folder transfer.node ≡ false
-    → IsBetween t.nodes from to transfer → is_within t.nodes (Some (unmounted from)) (Some (unmounted to)) ≡ true
+within_folder : (t : Tables) (root : ℕ) (from to : Found) (transfer : Transfer) → AreSound t → is_under t.nodes transfer.folder transfer.node ≡ false
+    → IsBetween t.nodes from to transfer → is_within t.nodes root (Some (unmounted from)) (Some (unmounted to)) ≡ true
     → parent_of t.nodes transfer.node ≡ Some transfer.folder
-within_folder t from to transfer sound outside is within =
+within_folder t root from to transfer sound outside is within =
     here (parent_of t.nodes transfer.node) refl (rw (is.source, is.folder) at within)
   where
     here : (o : Option ℕ) → parent_of t.nodes transfer.node ≡ o
@@ -157,12 +147,8 @@ module _ (call : Call) (row : UserRow) (sound : AreSound call.state.tables) (is 
   abbrev seeker : Seeker
   seeker = User row.id
 
-  -- what the caller's path leads to is the caller's
-  owns_at : (place : Found) (node : ℕ) → KnownPath t who place → IsFor place node → Owns t.nodes seeker node
-  owns_at place node path at =
-      let own = path_own t who place node sound path at in
-      let same : row.id ≡ path.row.id = same_Some row.id path.row.id (sym (row_of_caller t.users who row is).0 ∙ path.caller) in
-      record { row = own.row; there = own.there; owner = ap User (same ∙ sym own.owner) }
+  abbrev root : ℕ
+  root = root_of call
 
   -- ---- MOVE and COPY
 
@@ -171,71 +157,42 @@ module _ (call : Call) (row : UserRow) (sound : AreSound call.state.tables) (is 
     abbrev going : List Need
     going = needs act.Delete transfer.replaced None
 
-    source_owned : Owns t.nodes seeker transfer.node
-    source_owned = owns_at (At transfer.node) transfer.node known.source refl
-
-    folder_owned : Owns t.nodes seeker transfer.folder
-    folder_owned =
-        let folder = folder_there t.nodes transfer.folder known.in_folder in
-        let owner = folder_owner t who transfer name sound known in
-        let same = same_Some row.id known.target.row.id (sym (row_of_caller t.users who row is).0 ∙ known.target.caller) in
-        record { row = folder.0; there = folder.1; owner = ap User (same ∙ sym (rw folder.1 at owner)) }
-
-    replaced_owned : All (IsAtOwn t seeker) going
-    replaced_owned = here transfer.replaced known.target
-      where
-        here : (replaced : Option ℕ) → KnownPath t who (option_map_or At replaced (Free transfer.folder))
-            → All (IsAtOwn t seeker) (needs act.Delete replaced None)
-        here None path = All-nil (IsAtOwn t seeker)
-        here (Some top) path =
-            All-cons (IsAtOwn t seeker) (need_of act.Delete top) [] (owns_at (At top) top path refl) (All-nil (IsAtOwn t seeker))
-
-    both_owned : (first : Act) → All (IsAtOwn t seeker) (need_of first transfer.node ∷ need_of act.Create transfer.folder ∷ going)
-    both_owned first =
-        All-cons (IsAtOwn t seeker) (need_of first transfer.node) (need_of act.Create transfer.folder ∷ going) source_owned
-        (All-cons (IsAtOwn t seeker) (need_of act.Create transfer.folder) going folder_owned replaced_owned)
-
-    moved_owned : (b : Bool) → All (IsAtOwn t seeker) (moved_needs b transfer)
-    moved_owned true = All-cons (IsAtOwn t seeker) (need_of act.Update transfer.node) going source_owned replaced_owned
-    moved_owned false = both_owned act.Delete
+    source_own = path_own t who (At transfer.node) transfer.node sound known.source refl
 
     moved_gone : (b : Bool) → IfSome transfer.replaced (IsNeeded (moved_needs b transfer) act.Delete)
     moved_gone true = replaced_needed (need_of act.Update transfer.node ∷ []) transfer.replaced
     moved_gone false = replaced_needed (need_of act.Delete transfer.node ∷ need_of act.Create transfer.folder ∷ []) transfer.replaced
 
-    moved_row : node_row (transferred t transfer name).nodes transfer.node ≡ Some (relinked transfer.folder name source_owned.row)
-    moved_row = (moved_rows t who transfer name sound known).itself ∙ ap (option_map (relinked transfer.folder name)) source_owned.there
+    moved_row : node_row (transferred t transfer name).nodes transfer.node ≡ Some (relinked transfer.folder name source_own.row)
+    moved_row = (moved_rows t who transfer name sound known).itself ∙ ap (option_map (relinked transfer.folder name)) source_own.there
 
     moved_itself : (b : Bool) → (b ≡ true → parent_of t.nodes transfer.node ≡ Some transfer.folder)
         → Follows (moved_needs b transfer) t.nodes (transferred t transfer name).nodes transfer.node
     moved_itself true within =
-        let old = source_owned.row in
-        let place = inside_folder old.place transfer.folder (rw source_owned.there at (within refl)) in
+        let old = source_own.row in
+        let place = inside_folder old.place transfer.folder (rw source_own.there at (within refl)) in
         let needed = first_needed (need_of act.Update transfer.node) going in
-        is_updated old (relinked transfer.folder name old) needed source_owned.there moved_row
+        is_updated old (relinked transfer.folder name old) needed source_own.there moved_row
         (ap (λ (p : Place). record old { place = p; name = name }) (sym place))
     moved_itself false within =
         let first = need_of act.Delete transfer.node in
         let second = need_of act.Create transfer.folder in
-        is_moved transfer.folder source_owned.row (relinked transfer.folder name source_owned.row) (first_needed first (second ∷ going))
-        (second_needed first second going) source_owned.there moved_row refl
+        is_moved transfer.folder source_own.row (relinked transfer.folder name source_own.row) (first_needed first (second ∷ going))
+        (second_needed first second going) source_own.there moved_row refl
 
     moved_fits : (b : Bool) → (b ≡ true → parent_of t.nodes transfer.node ≡ Some transfer.folder)
-        → Fits t seeker (moved_needs b transfer) (changed t call.now (allowed.Move transfer name))
+        → Fits t (moved_needs b transfer) (changed t call.now (allowed.Move transfer name))
     moved_fits b within =
-        stamped_has (Fits t seeker (moved_needs b transfer)) t (transferred t transfer name) call.now (told t (allowed.Move transfer name))
-        (same_fits t seeker (moved_needs b transfer))
-        (λ node differs. (
-          moved_owned b,
-          moved_follow t who transfer name (moved_needs b transfer) sound known (moved_gone b) (moved_itself b within) node differs,
-        ))
+        stamped_has (Fits t (moved_needs b transfer)) t (transferred t transfer name) call.now (told t (allowed.Move transfer name))
+        (same_fits t (moved_needs b transfer))
+        (moved_follow t who transfer name (moved_needs b transfer) sound known (moved_gone b) (moved_itself b within))
 
   abbrev places : Spot → Spot → Places
   places source target = record { source = Some (found call source); target = Some (found call target) }
 
   copied_fits : (source target : Spot) (transfer : Transfer) → transfer_of t.nodes (places source target) ≡ Some transfer
       → unfit_between t.nodes (places source target) ≡ None → copy_limit t transfer ≡ None
-      → Fits t seeker (copied_needs transfer) (changed t call.now (copied t call.now (last_name target) (Some transfer)))
+      → Fits t (copied_needs transfer) (changed t call.now (copied t call.now (last_name target) (Some transfer)))
   unfolding copies_known
   copied_fits source target transfer e fits some =
       let copies = copies_to t call.now transfer (last_name target) in
@@ -243,13 +200,10 @@ module _ (call : Call) (row : UserRow) (sound : AreSound call.state.tables) (is 
       let first = need_of act.Read transfer.node in
       let second = need_of act.Create transfer.folder in
       let going = needs act.Delete transfer.replaced None in
-      stamped_has (Fits t seeker (copied_needs transfer)) t (joined t copies transfer.replaced) call.now
-      (told t (allowed.Copy copies transfer.replaced)) (same_fits t seeker (copied_needs transfer))
-      (λ node differs. (
-        both_owned transfer (last_name target) known.known act.Read,
-        copied_follow t call.now who copies transfer.replaced (copied_needs transfer) sound known
-            (replaced_needed (first ∷ second ∷ []) transfer.replaced) (second_needed first second going) node differs,
-      ))
+      stamped_has (Fits t (copied_needs transfer)) t (joined t copies transfer.replaced) call.now
+      (told t (allowed.Copy copies transfer.replaced)) (same_fits t (copied_needs transfer))
+      (copied_follow t call.now who copies transfer.replaced (copied_needs transfer) sound known
+      (replaced_needed (first ∷ second ∷ []) transfer.replaced) (second_needed first second going))
 
   -- ---- what each may ask for
 
@@ -259,13 +213,13 @@ module _ (call : Call) (row : UserRow) (sound : AreSound call.state.tables) (is 
   abbrev needed_for : Wanted → List Need
   needed_for wanted =
       let asked = asked_of wanted in
-      needs_between t.nodes asked (option_map way asked.source) (option_map way asked.target)
+      needs_between t.nodes root asked (option_map way asked.source) (option_map way asked.target)
 
   -- which is what is needed, as long as there are no mounts
   needed_is : needed_for call.request.wanted ≡ needed call
   needed_is =
       let asked = asked_by call in
-      ap (λ (f : Spot → Way). needs_between t.nodes asked (option_map f asked.source) (option_map f asked.target))
+      ap (λ (f : Spot → Way). needs_between t.nodes root asked (option_map f asked.source) (option_map f asked.target))
       (λ i spot. sym (way_is spot) i)
     where
       way_is : (spot : Spot) → way_of call spot ≡ way spot
@@ -273,75 +227,74 @@ module _ (call : Call) (row : UserRow) (sound : AreSound call.state.tables) (is 
           let from = from_root call spot sound.later in
           from ∙ ap unmounted (sym (ap (λ (way : Way). way.place) from))
 
-  served_fits : (place : Found) (needs : List Need) → Fits t seeker needs (changed t call.now (served t (node_found place)))
+  served_fits : (place : Found) (needs : List Need) → Fits t needs (changed t call.now (served t (node_found place)))
   served_fits (At node) needs =
       cond_both (is_folder t.nodes node) (allowed.List (listing_of t node)) (allowed.Get node (content_of t.nodes node))
-      (λ act. Fits t seeker needs (changed t call.now act)) (λ folder. same_fits t seeker needs) (λ file. same_fits t seeker needs)
-  served_fits nowhere needs = same_fits t seeker needs
+      (λ act. Fits t needs (changed t call.now act)) (λ folder. same_fits t needs) (λ file. same_fits t needs)
+  served_fits nowhere needs = same_fits t needs
 
   stored_fits : (by : By) (name : List ℕ) (size : ℕ) (place : Found) (needs : List Need)
-      → Fits t seeker needs (changed t call.now (stored by name size (Some place)))
-  stored_fits by name size (Missing depth) needs = same_fits t seeker needs
-  stored_fits by name size place needs = same_fits t seeker needs
+      → Fits t needs (changed t call.now (stored by name size (Some place)))
+  stored_fits by name size (Missing depth) needs = same_fits t needs
+  stored_fits by name size place needs = same_fits t needs
 
   made_fits : (spot : Spot) (place : Found) → found call spot ≡ place
-      → Fits t seeker (needs_in t.nodes (unmounted place)) (changed t call.now (made_folder t call.now (last_name spot) (Some place)))
+      → Fits t (needs_in t.nodes root (unmounted place)) (changed t call.now (made_folder t call.now (last_name spot) (Some place)))
   made_fits spot (Free folder) leads =
       let name = last_name spot in
       let made = changed t call.now (made_folder t call.now name (Some (Free folder))) in
       let need = need_of act.Create folder in
       let free = free_known t.nodes 0 (root_of call) spot.path folder (led_from_root call spot (Free folder) sound leads) in
-      one_fits t made seeker need (owns_at (Free folder) folder (path_known call spot (Free folder) row sound is leads) refl)
-      (added_follow t made call.now folder name Folder [] (need ∷ [])
-      (added_rows t call.now folder name Folder [] None sound free.0 free.1 (omega arith)) (first_needed need []))
-  made_fits spot nowhere leads = same_fits t seeker (needs_in t.nodes (unmounted nowhere))
+      added_follow t made call.now folder name Folder [] (need ∷ [])
+      (added_rows t call.now folder name Folder [] None sound free.0 free.1 (omega arith)) (first_needed need [])
+  made_fits spot nowhere leads = same_fits t (needs_in t.nodes root (unmounted nowhere))
 
   deleted_fits : (spot : Spot) (place : Found) → found call spot ≡ place
-      → Fits t seeker (needs_at act.Delete (unmounted place) ++ []) (changed t call.now (deleted (node_found place)))
+      → Fits t (needs_at act.Delete (unmounted place) ++ []) (changed t call.now (deleted (node_found place)))
   deleted_fits spot (At top) leads =
       let need = need_of act.Delete top in
-      stamped_has (Fits t seeker (need ∷ [])) t (removed t top) call.now (told t (allowed.Delete top)) (same_fits t seeker (need ∷ []))
+      stamped_has (Fits t (need ∷ [])) t (removed t top) call.now (told t (allowed.Delete top)) (same_fits t (need ∷ []))
       (one_fits t (removed t top) seeker need (owns_at (At top) top (path_known call spot (At top) row sound is leads) refl)
       (deleted_follow t top (need ∷ []) (first_needed need [])))
-  deleted_fits spot nowhere leads = same_fits t seeker []
+  deleted_fits spot nowhere leads = same_fits t []
 
   moves_fit : (source target : Spot) (overwrite : Bool) → unfit_between t.nodes (places source target) ≡ None
       → option_and_then (move_limit t) (transfer_of t.nodes (places source target)) ≡ None
-      → Fits t seeker (needed_for (Move source target overwrite))
+      → Fits t (needed_for (Move source target overwrite))
       (changed t call.now (moved (last_name target) (transfer_of t.nodes (places source target))))
   moves_fit source target overwrite fits some =
       here (transfer_of t.nodes (places source target)) refl (moved_known call source target row sound is fits some)
     where
       here : (o : Option Transfer) → transfer_of t.nodes (places source target) ≡ o → Known t call.now who (moved (last_name target) o)
-          → Fits t seeker (needed_for (Move source target overwrite)) (changed t call.now (moved (last_name target) o))
-      here None e known = same_fits t seeker (needed_for (Move source target overwrite))
+          → Fits t (needed_for (Move source target overwrite)) (changed t call.now (moved (last_name target) o))
+      here None e known = same_fits t (needed_for (Move source target overwrite))
       here (Some transfer) e known =
           let from = found call source in
           let to = found call target in
           let it = between t.nodes from to transfer e in
-          let b = is_within t.nodes (Some (unmounted from)) (Some (unmounted to)) in
-          subst (λ (needs : List Need). Fits t seeker needs (changed t call.now (allowed.Move transfer (last_name target))))
+          let b = is_within t.nodes root (Some (unmounted from)) (Some (unmounted to)) in
+          subst (λ (needs : List Need). Fits t needs (changed t call.now (allowed.Move transfer (last_name target))))
           (sym (move_needs t.nodes source target overwrite from to transfer b it refl))
           (moved_fits transfer (last_name target) known b (within_folder t from to transfer sound known.outside it))
 
   copies_fit : (source target : Spot) (overwrite : Bool) → unfit_between t.nodes (places source target) ≡ None
       → option_and_then (copy_limit t) (transfer_of t.nodes (places source target)) ≡ None
-      → Fits t seeker (needed_for (Copy source target overwrite))
+      → Fits t (needed_for (Copy source target overwrite))
       (changed t call.now (copied t call.now (last_name target) (transfer_of t.nodes (places source target))))
   copies_fit source target overwrite fits some = here (transfer_of t.nodes (places source target)) refl some
     where
       here : (o : Option Transfer) → transfer_of t.nodes (places source target) ≡ o → option_and_then (copy_limit t) o ≡ None
-          → Fits t seeker (needed_for (Copy source target overwrite)) (changed t call.now (copied t call.now (last_name target) o))
-      here None e some = same_fits t seeker (needed_for (Copy source target overwrite))
+          → Fits t (needed_for (Copy source target overwrite)) (changed t call.now (copied t call.now (last_name target) o))
+      here None e some = same_fits t (needed_for (Copy source target overwrite))
       here (Some transfer) e some =
           let it = between t.nodes (found call source) (found call target) transfer e in
-          subst (λ (needs : List Need). Fits t seeker needs (changed t call.now (copied t call.now (last_name target) (Some transfer))))
+          subst (λ (needs : List Need). Fits t needs (changed t call.now (copied t call.now (last_name target) (Some transfer))))
           (sym (copy_needs t.nodes source target overwrite (found call source) (found call target) transfer it))
           (copied_fits source target transfer e fits some)
 
   begin_fits : (wanted : Wanted) → unfit t.nodes (asked_of wanted) (places_at call wanted) ≡ None
       → limited t (places_at call wanted) (asked_of wanted).makes ≡ None
-      → Fits t seeker (needed_for wanted) (changed t call.now (given (access_of call.state) call (places_at call wanted) wanted))
+      → Fits t (needed_for wanted) (changed t call.now (given (access_of call.state) call (places_at call wanted) wanted))
   begin_fits (Get spot) fits some = served_fits (found call spot) (needed_for (Get spot))
   begin_fits (Put spot size) fits some = stored_fits (by_of call spot) (last_name spot) size (found call spot) (needed_for (Put spot size))
   begin_fits (Mkcol spot) fits some = made_fits spot (found call spot) refl

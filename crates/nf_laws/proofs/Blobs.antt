@@ -203,7 +203,7 @@ unless_stores t body (Some refusal) act stores = tt
 goal_stores : (access : Access) (t : Tables) (now : ℕ) (outcome : Outcome) (goal : Goal) (body : List ℕ) → Brings body (End outcome)
     → Decides t body (ends_goal access t now outcome goal)
 goal_stores access t now (Body digest size) (Store by key wanted) body brings =
-    unless_stores t body (end_refusal t key size) (stored_at t now key digest size) (rw (brings.0, brings.1) (key_stores t now key body))
+    unless_stores t body (end_refusal access t now by key size) (stored_at t now key digest size) (rw (brings.0, brings.1) (key_stores t now key body))
 goal_stores access t now (Body digest size) goal body brings = tt
 goal_stores access t now outcome goal body brings = tt
 

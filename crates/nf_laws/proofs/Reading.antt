@@ -174,10 +174,10 @@ entry_file : (n : ℕ) (s : State) (e : Entry) (root : ℕ) (path : List (List �
 entry_file n s e root path content is =
     let t = s.tables in
     let act = stored_at t e.moment is.key is.digest is.size in
-    let goes : decision_of s e.seat e.moment e.event ≡ stores t e.moment is.key is.digest is.size =
+    let goes : decision_of s e.seat e.moment e.event ≡ stores (access_of s) t e.moment is.by is.key is.digest is.size =
     ap (decision_of s e.seat e.moment) is.brought ∙ ap (ends_at (access_of s) t e.moment (Body is.digest is.size)) is.granted in
-    let none : stores t e.moment is.key is.digest is.size ≡ Ok act =
-    none_refused (end_refusal t is.key is.size) act (subst (λ (d : Result Allowed Denial). IsOk (answered_by d)) goes is.accepted) in
+    let none : stores (access_of s) t e.moment is.by is.key is.digest is.size ≡ Ok act =
+    none_refused (end_refusal (access_of s) t e.moment is.by is.key is.size) act (subst (λ (d : Result Allowed Denial). IsOk (answered_by d)) goes is.accepted) in
     let becomes : (after s e).tables ≡ changed t e.moment act =
     ap (λ (m : Mark). (after_mark s e m).tables) is.answered
     ∙ step_changed s e.seat e.moment e.event act (goes ∙ none) in
@@ -189,17 +189,31 @@ entry_file n s e root path content is =
 
 -- ---- what is read
 
--- a call of a GET that the rules of who asks and of names pass is shown what its path leads to
+-- who asks is reached by the mount of a path, if it goes by one, and may read what is at its end
+pub record IsLet (call : Call) (spot : Spot) (node : ℕ) : Type 0 where
+  pub reached : unreached (access_of call.state) call (way_of call spot) ≡ None
+  pub reads : may_by (access_of call.state) call.state.tables.nodes (seeker_of call) call.now Read node (way_of call spot).mount ≡ true
+
+-- what leads from the caller's root is the caller's, who may read it
+pub owner_let : (call : Call) (spot : Spot) (node : ℕ) → AreSound call.state.tables → Owns call.state.tables.nodes (seeker_of call) node
+    → IsLet call spot node
+owner_let call spot node sound own = record {
+  reached = ap (unreached (access_of call.state) call) (from_root call spot sound.later);
+  reads = own_may (access_of call.state) call.state.tables.nodes (seeker_of call) call.now Read node (way_of call spot).mount own;
+}
+
+-- a call of a GET that the rules of who asks, of names and of access pass is shown what its path leads to
 pub shows : (call : Call) (spot : Spot) (node : ℕ) → call.request.wanted ≡ Get spot → found call spot ≡ At node → IsWellAsked call
-    → (is_folder call.state.tables.nodes node ≡ false → IsFreeToRead call.state call.seat node) → call_decision call ≡ Ok (shown call.state.tables node)
-unfolding place_rule exists_rule target_rule overwrite_rule limit_rule
-shows call spot node wanted at asked free =
+    → IsLet call spot node → (is_folder call.state.tables.nodes node ≡ false → IsFreeToRead call.state call.seat node) → call_decision call ≡ Ok (shown call.state.tables node)
+unfolding place_rule acts_rule exists_rule target_rule overwrite_rule limit_rule
+shows call spot node wanted at asked lets free =
     let access = access_of call.state in
     let passes : Passes access call = record {
       token = asked.token;
       not_you = asked.not_you;
       forbidden = asked.forbidden;
-      place = rw (wanted, at) refl;
+      place = rw (wanted, at, lets.reached) refl;
+      acts = rw (wanted, at, lets.reads) refl;
       exists = rw wanted refl;
       target = rw wanted refl;
       overwrite = rw wanted refl;
@@ -211,11 +225,11 @@ shows call spot node wanted at asked free =
 
 -- so it is granted the content of a file
 pub granted : (call : Call) (spot : Spot) (node : ℕ) (row : NodeRow) → call.request.wanted ≡ Get spot → found call spot ≡ At node
-    → node_row call.state.tables.nodes node ≡ Some row → is_folder_kind row.kind ≡ false → IsWellAsked call
+    → node_row call.state.tables.nodes node ≡ Some row → is_folder_kind row.kind ≡ false → IsWellAsked call → IsLet call spot node
     → IsFreeToRead call.state call.seat node → answered_by (call_decision call) ≡ Ok (Granted (Serve row.content))
-granted call spot node row wanted at there file asked free =
+granted call spot node row wanted at there file asked lets free =
     let folder : is_folder call.state.tables.nodes node ≡ false = rw there file in
-    ap answered_by (shows call spot node wanted at asked (λ no_folder. free)) ∙ rw (folder, there) refl
+    ap answered_by (shows call spot node wanted at asked lets (λ no_folder. free)) ∙ rw (folder, there) refl
 
 pub stored_is_read : StoredIsRead
 stored_is_read n s e es root path content seat now words request is legal same reads =

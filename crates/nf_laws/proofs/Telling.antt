@@ -355,7 +355,7 @@ stored_nodes t now (Slot folder name) digest size = tt
 
 goal_nodes : (access : Access) (t : Tables) (now : ℕ) (outcome : Outcome) (goal : Goal) → DecidesNodes (ends_goal access t now outcome goal)
 goal_nodes access t now (Body digest size) (Store by key wanted) =
-    unless_nodes (end_refusal t key size) (stored_at t now key digest size) (stored_nodes t now key digest size)
+    unless_nodes (end_refusal access t now by key size) (stored_at t now key digest size) (stored_nodes t now key digest size)
 goal_nodes access t now outcome goal = tt
 
 at_nodes : (access : Access) (t : Tables) (now : ℕ) (outcome : Outcome) (goal : Option Goal) → DecidesNodes (ends_at access t now outcome goal)

@@ -14,7 +14,7 @@ use Rattle.nf_words.proofs.Bodies.{body_known}
 use Rattle.nf_words.proofs.Fits.{KnownOwn, Within, new_known, over_known, within}
 use Rattle.nf_words.proofs.Found.{found_has}
 use Rattle.nf_words.proofs.Known.{Known}
-use Rattle.nf_words.proofs.Passing.{no_limit, not_refused}
+use Rattle.nf_words.proofs.Passing.{end_passes, not_refused}
 use Rattle.nf_words.specs.Prelude.{access_of, actor_of, AreSound, blob_for, call_of, content_in, decision_of, end_refusal, ends_at, ends_goal, goal_at, HoldsFor, IsGoalSound, IsHeld, IsSound, IsStorable, IsTicketSound, limit_at, MayAsk, MayBring, MayEnd, MayStoreAt, node_of_key, pieces_of, place_of, refilled, State, stored_at, storer_of, ticket_of, user_in}
 use Rattle.nf_words.specs.Sound.{MayStoreBy}
 use Rattle.nf_words.specs.declared.answer.Allowed.{Allowed}
@@ -75,10 +75,10 @@ goal_known : (access : Access) (t : Tables) (now : ℕ) (goal : Goal) (outcome :
     → IsGoalSound t goal → IsStorable t goal → MayBring goal outcome → ends_goal access t now outcome goal ≡ Ok act → Known t now (storer_of goal) act
 goal_known access t now (Serve content) (Body digest size) act sound goal held may is = absurd may
 goal_known access t now (Store by key wanted) (Body digest size) act sound goal held may is =
-    let h = not_refused (end_refusal t key size) (stored_at t now key digest size) act is in
+    let h = not_refused (end_refusal access t now by key size) (stored_at t now key digest size) act is in
     let short : size ≤ MAX_BODY = omega (arith, may, goal.0) in
     subst (λ (a : Allowed). Known t now (user_in by.seeker) a) h.1
-    (key_known t now by key digest size sound short goal.1 held (no_limit _ h.0))
+    (key_known t now by key digest size sound short goal.1 held (end_passes access t now by key size h.0).limit)
 goal_known access t now goal without act sound of held may is = closes t now (storer_of goal) act is
 
 end_known : (access : Access) (t : Tables) (now : ℕ) (goal : Option Goal) (outcome : Outcome) (act : Allowed) → AreSound t

@@ -17,7 +17,8 @@ use Rattle.nf_words.specs.declared.request.Spot.{Spot}
 use Rattle.nf_defs.specs.Prelude.{Access, Tables}
 use Rattle.nf_defs.specs.declared.Found.{Found}
 use Rattle.nf_defs.specs.declared.Found.TheVariants.{At, Missing}
-use Rattle.nf_words.specs.Prelude.{access_of, acts_rule, allowed_of, answer_at, answer_to, answered_by, asked_by, broken_by, Call, call_of, decision_of, earlier_rules, end_refusal, ends_at, ends_goal, exists_rule, first_that_holds, forbidden_rule, goal_at, has_forbidden, is_caller, is_kept, is_refused, is_transfer, key_in_way, later_rules, limit_at, limit_rule, limited, locked_rule, Need, need_broken, needed, not_you_rule, overwrite_rule, Pass, pieces_of, place_of, paths_of, place_rule, places_of, refusal_of, Rule, seeker_of, source_lost, source_refused, State, stored_at, taken, target_lost, target_refused, target_rule, told_broken, token_rule, touches, unfit, unless_refused, unreached, unreached_by, user_of, users_of, Way, way_of}
+use Rattle.nf_words.specs.Prelude.{access_of, acts_rule, allowed_of, answer_at, answer_to, answered_by, asked_by, broken_by, Call, call_of, decision_of, earlier_rules, end_lost, end_refusal, end_unallowed, end_unreached, ends_at, ends_goal, exists_rule, first_that_holds, forbidden_rule, goal_at, has_forbidden, is_caller, is_kept, is_owner, is_refused, is_transfer, key_in_way, later_rules, limit_at, limit_rule, limited, locked_rule, Need, need_broken, needed, needed_by, node_of_key, not_you_rule, overwrite_rule, Pass, pieces_of, place_of, paths_of, place_rule, places_of, refusal_of, Rule, seeker_of, source_lost, source_refused, State, stored_at, taken, target_lost, target_refused, target_rule, told_broken, token_rule, touches, unfit, unless_refused, unreached, unreached_by, user_of, users_of, Way, way_of}
+use Rattle.nf_words.specs.Endings.{is_mount_in}
 use Rattle.nf_words.specs.declared.answer.Allowed.{Allowed}
 use Rattle.nf_words.specs.declared.answer.Denial.{Denial}
 use Rattle.nf_words.specs.declared.answer.Denial.TheVariants as denial
@@ -25,6 +26,7 @@ use Rattle.nf_words.specs.declared.answer.Goal.{Goal}
 use Rattle.nf_words.specs.declared.answer.Goal.TheVariants.{Store}
 use Rattle.nf_words.specs.declared.answer.Limit.{Limit}
 use Rattle.nf_words.specs.declared.answer.LockKey.{LockKey}
+use Rattle.nf_words.specs.declared.answer.LockKey.TheVariants.{Node, Slot}
 use Rattle.nf_words.specs.declared.answer.TargetFault.{TargetFault}
 use Rattle.nf_words.specs.declared.history.Entry.{Entry}
 use Rattle.nf_words.specs.declared.history.Event.{Event}
@@ -141,14 +143,14 @@ broken_fine t seeker now act mount = here (first_received t.members t.shares see
     here None = refl
     here (Some share) = told_fine (broken_in (ground_of t) now act None (chain_of t.shares share.id))
 
+unreached_fine : (access : Access) (t : Tables) (seeker : Seeker) (now : ℕ) (mount : Option ℕ)
+    → IsEarly (option_and_then (unreached_by access t seeker now) mount)
+unreached_fine access t seeker now None = tt
+unreached_fine access t seeker now (Some mount) =
+    unless_test (list_any (is_open now) (access seeker mount)) (broken_by t seeker now None mount) (broken_fine t seeker now None mount)
+
 reach_fine : (access : Access) (call : Call) (way : Way) → IsEarly (unreached access call way)
-reach_fine access call way = here way.mount
-  where
-    here : (mount : Option ℕ) → IsEarly (option_and_then (unreached_by access call.state.tables (seeker_of call) call.now) mount)
-    here None = tt
-    here (Some mount) =
-        unless_test (list_any (is_open call.now) (access (seeker_of call) mount)) (broken_by call.state.tables (seeker_of call) call.now None mount)
-        (broken_fine call.state.tables (seeker_of call) call.now None mount)
+reach_fine access call way = unreached_fine access call.state.tables (seeker_of call) call.now way.mount
 
 place_fine : (access : Access) (call : Call) → IsEarly (place_rule access call)
 unfolding place_rule
@@ -179,23 +181,18 @@ place_fine access call =
         let way = way_of call spot in
         either (unreached access call way) (target_lost way.place) (reach_fine access call way) (target_fine (Some way.place))
 
+needs_fine : (t : Tables) (seeker : Seeker) (now : ℕ) (o : Option Need) → IsEarly (option_map (need_broken t seeker now) o)
+needs_fine t seeker now None = tt
+needs_fine t seeker now (Some need) = by_mount need.act need.mount
+  where
+    by_mount : (act : Act) (mount : Option ℕ) → is_later (option_map_or (broken_by t seeker now (Some act)) mount denial.NoShare) ≡ false
+    by_mount act None = refl
+    by_mount act (Some mount) = broken_fine t seeker now (Some act) mount
+
 acts_fine : (access : Access) (call : Call) → IsEarly (acts_rule access call)
 unfolding acts_rule
-acts_fine access call = here (find (is_refused access t seeker call.now) (needed call))
-  where
-    t : Tables
-    t = call.state.tables
-
-    seeker : Seeker
-    seeker = seeker_of call
-
-    by_mount : (act : Act) (mount : Option ℕ) → is_later (option_map_or (broken_by t seeker call.now (Some act)) mount denial.NoShare) ≡ false
-    by_mount act None = refl
-    by_mount act (Some mount) = broken_fine t seeker call.now (Some act) mount
-
-    here : (o : Option Need) → IsEarly (option_map (need_broken t seeker call.now) o)
-    here None = tt
-    here (Some need) = by_mount need.act need.mount
+acts_fine access call =
+    needs_fine call.state.tables (seeker_of call) call.now (find (is_refused access call.state.tables (seeker_of call) call.now) (needed call))
 
 exists_fine : (access : Access) (call : Call) → IsEarly (exists_rule access call)
 unfolding exists_rule
@@ -252,9 +249,31 @@ unless_fine : (o : Option Denial) (act : Allowed) → IsRefusal o → IsDecided 
 unless_fine None act fine = tt
 unless_fine (Some refusal) act fine = fine
 
+early_refusal : (o : Option Denial) → IsEarly o → IsRefusal o
+early_refusal None fine = tt
+early_refusal (Some refusal) fine = later_failure refusal fine
+
+either_first : (a b : Option Denial) → IsEarly a → IsRefusal b → IsRefusal (option_or a b)
+either_first None b fine more = more
+either_first (Some refusal) b fine more = early_refusal (Some refusal) fine
+
 goal_fine : (access : Access) (t : Tables) (now : ℕ) (outcome : Outcome) (goal : Goal) → IsDecided (ends_goal access t now outcome goal)
 goal_fine access t now (Body digest size) (Store by key wanted) =
-    unless_fine (end_refusal t key size) (stored_at t now key digest size) (limits (limit_at t (pieces_of size) (place_of key)))
+    unless_fine (end_refusal access t now by key size) (stored_at t now key digest size)
+    (either_first (end_unreached access t now by (node_of_key key)) _ (reached (is_owner t.nodes by.seeker (node_of_key key)))
+    (either_first (end_unallowed access t now by key) _ (needs_fine t by.seeker now (find (is_refused access t by.seeker now) (needed_by by key)))
+    (either_first (end_lost t key) _ (lost_fine key) (limits (limit_at t (pieces_of size) (place_of key))))))
+  where
+    of_mount : (mount : Option ℕ) → IsEarly (option_and_then (unreached_by access t by.seeker now) mount)
+    of_mount mount = unreached_fine access t by.seeker now mount
+
+    reached : (b : Bool) → IsEarly (if b then None else option_and_then (unreached_by access t by.seeker now) by.mount)
+    reached true = tt
+    reached false = of_mount by.mount
+
+    lost_fine : (key : LockKey) → IsEarly (end_lost t key)
+    lost_fine (Node node) = tt
+    lost_fine (Slot folder name) = if_test (list_any (is_mount_in t folder name) t.users) denial.NotFound refl
 goal_fine access t now outcome goal = tt
 
 at_fine : (access : Access) (t : Tables) (now : ℕ) (outcome : Outcome) (goal : Option Goal) → IsDecided (ends_at access t now outcome goal)

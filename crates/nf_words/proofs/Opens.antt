@@ -133,7 +133,7 @@ pub bodies_open : (s : State) (seat now : ℕ) (digest : List ℕ) (length : ℕ
     → answer_to s seat now (End (Body digest length)) ≢ Ok Closed
 bodies_open s seat now digest length by key wanted has =
     subst (λ (goal : Option Goal). answered_by (ends_at (access_of s) s.tables now (Body digest length) goal) ≢ Ok Closed) (sym has)
-    (open_answer (end_refusal s.tables key length) (stored_at s.tables now key digest length) (λ none. open_stored s.tables now key digest length))
+    (open_answer (end_refusal (access_of s) s.tables now by key length) (stored_at s.tables now key digest length) (λ none. open_stored s.tables now key digest length))
 
 -- ---- what grants nothing
 

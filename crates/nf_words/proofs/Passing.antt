@@ -1,10 +1,14 @@
 -- What a call that no rule refuses passes, by the names of the rules.
-use Rattle.std.proofs.Common.{◌≡◌, Bool, true, false, List, [], ◌∷◌, Ok, refl, ap, ◌∙◌}
-use Rattle.std.specs.Prelude.{None, Option, Some, option_map, option_and_then, if◌then◌else◌}
+use Rattle.std.proofs.Common.{◌≡◌, ℕ, Bool, true, false, not, List, [], ◌∷◌, Ok, refl, ap, ◌∙◌}
+use Rattle.std.specs.Prelude.{None, Option, Some, find, option_map, option_and_then, if◌then◌else◌}
+use Rattle.std.specs.List.{All}
 use Rattle.std.specs.Option.{option_or}
-use Rattle.nf_defs.specs.Access.{Access}
-use Rattle.nf_words.specs.Prelude.{access_of, acts_rule, allowed_of, asked_by, Call, call_decision, exists_rule, first_that_holds, forbidden_rule, found, limit_rule, locked_rule, lost, not_you_rule, overwrite_rule, Pass, place_rule, places_of, refusal_of, Rule, rules, source_lost, source_refused, target_lost, target_refused, target_rule, token_rule, unless_refused, way_of}
+use Rattle.std.proofs.lemmas.List.Elements.{All-cons, All-nil}
+use Rattle.nf_defs.specs.Prelude.{Access, Tables}
+use Rattle.nf_defs.specs.declared.Seeker.{Seeker}
+use Rattle.nf_words.specs.Prelude.{access_of, acts_rule, allowed_of, asked_by, Call, call_decision, end_lost, end_refusal, end_unallowed, end_unreached, exists_rule, first_that_holds, forbidden_rule, found, is_refused, limit_at, limit_rule, locked_rule, lost, may_by, Need, need_broken, needed, node_of_key, not_you_rule, overwrite_rule, Pass, pieces_of, place_of, place_rule, places_of, refusal_of, Rule, rules, seeker_of, source_lost, source_refused, target_lost, target_refused, target_rule, token_rule, unless_refused, way_of}
 use Rattle.nf_words.specs.declared.answer.Allowed.{Allowed}
+use Rattle.nf_words.specs.declared.answer.By.{By}
 use Rattle.nf_words.specs.declared.answer.Denial.{Denial}
 use Rattle.nf_words.specs.declared.answer.Denial.TheVariants as denial
 use Rattle.nf_words.specs.declared.answer.Limit.{Limit}
@@ -80,6 +84,32 @@ place_passes access call none = here (asked_by call).source (asked_by call).targ
         ap (λ (o : Option Denial). option_or o (option_and_then target_lost (option_map (found call) target))) (source_is source both.0)
         ∙ target_is target both.1
 
+none_found : {X : Type 0} (test : X → Bool) (xs : List X) → find (λ x. not (test x)) xs ≡ None → All (λ x. test x ≡ true) xs
+none_found test [] none = All-nil (λ x. test x ≡ true)
+none_found {X = X} test (x ∷ xs) none = here (test x) refl none (λ none. none_found test xs none)
+  where
+    here : (b : Bool) → test x ≡ b → (if not b then Some x else find (λ x. not (test x)) xs) ≡ None
+        → (find (λ x. not (test x)) xs ≡ None → All (λ x. test x ≡ true) xs) → All (λ x. test x ≡ true) (x ∷ xs)
+    here true is none rest = All-cons (λ x. test x ≡ true) x xs is (rest none)
+    here false is none rest = absurd (cc)
+
+-- what is needed may be done, where no act of it is refused
+pub needs_pass : (access : Access) (t : Tables) (seeker : Seeker) (now : ℕ) (needs : List Need)
+    → option_map (need_broken t seeker now) (find (is_refused access t seeker now) needs) ≡ None
+    → All (λ (need : Need). may_by access t.nodes seeker now need.act need.node need.mount ≡ true) needs
+needs_pass access t seeker now needs none =
+    none_found (λ (need : Need). may_by access t.nodes seeker now need.act need.node need.mount) needs
+    (map_none (find (is_refused access t seeker now) needs) none)
+  where
+    map_none : (o : Option Need) → option_map (need_broken t seeker now) o ≡ None → o ≡ None
+    map_none None none = refl
+    map_none (Some need) none = absurd (cc)
+
+pub acts_pass : (access : Access) (call : Call) → acts_rule access call ≡ None
+    → All (λ (need : Need). may_by access call.state.tables.nodes (seeker_of call) call.now need.act need.node need.mount ≡ true) (needed call)
+unfolding acts_rule
+acts_pass access call none = needs_pass access call.state.tables (seeker_of call) call.now (needed call) none
+
 -- what isn't refused passes every rule
 pub unrefused : (access : Access) (call : Call) → refusal_of access call ≡ None → Passes access call
 unrefused access call none = named access call (each_passes rules access call none)
@@ -112,3 +142,20 @@ no_limit (Some passed) none = absurd (cc)
 pub if_none : (b : Bool) (refusal : Denial) → (if b then None else Some refusal) ≡ None → b ≡ true
 if_none true refusal none = refl
 if_none false refusal none = absurd (cc)
+
+-- ---- of an End
+
+-- what passes all rules of the End of a PUT
+pub record EndPasses (access : Access) (t : Tables) (now : ℕ) (by : By) (key : LockKey) (size : ℕ) : Type 0 where
+  pub reached : end_unreached access t now by (node_of_key key) ≡ None
+  pub allowed : end_unallowed access t now by key ≡ None
+  pub there : end_lost t key ≡ None
+  pub limit : limit_at t (pieces_of size) (place_of key) ≡ None
+
+pub end_passes : (access : Access) (t : Tables) (now : ℕ) (by : By) (key : LockKey) (size : ℕ) → end_refusal access t now by key size ≡ None
+    → EndPasses access t now by key size
+end_passes access t now by key size none =
+    let reached = both_none (end_unreached access t now by (node_of_key key)) _ none in
+    let allowed = both_none (end_unallowed access t now by key) _ reached.1 in
+    let there = both_none (end_lost t key) _ allowed.1 in
+    record { reached = reached.0; allowed = allowed.0; there = there.0; limit = no_limit _ there.1 }

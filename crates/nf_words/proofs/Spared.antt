@@ -377,7 +377,7 @@ closed_spares t now who act is hold = let e : allowed.Close ≡ act = cc in subs
 goal_spares : (access : Access) (t : Tables) (now : ℕ) (who : Option ℕ) (goal : Goal) (own : Option Hold) (outcome : Outcome) (act : Allowed) (hold : Hold)
     → AreSound t → HoldsFor goal own → AreApartHolds own (Some hold) → ends_goal access t now outcome goal ≡ Ok act → Spares t now who hold act
 goal_spares access t now who (Store by key wanted) own (Body digest size) act hold sound holds other is =
-    let h = not_refused (end_refusal t key size) (stored_at t now key digest size) act is in
+    let h = not_refused (end_refusal access t now by key size) (stored_at t now key digest size) act is in
     subst (λ (a : Allowed). Spares t now who hold a) h.1
     (key_spares t now who hold key digest size sound
     (other_key key hold (subst (λ (o : Option Hold). AreApartHolds o (Some hold)) holds other)))

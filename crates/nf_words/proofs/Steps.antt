@@ -104,7 +104,7 @@ stores_nothing None t now (Node node) digest length = refl
 stores_nothing None t now (Slot folder name) digest length = refl
 
 goal_nothing : (access : Access) (t : Tables) (now : ℕ) (outcome : Outcome) (goal : Goal) → GrantsNothing (ends_goal access t now outcome goal)
-goal_nothing access t now (Body digest length) (Store by key wanted) = stores_nothing (end_refusal t key length) t now key digest length
+goal_nothing access t now (Body digest length) (Store by key wanted) = stores_nothing (end_refusal access t now by key length) t now key digest length
 goal_nothing access t now outcome goal = refl
 
 at_nothing : (access : Access) (t : Tables) (now : ℕ) (outcome : Outcome) (goal : Option Goal) → GrantsNothing (ends_at access t now outcome goal)

@@ -1,15 +1,23 @@
 -- The End of a request in two steps. One with a body is decided by the tables of its own moment, not by those of its Begin.
-use Rattle.std.specs.Prelude.{ℕ, ◌==◌, List, [], ◌∷◌, Option, None, Some, option_map, Result, Ok, Err, if◌then◌else◌}
+use Rattle.std.specs.Prelude.{ℕ, ◌==◌, ◌&&◌, Bool, find, is_some, List, [], ◌∷◌, Option, None, Some, option_map, option_and_then, Result, Ok, Err, if◌then◌else◌}
+use Rattle.std.specs.List.{list_any}
+use Rattle.std.specs.Option.{option_or}
+use Rattle.nf_access.specs.Mounts.{mount_at}
 use Rattle.nf_base.specs.declared.content.Piece.{Piece}
 use Rattle.nf_base.specs.declared.rows.NodeKind.TheVariants.{File}
+use Rattle.nf_base.specs.declared.rows.UserRow.{UserRow}
 use Rattle.nf_defs.specs.Prelude.{Access, node_row, Tables}
 use Rattle.nf_defs.specs.declared.Found.{Found}
 use Rattle.nf_defs.specs.declared.Found.TheVariants.{At, Free}
 use Rattle.nf_words.specs.Changes.{makes, new_node, refilled}
+use Rattle.nf_words.specs.Holds.{node_of_key}
 use Rattle.nf_words.specs.Limits.{limit_at, pieces_of}
+use Rattle.nf_words.specs.Needed.{is_owner, needed_by}
+use Rattle.nf_words.specs.Reached.{is_refused, need_broken, unreached_by}
 use Rattle.nf_words.specs.State.{State, goal_at}
 use Rattle.nf_words.specs.declared.answer.Allowed.{Allowed}
 use Rattle.nf_words.specs.declared.answer.Allowed.TheVariants as allowed
+use Rattle.nf_words.specs.declared.answer.By.{By}
 use Rattle.nf_words.specs.declared.answer.Denial.{Denial}
 use Rattle.nf_words.specs.declared.answer.Denial.TheVariants as denial
 use Rattle.nf_words.specs.declared.answer.Goal.{Goal}
@@ -29,9 +37,31 @@ abbrev pub place_of : LockKey → Found
 place_of (Node node) = At node
 place_of (Slot folder name) = Free folder
 
--- the rule that refuses the End of a PUT: `limit`. What is held is still there
-abbrev pub end_refusal : Tables → LockKey → ℕ → Option Denial
-end_refusal t key length = option_map denial.Limit (limit_at t (pieces_of length) (place_of key))
+-- `no-share` and `broken-link`: the mount that it was granted by reaches who stores, unless that is the owner
+abbrev pub end_unreached : Access → Tables → ℕ → By → ℕ → Option Denial
+end_unreached access t now by node =
+    if is_owner t.nodes by.seeker node then None else option_and_then (unreached_by access t by.seeker now) by.mount
+
+-- and it may still be done
+abbrev pub end_unallowed : Access → Tables → ℕ → By → LockKey → Option Denial
+end_unallowed access t now by key =
+    option_map (need_broken t by.seeker now) (find (is_refused access t by.seeker now) (needed_by by key))
+
+-- the folder is the root of that user, who has a mount of that name
+abbrev pub is_mount_in : Tables → ℕ → List ℕ → UserRow → Bool
+is_mount_in t folder name user = user.root == folder && is_some (mount_at t.mounts user.id name)
+
+-- `not-found`: a mount took the name in a root meanwhile. Else what is held is still there
+abbrev pub end_lost : Tables → LockKey → Option Denial
+end_lost t (Node node) = None
+end_lost t (Slot folder name) = if list_any (is_mount_in t folder name) t.users then Some denial.NotFound else None
+
+-- the rules that refuse the End of a PUT, in their order; `limit` is the last
+abbrev pub end_refusal : Access → Tables → ℕ → By → LockKey → ℕ → Option Denial
+end_refusal access t now by key length =
+    option_or (end_unreached access t now by (node_of_key key))
+    (option_or (end_unallowed access t now by key)
+    (option_or (end_lost t key) (option_map denial.Limit (limit_at t (pieces_of length) (place_of key)))))
 
 -- the blob of a body: the next one, or none for an empty body
 abbrev pub blob_for : ℕ → ℕ → Option ℕ
@@ -50,15 +80,15 @@ stored_at t now (Node node) digest length =
 stored_at t now (Slot folder name) digest length =
     let blob = blob_for t.meta.next_blob length in makes (new_node t now folder name File (content_in blob digest length)) blob
 
-abbrev pub stores : Tables → ℕ → LockKey → List ℕ → ℕ → Result Allowed Denial
-stores t now key digest length = unless_refused (end_refusal t key length) (stored_at t now key digest length)
+abbrev pub stores : Access → Tables → ℕ → By → LockKey → List ℕ → ℕ → Result Allowed Denial
+stores access t now by key digest length = unless_refused (end_refusal access t now by key length) (stored_at t now key digest length)
 
--- what an End may do, by the goal of its seat's ticket and by what shares let their seekers do. It doesn't read the shares yet
+-- what an End may do, by the goal of its seat's ticket and by what shares let their seekers do
 abbrev pub ends_goal : Access → Tables → ℕ → Outcome → Goal → Result Allowed Denial
 ends_goal access t now Sent goal = Ok allowed.Close
 ends_goal access t now Gone goal = Ok allowed.Close
 ends_goal access t now (Body digest length) (Serve content) = Ok allowed.Close
-ends_goal access t now (Body digest length) (Store by key wanted) = stores t now key digest length
+ends_goal access t now (Body digest length) (Store by key wanted) = stores access t now by key digest length
 
 -- of a seat that has none, nothing
 abbrev pub ends_at : Access → Tables → ℕ → Outcome → Option Goal → Result Allowed Denial
