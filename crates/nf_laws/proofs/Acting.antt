@@ -225,12 +225,11 @@ grants_at call spot size sound asked passes =
         → (key : LockKey) × LeadsToKey t.nodes (root_of call) spot.path key × (allowed_of (access_of call.state) call ≡ allowed.Put (alone (asker_of call)) key size)
     here (At node) e there =
         (Node node, found_leads t (root_of call) spot.path node sound (led_from_root call spot (At node) sound e), puts (Node node) (At node) e refl)
-    here (Free folder) e there =
-        (
-          Slot folder (last_name spot),
-          free_key t (root_of call) folder spot (found_free t (root_of call) spot.path folder sound (led_from_root call spot (Free folder) sound e)),
-          puts (Slot folder (last_name spot)) (Free folder) e refl,
-        )
+    here (Free folder) e there = (
+      Slot folder (last_name spot),
+      free_key t (root_of call) folder spot (found_free t (root_of call) spot.path folder sound (led_from_root call spot (Free folder) sound e)),
+      puts (Slot folder (last_name spot)) (Free folder) e refl,
+    )
     here (Missing depth) e there = absurd (cc)
 
 pub puts_granted : PutsAreGranted

@@ -3,8 +3,8 @@ use Rattle.std.proofs.Common.{ℕ, ◌==◌, ◌≡◌, ◌≢◌, Bool, true, f
 use Rattle.std.specs.List.{All}
 use Rattle.std.specs.Option.{IfSome, option_and_then, option_map_or, option_or}
 use Rattle.std.proofs.lemmas.Bool.{both_ways, cond_both, eqb-true}
-use Rattle.std.proofs.lemmas.List.Elements.{All-cons, All-nil, All-weaker, Contains-append_right}
-use Rattle.std.proofs.lemmas.Option.{none-some, same_Some}
+use Rattle.std.proofs.lemmas.List.Elements.{Contains-append_right}
+use Rattle.std.proofs.lemmas.Option.{none-some}
 use Rattle.nf_base.specs.declared.content.Piece.{Piece}
 use Rattle.nf_base.specs.declared.perms.Act.{Act}
 use Rattle.nf_base.specs.declared.perms.Act.TheVariants as act
@@ -20,25 +20,21 @@ use Rattle.nf_defs.specs.declared.Seeker.TheVariants.{User}
 use Rattle.nf_laws.proofs.Acting.{added_rows, put_rows}
 use Rattle.nf_laws.proofs.Entries.{entry_has}
 use Rattle.nf_laws.proofs.Following.{AllFollow, added_follow, copied_follow, deleted_follow, moved_follow, refilled_follow}
-use Rattle.nf_laws.proofs.Moved.{folder_owner}
 use Rattle.nf_laws.proofs.Owning.{changes_own}
-use Rattle.nf_laws.proofs.Paths.{IsFor, path_own}
-use Rattle.nf_laws.proofs.Reaching.{own_may}
-use Rattle.nf_laws.proofs.Rows.{folder_there, inside_folder, stamped_has}
+use Rattle.nf_laws.proofs.Paths.{IsOf, path_own}
+use Rattle.nf_laws.proofs.Rows.{inside_folder, stamped_has}
 use Rattle.nf_laws.proofs.Transferred.{moved_rows}
 use Rattle.nf_laws.proofs.Upwards.{climbs_is_under}
 use Rattle.nf_laws.specs.Acts.{IsPut}
-use Rattle.nf_laws.specs.Access.{ChangesWhatMayBeChanged, Follows, IsAllowed, IsNeeded, MayDo, Owns, is_moved, is_updated, needs_of, needs_of_goal, seeker_at, seeker_of_goal}
+use Rattle.nf_laws.specs.Access.{ChangesWhatMayBeChanged, Follows, IsAllowed, IsNeeded, MayDo, is_moved, is_updated, needs_of, needs_of_goal, seeker_at, seeker_of_goal}
 use Rattle.nf_words.proofs.Begins.{places_at}
 use Rattle.nf_words.proofs.Ends.{goal_sound, known_change, goal_held}
-use Rattle.nf_words.proofs.Fits.{KnownPath}
 use Rattle.nf_words.proofs.Found.{free_known}
 use Rattle.nf_words.proofs.Known.{Known, KnownTransfer}
-use Rattle.nf_words.proofs.Passing.{call_passes, no_fault, no_limit, not_refused}
-use Rattle.nf_words.proofs.Starts.{from_root, has_row, led_from_root, path_known, row_of_caller}
+use Rattle.nf_words.proofs.Passing.{acts_pass, call_passes, end_passes, needs_pass, no_fault, no_limit, not_refused}
+use Rattle.nf_words.proofs.Starts.{from_root, has_row, led_from_root}
 use Rattle.nf_words.proofs.Transfers.{copies_known, moved_known, transfer_parts}
-use Rattle.nf_words.specs.Prelude.{access_of, actor_of, AreSound, asked_by, asked_of, blob_for, by_of, Call, call_of, caller_row, changed, content_in, copied, copies_to, copy_limit, decision_of, deleted, end_refusal, ends_at, folder_at, found, given, goal_at, is_within, IsGoalSound, IsSound, IsStorable, joined, last_name, limit_rule, limited, listing_of, made_folder, MayAsk, MayEnd, MayStoreAt, move_limit, moved, Need, needed, needed_by, needs, needs_at, needs_between, needs_in, node_found, node_of_key, removed, root_of, seeker_of, served, State, stored, stored_at, target_rule, told, transfer_of, transferred, unfit, unfit_between, user_of, Way, way_of}
-use Rattle.nf_words.specs.Sound.{MayStoreBy}
+use Rattle.nf_words.specs.Prelude.{access_of, actor_of, AreSound, asked_by, asked_of, blob_for, by_of, Call, call_of, caller_row, changed, content_in, copied, copies_to, copy_limit, decision_of, deleted, end_refusal, ends_at, folder_at, found, given, goal_at, is_within, IsGoalSound, IsSound, IsStorable, joined, last_name, limit_rule, limited, listing_of, made_folder, MayAsk, MayEnd, move_limit, moved, Need, needed, needed_by, needs, needs_at, needs_between, needs_in, node_found, removed, root_of, seeker_of, served, State, stored, stored_at, target_rule, told, transfer_of, transferred, unfit, unfit_between, user_of, Way, way_of}
 use Rattle.nf_words.specs.declared.answer.Allowed.{Allowed}
 use Rattle.nf_words.specs.declared.answer.Allowed.TheVariants as allowed
 use Rattle.nf_words.specs.declared.answer.By.{By}
@@ -157,6 +153,7 @@ module _ (call : Call) (row : UserRow) (sound : AreSound call.state.tables) (is 
     abbrev going : List Need
     going = needs act.Delete transfer.replaced None
 
+    abbrev source_own : IsOf t known.source.row.id transfer.node
     source_own = path_own t who (At transfer.node) transfer.node sound known.source refl
 
     moved_gone : (b : Bool) → IfSome transfer.replaced (IsNeeded (moved_needs b transfer) act.Delete)
@@ -254,8 +251,7 @@ module _ (call : Call) (row : UserRow) (sound : AreSound call.state.tables) (is 
   deleted_fits spot (At top) leads =
       let need = need_of act.Delete top in
       stamped_has (Fits t (need ∷ [])) t (removed t top) call.now (told t (allowed.Delete top)) (same_fits t (need ∷ []))
-      (one_fits t (removed t top) seeker need (owns_at (At top) top (path_known call spot (At top) row sound is leads) refl)
-      (deleted_follow t top (need ∷ []) (first_needed need [])))
+      (deleted_follow t top (need ∷ []) (first_needed need []))
   deleted_fits spot nowhere leads = same_fits t []
 
   moves_fit : (source target : Spot) (overwrite : Bool) → unfit_between t.nodes (places source target) ≡ None
@@ -274,8 +270,8 @@ module _ (call : Call) (row : UserRow) (sound : AreSound call.state.tables) (is 
           let it = between t.nodes from to transfer e in
           let b = is_within t.nodes root (Some (unmounted from)) (Some (unmounted to)) in
           subst (λ (needs : List Need). Fits t needs (changed t call.now (allowed.Move transfer (last_name target))))
-          (sym (move_needs t.nodes source target overwrite from to transfer b it refl))
-          (moved_fits transfer (last_name target) known b (within_folder t from to transfer sound known.outside it))
+          (sym (move_needs t.nodes root source target overwrite from to transfer b it refl))
+          (moved_fits transfer (last_name target) known b (within_folder t root from to transfer sound known.outside it))
 
   copies_fit : (source target : Spot) (overwrite : Bool) → unfit_between t.nodes (places source target) ≡ None
       → option_and_then (copy_limit t) (transfer_of t.nodes (places source target)) ≡ None
@@ -289,7 +285,7 @@ module _ (call : Call) (row : UserRow) (sound : AreSound call.state.tables) (is 
       here (Some transfer) e some =
           let it = between t.nodes (found call source) (found call target) transfer e in
           subst (λ (needs : List Need). Fits t needs (changed t call.now (copied t call.now (last_name target) (Some transfer))))
-          (sym (copy_needs t.nodes source target overwrite (found call source) (found call target) transfer it))
+          (sym (copy_needs t.nodes root source target overwrite (found call source) (found call target) transfer it))
           (copied_fits source target transfer e fits some)
 
   begin_fits : (wanted : Wanted) → unfit t.nodes (asked_of wanted) (places_at call wanted) ≡ None
@@ -304,42 +300,23 @@ module _ (call : Call) (row : UserRow) (sound : AreSound call.state.tables) (is 
 
 -- ---- an End
 
--- who was granted to store owns what is stored over
-by_owns : (t : Tables) (by : By) (node : ℕ) (row : NodeRow) → MayStoreAt t by node → node_row t.nodes node ≡ Some row
-    → Owns t.nodes by.seeker node
-by_owns t by node row may there = here by.seeker by.mount may
-  where
-    here : (seeker : Seeker) (mount : Option ℕ) → MayStoreBy t seeker mount node → Owns t.nodes seeker node
-    here (User user) None own = record { row = row; there = there; owner = ap User (sym (own.owner row there)) }
-    here other mount own = absurd own
-
-put_fits : (t made : Tables) (now : ℕ) (by : By) (key : LockKey) (content : List Piece) → MayStoreAt t by (node_of_key key)
-    → IsPut t made now key content → Fits t by.seeker (needed_by by key) made
-put_fits t made now by (Node node) content may is =
+put_fits : (t made : Tables) (now : ℕ) (by : By) (key : LockKey) (content : List Piece)
+    → IsPut t made now key content → Fits t (needed_by by key) made
+put_fits t made now by (Node node) content is =
     let need : Need = record { act = act.Update; node = node; mount = by.mount } in
-    one_fits t made by.seeker need (by_owns t by node is.row may is.there)
-    (refilled_follow t made now node content (need ∷ []) is (first_needed need []))
-put_fits t made now by (Slot folder name) content may is =
+    refilled_follow t made now node content (need ∷ []) is (first_needed need [])
+put_fits t made now by (Slot folder name) content is =
     let need : Need = record { act = act.Create; node = folder; mount = by.mount } in
-    let there = folder_there t.nodes folder is.folds in
-    one_fits t made by.seeker need (by_owns t by folder there.0 may there.1)
-    (added_follow t made now folder name File content (need ∷ []) is (first_needed need []))
+    added_follow t made now folder name File content (need ∷ []) is (first_needed need [])
 
 -- ---- the law
 
--- an owner may do what is needed
+-- what is needed may be done, and what became of a node follows from it
 allowed_so : (s : State) (now : ℕ) (acts : Option Seeker) (seeker : Seeker) (needs : List Need) (made : Tables) → acts ≡ Some seeker
-    → Fits s.tables seeker needs made → (node : ℕ) → node_row made.nodes node ≢ node_row s.tables.nodes node
+    → All (MayDo s now seeker) needs → Fits s.tables needs made → (node : ℕ) → node_row made.nodes node ≢ node_row s.tables.nodes node
     → IsAllowed s now acts needs made.nodes node
-allowed_so s now acts seeker needs made is fits node differs =
-    let it = fits node differs in
-    record {
-      seeker = seeker;
-      acts = is;
-      may = All-weaker (IsAtOwn s.tables seeker) (MayDo s now seeker)
-          (λ need own. own_may (access_of s) s.tables.nodes seeker now need.act need.node need.mount own) needs it.0;
-      follows = it.1;
-    }
+allowed_so s now acts seeker needs made is may fits node differs =
+    record { seeker = seeker; acts = is; may = may; follows = fits node differs }
 
 -- of each node whose row is another after an act
 abbrev AllAllowed : State → ℕ → Option Seeker → List Need → Tables → Type 0
@@ -355,12 +332,13 @@ end_allowed s now (Body digest size) who (Some (Serve content)) act sound of hel
 end_allowed s now (Body digest size) who (Some (Store by key wanted)) act sound of held may is known =
     let t = s.tables in
     let stores = stored_at t now key digest size in
-    let h = not_refused (end_refusal t key size) stores act is in
+    let h = not_refused (end_refusal (access_of s) t now by key size) stores act is in
+    let passes = end_passes (access_of s) t now by key size h.0 in
     let content = content_in (blob_for t.meta.next_blob size) digest size in
     let put = put_rows t now who key digest size sound held (subst (λ (a : Allowed). Known t now who a) (sym h.1) known) in
     allowed_so s now (Some by.seeker) by.seeker (needed_by by key) (changed t now act) refl
-    (subst (λ (a : Allowed). Fits t by.seeker (needed_by by key) (changed t now a)) h.1
-    (put_fits t (changed t now stores) now by key content of.1 put))
+    (needs_pass (access_of s) t by.seeker now (needed_by by key) passes.allowed)
+    (subst (λ (a : Allowed). Fits t (needed_by by key) (changed t now a)) h.1 (put_fits t (changed t now stores) now by key content put))
 end_allowed s now outcome who (Some goal) act sound of held may is known =
     let closes : allowed.Close ≡ act = cc in
     subst (λ (a : Allowed). AllAllowed s now (seeker_of_goal goal) (needs_of_goal goal) (changed s.tables now a)) closes
@@ -374,12 +352,13 @@ act_allowed s seat now (Begin words request) act sound may is =
     let call = call_of s seat now words request in
     let passes = call_passes call act is in
     let row = has_row call may.1 passes.0.not_you in
-    let fits = subst (λ (needs : List Need). Fits s.tables (User row.0.id) needs
-        (changed s.tables now (given (access_of s) call (places_at call request.wanted) request.wanted)))
+    let fits = subst (λ (needs : List Need). Fits s.tables needs
+    (changed s.tables now (given (access_of s) call (places_at call request.wanted) request.wanted)))
     (needed_is call row.0 sound.rows row.1)
     (begin_fits call row.0 sound.rows row.1 request.wanted (no_fault _ passes.0.target) (no_limit _ passes.0.limit)) in
-    allowed_so s now (Some (seeker_of call)) (User row.0.id) (needed call) (changed s.tables now act) (rw row.1 refl)
-    (subst (λ (a : Allowed). Fits s.tables (User row.0.id) (needed call) (changed s.tables now a)) passes.1 fits)
+    allowed_so s now (Some (seeker_of call)) (seeker_of call) (needed call) (changed s.tables now act) refl
+    (acts_pass (access_of s) call passes.0.acts)
+    (subst (λ (a : Allowed). Fits s.tables (needed call) (changed s.tables now a)) passes.1 fits)
 act_allowed s seat now (End outcome) act sound may is =
     end_allowed s now outcome (actor_of s seat (End outcome)) (goal_at s seat) act sound.rows (goal_sound s seat sound) (goal_held s seat sound) may is
     (known_change s seat now (End outcome) act sound may is)

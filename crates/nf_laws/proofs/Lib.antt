@@ -14,8 +14,10 @@ pub mod Gone
 pub mod Held
 pub mod Lists
 pub mod Locking
+pub mod May
 pub mod Mirrored
 pub mod Moved
+pub mod Needing
 pub mod Numbers
 pub mod OneRow
 pub mod Opening

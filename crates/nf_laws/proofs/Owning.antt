@@ -25,7 +25,8 @@ use Rattle.nf_laws.proofs.Moved.{folder_owner}
 use Rattle.nf_laws.proofs.OneRow.{filter_with}
 use Rattle.nf_laws.proofs.Owned.{KeepsOwners, all_owners, filled_owners, new_owners}
 use Rattle.nf_laws.proofs.Paths.{at_own, climb_own, found_leads, leads_found, leads_own, path_own, root_own}
-use Rattle.nf_laws.proofs.Reading.{granted, shows}
+use Rattle.nf_laws.proofs.May.{led_own}
+use Rattle.nf_laws.proofs.Reading.{IsLet, granted, shows, owner_let}
 use Rattle.nf_laws.proofs.Rows.{folder_there, found_is, row_id, stamp}
 use Rattle.nf_laws.proofs.Upwards.{owners_there}
 use Rattle.nf_laws.specs.Owners.{ChangesOnlyOwn, ChangesOwn, IsFound, ListsAll, ListsOwn, OwnIsListed, OwnIsServed, ServesOwn, nodes_of_others}
@@ -187,10 +188,14 @@ at_found : (call : Call) (row : NodeRow) → AreSound call.state.tables → (is 
 at_found call row sound is =
     ap (λ (way : Way). way.place) (from_root call is.spot sound.later) ∙ leads_found call.state.tables 0 (root_of call) is.spot.path row.id sound is.led
 
+own_let : (call : Call) (row : NodeRow) → AreSound call.state.tables → (is : IsFound call row) → IsLet call is.spot row.id
+own_let call row sound is = owner_let call is.spot row.id sound (led_own call is.spot.path row.id row sound is.led is.there)
+
 pub own_served : OwnIsServed
 own_served s seat now words request content sound is =
     let call = call_of s seat now words request in
-    granted call is.found.spot is.row.id is.row is.found.asked (at_found call is.row sound.rows is.found) is.found.there is.file is.found.well is.free
+    granted call is.found.spot is.row.id is.row is.found.asked (at_found call is.row sound.rows is.found) is.found.there is.file is.found.well
+    (own_let call is.row sound.rows is.found) is.free
     ∙ ap (λ (c : List Piece). answered_by (Ok (allowed.Get is.row.id c))) is.sent
 
 pub own_listed : OwnIsListed
@@ -198,7 +203,7 @@ own_listed s seat now words request listing sound is =
     let call = call_of s seat now words request in
     let folder : is_folder s.tables.nodes is.row.id ≡ true = rw is.found.there is.folder in
     ap answered_by (shows call is.found.spot is.row.id is.found.asked (at_found call is.row sound.rows is.found) is.found.well
-    (λ file. absurd (both_ways (is_folder s.tables.nodes is.row.id) file folder)))
+    (own_let call is.row sound.rows is.found) (λ file. absurd (both_ways (is_folder s.tables.nodes is.row.id) file folder)))
     ∙ rw folder (ap (λ (lines : List ListingLine). answered_by (Ok (allowed.List lines))) (sym is.listed))
 
 -- ---- each node in a folder has a line

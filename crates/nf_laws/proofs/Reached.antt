@@ -16,7 +16,7 @@ use Rattle.nf_base.specs.declared.perms.Act.{Act}
 use Rattle.nf_base.specs.declared.rows.NodeRow.{NodeRow}
 use Rattle.nf_defs.specs.Prelude.{folder_of, Tables}
 use Rattle.nf_defs.specs.declared.Seeker.{Seeker}
-use Rattle.nf_laws.proofs.Reaching.{own_may, owns}
+use Rattle.nf_laws.proofs.May.{own_may, owns}
 use Rattle.nf_laws.specs.Access.{IsReached, OwnersAndReachedMay, Owns}
 use Rattle.nf_words.specs.Others.{IsShareSound}
 use Rattle.nf_words.specs.Prelude.{access_of, AreSound, is_owner, IsNodeSound, IsSound, may_by, State}

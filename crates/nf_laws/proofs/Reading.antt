@@ -13,23 +13,26 @@ use Rattle.nf_base.specs.declared.rows.NodeRow.{NodeRow}
 use Rattle.nf_base.specs.declared.rows.Place.TheVariants.{Inside}
 use Rattle.nf_base.specs.declared.rows.Row.TheVariants as rows
 use Rattle.nf_defs.specs.Prelude.{filled, found_from, is_folder, is_folder_kind, Leads, leads_on, node_key, node_row, put, stays, Tables, with_node}
+use Rattle.nf_base.specs.declared.perms.Act.TheVariants.{Read}
 use Rattle.nf_defs.specs.declared.Found.TheVariants.{At}
 use Rattle.nf_laws.proofs.Added.{new_there}
 use Rattle.nf_laws.proofs.Climbs.{holds_some}
 use Rattle.nf_laws.proofs.Entries.{step_changed}
+use Rattle.nf_laws.proofs.May.{led_own, own_may}
 use Rattle.nf_laws.proofs.OneRow.{row_itself}
 use Rattle.nf_laws.proofs.Paths.{leads_found}
 use Rattle.nf_laws.proofs.Puts.{put_changed, put_new}
 use Rattle.nf_laws.proofs.Replaced.{kept_replaced}
 use Rattle.nf_laws.proofs.Rows.{AreKept, folder_kept, kept_joined, row_id}
 use Rattle.nf_laws.proofs.Stays as states
+use Rattle.nf_laws.specs.Access.{Owns}
 use Rattle.nf_laws.specs.Reads.{IsStored, IsWellAsked, LeadsToKey, PathStays, StoredIsRead, IsFreeToRead}
 use Rattle.nf_words.proofs.Bodies.{content_decides}
 use Rattle.nf_words.proofs.Fits.{newest}
 use Rattle.nf_words.proofs.Orders.{none_of}
 use Rattle.nf_words.proofs.Passing.{Passes, in_order}
 use Rattle.nf_words.proofs.Starts.{from_root}
-use Rattle.nf_words.specs.Prelude.{access_of, actor_of, after, after_mark, allowed_of, answered_by, AreSound, blob_for, Call, call_decision, call_of, changed, content_in, decision_of, end_refusal, ends_at, exists_rule, found, IsSound, IsHeld, IsStorable, limit_rule, makes, new_node, overwrite_rule, place_rule, refilled, replay, rules, shown, State, stored_at, stores, target_rule, unless_refused, AreApartHolds, HoldsFor, IsTicketSound, step, ticket_of, without_ticket, Way}
+use Rattle.nf_words.specs.Prelude.{access_of, actor_of, acts_rule, after, after_mark, allowed_of, answered_by, AreSound, blob_for, Call, call_decision, call_of, changed, content_in, decision_of, end_refusal, ends_at, exists_rule, found, IsSound, IsHeld, IsStorable, limit_rule, makes, may_by, new_node, overwrite_rule, place_rule, refilled, replay, rules, seeker_of, shown, State, stored_at, stores, target_rule, unless_refused, unreached, way_of, AreApartHolds, HoldsFor, IsTicketSound, step, ticket_of, without_ticket, Way}
 use Rattle.nf_words.specs.declared.answer.Allowed.{Allowed}
 use Rattle.nf_words.specs.declared.answer.Allowed.TheVariants as allowed
 use Rattle.nf_words.specs.declared.answer.Denial.{Denial}
@@ -247,7 +250,9 @@ stored_is_read n s e es root path content seat now words request is legal same r
     let at : found call reads.spot ≡ At node =
     ap (λ (way : Way). way.place) (from_root call reads.spot sound.rows.later)
     ∙ (λ i. found_from last.tables.nodes 0 (reads.from i) (reads.of_path i)) ∙ leads_found last.tables 0 root path node sound.rows led in
-    granted call reads.spot node file.row reads.wanted at there file.file reads.asked (reads.free node led)
+    let lets = owner_let call reads.spot node sound.rows
+    (led_own call path node file.row sound.rows (subst (λ (from : ℕ). Leads last.tables.nodes from path node) (sym reads.from) led) there) in
+    granted call reads.spot node file.row reads.wanted at there file.file reads.asked lets (reads.free node led)
     ∙ ap (λ (c : List Piece). answered_by (Ok (allowed.Get node c))) file.filled
 
 -- ---- who stores over it

@@ -6,7 +6,7 @@ use Rattle.nf_base.specs.declared.rows.NodeRow.{NodeRow}
 use Rattle.nf_defs.specs.Prelude.{content_of, is_folder, is_root, Tables}
 use Rattle.nf_defs.specs.declared.Found.{Found}
 use Rattle.nf_defs.specs.declared.Found.TheVariants.{At, Free, Missing}
-use Rattle.nf_words.specs.Prelude.{access_of, allowed_of, answer_to, answered_by, asked_of, by_of, Call, call_of, copied, decided, decision_of, deleted, end_refusal, ends_at, exists_rule, found, given, goal_at, goal_of, hold_of, is_there, last_name, listing_of, lost, made_folder, misplaced, moved, node_found, place_rule, refusal_of, reply_by, reply_to, reported, served, shown, source_lost, State, step, stored, stored_at, taken, target_lost, target_rule, transfer_of, unfit, unless_refused, with_goal}
+use Rattle.nf_words.specs.Prelude.{access_of, allowed_of, answer_to, answered_by, asked_of, by_of, Call, call_of, copied, decided, decision_of, deleted, end_refusal, ends_at, exists_rule, found, given, goal_at, goal_of, hold_of, is_there, last_name, listing_of, lost, made_folder, misplaced, moved, node_found, refusal_of, reply_by, reply_to, reported, served, shown, source_lost, State, step, stored, stored_at, taken, target_lost, target_rule, transfer_of, unfit, unless_refused, with_goal}
 use Rattle.nf_words.specs.declared.answer.Allowed.{Allowed}
 use Rattle.nf_words.specs.declared.answer.Allowed.TheVariants as allowed
 use Rattle.nf_words.specs.declared.answer.Denial.{Denial}

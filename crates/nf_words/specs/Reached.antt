@@ -7,7 +7,6 @@ use Rattle.nf_access.specs.Broken.{broken_in, first_received}
 use Rattle.nf_access.specs.Shares.{chain_of, ground_of}
 use Rattle.nf_access.specs.declared.Cause.{Cause}
 use Rattle.nf_base.specs.declared.perms.Act.{Act}
-use Rattle.nf_base.specs.declared.rows.ShareRow.{ShareRow}
 use Rattle.nf_defs.specs.Prelude.{Access, Tables}
 use Rattle.nf_defs.specs.declared.Seeker.{Seeker}
 use Rattle.nf_words.specs.Calls.{Call, Way, asked_by, seeker_of, way_of}
@@ -15,7 +14,6 @@ use Rattle.nf_words.specs.Needed.{Need, may_by, needed}
 use Rattle.nf_words.specs.Places.{source_lost, target_lost}
 use Rattle.nf_words.specs.declared.answer.Denial.{Denial}
 use Rattle.nf_words.specs.declared.answer.Denial.TheVariants as denial
-use Rattle.nf_words.specs.declared.request.Spot.{Spot}
 
 -- ---- what is told
 
