@@ -3,6 +3,8 @@ use Rattle.std.specs.Prelude.{ℕ, Bool, true, false, List, [], ◌++◌, map, i
 use Rattle.serde_json.specs.Data.{Data, number, string, array, object, member, no_members, unsigned}
 use Rattle.serde_json.specs.View.{items_of}
 use Rattle.serde_json.specs.Written.{compact_text}
+use Rattle.nf_access.specs.declared.Cause.{Cause}
+use Rattle.nf_access.specs.declared.Cause.TheVariants as cause
 use Rattle.nf_base.specs.declared.name.NameFault.{NameFault}
 use Rattle.nf_base.specs.declared.name.NameFault.TheVariants as fault
 use Rattle.nf_base.specs.declared.rows.NodeKind.{NodeKind}
@@ -31,6 +33,8 @@ status_of (denial.BadParameter field) = codes "400 Bad Request"
 status_of denial.Token = codes "401 Unauthorized"
 status_of denial.NotYou = codes "403 Forbidden"
 status_of denial.ForbiddenName = codes "403 Forbidden"
+status_of (denial.BrokenLink share cause) = codes "403 Forbidden"
+status_of denial.NoShare = codes "403 Forbidden"
 status_of (denial.BadTarget cause) = codes "403 Forbidden"
 status_of denial.NotFound = codes "404 Not Found"
 status_of (denial.Method route) = codes "405 Method Not Allowed"
@@ -57,6 +61,8 @@ reason_of (denial.BadParameter field) = codes "bad-parameter"
 reason_of denial.Token = codes "token"
 reason_of denial.NotYou = codes "not-you"
 reason_of denial.ForbiddenName = codes "forbidden-name"
+reason_of (denial.BrokenLink share cause) = codes "broken-link"
+reason_of denial.NoShare = codes "no-share"
 reason_of (denial.BadTarget cause) = codes "bad-target"
 reason_of denial.NotFound = codes "not-found"
 reason_of (denial.Method route) = codes "method"
@@ -91,6 +97,15 @@ abbrev pub cause_word : TargetFault → List ℕ
 cause_word target.Root = codes "root"
 cause_word target.Same = codes "same"
 cause_word target.Inside = codes "inside"
+
+-- the word of why a share is broken
+abbrev pub link_word : Cause → List ℕ
+link_word cause.Ended = codes "ended"
+link_word cause.Expired = codes "expired"
+link_word cause.NoReshare = codes "no-reshare"
+link_word cause.NotMember = codes "not-member"
+link_word cause.MovedOut = codes "moved-out"
+link_word cause.Narrowed = codes "narrowed"
 
 -- the word of a limit
 abbrev pub limit_word : Limit → List ℕ
@@ -135,6 +150,12 @@ field_object field = object (member (codes "field") (string field) (member (code
 abbrev pub target_object : List ℕ → Data
 target_object cause = object (member (codes "cause") (string cause) (member (codes "reason") (string (codes "bad-target")) no_members))
 
+abbrev pub link_object : ℕ → List ℕ → Data
+link_object share cause =
+    object
+    (member (codes "cause") (string cause)
+    (member (codes "reason") (string (codes "broken-link")) (member (codes "share") (number (unsigned share)) no_members)))
+
 abbrev pub damage_object : ℕ → Data
 damage_object blob = object (member (codes "blob") (number (unsigned blob)) (member (codes "reason") (string (codes "damaged")) no_members))
 
@@ -159,6 +180,7 @@ abbrev pub refusal_object : Denial → Data
 refusal_object (denial.BadName f) = name_object (fault_word f)
 refusal_object (denial.BadParameter field) = field_object (field_word field)
 refusal_object (denial.BadTarget cause) = target_object (cause_word cause)
+refusal_object (denial.BrokenLink share cause) = link_object share (link_word cause)
 refusal_object (denial.Damaged damage) = damage_object damage.blob
 refusal_object (denial.Locked key) = locked_object key
 refusal_object (denial.Limit l) = limit_object (count_of l) (limit_word l)
@@ -172,6 +194,8 @@ code_of (denial.BadParameter field) = 400
 code_of denial.Token = 401
 code_of denial.NotYou = 403
 code_of denial.ForbiddenName = 403
+code_of (denial.BrokenLink share cause) = 403
+code_of denial.NoShare = 403
 code_of (denial.BadTarget cause) = 403
 code_of denial.NotFound = 404
 code_of (denial.Method route) = 405

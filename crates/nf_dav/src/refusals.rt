@@ -6,7 +6,7 @@ ghost use Rattle.serde_json.specs.View.{view};
 ghost use Rattle.nf_dav.specs.Reply.{envelope as envelope_of, locked_object, meta_object, refusal_body, refusal_object};
 
 use crate::objects::{Said, object_of, text_of};
-use crate::words::{cause_word, code, fault_word, field_word, limit_word, reason};
+use crate::words::{cause_word, code, fault_word, field_word, limit_word, link_word, reason};
 use nf_words::{Denial, LockKey};
 use serde_json::{Map, Value, put};
 use std::alloc::{AllocError, Global};
@@ -69,6 +69,11 @@ fn refusal_value(alloc: Global, denial: &Denial) -> Result<Value, AllocError>
         Denial::BadTarget(cause) => {
             let cause = Said::Text(cause_word(*cause));
             object_of(alloc, &[("cause", cause), reason])
+        }
+        Denial::BrokenLink { share, cause } => {
+            let share = Said::Number(u64::from(share.number()));
+            let cause = Said::Text(link_word(*cause));
+            object_of(alloc, &[("cause", cause), reason, ("share", share)])
         }
         Denial::Damaged(damage) => {
             let blob = Said::Number(damage.blob.number());

@@ -1,8 +1,9 @@
 //! The words of denials, and the numbers of their status.
 
 ghost use Rattle.std.specs.Prelude.{◌≡◌};
-ghost use Rattle.nf_dav.specs.Reply.{status_of, code_of, reason_of, fault_word, cause_word, limit_word, field_word};
+ghost use Rattle.nf_dav.specs.Reply.{status_of, code_of, reason_of, fault_word, cause_word, link_word, limit_word, field_word};
 
+use nf_access::Cause;
 use nf_base::NameFault;
 use nf_words::{Denial, Limit, Parameter, TargetFault};
 
@@ -13,7 +14,11 @@ pub fn status(denial: &Denial) -> &'static str
     match denial {
         Denial::BadMessage | Denial::BadName(_) | Denial::BadParameter(_) => "400 Bad Request",
         Denial::Token => "401 Unauthorized",
-        Denial::NotYou | Denial::ForbiddenName | Denial::BadTarget(_) => "403 Forbidden",
+        Denial::NotYou
+        | Denial::ForbiddenName
+        | Denial::BrokenLink { .. }
+        | Denial::NoShare
+        | Denial::BadTarget(_) => "403 Forbidden",
         Denial::NotFound => "404 Not Found",
         Denial::Method(_) | Denial::Exists(_) => "405 Method Not Allowed",
         Denial::NoParent => "409 Conflict",
@@ -36,7 +41,11 @@ pub fn code(denial: &Denial) -> u16
     match denial {
         Denial::BadMessage | Denial::BadName(_) | Denial::BadParameter(_) => 400,
         Denial::Token => 401,
-        Denial::NotYou | Denial::ForbiddenName | Denial::BadTarget(_) => 403,
+        Denial::NotYou
+        | Denial::ForbiddenName
+        | Denial::BrokenLink { .. }
+        | Denial::NoShare
+        | Denial::BadTarget(_) => 403,
         Denial::NotFound => 404,
         Denial::Method(_) | Denial::Exists(_) => 405,
         Denial::NoParent => 409,
@@ -63,6 +72,8 @@ pub fn reason(denial: &Denial) -> &'static str
         Denial::Token => "token",
         Denial::NotYou => "not-you",
         Denial::ForbiddenName => "forbidden-name",
+        Denial::BrokenLink { .. } => "broken-link",
+        Denial::NoShare => "no-share",
         Denial::BadTarget(_) => "bad-target",
         Denial::NotFound => "not-found",
         Denial::Method(_) => "method",
@@ -80,6 +91,20 @@ pub fn reason(denial: &Denial) -> &'static str
         Denial::NotBuilt => "not-built",
         Denial::Memory => "memory",
         Denial::Limit(_) => "limit",
+    }
+}
+
+/// The word of why a share is broken.
+pub fn link_word(cause: Cause) -> &'static str
+    ensures { result.now ≡ link_word cause }
+{
+    match cause {
+        Cause::Ended => "ended",
+        Cause::Expired => "expired",
+        Cause::NoReshare => "no-reshare",
+        Cause::NotMember => "not-member",
+        Cause::MovedOut => "moved-out",
+        Cause::Narrowed => "narrowed",
     }
 }
 
