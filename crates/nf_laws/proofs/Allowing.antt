@@ -5,6 +5,7 @@ use Rattle.std.specs.Option.{IfSome, option_and_then, option_map_or, option_or}
 use Rattle.std.proofs.lemmas.Bool.{both_ways, cond_both, eqb-true}
 use Rattle.std.proofs.lemmas.List.Elements.{Contains-append_right}
 use Rattle.std.proofs.lemmas.Option.{none-some}
+use Rattle.nf_access.specs.Shares.{ground_of}
 use Rattle.nf_base.specs.declared.content.Piece.{Piece}
 use Rattle.nf_base.specs.declared.perms.Act.{Act}
 use Rattle.nf_base.specs.declared.perms.Act.TheVariants as act
@@ -337,7 +338,7 @@ end_allowed s now (Body digest size) who (Some (Store by key wanted)) act sound 
     let content = content_in (blob_for t.meta.next_blob size) digest size in
     let put = put_rows t now who key digest size sound held (subst (λ (a : Allowed). Known t now who a) (sym h.1) known) in
     allowed_so s now (Some by.seeker) by.seeker (needed_by by key) (changed t now act) refl
-    (needs_pass (access_of s) t by.seeker now (needed_by by key) passes.allowed)
+    (needs_pass (access_of s) (ground_of t) by.seeker now (needed_by by key) passes.allowed)
     (subst (λ (a : Allowed). Fits t (needed_by by key) (changed t now a)) h.1 (put_fits t (changed t now stores) now by key content put))
 end_allowed s now outcome who (Some goal) act sound of held may is known =
     let closes : allowed.Close ≡ act = cc in

@@ -5,6 +5,7 @@ use Rattle.std.specs.Option.{IfSome, option_map_or, option_or}
 use Rattle.std.specs.Prelude.{is_some, option_map, if◌then◌else◌}
 use Rattle.std.proofs.lemmas.Option.{same_Some}
 use Rattle.std.proofs.lemmas.List.Elements.{All-append, All-cons, All-nil, All-weaker}
+use Rattle.nf_access.specs.Shares.{ground_of}
 use Rattle.nf_base.specs.declared.perms.Act.{Act}
 use Rattle.nf_base.specs.declared.perms.Act.TheVariants.{Update, Create, Delete}
 use Rattle.nf_base.specs.declared.rows.UserRow.{UserRow}
@@ -150,9 +151,9 @@ module _ (call : Call) (row : UserRow) (sound : AreSound call.state.tables) (is 
   none_refused access =
       let may = λ (need : Need) (own : OwnNeed need).
       let may = own_may access t.nodes (seeker_of call) call.now need.act need.node need.mount own in ap not may in
-      ap (option_map (need_broken t (seeker_of call) call.now))
-      (finds_none (is_refused access t (seeker_of call) call.now) (needed call)
-      (All-weaker OwnNeed (λ need. is_refused access t (seeker_of call) call.now need ≡ false) may (needed call) own_needed))
+      ap (option_map (need_broken (ground_of t) (seeker_of call) call.now))
+      (finds_none (is_refused access t.nodes (seeker_of call) call.now) (needed call)
+      (All-weaker OwnNeed (λ need. is_refused access t.nodes (seeker_of call) call.now need ≡ false) may (needed call) own_needed))
 
   -- and none is of a way that isn't reached
   pub all_reached : (access : Access) (spot : Spot) → unreached access call (way_of call spot) ≡ None

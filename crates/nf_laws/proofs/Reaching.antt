@@ -63,7 +63,7 @@ at_readable call row sound is = here (mount_of call is.spot) is.led
 
     here : (mount : Option ℕ) → LeadsBy call is.spot mount row.id → (way_by t.nodes (root_of call) is.spot.path mount).place ≡ At row.id
     here None led = leads_found t 0 (root_of call) is.spot.path row.id sound led
-    here (Some mount) led = leads_found t 1 mount (drop 1 is.spot.path) row.id sound led
+    here (Some mount) led = leads_found t 0 mount (drop 1 is.spot.path) row.id sound led
 
 way_mount : (call : Call) (spot : Spot) → (way_of call spot).mount ≡ mount_of call spot
 way_mount call spot = here (mount_of call spot)

@@ -7,18 +7,18 @@ use Rattle.std.proofs.lemmas.Option.{same_Some}
 use Rattle.std.specs.Option.{IfSome, option_map_or, option_or}
 use Rattle.nf_access.specs.Access.{is_open}
 use Rattle.nf_access.specs.Broken.{broken_in, first_received}
-use Rattle.nf_access.specs.Shares.{chain_of, ground_of}
+use Rattle.nf_access.specs.Mounts.{mount_at}
+use Rattle.nf_access.specs.Shares.{Ground, chain_of, ground_of}
 use Rattle.nf_access.specs.declared.Cause.{Cause}
 use Rattle.nf_base.specs.declared.perms.Act.{Act}
 use Rattle.nf_base.specs.declared.rows.NodeRow.{NodeRow}
 use Rattle.nf_base.specs.declared.rows.ShareRow.{ShareRow}
 use Rattle.nf_defs.specs.declared.Seeker.{Seeker}
 use Rattle.nf_words.specs.declared.request.Spot.{Spot}
-use Rattle.nf_defs.specs.Prelude.{Access, Tables}
+use Rattle.nf_defs.specs.Prelude.{Access, is_root, owner_of, Tables}
 use Rattle.nf_defs.specs.declared.Found.{Found}
 use Rattle.nf_defs.specs.declared.Found.TheVariants.{At, Missing}
-use Rattle.nf_words.specs.Prelude.{access_of, acts_rule, allowed_of, answer_at, answer_to, answered_by, asked_by, broken_by, Call, call_of, decision_of, earlier_rules, end_lost, end_refusal, end_unallowed, end_unreached, ends_at, ends_goal, exists_rule, first_that_holds, forbidden_rule, goal_at, has_forbidden, is_caller, is_kept, is_owner, is_refused, is_transfer, key_in_way, later_rules, limit_at, limit_rule, limited, locked_rule, Need, need_broken, needed, needed_by, node_of_key, not_you_rule, overwrite_rule, Pass, pieces_of, place_of, paths_of, place_rule, places_of, refusal_of, Rule, seeker_of, source_lost, source_refused, State, stored_at, taken, target_lost, target_refused, target_rule, told_broken, token_rule, touches, unfit, unless_refused, unreached, unreached_by, user_of, users_of, Way, way_of}
-use Rattle.nf_words.specs.Endings.{is_mount_in}
+use Rattle.nf_words.specs.Prelude.{access_of, acts_rule, allowed_of, answer_at, answer_to, answered_by, asked_by, broken_by, Call, call_of, decision_of, earlier_rules, end_lost, end_refusal, end_unallowed, end_unreached, ends_at, ends_goal, exists_rule, first_refused, first_that_holds, forbidden_rule, goal_at, has_forbidden, is_caller, is_kept, is_owner, is_refused, is_transfer, key_in_way, later_rules, limit_at, limit_rule, limited, locked_rule, Need, need_broken, needed, needed_by, node_of_key, not_you_rule, overwrite_rule, Pass, pieces_of, place_of, paths_of, place_rule, places_of, refusal_of, Rule, seeker_of, source_lost, source_refused, State, stored_at, taken, target_lost, target_refused, target_rule, told_broken, token_rule, touches, unfit, unless_refused, unreached, unreached_by, user_of, users_of, Way, way_of}
 use Rattle.nf_words.specs.declared.answer.Allowed.{Allowed}
 use Rattle.nf_words.specs.declared.answer.Denial.{Denial}
 use Rattle.nf_words.specs.declared.answer.Denial.TheVariants as denial
@@ -135,22 +135,22 @@ told_fine : (o : Option (ℕ × Cause)) → is_later (told_broken o) ≡ false
 told_fine None = refl
 told_fine (Some broken) = refl
 
-broken_fine : (t : Tables) (seeker : Seeker) (now : ℕ) (act : Option Act) (mount : ℕ) → is_later (broken_by t seeker now act mount) ≡ false
-broken_fine t seeker now act mount = here (first_received t.members t.shares seeker mount)
+broken_fine : (g : Ground) (seeker : Seeker) (now : ℕ) (act : Option Act) (mount : ℕ) → is_later (broken_by g seeker now act mount) ≡ false
+broken_fine g seeker now act mount = here (first_received g.members g.shares seeker mount)
   where
     here : (o : Option ShareRow)
-        → is_later (option_map_or (λ share. told_broken (broken_in (ground_of t) now act None (chain_of t.shares share.id))) o denial.NoShare) ≡ false
+        → is_later (option_map_or (λ share. told_broken (broken_in g now act None (chain_of g.shares share.id))) o denial.NoShare) ≡ false
     here None = refl
-    here (Some share) = told_fine (broken_in (ground_of t) now act None (chain_of t.shares share.id))
+    here (Some share) = told_fine (broken_in g now act None (chain_of g.shares share.id))
 
-unreached_fine : (access : Access) (t : Tables) (seeker : Seeker) (now : ℕ) (mount : Option ℕ)
-    → IsEarly (option_and_then (unreached_by access t seeker now) mount)
-unreached_fine access t seeker now None = tt
-unreached_fine access t seeker now (Some mount) =
-    unless_test (list_any (is_open now) (access seeker mount)) (broken_by t seeker now None mount) (broken_fine t seeker now None mount)
+unreached_fine : (access : Access) (g : Ground) (seeker : Seeker) (now : ℕ) (mount : Option ℕ)
+    → IsEarly (option_and_then (unreached_by access g seeker now) mount)
+unreached_fine access g seeker now None = tt
+unreached_fine access g seeker now (Some mount) =
+    unless_test (list_any (is_open now) (access seeker mount)) (broken_by g seeker now None mount) (broken_fine g seeker now None mount)
 
 reach_fine : (access : Access) (call : Call) (way : Way) → IsEarly (unreached access call way)
-reach_fine access call way = unreached_fine access call.state.tables (seeker_of call) call.now way.mount
+reach_fine access call way = unreached_fine access (ground_of call.state.tables) (seeker_of call) call.now way.mount
 
 place_fine : (access : Access) (call : Call) → IsEarly (place_rule access call)
 unfolding place_rule
@@ -181,18 +181,20 @@ place_fine access call =
         let way = way_of call spot in
         either (unreached access call way) (target_lost way.place) (reach_fine access call way) (target_fine (Some way.place))
 
-needs_fine : (t : Tables) (seeker : Seeker) (now : ℕ) (o : Option Need) → IsEarly (option_map (need_broken t seeker now) o)
-needs_fine t seeker now None = tt
-needs_fine t seeker now (Some need) = by_mount need.act need.mount
+needs_fine : (access : Access) (g : Ground) (seeker : Seeker) (now : ℕ) (needs : List Need) → IsEarly (first_refused access g seeker now needs)
+needs_fine access g seeker now needs = here (find (is_refused access g.nodes seeker now) needs)
   where
-    by_mount : (act : Act) (mount : Option ℕ) → is_later (option_map_or (broken_by t seeker now (Some act)) mount denial.NoShare) ≡ false
+    by_mount : (act : Act) (mount : Option ℕ) → is_later (option_map_or (broken_by g seeker now (Some act)) mount denial.NoShare) ≡ false
     by_mount act None = refl
-    by_mount act (Some mount) = broken_fine t seeker now (Some act) mount
+    by_mount act (Some mount) = broken_fine g seeker now (Some act) mount
+
+    here : (o : Option Need) → IsEarly (option_map (need_broken g seeker now) o)
+    here None = tt
+    here (Some need) = by_mount need.act need.mount
 
 acts_fine : (access : Access) (call : Call) → IsEarly (acts_rule access call)
 unfolding acts_rule
-acts_fine access call =
-    needs_fine call.state.tables (seeker_of call) call.now (find (is_refused access call.state.tables (seeker_of call) call.now) (needed call))
+acts_fine access call = needs_fine access (ground_of call.state.tables) (seeker_of call) call.now (needed call)
 
 exists_fine : (access : Access) (call : Call) → IsEarly (exists_rule access call)
 unfolding exists_rule
@@ -261,19 +263,19 @@ goal_fine : (access : Access) (t : Tables) (now : ℕ) (outcome : Outcome) (goal
 goal_fine access t now (Body digest size) (Store by key wanted) =
     unless_fine (end_refusal access t now by key size) (stored_at t now key digest size)
     (either_first (end_unreached access t now by (node_of_key key)) _ (reached (is_owner t.nodes by.seeker (node_of_key key)))
-    (either_first (end_unallowed access t now by key) _ (needs_fine t by.seeker now (find (is_refused access t by.seeker now) (needed_by by key)))
+    (either_first (end_unallowed access t now by key) _ (needs_fine access (ground_of t) by.seeker now (needed_by by key))
     (either_first (end_lost t key) _ (lost_fine key) (limits (limit_at t (pieces_of size) (place_of key))))))
   where
-    of_mount : (mount : Option ℕ) → IsEarly (option_and_then (unreached_by access t by.seeker now) mount)
-    of_mount mount = unreached_fine access t by.seeker now mount
+    of_mount : (mount : Option ℕ) → IsEarly (option_and_then (unreached_by access (ground_of t) by.seeker now) mount)
+    of_mount mount = unreached_fine access (ground_of t) by.seeker now mount
 
-    reached : (b : Bool) → IsEarly (if b then None else option_and_then (unreached_by access t by.seeker now) by.mount)
+    reached : (b : Bool) → IsEarly (if b then None else option_and_then (unreached_by access (ground_of t) by.seeker now) by.mount)
     reached true = tt
     reached false = of_mount by.mount
 
     lost_fine : (key : LockKey) → IsEarly (end_lost t key)
     lost_fine (Node node) = tt
-    lost_fine (Slot folder name) = if_test (list_any (is_mount_in t folder name) t.users) denial.NotFound refl
+    lost_fine (Slot folder name) = if_test (is_root t.nodes folder && is_some (mount_at t.mounts (owner_of t.nodes folder) name)) denial.NotFound refl
 goal_fine access t now outcome goal = tt
 
 at_fine : (access : Access) (t : Tables) (now : ℕ) (outcome : Outcome) (goal : Option Goal) → IsDecided (ends_at access t now outcome goal)

@@ -4,9 +4,10 @@ use Rattle.std.specs.Prelude.{None, Option, Some, find, option_map, option_and_t
 use Rattle.std.specs.List.{All}
 use Rattle.std.specs.Option.{option_or}
 use Rattle.std.proofs.lemmas.List.Elements.{All-cons, All-nil}
+use Rattle.nf_access.specs.Shares.{Ground, ground_of}
 use Rattle.nf_defs.specs.Prelude.{Access, Tables}
 use Rattle.nf_defs.specs.declared.Seeker.{Seeker}
-use Rattle.nf_words.specs.Prelude.{access_of, acts_rule, allowed_of, asked_by, Call, call_decision, end_lost, end_refusal, end_unallowed, end_unreached, exists_rule, first_that_holds, forbidden_rule, found, is_refused, limit_at, limit_rule, locked_rule, lost, may_by, Need, need_broken, needed, node_of_key, not_you_rule, overwrite_rule, Pass, pieces_of, place_of, place_rule, places_of, refusal_of, Rule, rules, seeker_of, source_lost, source_refused, target_lost, target_refused, target_rule, token_rule, unless_refused, way_of}
+use Rattle.nf_words.specs.Prelude.{access_of, acts_rule, allowed_of, asked_by, Call, call_decision, end_lost, end_refusal, end_unallowed, end_unreached, exists_rule, first_refused, first_that_holds, forbidden_rule, found, is_refused, limit_at, limit_rule, locked_rule, lost, may_by, Need, need_broken, needed, node_of_key, not_you_rule, overwrite_rule, Pass, pieces_of, place_of, place_rule, places_of, refusal_of, Rule, rules, seeker_of, source_lost, source_refused, target_lost, target_refused, target_rule, token_rule, unless_refused, way_of}
 use Rattle.nf_words.specs.declared.answer.Allowed.{Allowed}
 use Rattle.nf_words.specs.declared.answer.By.{By}
 use Rattle.nf_words.specs.declared.answer.Denial.{Denial}
@@ -94,21 +95,20 @@ none_found {X = X} test (x ∷ xs) none = here (test x) refl none (λ none. none
     here false is none rest = absurd (cc)
 
 -- what is needed may be done, where no act of it is refused
-pub needs_pass : (access : Access) (t : Tables) (seeker : Seeker) (now : ℕ) (needs : List Need)
-    → option_map (need_broken t seeker now) (find (is_refused access t seeker now) needs) ≡ None
-    → All (λ (need : Need). may_by access t.nodes seeker now need.act need.node need.mount ≡ true) needs
-needs_pass access t seeker now needs none =
-    none_found (λ (need : Need). may_by access t.nodes seeker now need.act need.node need.mount) needs
-    (map_none (find (is_refused access t seeker now) needs) none)
+pub needs_pass : (access : Access) (g : Ground) (seeker : Seeker) (now : ℕ) (needs : List Need) → first_refused access g seeker now needs ≡ None
+    → All (λ (need : Need). may_by access g.nodes seeker now need.act need.node need.mount ≡ true) needs
+needs_pass access g seeker now needs none =
+    none_found (λ (need : Need). may_by access g.nodes seeker now need.act need.node need.mount) needs
+    (map_none (find (is_refused access g.nodes seeker now) needs) none)
   where
-    map_none : (o : Option Need) → option_map (need_broken t seeker now) o ≡ None → o ≡ None
+    map_none : (o : Option Need) → option_map (need_broken g seeker now) o ≡ None → o ≡ None
     map_none None none = refl
     map_none (Some need) none = absurd (cc)
 
 pub acts_pass : (access : Access) (call : Call) → acts_rule access call ≡ None
     → All (λ (need : Need). may_by access call.state.tables.nodes (seeker_of call) call.now need.act need.node need.mount ≡ true) (needed call)
 unfolding acts_rule
-acts_pass access call none = needs_pass access call.state.tables (seeker_of call) call.now (needed call) none
+acts_pass access call none = needs_pass access (ground_of call.state.tables) (seeker_of call) call.now (needed call) none
 
 -- what isn't refused passes every rule
 pub unrefused : (access : Access) (call : Call) → refusal_of access call ≡ None → Passes access call

@@ -73,7 +73,7 @@ row_of_caller rows (Some user) row is =
 -- as long as there are no mounts no path goes by one
 pub unmounted : (call : Call) (spot : Spot) → HasNoLater call.state.tables → mount_of call spot ≡ None
 unmounted call spot (shares, (mounts, others)) =
-    ap (λ (rows : List MountRow). mounted (record t { mounts = rows }) (asker_of call) (root_of call) spot.path) mounts ∙ none spot.path
+    ap (λ (rows : List MountRow). mounted t.nodes rows (asker_of call) (root_of call) spot.path) mounts ∙ none spot.path
   where
     t : Tables
     t = call.state.tables
@@ -82,7 +82,7 @@ unmounted call spot (shares, (mounts, others)) =
     here true name = refl
     here false name = refl
 
-    none : (names : List (List ℕ)) → mounted (record t { mounts = [] }) (asker_of call) (root_of call) names ≡ None
+    none : (names : List (List ℕ)) → mounted t.nodes [] (asker_of call) (root_of call) names ≡ None
     none [] = refl
     none (name ∷ names) = here (is_some (child_of t.nodes (root_of call) name)) name
 

@@ -2,9 +2,10 @@
 use Rattle.std.specs.Prelude.{ℕ, ◌-◌, Bool, true, false, List, [], ◌∷◌, drop, length, Option, None, Some, is_some, option_map, option_and_then, slice_get, unwrap_or, if◌then◌else◌}
 use Rattle.std.specs.Option.{option_map_or}
 use Rattle.nf_access.specs.Mounts.{mount_at}
+use Rattle.nf_base.specs.declared.rows.MountRow.{MountRow}
 use Rattle.nf_base.specs.declared.rows.NodeRow.{NodeRow}
 use Rattle.nf_base.specs.declared.rows.UserRow.{UserRow}
-use Rattle.nf_defs.specs.Prelude.{child_of, found_from, holder_of, Tables, user_row}
+use Rattle.nf_defs.specs.Prelude.{child_of, found_from, holder_of, user_row}
 use Rattle.nf_defs.specs.declared.Found.{Found}
 use Rattle.nf_defs.specs.declared.Seeker.{Seeker}
 use Rattle.nf_defs.specs.declared.Seeker.TheVariants.{User}
@@ -72,19 +73,19 @@ is_one (name ∷ []) = true
 is_one (name ∷ other ∷ names) = false
 
 -- the node of the user's mount by which names lead on from the root: that of the first name, where no child of the root has it
-abbrev pub mounted : Tables → ℕ → ℕ → List (List ℕ) → Option ℕ
-mounted t user root [] = None
-mounted t user root (name ∷ names) = if is_some (child_of t.nodes root name) then None else mount_at t.mounts user name
+abbrev pub mounted : List NodeRow → List MountRow → ℕ → ℕ → List (List ℕ) → Option ℕ
+mounted rows mounts user root [] = None
+mounted rows mounts user root (name ∷ names) = if is_some (child_of rows root name) then None else mount_at mounts user name
 
 -- the node of the mount that a place's path goes by
 abbrev pub mount_of : Call → Spot → Option ℕ
-mount_of call spot = mounted call.state.tables (asker_of call) (root_of call) spot.path
+mount_of call spot = mounted call.state.tables.nodes call.state.tables.mounts (asker_of call) (root_of call) spot.path
 
 -- names lead from a root, or, behind the first of them, from the node of a mount
 abbrev pub way_by : List NodeRow → ℕ → List (List ℕ) → Option ℕ → Way
 way_by rows root names None = record { mount = None; itself = false; place = found_from rows 0 root names }
 way_by rows root names (Some node) =
-    record { mount = Some node; itself = is_one names; place = found_from rows 1 node (drop 1 names) }
+    record { mount = Some node; itself = is_one names; place = found_from rows 0 node (drop 1 names) }
 
 abbrev pub way_of : Call → Spot → Way
 way_of call spot = way_by call.state.tables.nodes (root_of call) spot.path (mount_of call spot)

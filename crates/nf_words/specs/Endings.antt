@@ -1,19 +1,18 @@
 -- The End of a request in two steps. One with a body is decided by the tables of its own moment, not by those of its Begin.
-use Rattle.std.specs.Prelude.{ℕ, ◌==◌, ◌&&◌, Bool, find, is_some, List, [], ◌∷◌, Option, None, Some, option_map, option_and_then, Result, Ok, Err, if◌then◌else◌}
-use Rattle.std.specs.List.{list_any}
+use Rattle.std.specs.Prelude.{ℕ, ◌==◌, ◌&&◌, is_some, List, [], ◌∷◌, Option, None, Some, option_map, option_and_then, Result, Ok, Err, if◌then◌else◌}
 use Rattle.std.specs.Option.{option_or}
 use Rattle.nf_access.specs.Mounts.{mount_at}
+use Rattle.nf_access.specs.Shares.{ground_of}
 use Rattle.nf_base.specs.declared.content.Piece.{Piece}
 use Rattle.nf_base.specs.declared.rows.NodeKind.TheVariants.{File}
-use Rattle.nf_base.specs.declared.rows.UserRow.{UserRow}
-use Rattle.nf_defs.specs.Prelude.{Access, node_row, Tables}
+use Rattle.nf_defs.specs.Prelude.{Access, is_root, node_row, owner_of, Tables}
 use Rattle.nf_defs.specs.declared.Found.{Found}
 use Rattle.nf_defs.specs.declared.Found.TheVariants.{At, Free}
 use Rattle.nf_words.specs.Changes.{makes, new_node, refilled}
 use Rattle.nf_words.specs.Holds.{node_of_key}
 use Rattle.nf_words.specs.Limits.{limit_at, pieces_of}
 use Rattle.nf_words.specs.Needed.{is_owner, needed_by}
-use Rattle.nf_words.specs.Reached.{is_refused, need_broken, unreached_by}
+use Rattle.nf_words.specs.Reached.{first_refused, unreached_by}
 use Rattle.nf_words.specs.State.{State, goal_at}
 use Rattle.nf_words.specs.declared.answer.Allowed.{Allowed}
 use Rattle.nf_words.specs.declared.answer.Allowed.TheVariants as allowed
@@ -40,21 +39,17 @@ place_of (Slot folder name) = Free folder
 -- `no-share` and `broken-link`: the mount that it was granted by reaches who stores, unless that is the owner
 abbrev pub end_unreached : Access → Tables → ℕ → By → ℕ → Option Denial
 end_unreached access t now by node =
-    if is_owner t.nodes by.seeker node then None else option_and_then (unreached_by access t by.seeker now) by.mount
+    if is_owner t.nodes by.seeker node then None else option_and_then (unreached_by access (ground_of t) by.seeker now) by.mount
 
 -- and it may still be done
 abbrev pub end_unallowed : Access → Tables → ℕ → By → LockKey → Option Denial
-end_unallowed access t now by key =
-    option_map (need_broken t by.seeker now) (find (is_refused access t by.seeker now) (needed_by by key))
-
--- the folder is the root of that user, who has a mount of that name
-abbrev pub is_mount_in : Tables → ℕ → List ℕ → UserRow → Bool
-is_mount_in t folder name user = user.root == folder && is_some (mount_at t.mounts user.id name)
+end_unallowed access t now by key = first_refused access (ground_of t) by.seeker now (needed_by by key)
 
 -- `not-found`: a mount took the name in a root meanwhile. Else what is held is still there
 abbrev pub end_lost : Tables → LockKey → Option Denial
 end_lost t (Node node) = None
-end_lost t (Slot folder name) = if list_any (is_mount_in t folder name) t.users then Some denial.NotFound else None
+end_lost t (Slot folder name) = 
+    if is_root t.nodes folder && is_some (mount_at t.mounts (owner_of t.nodes folder) name) then Some denial.NotFound else None
 
 -- the rules that refuse the End of a PUT, in their order; `limit` is the last
 abbrev pub end_refusal : Access → Tables → ℕ → By → LockKey → ℕ → Option Denial

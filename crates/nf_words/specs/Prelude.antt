@@ -24,7 +24,7 @@ pub use Rattle.nf_words.specs.Needed.{folder_for, is_mount_asked, Need, is_owner
 pub use Rattle.nf_words.specs.Others.{AreOthersSound}
 pub use Rattle.nf_words.specs.Places.{folder_at, has_forbidden, is_kept, is_there, lost, misplaced, node_at, node_found, source_lost, taken, target_lost, transfer_of, transfer_to, unfit, unfit_between}
 unfoldable pub use Rattle.nf_words.specs.Places.{exists_rule, forbidden_rule, overwrite_rule, target_rule}
-pub use Rattle.nf_words.specs.Reached.{broken_by, is_refused, need_broken, source_refused, target_refused, told_broken, unreached, unreached_by}
+pub use Rattle.nf_words.specs.Reached.{broken_by, first_refused, is_refused, need_broken, source_refused, target_refused, told_broken, unreached, unreached_by}
 unfoldable pub use Rattle.nf_words.specs.Reached.{acts_rule, place_rule}
 pub use Rattle.nf_words.specs.Rules.{Rule, earlier_rules, first_that_holds, later_rules, refusal_of, rules}
 pub use Rattle.nf_words.specs.Sound.{AreApart, AreCounters, AreSound, HasRoot, HoldsFor, IsGoalSound, IsNodeSound, IsOwn, IsPlaceSound, IsSound, IsStorable, IsTicketSound, IsTop, MayStoreAt, root_of_user}

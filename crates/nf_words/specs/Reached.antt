@@ -1,13 +1,14 @@
 -- The rules of access: what a path's mount reaches who asks by, and what may be done by it. What is told of a refusal.
-use Rattle.std.specs.Prelude.{ℕ, ◌&&◌, not, Bool, find, Option, None, Some, option_map, option_and_then, if◌then◌else◌}
+use Rattle.std.specs.Prelude.{ℕ, ◌&&◌, not, Bool, find, List, Option, None, Some, option_map, option_and_then, if◌then◌else◌}
 use Rattle.std.specs.List.{list_any}
 use Rattle.std.specs.Option.{option_map_or, option_or}
 use Rattle.nf_access.specs.Access.{is_open}
 use Rattle.nf_access.specs.Broken.{broken_in, first_received}
-use Rattle.nf_access.specs.Shares.{chain_of, ground_of}
+use Rattle.nf_access.specs.Shares.{Ground, chain_of, ground_of}
 use Rattle.nf_access.specs.declared.Cause.{Cause}
 use Rattle.nf_base.specs.declared.perms.Act.{Act}
-use Rattle.nf_defs.specs.Prelude.{Access, Tables}
+use Rattle.nf_base.specs.declared.rows.NodeRow.{NodeRow}
+use Rattle.nf_defs.specs.Prelude.{Access}
 use Rattle.nf_defs.specs.declared.Seeker.{Seeker}
 use Rattle.nf_words.specs.Calls.{Call, Way, asked_by, seeker_of, way_of}
 use Rattle.nf_words.specs.Needed.{Need, may_by, needed}
@@ -22,22 +23,21 @@ told_broken None = denial.NoShare
 told_broken (Some broken) = denial.BrokenLink broken.0 broken.1
 
 -- why a seeker may not do an act by a mount, or isn't reached where none is asked: the first broken link of the first share that it receives
-abbrev pub broken_by : Tables → Seeker → ℕ → Option Act → ℕ → Denial
-broken_by t seeker now act mount =
-    let g = ground_of t in
-    option_map_or (λ share. told_broken (broken_in g now act None (chain_of t.shares share.id))) (first_received t.members t.shares seeker mount)
+abbrev pub broken_by : Ground → Seeker → ℕ → Option Act → ℕ → Denial
+broken_by g seeker now act mount =
+    option_map_or (λ share. told_broken (broken_in g now act None (chain_of g.shares share.id))) (first_received g.members g.shares seeker mount)
     denial.NoShare
 
 -- ---- the reach test
 
 -- no grant on the mount's node is open
-abbrev pub unreached_by : Access → Tables → Seeker → ℕ → ℕ → Option Denial
-unreached_by access t seeker now mount =
-    if list_any (is_open now) (access seeker mount) then None else Some (broken_by t seeker now None mount)
+abbrev pub unreached_by : Access → Ground → Seeker → ℕ → ℕ → Option Denial
+unreached_by access g seeker now mount =
+    if list_any (is_open now) (access seeker mount) then None else Some (broken_by g seeker now None mount)
 
 -- it is made where a path goes by a mount
 abbrev pub unreached : Access → Call → Way → Option Denial
-unreached access call way = option_and_then (unreached_by access call.state.tables (seeker_of call) call.now) way.mount
+unreached access call way = option_and_then (unreached_by access (ground_of call.state.tables) (seeker_of call) call.now) way.mount
 
 -- ---- what isn't there, or isn't reached
 
@@ -59,15 +59,17 @@ place_rule access call =
 -- ---- the acts
 
 -- who asks may not do it
-abbrev pub is_refused : Access → Tables → Seeker → ℕ → Need → Bool
-is_refused access t seeker now need = not (may_by access t.nodes seeker now need.act need.node need.mount)
+abbrev pub is_refused : Access → List NodeRow → Seeker → ℕ → Need → Bool
+is_refused access rows seeker now need = not (may_by access rows seeker now need.act need.node need.mount)
 
 -- where no mount is on the way there is no share either
-abbrev pub need_broken : Tables → Seeker → ℕ → Need → Denial
-need_broken t seeker now need = option_map_or (broken_by t seeker now (Some need.act)) need.mount denial.NoShare
+abbrev pub need_broken : Ground → Seeker → ℕ → Need → Denial
+need_broken g seeker now need = option_map_or (broken_by g seeker now (Some need.act)) need.mount denial.NoShare
 
--- `no-share` and `broken-link`, of the first act that is needed and may not be done
+-- of the first act that is needed and may not be done
+abbrev pub first_refused : Access → Ground → Seeker → ℕ → List Need → Option Denial
+first_refused access g seeker now needs = option_map (need_broken g seeker now) (find (is_refused access g.nodes seeker now) needs)
+
+-- `no-share` and `broken-link`
 unfoldable pub acts_rule : Access → Call → Option Denial
-acts_rule access call =
-    option_map (need_broken call.state.tables (seeker_of call) call.now)
-    (find (is_refused access call.state.tables (seeker_of call) call.now) (needed call))
+acts_rule access call = first_refused access (ground_of call.state.tables) (seeker_of call) call.now (needed call)
