@@ -1,9 +1,11 @@
 pub mod Among
 pub mod Apart
 pub mod Firsts
+pub mod Later
 pub mod Leading
 pub mod Ruled
 pub mod Shared
+pub mod Shares
 pub mod Stacked
 pub mod Stays
 pub mod Unbroken

@@ -1,5 +1,5 @@
 -- The rows of tables that keep the rules break none.
-use Rattle.std.proofs.Common.{arith, ◌≡◌, ℕ, ◌==◌, Bool, true, false, not, List, get_or, length, Option, None, Some, refl, sym, ap, subst, ◌∙◌}
+use Rattle.std.proofs.Common.{arith, ◌≡◌, ℕ, ◌==◌, Bool, true, false, not, List, length, Option, None, Some, refl, sym, ap, subst, ◌∙◌}
 use Rattle.std.specs.Prelude.{is_some, nat_lt}
 use Rattle.std.specs.List.{All, AllByRecursion}
 use Rattle.std.specs.Option.{option_map_or}
@@ -7,9 +7,8 @@ use Rattle.std.proofs.lemmas.Bool.{and_from, and_right, eq-eqb, eqb-true, false�
 use Rattle.std.proofs.lemmas.List.Elements.{All-weaker}
 use Rattle.std.proofs.lemmas.List.Folds.{list_any_none}
 use Rattle.std.proofs.lemmas.Slice.Eq.{bytes_eq-Decides}
-use Rattle.nf_base.specs.declared.limits.TheConstants.{MAX_GROUPS, MAX_MEMBERS, MAX_QUOTA, MAX_TOKENS, MAX_USERS}
+use Rattle.nf_base.specs.declared.limits.TheConstants.{MAX_GROUPS, MAX_MEMBERS, MAX_MOUNTS, MAX_QUOTA, MAX_SHARES, MAX_TOKENS, MAX_USERS}
 use Rattle.nf_base.specs.declared.content.Piece.{Piece}
-use Rattle.nf_base.specs.declared.rows.MemberRow.{MemberRow}
 use Rattle.nf_base.specs.declared.rows.MetaRow.{MetaRow}
 use Rattle.nf_base.specs.declared.rows.NodeRow.{NodeRow}
 use Rattle.nf_base.specs.declared.rows.Place.{Place}
@@ -19,18 +18,24 @@ use Rattle.nf_base.specs.declared.rows.Row.TheVariants as rows
 use Rattle.nf_base.specs.declared.rows.UserRow.{UserRow}
 use Rattle.nf_defs.proofs.Tables.{tables_again}
 use Rattle.nf_defs.proofs.Walks.{node_row_each}
-use Rattle.nf_defs.specs.Prelude.{is_root_place, piece_count, rows_of, Tables, tables_of, user_row}
+use Rattle.nf_defs.specs.Prelude.{is_root_place, node_row, piece_count, rows_of, Tables, tables_of, user_row}
 use Rattle.nf_laws.proofs.Rows.{folder_there, found_is}
 use Rattle.nf_rows.specs.Spelling.{Fits}
+use Rattle.nf_words.specs.Later.{later_kinds}
+use Rattle.nf_words.specs.Others.{IsMountSound}
 use Rattle.nf_words.specs.Prelude.{AreCounters, count_of, HasRoot, is_later, IsNodeSound, IsPieceSound, IsPlaceSound}
 use Rattle.nf_words.specs.declared.answer.Limit.TheVariants as limit
+use Rattle.nf_rules.specs.Keys.{name_key}
 use Rattle.nf_rules.specs.Laws.{RuledAreUnbroken}
-use Rattle.nf_rules.specs.Ruled.{AreRuled, IsGiven, IsMemberRuled, IsUserRuled}
-use Rattle.nf_rules.specs.Rules.{are_counters, are_numbers, first_broken, has_ungiven_blob, is_beyond, is_given, is_lavish, is_place_given, is_place_there, is_placed, is_root_of, is_user, names_are_there, rules}
+use Rattle.nf_rules.specs.Ruled.{AreRuled, IsGiven, IsGroupRuled, IsMemberRuled, IsMountRuled, IsShareRuled, IsTokenRuled, IsUserRuled}
+use Rattle.nf_rules.specs.Rules.{are_counters, are_numbers, has_ungiven_blob, is_beyond, is_given, is_lavish, is_place_given, is_place_there, is_placed, is_root_of, is_shared_well, is_user, names_are_there, rules}
 use Rattle.nf_rules.proofs.Apart.{keys_unshared, names_unshared}
 use Rattle.nf_rules.proofs.Firsts.{Keep, none_broken}
+use Rattle.nf_rules.proofs.Later.{not_one_of}
 use Rattle.nf_rules.proofs.Leading.{sound_leads}
-use Rattle.nf_rules.proofs.Stacked.{all_early, early_rows, rows_have}
+use Rattle.nf_rules.proofs.Shared.{AreUnshared, of_among}
+use Rattle.nf_rules.proofs.Shares.{mount_well}
+use Rattle.nf_rules.proofs.Stacked.{IsOf, rows_have}
 
 -- ---- numbers
 
@@ -84,20 +89,25 @@ node_numbers t row h sound owner =
     (not_from_false _ (blobs_given t row.content sound.pieces)))
     (not_from_false _ (le-ltb t.meta.last row.changed sound.changed))
 
-numbers_are : (t : Tables) → AreRuled t → All (λ row. are_numbers t.meta row ≡ true) (early_rows t)
-numbers_are t h =
-    rows_have (λ row. are_numbers t.meta row ≡ true) t (counters_are t.meta h.sound.counters) (record {
-      users = All-weaker (IsUserRuled t) (λ (row : UserRow). are_numbers t.meta (rows.User row) ≡ true)
-          (λ row own. and_from _ _ (is_given_from t.meta.next_user row.id own.id) (is_given_from t.meta.next_node row.root own.root))
-          t.users h.users;
-      tokens = λ k d within. is_given_from t.meta.next_user _ (h.tokens k d within).given;
-      groups = λ k d within. is_given_from t.meta.next_group _ (h.groups k d within).id;
-      members = All-weaker (IsMemberRuled t) (λ (row : MemberRow). are_numbers t.meta (rows.Member row) ≡ true)
-          (λ row own. and_from _ _ (is_given_from t.meta.next_group row.group own.given_group)
-          (is_given_from t.meta.next_user row.user own.given_user)) t.members h.members;
-      nodes = λ k d within. node_numbers t (get_or t.nodes k d) h (h.sound.nodes k d within) (h.owners k d within);
-      later = h.sound.later;
-    })
+numbers_are : (t : Tables) (row : Row) → AreRuled t → IsOf t row → are_numbers t.meta row ≡ true
+numbers_are t (rows.Meta row) h is = subst (λ (meta : MetaRow). are_counters meta ≡ true) (sym is) (counters_are t.meta h.sound.counters)
+numbers_are t (rows.User row) h among =
+    let own = of_among (IsUserRuled t) t.users row h.users among in
+    and_from _ _ (is_given_from t.meta.next_user row.id own.id) (is_given_from t.meta.next_node row.root own.root)
+numbers_are t (rows.Token row) h among =
+    is_given_from t.meta.next_user row.user (of_among (IsTokenRuled t) t.tokens row h.tokens among).given
+numbers_are t (rows.Group row) h among = is_given_from t.meta.next_group row.id (of_among (IsGroupRuled t) t.groups row h.groups among).id
+numbers_are t (rows.Member row) h among =
+    let own = of_among (IsMemberRuled t) t.members row h.members among in
+    and_from _ _ (is_given_from t.meta.next_group row.group own.given_group) (is_given_from t.meta.next_user row.user own.given_user)
+numbers_are t (rows.Node row) h among =
+    node_numbers t row h (of_among (IsNodeSound t) t.nodes row h.sound.nodes among)
+    (of_among (λ (row : NodeRow). is_user t row.owner ≡ true) t.nodes row h.owners among)
+numbers_are t (rows.Share row) h among = (of_among (IsShareRuled t) t.shares row h.shares among).numbers
+numbers_are t (rows.Mount row) h among =
+    let own = of_among (IsMountRuled t) t.mounts row h.mounts among in
+    and_from _ _ (is_given_from t.meta.next_user row.user own.user) (is_given_from t.meta.next_node row.node own.node)
+numbers_are t other h among = refl
 
 -- ---- what is named is there
 
@@ -106,19 +116,19 @@ place_there t row Root sound = refl
 place_there t row (Inside folder) sound = ap (λ (o : Option NodeRow). is_some o) (folder_there t.nodes folder sound.0).1
 place_there t row Trash sound = refl
 
-names_there : (t : Tables) → AreRuled t → All (λ row. names_are_there t row ≡ true) (early_rows t)
-names_there t h =
-    rows_have (λ row. names_are_there t row ≡ true) t refl (record {
-      users = λ k d within. ap (λ (o : Option NodeRow). is_some o) (h.sound.roots k d within).there;
-      tokens = λ k d within. (h.tokens k d within).user;
-      groups = λ k d within. refl;
-      members = λ k d within. and_from _ _ (h.members k d within).group (h.members k d within).user;
-      nodes = λ k d within.
-          let row : NodeRow = get_or t.nodes k d in
-          and_from (is_user t row.owner) (is_place_there t row.place) (h.owners k d within)
-          (place_there t row row.place (h.sound.nodes k d within).place);
-      later = h.sound.later;
-    })
+names_there : (t : Tables) (row : Row) → AreRuled t → IsOf t row → names_are_there t row ≡ true
+names_there t (rows.User row) h among =
+    ap (λ (o : Option NodeRow). is_some o) (of_among (HasRoot t) t.users row h.sound.roots among).there
+names_there t (rows.Token row) h among = (of_among (IsTokenRuled t) t.tokens row h.tokens among).user
+names_there t (rows.Member row) h among =
+    let own = of_among (IsMemberRuled t) t.members row h.members among in and_from _ _ own.group own.user
+names_there t (rows.Node row) h among =
+    and_from (is_user t row.owner) (is_place_there t row.place)
+    (of_among (λ (row : NodeRow). is_user t row.owner ≡ true) t.nodes row h.owners among)
+    (place_there t row row.place (of_among (IsNodeSound t) t.nodes row h.sound.nodes among).place)
+names_there t (rows.Share row) h among = (of_among (IsShareRuled t) t.shares row h.shares among).names
+names_there t (rows.Mount row) h among = (of_among (IsMountSound t) t.mounts row h.sound.others.mounts among).user
+names_there t other h among = refl
 
 -- ---- roots
 
@@ -129,82 +139,68 @@ root_placed t user root =
     (and_from _ _ (and_from _ _ (ap is_root_place root.place) root.folder) (eq-eqb root.row.owner user.id root.owner))
     ((bytes_eq-Decides root.row.name user.name).1 root.name)
 
-all_placed : (t : Tables) → AreRuled t → All (λ row. is_placed t row ≡ true) (early_rows t)
-all_placed t h =
-    rows_have (λ row. is_placed t row ≡ true) t refl (record {
-      users = All-weaker (HasRoot t) (λ (row : UserRow). is_placed t (rows.User row) ≡ true) (root_placed t) t.users h.sound.roots;
-      tokens = λ k d within. refl;
-      groups = λ k d within. refl;
-      members = λ k d within. refl;
-      nodes = λ k d within.
-          sound_leads t (get_or t.nodes k d) h.sound (h.sound.nodes k d within) (node_row_each t.nodes h.sound.rising k d within);
-      later = h.sound.later;
-    })
+all_placed : (t : Tables) (row : Row) → AreRuled t → IsOf t row → is_placed t row ≡ true
+all_placed t (rows.User row) h among = root_placed t row (of_among (HasRoot t) t.users row h.sound.roots among)
+all_placed t (rows.Node row) h among =
+    sound_leads t row h.sound (of_among (IsNodeSound t) t.nodes row h.sound.nodes among)
+    (of_among (λ (row : NodeRow). node_row t.nodes row.id ≡ Some row) t.nodes row (node_row_each t.nodes h.sound.rising) among)
+all_placed t other h among = refl
+
+-- ---- shares and mounts
+
+shared_well : (t : Tables) (row : Row) → AreRuled t → IsOf t row → is_shared_well t row ≡ true
+shared_well t (rows.Share row) h among = (of_among (IsShareRuled t) t.shares row h.shares among).kept
+shared_well t (rows.Mount row) h among = mount_well t row (of_among (IsMountSound t) t.mounts row h.sound.others.mounts among)
+shared_well t other h among = refl
 
 -- ---- limits
 
-all_within : (t : Tables) → AreRuled t → All (λ row. is_beyond t row ≡ false) (early_rows t)
-all_within t h =
-    rows_have (λ row. is_beyond t row ≡ false) t refl (record {
-      users = λ k d within. le-ltb MAX_USERS (length t.users) h.few_users;
-      tokens = λ k d within. le-ltb MAX_TOKENS (length t.tokens) h.few_tokens;
-      groups = λ k d within. le-ltb MAX_GROUPS (length t.groups) h.few_groups;
-      members = λ k d within. le-ltb MAX_MEMBERS (length t.members) h.few_members;
-      nodes = λ k d within.
-          or_from _ _ (le-ltb (count_of limit.Nodes) (length t.nodes) h.sound.few_nodes)
-          (and_right (nat_lt 0 (length (get_or t.nodes k d).content)) _
-          (le-ltb (count_of limit.Pieces) (piece_count t.nodes) (omega (arith, h.sound.few_pieces))));
-      later = h.sound.later;
-    })
+all_within : (t : Tables) (row : Row) → AreRuled t → is_beyond t row ≡ false
+all_within t (rows.User row) h = le-ltb MAX_USERS (length t.users) h.few_users
+all_within t (rows.Token row) h = le-ltb MAX_TOKENS (length t.tokens) h.few_tokens
+all_within t (rows.Group row) h = le-ltb MAX_GROUPS (length t.groups) h.few_groups
+all_within t (rows.Member row) h = le-ltb MAX_MEMBERS (length t.members) h.few_members
+all_within t (rows.Node row) h =
+    or_from _ _ (le-ltb (count_of limit.Nodes) (length t.nodes) h.sound.few_nodes)
+    (and_right (nat_lt 0 (length row.content)) _
+    (le-ltb (count_of limit.Pieces) (piece_count t.nodes) (omega (arith, h.sound.few_pieces))))
+all_within t (rows.Share row) h = le-ltb MAX_SHARES (length t.shares) h.sound.others.few_shares
+all_within t (rows.Mount row) h = le-ltb MAX_MOUNTS (length t.mounts) h.sound.others.few_mounts
+all_within t other h = refl
 
-none_lavish : (t : Tables) → AreRuled t → All (λ row. is_lavish row ≡ false) (early_rows t)
-none_lavish t h =
-    rows_have (λ row. is_lavish row ≡ false) t refl (record {
-      users = λ k d within. le-ltb MAX_QUOTA _ (h.users k d within).quota;
-      tokens = λ k d within. refl;
-      groups = λ k d within. refl;
-      members = λ k d within. refl;
-      nodes = λ k d within. refl;
-      later = h.sound.later;
-    })
-
-none_later : (t : Tables) → AreRuled t → All (λ row. is_later row ≡ false) (early_rows t)
-none_later t h =
-    rows_have (λ row. is_later row ≡ false) t refl (record {
-      users = λ k d within. refl;
-      tokens = λ k d within. refl;
-      groups = λ k d within. refl;
-      members = λ k d within. refl;
-      nodes = λ k d within. refl;
-      later = h.sound.later;
-    })
+none_lavish : (t : Tables) (row : Row) → AreRuled t → IsOf t row → is_lavish row ≡ false
+none_lavish t (rows.User row) h among = le-ltb MAX_QUOTA row.quota (of_among (IsUserRuled t) t.users row h.users among).quota
+none_lavish t other h among = refl
 
 -- ---- all rules
 
-fails : (test : Row → Bool) (all : List Row) → All (λ row. test row ≡ true) all → All (λ row. not (test row) ≡ false) all
-fails test all = All-weaker (λ row. test row ≡ true) (λ row. not (test row) ≡ false) (λ row passes. not_from_true (test row) passes) all
+-- a test that no row of the tables fails, in the tables that their rows make
+none_fails : (test : Tables → Row → Bool) (t : Tables) → tables_of (rows_of t) ≡ t → ((row : Row) → IsOf t row → test t row ≡ true)
+    → All (λ row. not (test (tables_of (rows_of t)) row) ≡ false) (rows_of t)
+none_fails test t again each =
+    subst (λ (u : Tables). All (λ row. not (test u row) ≡ false) (rows_of t)) (sym again)
+    (rows_have (λ row. not (test t row) ≡ false) t (λ row among. not_from_true (test t row) (each row among)))
 
-each_kept : (t : Tables) → All Fits (early_rows t) → AreRuled t → tables_of (early_rows t) ≡ t → AllByRecursion (Keep (early_rows t)) rules
-each_kept t fits h again =
-    let all : List Row = early_rows t in
-    let numbers = fails (are_numbers t.meta) all (numbers_are t h) in
-    let there = fails (names_are_there t) all (names_there t h) in
-    let placed = fails (is_placed t) all (all_placed t h) in
-    keep_more (none_later t h, refl)
+each_kept : (t : Tables) → All Fits (rows_of t) → AreRuled t → AllByRecursion (Keep (rows_of t)) rules
+each_kept t fits h =
+    let all : List Row = rows_of t in
+    let again : tables_of all ≡ t = tables_again t h.rising in
+    let early = rows_have (λ row. is_later row ≡ false) t (λ row among. not_one_of t later_kinds row h.sound.later among) in
+    let names = subst (λ (u : Tables). AreUnshared (name_key u) all) (sym again) (names_unshared t h) in
+    let within = subst (λ (u : Tables). All (λ row. is_beyond u row ≡ false) all) (sym again)
+    (rows_have (λ row. is_beyond t row ≡ false) t (λ row among. all_within t row h)) in
+    keep_more (early, refl)
     (keep_more (keys_unshared t fits h.rising, refl)
-    (keep_more (subst (λ (u : Tables). All (λ row. not (are_numbers u.meta row) ≡ false) all) (sym again) numbers, refl)
-    (keep_more (subst (λ (u : Tables). All (λ row. not (names_are_there u row) ≡ false) all) (sym again) there, refl)
-    (keep_more (names_unshared t h, refl)
-    (keep_more (subst (λ (u : Tables). All (λ row. not (is_placed u row) ≡ false) all) (sym again) placed, refl)
-    (keep_more (subst (λ (u : Tables). All (λ row. is_beyond u row ≡ false) all) (sym again) (all_within t h), refl)
-    (keep_more (none_lavish t h, refl) tt)))))))
+    (keep_more (none_fails (λ t row. are_numbers t.meta row) t again (λ row among. numbers_are t row h among), refl)
+    (keep_more (none_fails names_are_there t again (λ row among. names_there t row h among), refl)
+    (keep_more (names, refl)
+    (keep_more (none_fails is_placed t again (λ row among. all_placed t row h among), refl)
+    (keep_more (none_fails is_shared_well t again (λ row among. shared_well t row h among), refl)
+    (keep_more (within, refl)
+    (keep_more (rows_have (λ row. is_lavish row ≡ false) t (λ row among. none_lavish t row h among), refl) tt))))))))
   where
     keep_more : {A B : Type 0} → A → B → A × B
     keep_more one rest = (one, rest)
 
 pub ruled_are_unbroken : RuledAreUnbroken
-ruled_are_unbroken t fits h =
-    let early : rows_of t ≡ early_rows t = all_early t h.sound.later in
-    subst (λ (all : List Row). first_broken rules all ≡ None) (sym early)
-    (none_broken rules (early_rows t)
-    (each_kept t (subst (λ (all : List Row). All Fits all) early fits) h (ap tables_of (sym early) ∙ tables_again t h.rising)))
+ruled_are_unbroken t fits h = none_broken rules (rows_of t) (each_kept t fits h)

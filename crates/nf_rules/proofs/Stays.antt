@@ -17,7 +17,9 @@ use Rattle.nf_laws.specs.Numbers.{AreHigher}
 use Rattle.nf_words.specs.Prelude.{after, AreSound, IsSound, MayCome, State}
 use Rattle.nf_words.specs.declared.history.Entry.{Entry}
 use Rattle.nf_rules.specs.Laws.{StaysRuled}
-use Rattle.nf_rules.specs.Ruled.{AreRuled, IsGiven, IsGroupRuled, IsMemberRuled, IsTokenRuled, IsUserRuled}
+use Rattle.nf_rules.specs.Ruled.{AreRuled, IsGiven, IsGroupRuled, IsMemberRuled, IsMountRuled, IsTokenRuled, IsUserRuled}
+use Rattle.nf_rules.proofs.Later.{nobody_among}
+use Rattle.nf_rules.proofs.Shared.{each_among}
 
 -- ---- the tables with other nodes
 
@@ -31,6 +33,8 @@ others_ruled : (t : Tables) (meta : MetaRow) (nodes : List NodeRow) → AreRuled
     → AreRuled (with_nodes t meta nodes)
 others_ruled t meta nodes h sound up =
     let made = with_nodes t meta nodes in
+    -- nothing is shared yet
+    let unshared : t.shares ≡ [] = h.sound.later.0 in
     record {
       sound = sound;
       rising = rises made h.rising.users h.rising.tokens h.rising.groups h.rising.members (nodes_rise nodes sound.rising)
@@ -54,8 +58,15 @@ others_ruled t meta nodes h sound up =
             group = own.group;
             user = own.user;
           }) t.members h.members;
+      shares = λ k d within. absurd (nobody_among t.shares (get_or t.shares k d) unshared (each_among t.shares k d within));
+      mounts = All-weaker (IsMountRuled t) (IsMountRuled made)
+          (λ row own. record {
+            user = still_given t.meta.next_user meta.next_user row.user up.users own.user;
+            node = still_given t.meta.next_node meta.next_node row.node up.nodes own.node;
+          }) t.mounts h.mounts;
       user_names = h.user_names;
       group_names = h.group_names;
+      tokens_apart = h.tokens_apart;
       few_users = h.few_users;
       few_groups = h.few_groups;
       few_tokens = h.few_tokens;

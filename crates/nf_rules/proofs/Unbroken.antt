@@ -8,7 +8,8 @@ use Rattle.std.proofs.lemmas.Bool.{and_cases, and_parts, cases_lt, eqb-true, fal
 use Rattle.std.proofs.lemmas.List.Elements.{All-cons, All-head, All-nil, All-tail, All-weaker}
 use Rattle.std.proofs.lemmas.List.Sums.{sum_by-cons}
 use Rattle.std.proofs.lemmas.Slice.Eq.{bytes_eq-Decides}
-use Rattle.nf_base.specs.declared.limits.TheConstants.{MAX_GROUPS, MAX_MEMBERS, MAX_QUOTA, MAX_TOKENS, MAX_USERS}
+use Rattle.nf_base.specs.declared.limits.TheConstants.{MAX_GROUPS, MAX_MEMBERS, MAX_MOUNTS, MAX_QUOTA, MAX_SHARES, MAX_TOKENS, MAX_USERS}
+use Rattle.nf_access.specs.Mounts.{root_folder}
 use Rattle.nf_base.proofs.Naming.{slice_cmp-Equal}
 use Rattle.nf_base.specs.Keys.{key_of}
 use Rattle.nf_base.specs.KeptRows.{IsKept}
@@ -16,6 +17,7 @@ use Rattle.nf_base.specs.declared.content.Piece.{Piece}
 use Rattle.nf_base.specs.declared.rows.Row.{Row}
 use Rattle.nf_base.specs.declared.rows.Row.TheVariants as rows
 use Rattle.nf_base.specs.declared.rows.MetaRow.{MetaRow}
+use Rattle.nf_base.specs.declared.rows.MountRow.{MountRow}
 use Rattle.nf_base.specs.declared.rows.NodeKind.{NodeKind}
 use Rattle.nf_base.specs.declared.rows.NodeKind.TheVariants.{Folder, File}
 use Rattle.nf_base.specs.declared.rows.NodeRow.{NodeRow}
@@ -25,26 +27,24 @@ use Rattle.nf_base.specs.declared.rows.UserRow.{UserRow}
 use Rattle.nf_defs.proofs.Tables.{tables_rise}
 use Rattle.nf_defs.proofs.Puts.{below_one}
 use Rattle.nf_defs.proofs.Walks.{node_row_each}
-use Rattle.nf_defs.specs.Prelude.{group_key, is_folder_kind, is_root_place, IsRising, key_cmp, node_key, node_row, numbers_of, piece_count, Tables, tables_of, user_key}
-use Rattle.nf_words.specs.Prelude.{AreCounters, AreSound, count_of, HasNoLater, HasRoot, is_later, IsNodeSound, stored_pieces}
-use Rattle.nf_laws.proofs.Rows.{no_others}
+use Rattle.nf_defs.specs.Prelude.{group_key, is_folder_kind, is_root_place, IsRising, key_cmp, mount_key, node_key, node_row, numbers_of, piece_count, share_key, Tables, tables_of, user_key}
+use Rattle.nf_words.specs.Prelude.{AreCounters, AreSound, count_of, HasRoot, is_later, IsNodeSound, stored_pieces}
+use Rattle.nf_words.specs.Later.{later_kinds}
+use Rattle.nf_words.specs.Others.{AreOthersSound, IsShareSound}
 use Rattle.nf_words.specs.declared.answer.Limit.TheVariants as limit
-use Rattle.nf_rules.specs.Keys.{child_key, name_key}
+use Rattle.nf_rules.specs.Keys.{child_key, link_key, name_key}
 use Rattle.nf_rules.specs.Laws.{UnbrokenAreRuled}
-use Rattle.nf_rules.specs.Ruled.{IsGiven}
-use Rattle.nf_rules.specs.Rules.{AreUnbroken, are_counters, are_numbers, has_ungiven_blob, is_beyond, is_given, is_lavish, is_placed, is_root_of, lacks_meta, leads, names_are_there, rules}
-use Rattle.nf_rules.proofs.Among.{all_have, meta_has}
+use Rattle.nf_rules.specs.Ruled.{IsGiven, IsMountRuled, IsShareRuled}
+use Rattle.nf_rules.specs.Rules.{AreUnbroken, are_counters, are_numbers, has_ungiven_blob, is_beyond, is_given, is_lavish, is_placed, is_root_of, is_shared_well, lacks_meta, leads, names_are_there, rules}
+use Rattle.nf_rules.proofs.Among.{Have, all_have, meta_has}
 use Rattle.nf_rules.proofs.Firsts.{keep_each}
+use Rattle.nf_rules.proofs.Later.{nobody, none_of}
 use Rattle.nf_rules.proofs.Leading.{climbs, place_of_leading}
 use Rattle.nf_rules.proofs.Shared.{AreUnshared, IsAmong, each_among, one_has}
 use Rattle.nf_rules.proofs.Shared as shared
+use Rattle.nf_rules.proofs.Shares.{given, mount_key_is, mount_sound, name_free, share_sound}
 
 -- ---- numbers
-
-given : (next id : ℕ) → is_given next id ≡ true → IsGiven next id
-given next id is =
-    let parts = and_parts (nat_lt 0 id) (nat_lt id next) is in
-    record { first = ltb-true 0 id parts.0; below = ltb-true id next parts.1 }
 
 counters : (meta : MetaRow) → are_counters meta ≡ true → AreCounters meta
 counters meta is =
@@ -75,13 +75,13 @@ not_below a b less same = let equal : key_cmp a b ≡ Equal = (slice_cmp-Equal a
 
 -- rows of one kind share no name, since the rows that were put into the tables share none
 names_differ : {R : Type 0} (key : R → List ℕ) (row_of : R → Row) → ((row : R) → numbers_of (key_of (row_of row)) ≡ key row)
-    → (all : List Row) (some : List R) → AreUnshared name_key all → IsRising key some → All (λ row. IsAmong all (row_of row)) some
-    → AllPairs (λ a b. shared.AreApart name_key (row_of a) (row_of b)) some
-names_differ {R = R} key row_of keyed all some unshared rising among i j d before within name first second =
+    → (t : Tables) (all : List Row) (some : List R) → AreUnshared (name_key t) all → IsRising key some
+    → All (λ row. IsAmong all (row_of row)) some → AllPairs (λ a b. shared.AreApart (name_key t) (row_of a) (row_of b)) some
+names_differ {R = R} key row_of keyed t all some unshared rising among i j d before within name first second =
     let a : R = get_or some i d in
     let b : R = get_or some j d in
     let same : row_of a ≡ row_of b =
-    one_has name_key all (row_of a) (row_of b) name unshared (among i d (omega arith)) (among j d within) first second in
+    one_has (name_key t) all (row_of a) (row_of b) name unshared (among i d (omega arith)) (among j d within) first second in
     not_below (key a) (key b) (rising i j d before within) (sym (keyed a) ∙ ap (λ (row : Row). numbers_of (key_of row)) same ∙ keyed b)
 
 -- ---- nodes
@@ -183,8 +183,9 @@ record Known (all : List Row) : Type 0 where
   meta : lacks_meta all ≡ false
   numbers : All (λ row. are_numbers (tables_of all).meta row ≡ true) all
   there : All (λ row. names_are_there (tables_of all) row ≡ true) all
-  names : AreUnshared name_key all
+  names : AreUnshared (name_key (tables_of all)) all
   placed : All (λ row. is_placed (tables_of all) row ≡ true) all
+  well : All (λ row. is_shared_well (tables_of all) row ≡ true) all
   few : All (λ row. is_beyond (tables_of all) row ≡ false) all
   modest : All (λ row. is_lavish row ≡ false) all
 
@@ -202,24 +203,78 @@ known all none =
       there = passes (names_are_there t) all kept.1.1.1.0.0;
       names = kept.1.1.1.1.0.0;
       placed = passes (is_placed t) all kept.1.1.1.1.1.0.0;
-      few = kept.1.1.1.1.1.1.0.0;
-      modest = kept.1.1.1.1.1.1.1.0.0;
+      well = passes (is_shared_well t) all kept.1.1.1.1.1.1.0.0;
+      few = kept.1.1.1.1.1.1.1.0.0;
+      modest = kept.1.1.1.1.1.1.1.1.0.0;
     }
 
+-- ---- shares and mounts
+
+shares_ruled : (all : List Row) → Known all → All (IsShareRuled (tables_of all)) (tables_of all).shares
+shares_ruled all h =
+    let t : Tables = tables_of all in
+    let numbers = all_have (λ row. are_numbers t.meta row ≡ true) all h.numbers in
+    let there = all_have (λ row. names_are_there t row ≡ true) all h.there in
+    let well = all_have (λ row. is_shared_well t row ≡ true) all h.well in
+    λ k d less. record { numbers = numbers.shares k d less; names = there.shares k d less; kept = well.shares k d less }
+
+mounts_ruled : (all : List Row) → Known all → All (IsMountRuled (tables_of all)) (tables_of all).mounts
+mounts_ruled all h =
+    let t : Tables = tables_of all in
+    let numbers = all_have (λ row. are_numbers t.meta row ≡ true) all h.numbers in
+    λ k d less.
+    let parts = and_parts _ _ (numbers.mounts k d less) in
+    record { user = given t.meta.next_user _ parts.0; node = given t.meta.next_node _ parts.1 }
+
+others : (all : List Row) → Known all → AreOthersSound (tables_of all)
+others all h =
+    let t : Tables = tables_of all in
+    let rising = tables_rise all in
+    let among = all_have (IsAmong all) all (each_among all) in
+    let early = all_have (λ row. is_later row ≡ false) all h.early in
+    let there = all_have (λ row. names_are_there t row ≡ true) all h.there in
+    let well = all_have (λ row. is_shared_well t row ≡ true) all h.well in
+    let within = all_have (λ row. is_beyond t row ≡ false) all h.few in
+    let apart = names_differ mount_key rows.Mount (λ row. refl) t all t.mounts h.names rising.mounts among.mounts in
+    record {
+      shares = All-weaker (IsShareRuled t) (IsShareSound t) (share_sound t) t.shares (shares_ruled all h);
+      shares_rise = rising.shares;
+      few_shares = few t.shares MAX_SHARES within.shares;
+      mounts = λ k d less.
+          let row : MountRow = get_or t.mounts k d in
+          mount_sound t row (mounts_ruled all h k d less) (there.mounts k d less) (well.mounts k d less)
+          (name_free t all row h.names among.nodes (among.mounts k d less));
+      mounts_rise = rising.mounts;
+      mounts_apart = λ i j d before less users shown other same.
+          let a : MountRow = get_or t.mounts i d in
+          let b : MountRow = get_or t.mounts j d in
+          apart i j d before less (6 ∷ root_folder t.users a.user ∷ a.name) (mount_key_is t a shown)
+          (mount_key_is t b other ∙ ap (λ (user : ℕ). Some (6 ∷ root_folder t.users user ∷ b.name)) (sym users)
+          ∙ ap (λ (name : List ℕ). Some (6 ∷ root_folder t.users a.user ∷ name)) (sym same));
+      few_mounts = few t.mounts MAX_MOUNTS within.mounts;
+      versions = λ k d less. absurd (false≢true (sym (early.versions k d less)));
+      items = λ k d less. absurd (false≢true (sym (early.items k d less)));
+      uploads = λ k d less. absurd (false≢true (sym (early.uploads k d less)));
+      chunks = λ k d less. absurd (false≢true (sym (early.chunks k d less)));
+    }
+
+-- ---- all of them
+
 -- where there are no versions and no chunks, the nodes have all pieces
-pieces_early : (t : Tables) → HasNoLater t → stored_pieces t ≡ piece_count t.nodes
-pieces_early t (shares, (mounts, (versions, (items, (uploads, (chunks, end)))))) = rw (versions, chunks) (omega arith)
+pieces_early : (t : Tables) → Have (λ row. is_later row ≡ false) t → stored_pieces t ≡ piece_count t.nodes
+pieces_early t early = rw (nobody t.versions early.versions, nobody t.chunks early.chunks) (omega arith)
 
 sound : (all : List Row) → All IsKept all → Known all → AreSound (tables_of all)
 sound all kept h =
     let t : Tables = tables_of all in
     let rising = tables_rise all in
-    let among = all_have (IsAmong all) all h.early (each_among all) in
-    let numbers = all_have (λ row. are_numbers t.meta row ≡ true) all h.early h.numbers in
-    let keeps = all_have IsKept all h.early kept in
-    let placed = all_have (λ row. is_placed t row ≡ true) all h.early h.placed in
-    let within = all_have (λ row. is_beyond t row ≡ false) all h.early h.few in
-    let apart = names_differ node_key rows.Node (λ row. refl) all t.nodes h.names rising.nodes among.nodes in
+    let among = all_have (IsAmong all) all (each_among all) in
+    let early = all_have (λ row. is_later row ≡ false) all h.early in
+    let numbers = all_have (λ row. are_numbers t.meta row ≡ true) all h.numbers in
+    let keeps = all_have IsKept all kept in
+    let placed = all_have (λ row. is_placed t row ≡ true) all h.placed in
+    let within = all_have (λ row. is_beyond t row ≡ false) all h.few in
+    let apart = names_differ node_key rows.Node (λ row. refl) t all t.nodes h.names rising.nodes among.nodes in
     let rises : AllPairs (λ (a b : NodeRow). a.id < b.id) t.nodes =
     λ i j d before less. below_one (get_or t.nodes i d).id (get_or t.nodes j d).id (rising.nodes i j d before less) in
     record {
@@ -238,9 +293,9 @@ sound all kept h =
           (All-weaker (λ (row : NodeRow). is_beyond t (rows.Node row) ≡ false)
           (λ (row : NodeRow). nat_lt (count_of limit.Nodes) (length t.nodes) ≡ false)
           (λ row fails. (or_parts (nat_lt (count_of limit.Nodes) (length t.nodes)) _ fails).0) t.nodes within.nodes);
-      few_pieces = rw (pieces_early t among.later) (few_pieces t within.nodes);
-      later = among.later;
-      others = no_others t among.later;
+      few_pieces = rw (pieces_early t early) (few_pieces t within.nodes);
+      later = none_of t later_kinds early;
+      others = others all h;
     }
 
 pub unbroken_are_ruled : UnbrokenAreRuled
@@ -248,13 +303,14 @@ unbroken_are_ruled all kept none =
     let h = known all none in
     let t : Tables = tables_of all in
     let rising = tables_rise all in
-    let among = all_have (IsAmong all) all h.early (each_among all) in
-    let numbers = all_have (λ row. are_numbers t.meta row ≡ true) all h.early h.numbers in
-    let there = all_have (λ row. names_are_there t row ≡ true) all h.early h.there in
-    let within = all_have (λ row. is_beyond t row ≡ false) all h.early h.few in
-    let modest = all_have (λ row. is_lavish row ≡ false) all h.early h.modest in
-    let users = names_differ user_key rows.User (λ row. refl) all t.users h.names rising.users among.users in
-    let groups = names_differ group_key rows.Group (λ row. refl) all t.groups h.names rising.groups among.groups in
+    let among = all_have (IsAmong all) all (each_among all) in
+    let numbers = all_have (λ row. are_numbers t.meta row ≡ true) all h.numbers in
+    let there = all_have (λ row. names_are_there t row ≡ true) all h.there in
+    let within = all_have (λ row. is_beyond t row ≡ false) all h.few in
+    let modest = all_have (λ row. is_lavish row ≡ false) all h.modest in
+    let users = names_differ user_key rows.User (λ row. refl) t all t.users h.names rising.users among.users in
+    let groups = names_differ group_key rows.Group (λ row. refl) t all t.groups h.names rising.groups among.groups in
+    let shares = names_differ share_key rows.Share (λ row. refl) t all t.shares h.names rising.shares among.shares in
     record {
       sound = sound all kept h;
       rising = rising;
@@ -277,10 +333,13 @@ unbroken_are_ruled all kept none =
             group = names.0;
             user = names.1;
           };
+      shares = shares_ruled all h;
+      mounts = mounts_ruled all h;
       user_names = λ i j d before less same. users i j d before less (2 ∷ (get_or t.users i d).name) refl
           (ap (λ (name : List ℕ). Some (2 ∷ name)) (sym same));
       group_names = λ i j d before less same. groups i j d before less (4 ∷ (get_or t.groups i d).name) refl
           (ap (λ (name : List ℕ). Some (4 ∷ name)) (sym same));
+      tokens_apart = λ i j d before less token first second. shares i j d before less (7 ∷ token) (ap link_key first) (ap link_key second);
       few_users = few t.users MAX_USERS within.users;
       few_groups = few t.groups MAX_GROUPS within.groups;
       few_tokens = few t.tokens MAX_TOKENS within.tokens;
