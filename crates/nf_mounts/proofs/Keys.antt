@@ -14,7 +14,7 @@ use Rattle.nf_defs.proofs.Lookups.{bytes_turned, equal_bytes}
 use Rattle.nf_defs.proofs.Puts.{below_rest, key_total, tail_rising}
 use Rattle.nf_mounts.specs.Kept.{entry_key}
 use Rattle.nf_mounts.specs.declared.names.NamedMount.{NamedMount}
-use Rattle.nf_table.specs.Rows.{row_at}
+use Rattle.nf_table.specs.Rows.{begins, row_at}
 use Rattle.nf_table.specs.declared.swaps.Swap.{Swap}
 use Rattle.nf_table.proofs.Looked.{at_swapped, same_bytes}
 
@@ -32,6 +32,10 @@ and_true false = refl
 pub by_key : (rows : List MountRow) (user node : ℕ) → row_at mount_key (user ∷ node ∷ []) rows ≡ mount_row rows user node
 by_key rows user node =
     ap (λ (test : MountRow → Bool). find test rows) (λ i row. ap (λ (b : Bool). (row.user == user) && b) (and_true (row.node == node)) i)
+
+-- and that of its user is that of a front
+pub by_user : (rows : List MountRow) (user : ℕ) → filter (λ row. begins (mount_key row) (user ∷ [])) rows ≡ filter (λ row. row.user == user) rows
+by_user rows user = ap (λ (test : MountRow → Bool). filter test rows) (λ i row. and_true (row.user == user) i)
 
 -- ---- entries of the same key
 

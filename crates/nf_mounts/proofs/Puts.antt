@@ -176,12 +176,12 @@ module _ (index : List NamedMount) (rows : List MountRow) (row : MountRow) (risi
       let all = length-filter_both (λ (row : MountRow). not row.left) (λ (row : MountRow). not (not row.left)) (λ _. refl) (put mount_key row rows) in
       omega arith
 
-pub row_fits : (rows : List MountRow) (row : MountRow) (room : ℕ) → IsRising mount_key rows → length (put mount_key row rows) ≤ room
-    → row_at mount_key (mount_key row) rows ≡ None → length rows < room
-row_fits rows row room rising fits none =
-    let size = size_put_all mount_key row rows rising in
-    let k = ap (λ (o : Option MountRow). one mount_key (passes mount_key (λ _. true) o)) none in
-    omega arith
+-- where there is room for each row, and for a new one if this is one, there is for the rows with it
+pub put_fits : (rows : List MountRow) (row : MountRow) (room : ℕ) → IsRising mount_key rows → length rows ≤ room
+    → (mount_row rows row.user row.node ≡ None → length rows < room) → length (put mount_key row rows) ≤ room
+put_fits rows row room rising fits new =
+    let size = rw (by_key rows row.user row.node) at (size_put_all mount_key row rows rising) in
+    grind arith
 
 -- no more entries than rows
 pub few : (index : List NamedMount) (rows : List MountRow) → IsNameIndex index rows → length index ≤ length rows

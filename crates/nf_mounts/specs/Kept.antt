@@ -1,5 +1,5 @@
 -- The mounts as the program holds them.
-use Rattle.std.specs.Prelude.{◌≡◌, ℕ, Bool, true, false, not, ◌&&◌, ◌==◌, bytes_eq, ◌+◌, List, [], ◌∷◌, ◌++◌, filter, length, map, Option, None, Some, Result, Ok, Err, if◌then◌else◌}
+use Rattle.std.specs.Prelude.{◌≡◌, ◌≤◌, ℕ, Bool, true, false, not, ◌&&◌, ◌==◌, bytes_eq, ◌+◌, List, [], ◌∷◌, ◌++◌, filter, length, map, Option, None, Some, Result, Ok, Err, if◌then◌else◌}
 use Rattle.std.specs.Option.{option_map_or}
 use Rattle.sha2.specs.Sha256.{sha256}
 use Rattle.nf_access.specs.Mounts.{is_mounted, is_shown_to, mount_row, root_folder}
@@ -11,7 +11,7 @@ use Rattle.nf_defs.specs.Prelude.{IsRising, mount_key, taken_names}
 use Rattle.nf_mounts.specs.declared.names.NamedMount.{NamedMount}
 use Rattle.nf_mounts.specs.declared.faults.RenameFault.{RenameFault}
 use Rattle.nf_mounts.specs.declared.faults.RenameFault.TheVariants as fault
-use Rattle.nf_table.specs.Rows.{row_at}
+use Rattle.nf_table.specs.Rows.{TableValue, row_at}
 
 -- the rows of mounts, and how many fit without more memory
 pub record KeptMounts : Type 0 where
@@ -41,6 +41,11 @@ pub record IsNameIndex (index : List NamedMount) (rows : List MountRow) : Type 0
   pub rows_rise : IsRising mount_key rows
   pub listed : (entry : NamedMount) → row_at entry_key (entry_key entry) index ≡ (if is_listed rows entry then Some entry else None)
   pub count : length index ≡ length (filter (λ row. not row.left) rows)
+
+-- and the entries of all rows would fit
+pub record AreNamed (index : TableValue NamedMount) (rows : List MountRow) : Type 0 where
+  pub names : IsNameIndex index.rows rows
+  pub fits : length rows ≤ index.room
 
 -- the same but for the entry of the user's mount of a node, which isn't there
 pub record AreCleared (index : List NamedMount) (rows : List MountRow) (user node : ℕ) : Type 0 where

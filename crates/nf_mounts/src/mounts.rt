@@ -1,6 +1,6 @@
 //! The mounts of the site.
 
-ghost use Rattle.std.specs.Prelude.{◌≡◌, ◌+◌, ◌≤◌, ◌<◌, true, false, not, None, Some, [], length, nat_le, find, bytes_eq, option_copied, option_map, is_some, IfOk, IsOk, IsSome, OnOk};
+ghost use Rattle.std.specs.Prelude.{◌≡◌, ◌==◌, ◌+◌, ◌≤◌, ◌<◌, true, false, not, None, Some, [], length, nat_le, filter, find, bytes_eq, option_copied, option_map, is_some, IfOk, IsOk, IsSome, OnOk};
 ghost use Rattle.std.specs.Option.{option_map_or};
 ghost use Rattle.nf_access.specs.Mounts.{ensured, free_name_of, is_mounted, mount_at, mount_row, names_in_root, root_folder};
 ghost use Rattle.nf_base.specs.FreeNames.{is_taken};
@@ -9,7 +9,7 @@ ghost use Rattle.nf_mounts.specs.Kept.{Renames, is_named, left_row, names_beside
 
 use crate::faults::RenameFault;
 use crate::names::{MountName, NamedMount, first_named, name_index, renew};
-use nf_base::{Digest, MAX_MOUNTS, MountRow, Name, NodeId, UserId, free_name};
+use nf_base::{Digest, MAX_MOUNTS, MountRow, Name, NodeId, UserId, numbered_name};
 use nf_people::People;
 use nf_table::{MountKey, Table};
 use nf_tree::Tree;
@@ -25,13 +25,13 @@ pub struct Mounts {
 
 impl Model for Mounts {
     ghost use Rattle.std.specs.Prelude.{min};
-    ghost use Rattle.nf_mounts.specs.Kept.{IsNameIndex, KeptMounts};
+    ghost use Rattle.nf_mounts.specs.Kept.{AreNamed, KeptMounts};
 
     ghost Value = { KeptMounts };
 
     ghost view = { λ mounts. record { rows = mounts.rows.rows; room = min mounts.rows.room mounts.by_name.room } };
 
-    ghost invariant = { λ mounts. IsNameIndex mounts.by_name.rows mounts.rows.rows };
+    ghost invariant = { λ mounts. AreNamed mounts.by_name mounts.rows.rows };
 }
 
 impl Mounts {
@@ -86,6 +86,13 @@ impl Mounts {
         self.rows.find(&MountKey { user, node })
     }
 
+    /// The user's mounts, with those that were left.
+    pub fn of_user(&self, user: UserId) -> &[MountRow]
+        ensures { result.now ≡ filter (λ row. row.user == user) self.now.rows }
+    {
+        self.rows.front(&user)
+    }
+
     /// Whether the user has a mount of the node that wasn't left.
     pub fn is_mounted(&self, user: UserId, node: NodeId) -> bool
         ensures { result ≡ is_mounted self.now.rows user node }
@@ -107,6 +114,7 @@ impl Mounts {
     pub fn reserve(&mut self, count: usize) -> Result<(), AllocError>
         ensures room { OnOk result (length self.new.rows + count ≤ self.new.room) }
         ensures rows { self.new.rows ≡ self.old.rows }
+        ensures kept { self.old.room ≤ self.new.room }
     {
         self.rows.reserve(count)?;
         // Each row may come to have an entry.
@@ -117,7 +125,7 @@ impl Mounts {
 
     /// Puts a row over that of the same mount, or as a new one. It takes no memory.
     pub fn put(&mut self, row: MountRow)
-        requires { length (put mount_key row self.old.rows) ≤ self.old.room }
+        requires { mount_row self.old.rows row.user row.node ≡ None → length self.old.rows < self.old.room }
         ensures rows { self.new.rows ≡ put mount_key row self.old.rows }
         ensures room { self.old.room ≤ self.new.room }
         ensures count { length self.new.rows ≤ length self.old.rows + 1 }
@@ -227,8 +235,8 @@ impl Mounts {
             || self.at_but(user, name, Some(node)).is_some()
     }
 
-    /// The free name of a name in the user's root. Each name that is tried is taken there and is another one, so that no more are
-    /// tried than there are nodes and mounts.
+    /// The free name of a name in the user's root. Each number that is tried gives another name, so that no more are tried than there
+    /// are nodes and mounts.
     fn free_in_root(
         &self,
         alloc: Global,
@@ -240,14 +248,17 @@ impl Mounts {
         requires { length self.now.rows ≤ MAX_MOUNTS }
         ensures { IfOk result (λ free. free ≡ free_name_of name.now (names_in_root people.now.users tree.now.rows self.now.rows user)) }
     {
+        if self.is_name_free(people, tree, user, name) {
+            return name.copy();
+        }
         let _ = tree.count();
-        let mut tried = Vec::new(alloc);
+        let mut number = 2;
         loop {
-            let free = free_name(alloc, name, &tried)?;
+            let free = numbered_name(alloc, name, number)?;
             if self.is_name_free(people, tree, user, &free) {
                 return Ok(free);
             }
-            tried.push(free)?;
+            number += 1;
         }
     }
 }

@@ -3,7 +3,7 @@
 ghost use Rattle.std.specs.Prelude.{◌≡◌, ◌≤◌, ◌<◌, ◌&&◌, None, [], ◌∷◌, ◌++◌, length, filter, find, map, not, option_copied, IfOk};
 ghost use Rattle.nf_access.specs.Mounts.{mount_row};
 ghost use Rattle.nf_defs.specs.Prelude.{IsRising, key_cmp, mount_key, put};
-ghost use Rattle.nf_mounts.specs.Kept.{AreCleared, IsNameIndex, entry_key, entry_of, has_name, is_other};
+ghost use Rattle.nf_mounts.specs.Kept.{AreCleared, AreNamed, IsNameIndex, entry_key, entry_of, has_name, is_other};
 ghost use Rattle.nf_table.specs.Rows.{front_cmp};
 
 use nf_base::{Digest, MountRow, Name, NodeId, UserId};
@@ -88,14 +88,25 @@ fn entries_of(alloc: Global, rows: &[MountRow]) -> Result<Vec<NamedMount>, Alloc
         .collect(alloc)
 }
 
-/// The mounts of these rows that weren't left, by their names.
-pub(crate) fn name_index(alloc: Global, rows: &[MountRow]) -> Result<Table<NamedMount>, AllocError>
+/// The entries by rising key.
+fn sorted_entries(alloc: Global, rows: &[MountRow]) -> Result<Vec<NamedMount>, AllocError>
     requires { IsRising mount_key rows.now }
-    ensures { IfOk result (λ index. IsNameIndex index.rows rows.now) }
+    ensures { IfOk result (λ entries. IsNameIndex entries.items rows.now) }
 {
     let mut entries = entries_of(alloc, rows)?;
     entries.sort_unstable_by(|a, b| a.compare(b));
-    Ok(Table::of(entries))
+    Ok(entries)
+}
+
+/// The mounts of these rows that weren't left, by their names, with room for the others.
+pub(crate) fn name_index(alloc: Global, rows: &[MountRow]) -> Result<Table<NamedMount>, AllocError>
+    requires { IsRising mount_key rows.now }
+    ensures { IfOk result (λ index. AreNamed index rows.now) }
+{
+    let mut index = Table::of(sorted_entries(alloc, rows)?);
+    let others = rows.len() - index.count();
+    index.reserve(others)?;
+    Ok(index)
 }
 
 /// Takes the entry of the user's mount of a node out of the index, where it has one.

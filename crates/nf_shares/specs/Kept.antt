@@ -1,13 +1,11 @@
 -- The shares as the program holds them.
-use Rattle.std.specs.Prelude.{◌≡◌, ℕ, Bool, false, ◌&&◌, ◌==◌, bytes_eq, ◌+◌, ◌-◌, ◌≤◌, List, [], ◌∷◌, filter, find, length, map, min, Option, None, Some, option_map}
+use Rattle.std.specs.Prelude.{◌≡◌, ℕ, Bool, false, ◌==◌, bytes_eq, ◌+◌, ◌-◌, ◌≤◌, List, [], ◌∷◌, filter, find, length, map, min, Option, None, Some, option_map}
 use Rattle.std.specs.Option.{option_map_or}
-use Rattle.nf_access.specs.Shares.{receives, share_row}
-use Rattle.nf_base.specs.declared.rows.MemberRow.{MemberRow}
+use Rattle.nf_access.specs.Shares.{share_row}
 use Rattle.nf_base.specs.declared.rows.ShareKind.{ShareKind}
 use Rattle.nf_base.specs.declared.rows.ShareKind.TheVariants as kind
 use Rattle.nf_base.specs.declared.rows.ShareRow.{ShareRow}
 use Rattle.nf_defs.specs.Prelude.{IsRising, put, share_key}
-use Rattle.nf_defs.specs.declared.Seeker.{Seeker}
 use Rattle.nf_shares.specs.declared.nodes.NodeShare.{NodeShare}
 use Rattle.nf_table.specs.Rows.{TableValue}
 

@@ -74,6 +74,7 @@ impl Shares {
         ensures room { OnOk result (FitsShare self.new) }
         ensures fits { FitsShare self.old → IsOk result }
         ensures rows { self.new.rows ≡ self.old.rows }
+        ensures kept { self.old.room ≤ self.new.room }
     {
         self.rows.reserve(1)?;
         self.by_node.reserve(1)

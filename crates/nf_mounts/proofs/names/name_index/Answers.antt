@@ -1,23 +1,9 @@
-use Rattle.std.proofs.Common.{rules}
-use Rattle.std.specs.Ordering.{is_lt}
-use Rattle.std.proofs.lemmas.Cmp.{nat_list_cmp_total}
-use Rattle.std.proofs.lemmas.Fn.{always_returns_same}
-use Rattle.std.proofs.lemmas.List.Sorted.{ranks_by}
-use Rattle.nf_defs.specs.Puts.{key_cmp}
-use Rattle.nf_mounts.specs.Kept.{entry_key}
-use Rattle.nf_mounts.proofs.Loaded.{index_loaded}
+use Rattle.std.proofs.Common.{length, ap, arith}
+use Rattle.nf_mounts.proofs.Puts.{few}
 use Rattle.nf_mounts.proofs.names.name_index.Goals as goal
 
-pub of-requires : goal.of-requires
-of-requires c =
-    let sorted = c.sort_unstable_by.ensures.sorted (λ a b. is_lt (key_cmp (entry_key a) (entry_key b)))
-    (ranks_by nat_list_cmp_total entry_key) (always_returns_same _ _ _ (λ a r f' called. (search rules, search rules))) in
-    let moved = rw c.in_ok-entries.ensures at c.sort_unstable_by.ensures.permutation in
-    (index_loaded c.args.rows.now c.sort_unstable_by.new.self.items c.requires moved sorted).entries_rise
-
-pub returns : goal.returns
-returns c =
-    let sorted = c.sort_unstable_by.ensures.sorted (λ a b. is_lt (key_cmp (entry_key a) (entry_key b)))
-    (ranks_by nat_list_cmp_total entry_key) (always_returns_same _ _ _ (λ a r f' called. (search rules, search rules))) in
-    let moved = rw c.in_ok-entries.ensures at c.sort_unstable_by.ensures.permutation in
-    rw c.of.ensures (index_loaded c.args.rows.now c.sort_unstable_by.new.self.items c.requires moved sorted)
+pub overflow_sub-others : goal.overflow_sub-others
+overflow_sub-others c =
+    let less = few c.in_ok-sorted_entries.field-0.items c.args.rows.now c.in_ok-sorted_entries.ensures in
+    let same = ap length c.of-index.ensures in
+    omega arith

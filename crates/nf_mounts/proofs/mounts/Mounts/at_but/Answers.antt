@@ -8,7 +8,7 @@ pub returns : goal.returns
 returns c =
     rw (← c.self.view_is)
     (ap (option_map (λ (entry : NamedMount). entry.node)) c.in_ok-entry.ensures
-    ∙ found_in_front c.self.inside.by_name.rows c.self.inside.rows.rows c.self.invariant c.args.user c.args.name.now c.args.but c.of.result
+    ∙ found_in_front c.self.inside.by_name.rows c.self.inside.rows.rows c.self.invariant.names c.args.user c.args.name.now c.args.but c.of.result
     c.front.result.now (c.of.ensures ∙ ap sha256 c.as_bytes.ensures.bytes) c.front.ensures)
 
 pub returns-in_err-entry : goal.returns-in_err-entry
@@ -16,5 +16,5 @@ returns-in_err-entry c =
     rw (← c.self.view_is)
     (c.from_residual.ensures
     ∙ ap (option_map (λ (entry : NamedMount). entry.node)) c.in_err-entry.ensures
-    ∙ found_in_front c.self.inside.by_name.rows c.self.inside.rows.rows c.self.invariant c.args.user c.args.name.now c.args.but c.of.result
+    ∙ found_in_front c.self.inside.by_name.rows c.self.inside.rows.rows c.self.invariant.names c.args.user c.args.name.now c.args.but c.of.result
     c.front.result.now (c.of.ensures ∙ ap sha256 c.as_bytes.ensures.bytes) c.front.ensures)

@@ -1,47 +1,33 @@
-use Rattle.std.proofs.Common.{◌≡◌, true, false, [], ◌∷◌, length, length-append, ap, ◌∙◌, arith}
+use Rattle.std.proofs.Common.{◌≡◌, true, false, ◌∙◌, arith}
 use Rattle.nf_access.specs.Mounts.{names_in_root}
-use Rattle.nf_base.specs.FreeNames.{is_taken}
-use Rattle.nf_mounts.proofs.Naming.{few_tried, names_few, tried_free, tried_more}
+use Rattle.nf_base.specs.FreeNames.{candidate, is_taken}
+use Rattle.nf_base.proofs.FreeNames.{AreTakenBelow-two, AreTakenBelow-more}
+use Rattle.nf_mounts.proofs.Naming.{first_free, names_few}
 use Rattle.nf_mounts.proofs.mounts.Mounts.free_in_root.Goals as goal
 
-pub free_name-requires : goal.free_name-requires
-free_name-requires c =
-    let users = c.args.people.now.users in
-    let nodes = c.args.tree.now.rows in
-    let mounts = c.args.self.now.rows in
-    let few = names_few users nodes mounts c.args.user in
-    let tried = few_tried c.args.name.now (names_in_root users nodes mounts c.args.user) c.loop-tried.tried.items (omega arith) c.loop-tried.invariant in
-    rw c.deref.ensures.value (omega arith)
+pub loop-free-init : goal.loop-free-init
+loop-free-init c = AreTakenBelow-two c.args.name.now (names_in_root c.args.people.now.users c.args.tree.now.rows c.args.self.now.rows c.args.user)
 
-pub returns-then-is_name_free : goal.returns-then-is_name_free
-returns-then-is_name_free c =
-    let users = c.args.people.now.users in
-    let nodes = c.args.tree.now.rows in
-    let mounts = c.args.self.now.rows in
-    let names = names_in_root users nodes mounts c.args.user in
-    let few = names_few users nodes mounts c.args.user in
-    let free : is_taken c.in_ok-free.free names ≡ false = grind arith in
-    let named = rw c.deref.ensures.value at c.in_ok-free.ensures.named in
-    tried_free c.args.name.now names c.loop-tried.tried.items c.in_ok-free.free (omega arith) c.loop-tried.invariant named free
+pub numbered_name-requires : goal.numbered_name-requires
+numbered_name-requires c =
+    let few = names_few c.args.people.now.users c.args.tree.now.rows c.args.self.now.rows c.args.user in
+    omega (arith, c.loop-free.invariant.few)
 
-pub loop-tried-preserved : goal.loop-tried-preserved
-loop-tried-preserved c =
-    let users = c.args.people.now.users in
-    let nodes = c.args.tree.now.rows in
-    let mounts = c.args.self.now.rows in
-    let names = names_in_root users nodes mounts c.args.user in
-    let few = names_few users nodes mounts c.args.user in
-    let taken : is_taken c.in_ok-free.free names ≡ true = grind arith in
-    let named = rw c.deref.ensures.value at c.in_ok-free.ensures.named in
-    rw c.in_ok-push.ensures.items
-    (tried_more c.args.name.now names c.loop-tried.tried.items c.in_ok-free.free (omega arith) c.loop-tried.invariant named taken)
+pub returns-then-is_name_free-2 : goal.returns-then-is_name_free-2
+returns-then-is_name_free-2 c =
+    let names = names_in_root c.args.people.now.users c.args.tree.now.rows c.args.self.now.rows c.args.user in
+    let own : is_taken c.args.name.now names ≡ true = grind arith in
+    let free : is_taken (candidate c.args.name.now c.loop-free.number) names ≡ false = rw (← c.in_ok-free.ensures) (grind arith) in
+    c.in_ok-free.ensures ∙ first_free c.args.name.now names c.loop-free.number own c.loop-free.invariant free
 
-pub loop-tried-smaller : goal.loop-tried-smaller
-loop-tried-smaller c =
-    let users = c.args.people.now.users in
-    let nodes = c.args.tree.now.rows in
-    let mounts = c.args.self.now.rows in
-    let few = names_few users nodes mounts c.args.user in
-    let tried = few_tried c.args.name.now (names_in_root users nodes mounts c.args.user) c.push.new.self.items (omega arith) (loop-tried-preserved c) in
-    let more = ap length c.in_ok-push.ensures.items ∙ length-append c.loop-tried.tried.items (c.in_ok-free.free ∷ []) in
-    omega arith
+pub overflow_add-number : goal.overflow_add-number
+overflow_add-number c =
+    let few = names_few c.args.people.now.users c.args.tree.now.rows c.args.self.now.rows c.args.user in
+    omega (arith, c.loop-free.invariant.few)
+
+pub loop-free-preserved : goal.loop-free-preserved
+loop-free-preserved c =
+    let names = names_in_root c.args.people.now.users c.args.tree.now.rows c.args.self.now.rows c.args.user in
+    let few = names_few c.args.people.now.users c.args.tree.now.rows c.args.self.now.rows c.args.user in
+    let taken : is_taken (candidate c.args.name.now c.loop-free.number) names ≡ true = rw (← c.in_ok-free.ensures) (grind arith) in
+    AreTakenBelow-more c.args.name.now names c.loop-free.number (omega arith) c.loop-free.invariant taken
