@@ -1,12 +1,14 @@
 -- A user who asks at a moment, with the rows that access goes by.
-use Rattle.std.specs.Prelude.{ℕ, List, Option}
+use Rattle.std.specs.Prelude.{ℕ, ◌&&◌, Bool, List, Option, None, option_and_then, if◌then◌else◌}
+use Rattle.std.specs.Option.{option_or}
 use Rattle.nf_access.specs.Access.{by_chains}
 use Rattle.nf_access.specs.Shares.{Ground}
 use Rattle.nf_base.specs.declared.rows.MountRow.{MountRow}
 use Rattle.nf_defs.specs.declared.Seeker.TheVariants.{User}
 use Rattle.nf_words.specs.Needed.{Need}
 use Rattle.nf_words.specs.Calls.{Way, mounted, way_by}
-use Rattle.nf_words.specs.Reached.{first_refused}
+use Rattle.nf_words.specs.Places.{source_lost, target_lost}
+use Rattle.nf_words.specs.Reached.{first_refused, unreached_by}
 use Rattle.nf_words.specs.declared.answer.Denial.{Denial}
 
 -- the user and its root
@@ -24,3 +26,15 @@ way_for a names = way_by a.ground.nodes a.root names (mounted a.ground.nodes a.m
 -- the refusal of the first act that is needed and that the user may not do
 abbrev pub refusal_for : Asking → List Need → Option Denial
 refusal_for a needs = first_refused (by_chains a.ground) a.ground (User a.user) a.moment needs
+
+-- why the user isn't reached by the mount that a way goes by, if it goes by one
+abbrev pub unreached_for : Asking → Way → Option Denial
+unreached_for a way = option_and_then (unreached_by (by_chains a.ground) a.ground (User a.user) a.moment) way.mount
+
+-- why what a way leads to can't be acted upon; a mount that is to be left or renamed itself isn't tested
+abbrev pub source_refusal : Asking → Bool → Way → Option Denial
+source_refusal a removes way = option_or (if removes && way.itself then None else unreached_for a way) (source_lost way.place)
+
+-- why nothing can be made or stored at the end of a way
+abbrev pub target_refusal : Asking → Way → Option Denial
+target_refusal a way = option_or (unreached_for a way) (target_lost way.place)

@@ -3,6 +3,7 @@
 
 mod asker;
 mod needs;
+mod places;
 mod ways;
 
 pub use asker::Asker;
