@@ -1,7 +1,10 @@
 -- Tests that answer exactly as rules do.
 use Rattle.std.specs.Prelude.{◌≡◌, ◌≢◌, List, [], ◌∷◌, Option, None, Some, IsSome, IfSome, option_map, Result, Ok, Err}
+use Rattle.nf_access.specs.Shares.{ground_of}
 use Rattle.nf_defs.specs.Access.{Access}
-use Rattle.nf_words.specs.Prelude.{asked_by, Call, earlier_rules, exists_rule, first_that_holds, key_in_way, later_rules, overwrite_rule, place_rule, places_of, Rule, target_rule, touches, transfer_of}
+use Rattle.nf_reach.specs.Asking.{Asking}
+use Rattle.nf_words.specs.Prelude.{asked_by, asker_of, by_of, Call, earlier_rules, exists_rule, first_that_holds, key_in_way, later_rules, overwrite_rule, places_of, root_of, Rule, target_rule, touches, transfer_of, Way, way_of}
+use Rattle.nf_words.specs.declared.answer.By.{By}
 use Rattle.nf_words.specs.declared.answer.Denial.{Denial}
 use Rattle.nf_words.specs.declared.answer.Denial.TheVariants as denial
 use Rattle.nf_words.specs.declared.request.Places.{Places}
@@ -11,9 +14,9 @@ abbrev pub Follows : {A : Type 0} → (Call → Option Denial) → Call → Resu
 Follows rule call (Ok _) = rule call ≡ None
 Follows rule call (Err refusal) = rule call ≡ Some refusal
 
--- the rules of what the paths lead to
+-- the rules of what the paths lead to, once they are reached and allowed
 abbrev pub place_rules : List Rule
-place_rules = place_rule ∷ exists_rule ∷ target_rule ∷ overwrite_rule ∷ []
+place_rules = exists_rule ∷ target_rule ∷ overwrite_rule ∷ []
 
 abbrev pub place_refusal : Access → Call → Option Denial
 place_refusal access call = first_that_holds place_rules access call
@@ -31,6 +34,31 @@ abbrev pub locked_at : Call → Places → Option Denial
 locked_at call places =
     option_map denial.Locked
     (key_in_way call.state.tables.nodes call.seat (touches call.state.tables.nodes (asked_by call) places) call.state.tickets)
+
+-- who asks, with the rows that access goes by
+abbrev pub asking_of : Call → Asking
+asking_of call = record {
+  ground = ground_of call.state.tables;
+  mounts = call.state.tables.mounts;
+  user = asker_of call;
+  root = root_of call;
+  moment = call.now;
+}
+
+-- where the paths of a request lead, and by which mounts
+pub record Ways : Type 0 where
+  pub source : Option Way
+  pub target : Option Way
+
+abbrev pub ways_of : Call → Ways
+ways_of call = record {
+  source = option_map (λ spot. way_of call spot) (asked_by call).source;
+  target = option_map (λ spot. way_of call spot) (asked_by call).target;
+}
+
+-- who asks for what a body is stored over, by the mount on the path to it
+abbrev pub IsBy : Call → By → Type 0
+IsBy call by = IfSome (asked_by call).target (λ spot. by ≡ by_of call spot)
 
 -- what is moved or copied has a name to be put under
 abbrev pub IsNamed : Call → Type 0

@@ -2,3 +2,4 @@ pub mod Rows
 pub mod Current
 pub mod Asked
 pub mod Deciding
+pub mod Ending

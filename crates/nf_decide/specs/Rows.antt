@@ -1,19 +1,23 @@
 -- The tables as the program holds them.
 use Rattle.std.specs.Prelude.{ℕ, ◌+◌, ◌≤◌, List, length}
 use Rattle.nf_base.specs.declared.rows.MetaRow.{MetaRow}
+use Rattle.nf_base.specs.declared.rows.MountRow.{MountRow}
 use Rattle.nf_base.specs.declared.rows.NodeRow.{NodeRow}
+use Rattle.nf_base.specs.declared.rows.ShareRow.{ShareRow}
 use Rattle.nf_defs.specs.Tables.{Tables, no_rows}
 use Rattle.nf_people.specs.People.{PeopleValue}
 
 -- the tables of the rows of each kind that is built; there are none of the others
-abbrev pub tables_in : MetaRow → PeopleValue → List NodeRow → Tables
-tables_in meta people nodes = record no_rows {
+abbrev pub tables_in : MetaRow → PeopleValue → List NodeRow → List ShareRow → List MountRow → Tables
+tables_in meta people nodes shares mounts = record no_rows {
   meta = meta;
   users = people.users;
   tokens = people.tokens;
   groups = people.groups;
   members = people.members;
   nodes = nodes;
+  shares = shares;
+  mounts = mounts;
 }
 
 -- the tables, and how many nodes fit without more memory

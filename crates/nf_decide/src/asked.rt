@@ -1,11 +1,11 @@
 //! What the paths of a request lead to.
 
 ghost use Rattle.std.specs.Prelude.{◌≡◌};
-ghost use Rattle.nf_words.specs.Prelude.{is_kept, lost, node_at, node_found};
+ghost use Rattle.nf_words.specs.Prelude.{is_kept, node_at, node_found};
 
 use nf_base::NodeId;
 use nf_defs::Found;
-use nf_words::{Denial, Places};
+use nf_words::Places;
 
 /// The node at a place, if one is there.
 pub(crate) fn node_at(place: Option<Found>) -> Option<NodeId>
@@ -29,18 +29,4 @@ pub(crate) fn is_kept(overwrites: bool, places: &Places) -> bool
     ensures { result ≡ is_kept overwrites places.now }
 {
     !overwrites && node_at(places.target).is_some()
-}
-
-/// Why the act can't be done where what it needs isn't there.
-pub(crate) fn lost(places: &Places) -> Option<Denial>
-    ensures { result ≡ lost places.now }
-{
-    match places.source {
-        Some(Found::Free { .. } | Found::Missing { .. }) => return Some(Denial::NotFound),
-        Some(Found::At(_)) | None => {}
-    }
-    match places.target {
-        Some(Found::Missing { .. }) => Some(Denial::NoParent),
-        Some(Found::At(_) | Found::Free { .. }) | None => None,
-    }
 }

@@ -5,13 +5,13 @@ ghost use Rattle.std.specs.Option.{option_map_or};
 ghost use Rattle.nf_base.specs.declared.limits.TheConstants.{MAX_DEPTH};
 ghost use Rattle.nf_defs.specs.Prelude.{found_from, is_folder, user_row};
 ghost use Rattle.nf_defs.specs.declared.Seeker.TheVariants.{User};
-ghost use Rattle.nf_words.specs.Prelude.{access_of, allowed_of, asked_by, asker_of, call_decision, caller_row, exists_rule, forbidden_rule, has_forbidden, is_there, is_transfer, limit_at, limited, not_you_rule, overwrite_rule, place_rule, places_of, target_rule, token_rule, unfit, user_of};
+ghost use Rattle.nf_words.specs.Prelude.{access_of, acts_rule, allowed_of, AreSound, asked_by, asker_of, call_decision, caller_row, exists_rule, forbidden_rule, has_forbidden, is_there, is_transfer, limit_at, limited, not_you_rule, overwrite_rule, place_rule, places_of, target_rule, token_rule, unfit, user_of};
 ghost use Rattle.nf_decide.specs.Asked.{is_called, is_forbidden, names_caller};
-ghost use Rattle.nf_decide.specs.Deciding.{Follows, IsNamed, early_refusal, late_refusal, locked_at, place_refusal};
-ghost use Rattle.nf_tree.specs.Order.{AreRisingNodes};
+ghost use Rattle.nf_decide.specs.Deciding.{Follows, IsBy, IsNamed, asking_of, early_refusal, late_refusal, locked_at, place_refusal, ways_of};
+ghost use Rattle.nf_reach.specs.Asking.{way_for};
 
 use crate::acting::{copied, deleted, made_folder, moved, served, stored};
-use crate::asked::{is_kept, lost, node_at};
+use crate::asked::{is_kept, node_at};
 use crate::limits::{copy_limit, limit_at, move_limit, pieces_of};
 use crate::locking::locked;
 use crate::nodes::is_folder;
@@ -19,6 +19,7 @@ use crate::transferring::{is_root_at, transfer_of, unfit_between};
 use crate::view::View;
 use nf_base::{Moment, Name, NodeId, UserId, UserRow};
 use nf_defs::{Found, Seeker};
+use nf_reach::{Asker, Way};
 use nf_tree::Tree;
 use nf_words::{
     Allowed, By, Caller, Denial, Limit, Making, Places, Request, Route, Spot, TargetFault, Wanted,
@@ -51,16 +52,54 @@ impl<'a> Model for Call<'a> {
     } };
 }
 
-/// What the rules found: who asks, and where the paths lead.
+/// Where the paths of a request lead, and by which mounts.
+#[derive(Clone, Copy)]
+struct Ways {
+    source: Option<Way>,
+    target: Option<Way>,
+}
+
+impl Model for Ways {
+    ghost use Rattle.nf_decide.specs.Deciding.{Ways};
+
+    ghost Value = { Ways };
+
+    ghost view = { λ ways. record { source = ways.source; target = ways.target } };
+}
+
+impl Ways {
+    /// The places to which they lead.
+    fn places(&self) -> Places
+        ensures source { result.source ≡ option_map (λ way. way.place) self.now.source }
+        ensures target { result.target ≡ option_map (λ way. way.place) self.now.target }
+    {
+        Places {
+            source: place_of(&self.source),
+            target: place_of(&self.target),
+        }
+    }
+}
+
+fn place_of(way: &Option<Way>) -> Option<Found>
+    ensures { result ≡ option_map (λ way. way.place) way.now }
+{
+    match way {
+        Some(way) => Some(way.place),
+        None => None,
+    }
+}
+
+/// What the rules found: who asks, by which mount a body would be stored, and where the paths lead.
 #[derive(Clone, Copy)]
 struct Seen {
-    asker: UserId,
+    by: By,
     places: Places,
 }
 
 impl<'a> Call<'a> {
     /// What the step may do, or its refusal by the first rule that holds.
     pub fn decide(&self, alloc: Global) -> Result<Result<Allowed, Denial>, AllocError>
+        requires { AreSound self.now.state.tables }
         ensures { IfOk result (λ decision. decision ≡ call_decision self.entry.now) }
     {
         let seen = match self.judge() {
@@ -96,8 +135,9 @@ impl<'a> Call<'a> {
 
     /// The rules before the locks, in their order. The caller's row is looked up once, and each path once.
     fn judge(&self) -> Result<Seen, Denial>
+        requires { AreSound self.now.state.tables }
         ensures judged { Follows (early_refusal (access_of self.entry.now.state)) self.entry.now result }
-        ensures asker { IfOk result (λ seen. seen.asker ≡ asker_of self.entry.now) }
+        ensures by { IfOk result (λ seen. IsBy self.entry.now seen.by) }
         ensures places { IfOk result (λ seen. seen.places ≡ places_of self.entry.now) }
         ensures named { IfOk result (λ _. IsNamed self.entry.now) }
     {
@@ -109,10 +149,14 @@ impl<'a> Call<'a> {
         let caller = self.row(user);
         self.not_you(caller)?;
         self.forbidden()?;
-        let places = self.places(caller);
+        let asker = self.asker(caller);
+        let ways = self.ways(&asker);
+        self.reached(&asker, &ways)?;
+        self.allows(&asker, &ways)?;
+        let places = self.places(&ways);
         self.places_fit(&places)?;
         Ok(Seen {
-            asker: asker_of(caller),
+            by: by(asker_of(caller), &ways.target),
             places,
         })
     }
@@ -123,7 +167,6 @@ impl<'a> Call<'a> {
         ensures rules { Follows (place_refusal (access_of self.entry.now.state)) self.entry.now result }
         ensures target { OnOk result (target_rule (access_of self.entry.now.state) self.entry.now ≡ None) }
     {
-        self.lost(places)?;
         self.exists(places)?;
         self.target(places)?;
         self.overwrite(places)
@@ -166,12 +209,27 @@ impl<'a> Call<'a> {
         }
     }
 
-    #[tactic(auto, unfolding(nf_words::specs::Places::place_rule))]
-    fn lost(&self, places: &Places) -> Result<(), Denial>
-        requires { places.now ≡ places_of self.now }
+    #[tactic(auto, unfolding(nf_words::specs::Reached::place_rule))]
+    fn reached(&self, asker: &Asker<'_>, ways: &Ways) -> Result<(), Denial>
+        requires asker { asker.now ≡ asking_of self.now }
+        requires ways { ways.now ≡ ways_of self.now }
         ensures { Follows (place_rule (access_of self.entry.now.state)) self.entry.now result }
     {
-        match lost(places) {
+        let removes = self.request.wanted.asked().removes;
+        match asker.places(removes, ways.source.as_ref(), ways.target.as_ref()) {
+            Some(refusal) => Err(refusal),
+            None => Ok(()),
+        }
+    }
+
+    #[tactic(auto, unfolding(nf_words::specs::Reached::acts_rule))]
+    fn allows(&self, asker: &Asker<'_>, ways: &Ways) -> Result<(), Denial>
+        requires asker { asker.now ≡ asking_of self.now }
+        requires ways { ways.now ≡ ways_of self.now }
+        ensures { Follows (acts_rule (access_of self.entry.now.state)) self.entry.now result }
+    {
+        let asked = self.request.wanted.asked();
+        match asker.acts(&asked, ways.source.as_ref(), ways.target.as_ref()) {
             Some(refusal) => Err(refusal),
             None => Ok(()),
         }
@@ -254,7 +312,7 @@ impl<'a> Call<'a> {
 
     /// What the act does where its paths lead. It copies what the step keeps.
     fn allowed(&self, alloc: Global, seen: &Seen) -> Result<Allowed, AllocError>
-        requires asker { seen.now.asker ≡ asker_of self.now }
+        requires by { IsBy self.now seen.now.by }
         requires places { seen.now.places ≡ places_of self.now }
         requires named { IsNamed self.now }
         requires few { limited self.now.state.tables (places_of self.now) (asked_by self.now).makes ≡ None }
@@ -264,7 +322,7 @@ impl<'a> Call<'a> {
         let Places { source, target } = seen.places;
         match &self.request.wanted {
             Wanted::Get(_) => served(alloc, view, node_at(source)),
-            Wanted::Put { spot, length } => stored(by(seen.asker), spot, *length, target),
+            Wanted::Put { spot, length } => stored(seen.by, spot, *length, target),
             Wanted::Mkcol(spot) => made_folder(alloc, view, self.now, spot, target),
             Wanted::Delete(_) => Ok(deleted(node_at(source))),
             Wanted::Move { target: spot, .. } => {
@@ -298,28 +356,43 @@ impl<'a> Call<'a> {
         self.view.tree()
     }
 
-    /// Where the paths lead, from the caller's root.
-    fn places(&self, caller: Option<&UserRow>) -> Places
-        requires { option_copied caller ≡ caller_row self.now }
-        ensures places { result ≡ places_of self.entry.now }
-        ensures short { IfSome (asked_by self.entry.now).source (λ spot. length spot.path ≤ MAX_DEPTH) }
-        ensures rising { AreRisingNodes self.entry.now.state.tables.nodes }
+    /// Who asks, with the rows that access goes by.
+    fn asker(&self, caller: Option<&UserRow>) -> Asker<'_>
+        requires sound { AreSound self.now.state.tables }
+        requires caller { option_copied caller ≡ caller_row self.now }
+        ensures { result ≡ asking_of self.entry.now }
     {
-        let root = root_of(caller);
-        self.view.keeps();
+        let user = asker_of(caller);
+        self.view.asker(user, root_of(caller), self.now)
+    }
+
+    /// Where the paths lead, and by which mounts.
+    fn ways(&self, asker: &Asker<'_>) -> Ways
+        requires { asker.now ≡ asking_of self.now }
+        ensures { result ≡ ways_of self.entry.now }
+    {
         let asked = self.request.wanted.asked();
-        Places {
-            source: self.found(root, asked.source),
-            target: self.found(root, asked.target),
+        Ways {
+            source: way_at(asker, asked.source),
+            target: way_at(asker, asked.target),
         }
     }
 
-    fn found(&self, root: NodeId, spot: Option<&Spot>) -> Option<Found>
-        ensures found { result ≡ option_map (λ spot. found_from self.entry.now.state.tables.nodes 0 root spot.path) (option_copied spot.entry) }
-        ensures short { IfSome (option_copied spot.entry) (λ spot. length spot.path ≤ MAX_DEPTH) }
+    /// The places to which the paths lead.
+    fn places(&self, ways: &Ways) -> Places
+        requires { ways.now ≡ ways_of self.now }
+        ensures { result ≡ places_of self.entry.now }
     {
-        Some(self.tree().find(root, spot?.path.names()))
+        let _ = self;
+        ways.places()
     }
+}
+
+/// Where the path of a place leads.
+fn way_at(asker: &Asker<'_>, spot: Option<&Spot>) -> Option<Way>
+    ensures { result ≡ option_map (λ spot. way_for asker.now spot.path) (option_copied spot.entry) }
+{
+    Some(asker.way(spot?.path.names()))
 }
 
 /// Whether what is at the source is put at the target, or copied there.
@@ -332,13 +405,22 @@ fn is_transfer(makes: &Making) -> bool
     }
 }
 
-/// A user who asks, by no mount, since there are none yet.
-fn by(user: UserId) -> By
-    ensures { result ≡ record { seeker = User user; mount = None } }
+/// A user who asks, by the mount of a way, if there is one.
+fn by(user: UserId, way: &Option<Way>) -> By
+    ensures { result ≡ record { seeker = User user; mount = option_and_then (λ way. way.mount) way.now } }
 {
     By {
         seeker: Seeker::User(user),
-        mount: None,
+        mount: mount_of(way),
+    }
+}
+
+fn mount_of(way: &Option<Way>) -> Option<NodeId>
+    ensures { result ≡ option_and_then (λ way. way.mount) way.now }
+{
+    match way {
+        Some(way) => way.mount,
+        None => None,
     }
 }
 

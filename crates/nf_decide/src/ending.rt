@@ -1,22 +1,31 @@
 //! The End of a request in two steps, decided by the tables of its own moment.
 
-ghost use Rattle.std.specs.Prelude.{◌≡◌, ◌≤◌, ◌==◌, ◌&&◌, true, false, IfOk};
-ghost use Rattle.std.specs.Option.{ForSome};
+ghost use Rattle.std.specs.Prelude.{◌≡◌, ◌≤◌, ◌==◌, ◌&&◌, true, false, IfOk, None, Some, option_map, if◌then◌else◌};
+ghost use Rattle.std.specs.Option.{ForSome, option_or};
 ghost use Rattle.nf_base.specs.declared.limits.TheConstants.{MAX_BODY};
 ghost use Rattle.nf_base.specs.Content.{content_eq};
 ghost use Rattle.nf_base.specs.declared.rows.NodeKind.TheVariants.{File};
 ghost use Rattle.nf_defs.specs.Tree.{filled, is_file, is_folder_kind, node_row};
 ghost use Rattle.nf_words.specs.declared.answer.Allowed.TheVariants.{Change};
 ghost use Rattle.nf_words.specs.declared.answer.Report.TheVariants.{Done};
-ghost use Rattle.nf_words.specs.Prelude.{access_of, blob_for, content_in, end_refusal, ends_goal, IsGoalSound, IsHeld, IsStorable, makes, MayBring, new_node, place_of, refilled, stored_at, stores};
+ghost use Rattle.nf_words.specs.Prelude.{access_of, AreSound, blob_for, content_in, end_lost, end_refusal, ends_goal, IsGoalSound, IsHeld, IsStorable, limit_at, makes, MayBring, needed_by, new_node, node_of_key, pieces_of, place_of, refilled, stored_at, stores};
+ghost use Rattle.nf_words.specs.declared.answer.By.{By as TheBy};
+ghost use Rattle.nf_words.specs.declared.answer.Denial.TheVariants.{Limit, NotFound};
+ghost use Rattle.nf_defs.specs.declared.Seeker.TheVariants.{User};
+ghost use Rattle.nf_reach.specs.Asking.{refusal_for};
+ghost use Rattle.nf_decide.specs.Ending.{IsUser, unreached_unless_owner};
 
 use crate::acting::{makes, new_node, only};
 use crate::limits::{limit_at, pieces_of};
+use crate::nodes::{is_root, owner_of};
 use crate::view::View;
-use nf_base::{BlobId, Changes, Content, Digest, Moment, Name, NodeId, NodeKind, NodeRow, Piece};
-use nf_defs::Found;
+use nf_base::{
+    Act, BlobId, Changes, Content, Digest, Moment, Name, NodeId, NodeKind, NodeRow, Piece, UserId,
+};
+use nf_defs::{Found, Seeker};
+use nf_reach::Asker;
 use nf_tree::Tree;
-use nf_words::{Allowed, Denial, Goal, LockKey, Outcome, Report};
+use nf_words::{Allowed, By, Denial, Goal, LockKey, Outcome, Report};
 use std::alloc::{AllocError, Global};
 
 /// What the End of a goal may do, or its refusal.
@@ -27,6 +36,7 @@ pub fn decide_end(
     goal: &Goal,
     outcome: &Outcome,
 ) -> Result<Result<Allowed, Denial>, AllocError>
+    requires rows { AreSound view.now.tables }
     requires sound { IsGoalSound view.now.tables goal.now }
     requires held { IsStorable view.now.tables goal.now }
     requires brought { MayBring goal.now outcome.now }
@@ -36,7 +46,7 @@ pub fn decide_end(
         Outcome::Sent | Outcome::Gone => Ok(Ok(Allowed::Close)),
         Outcome::Body { digest, length } => match goal {
             Goal::Serve(_) => Ok(Ok(Allowed::Close)),
-            Goal::Store { key, .. } => store(alloc, view, moment, key, digest, *length),
+            Goal::Store { by, key, .. } => store(alloc, view, moment, by, key, digest, *length),
         },
     }
 }
@@ -45,26 +55,108 @@ fn store(
     alloc: Global,
     view: &View<'_>,
     moment: Moment,
+    by: &By,
     key: &LockKey,
     digest: &Digest,
     length: u64,
 ) -> Result<Result<Allowed, Denial>, AllocError>
+    requires rows { AreSound view.now.tables }
+    requires user { IsUser by.now.seeker }
     requires few { length ≤ MAX_BODY }
     requires held { IsHeld view.now.tables key.now }
-    ensures { IfOk result (λ decision. decision ≡ stores view.now.tables moment key.now digest.now length) }
+    ensures { IfOk result (λ decision. decision ≡ stores (access_of view.now) view.now.tables moment by.now key.now digest.now length) }
 {
-    match end_refusal(view, key, length) {
+    match end_refusal(view, moment, by, key, length) {
         Some(refusal) => Ok(Err(refusal)),
         None => Ok(Ok(stored_at(alloc, view, moment, key, digest, length)?)),
     }
 }
 
-fn end_refusal(view: &View<'_>, key: &LockKey, length: u64) -> Option<Denial>
-    ensures { result ≡ end_refusal view.now.tables key.now length }
+/// The first rule that refuses the End of a PUT: those of access, of a name that a mount took, and of the limits.
+fn end_refusal(
+    view: &View<'_>,
+    moment: Moment,
+    by: &By,
+    key: &LockKey,
+    length: u64,
+) -> Option<Denial>
+    requires rows { AreSound view.now.tables }
+    requires user { IsUser by.now.seeker }
+    ensures { result ≡ end_refusal (access_of view.now) view.now.tables moment by.now key.now length }
 {
-    let place = place_of(key);
-    let limit = limit_at(view, &place, pieces_of(length))?;
+    let asker = view.asker(user_of(by.seeker), NodeId::new(0), moment);
+    match end_unreached(&asker, by.mount, node_of(key)) {
+        Some(refusal) => Some(refusal),
+        None => match end_unallowed(&asker, by.mount, key) {
+            Some(refusal) => Some(refusal),
+            None => end_unfit(view, key, length),
+        },
+    }
+}
+
+/// The user who was granted to store. An End goes by no path, so that its user's root doesn't matter.
+fn user_of(seeker: Seeker) -> UserId
+    requires { IsUser seeker }
+    ensures { User result ≡ seeker }
+{
+    match seeker {
+        Seeker::User(user) => user,
+        Seeker::Link(_) => unreachable!(),
+    }
+}
+
+/// The node that is stored over, or the folder of the free name.
+fn node_of(key: &LockKey) -> NodeId
+    ensures { result ≡ node_of_key key.now }
+{
+    match key {
+        LockKey::Node(node) => *node,
+        LockKey::Slot { folder, name: _ } => *folder,
+    }
+}
+
+/// Why who stores isn't reached any more by the mount that it was granted by. Of an owner that isn't asked.
+fn end_unreached(asker: &Asker<'_>, mount: Option<NodeId>, node: NodeId) -> Option<Denial>
+    ensures { result ≡ unreached_unless_owner asker.now mount node }
+{
+    if asker.owns(node) {
+        return None;
+    }
+    asker.unreached(mount?)
+}
+
+/// Why what was granted may not be done any more.
+fn end_unallowed(asker: &Asker<'_>, mount: Option<NodeId>, key: &LockKey) -> Option<Denial>
+    ensures { (by : TheBy) → by.mount ≡ mount → result ≡ refusal_for asker.now (needed_by by key.now) }
+{
+    match key {
+        LockKey::Node(node) => asker.refused(Act::Update, *node, mount),
+        LockKey::Slot { folder, name: _ } => asker.refused(Act::Create, *folder, mount),
+    }
+}
+
+/// What doesn't fit any more: a mount took the name meanwhile, or a limit would be passed.
+fn end_unfit(view: &View<'_>, key: &LockKey, length: u64) -> Option<Denial>
+    ensures { result ≡ option_or (end_lost view.now.tables key.now) (option_map Limit (limit_at view.now.tables (pieces_of length) (place_of key.now))) }
+{
+    if is_mounted(view, key) {
+        return Some(Denial::NotFound);
+    }
+    let limit = limit_at(view, &place_of(key), pieces_of(length))?;
     Some(Denial::Limit(limit))
+}
+
+/// Whether a mount took the name.
+fn is_mounted(view: &View<'_>, key: &LockKey) -> bool
+    ensures { end_lost view.now.tables key.now ≡ (if result then Some NotFound else None) }
+{
+    match key {
+        LockKey::Node(_) => false,
+        LockKey::Slot { folder, name } => {
+            let tree = view.tree();
+            is_root(tree, *folder) && view.mounts().at(owner_of(tree, *folder), name).is_some()
+        }
+    }
 }
 
 fn place_of(key: &LockKey) -> Found

@@ -15,9 +15,13 @@ ghost use Rattle.nf_rules.specs.Ruled.{AreRuled};
 ghost use Rattle.nf_decide.specs.Rows.{FitsNodes};
 
 use crate::view::View;
-use nf_base::{BlobId, Change, Changes, MetaRow, Moment, Name, NodeId, NodeRow, Row, RowList};
+use nf_base::{
+    BlobId, Change, Changes, MetaRow, Moment, MountRow, Name, NodeId, NodeRow, Row, RowList, ShareRow,
+};
+use nf_mounts::Mounts;
 use nf_opening::Loaded;
 use nf_people::{People, PeopleRows};
+use nf_shares::Shares;
 use nf_tree::Tree;
 use nf_words::{Allowed, Goal, NodeRows, Ticket, Transfer};
 use std::alloc::{AllocError, Global};
@@ -29,6 +33,8 @@ pub(crate) struct Tables {
     meta: MetaRow,
     people: People,
     tree: Tree,
+    shares: Shares,
+    mounts: Mounts,
 }
 
 impl Model for Tables {
@@ -37,7 +43,7 @@ impl Model for Tables {
     ghost Value = { Rows };
 
     ghost view = { λ t. record {
-      tables = tables_in t.meta t.people t.tree.rows;
+      tables = tables_in t.meta t.people t.tree.rows t.shares.rows t.mounts.rows;
       room = t.tree.room;
     } };
 }
@@ -49,12 +55,16 @@ impl Tables {
         ensures { IfOk result (λ held. held.tables ≡ loaded) }
     {
         let meta = loaded.meta;
-        let (rows, nodes) = parts(loaded);
-        let people = People::load(alloc, rows)?;
+        let parts = parts(loaded);
+        let people = People::load(alloc, parts.people)?;
+        let tree = Tree::load(alloc, parts.nodes)?;
+        let shares = Shares::load(alloc, parts.shares)?;
         Ok(Tables {
             meta,
             people,
-            tree: Tree::load(alloc, nodes)?,
+            tree,
+            shares,
+            mounts: Mounts::load(alloc, parts.mounts)?,
         })
     }
 
@@ -72,6 +82,8 @@ impl Tables {
             meta: &self.meta,
             people: &self.people,
             tree: &self.tree,
+            shares: &self.shares,
+            mounts: &self.mounts,
             tickets,
             seen,
         }
@@ -223,25 +235,41 @@ impl Tables {
         list.push(Row::Meta(self.meta))?;
         self.people.push_rows(&mut list)?;
         push_nodes(&mut list, self.tree.nodes())?;
+        push_shares(&mut list, self.shares.rows())?;
+        push_mounts(&mut list, self.mounts.rows())?;
         Ok(list)
     }
 }
 
-/// The rows of people, and those of nodes.
-fn parts(loaded: Loaded) -> (PeopleRows, Vec<NodeRow>)
-    ensures users { result.0.users.items ≡ loaded.users }
-    ensures tokens { result.0.tokens.items ≡ loaded.tokens }
-    ensures groups { result.0.groups.items ≡ loaded.groups }
-    ensures members { result.0.members.items ≡ loaded.members }
-    ensures nodes { result.1.items ≡ loaded.nodes }
+/// The rows that were loaded, by the parts that hold them.
+#[derive(Drop)]
+struct Parts {
+    people: PeopleRows,
+    nodes: Vec<NodeRow>,
+    shares: Vec<ShareRow>,
+    mounts: Vec<MountRow>,
+}
+
+fn parts(loaded: Loaded) -> Parts
+    ensures users { result.people.users.items ≡ loaded.users }
+    ensures tokens { result.people.tokens.items ≡ loaded.tokens }
+    ensures groups { result.people.groups.items ≡ loaded.groups }
+    ensures members { result.people.members.items ≡ loaded.members }
+    ensures nodes { result.nodes.items ≡ loaded.nodes }
+    ensures shares { result.shares.items ≡ loaded.shares }
+    ensures mounts { result.mounts.items ≡ loaded.mounts }
 {
-    let people = PeopleRows {
-        users: loaded.users,
-        tokens: loaded.tokens,
-        groups: loaded.groups,
-        members: loaded.members,
-    };
-    (people, loaded.nodes)
+    Parts {
+        people: PeopleRows {
+            users: loaded.users,
+            tokens: loaded.tokens,
+            groups: loaded.groups,
+            members: loaded.members,
+        },
+        nodes: loaded.nodes,
+        shares: loaded.shares,
+        mounts: loaded.mounts,
+    }
 }
 
 /// Puts rows with the next numbers behind the others, and answers the number after theirs.
@@ -274,6 +302,26 @@ fn push_nodes(list: &mut RowList, nodes: &[NodeRow]) -> Result<(), AllocError>
 {
     for node in nodes {
         list.push(Row::Node(copy(node)?))?;
+    }
+    Ok(())
+}
+
+/// Puts shares at the end of a list of rows.
+fn push_shares(list: &mut RowList, shares: &[ShareRow]) -> Result<(), AllocError>
+    ensures { OnOk result (list.new ≡ list.old ++ map kinds.Share shares.now) }
+{
+    for share in shares {
+        list.push(Row::Share(share.clone()?))?;
+    }
+    Ok(())
+}
+
+/// Puts mounts at the end of a list of rows.
+fn push_mounts(list: &mut RowList, mounts: &[MountRow]) -> Result<(), AllocError>
+    ensures { OnOk result (list.new ≡ list.old ++ map kinds.Mount mounts.now) }
+{
+    for mount in mounts {
+        list.push(Row::Mount(mount.clone()?))?;
     }
     Ok(())
 }

@@ -2,10 +2,15 @@
 
 ghost use Rattle.std.specs.Prelude.{◌≡◌};
 ghost use Rattle.nf_tree.specs.Order.{AreRisingNodes};
+ghost use Rattle.nf_access.specs.Shares.{ground_of};
 ghost use Rattle.nf_words.specs.Contents.{stored_pieces};
+ghost use Rattle.nf_words.specs.Sound.{AreSound};
 
-use nf_base::{MetaRow, Moment};
+use nf_base::{MetaRow, Moment, NodeId, UserId};
+use nf_mounts::Mounts;
 use nf_people::People;
+use nf_reach::Asker;
+use nf_shares::Shares;
 use nf_tree::Tree;
 use nf_words::Ticket;
 use std::marker::Model;
@@ -16,6 +21,8 @@ pub struct View<'a> {
     pub meta: &'a MetaRow,
     pub people: &'a People,
     pub tree: &'a Tree,
+    pub shares: &'a Shares,
+    pub mounts: &'a Mounts,
     pub tickets: &'a [Ticket],
     pub seen: Moment,
 }
@@ -27,7 +34,7 @@ impl<'a> Model for View<'a> {
     ghost Value = { State };
 
     ghost view = { λ v. record {
-      tables = tables_in v.meta.now v.people.now v.tree.now.rows;
+      tables = tables_in v.meta.now v.people.now v.tree.now.rows v.shares.now.rows v.mounts.now.rows;
       tickets = v.tickets.now;
       seen = v.seen;
     } };
@@ -53,6 +60,28 @@ impl<'a> View<'a> {
         ensures { result.now.rows ≡ self.now.tables.nodes }
     {
         self.tree
+    }
+
+    /// A user who asks, with its root, at a moment.
+    pub(crate) fn asker(&self, user: UserId, root: NodeId, moment: Moment) -> Asker<'_>
+        requires { AreSound self.now.tables }
+        ensures { result ≡ record { ground = ground_of self.now.tables; mounts = self.now.tables.mounts; user = user; root = root; moment = moment } }
+    {
+        Asker::new(
+            self.people,
+            self.tree,
+            self.shares,
+            self.mounts,
+            user,
+            root,
+            moment,
+        )
+    }
+
+    pub(crate) fn mounts(&self) -> &Mounts
+        ensures { result.now.rows ≡ self.now.tables.mounts }
+    {
+        self.mounts
     }
 
     pub(crate) fn tickets(&self) -> &[Ticket]

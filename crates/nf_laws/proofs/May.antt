@@ -37,7 +37,7 @@ own_may access rows seeker now act node mount own =
 -- ---- what is one's own
 
 -- no node has the number 0
-none_zero : (t : Tables) (row : NodeRow) → AreSound t → node_row t.nodes 0 ≡ Some row → ⊥
+pub none_zero : (t : Tables) (row : NodeRow) → AreSound t → node_row t.nodes 0 ≡ Some row → ⊥
 none_zero t row sound there = let is = row_is t 0 row sound there in let some = is.1.some in let zero = is.0 in absurd (omega arith)
 
 none_led : (t : Tables) (from : ℕ) (names : List (List ℕ)) (node : ℕ) (row : NodeRow) → AreSound t → from ≡ 0
