@@ -38,7 +38,7 @@ locked_at call places =
 -- who asks, with the rows that access goes by
 abbrev pub asking_of : Call → Asking
 asking_of call = record {
-  ground = ground_of call.state.tables;
+  base = ground_of call.state.tables;
   mounts = call.state.tables.mounts;
   user = asker_of call;
   root = root_of call;

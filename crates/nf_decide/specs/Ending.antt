@@ -16,5 +16,5 @@ IsUser (Link share) = ⊥
 -- why a user isn't reached by a mount, unless it owns the node
 abbrev pub unreached_unless_owner : Asking → Option ℕ → ℕ → Option Denial
 unreached_unless_owner a mount node =
-    if is_owner a.ground.nodes (User a.user) node then None
-    else option_and_then (unreached_by (by_chains a.ground) a.ground (User a.user) a.moment) mount
+    if is_owner a.base.nodes (User a.user) node then None
+    else option_and_then (unreached_by (by_chains a.base) a.base (User a.user) a.moment) mount

@@ -65,6 +65,8 @@ impl Model for Ways {
     ghost Value = { Ways };
 
     ghost view = { λ ways. record { source = ways.source; target = ways.target } };
+
+    ghost inverse = { λ ways. record { source = ways.source; target = ways.target } };
 }
 
 impl Ways {

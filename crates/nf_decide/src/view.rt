@@ -65,7 +65,7 @@ impl<'a> View<'a> {
     /// A user who asks, with its root, at a moment.
     pub(crate) fn asker(&self, user: UserId, root: NodeId, moment: Moment) -> Asker<'_>
         requires { AreSound self.now.tables }
-        ensures { result ≡ record { ground = ground_of self.now.tables; mounts = self.now.tables.mounts; user = user; root = root; moment = moment } }
+        ensures { result ≡ record { base = ground_of self.now.tables; mounts = self.now.tables.mounts; user = user; root = root; moment = moment } }
     {
         Asker::new(
             self.people,

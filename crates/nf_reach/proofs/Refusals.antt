@@ -27,10 +27,10 @@ first_of_both a xs ys =
     ap (option_map told) (find-append refused xs ys) ∙ mapped (find refused xs) (find refused ys)
   where
     refused : Need → Bool
-    refused need = is_refused (by_chains a.ground) a.ground.nodes (User a.user) a.moment need
+    refused need = is_refused (by_chains a.base) a.base.nodes (User a.user) a.moment need
 
     told : Need → Denial
-    told need = need_broken a.ground (User a.user) a.moment need
+    told need = need_broken a.base (User a.user) a.moment need
 
     mapped : (o p : Option Need) → option_map told (option_or o p) ≡ option_or (option_map told o) (option_map told p)
     mapped None p = refl

@@ -13,7 +13,7 @@ use Rattle.nf_words.specs.declared.answer.Denial.{Denial}
 
 -- the user and its root
 pub record Asking : Type 0 where
-  pub ground : Ground
+  pub base : Ground
   pub mounts : List MountRow
   pub user : ℕ
   pub root : ℕ
@@ -21,15 +21,15 @@ pub record Asking : Type 0 where
 
 -- where names lead for the user, from its root or by a mount of its own
 abbrev pub way_for : Asking → List (List ℕ) → Way
-way_for a names = way_by a.ground.nodes a.root names (mounted a.ground.nodes a.mounts a.user a.root names)
+way_for a names = way_by a.base.nodes a.root names (mounted a.base.nodes a.mounts a.user a.root names)
 
 -- the refusal of the first act that is needed and that the user may not do
 abbrev pub refusal_for : Asking → List Need → Option Denial
-refusal_for a needs = first_refused (by_chains a.ground) a.ground (User a.user) a.moment needs
+refusal_for a needs = first_refused (by_chains a.base) a.base (User a.user) a.moment needs
 
 -- why the user isn't reached by the mount that a way goes by, if it goes by one
 abbrev pub unreached_for : Asking → Way → Option Denial
-unreached_for a way = option_and_then (unreached_by (by_chains a.ground) a.ground (User a.user) a.moment) way.mount
+unreached_for a way = option_and_then (unreached_by (by_chains a.base) a.base (User a.user) a.moment) way.mount
 
 -- why what a way leads to can't be acted upon; a mount that is to be left or renamed itself isn't tested
 abbrev pub source_refusal : Asking → Bool → Way → Option Denial

@@ -23,7 +23,7 @@ use std::marker::Model;
 /// A user who asks at a moment, with its root, and the rows that access goes by.
 #[derive(Drop)]
 pub struct Asker<'a> {
-    ground: Ground<'a>,
+    base: Ground<'a>,
     tree: &'a Tree,
     mounts: &'a Mounts,
     user: UserId,
@@ -38,9 +38,9 @@ impl<'a> Model for Asker<'a> {
 
     ghost Value = { Asking };
 
-    ghost view = { λ a. record { ground = a.ground; mounts = a.mounts.now.rows; user = a.user; root = a.root; moment = a.moment } };
+    ghost view = { λ a. record { base = a.base; mounts = a.mounts.now.rows; user = a.user; root = a.root; moment = a.moment } };
 
-    ghost invariant = { λ a. (a.tree.now.rows ≡ a.ground.nodes) × IsBounded a.ground };
+    ghost invariant = { λ a. (a.tree.now.rows ≡ a.base.nodes) × IsBounded a.base };
 }
 
 impl<'a> Asker<'a> {
@@ -54,14 +54,14 @@ impl<'a> Asker<'a> {
         moment: Moment,
     ) -> Self
         requires { IsBounded (record { members = people.now.members; nodes = tree.now.rows; shares = shares.now.rows }) }
-        ensures ground { result.ground ≡ record { members = people.now.members; nodes = tree.now.rows; shares = shares.now.rows } }
+        ensures base { result.base ≡ record { members = people.now.members; nodes = tree.now.rows; shares = shares.now.rows } }
         ensures mounts { result.mounts ≡ mounts.now.rows }
         ensures user { result.user ≡ user }
         ensures root { result.root ≡ root }
         ensures moment { result.moment ≡ moment }
     {
         Asker {
-            ground: Ground::new(people, tree, shares),
+            base: Ground::new(people, tree, shares),
             tree,
             mounts,
             user,
@@ -71,7 +71,7 @@ impl<'a> Asker<'a> {
     }
 
     pub(crate) fn tree(&self) -> &Tree
-        ensures { result.now.rows ≡ self.now.ground.nodes }
+        ensures { result.now.rows ≡ self.now.base.nodes }
     {
         self.tree
     }
@@ -104,7 +104,7 @@ impl<'a> Asker<'a> {
 
     /// The node of the mount that a path goes by.
     fn mounted(&self, names: &[Name]) -> Option<NodeId>
-        ensures { result ≡ mounted self.now.ground.nodes self.now.mounts self.now.user self.now.root names.now }
+        ensures { result ≡ mounted self.now.base.nodes self.now.mounts self.now.user self.now.root names.now }
     {
         let first = names.first()?;
         if self.tree().child(self.root, first).is_some() {
@@ -118,7 +118,7 @@ impl<'a> Asker<'a> {
 
     /// Whether the user owns the node.
     pub fn owns(&self, node: NodeId) -> bool
-        ensures { result ≡ is_owner self.now.ground.nodes (User self.now.user) node }
+        ensures { result ≡ is_owner self.now.base.nodes (User self.now.user) node }
     {
         match self.tree().node(node) {
             Some(row) => row.owner == self.user,
@@ -128,9 +128,9 @@ impl<'a> Asker<'a> {
 
     /// Why the user isn't reached by the mount of a node, where that is so.
     pub fn unreached(&self, mount: NodeId) -> Option<Denial>
-        ensures { result ≡ unreached_by (by_chains self.now.ground) self.now.ground (User self.now.user) self.now.moment mount }
+        ensures { result ≡ unreached_by (by_chains self.now.base) self.now.base (User self.now.user) self.now.moment mount }
     {
-        if self.ground.reaches(self.user, mount, self.moment) {
+        if self.base.reaches(self.user, mount, self.moment) {
             None
         } else {
             Some(self.broken_by(None, mount))
@@ -139,10 +139,10 @@ impl<'a> Asker<'a> {
 
     /// What is told where the user may not do the act by the mount, or isn't reached where none is asked.
     fn broken_by(&self, act: Option<Act>, mount: NodeId) -> Denial
-        requires { IsRefused self.now.ground self.now.moment (User self.now.user) act mount }
-        ensures { result ≡ broken_by self.now.ground (User self.now.user) self.now.moment act mount }
+        requires { IsRefused self.now.base self.now.moment (User self.now.user) act mount }
+        ensures { result ≡ broken_by self.now.base (User self.now.user) self.now.moment act mount }
     {
-        match self.ground.broken(self.user, mount, act, self.moment) {
+        match self.base.broken(self.user, mount, act, self.moment) {
             Broken::NoShare => Denial::NoShare,
             Broken::Link { share, cause } => Denial::BrokenLink { share, cause },
         }
@@ -150,9 +150,9 @@ impl<'a> Asker<'a> {
 
     /// Whether a grant on the mount's node lets the user do the act.
     fn is_granted(&self, act: Act, mount: NodeId) -> bool
-        ensures { result ≡ list_any (allows self.now.moment act) (by_chains self.now.ground (User self.now.user) mount) }
+        ensures { result ≡ list_any (allows self.now.moment act) (by_chains self.now.base (User self.now.user) mount) }
     {
-        let share = self.ground.allows(self.user, mount, act, self.moment);
+        let share = self.base.allows(self.user, mount, act, self.moment);
         share.is_some()
     }
 

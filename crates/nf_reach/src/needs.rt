@@ -64,7 +64,7 @@ fn is_mount_asked(asked: &Asked<'_>, source: Option<&Way>) -> bool
 impl<'a> Asker<'a> {
     /// The folder of what is at a place or is put there.
     fn folder_for(&self, way: &Way) -> Option<NodeId>
-        ensures { result ≡ folder_for self.now.ground.nodes self.now.root way.now }
+        ensures { result ≡ folder_for self.now.base.nodes self.now.root way.now }
     {
         if way.itself {
             return Some(self.root());
@@ -78,7 +78,7 @@ impl<'a> Asker<'a> {
 
     /// Whether the target's folder is that of the source.
     fn is_within(&self, source: Option<&Way>, target: Option<&Way>) -> bool
-        ensures { result ≡ is_within self.now.ground.nodes self.now.root (option_copied source.entry) (option_copied target.entry) }
+        ensures { result ≡ is_within self.now.base.nodes self.now.root (option_copied source.entry) (option_copied target.entry) }
     {
         match (self.folder_of(source), self.folder_of(target)) {
             (Some(from), Some(to)) => from == to,
@@ -87,7 +87,7 @@ impl<'a> Asker<'a> {
     }
 
     fn folder_of(&self, way: Option<&Way>) -> Option<NodeId>
-        ensures { result ≡ option_and_then (folder_for self.now.ground.nodes self.now.root) (option_copied way.entry) }
+        ensures { result ≡ option_and_then (folder_for self.now.base.nodes self.now.root) (option_copied way.entry) }
     {
         self.folder_for(way?)
     }
@@ -108,7 +108,7 @@ impl<'a> Asker<'a> {
 
     /// Why nothing may be made at the end of a way.
     fn refused_in(&self, way: &Way) -> Option<Denial>
-        ensures { result ≡ refusal_for self.now (needs_in self.now.ground.nodes self.now.root way.now) }
+        ensures { result ≡ refusal_for self.now (needs_in self.now.base.nodes self.now.root way.now) }
     {
         let mount = if way.itself { None } else { way.mount };
         self.refused_at(Act::Create, self.folder_for(way), mount)
@@ -117,7 +117,7 @@ impl<'a> Asker<'a> {
     /// Why nothing may be put at the end of a way in place of what is there.
     #[tactic(auto, using(crate::proofs::Refusals::first_of_both))]
     fn refused_over(&self, way: &Way) -> Option<Denial>
-        ensures { result ≡ refusal_for self.now (needs_in self.now.ground.nodes self.now.root way.now ++ needs_at Delete way.now) }
+        ensures { result ≡ refusal_for self.now (needs_in self.now.base.nodes self.now.root way.now ++ needs_at Delete way.now) }
     {
         match self.refused_in(way) {
             Some(refusal) => Some(refusal),
@@ -126,7 +126,7 @@ impl<'a> Asker<'a> {
     }
 
     fn target_refused(&self, makes: &Making, within: bool, way: &Way) -> Option<Denial>
-        ensures { result ≡ refusal_for self.now (target_needs makes.now self.now.ground.nodes self.now.root within way.now) }
+        ensures { result ≡ refusal_for self.now (target_needs makes.now self.now.base.nodes self.now.root within way.now) }
     {
         match makes {
             Making::Nothing => None,
@@ -143,7 +143,7 @@ impl<'a> Asker<'a> {
     /// Why the user may not do what a request needs, by where its paths lead: the first act that is refused.
     #[tactic(auto, using(crate::proofs::Refusals::first_of_both))]
     pub fn acts(&self, asked: &Asked<'_>, source: Option<&Way>, target: Option<&Way>) -> Option<Denial>
-        ensures { result ≡ refusal_for self.now (needs_between self.now.ground.nodes self.now.root asked.now (option_copied source.entry) (option_copied target.entry)) }
+        ensures { result ≡ refusal_for self.now (needs_between self.now.base.nodes self.now.root asked.now (option_copied source.entry) (option_copied target.entry)) }
     {
         if is_mount_asked(asked, source) {
             return None;

@@ -11,4 +11,4 @@ returns c =
     let some : c.is_some.result ≡ is_some c.allows-share.result = search (rules) in
     rw (← c.self.view_is)
     (some ∙ ap is_some c.allows-share.ensures
-    ∙ find_any (λ (grant : Grant). grant.share) (allows a.moment c.args.act) (by_chains a.ground (User a.user) c.args.mount))
+    ∙ find_any (λ (grant : Grant). grant.share) (allows a.moment c.args.act) (by_chains a.base (User a.user) c.args.mount))
