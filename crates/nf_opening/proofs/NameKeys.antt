@@ -11,7 +11,7 @@ use Rattle.std.proofs.lemmas.Map.Text.{is_eq-slice_cmp}
 use Rattle.nf_opening.specs.Names.{name_numbers}
 use Rattle.nf_opening.specs.contracts.names.NameKeyOrd.TheImpl.{ghosts}
 use Rattle.nf_opening.specs.declared.names.NameKey.{NameKey}
-use Rattle.nf_opening.specs.declared.names.NameKey.TheVariants.{User, Group, Child}
+use Rattle.nf_opening.specs.declared.names.NameKey.TheVariants.{User, Group, Child, Link}
 
 -- a number, and what follows it
 both : (a b : ℕ) (r : Ordering) (same : Bool) → is_eq r ≡ same → is_eq (ordering_then (nat_cmp a b) r) ≡ ((a == b) && same)
@@ -27,4 +27,5 @@ pub same_names : (a b : NameKey) → eq_by_cmp ghosts.cmp a b ≡ bytes_eq (name
 same_names (User a) (User b) = is_eq-slice_cmp a b
 same_names (Group a) (Group b) = is_eq-slice_cmp a b
 same_names (Child folder a) (Child other b) = both folder other (slice_cmp nat_cmp a b) (bytes_eq a b) (is_eq-slice_cmp a b)
+same_names (Link a) (Link b) = is_eq-slice_cmp a b
 same_names a b = refl

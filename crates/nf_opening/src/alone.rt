@@ -1,13 +1,23 @@
 //! Rules that a row keeps by itself, or beside the counters.
 
-ghost use Rattle.std.specs.Prelude.{◌≡◌, not, nat_lt};
+ghost use Rattle.std.specs.Prelude.{◌≡◌, not, nat_lt, true};
+ghost use Rattle.std.specs.Option.{option_map_or};
 ghost use Rattle.nf_base.specs.declared.rows.Row.TheVariants as rows;
 ghost use Rattle.nf_defs.specs.Tables.{tables_of};
-ghost use Rattle.nf_rules.specs.Rules.{are_counters, are_numbers, first_index, has_ungiven_blob, is_given, is_lavish, is_place_given};
+ghost use Rattle.nf_rules.specs.Rules.{are_counters, are_numbers, are_share_numbers, first_index, has_ungiven_blob, is_end_moment, is_given, is_lavish, is_place_given, is_recipient_given};
 ghost use Rattle.nf_words.specs.Prelude.{is_later};
 
 use crate::first::first;
-use nf_base::{BlobId, MAX_QUOTA, MetaRow, NodeId, NodeRow, Piece, Place, Row};
+use nf_base::{
+    BlobId, MAX_QUOTA, MetaRow, Moment, NodeId, NodeRow, Piece, Place, Row, ShareId, ShareKind,
+    ShareRow,
+};
+
+/// The seconds of a day.
+const DAY: u64 = 86_400;
+
+/// The midnight that ends the last day on which a share may end: 9999-01-01T00:00:00Z.
+const LAST_END: u64 = 253_370_764_800;
 
 /// The first row of a kind that isn't built yet.
 pub(crate) fn first_later(rows: &[Row]) -> Option<usize>
@@ -61,6 +71,11 @@ fn are_numbers(meta: &MetaRow, row: &Row) -> bool
                 && is_given(next_user, u64::from(row.user.number()))
         }
         Row::Node(row) => are_node_numbers(meta, row),
+        Row::Share(row) => are_share_numbers(meta, row),
+        Row::Mount(row) => {
+            is_given(next_user, u64::from(row.user.number()))
+                && is_given(meta.next_node.number(), row.node.number())
+        }
         _ => true,
     }
 }
@@ -76,6 +91,62 @@ fn are_node_numbers(meta: &MetaRow, row: &NodeRow) -> bool
         && is_place_given(meta.next_node, row.place)
         && !has_ungiven_blob(meta.next_blob, row.content.pieces())
         && row.changed <= meta.last
+}
+
+fn are_share_numbers(meta: &MetaRow, row: &ShareRow) -> bool
+    ensures { result ≡ are_share_numbers meta.now row.now }
+{
+    let next_user = u64::from(meta.next_user.number());
+    is_given(meta.next_share.number(), row.id.number())
+        && is_given(meta.next_node.number(), row.node.number())
+        && is_given(next_user, u64::from(row.owner.number()))
+        && is_given(next_user, u64::from(row.initiator.number()))
+        && is_recipient_given(meta, &row.kind)
+        && is_parent_given(meta.next_share, row.parent)
+        && is_end(row.until)
+        && row.made <= meta.last
+}
+
+fn is_recipient_given(meta: &MetaRow, to: &ShareKind) -> bool
+    ensures { result ≡ is_recipient_given meta.now to.now }
+{
+    match to {
+        ShareKind::User(user) => is_given(
+            u64::from(meta.next_user.number()),
+            u64::from(user.number()),
+        ),
+        ShareKind::Group(group) => is_given(
+            u64::from(meta.next_group.number()),
+            u64::from(group.number()),
+        ),
+        ShareKind::Link(_) => true,
+    }
+}
+
+fn is_parent_given(next: ShareId, parent: Option<ShareId>) -> bool
+    ensures { result ≡ option_map_or (is_given next) parent true }
+{
+    match parent {
+        Some(parent) => is_given(next.number(), parent.number()),
+        None => true,
+    }
+}
+
+/// Whether a share may end then; it may end never.
+fn is_end(until: Option<Moment>) -> bool
+    ensures { result ≡ option_map_or is_end_moment until true }
+{
+    match until {
+        Some(until) => is_end_moment(until.seconds()),
+        None => true,
+    }
+}
+
+/// Whether it is a midnight, in UTC, that ends a day from 1970 to 9998.
+fn is_end_moment(seconds: u64) -> bool
+    ensures { result ≡ is_end_moment seconds }
+{
+    0 < seconds && seconds % DAY == 0 && seconds <= LAST_END
 }
 
 /// Whether the number was given, where that is the next.

@@ -11,6 +11,7 @@ use crate::limits::first_beyond;
 use crate::names::first_namesake;
 use crate::placed::first_astray;
 use crate::present::first_dangling;
+use crate::sharing::first_unkept;
 use crate::{Broken, Loaded, SiteFault};
 use nf_base::Row;
 use std::alloc::Global;
@@ -34,8 +35,9 @@ fn judge_rows(alloc: Global, loaded: &Loaded, rows: &[Row]) -> Result<(), SiteFa
     keeps(1, first_twice(alloc, rows)?)?;
     keeps(2, first_ungiven(&loaded.meta, rows))?;
     keeps(3, first_dangling(loaded, rows))?;
-    keeps(4, first_namesake(alloc, rows)?)?;
+    keeps(4, first_namesake(alloc, loaded, rows)?)?;
     keeps(5, first_astray(loaded, rows))?;
+    keeps(6, first_unkept(loaded, rows))?;
     keeps(7, first_beyond(loaded, rows))?;
     keeps(8, first_lavish(rows))?;
     Ok(())

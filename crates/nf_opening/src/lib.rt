@@ -13,6 +13,7 @@ mod names;
 mod numbered;
 mod placed;
 mod present;
+mod sharing;
 
 pub use fault::{Broken, SiteFault};
 pub use judging::judge;

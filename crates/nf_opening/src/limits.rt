@@ -7,7 +7,8 @@ ghost use Rattle.nf_rules.specs.Rules.{first_index, is_beyond};
 use crate::Loaded;
 use crate::first::first;
 use nf_base::{
-    MAX_GROUPS, MAX_MEMBERS, MAX_NODES, MAX_STORED_PIECES, MAX_TOKENS, MAX_USERS, NodeRow, Row,
+    MAX_GROUPS, MAX_MEMBERS, MAX_MOUNTS, MAX_NODES, MAX_SHARES, MAX_STORED_PIECES, MAX_TOKENS,
+    MAX_USERS, NodeRow, Row,
 };
 
 /// The first row that is one of too many.
@@ -43,6 +44,8 @@ fn is_beyond(loaded: &Loaded, pieces: u128, row: &Row) -> bool
             loaded.nodes.len() > MAX_NODES
                 || !row.content.pieces().is_empty() && pieces > u128::from(MAX_STORED_PIECES)
         }
+        Row::Share(_) => loaded.shares.len() > MAX_SHARES,
+        Row::Mount(_) => loaded.mounts.len() > MAX_MOUNTS,
         _ => false,
     }
 }

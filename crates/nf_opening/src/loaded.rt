@@ -1,8 +1,10 @@
 //! The tables of stored rows.
 
 ghost use Rattle.std.specs.Prelude.{◌≡◌, IfOk, OnOk, is_some, option_copied};
+ghost use Rattle.nf_access.specs.Shares.{share_row};
 ghost use Rattle.nf_defs.specs.Prelude.{AreRising, item_row, no_rows, node_row, put_row, tables_of, user_row};
 ghost use Rattle.nf_rules.specs.Rules.{is_group};
+ghost use Rattle.nf_words.specs.Sound.{root_of_user};
 
 use crate::numbered::find_row;
 use nf_base::{
@@ -122,12 +124,31 @@ impl Loaded {
         find_row(&self.users, u64::from(id.number()))
     }
 
+    /// The root of a user; 0 where there is no such user.
+    pub(crate) fn root_of(&self, user: UserId) -> NodeId
+        requires { AreRising self.now }
+        ensures { result ≡ root_of_user self.now user }
+    {
+        match self.user(user) {
+            Some(row) => row.root,
+            None => NodeId::new(0),
+        }
+    }
+
     /// The row of a node.
     pub(crate) fn node(&self, id: NodeId) -> Option<&NodeRow>
         requires { AreRising self.now }
         ensures { option_copied result ≡ node_row self.now.nodes id }
     {
         find_row(&self.nodes, id.number())
+    }
+
+    /// The row of a share.
+    pub(crate) fn share(&self, id: ShareId) -> Option<&ShareRow>
+        requires { AreRising self.now }
+        ensures { option_copied result ≡ share_row self.now.shares id }
+    {
+        find_row(&self.shares, id.number())
     }
 
     pub(crate) fn has_group(&self, id: GroupId) -> bool

@@ -3,7 +3,7 @@
 ghost use Rattle.std.specs.Prelude.{◌≡◌, ◌==◌, ◌∷◌, [], ℕ, find, option_copied};
 ghost use Rattle.nf_defs.specs.Rising.{IsRising};
 
-use nf_base::{GroupRow, ItemRow, NodeRow, UserRow};
+use nf_base::{GroupRow, ItemRow, NodeRow, ShareRow, UserRow};
 
 /// A row that a number tells from the others of its kind.
 pub(crate) trait Numbered {
@@ -41,6 +41,14 @@ impl Numbered for GroupRow {
 }
 
 impl Numbered for NodeRow {
+    ghost number = { λ row. row.id };
+
+    fn number(&self) -> u64 {
+        self.id.number()
+    }
+}
+
+impl Numbered for ShareRow {
     ghost number = { λ row. row.id };
 
     fn number(&self) -> u64 {

@@ -5,4 +5,4 @@ use Rattle.nf_opening.proofs.names.first_namesake.Given as goal
 
 -- the keys of the rows so far
 abbrev pub invariant-loop-row : goal.invariant-loop-row
-invariant-loop-row l = map (option_map name_numbers) l.keys.items ≡ map name_key (take l.row-index l.rows)
+invariant-loop-row l = map (option_map name_numbers) l.keys.items ≡ map (name_key l.loaded) (take l.row-index l.rows)
