@@ -5,13 +5,12 @@
 pub mod laws;
 mod perms;
 
-pub use perms::perms_of_share;
-
 ghost use Rattle.std.specs.Prelude.{◌≡◌, List};
 ghost use Rattle.nf_base.specs.declared.rows.MemberRow.{MemberRow};
 ghost use Rattle.nf_defs.specs.People.{is_member_of};
 
 use nf_base::{GroupId, UserId};
+pub use perms::perms_of_share;
 
 /// Why a share of a chain is broken. At one share the first of these that holds is told.
 #[derive(Clone, Copy, PartialEq, Eq)]
