@@ -1,5 +1,5 @@
 -- The chain that is found is the chain of the derivation.
-use Rattle.std.proofs.Common.{ℕ, zero, suc, ◌≡◌, ◌≤◌, List, [], ◌∷◌, Option, Some, None, option_map, refl, ap, sym, subst, ◌∙◌, arith, length}
+use Rattle.std.proofs.Common.{ℕ, zero, suc, ◌≡◌, ◌≤◌, ◌+◌, List, [], ◌∷◌, Option, Some, None, option_map, refl, ap, sym, subst, ◌∙◌, arith, length}
 use Rattle.std.specs.Prelude.{◌==◌, unwrap_or}
 use Rattle.std.proofs.lemmas.Bool.{eq-eqb, eqb-true}
 use Rattle.std.proofs.lemmas.Option.{cond_some, option_and_then_some}
@@ -13,6 +13,30 @@ use Rattle.nf_base.specs.declared.limits.TheConstants.{MAX_CHAIN}
 pub own_row : (shares : List ShareRow) (share : ShareRow) (up : List ShareRow) → IsChain shares (share ∷ up) → share_row shares share.id ≡ Some share
 own_row shares share [] chain = chain.0
 own_row shares share (parent ∷ up) chain = chain.0
+
+-- ---- one share at a time
+
+-- the chain of a share, where at most so many shares are above it
+abbrev pub line : ℕ → List ShareRow → ShareRow → Option (List ShareRow)
+line above shares share = chain_up share share.parent (chain_within above shares)
+
+pub line_over : (above : ℕ) (shares : List ShareRow) (share : ShareRow) (o : Option ℕ) → share.parent ≡ o
+    → line above shares share ≡ chain_up share o (chain_within above shares)
+line_over above shares share o over = ap (λ (o : Option ℕ). chain_up share o (chain_within above shares)) over
+
+-- the chain of a number is that of its row
+pub within_is : (most above : ℕ) (shares : List ShareRow) (share : ShareRow) (id : ℕ) → most ≡ above + 1 → share_row shares id ≡ Some share
+    → chain_within most shares id ≡ line above shares share
+unfolding chain_within
+within_is zero above shares share id more there = absurd (omega arith)
+within_is (suc k) above shares share id more there = let same : k ≡ above = omega arith in rw (there, same) refl
+
+pub within_lost : (k : ℕ) (shares : List ShareRow) (id : ℕ) → share_row shares id ≡ None → chain_within k shares id ≡ None
+unfolding chain_within
+within_lost zero shares id lost = refl
+within_lost (suc k) shares id lost = rw lost refl
+
+-- ---- chains of the derivation
 
 -- a chain is found
 pub chain_found : (k : ℕ) (shares : List ShareRow) (share : ShareRow) (up : List ShareRow) → IsChain shares (share ∷ up) → length (share ∷ up) ≤ k

@@ -1,48 +1,27 @@
 -- The chain of a share, one share at a time.
-use Rattle.std.proofs.Common.{inl, inr, ◌⊎◌, ℕ, zero, suc, ◌+◌, ◌≡◌, ◌==◌, Bool, true, false, List, [], ◌∷◌, Option, None, Some, option_map, refl, sym, ap, subst, ◌∙◌, arith}
+use Rattle.std.proofs.Common.{inl, inr, ◌⊎◌, ℕ, ◌+◌, ◌≡◌, ◌==◌, Bool, true, false, List, [], ◌∷◌, Option, None, Some, option_map, refl, sym, subst}
 use Rattle.std.specs.Option.{IfSome}
 use Rattle.std.specs.Prelude.{if◌then◌else◌}
 use Rattle.std.proofs.lemmas.Bool.{eqb-true}
+use Rattle.nf_access.proofs.Chains.{line, line_over, within_is, within_lost}
 use Rattle.nf_access.proofs.LookUps.{find_among}
 use Rattle.nf_access.specs.Shares.{chain_up, chain_within, share_row}
 use Rattle.nf_base.specs.declared.rows.ShareRow.{ShareRow}
 
--- the chain of a share, where at most so many shares are above it
-abbrev pub line : ℕ → List ShareRow → ShareRow → Option (List ShareRow)
-line above shares share = chain_up share share.parent (chain_within above shares)
-
-line_over : (above : ℕ) (shares : List ShareRow) (share : ShareRow) (id : ℕ) → share.parent ≡ Some id
-    → line above shares share ≡ option_map (λ up. share ∷ up) (chain_within above shares id)
-line_over above shares share id over = ap (λ (o : Option ℕ). chain_up share o (chain_within above shares)) over
-
 -- nothing may be above it
 pub line_end : (above : ℕ) (shares : List ShareRow) (share : ShareRow) (id : ℕ) → share.parent ≡ Some id → above ≡ 0 → line above shares share ≡ None
 unfolding chain_within
-line_end above shares share id over none =
-    line_over above shares share id over ∙ ap (λ (k : ℕ). option_map (λ up. share ∷ up) (chain_within k shares id)) none
-
-within_lost : (k : ℕ) (shares : List ShareRow) (id : ℕ) → share_row shares id ≡ None → chain_within k shares id ≡ None
-unfolding chain_within
-within_lost zero shares id lost = refl
-within_lost (suc k) shares id lost = rw lost refl
+line_end above shares share id over none = rw (line_over above shares share (Some id) over, none) refl
 
 -- its parent isn't there
 pub line_lost : (above : ℕ) (shares : List ShareRow) (share : ShareRow) (id : ℕ) → share.parent ≡ Some id → share_row shares id ≡ None
     → line above shares share ≡ None
-line_lost above shares share id over lost =
-    line_over above shares share id over ∙ ap (option_map (λ up. share ∷ up)) (within_lost above shares id lost)
-
--- the chain of a share is that of its row
-pub within_is : (most above : ℕ) (shares : List ShareRow) (share : ShareRow) (id : ℕ) → most ≡ above + 1 → share_row shares id ≡ Some share
-    → chain_within most shares id ≡ line above shares share
-unfolding chain_within
-within_is zero above shares share id more there = absurd (omega arith)
-within_is (suc k) above shares share id more there = let same : k ≡ above = omega arith in rw (there, same) refl
+line_lost above shares share id over lost = rw (line_over above shares share (Some id) over, within_lost above shares id lost) refl
 
 pub line_up : (above k : ℕ) (shares : List ShareRow) (share parent : ShareRow) (id : ℕ) → share.parent ≡ Some id → above ≡ k + 1
     → share_row shares id ≡ Some parent → line above shares share ≡ option_map (λ up. share ∷ up) (line k shares parent)
 line_up above k shares share parent id over more there =
-    line_over above shares share id over ∙ ap (option_map (λ up. share ∷ up)) (within_is above k shares parent id more there)
+    rw (line_over above shares share (Some id) over, within_is above k shares parent id more there) refl
 
 -- a chain begins with its share
 abbrev pub Begins : ShareRow → Option (List ShareRow) → Type 0

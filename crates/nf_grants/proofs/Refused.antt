@@ -2,7 +2,7 @@
 use Rattle.std.proofs.Common.{ℕ, ◌+◌, ◌≡◌, ◌==◌, ◌&&◌, true, List, Option, Some, None, [], ◌∷◌, sym, ap, ◌∙◌}
 use Rattle.std.specs.Prelude.{is_some, unwrap_or}
 use Rattle.nf_access.proofs.Breaks.{broken_is_found_lem}
-use Rattle.nf_access.proofs.Chains.{chain_found}
+use Rattle.nf_access.proofs.Chains.{chain_found, line, within_is}
 use Rattle.nf_access.proofs.LookUps.{find_among}
 use Rattle.nf_access.specs.Broken.{broken_in, first_received}
 use Rattle.nf_access.specs.Laws.{IsBounded, IsRefused}
@@ -12,7 +12,6 @@ use Rattle.nf_base.specs.declared.limits.TheConstants.{MAX_CHAIN}
 use Rattle.nf_base.specs.declared.perms.Act.{Act}
 use Rattle.nf_base.specs.declared.rows.ShareRow.{ShareRow}
 use Rattle.nf_defs.specs.declared.Seeker.{Seeker}
-use Rattle.nf_grants.proofs.Lines.{line, within_is}
 use Rattle.nf_grants.proofs.Walks.{broken}
 
 module _ (g : Ground) (who : Seeker) (node above : ℕ) (share : ShareRow) (bounded : IsBounded g) (most : MAX_CHAIN ≡ above + 1)

@@ -10,7 +10,8 @@ use Rattle.nf_base.specs.declared.limits.TheConstants.{MAX_CHAIN}
 use Rattle.nf_base.specs.declared.perms.Act.{Act}
 use Rattle.nf_base.specs.declared.rows.ShareRow.{ShareRow}
 use Rattle.nf_defs.specs.declared.Grant.{Grant}
-use Rattle.nf_grants.proofs.Lines.{line, line_end, line_is, line_lost, line_up, within_is}
+use Rattle.nf_access.proofs.Chains.{line, within_is}
+use Rattle.nf_grants.proofs.Lines.{line_end, line_is, line_lost, line_up}
 
 -- ---- what it gives
 

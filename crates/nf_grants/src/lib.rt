@@ -5,6 +5,7 @@ mod breaking;
 mod chains;
 mod grants;
 mod ground;
+mod listing;
 
 pub use breaking::Broken;
 pub use ground::Ground;

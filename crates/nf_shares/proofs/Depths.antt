@@ -1,9 +1,10 @@
 -- The length of a chain, one share at a time.
-use Rattle.std.proofs.Common.{ℕ, zero, suc, ◌+◌, ◌≡◌, ◌==◌, Bool, true, false, List, [], ◌∷◌, Option, None, Some, length, refl, ap, ◌∙◌, arith}
-use Rattle.std.specs.Prelude.{option_map, option_and_then, unwrap_or, if◌then◌else◌}
+use Rattle.std.proofs.Common.{ℕ, ◌+◌, ◌≡◌, ◌==◌, Bool, true, false, List, [], ◌∷◌, Option, None, Some, length, refl, ap, arith}
+use Rattle.std.specs.Prelude.{option_map, unwrap_or, if◌then◌else◌}
+use Rattle.nf_access.proofs.Chains.{line_over, within_is, within_lost}
+use Rattle.nf_access.specs.Shares.{chain_of, chain_within, share_row}
 use Rattle.nf_base.specs.declared.limits.TheConstants.{MAX_CHAIN}
 use Rattle.nf_base.specs.declared.rows.ShareRow.{ShareRow}
-use Rattle.nf_access.specs.Shares.{chain_of, chain_up, chain_within, share_row}
 
 -- the length of the chain of a share, where it has at most so many
 abbrev pub reach : ℕ → List ShareRow → ℕ → Option ℕ
@@ -14,21 +15,12 @@ unfolding chain_within
 reach_zero most rows id none = rw none refl
 
 pub reach_none : (most : ℕ) (rows : List ShareRow) (id : ℕ) → share_row rows id ≡ None → reach most rows id ≡ None
-unfolding chain_within
-reach_none zero rows id none = refl
-reach_none (suc k) rows id none = rw none refl
-
-at_parent : (k : ℕ) (rows : List ShareRow) (id : ℕ) (row : ShareRow) (parent : Option ℕ) → share_row rows id ≡ Some row → row.parent ≡ parent
-    → chain_within (suc k) rows id ≡ chain_up row parent (chain_within k rows)
-unfolding chain_within
-at_parent k rows id row parent here up =
-    ap (option_and_then (λ row. chain_up row row.parent (chain_within k rows))) here ∙ ap (λ (o : Option ℕ). chain_up row o (chain_within k rows)) up
+reach_none most rows id none = ap (option_map length) (within_lost most rows id none)
 
 pub reach_first : (most k : ℕ) (rows : List ShareRow) (id : ℕ) (row : ShareRow) (own : Bool) → most ≡ k + 1 → share_row rows id ≡ Some row
     → row.parent ≡ None → (row.initiator == row.owner) ≡ own → reach most rows id ≡ (if own then Some 1 else None)
-reach_first zero k rows id row own more here first is = absurd (omega arith)
-reach_first (suc j) k rows id row own more here first is =
-    ap (option_map length) (at_parent j rows id row None here first ∙ ap (λ b. if b then Some (row ∷ []) else None) is) ∙ counted own
+reach_first most k rows id row own more here first is =
+    rw (within_is most k rows row id more here, line_over k rows row None first, is) (counted own)
   where
     counted : (own : Bool) → option_map length (if own then Some (row ∷ []) else None) ≡ (if own then Some 1 else None)
     counted true = refl
@@ -36,12 +28,8 @@ reach_first (suc j) k rows id row own more here first is =
 
 pub reach_up : (most k : ℕ) (rows : List ShareRow) (id parent : ℕ) (row : ShareRow) → most ≡ k + 1 → share_row rows id ≡ Some row
     → row.parent ≡ Some parent → reach most rows id ≡ option_map (λ n. n + 1) (reach k rows parent)
-reach_up zero k rows id parent row more here up = absurd (omega arith)
-reach_up (suc j) k rows id parent row more here up =
-    let same : j ≡ k = omega arith in
-    ap (option_map length) (at_parent j rows id row (Some parent) here up)
-    ∙ onto (chain_within j rows parent)
-    ∙ ap (λ (k : ℕ). option_map (λ n. n + 1) (reach k rows parent)) same
+reach_up most k rows id parent row more here up =
+    rw (within_is most k rows row id more here, line_over k rows row (Some parent) up) (onto (chain_within k rows parent))
   where
     onto : (o : Option (List ShareRow)) → option_map length (option_map (λ up. row ∷ up) o) ≡ option_map (λ n. n + 1) (option_map length o)
     onto None = refl
