@@ -2,16 +2,16 @@
 use Rattle.std.proofs.Common.{◌≡◌, ◌∙◌, ap, refl, arith, true, List, [], ◌∷◌, codes, Some, None, ℕ, Ok, is_some, if◌then◌else◌, Bool, find, false}
 use Rattle.std.specs.Prelude.{bytes_eq, Option, option_map}
 use Rattle.std.specs.List.{list_all}
-use Rattle.std.specs.Option.{option_and_then, option_map_or}
+use Rattle.std.specs.Option.{option_and_then, option_map_or, option_or}
 use Rattle.std.proofs.lemmas.Slice.Eq.{bytes_eq-Decides}
 use Rattle.sha2.specs.Sha256.{sha256, digest_bytes, hash_after, compress, rounds, schedule, first_words}
 use Rattle.nf_base.specs.declared.rows.TokenRow.{TokenRow}
 use Rattle.nf_base.specs.declared.rows.UserRow.{UserRow}
 use Rattle.nf_site.specs.Demo.{hello, demo_rows}
-use Rattle.nf_defs.specs.Prelude.{found_from, holder_of, user_row}
+use Rattle.nf_defs.specs.Prelude.{holder_of, user_row}
 use Rattle.nf_defs.specs.declared.Found.{Found}
 use Rattle.nf_defs.specs.declared.Found.TheVariants.{At}
-use Rattle.nf_words.specs.Prelude.{access_of, allowed_of, answer_to, answered_by, blob_for, Call, call_of, caller_row, content_in, exists_rule, forbidden_rule, found, given, limit_rule, locked_rule, lost, not_you_rule, opened, overwrite_rule, place_rule, places_of, root_of, rules, target_rule, token_rule, unless_refused}
+use Rattle.nf_words.specs.Prelude.{access_of, acts_rule, allowed_of, answer_to, asker_of, answered_by, blob_for, Call, call_of, caller_row, content_in, exists_rule, forbidden_rule, found, given, limit_rule, locked_rule, mounted, not_you_rule, opened, overwrite_rule, place_rule, places_of, root_of, rules, source_refused, target_rule, token_rule, unless_refused, Way, way_by, way_of}
 use Rattle.nf_words.specs.declared.answer.Denial.{Denial}
 use Rattle.nf_words.specs.declared.answer.Denial.TheVariants as denial
 use Rattle.nf_words.specs.declared.answer.Goal.TheVariants.{Serve}
@@ -53,25 +53,30 @@ holds = ap (λ (rows : List TokenRow). holder_of rows secret) tokens ∙ holder_
 hello_granted : (seat now : ℕ) (words : Words)
     → answer_to (opened demo_rows) seat now (Begin words (get_of (Token secret) spot))
     ≡ Ok (Granted (Serve (content_in (blob_for 1 6) (sha256 hello) 6)))
-unfolding token_rule not_you_rule forbidden_rule place_rule exists_rule target_rule overwrite_rule locked_rule limit_rule
+unfolding token_rule not_you_rule forbidden_rule place_rule acts_rule exists_rule target_rule overwrite_rule locked_rule limit_rule
 hello_granted seat now words =
     let s = opened demo_rows in
     let access = access_of s in
     let call : Call = call_of s seat now words (get_of (Token secret) spot) in
     let row : caller_row call ≡ user_row s.tables.users 1 = ap (option_and_then (user_row s.tables.users)) holds in
     let root : root_of call ≡ 1 = ap (λ (o : Option UserRow). option_map_or (λ row. row.root) o 0) row in
-    let at : found call spot ≡ At 4 = ap (λ (r : ℕ). found_from s.tables.nodes 0 r spot.path) root in
+    let way : way_of call spot ≡ record { mount = None; itself = false; place = At 4 } =
+    ap (λ (r : ℕ). way_by s.tables.nodes r spot.path (mounted s.tables.nodes s.tables.mounts (asker_of call) r spot.path)) root in
+    let at : found call spot ≡ At 4 = ap (λ (way : Way). way.place) way in
+    let asker : asker_of call ≡ 1 = ap (λ (o : Option UserRow). option_map_or (λ row. row.id) o 0) row in
     let places : places_of call ≡ record { source = Some (At 4); target = None } =
     ap (λ (f : Found). record { source = Some f; target = None }) at in
     let token : token_rule access call ≡ None = ap (λ (o : Option ℕ). if is_some o then None else Some denial.Token) holds in
     let not_you : not_you_rule access call ≡ None =
     ap (λ (o : Option UserRow). if list_all (λ name. option_map_or (λ row. bytes_eq row.name name) o false) (codes "alice" ∷ []) then None else Some denial.NotYou) row in
-    let led : place_rule access call ≡ None = ap lost places in
+    let led : place_rule access call ≡ None = ap (λ (way : Way). option_or (source_refused access call way) None) way in
+    let may : acts_rule access call ≡ None = rw (way, asker) refl in
     let passes : Passes access call = record {
       token = token;
       not_you = not_you;
       forbidden = refl;
       place = led;
+      acts = may;
       exists = refl;
       target = refl;
       overwrite = refl;

@@ -55,7 +55,7 @@ impl Tables {
         ensures { IfOk result (λ held. held.tables ≡ loaded) }
     {
         let meta = loaded.meta;
-        let parts = parts(loaded);
+        let parts = split(loaded);
         let people = People::load(alloc, parts.people)?;
         let tree = Tree::load(alloc, parts.nodes)?;
         let shares = Shares::load(alloc, parts.shares)?;
@@ -250,7 +250,7 @@ struct Parts {
     mounts: Vec<MountRow>,
 }
 
-fn parts(loaded: Loaded) -> Parts
+fn split(loaded: Loaded) -> Parts
     ensures users { result.people.users.items ≡ loaded.users }
     ensures tokens { result.people.tokens.items ≡ loaded.tokens }
     ensures groups { result.people.groups.items ≡ loaded.groups }

@@ -231,7 +231,7 @@ body_lists_nothing : (seat : ℕ) (s : State) (now : ℕ) (body : List ℕ) (by 
     → goal_at s seat ≡ Some (Store by key size) → answer_to s seat now (event_of_body body) ≢ Ok (reply.Listing lines)
 body_lists_nothing seat s now body by key size lines has =
     subst (λ (goal : Option Goal). answered_by (ends_at (access_of s) s.tables now (Body (sha256 body) (length body)) goal) ≢ Ok (reply.Listing lines))
-    (sym has) (stored_lists_nothing (end_refusal s.tables key (length body)) s.tables now key (sha256 body) (length body) lines)
+    (sym has) (stored_lists_nothing (end_refusal (access_of s) s.tables now by key (length body)) s.tables now key (sha256 body) (length body) lines)
 
 of_body : (seat : ℕ) (s : State) (now : ℕ) (body : List ℕ) (by : By) (key : LockKey) (size : ℕ) (answer : Answer)
     → goal_at s seat ≡ Some (Store by key size) → answer ≡ answer_to s seat now (event_of_body body) → IsOfBody answer

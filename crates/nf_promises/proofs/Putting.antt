@@ -9,7 +9,7 @@ use Rattle.std.proofs.lemmas.Option.{unwrap_or-slice_get}
 use Rattle.sha2.specs.Sha256.{sha256}
 use Rattle.nf_base.specs.declared.content.Piece.{Piece}
 use Rattle.nf_base.specs.declared.rows.UserRow.{UserRow}
-use Rattle.nf_defs.specs.Prelude.{found_from, holder_of, Leads, Tables, user_row}
+use Rattle.nf_defs.specs.Prelude.{Access, found_from, holder_of, Leads, Tables, user_row}
 use Rattle.nf_defs.specs.declared.Found.{Found}
 use Rattle.nf_defs.specs.declared.Found.TheVariants.{At, Free, Missing}
 use Rattle.nf_laws.proofs.Owning.{changes_own}
@@ -18,6 +18,7 @@ use Rattle.nf_laws.proofs.Reading.{stored_free, stored_is_read}
 use Rattle.nf_laws.proofs.Stays.{sound_after}
 use Rattle.nf_laws.specs.Reads.{IsFreeToRead, IsReadBy, IsStored, LeadsToKey}
 use Rattle.nf_words.proofs.Passing.{Passes, call_passes}
+use Rattle.nf_words.proofs.Starts.{led_from_root}
 use Rattle.nf_words.proofs.Steps.{granted_step, put_grants_nothing, reports_nothing}
 use Rattle.nf_words.specs.Prelude.{access_of, after, after_mark, answer_at, answer_to, answered_by, AreSound, blob_by, blob_for, blob_of, blob_to, by_of, call_of, content_in, decided, decision_of, end_refusal, ends_at, forbidden_rule, found, goal_at, is_caller, IsSound, last_name, MayAsk, MayCome, named_in, not_you_rule, refusal_of, reply_to, root_of, State, step, stored, stored_at, stores, token_rule, unless_refused}
 use Rattle.nf_words.specs.Calls.{caller_of}
@@ -154,7 +155,8 @@ put_granted count s e words caller spot n by key size sound may event_is is =
     record {
       tables = ap (λ (x : State). x.tables) becomes ∙ ap (λ (d : Result Allowed Denial). (decided s e.seat e.moment d).tables) decides;
       goal = ap (λ (x : State). goal_at x e.seat) becomes ∙ granted_step s e.seat e.moment event (Store by key size) asked.0 h.1;
-      led = put_key s.tables (root_of call) n spot (found call spot) (by_of call spot) by key size sound.rows refl passes.1;
+      led = put_key s.tables (root_of call) n spot (found call spot) (by_of call spot) by key size sound.rows
+          (led_from_root call spot (found call spot) sound.rows refl) passes.1;
       passes = passes.0;
     }
 
@@ -165,9 +167,10 @@ stored_blob : (t : Tables) (now : ℕ) (key : LockKey) (digest : List ℕ) (size
 stored_blob t now (Node node) digest size = refl
 stored_blob t now (Slot folder name) digest size = refl
 
-stores_blob : (t : Tables) (now : ℕ) (key : LockKey) (digest : List ℕ) (size : ℕ) → IsOk (answered_by (stores t now key digest size))
-    → blob_by (stores t now key digest size) ≡ blob_for t.meta.next_blob size
-stores_blob t now key digest size ok = here (end_refusal t key size) ok
+stores_blob : (access : Access) (t : Tables) (now : ℕ) (by : By) (key : LockKey) (digest : List ℕ) (size : ℕ)
+    → IsOk (answered_by (stores access t now by key digest size))
+    → blob_by (stores access t now by key digest size) ≡ blob_for t.meta.next_blob size
+stores_blob access t now by key digest size ok = here (end_refusal access t now by key size) ok
   where
     here : (o : Option Denial) → IsOk (answered_by (unless_refused o (stored_at t now key digest size)))
         → blob_by (unless_refused o (stored_at t now key digest size)) ≡ blob_for t.meta.next_blob size
@@ -237,7 +240,7 @@ put_is_got count more s first second words caller spot n by key size body sound 
     subst (λ (m : Mark). IsOk (answer_at middle second m)) marked ok in
     let goal : goal_at middle second.seat ≡ Some (Store by key (length body)) =
     ap (goal_at middle) seat ∙ granted.goal ∙ ap (λ (l : ℕ). Some (Store by key l)) (sym long) in
-    let goes : decision_of middle second.seat second.moment second.event ≡ stores t second.moment key (sha256 body) (length body) =
+    let goes : decision_of middle second.seat second.moment second.event ≡ stores (access_of middle) t second.moment by key (sha256 body) (length body) =
     ap (decision_of middle second.seat second.moment) event
     ∙ ap (ends_at (access_of middle) t second.moment (Body (sha256 body) (length body))) goal in
     let is_stored : IsStored more middle second root spot.path (content_of_body middle body) = record {
@@ -261,6 +264,6 @@ put_is_got count more s first second words caller spot n by key size body sound 
           is_stored tt (λ k node few led. refl)
           (get_reads s (after middle second) first.seat first.moment words caller spot n later moment others users tokens granted.passes
           (λ node. stored_free more middle second root spot.path (content_of_body middle body) is_stored node later));
-      blob = ap blob_by goes ∙ stores_blob t second.moment key (sha256 body) (length body)
+      blob = ap blob_by goes ∙ stores_blob (access_of middle) t second.moment by key (sha256 body) (length body)
           (subst (λ (d : Result Allowed Denial). IsOk (answered_by d)) goes accepted);
     }

@@ -1,10 +1,15 @@
 use Rattle.std.proofs.Common.{Option, option_map, sym, subst}
 use Rattle.std.specs.Option.{IfSome}
 use Rattle.nf_words.proofs.Ends.{goal_held, goal_sound}
-use Rattle.nf_words.specs.Sound.{IsGoalSound, IsStorable}
+use Rattle.nf_words.specs.Sound.{AreSound, IsGoalSound, IsStorable}
 use Rattle.nf_words.specs.State.{State}
 use Rattle.nf_words.specs.declared.history.Ticket.{Ticket}
 use Rattle.nf_site.proofs.site.Site.decide_end.Goals as goal
+
+-- the rows are sound
+pub decide_end-requires-clause-rows : goal.decide_end-requires-clause-rows
+decide_end-requires-clause-rows c =
+    subst (λ (it : State). AreSound it.tables) (sym c.view.ensures) c.self.invariant.sound.rows
 
 -- each ticket of a sound state has a sound goal
 pub decide_end-requires-clause-sound : goal.decide_end-requires-clause-sound
