@@ -16,7 +16,8 @@ ghost use Rattle.nf_decide.specs.Rows.{FitsNodes};
 
 use crate::view::View;
 use nf_base::{
-    BlobId, Change, Changes, MetaRow, Moment, MountRow, Name, NodeId, NodeRow, Row, RowList, ShareRow,
+    BlobId, Change, Changes, MetaRow, Moment, MountRow, Name, NodeId, NodeRow, Row, RowList,
+    ShareRow,
 };
 use nf_mounts::Mounts;
 use nf_opening::Loaded;
@@ -316,12 +317,22 @@ fn push_shares(list: &mut RowList, shares: &[ShareRow]) -> Result<(), AllocError
     Ok(())
 }
 
+/// An equal mount.
+fn copy_mount(mount: &MountRow) -> Result<MountRow, AllocError>
+    ensures { IfOk result (λ copy. copy ≡ mount.now) }
+{
+    Ok(MountRow {
+        name: mount.name.copy()?,
+        ..*mount
+    })
+}
+
 /// Puts mounts at the end of a list of rows.
 fn push_mounts(list: &mut RowList, mounts: &[MountRow]) -> Result<(), AllocError>
     ensures { OnOk result (list.new ≡ list.old ++ map kinds.Mount mounts.now) }
 {
     for mount in mounts {
-        list.push(Row::Mount(mount.clone()?))?;
+        list.push(Row::Mount(copy_mount(mount)?))?;
     }
     Ok(())
 }

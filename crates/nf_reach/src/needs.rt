@@ -142,7 +142,12 @@ impl<'a> Asker<'a> {
 
     /// Why the user may not do what a request needs, by where its paths lead: the first act that is refused.
     #[tactic(auto, using(crate::proofs::Refusals::first_of_both))]
-    pub fn acts(&self, asked: &Asked<'_>, source: Option<&Way>, target: Option<&Way>) -> Option<Denial>
+    pub fn acts(
+        &self,
+        asked: &Asked<'_>,
+        source: Option<&Way>,
+        target: Option<&Way>,
+    ) -> Option<Denial>
         ensures { result ≡ refusal_for self.now (needs_between self.now.base.nodes self.now.root asked.now (option_copied source.entry) (option_copied target.entry)) }
     {
         if is_mount_asked(asked, source) {

@@ -48,7 +48,7 @@ end_unallowed access t now by key = first_refused access (ground_of t) by.seeker
 -- `not-found`: a mount took the name in a root meanwhile. Else what is held is still there
 abbrev pub end_lost : Tables → LockKey → Option Denial
 end_lost t (Node node) = None
-end_lost t (Slot folder name) = 
+end_lost t (Slot folder name) =
     if is_root t.nodes folder && is_some (mount_at t.mounts (owner_of t.nodes folder) name) then Some denial.NotFound else None
 
 -- the rules that refuse the End of a PUT, in their order; `limit` is the last

@@ -3,7 +3,7 @@ use Rattle.nf_decide.proofs.tables.Tables.of.Goals as goal
 
 pub load-requires : goal.load-requires
 load-requires c =
-    let are = c.parts-rows.ensures in rw (are.users, are.tokens, are.groups, are.members) (people_of c.args.loaded c.requires)
+    let are = c.split-parts.ensures in rw (are.users, are.tokens, are.groups, are.members) (people_of c.args.loaded c.requires)
 
 pub load-requires-2-clause-rising : goal.load-requires-2-clause-rising
-load-requires-2-clause-rising c = rw c.parts-rows.ensures.nodes c.requires.sound.rising
+load-requires-2-clause-rising c = rw c.split-parts.ensures.nodes c.requires.sound.rising
