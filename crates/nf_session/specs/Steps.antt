@@ -181,6 +181,11 @@ is_unsent head begun = is_refused begun && holds_back head
 abbrev pub skipped_length : Head → Begun → ℕ
 skipped_length head begun = if is_unsent head begun then 0 else length_of head
 
+-- how long the body is that is to be stored
+abbrev pub stored_length : Begun → Option ℕ
+stored_length (begun.Asked (Ok (reply.Granted (goal.Store by key length)))) = Some length
+stored_length other = None
+
 -- the bytes of the body that are taken: a granted body whole, and any other is skipped, where it was sent
 abbrev pub taken_length : Head → Begun → ℕ
 taken_length head (begun.Asked (Ok (reply.Granted (goal.Store by key length)))) = length

@@ -2,7 +2,7 @@
 
 ghost use Rattle.std.specs.Prelude.{◌≡◌, ◌&&◌};
 ghost use Rattle.nf_http.specs.Head.{Head, expects_continue};
-ghost use Rattle.nf_session.specs.Steps.{holds_back as waits, is_granted as granted, is_invited as invited, is_refused as refused, is_unsent as unsent, skipped_length as skipped};
+ghost use Rattle.nf_session.specs.Steps.{holds_back as waits, is_granted as granted, is_invited as invited, is_refused as refused, is_unsent as unsent, skipped_length as skipped, stored_length as stored};
 
 use nf_dav::wants_body;
 use nf_http::Message;
@@ -32,21 +32,21 @@ impl Begun {
         matches!(self, Begun::Unasked(_) | Begun::Asked(Err(_)))
     }
 
-    // A body is to be stored.
-    fn stores(&self) -> bool
-        ensures { (head : Head) → invited head self.now ≡ (result && expects_continue head) }
+    /// How long the body is that is to be stored, if one is.
+    pub fn stored_length(&self) -> Option<u64>
+        ensures { result ≡ stored self.now }
     {
-        let Begun::Asked(Ok(Reply::Granted(goal))) = self else {
-            return false;
-        };
-        matches!(goal, Goal::Store { .. })
+        match self {
+            Begun::Asked(Ok(Reply::Granted(Goal::Store { length, .. }))) => Some(*length),
+            _ => None,
+        }
     }
 
     /// The sender of the body that was granted waits to be told to send it.
     pub fn is_invited(&self, message: &Message) -> bool
         ensures { result ≡ invited message.now self.now }
     {
-        self.stores() && message.expects_continue()
+        self.stored_length().is_some() && message.expects_continue()
     }
 
     /// The sender of what is refused waited for that, and hasn't sent its body.

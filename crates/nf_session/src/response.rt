@@ -52,8 +52,8 @@ impl Response {
     }
 
     /// How that ends, by whether the response was written.
-    pub fn ending(&self, written: &Result<Option<Ended>, Ended>) -> Ending
-        ensures ending { result ≡ how_of self.now written.now }
+    pub fn ending(self, written: &Result<Option<Ended>, Ended>) -> Ending
+        ensures ending { result ≡ how_of self written.now }
         ensures closing { IsClosing result }
     {
         match self {

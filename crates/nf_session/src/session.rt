@@ -9,7 +9,7 @@ ghost use Rattle.nf_routes.specs.Targets.{is_ocs as begins_with_ocs};
 ghost use Rattle.nf_session.specs.Book.{MayEnd, held};
 ghost use Rattle.nf_session.specs.Connections.{between, scene, IsSame};
 ghost use Rattle.nf_session.specs.Files.{IsResponding, IsStarted, SendsFile, SendsPiece, TakesPiece, file_front, taken_first};
-ghost use Rattle.nf_session.specs.Steps.{IsClosing, Heads, Bodies, Cuts, Skips, Judges, IsBegun, Invites, TakesIn, StoresBody, StartsFile, Says, Sends, Closes, EndsBy, EndsSo, skipped_length};
+ghost use Rattle.nf_session.specs.Steps.{IsClosing, Heads, Bodies, Cuts, Skips, Judges, IsBegun, Invites, Passes, TakesIn, StoresBody, StartsFile, Says, Sends, Closes, EndsBy, EndsSo, skipped_length, stored_length};
 ghost use Rattle.nf_session.specs.Turn.{Meets, Responds, Turn, Writes, way_by};
 ghost use Rattle.nf_session.specs.Session.{Session};
 ghost use Rattle.nf_session.specs.declared.backend.Ending.TheVariants as ending;
@@ -173,36 +173,36 @@ where
         ensures responding { IfOk result (IsResponding (B.book self.new.backend.now)) }
         ensures cut { OnErr result (B.book self.new.backend.now ≡ B.book self.old.backend.now) }
     {
+        if let Some(length) = begun.stored_length() {
+            drop(begun);
+            let body = self.read(length as usize)?;
+            return Ok(self.store(body));
+        }
+        match self.skip(skipped) {
+            Ok(()) => Ok(self.pass(begun)),
+            Err(fault) => {
+                drop(begun);
+                Err(fault)
+            }
+        }
+    }
+
+    // Makes a response of what was begun, where that takes no body.
+    fn pass(&mut self, begun: Begun) -> Response
+        requires begun { IsBegun (B.book self.old.backend.now) begun }
+        requires unstored { stored_length begun ≡ None }
+        ensures same { IsSame B.Backend self.old self.new }
+        ensures passes { (body : List ℕ) → Passes C.reads body (scene S.Ends O.Ends B.Backend self.old)
+            (scene S.Ends O.Ends B.Backend self.new) begun result }
+        ensures responding { IsResponding (B.book self.new.backend.now) result }
+    {
         match begun {
-            Begun::Asked(Ok(Reply::Granted(Goal::Store { length, .. }))) => {
-                let body = self.read(length as usize)?;
-                Ok(self.store(body))
-            }
-            Begun::Asked(Ok(Reply::Granted(Goal::Serve(content)))) => {
-                self.skip(skipped)?;
-                Ok(self.start(content))
-            }
-            Begun::Asked(Ok(Reply::Made)) => {
-                self.skip(skipped)?;
-                Ok(Response::Made)
-            }
-            Begun::Asked(Ok(Reply::Done)) => {
-                self.skip(skipped)?;
-                Ok(Response::Done)
-            }
-            Begun::Asked(Ok(Reply::Listing(lines))) => {
-                self.skip(skipped)?;
-                Ok(Response::Listing(lines))
-            }
-            Begun::Asked(Ok(Reply::Closed)) => unreachable!(),
-            Begun::Asked(Err(denial)) => {
-                self.skip(skipped)?;
-                Ok(Response::Denied(denial))
-            }
-            Begun::Unasked(denial) => {
-                self.skip(skipped)?;
-                Ok(Response::Denied(denial))
-            }
+            Begun::Asked(Ok(Reply::Granted(Goal::Serve(content)))) => self.start(content),
+            Begun::Asked(Ok(Reply::Made)) => Response::Made,
+            Begun::Asked(Ok(Reply::Done)) => Response::Done,
+            Begun::Asked(Ok(Reply::Listing(lines))) => Response::Listing(lines),
+            Begun::Asked(Ok(Reply::Granted(Goal::Store { .. }) | Reply::Closed)) => unreachable!(),
+            Begun::Asked(Err(denial)) | Begun::Unasked(denial) => Response::Denied(denial),
         }
     }
 
@@ -399,6 +399,7 @@ where
         let begun = self.begin(message);
         let granted = begun.is_granted();
         if let Err(ended) = self.invite(message, &begun) {
+            drop(begun);
             self.close(granted, Ending::Gone);
             return Some(ended);
         }
@@ -467,6 +468,9 @@ where
         self.exchange(true)
     }
 }
+
+// Lets go of what was begun: in a call, since a function that owns it would do so case by case at each of its ways out.
+fn drop(_begun: Begun) {}
 
 fn manner(message: &Message, close: bool) -> Manner
     ensures { result ≡ record { close = close; ocs = begins_with_ocs message.now.target; head_only = bytes_eq message.now.method (codes "HEAD") } }
