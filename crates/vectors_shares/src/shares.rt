@@ -1,17 +1,20 @@
-//! Chains at their longest, and as many shares as may be, made by loops.
+//! Lists of shares, chains at their longest, and as many shares as may be, made by loops.
 
-use nf_base::{Act, MAX_CHAIN, MAX_SHARES, Moment, NodeId, Perms, ShareId, ShareKind, ShareRow, UserId};
+use crate::rows::put_in;
+use nf_base::{
+    Act, MAX_CHAIN, MAX_SHARES, Moment, NodeId, Perms, ShareId, ShareKind, ShareRow, UserId,
+};
 use nf_defs::{Grant, Seeker};
 use nf_grants::Ground;
 use nf_people::People;
 use nf_shares::{ShareFault, Shares};
 use nf_tree::Tree;
-use std::alloc::Global;
+use std::alloc::{AllocError, Global};
 use std::test::Fail;
 
 /// A share of user 1's node of that number, with all permissions: for the user whose number is one more than the share's. It is the first,
 /// or passes on the share before it.
-fn share(number: u32, node: u32, passes_on: bool) -> Result<ShareRow, Fail> {
+pub(crate) fn share(number: u32, node: u32, passes_on: bool) -> Result<ShareRow, Fail> {
     let owner = UserId::new(1);
     let parent = passes_on.then_some(ShareId::new(number.wrapping_sub(1).into()));
     Ok(ShareRow {
@@ -95,5 +98,47 @@ fn as_many_shares_as_may_be(rt: HostRuntime) -> Result<(), Fail> {
     assert!(rt; shares.count() == 65_536);
     let made = make(&mut shares, share(65_537, 7, false)?)?;
     assert!(rt; made == Err(ShareFault::Limit));
+    Ok(())
+}
+
+/// Shares 1 and 4 of node 7, share 2 of node 7, which passes the first on, and share 3 of node 9.
+fn a_few(alloc: Global) -> Result<Shares, Fail> {
+    let mut rows = Vec::new(alloc);
+    put_in(&mut rows, share(1, 7, false)?)?;
+    put_in(&mut rows, share(2, 7, true)?)?;
+    put_in(&mut rows, share(3, 9, false)?)?;
+    put_in(&mut rows, share(4, 7, false)?)?;
+    Ok(Shares::load(alloc, rows)?)
+}
+
+/// Whether these are the shares of those numbers, in that order.
+fn are(ids: Result<Vec<ShareId>, AllocError>, numbers: &[u64]) -> Result<bool, Fail> {
+    let ids = ids?;
+    Ok(
+        ids.len() == numbers.len()
+            && ids
+                .iter()
+                .zip(numbers)
+                .all(|(id, number)| *id == ShareId::new(*number)),
+    )
+}
+
+#[test]
+fn lists_of_shares(rt: HostRuntime) -> Result<(), Fail> {
+    let alloc = rt.alloc();
+    let shares = a_few(alloc)?;
+    assert!(rt; are(shares.on_node(alloc, NodeId::new(7)), &[1, 2, 4])?);
+    assert!(rt; are(shares.children(alloc, ShareId::new(1)), &[2])?);
+    assert!(rt; are(shares.made_by(alloc, UserId::new(1)), &[1, 3, 4])?);
+    Ok(())
+}
+
+#[test]
+fn what_is_received(rt: HostRuntime) -> Result<(), Fail> {
+    let alloc = rt.alloc();
+    let (people, tree, shares) = (People::new(alloc), Tree::new(alloc), a_few(alloc)?);
+    let ground = Ground::new(&people, &tree, &shares);
+    assert!(rt; are(shares.received(alloc, &ground, UserId::new(3)), &[2])?);
+    assert!(rt; are(shares.received(alloc, &ground, UserId::new(1)), &[])?);
     Ok(())
 }
