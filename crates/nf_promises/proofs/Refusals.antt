@@ -1,24 +1,17 @@
 -- What refuses for want of room: a Begin alone.
-use Rattle.std.proofs.Common.{ℕ, ◌≡◌, Option, None, Some, Err, option_map, sym, ap, ◌∙◌}
+use Rattle.std.proofs.Common.{◌≡◌, Err, refl}
 use Rattle.std.proofs.lemmas.Bool.{false≢true}
-use Rattle.nf_defs.specs.Prelude.{Access, Tables}
 use Rattle.nf_dav.specs.Asked.{request_of}
 use Rattle.nf_dav.proofs.NotAsked.{unasked_refusal}
 use Rattle.nf_http.specs.Head.{Head}
 use Rattle.nf_words.proofs.Marks.{never_failed}
 use Rattle.nf_words.specs.Prelude.{answer_at, State}
-use Rattle.nf_words.specs.declared.answer.Allowed.{Allowed}
-use Rattle.nf_words.specs.declared.answer.Denial.{Denial}
 use Rattle.nf_words.specs.declared.answer.Denial.TheVariants as denial
-use Rattle.nf_words.specs.declared.answer.Goal.{Goal}
-use Rattle.nf_words.specs.declared.answer.Goal.TheVariants.{Serve, Store}
-use Rattle.nf_words.specs.declared.answer.Limit.{Limit}
 use Rattle.nf_words.specs.declared.history.Entry.{Entry}
 use Rattle.nf_words.specs.declared.history.Event.TheVariants.{End}
 use Rattle.nf_words.specs.declared.history.Mark.{Mark}
 use Rattle.nf_words.specs.declared.history.Mark.TheVariants as mark
 use Rattle.nf_words.specs.declared.history.Outcome.{Outcome}
-use Rattle.nf_words.specs.declared.history.Outcome.TheVariants.{Sent, Gone, Body}
 
 -- ---- a request
 
