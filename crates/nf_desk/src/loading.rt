@@ -1,10 +1,10 @@
 //! A site over what a keeper has.
 
-ghost use Rattle.std.specs.Prelude.{◌≡◌, All, map, option_map, None, Some, IfOk, IfErr, OnOk, OnErr};
+ghost use Rattle.std.specs.Prelude.{◌≡◌, All, map, option_copied, option_map, None, Some, IfOk, IfErr, OnOk, OnErr};
 ghost use Rattle.nf_base.specs.declared.changes.Change.TheVariants.{Put};
 ghost use Rattle.nf_desk.specs.Faults.{unread_by};
 ghost use Rattle.nf_desk.specs.Opened.{AsksOnce, AsksToStore, CountsOpening, IsBegunFault, IsFault, IsSpelled, IsUnreadAt, MayBegin, Opens, ReadsRows, first_blob, stored_first};
-ghost use Rattle.nf_keeper.specs.Keeping.{applied};
+ghost use Rattle.nf_keeper.specs.Keeping.{applied, one_more};
 ghost use Rattle.nf_keeper.specs.Views.{stored_in};
 ghost use Rattle.nf_rows.specs.Spelling.{Fits};
 ghost use Rattle.nf_rules.specs.Rules.{AreUnbroken};
@@ -65,8 +65,25 @@ fn begin<K: Keeper>(alloc: Global, keeper: &mut K, first: First) -> Result<Site,
     let changes = puts(alloc, &rows)?;
     let site = Site::build(alloc, rows)?;
     let blob = new_blob(&blob);
-    keeper.apply(&changes, blob.as_ref())?;
+    store_first(keeper, &changes, blob.as_ref())?;
     Ok(site)
+}
+
+/// Has the keeper store the first rows and their blob. At a fault nothing is stored.
+fn store_first<K: Keeper>(
+    keeper: &mut K,
+    changes: &Changes,
+    blob: Option<&NewBlob<'_>>,
+) -> Result<(), OpenFault>
+    ensures made { OnOk result (K.told keeper.new ≡ option_map (applied changes.now (stored_in (option_copied blob.entry))) (K.told keeper.old)) }
+    ensures fits { OnOk result (All FitsChange changes.now) }
+    ensures err { IfErr result IsBegunFault }
+    ensures same { OnErr result (K.told keeper.new ≡ K.told keeper.old) }
+    ensures count { CountsOpening (K.faults keeper.old) (K.faults keeper.new) result }
+    ensures called { K.calls keeper.new ≡ one_more (K.calls keeper.old) }
+{
+    keeper.apply(changes, blob)?;
+    Ok(())
 }
 
 /// A Put of each row.
