@@ -8,10 +8,13 @@ use Rattle.sha2.specs.Sha256.{sha256, digest_bytes, hash_after, compress, rounds
 use Rattle.nf_base.specs.declared.rows.TokenRow.{TokenRow}
 use Rattle.nf_base.specs.declared.rows.UserRow.{UserRow}
 use Rattle.nf_site.specs.Demo.{hello, demo_rows}
+use Rattle.nf_access.specs.Shares.{ground_of}
+use Rattle.nf_base.specs.declared.perms.Act.TheVariants.{Read}
 use Rattle.nf_defs.specs.Prelude.{holder_of, user_row}
+use Rattle.nf_defs.specs.declared.Seeker.TheVariants.{User}
 use Rattle.nf_defs.specs.declared.Found.{Found}
 use Rattle.nf_defs.specs.declared.Found.TheVariants.{At}
-use Rattle.nf_words.specs.Prelude.{access_of, acts_rule, allowed_of, answer_to, asker_of, answered_by, blob_for, Call, call_of, caller_row, content_in, exists_rule, forbidden_rule, found, given, limit_rule, locked_rule, mounted, not_you_rule, opened, overwrite_rule, place_rule, places_of, root_of, rules, source_refused, target_rule, token_rule, unless_refused, Way, way_by, way_of}
+use Rattle.nf_words.specs.Prelude.{access_of, acts_rule, allowed_of, answer_to, asked_of, asker_of, answered_by, blob_for, Call, call_of, caller_row, content_in, exists_rule, first_refused, forbidden_rule, found, given, limit_rule, locked_rule, mounted, needs_between, not_you_rule, opened, overwrite_rule, place_rule, places_of, root_of, rules, seeker_of, source_refused, target_rule, token_rule, unless_refused, Way, way_by, way_of}
 use Rattle.nf_words.specs.declared.answer.Denial.{Denial}
 use Rattle.nf_words.specs.declared.answer.Denial.TheVariants as denial
 use Rattle.nf_words.specs.declared.answer.Goal.TheVariants.{Serve}
@@ -70,7 +73,11 @@ hello_granted seat now words =
     let not_you : not_you_rule access call ≡ None =
     ap (λ (o : Option UserRow). if list_all (λ name. option_map_or (λ row. bytes_eq row.name name) o false) (codes "alice" ∷ []) then None else Some denial.NotYou) row in
     let led : place_rule access call ≡ None = ap (λ (way : Way). option_or (source_refused access call way) None) way in
-    let may : acts_rule access call ≡ None = rw (way, asker) refl in
+    let may : acts_rule access call ≡ None =
+    ap (λ (way : Way). first_refused access (ground_of s.tables) (seeker_of call) now
+    (needs_between s.tables.nodes (root_of call) (asked_of (Get spot)) (Some way) None)) way
+    ∙ ap (λ (user : ℕ). first_refused access (ground_of s.tables) (User user) now
+    (record { act = Read; node = 4; mount = None } ∷ [])) asker in
     let passes : Passes access call = record {
       token = token;
       not_you = not_you;
