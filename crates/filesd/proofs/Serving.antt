@@ -1,5 +1,5 @@
 -- A run of `batch`, from what its parts say.
-use Rattle.std.proofs.Common.{◌≡◌, ℕ, List, [], ◌∷◌, refl, ◌∙◌, ap, subst}
+use Rattle.std.proofs.Common.{◌≡◌, ℕ, List, [], ◌∷◌, refl, sym, ◌∙◌, ap, subst}
 use Rattle.std.specs.Option.{IfSome}
 use Rattle.std.specs.Prelude.{Option, None, Some}
 use Rattle.nf_base.specs.declared.rows.Row.{Row}
@@ -14,6 +14,8 @@ use Rattle.nf_rows.specs.Spelling.{Raw}
 use Rattle.nf_rules.specs.Rules.{AreUnbroken}
 use Rattle.nf_session.proofs.Causes.{session_follows}
 use Rattle.nf_session.specs.Prelude.{own_from}
+use Rattle.nf_session.specs.declared.ended.Ended.{Ended}
+use Rattle.nf_session.specs.declared.ended.Ended.TheVariants as ended
 use Rattle.nf_site.specs.Demo.{demo_rows}
 use Rattle.nf_site.specs.Held.{Held}
 use Rattle.nf_site.specs.Kept.{Kept, opened_over}
@@ -24,7 +26,7 @@ use Rattle.filesd.specs.Opening.{IsUnopened, WhyUnopened, demo_blob, over_any, t
 use Rattle.filesd.specs.Opening as opening
 use Rattle.filesd.specs.Outside.{Outside}
 use Rattle.filesd.specs.Seat.{AreOwn, book_of, seat}
-use Rattle.filesd.specs.Session.{Runs, ServesDesk, first_book}
+use Rattle.filesd.specs.Session.{Runs, ServesDesk, first_book, status_of}
 use Rattle.filesd.specs.declared.status.Status.{Status}
 use Rattle.filesd.specs.declared.status.Status.TheVariants as exit
 use Rattle.filesd.proofs.Alone.{is_alone}
@@ -98,3 +100,21 @@ pub runs_write : {C : Type 0} (reads : C → ℕ → C → Type 0) (a b : Outsid
     → status ≡ exit.WriteFault → Rose a.write_faults b.write_faults
 runs_write reads a b status None unopened is = absurd (unopened_by a b status exit.WriteFault unopened is)
 runs_write reads a b status (Some site) serves is = write_rose reads _ _ serves.end status serves.session serves.ended is
+
+-- ---- faults of the keeper
+
+no_store : (end : Option Ended) → status_of end ≡ exit.StoreFault → ⊥
+no_store None is = cc
+no_store (Some ended.Closed) is = cc
+no_store (Some ended.BadMessage) is = cc
+no_store (Some ended.NotBuilt) is = cc
+no_store (Some ended.RunFull) is = cc
+no_store (Some (ended.Cut why)) is = cc
+no_store (Some ended.ReadFault) is = cc
+no_store (Some ended.WriteFault) is = cc
+no_store (Some ended.Memory) is = cc
+
+pub runs_store : {C : Type 0} (reads : C → ℕ → C → Type 0) (a b : Outside C) (status : Status) (site : Option Held) → Runs reads a b status site
+    → status ≡ exit.StoreFault → Rose a.faults b.faults
+runs_store reads a b status None unopened is = unopened_by a b status exit.StoreFault unopened is
+runs_store reads a b status (Some site) serves is = absurd (no_store serves.end (sym serves.ended ∙ is))

@@ -17,7 +17,7 @@ use Rattle.filesd.proofs.Ending.{batch_well, init_well, serve_well}
 use Rattle.filesd.proofs.Working.{Says, runs_say}
 use Rattle.filesd.proofs.OneFile.{serves_one}
 use Rattle.filesd.proofs.Safe.{batch_keeps, init_keeps, serve_keeps}
-use Rattle.filesd.proofs.Serving.{runs_read, runs_write}
+use Rattle.filesd.proofs.Serving.{runs_read, runs_store, runs_write}
 use Rattle.filesd.proofs.running.run.Goals as goal
 
 pub returns-in-Ok-Some-Batch-clause-one_file : goal.returns-in-Ok-Some-Batch-clause-one_file
@@ -31,6 +31,10 @@ returns-in-Ok-Some-Batch-clause-read g c =
 pub returns-in-Ok-Some-Batch-clause-write : goal.returns-in-Ok-Some-Batch-clause-write
 returns-in-Ok-Some-Batch-clause-write g c =
     runs_write g.C.Clock.reads _ _ c.batch.result.status c.batch.result.site c.batch.ensures.runs
+
+pub returns-in-Ok-Some-Batch-clause-store : goal.returns-in-Ok-Some-Batch-clause-store
+returns-in-Ok-Some-Batch-clause-store g c =
+    runs_store g.C.Clock.reads _ _ c.batch.result.status c.batch.result.site c.batch.ensures.runs
 
 pub returns-in-Ok-Some-Batch-clause-batch_well : goal.returns-in-Ok-Some-Batch-clause-batch_well
 returns-in-Ok-Some-Batch-clause-batch_well g c = λ batch.
