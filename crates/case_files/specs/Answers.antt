@@ -1,8 +1,6 @@
 -- What a run must write, and where what it wrote first differs.
 use Rattle.std.specs.Prelude.{◌≡◌, ◌≢◌, ℕ, List, [], ◌∷◌, ◌++◌, take, drop}
 use Rattle.case_files.specs.declared.case.Exchange.{Exchange}
-use Rattle.case_files.specs.declared.case.Run.{Run}
-use Rattle.case_files.specs.declared.case.Outcome.{Outcome}
 
 -- the answers one after the other
 abbrev pub answers : List Exchange → List ℕ
@@ -17,8 +15,3 @@ Differs (exchange ∷ more) got = (behind : List ℕ) → got ≢ exchange.answe
 pub record IsFirstDifference (exchanges : List Exchange) (written : List ℕ) (index : ℕ) (got : List ℕ) : Type 0 where
   pub before : written ≡ answers (take index exchanges) ++ got
   pub here : Differs (drop index exchanges) got
-
--- a run gave the bytes and the status that are wanted
-pub record IsAsWanted (run : Run) (outcome : Outcome) : Type 0 where
-  pub output : outcome.output.items ≡ answers run.exchanges.items
-  pub status : outcome.status ≡ run.status

@@ -1,28 +1,67 @@
 //! A case, as its file says it.
 
+use crate::kept::{Blob, Kept};
 use std::alloc::{AllocError, AllocFailed};
 
-/// Runs one after the other over one keeper, which begins empty.
+/// Runs one after the other.
 #[derive(Drop)]
 pub struct Case {
-    /// The numbers of the keeper's calls that fail. All calls of all runs are counted together, from 1 on.
-    pub failing: Vec<u64>,
     pub runs: Vec<Run>,
 }
 
-/// All that a run depends on beside its keeper, and what it must give.
+/// All that a run depends on, and what it must give.
 #[derive(Drop)]
 pub struct Run {
     pub words: Vec<String>,
     /// The readings of the clock; the last is repeated.
     pub clock: Vec<u64>,
+    /// The new keeper that the run is over. Where there is none it is over what the run before it left; a first run has one.
+    pub start: Option<Start>,
     /// What is put into the keeper before the run.
-    pub damage: Vec<Damage>,
+    pub damage: Vec<Blob>,
     pub exchanges: Vec<Exchange>,
     /// Where several seats take part, whose step each exchange is. Else there are none.
     pub steps: Vec<Step>,
     /// The exit status.
     pub status: u8,
+    /// Why the keeper's rows are refused, where that is said.
+    pub fault: Option<Fault>,
+    /// What the keeper has after the run, where that is said.
+    pub leaves: Option<Kept>,
+}
+
+/// How a keeper begins.
+#[derive(Drop)]
+pub struct Start {
+    pub holds: Kept,
+    /// The numbers of its calls that fail. All calls of all runs over it are counted together, from 1 on.
+    pub failing: Vec<u64>,
+}
+
+/// Why a keeper's rows are none to run over. An index is a place among the rows, from 0 on.
+#[derive(Clone, Copy, PartialEq, Eq)]
+pub enum Fault {
+    /// The row of that index can't be read.
+    Row { index: u64, why: RowFault },
+    /// The row of that index breaks the rule of that number.
+    Rule { index: u64, rule: u64 },
+    /// There are rows where there should be none.
+    Found,
+    /// There are none where there should be some.
+    Missing,
+}
+
+/// Why a row can't be read. Places count the bytes of key and body joined, from 0.
+#[derive(Clone, Copy, PartialEq, Eq)]
+pub enum RowFault {
+    /// There is no such kind.
+    Kind,
+    /// It ends before or inside the field that begins there.
+    Short { at: u64 },
+    /// A byte follows the last field there.
+    Long { at: u64 },
+    /// The field that begins there has bytes that no value is spelled with.
+    Value { at: u64 },
 }
 
 /// A seat's step. Its exchange has the message or the body in `send`.
@@ -51,13 +90,6 @@ pub const GRANTED: &str = "granted\n";
 /// What a step is to come to by which what was granted ends without an answer.
 pub const GONE: &str = "gone\n";
 
-/// Other bytes under a blob's number.
-#[derive(Drop)]
-pub struct Damage {
-    pub blob: u64,
-    pub bytes: Vec<u8>,
-}
-
 /// A message and its answer.
 #[derive(Drop)]
 pub struct Exchange {
@@ -77,9 +109,11 @@ pub enum Unread {
     UnknownMember,
     /// A text has a character above U+00FF, which is no byte.
     NotBytes,
+    /// Rows don't stand by rising kind and key.
+    NotRising,
     /// There is no run.
     NoRuns,
-    /// A run behind the first names calls of the keeper that fail.
+    /// A run that is over what another left names calls of the keeper that fail.
     LateFailing,
 }
 
@@ -91,8 +125,9 @@ impl Unread {
             Unread::Malformed => "a member is missing, or of another kind",
             Unread::UnknownMember => "a member is unknown",
             Unread::NotBytes => "a text has a character above U+00FF",
+            Unread::NotRising => "rows don't stand by rising kind and key",
             Unread::NoRuns => "it has no run",
-            Unread::LateFailing => "a run behind the first names calls that fail",
+            Unread::LateFailing => "a run over what another left names calls that fail",
         }
     }
 }
@@ -119,10 +154,20 @@ impl<T: Drop> From<AllocFailed<T>> for Unread {
     }
 }
 
+/// What a run wrote.
+#[derive(Drop)]
+pub struct Written {
+    pub output: Vec<u8>,
+    /// What the keeper has afterwards; nothing, where the case doesn't say what that is.
+    pub left: Kept,
+}
+
 /// What a run gave.
 #[derive(Drop)]
 pub struct Outcome {
-    pub output: Vec<u8>,
+    pub written: Written,
     /// The exit status.
     pub status: u8,
+    /// Why the keeper's rows were refused, if they were.
+    pub fault: Option<Fault>,
 }

@@ -1,10 +1,13 @@
 //! Whether a run gave what its case wants.
 
-ghost use Rattle.std.specs.Prelude.{◌≡◌, ◌≢◌, ◌↔◌, ◌++◌, ℕ, List, IsNone, IfSome, IfOk, MatchOption};
-ghost use Rattle.case_files.specs.Answers.{answers, IsFirstDifference, IsAsWanted};
+ghost use Rattle.std.specs.Prelude.{◌≡◌, ◌≢◌, ◌↔◌, ◌++◌, ℕ, List, IsNone, IfSome, IfOk, MatchOption, Some};
+ghost use Rattle.std.specs.Bool.{Decides};
+ghost use Rattle.case_files.specs.Answers.{answers, IsFirstDifference};
+ghost use Rattle.case_files.specs.Wanted.{EndsAsWanted, IsAsWanted, IsSame, WritesAsWanted};
 
-use crate::case::{Exchange, Outcome, Run};
-use crate::showing::{line_of_answer, line_of_status};
+use crate::case::{Exchange, Fault, Outcome, Run, Written};
+use crate::kept::{Blob, Kept, KeptRow};
+use crate::showing::{line_of_answer, line_of_fault, line_of_left, line_of_status};
 use std::alloc::{AllocError, Global};
 
 /// An answer that differs: the exchange's index, and what came in place of its answer and of all behind it. The index behind the last
@@ -44,6 +47,75 @@ fn behind<'a>(bytes: &'a [u8], front: &[u8]) -> Option<&'a [u8]>
     bytes.strip_prefix(front)
 }
 
+/// Whether a keeper has what it should have.
+fn is_same(wanted: &Kept, left: &Kept) -> bool
+    ensures { Decides result (IsSame wanted.now left.now) }
+{
+    are_rows(&wanted.rows, &left.rows) && are_blobs(&wanted.blobs, &left.blobs)
+}
+
+fn are_rows(wanted: &[KeptRow], left: &[KeptRow]) -> bool
+    ensures { Decides result (left.now ≡ wanted.now) }
+{
+    left == wanted
+}
+
+fn are_blobs(wanted: &[Blob], left: &[Blob]) -> bool
+    ensures { Decides result (left.now ≡ wanted.now) }
+{
+    left == wanted
+}
+
+/// Whether rows were refused for what they should be.
+fn is_told(wanted: Fault, told: Option<Fault>) -> bool
+    ensures { Decides result (told ≡ Some wanted) }
+{
+    match told {
+        Some(told) => told == wanted,
+        None => false,
+    }
+}
+
+/// Whether what is wanted was written and left: a line that says how it differs, if it does.
+fn judge_written(
+    alloc: Global,
+    run: &Run,
+    written: &Written,
+    cut: &str,
+) -> Result<Option<String>, AllocError>
+    ensures { IfOk result (λ line. IsNone line ↔ WritesAsWanted run.now written.now) }
+{
+    if let Some(difference) = first_difference(&run.exchanges, &written.output) {
+        return Ok(Some(line_of_answer(alloc, run, &difference, cut)?));
+    }
+    match &run.leaves {
+        Some(wanted) if !is_same(wanted, &written.left) => {
+            Ok(Some(line_of_left(alloc, wanted, &written.left, cut)?))
+        }
+        _ => Ok(None),
+    }
+}
+
+/// Whether a run ended as is wanted: a line that says how it differs, if it does.
+fn judge_end(
+    alloc: Global,
+    run: &Run,
+    outcome: &Outcome,
+    cut: &str,
+) -> Result<Option<String>, AllocError>
+    ensures { IfOk result (λ line. IsNone line ↔ EndsAsWanted run.now outcome.now) }
+{
+    if outcome.status != run.status {
+        return Ok(Some(line_of_status(alloc, run.status, outcome.status, cut)?));
+    }
+    match run.fault {
+        Some(wanted) if !is_told(wanted, outcome.fault) => {
+            Ok(Some(line_of_fault(alloc, wanted, outcome.fault, cut)?))
+        }
+        _ => Ok(None),
+    }
+}
+
 /// Whether a run gave what is wanted: a line that says how it differs, if it does.
 fn judge_one(
     alloc: Global,
@@ -53,20 +125,9 @@ fn judge_one(
 ) -> Result<Option<String>, AllocError>
     ensures { IfOk result (λ line. IsNone line ↔ IsAsWanted run.now outcome.now) }
 {
-    match first_difference(&run.exchanges, &outcome.output) {
-        Some(difference) => Ok(Some(line_of_answer(alloc, run, &difference, cut)?)),
-        None if outcome.status == run.status => Ok(None),
-        None => Ok(Some(line_of_status(alloc, run.status, outcome.status, cut)?)),
-    }
-}
-
-/// Whether two seats wrote what is wanted: a line that says how it differs, if it does.
-fn judge_seats(alloc: Global, run: &Run, written: &[u8]) -> Result<Option<String>, AllocError>
-    ensures { IfOk result (λ line. IsNone line ↔ (written.now ≡ answers run.now.exchanges.items)) }
-{
-    match first_difference(&run.exchanges, written) {
-        Some(difference) => Ok(Some(line_of_answer(alloc, run, &difference, "by two seats")?)),
-        None => Ok(None),
+    match judge_written(alloc, run, &outcome.written, cut)? {
+        Some(line) => Ok(Some(line)),
+        None => judge_end(alloc, run, outcome, cut),
     }
 }
 
@@ -77,10 +138,10 @@ pub fn judge(
     run: &Run,
     whole: &Outcome,
     cut: &Outcome,
-    seats: &[u8],
+    seats: &Written,
 ) -> Result<Option<String>, AllocError>
     ensures { IfOk result (λ line. IsNone line
-        ↔ (IsAsWanted run.now whole.now × IsAsWanted run.now cut.now × (seats.now ≡ answers run.now.exchanges.items))) }
+        ↔ (IsAsWanted run.now whole.now × IsAsWanted run.now cut.now × WritesAsWanted run.now seats.now)) }
 {
     if let Some(line) = judge_one(alloc, run, whole, "read whole")? {
         return Ok(Some(line));
@@ -88,5 +149,5 @@ pub fn judge(
     if let Some(line) = judge_one(alloc, run, cut, "read byte by byte")? {
         return Ok(Some(line));
     }
-    judge_seats(alloc, run, seats)
+    judge_written(alloc, run, seats, "by two seats")
 }

@@ -3,13 +3,20 @@
 
 mod case;
 mod events;
+mod faults;
 mod judging;
+mod keeping;
+mod kept;
 mod reading;
 mod showing;
 mod tally;
 mod texts;
 
-pub use case::{Case, Damage, Exchange, GONE, GRANTED, Outcome, Run, Step, StepKind, Unread};
+pub use case::{
+    Case, Exchange, Fault, GONE, GRANTED, Outcome, RowFault, Run, Start, Step, StepKind, Unread,
+    Written,
+};
 pub use judging::judge;
+pub use kept::{Blob, Kept, KeptRow};
 pub use reading::case_of;
 pub use tally::{Judged, Tally};

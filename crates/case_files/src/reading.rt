@@ -5,11 +5,32 @@ ghost use Rattle.serde_json.specs.Find.{as_array, get};
 ghost use Rattle.serde_json.specs.View.{items_view, view};
 ghost use Rattle.case_files.specs.Listed.{Lists, ListsRuns, listed};
 
-use crate::case::{Case, Damage, Exchange, Run, Step, Unread};
+use crate::case::{Case, Exchange, Run, Start, Step, Unread};
 use crate::events::events;
+use crate::faults::fault_in;
+use crate::keeping::{blobs_in, kept_in};
+use crate::kept::Kept;
 use crate::texts::bytes_of;
 use serde_json::Value;
 use std::alloc::Global;
+
+/// The members that a run may have. Nothing depends on `about`.
+const MEMBERS: [&str; 14] = [
+    "about",
+    "words",
+    "clock",
+    "dice",
+    "holds",
+    "failing",
+    "damage",
+    "exchanges",
+    "events",
+    "input",
+    "output",
+    "status",
+    "fault",
+    "leaves",
+];
 
 /// The case that a file says. Nothing is left out: what isn't understood is an error.
 pub fn case_of(alloc: Global, text: &str) -> Result<Case, Unread>
@@ -27,24 +48,12 @@ fn case_in(alloc: Global, file: &Value) -> Result<Case, Unread>
 {
     has_only(file, &["case", "runs"])?;
     let runs = list(file, "runs")?;
+    if runs.is_empty() {
+        return Err(Unread::NoRuns);
+    }
     Ok(Case {
-        failing: failing_in(alloc, runs)?,
         runs: runs_of(alloc, runs)?,
     })
-}
-
-// The first run names the calls of the keeper that fail: none where it doesn't.
-fn failing_in(alloc: Global, runs: &[Value]) -> Result<Vec<u64>, Unread> {
-    let Some((first, others)) = runs.split_first() else {
-        return Err(Unread::NoRuns);
-    };
-    if others.iter().any(|run| run.get("failing").is_some()) {
-        return Err(Unread::LateFailing);
-    }
-    match first.get("failing") {
-        None => Ok(Vec::new(alloc)),
-        Some(failing) => numbers(alloc, items(failing)?),
-    }
 }
 
 fn runs_of(alloc: Global, listed: &[Value]) -> Result<Vec<Run>, Unread>
@@ -52,54 +61,42 @@ fn runs_of(alloc: Global, listed: &[Value]) -> Result<Vec<Run>, Unread>
 {
     let mut runs = Vec::new(alloc);
     for run in listed {
-        runs.push(run_of(alloc, run)?)?;
+        let start = start_of(alloc, run, runs.is_empty())?;
+        runs.push(run_of(alloc, run, start)?)?;
     }
     Ok(runs)
 }
 
-fn run_of(alloc: Global, run: &Value) -> Result<Run, Unread> {
-    has_only(
-        run,
-        &[
-            "words",
-            "clock",
-            "dice",
-            "failing",
-            "damage",
-            "exchanges",
-            "events",
-            "input",
-            "output",
-            "status",
-        ],
-    )?;
+// A first run is over a new keeper, and so is one that says what its keeper holds.
+fn start_of(alloc: Global, run: &Value, first: bool) -> Result<Option<Start>, Unread> {
+    let failing = run.get("failing");
+    let holds = match kept_in(alloc, run, "holds")? {
+        Some(holds) => holds,
+        None if first => Kept::nothing(alloc),
+        None if failing.is_some() => return Err(Unread::LateFailing),
+        None => return Ok(None),
+    };
+    let failing = match failing {
+        Some(failing) => numbers(alloc, items(failing)?)?,
+        None => Vec::new(alloc),
+    };
+    Ok(Some(Start { holds, failing }))
+}
+
+fn run_of(alloc: Global, run: &Value, start: Option<Start>) -> Result<Run, Unread> {
+    has_only(run, &MEMBERS)?;
     let status = small_number(member(run, "status")?)?;
     let (exchanges, steps) = script_of(alloc, run)?;
     Ok(Run {
         words: words(alloc, list(run, "words")?)?,
         clock: numbers(alloc, list(run, "clock")?)?,
-        damage: damage_of(alloc, run)?,
+        start,
+        damage: blobs_in(alloc, run, "damage")?,
         exchanges,
         steps,
         status,
-    })
-}
-
-// None where it isn't said.
-fn damage_of(alloc: Global, run: &Value) -> Result<Vec<Damage>, Unread> {
-    let mut damage = Vec::new(alloc);
-    if let Some(said) = run.get("damage") {
-        for (blob, text) in said.as_object().ok_or(Unread::Malformed)? {
-            damage.push(one_damage(alloc, blob.as_str(), text)?)?;
-        }
-    }
-    Ok(damage)
-}
-
-fn one_damage(alloc: Global, blob: &str, text: &Value) -> Result<Damage, Unread> {
-    Ok(Damage {
-        blob: blob.parse().map_err(|_| Unread::Malformed)?,
-        bytes: bytes(alloc, text)?,
+        fault: fault_in(run)?,
+        leaves: kept_in(alloc, run, "leaves")?,
     })
 }
 
@@ -181,7 +178,7 @@ pub(crate) fn small_number(value: &Value) -> Result<u8, Unread> {
     u8::try_from(number(value)?).map_err(|_| Unread::Malformed)
 }
 
-fn number(value: &Value) -> Result<u64, Unread> {
+pub(crate) fn number(value: &Value) -> Result<u64, Unread> {
     value.as_u64().ok_or(Unread::Malformed)
 }
 
@@ -193,13 +190,13 @@ fn text(value: &Value) -> Result<&str, Unread> {
     value.as_str().ok_or(Unread::Malformed)
 }
 
-fn list<'a>(value: &'a Value, name: &str) -> Result<&'a [Value], Unread>
+pub(crate) fn list<'a>(value: &'a Value, name: &str) -> Result<&'a [Value], Unread>
     ensures { IfOk result (λ list. listed name.now (view value.now) ≡ Some (items_view list.now)) }
 {
     items(member(value, name)?)
 }
 
-fn items(value: &Value) -> Result<&[Value], Unread>
+pub(crate) fn items(value: &Value) -> Result<&[Value], Unread>
     ensures { IfOk result (λ items. as_array (view value.now) ≡ Some (items_view items.now)) }
 {
     match value.as_array() {

@@ -6,9 +6,10 @@ ghost use Rattle.nf_hub.specs.Seats.{IsSeat, book};
 ghost use Rattle.nf_session.specs.Book.{held};
 
 use crate::connection::{Answered, Message, SeatClock, Sent};
+use crate::keeping::left_in;
 use crate::stage::Stage;
 use crate::transcript::output_of;
-use case_files::{Outcome, Run, StepKind};
+use case_files::{Outcome, Run, StepKind, Written};
 use filesd::demonstration;
 use nf_base::MAX_SEATS;
 use nf_desk::{Opening, Unopened};
@@ -45,9 +46,16 @@ pub fn serve_events<R: Threads + Wait + Sync>(
 ) -> Result<(Outcome, MemKeeper), AllocError> {
     let stage = Stage::new(alloc, case)?;
     let mut workers = workers_of(alloc, case, &stage, pieces)?;
-    let (status, keeper) = serve_seats(rt, alloc, keeper, &mut workers)?;
-    let output = output_of(alloc, case, &stage, &workers)?;
-    Ok((Outcome { output, status }, keeper))
+    let (status, mut keeper) = serve_seats(rt, alloc, keeper, &mut workers)?;
+    let outcome = Outcome {
+        written: Written {
+            output: output_of(alloc, case, &stage, &workers)?,
+            left: left_in(alloc, case, &mut keeper)?,
+        },
+        status,
+        fault: None,
+    };
+    Ok((outcome, keeper))
 }
 
 // Serves the seats' messages over one hub: the status, and the keeper that is left.

@@ -3,7 +3,9 @@
 
 mod connection;
 mod events;
+mod faults;
 mod folder;
+mod keeping;
 mod running;
 mod seats;
 mod stage;
@@ -56,7 +58,7 @@ fn folder_named(rt: &HostRuntime) -> io::Result<String> {
     }
 }
 
-// Makes the runs of one case, each over what the one before it left.
+// Makes the runs of one case, each over keepers of its own or over what the one before it left.
 fn check_case<W: Threads + Wait + Sync>(
     rt: &HostRuntime,
     turns: &W,
@@ -72,7 +74,7 @@ fn check_case<W: Threads + Wait + Sync>(
             return Ok(judged.push(Judged::NotRun)?);
         }
     };
-    let mut keepers = Keepers::new(rt.alloc(), &case.failing)?;
+    let mut keepers = Keepers::new(rt.alloc())?;
     for (index, run) in case.runs.iter().enumerate() {
         let (made, left) = check_run(rt, turns, name, index + 1, run, keepers)?;
         judged.push(made)?;

@@ -1,8 +1,10 @@
 //! A run of a case, with all that it depends on in memory.
 
 use crate::events::serve_events;
+use crate::faults::fault_of;
+use crate::keeping::{keeper_of, left_in};
 use crate::seats::serve_by_seats;
-use case_files::{Damage, Outcome, Run};
+use case_files::{Blob, Kept, Outcome, Run, Start, Written};
 use filesd::{Finished, run};
 use nf_base::{BlobId, MAX_MESSAGES};
 use nf_keeper::MemKeeper;
@@ -22,22 +24,41 @@ pub struct Keepers {
 }
 
 impl Keepers {
-    /// Keepers with nothing in them, whose calls of these numbers fail.
-    pub fn new(alloc: Global, failing: &[u64]) -> Result<Keepers, AllocError> {
+    /// Keepers with nothing in them.
+    pub fn new(alloc: Global) -> Result<Keepers, AllocError> {
+        Keepers::over(
+            alloc,
+            &Start {
+                holds: Kept::nothing(alloc),
+                failing: Vec::new(alloc),
+            },
+        )
+    }
+
+    fn over(alloc: Global, start: &Start) -> Result<Keepers, AllocError> {
         Ok(Keepers {
-            whole: MemKeeper::new(alloc, failing)?,
-            cut: MemKeeper::new(alloc, failing)?,
-            seats: MemKeeper::new(alloc, failing)?,
+            whole: keeper_of(alloc, start)?,
+            cut: keeper_of(alloc, start)?,
+            seats: keeper_of(alloc, start)?,
         })
+    }
+
+    // Those that the run is over: new ones where it has any, and else these.
+    fn before(self, alloc: Global, run: &Run) -> Result<Keepers, AllocError> {
+        match &run.start {
+            Some(start) => Keepers::over(alloc, start),
+            None => Ok(self),
+        }
     }
 }
 
-/// What a run gave, with its input and its output whole and cut into single bytes; what two seats wrote in its place; and what it left.
+/// What a run gave, with its input and its output whole and cut into single bytes; what two seats wrote in its place; and the keepers
+/// after it.
 #[derive(Drop)]
 pub struct Served {
     pub whole: Outcome,
     pub cut: Outcome,
-    pub seats: Vec<u8>,
+    pub seats: Written,
     pub keepers: Keepers,
 }
 
@@ -48,7 +69,7 @@ pub fn serve<R: Threads + Wait + Sync>(
     run: &Run,
     keepers: Keepers,
 ) -> Result<Served, AllocError> {
-    let Keepers { whole, cut, seats } = keepers;
+    let Keepers { whole, cut, seats } = keepers.before(alloc, run)?;
     let (whole, whole_left) = serve_in_pieces(rt, alloc, run, whole, &[])?;
     let (cut, cut_left) = serve_in_pieces(rt, alloc, run, cut, &[1])?;
     let (seats, seats_left) = serve_in_turn(rt, alloc, run, seats)?;
@@ -70,13 +91,15 @@ fn serve_in_turn<R: Threads + Wait + Sync>(
     alloc: Global,
     case: &Run,
     mut keeper: MemKeeper,
-) -> Result<(Vec<u8>, MemKeeper), AllocError> {
+) -> Result<(Written, MemKeeper), AllocError> {
     if is_batch(&case.words) && case.steps.is_empty() && case.exchanges.len() < MAX_MESSAGES {
-        put_damage(&mut keeper, &case.damage)?;
-        return serve_by_seats(rt, alloc, case, keeper);
+        put_damage(alloc, &mut keeper, &case.damage)?;
+        let (output, mut keeper) = serve_by_seats(rt, alloc, case, keeper)?;
+        let left = left_in(alloc, case, &mut keeper)?;
+        return Ok((Written { output, left }, keeper));
     }
     let (outcome, keeper) = serve_in_pieces(rt, alloc, case, keeper, &[])?;
-    Ok((outcome.output, keeper))
+    Ok((outcome.written, keeper))
 }
 
 fn serve_in_pieces<R: Threads + Wait + Sync>(
@@ -86,17 +109,23 @@ fn serve_in_pieces<R: Threads + Wait + Sync>(
     mut keeper: MemKeeper,
     pieces: &[usize],
 ) -> Result<(Outcome, MemKeeper), AllocError> {
-    put_damage(&mut keeper, &case.damage)?;
+    put_damage(alloc, &mut keeper, &case.damage)?;
     if !case.steps.is_empty() {
         return serve_events(rt, alloc, case, keeper, pieces);
     }
     let mut ends = ends_of(alloc, case, pieces)?;
     let finished = run_between(rt, alloc, case, keeper, &mut ends);
+    let status = finished.status;
+    let mut keeper = finished.keeper;
     let outcome = Outcome {
-        output: ends.output.bytes().to_vec(alloc)?,
-        status: finished.status.code(),
+        written: Written {
+            output: ends.output.bytes().to_vec(alloc)?,
+            left: left_in(alloc, case, &mut keeper)?,
+        },
+        status: status.code(),
+        fault: fault_of(status),
     };
-    Ok((outcome, finished.keeper))
+    Ok((outcome, keeper))
 }
 
 /// What a run is lent beside its keeper.
@@ -144,9 +173,9 @@ fn is_batch(words: &[String]) -> bool {
     words.len() == 1 && words[0].as_str() == "batch"
 }
 
-fn put_damage(keeper: &mut MemKeeper, damage: &[Damage]) -> Result<(), AllocError> {
-    for one in damage {
-        keeper.set_blob(BlobId::new(one.blob), one.bytes.clone()?)?;
+fn put_damage(alloc: Global, keeper: &mut MemKeeper, damage: &[Blob]) -> Result<(), AllocError> {
+    for blob in damage {
+        keeper.set_blob(BlobId::new(blob.number()), blob.bytes().to_vec(alloc)?)?;
     }
     Ok(())
 }

@@ -12,9 +12,8 @@ use Rattle.nf_access.specs.Shares.{ground_of}
 use Rattle.nf_base.specs.declared.perms.Act.TheVariants.{Read}
 use Rattle.nf_defs.specs.Prelude.{holder_of, user_row}
 use Rattle.nf_defs.specs.declared.Seeker.TheVariants.{User}
-use Rattle.nf_defs.specs.declared.Found.{Found}
 use Rattle.nf_defs.specs.declared.Found.TheVariants.{At}
-use Rattle.nf_words.specs.Prelude.{access_of, acts_rule, allowed_of, answer_to, asked_of, asker_of, answered_by, blob_for, Call, call_of, caller_row, content_in, exists_rule, first_refused, forbidden_rule, found, given, limit_rule, locked_rule, mounted, needs_between, not_you_rule, opened, overwrite_rule, place_rule, places_of, root_of, rules, seeker_of, source_refused, target_rule, token_rule, unless_refused, Way, way_by, way_of}
+use Rattle.nf_words.specs.Prelude.{access_of, acts_rule, allowed_of, answer_to, asked_of, asker_of, answered_by, blob_for, Call, call_of, caller_row, content_in, exists_rule, first_refused, forbidden_rule, found, given, limit_rule, locked_rule, mounted, needs_between, not_you_rule, opened, overwrite_rule, place_rule, places_by, places_of, root_of, rules, seeker_of, source_refused, target_rule, token_rule, unless_refused, Way, way_by, way_of}
 use Rattle.nf_words.specs.declared.answer.Denial.{Denial}
 use Rattle.nf_words.specs.declared.answer.Denial.TheVariants as denial
 use Rattle.nf_words.specs.declared.answer.Goal.TheVariants.{Serve}
@@ -68,7 +67,7 @@ hello_granted seat now words =
     let at : found call spot ≡ At 4 = ap (λ (way : Way). way.place) way in
     let asker : asker_of call ≡ 1 = ap (λ (o : Option UserRow). option_map_or (λ row. row.id) o 0) row in
     let places : places_of call ≡ record { source = Some (At 4); target = None } =
-    ap (λ (f : Found). record { source = Some f; target = None }) at in
+    ap (λ (way : Way). places_by (asked_of (Get spot)) (record { source = Some way; target = None })) way in
     let token : token_rule access call ≡ None = ap (λ (o : Option ℕ). if is_some o then None else Some denial.Token) holds in
     let not_you : not_you_rule access call ≡ None =
     ap (λ (o : Option UserRow). if list_all (λ name. option_map_or (λ row. bytes_eq row.name name) o false) (codes "alice" ∷ []) then None else Some denial.NotYou) row in

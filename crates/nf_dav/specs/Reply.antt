@@ -97,6 +97,7 @@ abbrev pub cause_word : TargetFault → List ℕ
 cause_word target.Root = codes "root"
 cause_word target.Same = codes "same"
 cause_word target.Inside = codes "inside"
+cause_word target.Mount = codes "mount"
 
 -- the word of why a share is broken
 abbrev pub link_word : Cause → List ℕ

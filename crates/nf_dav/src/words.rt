@@ -143,6 +143,7 @@ pub fn cause_word(cause: TargetFault) -> &'static str
         TargetFault::Root => "root",
         TargetFault::Same => "same",
         TargetFault::Inside => "inside",
+        TargetFault::Mount => "mount",
     }
 }
 

@@ -1,28 +1,27 @@
 -- What sound tables can bear, where no rule refuses it.
-use Rattle.std.proofs.Common.{inl, inr, count_by, max, nat_lt, ◌∷◌, length-append, ℕ, ◌+◌, ◌<◌, ◌≤◌, ◌==◌, ◌≡◌, Bool, true, false, not, List, [], length, find, filter, is_some, Option, None, Some, IsSome, IfSome, if◌then◌else◌, option_and_then, refl, sym, ap, ◌∙◌, subst, arith}
-use Rattle.std.specs.List.{All, AllPairs}
+use Rattle.std.proofs.Common.{inl, inr, count_by, max, nat_lt, ◌∷◌, length-append, ℕ, ◌+◌, ◌<◌, ◌≤◌, ◌==◌, ◌≡◌, Bool, true, false, not, List, [], length, find, filter, is_some, Option, None, Some, IsSome, IfSome, if◌then◌else◌, refl, sym, ap, ◌∙◌, subst, arith}
+use Rattle.std.specs.List.{All}
 use Rattle.std.specs.Option.{option_map_or}
 use Rattle.std.proofs.lemmas.List.Elements.{All-cons, All-nil, All-weaker}
 use Rattle.nf_base.specs.declared.changes.Change.{Change}
 use Rattle.nf_base.specs.declared.changes.Change.TheVariants.{Put}
 use Rattle.nf_base.specs.declared.rows.MetaRow.{MetaRow}
+use Rattle.nf_base.specs.declared.rows.MountRow.{MountRow}
 use Rattle.nf_base.specs.declared.rows.Row.TheVariants as rows
 use Rattle.nf_defs.proofs.Puts.{all_put}
 use Rattle.nf_laws.proofs.Lists.{Rising, raised_higher, rising_row}
 use Rattle.nf_laws.proofs.OneRow.{length_with}
 use Rattle.nf_laws.proofs.Puts.{put_changed, put_new}
 use Rattle.std.proofs.lemmas.Bool.{eqb-true, le-ltb, lt-ltb}
-use Rattle.std.proofs.lemmas.Option.{none-some, same_Some}
+use Rattle.std.proofs.lemmas.Option.{same_Some}
 use Rattle.nf_base.specs.declared.limits.TheConstants.{MAX_NODES}
 use Rattle.nf_base.specs.declared.rows.NodeRow.{NodeRow}
-use Rattle.nf_base.specs.declared.rows.UserRow.{UserRow}
-use Rattle.nf_defs.specs.Prelude.{child_of, filled, folder_of, found_from, is_folder, is_under, made, node_key, node_row, onward, parent_of, put, Tables}
-use Rattle.nf_defs.specs.declared.Found.TheVariants.{At, Missing}
-use Rattle.nf_words.specs.Prelude.{AreSound, cleared, copies_to, HasRoot, last_number, raised}
+use Rattle.nf_defs.specs.Prelude.{filled, is_under, made, node_key, node_row, put, Tables}
+use Rattle.nf_words.specs.Prelude.{AreSound, cleared, copies_to, last_number, raised}
 use Rattle.nf_words.specs.declared.answer.Allowed.{Allowed}
 use Rattle.nf_words.specs.declared.answer.Allowed.TheVariants as allowed
-use Rattle.nf_words.proofs.Fits.{KnownChange, KnownPath, KnownRows}
-use Rattle.nf_words.proofs.Found.{child_parent, found_has, found_passes}
+use Rattle.nf_words.proofs.Fits.{KnownChange, KnownRows}
+use Rattle.nf_words.proofs.Found.{found_has, found_passes}
 use Rattle.nf_words.proofs.Known.{Known, KnownCopies}
 use Rattle.nf_decide.specs.Current.{AreBorne, AreGiven, BearsAct, BearsChanges, HasNumbers, IsCounted, added_by, is_fresh}
 use Rattle.nf_decide.proofs.Putting.{count_by-cons, counts_none, counts_one}
@@ -32,24 +31,26 @@ pub sound_given : (t : Tables) → AreSound t → AreGiven t
 sound_given t sound = record { rising = sound.rising; given = λ k d within. (sound.nodes k d within).given }
 
 -- what is known of changed rows, once the counters are raised, can be borne
-rows_borne : (t u : Tables) (who blob : Option ℕ) (changes : List Change) (meta : MetaRow) → KnownRows t who blob (record u { meta = meta }) changes
+rows_borne : (t u : Tables) (blob : Option ℕ) (changes : List Change) (meta : MetaRow) → KnownRows t blob (record u { meta = meta }) changes
     → AreBorne t.meta.next_node u changes
-rows_borne t u who blob [] meta known = tt
-rows_borne t u who blob (Put (rows.Node row) ∷ changes) meta known = (
+rows_borne t u blob [] meta known = tt
+rows_borne t u blob (Put (rows.Node row) ∷ changes) meta known = (
   elim known.0 [
     | inl it ↦ inl (it.fresh, it.born.newest)
     | inr it ↦
         inr (it.given, record { was = it.filled.old; there = it.filled.there; file = it.filled.file; same = it.filled.same })
   ],
-  rows_borne t (made u (Put (rows.Node row))) who blob changes meta known.1,
+  rows_borne t (made u (Put (rows.Node row))) blob changes meta known.1,
 )
-rows_borne t u who blob (change ∷ changes) meta known = absurd known.0
+rows_borne t u blob (Put (rows.Mount row) ∷ changes) meta known =
+    (ap (λ (o : Option MountRow). is_some o) known.0.1.there, rows_borne t (made u (Put (rows.Mount row))) blob changes meta known.1)
+rows_borne t u blob (change ∷ changes) meta known = absurd known.0
 
 -- each number is below the raised counter
-rows_counted : (t u : Tables) (who blob : Option ℕ) (changes : List Change) → u.meta.next_node ≤ max t.meta.next_node last_number
-    → All (λ (row : NodeRow). row.id < u.meta.next_node) u.nodes → KnownRows t who blob u changes → All (IsCounted t.meta.next_node) changes
-rows_counted t u who blob [] few below known = All-nil (IsCounted t.meta.next_node)
-rows_counted t u who blob (Put (rows.Node row) ∷ changes) few below known =
+rows_counted : (t u : Tables) (blob : Option ℕ) (changes : List Change) → u.meta.next_node ≤ max t.meta.next_node last_number
+    → All (λ (row : NodeRow). row.id < u.meta.next_node) u.nodes → KnownRows t blob u changes → All (IsCounted t.meta.next_node) changes
+rows_counted t u blob [] few below known = All-nil (IsCounted t.meta.next_node)
+rows_counted t u blob (Put (rows.Node row) ∷ changes) few below known =
     let given : row.id < u.meta.next_node =
     elim known.0 [
       | inl it ↦ it.born.given
@@ -59,37 +60,40 @@ rows_counted t u who blob (Put (rows.Node row) ∷ changes) few below known =
           let id = ap (λ (r : NodeRow). r.id) it.filled.same in omega (arith, id, old))
     ] in
     All-cons (IsCounted t.meta.next_node) (Put (rows.Node row)) changes (omega (arith, given, few))
-    (rows_counted t (made u (Put (rows.Node row))) who blob changes few
+    (rows_counted t (made u (Put (rows.Node row))) blob changes few
     (all_put node_key (λ (r : NodeRow). r.id < u.meta.next_node) row u.nodes given below) known.1)
-rows_counted t u who blob (change ∷ changes) few below known = absurd known.0
+rows_counted t u blob (Put (rows.Mount row) ∷ changes) few below known =
+    All-cons (IsCounted t.meta.next_node) (Put (rows.Mount row)) changes tt
+    (rows_counted t (made u (Put (rows.Mount row))) blob changes few below known.1)
+rows_counted t u blob (change ∷ changes) few below known = absurd known.0
 
-changes_bear : (t : Tables) (now : ℕ) (who : Option ℕ) (changes : List Change) (blob : Option ℕ) → AreSound t
-    → KnownChange t now who changes blob → BearsChanges t changes blob
-changes_bear t now who changes blob sound known =
+changes_bear : (t : Tables) (now : ℕ) (changes : List Change) (blob : Option ℕ) → AreSound t
+    → KnownChange t now changes blob → BearsChanges t changes blob
+changes_bear t now changes blob sound known =
     let up = raised t now changes blob in
     record {
-      rows = rows_borne t t who blob changes up.meta known.rows;
-      numbers = rows_counted t up who blob changes known.next_node
+      rows = rows_borne t t blob changes up.meta known.rows;
+      numbers = rows_counted t up blob changes known.next_node
           (All-weaker (λ (row : NodeRow). row.id < t.meta.next_node) (λ (row : NodeRow). row.id < up.meta.next_node)
           (λ row given. omega (arith, given, (raised_higher t now changes blob).nodes)) t.nodes (λ k d within. (sound.nodes k d within).given)) known.rows;
       next_blob = known.next_blob;
     }
 
 -- and there may be the nodes that they add
-rows_few : (t u : Tables) (who blob : Option ℕ) (changes : List Change) → Rising u.nodes → length u.nodes ≤ MAX_NODES
-    → KnownRows t who blob u changes
+rows_few : (t u : Tables) (blob : Option ℕ) (changes : List Change) → Rising u.nodes → length u.nodes ≤ MAX_NODES
+    → KnownRows t blob u changes
     → length u.nodes + count_by (is_fresh t.meta.next_node) changes ≤ MAX_NODES
-rows_few t u who blob [] rising few known = omega (arith, few)
-rows_few t u who blob (Put (rows.Node row) ∷ changes) rising few known =
+rows_few t u blob [] rising few known = omega (arith, few)
+rows_few t u blob (Put (rows.Node row) ∷ changes) rising few known =
     let next = t.meta.next_node in
     let after : Tables = made u (Put (rows.Node row)) in
-    let rises = rising_row t who blob u (Put (rows.Node row)) rising known.0 in
+    let rises = rising_row t blob u (Put (rows.Node row)) rising known.0 in
     elim known.0 [
       | inl it ↦
           (let more : length after.nodes ≡ length u.nodes + 1 =
           ap (λ (all : List NodeRow). length all) (put_new row u.nodes it.born.newest) ∙ length-append u.nodes (row ∷ []) in
           let fresh : not (nat_lt row.id next) ≡ true = ap not (le-ltb row.id next it.fresh) in
-          let rest = rows_few t after who blob changes rises (omega (arith, more, it.born.few_nodes)) known.1 in
+          let rest = rows_few t after blob changes rises (omega (arith, more, it.born.few_nodes)) known.1 in
           omega (arith, rest, more, count_by-cons (is_fresh next) (Put (rows.Node row)) changes, counts_one _ fresh))
       | inr it ↦
           (let change = filled row.content row.changed in
@@ -98,40 +102,14 @@ rows_few t u who blob (Put (rows.Node row) ∷ changes) rising few known =
           ∙ ap (λ (all : List NodeRow). length all) (put_changed u.nodes row.id change it.filled.old refl rising it.filled.there)
           ∙ length_with u.nodes row.id change in
           let old : not (nat_lt row.id next) ≡ false = ap not (lt-ltb row.id next it.given) in
-          let rest = rows_few t after who blob changes rises (omega (arith, same, few)) known.1 in
+          let rest = rows_few t after blob changes rises (omega (arith, same, few)) known.1 in
           omega (arith, rest, same, count_by-cons (is_fresh next) (Put (rows.Node row)) changes, counts_none _ old))
     ]
-rows_few t u who blob (change ∷ changes) rising few known = absurd known.0
-
-some_parent : (rows : List NodeRow) (node parent : ℕ) → parent_of rows node ≡ Some parent → IsSome (node_row rows node)
-some_parent rows node parent is = here (node_row rows node) is
-  where
-    here : (o : Option NodeRow) → option_and_then (λ row. folder_of row.place) o ≡ Some parent → IsSome o
-    here None is = absurd (none-some parent is)
-    here (Some row) is = refl
-
--- names lead from what is there to what is there
-there_at : (rows : List NodeRow) (before at : ℕ) (names : List (List ℕ)) (node : ℕ) → AllPairs (λ (a b : NodeRow). a.id < b.id) rows
-    → IsSome (node_row rows at) → found_from rows before at names ≡ At node → IsSome (node_row rows node)
-there_at rows before at [] node rising there is = let same : at ≡ node = cc in subst (λ (n : ℕ). IsSome (node_row rows n)) same there
-there_at rows before at (name ∷ names) node rising there is =
-    here (is_folder rows at) (child_of rows at name) names refl is
-    (λ child up is. there_at rows (before + 1) child names node rising (some_parent rows child at up) is)
-  where
-    here : (folds : Bool) (o : Option ℕ) (names : List (List ℕ)) → child_of rows at name ≡ o
-        → (if folds then onward before at names o (λ child. found_from rows (before + 1) child names) else Missing before) ≡ At node
-        → ((child : ℕ) → parent_of rows child ≡ Some at → found_from rows (before + 1) child names ≡ At node → IsSome (node_row rows node))
-        → IsSome (node_row rows node)
-    here false o names child is rest = absurd (cc)
-    here true None [] child is rest = absurd (cc)
-    here true None (n ∷ names) child is rest = absurd (cc)
-    here true (Some found) names child is rest = rest found (child_parent rows at name found rising child) is
-
-path_there : (t : Tables) (who : Option ℕ) (node : ℕ) → AreSound t → KnownPath t who (At node) → IsSome (node_row t.nodes node)
-path_there t who node sound path =
-    let root = subst (λ (o : Option UserRow). IfSome o (HasRoot t)) path.there
-    (found_has (HasRoot t) (λ (user : UserRow). user.id == path.row.id) t.users sound.roots) in
-    there_at t.nodes 0 path.row.root path.names node sound.rising (ap (λ (o : Option NodeRow). is_some o) root.there) path.leads
+rows_few t u blob (Put (rows.Mount row) ∷ changes) rising few known =
+    let next = t.meta.next_node in
+    let rest = rows_few t (made u (Put (rows.Mount row))) blob changes rising few known.1 in
+    omega (arith, rest, count_by-cons (is_fresh next) (Put (rows.Mount row)) changes, counts_none (is_fresh next (Put (rows.Mount row))) refl)
+rows_few t u blob (change ∷ changes) rising few known = absurd known.0
 
 -- what is found stays so among those that are kept, where it is kept
 kept_there : (test keep : NodeRow → Bool) (rows : List NodeRow) (row : NodeRow) → find test rows ≡ Some row → keep row ≡ true
@@ -159,9 +137,9 @@ cleared_there rows node (Some top) there apart = here (node_row rows node) refl 
         let kept = ap (λ (n : ℕ). not (is_under rows n top)) id ∙ ap not apart in
         ap (λ (o : Option NodeRow). is_some o) (kept_there (λ (row : NodeRow). row.id == node) (λ (row : NodeRow). not (is_under rows row.id top)) rows row e kept)
 
-copies_bear : (t : Tables) (now : ℕ) (who : Option ℕ) (rows : List NodeRow) (replaced : Option ℕ) → AreSound t
-    → KnownCopies t now who rows replaced → HasNumbers t rows
-copies_bear t now who rows replaced sound known =
+copies_bear : (t : Tables) (now : ℕ) (rows : List NodeRow) (replaced : Option ℕ) → AreSound t
+    → KnownCopies t now rows replaced → HasNumbers t rows
+copies_bear t now rows replaced sound known =
     let made = copies_to t now known.transfer known.name in
     let few = ap (λ (rows : List NodeRow). length rows) known.copies in
     record {
@@ -169,27 +147,33 @@ copies_bear t now who rows replaced sound known =
       next_node = omega (arith, few, copies_count t now known.transfer known.name, known.next_node);
     }
 
-pub known_bears : (t : Tables) (now : ℕ) (who : Option ℕ) (act : Allowed) → AreSound t → Known t now who act → BearsAct t act
-known_bears t now who (allowed.Get node content) sound known = tt
-known_bears t now who (allowed.List listing) sound known = tt
-known_bears t now who (allowed.Put by key length) sound known = tt
-known_bears t now who (allowed.Change changes blob report) sound known = changes_bear t now who changes blob sound known
-known_bears t now who (allowed.Delete node) sound known = tt
-known_bears t now who (allowed.Move transfer name) sound known =
-    cleared_there t.nodes transfer.node transfer.replaced (path_there t who transfer.node sound known.source) known.apart
-known_bears t now who (allowed.Copy rows replaced) sound known = copies_bear t now who rows replaced sound known
-known_bears t now who allowed.Close sound known = tt
+pub known_bears : (t : Tables) (now : ℕ) (act : Allowed) → AreSound t → Known t now act → BearsAct t act
+known_bears t now (allowed.Get node content) sound known = tt
+known_bears t now (allowed.List listing) sound known = tt
+known_bears t now (allowed.Put by key length) sound known = tt
+known_bears t now (allowed.Change changes blob report) sound known = changes_bear t now changes blob sound known
+known_bears t now (allowed.Delete node) sound known = tt
+known_bears t now (allowed.Move transfer name) sound known =
+    cleared_there t.nodes transfer.node transfer.replaced (ap (λ (o : Option NodeRow). is_some o) known.known.source.1) known.known.apart
+known_bears t now (allowed.Copy rows replaced) sound known = copies_bear t now rows replaced sound known
+known_bears t now (allowed.Cross rows replaced node) sound known = copies_bear t now rows replaced sound known.copies
+known_bears t now allowed.Close sound known = tt
 
--- so there may be the nodes that it adds
-pub known_few : (t : Tables) (now : ℕ) (who : Option ℕ) (act : Allowed) → AreSound t → Known t now who act → length t.nodes + added_by t act ≤ MAX_NODES
-known_few t now who (allowed.Get node content) sound known = omega (arith, sound.few_nodes)
-known_few t now who (allowed.List listing) sound known = omega (arith, sound.few_nodes)
-known_few t now who (allowed.Put by key length) sound known = omega (arith, sound.few_nodes)
-known_few t now who (allowed.Change changes blob report) sound known =
-    rows_few t (raised t now changes blob) who blob changes sound.rising sound.few_nodes known.rows
-known_few t now who (allowed.Delete node) sound known = omega (arith, sound.few_nodes)
-known_few t now who (allowed.Move transfer name) sound known = omega (arith, sound.few_nodes)
-known_few t now who (allowed.Copy rows replaced) sound known =
+copies_fit : (t : Tables) (now : ℕ) (rows : List NodeRow) (replaced : Option ℕ) → KnownCopies t now rows replaced
+    → length t.nodes + length rows ≤ MAX_NODES
+copies_fit t now rows replaced known =
     let few = ap (λ (rows : List NodeRow). length rows) known.copies in
     omega (arith, few, copies_count t now known.transfer known.name, known.nodes)
-known_few t now who allowed.Close sound known = omega (arith, sound.few_nodes)
+
+-- so there may be the nodes that it adds
+pub known_few : (t : Tables) (now : ℕ) (act : Allowed) → AreSound t → Known t now act → length t.nodes + added_by t act ≤ MAX_NODES
+known_few t now (allowed.Get node content) sound known = omega (arith, sound.few_nodes)
+known_few t now (allowed.List listing) sound known = omega (arith, sound.few_nodes)
+known_few t now (allowed.Put by key length) sound known = omega (arith, sound.few_nodes)
+known_few t now (allowed.Change changes blob report) sound known =
+    rows_few t (raised t now changes blob) blob changes sound.rising sound.few_nodes known.rows
+known_few t now (allowed.Delete node) sound known = omega (arith, sound.few_nodes)
+known_few t now (allowed.Move transfer name) sound known = omega (arith, sound.few_nodes)
+known_few t now (allowed.Copy rows replaced) sound known = copies_fit t now rows replaced known
+known_few t now (allowed.Cross rows replaced node) sound known = copies_fit t now rows replaced known.copies
+known_few t now allowed.Close sound known = omega (arith, sound.few_nodes)

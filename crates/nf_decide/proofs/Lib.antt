@@ -2,6 +2,7 @@ pub mod Putting
 pub mod Bears
 pub mod Copies
 pub mod Late
+pub mod Lines
 pub mod Named
 pub mod Numbers
 pub mod Openings

@@ -17,12 +17,7 @@ use Rattle.nf_laws.proofs.OneRow.{length_with, rising_with}
 use Rattle.nf_laws.proofs.Puts.{put_changed, put_new}
 use Rattle.nf_words.proofs.Found.{found_has, found_passes}
 use Rattle.nf_words.specs.Prelude.{above, counted}
-use Rattle.nf_decide.specs.Current.{IsBorne, IsCounted, IsNew, IsNodePut, IsRefilled, is_fresh}
-
--- only rows of nodes are put
-pub borne_node : (next : ℕ) (t : Tables) (change : Change) → IsBorne next t change → IsNodePut change
-borne_node next t (Put (rows.Node row)) borne = tt
-borne_node next t change borne = absurd borne
+use Rattle.nf_decide.specs.Current.{IsBorne, IsCounted, IsNew, IsRefilled, is_fresh}
 
 -- what is new isn't there
 never_new : (old : List NodeRow) (row was : NodeRow) → IsNew old row → node_row old row.id ≡ Some was → ⊥
@@ -67,31 +62,35 @@ counted_more meta (first ∷ changes) change = counted_more (above meta first) c
 -- what has a number above it has one where the counter is higher
 pub counted_later : (next more : ℕ) (change : Change) → next ≤ more → IsCounted next change → IsCounted more change
 counted_later next more (Put (rows.Node row)) higher counted = omega (arith, higher, counted)
+counted_later next more (Put (rows.Mount row)) higher counted = tt
 counted_later next more change higher counted = absurd counted
 
 -- ---- a change that can be borne
 
 pub borne_next : (next : ℕ) (t : Tables) (change : Change) → IsBorne next t change → (made t change).meta.next_node ≡ t.meta.next_node
 borne_next next t (Put (rows.Node row)) borne = refl
+borne_next next t (Put (rows.Mount row)) borne = refl
 borne_next next t change borne = absurd borne
 
--- what is so of the new rows, and of those with another content, is so of the rows after it
+-- what is so of the new rows, of those with another content, and of the old ones, is so of the rows after it
 borne_has : (P : List NodeRow → Type 0) (next : ℕ) (t : Tables) (change : Change) → Rising t.nodes → IsBorne next t change
     → ((row : NodeRow) → change ≡ Put (rows.Node row) → next ≤ row.id → IsNew t.nodes row → P (t.nodes ++ row ∷ []))
     → ((row : NodeRow) → change ≡ Put (rows.Node row) → row.id < next → P (with_node t.nodes row.id (filled row.content row.changed)))
-    → P (made t change).nodes
-borne_has P next t (Put (rows.Node row)) rising borne new refilled =
+    → P t.nodes → P (made t change).nodes
+borne_has P next t (Put (rows.Node row)) rising borne new refilled same =
     elim borne [
       | inl it ↦ subst P (sym (new_put t.nodes row it.1)) (new row refl it.0 it.1)
       | inr it ↦ subst P (sym (refilled_put t.nodes row rising it.1)) (refilled row refl it.0)
     ]
-borne_has P next t change rising borne new refilled = absurd borne
+borne_has P next t (Put (rows.Mount row)) rising borne new refilled same = same
+borne_has P next t change rising borne new refilled same = absurd borne
 
 pub borne_rising : (next : ℕ) (t : Tables) (change : Change) → Rising t.nodes → IsBorne next t change → Rising (made t change).nodes
 borne_rising next t change rising borne =
     borne_has Rising next t change rising borne
     (λ row is fresh new. all_pairs_push (λ (a b : NodeRow). a.id < b.id) t.nodes row rising new)
     (λ row is old. rising_with t.nodes row.id (filled row.content row.changed) (λ r. refl) rising)
+    rising
 
 pub counts_one : (b : Bool) → b ≡ true → ◌≡◌ {A = ℕ} (cond b 1 0) 1
 counts_one b is = rw is refl
@@ -117,3 +116,4 @@ borne_room next t change rest rising borne =
     let one = counts_one (is_fresh next change) (ap (is_fresh next) is ∙ ap not (le-ltb row.id next fresh)) in
     omega (arith, counts, one, length-append t.nodes (row ∷ [])))
     (λ row is old. omega (arith, counts, length_with t.nodes row.id (filled row.content row.changed)))
+    (omega (arith, counts))

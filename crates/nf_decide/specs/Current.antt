@@ -1,5 +1,6 @@
 -- The state of the site as the program holds it.
 use Rattle.std.specs.Prelude.{◌≡◌, ◌⊎◌, ℕ, ◌+◌, ◌<◌, ◌≤◌, nat_lt, All, AllPairs, Bool, false, not, List, [], ◌∷◌, count_by, length, max, slice_get, Option, Some, IsSome}
+use Rattle.nf_access.specs.Mounts.{mount_row}
 use Rattle.nf_base.specs.declared.changes.Change.{Change}
 use Rattle.nf_base.specs.declared.changes.Change.TheVariants.{Put}
 use Rattle.nf_base.specs.declared.rows.Row.TheVariants as rows
@@ -38,6 +39,7 @@ added_by t (allowed.Change changes blob report) = count_by (is_fresh t.meta.next
 added_by t (allowed.Delete node) = 0
 added_by t (allowed.Move transfer name) = 0
 added_by t (allowed.Copy rows replaced) = length rows
+added_by t (allowed.Cross rows replaced node) = length rows
 added_by t allowed.Close = 0
 
 -- what an act adds fits
@@ -67,13 +69,10 @@ pub record IsRefilled (old : List NodeRow) (row : NodeRow) : Type 0 where
   pub file : is_folder_kind was.kind ≡ false
   pub same : row ≡ filled row.content row.changed was
 
-abbrev pub IsNodePut : Change → Type 0
-IsNodePut (Put (rows.Node row)) = Unit {0}
-IsNodePut other = ⊥
-
--- a change can be borne by the tables that it meets, where that was the next number of a node at first
+-- a change can be borne by the tables that it meets, where that was the next number of a node at first: a mount is there
 abbrev pub IsBorne : ℕ → Tables → Change → Type 0
 IsBorne next t (Put (rows.Node row)) = ((next ≤ row.id) × IsNew t.nodes row) ⊎ ((row.id < next) × IsRefilled t.nodes row)
+IsBorne next t (Put (rows.Mount row)) = IsSome (mount_row t.mounts row.user row.node)
 IsBorne next t other = ⊥
 
 abbrev pub AreBorne : ℕ → Tables → List Change → Type 0
@@ -83,6 +82,7 @@ AreBorne next t (change ∷ changes) = IsBorne next t change × AreBorne next (m
 -- there is a number above the one that is put, where it isn't below the next one
 abbrev pub IsCounted : ℕ → Change → Type 0
 IsCounted next (Put (rows.Node row)) = row.id + 1 ≤ max next last_number
+IsCounted next (Put (rows.Mount row)) = Unit {0}
 IsCounted next other = ⊥
 
 pub record BearsChanges (t : Tables) (changes : List Change) (blob : Option ℕ) : Type 0 where
@@ -103,4 +103,5 @@ BearsAct t (allowed.Change changes blob report) = BearsChanges t changes blob
 BearsAct t (allowed.Delete node) = Unit {0}
 BearsAct t (allowed.Move transfer name) = IsThere t transfer
 BearsAct t (allowed.Copy rows replaced) = HasNumbers t rows
+BearsAct t (allowed.Cross rows replaced node) = HasNumbers t rows
 BearsAct t allowed.Close = Unit {0}

@@ -1,10 +1,9 @@
 -- Tests that answer exactly as rules do.
-use Rattle.std.specs.Prelude.{◌≡◌, ◌≢◌, List, [], ◌∷◌, Option, None, Some, IsSome, IfSome, option_map, Result, Ok, Err}
+use Rattle.std.specs.Prelude.{◌≡◌, ◌≢◌, true, List, [], ◌∷◌, Option, None, Some, IsSome, IfSome, option_map, Result, Ok, Err}
 use Rattle.nf_access.specs.Shares.{ground_of}
 use Rattle.nf_defs.specs.Access.{Access}
 use Rattle.nf_reach.specs.Asking.{Asking}
-use Rattle.nf_words.specs.Prelude.{asked_by, asker_of, by_of, Call, earlier_rules, exists_rule, first_that_holds, key_in_way, later_rules, overwrite_rule, places_of, root_of, Rule, target_rule, touches, transfer_of, Way, way_of}
-use Rattle.nf_words.specs.declared.answer.By.{By}
+use Rattle.nf_words.specs.Prelude.{asked_by, asker_of, Call, earlier_rules, exists_rule, first_that_holds, is_mount_asked, key_in_way, later_rules, overwrite_rule, places_of, root_of, Rule, target_rule, touches, transfer_of, ways_of}
 use Rattle.nf_words.specs.declared.answer.Denial.{Denial}
 use Rattle.nf_words.specs.declared.answer.Denial.TheVariants as denial
 use Rattle.nf_words.specs.declared.request.Places.{Places}
@@ -45,22 +44,11 @@ asking_of call = record {
   moment = call.now;
 }
 
--- where the paths of a request lead, and by which mounts
-pub record Ways : Type 0 where
-  pub source : Option Way
-  pub target : Option Way
+-- the path of the target has a name
+abbrev pub IsTargetNamed : Call → Type 0
+IsTargetNamed call = IfSome (asked_by call).target (λ spot. spot.path ≢ [])
 
-abbrev pub ways_of : Call → Ways
-ways_of call = record {
-  source = option_map (λ spot. way_of call spot) (asked_by call).source;
-  target = option_map (λ spot. way_of call spot) (asked_by call).target;
-}
-
--- who asks for what a body is stored over, by the mount on the path to it
-abbrev pub IsBy : Call → By → Type 0
-IsBy call by = IfSome (asked_by call).target (λ spot. by ≡ by_of call spot)
-
--- what is moved or copied has a name to be put under
-abbrev pub IsNamed : Call → Type 0
-IsNamed call =
-    IsSome (transfer_of call.state.tables.nodes (places_of call)) → IfSome (asked_by call).target (λ spot. spot.path ≢ [])
+-- what is moved or copied has a name to be put under, and so has a mount that is renamed
+pub record IsNamed (call : Call) : Type 0 where
+  pub moved : IsSome (transfer_of call.state.tables.nodes (places_of call)) → IsTargetNamed call
+  pub renamed : is_mount_asked (asked_by call) (ways_of call).source ≡ true → IsTargetNamed call

@@ -1,5 +1,5 @@
 -- What the End of a PUT goes by.
-use Rattle.std.specs.Prelude.{◌≡◌, ℕ, Option, None, option_and_then, if◌then◌else◌}
+use Rattle.std.specs.Prelude.{ℕ, Option, None, option_and_then, if◌then◌else◌}
 use Rattle.nf_access.specs.Access.{by_chains}
 use Rattle.nf_defs.specs.declared.Seeker.{Seeker}
 use Rattle.nf_defs.specs.declared.Seeker.TheVariants.{User, Link}

@@ -3,3 +3,4 @@ pub mod Current
 pub mod Asked
 pub mod Deciding
 pub mod Ending
+pub mod Listed

@@ -5,11 +5,11 @@ ghost use Rattle.nf_base.specs.declared.changes.Change.TheVariants.{Put};
 ghost use Rattle.nf_base.specs.declared.rows.Row.TheVariants as kinds;
 ghost use Rattle.nf_base.specs.Kept.{IsPlain};
 ghost use Rattle.nf_defs.specs.declared.Found.TheVariants.{Free};
-ghost use Rattle.nf_words.specs.Prelude.{copied, copy_limit, deleted, last_name, made_folder, makes, moved, new_node, served, shown, stored};
+ghost use Rattle.nf_words.specs.Prelude.{carried, carry_limit, copied, copy_limit, deleted, last_name, made_folder, makes, moved, new_node, stored};
 
 use crate::copying::copies_to;
-use crate::listing::listing_of;
-use crate::nodes::{content_of, is_folder, owner_of};
+use crate::nodes::owner_of;
+use crate::transferring::crosses;
 use crate::view::View;
 use nf_base::{
     BlobId, Change, Changes, Content, Moment, Name, NodeId, NodeKind, NodeRow, Place, Row,
@@ -17,32 +17,6 @@ use nf_base::{
 use nf_defs::Found;
 use nf_words::{Allowed, By, LockKey, Report, Spot, Transfer};
 use std::alloc::{AllocError, Global};
-
-/// GET lists the folder that is there, or sends the content of the file.
-pub(crate) fn served(
-    alloc: Global,
-    view: &View<'_>,
-    node: Option<NodeId>,
-) -> Result<Allowed, AllocError>
-    ensures { IfOk result (λ allowed. allowed ≡ served view.now.tables node) }
-{
-    match node {
-        Some(node) => shown(alloc, view, node),
-        None => Ok(Allowed::Close),
-    }
-}
-
-fn shown(alloc: Global, view: &View<'_>, node: NodeId) -> Result<Allowed, AllocError>
-    ensures { IfOk result (λ allowed. allowed ≡ shown view.now.tables node) }
-{
-    if is_folder(view.tree(), node) {
-        return Ok(Allowed::List(listing_of(alloc, view, node)?));
-    }
-    Ok(Allowed::Get {
-        node,
-        content: content_of(alloc, view.tree(), node)?,
-    })
-}
 
 /// PUT stores over the file that is there, or under the name that is free.
 pub(crate) fn stored(
@@ -127,18 +101,43 @@ pub(crate) fn deleted(node: Option<NodeId>) -> Allowed
     }
 }
 
-/// MOVE puts the node that is there into the target's folder, under the target's name.
-pub(crate) fn moved(spot: &Spot, transfer: Option<Transfer>) -> Result<Allowed, AllocError>
-    requires { IsSome transfer → spot.now.path ≢ [] }
-    ensures { IfOk result (λ allowed. allowed ≡ moved (last_name spot.now) transfer) }
+/// MOVE puts the node that is there into the target's folder, under the target's name. What goes to another owner is copied there, and
+/// then removed.
+pub(crate) fn moved(
+    alloc: Global,
+    view: &View<'_>,
+    moment: Moment,
+    spot: &Spot,
+    transfer: Option<Transfer>,
+) -> Result<Allowed, AllocError>
+    requires named { IsSome transfer → spot.now.path ≢ [] }
+    requires few { IfSome transfer (λ transfer. carry_limit view.now.tables transfer ≡ None) }
+    ensures { IfOk result (λ allowed. allowed ≡ moved view.now.tables moment (last_name spot.now) transfer) }
 {
     match transfer {
-        Some(transfer) => Ok(Allowed::Move {
-            transfer,
-            name: last_name(spot)?,
-        }),
+        Some(transfer) => carried(alloc, view, moment, last_name(spot)?, transfer),
         None => Ok(Allowed::Close),
     }
+}
+
+fn carried(
+    alloc: Global,
+    view: &View<'_>,
+    moment: Moment,
+    name: Name,
+    transfer: Transfer,
+) -> Result<Allowed, AllocError>
+    requires { carry_limit view.now.tables transfer ≡ None }
+    ensures { IfOk result (λ allowed. allowed ≡ carried view.now.tables moment name transfer) }
+{
+    if !crosses(view.tree(), &transfer) {
+        return Ok(Allowed::Move { transfer, name });
+    }
+    Ok(Allowed::Cross {
+        rows: copies_to(alloc, view, moment, &transfer, name)?,
+        replaced: transfer.replaced,
+        node: transfer.node,
+    })
 }
 
 /// COPY puts copies of the node that is there, and of all under it, into the target's folder, under the target's name.
@@ -189,7 +188,7 @@ pub(crate) fn new_node(
 }
 
 /// The last name of a path that has one.
-fn last_name(spot: &Spot) -> Result<Name, AllocError>
+pub(crate) fn last_name(spot: &Spot) -> Result<Name, AllocError>
     requires { spot.now.path ≢ [] }
     ensures { IfOk result (λ name. name ≡ last_name spot.now) }
 {

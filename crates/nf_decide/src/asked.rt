@@ -1,11 +1,60 @@
-//! What the paths of a request lead to.
+//! What a request asks for, and what its paths lead to.
 
-ghost use Rattle.std.specs.Prelude.{◌≡◌};
-ghost use Rattle.nf_words.specs.Prelude.{is_kept, node_at, node_found};
+ghost use Rattle.std.specs.Prelude.{◌≡◌, option_copied};
+ghost use Rattle.nf_words.specs.Prelude.{has_forbidden, is_kept, is_transfer, node_at, node_found};
+ghost use Rattle.nf_decide.specs.Asked.{is_called, is_forbidden, names_caller};
 
-use nf_base::NodeId;
+use nf_base::{Name, NodeId, UserRow};
 use nf_defs::Found;
-use nf_words::Places;
+use nf_words::{Making, Places, Spot};
+
+/// Whether a place names no other user than the caller.
+pub(crate) fn names_caller(caller: Option<&UserRow>, spot: Option<&Spot>) -> bool
+    ensures { result ≡ names_caller (option_copied caller.entry) (option_copied spot.entry) }
+{
+    let Some(spot) = spot else {
+        return true;
+    };
+    match &spot.user {
+        Some(name) => is_called(caller, name),
+        None => true,
+    }
+}
+
+fn is_called(caller: Option<&UserRow>, name: &Name) -> bool
+    ensures { result ≡ is_called (option_copied caller.entry) name.now }
+{
+    match caller {
+        Some(row) => row.name.as_bytes() == name.as_bytes(),
+        None => false,
+    }
+}
+
+/// Whether the path of a place has a name that is forbidden.
+pub(crate) fn is_forbidden(spot: Option<&Spot>) -> bool
+    ensures { result ≡ is_forbidden (option_copied spot.entry) }
+{
+    match spot {
+        Some(spot) => has_forbidden(spot.path.names()),
+        None => false,
+    }
+}
+
+fn has_forbidden(names: &[Name]) -> bool
+    ensures { result ≡ has_forbidden names.now }
+{
+    names.iter().any(|name| name.forbidden())
+}
+
+/// Whether what is at the source is put at the target, or copied there.
+pub(crate) fn is_transfer(makes: &Making) -> bool
+    ensures { result ≡ is_transfer makes.now }
+{
+    match makes {
+        Making::Nothing | Making::File { .. } | Making::Folder => false,
+        Making::Moved | Making::Copied => true,
+    }
+}
 
 /// The node at a place, if one is there.
 pub(crate) fn node_at(place: Option<Found>) -> Option<NodeId>

@@ -1,30 +1,26 @@
 //! The rules that refuse a request, and what a request that none of them refuses may do.
 
-ghost use Rattle.std.specs.Prelude.{◌≡◌, ◌≤◌, IfOk, IfSome, OnOk, None, Some, false, length, option_and_then, option_copied, option_map};
+ghost use Rattle.std.specs.Prelude.{◌≡◌, ◌≤◌, IfOk, IfSome, OnOk, None, Some, false, length, option_and_then, option_copied};
 ghost use Rattle.std.specs.Option.{option_map_or};
 ghost use Rattle.nf_base.specs.declared.limits.TheConstants.{MAX_DEPTH};
 ghost use Rattle.nf_defs.specs.Prelude.{found_from, is_folder, user_row};
 ghost use Rattle.nf_defs.specs.declared.Seeker.TheVariants.{User};
-ghost use Rattle.nf_words.specs.Prelude.{access_of, acts_rule, allowed_of, AreSound, asked_by, asker_of, call_decision, caller_row, exists_rule, forbidden_rule, has_forbidden, is_there, is_transfer, limit_at, limited, not_you_rule, overwrite_rule, place_rule, places_of, target_rule, token_rule, unfit, user_of};
-ghost use Rattle.nf_decide.specs.Asked.{is_called, is_forbidden, names_caller};
-ghost use Rattle.nf_decide.specs.Deciding.{Follows, IsBy, IsNamed, asking_of, early_refusal, late_refusal, locked_at, place_refusal, ways_of};
-ghost use Rattle.nf_reach.specs.Asking.{way_for};
+ghost use Rattle.nf_words.specs.Prelude.{access_of, acts_rule, allowed_of, AreSound, asked_by, asker_of, call_decision, caller_row, exists_rule, forbidden_rule, is_there, limit_at, limited, not_you_rule, overwrite_rule, place_rule, places_of, root_of, served, target_rule, token_rule, user_of, ways_of};
+ghost use Rattle.nf_decide.specs.Deciding.{Follows, IsNamed, asking_of, early_refusal, late_refusal, locked_at, place_refusal};
 
-use crate::acting::{copied, deleted, made_folder, moved, served, stored};
-use crate::asked::{is_kept, node_at};
-use crate::limits::{copy_limit, limit_at, move_limit, pieces_of};
+use crate::acting::{copied, deleted, made_folder, moved, stored};
+use crate::asked::{is_forbidden, is_kept, is_transfer, names_caller, node_at};
+use crate::limits::{carry_limit, copy_limit, limit_at, pieces_of};
 use crate::locking::locked;
+use crate::mounting::mount_itself;
 use crate::nodes::is_folder;
-use crate::transferring::{is_root_at, transfer_of, unfit_between};
+use crate::transferring::{transfer_of, unfit};
 use crate::view::View;
-use nf_base::{Moment, Name, NodeId, UserId, UserRow};
+use nf_base::{Moment, NodeId, UserId, UserRow};
 use nf_defs::{Found, Seeker};
-use nf_reach::{Asker, Way};
+use nf_reach::{Asker, Way, Ways};
 use nf_tree::Tree;
-use nf_words::{
-    Allowed, By, Caller, Denial, Limit, Making, Places, Request, Route, Spot, TargetFault, Wanted,
-    Words,
-};
+use nf_words::{Allowed, By, Caller, Denial, Limit, Making, Places, Request, Route, Wanted, Words};
 use std::alloc::{AllocError, Global};
 use std::marker::Model;
 
@@ -52,49 +48,12 @@ impl<'a> Model for Call<'a> {
     } };
 }
 
-/// Where the paths of a request lead, and by which mounts.
-#[derive(Clone, Copy)]
-struct Ways {
-    source: Option<Way>,
-    target: Option<Way>,
-}
-
-impl Model for Ways {
-    ghost use Rattle.nf_decide.specs.Deciding.{Ways};
-
-    ghost Value = { Ways };
-
-    ghost view = { λ ways. record { source = ways.source; target = ways.target } };
-
-    ghost inverse = { λ ways. record { source = ways.source; target = ways.target } };
-}
-
-impl Ways {
-    /// The places to which they lead.
-    fn places(&self) -> Places
-        ensures source { result.source ≡ option_map (λ way. way.place) self.now.source }
-        ensures target { result.target ≡ option_map (λ way. way.place) self.now.target }
-    {
-        Places {
-            source: place_of(&self.source),
-            target: place_of(&self.target),
-        }
-    }
-}
-
-fn place_of(way: &Option<Way>) -> Option<Found>
-    ensures { result ≡ option_map (λ way. way.place) way.now }
-{
-    match way {
-        Some(way) => Some(way.place),
-        None => None,
-    }
-}
-
-/// What the rules found: who asks, by which mount a body would be stored, and where the paths lead.
+/// What the rules found: who asks, with its root, and where the paths lead.
 #[derive(Clone, Copy)]
 struct Seen {
-    by: By,
+    user: UserId,
+    root: NodeId,
+    ways: Ways,
     places: Places,
 }
 
@@ -139,7 +98,9 @@ impl<'a> Call<'a> {
     fn judge(&self) -> Result<Seen, Denial>
         requires { AreSound self.now.state.tables }
         ensures judged { Follows (early_refusal (access_of self.entry.now.state)) self.entry.now result }
-        ensures by { IfOk result (λ seen. IsBy self.entry.now seen.by) }
+        ensures user { IfOk result (λ seen. seen.user ≡ asker_of self.entry.now) }
+        ensures root { IfOk result (λ seen. seen.root ≡ root_of self.entry.now) }
+        ensures ways { IfOk result (λ seen. seen.ways ≡ ways_of self.entry.now) }
         ensures places { IfOk result (λ seen. seen.places ≡ places_of self.entry.now) }
         ensures named { IfOk result (λ _. IsNamed self.entry.now) }
     {
@@ -156,21 +117,25 @@ impl<'a> Call<'a> {
         self.reached(&asker, &ways)?;
         self.allows(&asker, &ways)?;
         let places = self.places(&ways);
-        self.places_fit(&places)?;
+        self.places_fit(asker.root(), &ways, &places)?;
         Ok(Seen {
-            by: by(asker_of(caller), &ways.target),
+            user: asker.user(),
+            root: asker.root(),
+            ways,
             places,
         })
     }
 
     /// The rules of what the paths lead to, in their order.
-    fn places_fit(&self, places: &Places) -> Result<(), Denial>
-        requires { places.now ≡ places_of self.now }
+    fn places_fit(&self, root: NodeId, ways: &Ways, places: &Places) -> Result<(), Denial>
+        requires root { root ≡ root_of self.now }
+        requires ways { ways.now ≡ ways_of self.now }
+        requires places { places.now ≡ places_of self.now }
         ensures rules { Follows (place_refusal (access_of self.entry.now.state)) self.entry.now result }
         ensures target { OnOk result (target_rule (access_of self.entry.now.state) self.entry.now ≡ None) }
     {
         self.exists(places)?;
-        self.target(places)?;
+        self.target(root, ways)?;
         self.overwrite(places)
     }
 
@@ -217,8 +182,8 @@ impl<'a> Call<'a> {
         requires ways { ways.now ≡ ways_of self.now }
         ensures { Follows (place_rule (access_of self.entry.now.state)) self.entry.now result }
     {
-        let removes = self.request.wanted.asked().removes;
-        match asker.places(removes, ways.source.as_ref(), ways.target.as_ref()) {
+        let asked = self.request.wanted.asked();
+        match asker.places(&asked, ways) {
             Some(refusal) => Err(refusal),
             None => Ok(()),
         }
@@ -231,7 +196,7 @@ impl<'a> Call<'a> {
         ensures { Follows (acts_rule (access_of self.entry.now.state)) self.entry.now result }
     {
         let asked = self.request.wanted.asked();
-        match asker.acts(&asked, ways.source.as_ref(), ways.target.as_ref()) {
+        match asker.acts(&asked, ways) {
             Some(refusal) => Err(refusal),
             None => Ok(()),
         }
@@ -255,28 +220,16 @@ impl<'a> Call<'a> {
     }
 
     #[tactic(auto, unfolding(nf_words::specs::Places::target_rule))]
-    fn target(&self, places: &Places) -> Result<(), Denial>
-        requires { places.now ≡ places_of self.now }
+    fn target(&self, root: NodeId, ways: &Ways) -> Result<(), Denial>
+        requires root { root ≡ root_of self.now }
+        requires ways { ways.now ≡ ways_of self.now }
         ensures { Follows (target_rule (access_of self.entry.now.state)) self.entry.now result }
     {
-        match self.unfit(places) {
+        let asked = self.request.wanted.asked();
+        match unfit(self.tree(), root, &asked, ways) {
             Some(fault) => Err(Denial::BadTarget(fault)),
             None => Ok(()),
         }
-    }
-
-    /// What may not be done.
-    fn unfit(&self, places: &Places) -> Option<TargetFault>
-        ensures { result ≡ unfit self.entry.now.state.tables.nodes (asked_by self.entry.now) places.now }
-    {
-        let asked = self.request.wanted.asked();
-        if is_transfer(&asked.makes) {
-            return unfit_between(self.tree(), places);
-        }
-        if asked.removes && is_root_at(self.tree(), places.source) {
-            return Some(TargetFault::Root);
-        }
-        None
     }
 
     #[tactic(auto, unfolding(nf_words::specs::Places::overwrite_rule))]
@@ -302,7 +255,7 @@ impl<'a> Call<'a> {
             Making::File { length } => Ok(limit_there(view, places.target, pieces_of(length))),
             Making::Folder => Ok(limit_there(view, places.target, 0)),
             Making::Moved => match transfer_of(view.tree(), places) {
-                Some(transfer) => move_limit(alloc, view, &transfer),
+                Some(transfer) => carry_limit(alloc, view, &transfer),
                 None => Ok(None),
             },
             Making::Copied => match transfer_of(view.tree(), places) {
@@ -314,7 +267,10 @@ impl<'a> Call<'a> {
 
     /// What the act does where its paths lead. It copies what the step keeps.
     fn allowed(&self, alloc: Global, seen: &Seen) -> Result<Allowed, AllocError>
-        requires by { IsBy self.now seen.now.by }
+        requires sound { AreSound self.now.state.tables }
+        requires user { seen.now.user ≡ asker_of self.now }
+        requires root { seen.now.root ≡ root_of self.now }
+        requires ways { seen.now.ways ≡ ways_of self.now }
         requires places { seen.now.places ≡ places_of self.now }
         requires named { IsNamed self.now }
         requires few { limited self.now.state.tables (places_of self.now) (asked_by self.now).makes ≡ None }
@@ -323,18 +279,38 @@ impl<'a> Call<'a> {
         let view = &self.view;
         let Places { source, target } = seen.places;
         match &self.request.wanted {
-            Wanted::Get(_) => served(alloc, view, node_at(source)),
-            Wanted::Put { spot, length } => stored(seen.by, spot, *length, target),
-            Wanted::Mkcol(spot) => made_folder(alloc, view, self.now, spot, target),
-            Wanted::Delete(_) => Ok(deleted(node_at(source))),
-            Wanted::Move { target: spot, .. } => {
-                moved(spot, transfer_of(view.tree(), &seen.places))
+            Wanted::Get(_) => self.got(alloc, seen, node_at(source)),
+            Wanted::Put { spot, length } => {
+                stored(by(seen.user, &seen.ways.target), spot, *length, target)
             }
+            Wanted::Mkcol(spot) => made_folder(alloc, view, self.now, spot, target),
+            Wanted::Delete(_) => match mount_itself(&seen.ways.source) {
+                Some(way) => self.mount_left(alloc, seen.user, &way),
+                None => Ok(deleted(node_at(source))),
+            },
+            Wanted::Move { target: spot, .. } => match mount_itself(&seen.ways.source) {
+                Some(way) => self.mount_renamed(alloc, seen.user, &way, spot),
+                None => {
+                    let transfer = transfer_of(view.tree(), &seen.places);
+                    moved(alloc, view, self.now, spot, transfer)
+                }
+            },
             Wanted::Copy { target: spot, .. } => {
                 let transfer = transfer_of(view.tree(), &seen.places);
                 copied(alloc, view, self.now, spot, transfer)
             }
         }
+    }
+
+    /// GET of what is there, by the mount on its path.
+    fn got(&self, alloc: Global, seen: &Seen, node: Option<NodeId>) -> Result<Allowed, AllocError>
+        requires sound { AreSound self.now.state.tables }
+        requires user { seen.now.user ≡ asker_of self.now }
+        requires root { seen.now.root ≡ root_of self.now }
+        ensures { IfOk result (λ allowed. allowed ≡ served (access_of self.entry.now.state) self.entry.now (option_and_then (λ way. way.mount) seen.now.ways.source) node) }
+    {
+        let asker = self.view.asker(seen.user, seen.root, self.now);
+        self.served(alloc, &asker, mount_of(&seen.ways.source), node)
     }
 
     fn user(&self) -> Option<UserId>
@@ -368,16 +344,12 @@ impl<'a> Call<'a> {
         self.view.asker(user, root_of(caller), self.now)
     }
 
-    /// Where the paths lead, and by which mounts.
+    /// The ways of the paths.
     fn ways(&self, asker: &Asker<'_>) -> Ways
         requires { asker.now ≡ asking_of self.now }
         ensures { result ≡ ways_of self.entry.now }
     {
-        let asked = self.request.wanted.asked();
-        Ways {
-            source: way_at(asker, asked.source),
-            target: way_at(asker, asked.target),
-        }
+        asker.ways(&self.request.wanted.asked())
     }
 
     /// The places to which the paths lead.
@@ -385,25 +357,7 @@ impl<'a> Call<'a> {
         requires { ways.now ≡ ways_of self.now }
         ensures { result ≡ places_of self.entry.now }
     {
-        let _ = self;
-        ways.places()
-    }
-}
-
-/// Where the path of a place leads.
-fn way_at(asker: &Asker<'_>, spot: Option<&Spot>) -> Option<Way>
-    ensures { result ≡ option_map (λ spot. way_for asker.now spot.path) (option_copied spot.entry) }
-{
-    Some(asker.way(spot?.path.names()))
-}
-
-/// Whether what is at the source is put at the target, or copied there.
-fn is_transfer(makes: &Making) -> bool
-    ensures { result ≡ is_transfer makes.now }
-{
-    match makes {
-        Making::Nothing | Making::File { .. } | Making::Folder => false,
-        Making::Moved | Making::Copied => true,
+        ways.places(&self.request.wanted.asked())
     }
 }
 
@@ -455,46 +409,8 @@ fn root_of(caller: Option<&UserRow>) -> NodeId
     }
 }
 
-/// Whether a place names no other user than the caller.
-fn names_caller(caller: Option<&UserRow>, spot: Option<&Spot>) -> bool
-    ensures { result ≡ names_caller (option_copied caller.entry) (option_copied spot.entry) }
-{
-    let Some(spot) = spot else {
-        return true;
-    };
-    match &spot.user {
-        Some(name) => is_called(caller, name),
-        None => true,
-    }
-}
-
-fn is_called(caller: Option<&UserRow>, name: &Name) -> bool
-    ensures { result ≡ is_called (option_copied caller.entry) name.now }
-{
-    match caller {
-        Some(row) => row.name.as_bytes() == name.as_bytes(),
-        None => false,
-    }
-}
-
 fn limit_there(view: &View<'_>, place: Option<Found>, pieces: u64) -> Option<Limit>
     ensures { result ≡ option_and_then (limit_at view.now.tables pieces) place }
 {
     limit_at(view, &place?, pieces)
-}
-
-/// Whether the path of a place has a name that is forbidden.
-fn is_forbidden(spot: Option<&Spot>) -> bool
-    ensures { result ≡ is_forbidden (option_copied spot.entry) }
-{
-    match spot {
-        Some(spot) => has_forbidden(spot.path.names()),
-        None => false,
-    }
-}
-
-fn has_forbidden(names: &[Name]) -> bool
-    ensures { result ≡ has_forbidden names.now }
-{
-    names.iter().any(|name| name.forbidden())
 }

@@ -9,6 +9,7 @@ mod ending;
 mod limits;
 mod listing;
 mod locking;
+mod mounting;
 mod nodes;
 mod state;
 mod tables;

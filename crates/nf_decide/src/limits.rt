@@ -3,10 +3,11 @@
 ghost use Rattle.std.specs.Prelude.{◌≡◌, ◌+◌, ◌≤◌, length, nat_lt, IfOk};
 ghost use Rattle.nf_base.specs.declared.limits.TheConstants.{MAX_DEPTH, MAX_PIECES};
 ghost use Rattle.nf_defs.specs.Tree.{content_of, walk_of};
-ghost use Rattle.nf_words.specs.Limits.{copy_limit, count_of, deepest, deepest_in, limit_at, limit_passed, move_limit, pieces_in, pieces_of};
+ghost use Rattle.nf_words.specs.Limits.{carry_limit, copy_limit, count_of, deepest, deepest_in, limit_at, limit_passed, move_limit, pieces_in, pieces_of};
 ghost use Rattle.nf_words.specs.Contents.{stored_pieces};
 ghost use Rattle.nf_words.specs.declared.answer.Limit.TheVariants.{Pieces};
 
+use crate::transferring::crosses;
 use crate::view::View;
 use nf_base::NodeId;
 use nf_defs::Found;
@@ -28,8 +29,23 @@ pub(crate) fn limit_at(view: &View<'_>, place: &Found, pieces: u64) -> Option<Li
     }
 }
 
+/// The limit that is passed by what is moved: to another owner it is copied, and what goes then still counts.
+pub(crate) fn carry_limit(
+    alloc: Global,
+    view: &View<'_>,
+    transfer: &Transfer,
+) -> Result<Option<Limit>, AllocError>
+    ensures { IfOk result (λ limit. limit ≡ carry_limit view.now.tables transfer.now) }
+{
+    if crosses(view.tree(), transfer) {
+        copy_limit(alloc, view, transfer)
+    } else {
+        move_limit(alloc, view, transfer)
+    }
+}
+
 /// The limit that a move passes.
-pub(crate) fn move_limit(
+fn move_limit(
     alloc: Global,
     view: &View<'_>,
     transfer: &Transfer,

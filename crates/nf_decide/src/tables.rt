@@ -7,10 +7,10 @@ ghost use Rattle.nf_base.specs.declared.rows.NodeRow.{NodeRow};
 ghost use Rattle.nf_base.specs.declared.rows.Row.TheVariants as kinds;
 ghost use Rattle.nf_base.specs.declared.rows.MetaRow.{MetaRow};
 ghost use Rattle.nf_defs.specs.Prelude.{made, node_key, node_row, put, put_all, rows_of};
-ghost use Rattle.nf_words.specs.Prelude.{above, blob_after, changed, cleared, counted, goal_of, last_number};
+ghost use Rattle.nf_words.specs.Prelude.{above, blob_after, changed, cleared, counted, ended_for, goal_of, joined, last_number, removed};
 ghost use Rattle.nf_words.specs.declared.answer.Report.TheVariants.{Done};
 ghost use Rattle.nf_words.specs.declared.answer.Allowed.TheVariants as allowed;
-ghost use Rattle.nf_decide.specs.Current.{AreBorne, AreGiven, BearsAct, BearsChanges, HasNumbers, IsBorne, IsCounted, IsNew, IsNodePut, IsRefilled, IsThere, added_by, is_fresh};
+ghost use Rattle.nf_decide.specs.Current.{AreBorne, AreGiven, BearsAct, BearsChanges, HasNumbers, IsBorne, IsCounted, IsNew, IsRefilled, IsThere, added_by, is_fresh};
 ghost use Rattle.nf_rules.specs.Ruled.{AreRuled};
 ghost use Rattle.nf_decide.specs.Rows.{FitsNodes};
 
@@ -138,6 +138,14 @@ impl Tables {
                 self.join(moment, rows, &replaced);
                 None
             }
+            Allowed::Cross {
+                rows,
+                replaced,
+                node,
+            } => {
+                self.cross(moment, rows, &replaced, node);
+                None
+            }
         }
     }
 
@@ -167,22 +175,25 @@ impl Tables {
         }
     }
 
-    /// Makes a change. Only rows of nodes are changed yet.
-    #[tactic(auto, using(crate::proofs::Putting::borne_node))]
+    /// Makes a change. Only rows of nodes and of mounts are changed yet.
     fn make(&mut self, change: Change)
         requires room { FitsNodes self.old.tables self.old.room (count_by (is_fresh self.old.tables.meta.next_node) (change ∷ [])) }
         requires borne { IsBorne self.old.tables.meta.next_node self.old.tables change }
         ensures tables { self.new.tables ≡ made self.old.tables change }
         ensures room { self.new.room ≡ self.old.room }
     {
-        put_node(&mut self.tree, node_in(change));
+        match change {
+            Change::Put(Row::Node(row)) => put_node(&mut self.tree, row),
+            Change::Put(Row::Mount(row)) => self.mounts.put(row),
+            Change::Put(_) | Change::Drop(_) => unreachable!(),
+        }
     }
 
     /// Takes a node out for good, with all under it.
     fn remove(&mut self, moment: Moment, node: NodeId)
         ensures { self.new.tables ≡ changed self.old.tables moment (allowed.Delete node) }
     {
-        self.tree.purge(node);
+        self.purge(node);
         self.stamp(moment);
     }
 
@@ -206,19 +217,50 @@ impl Tables {
         if rows.rows().is_empty() && replaced.is_none() {
             return;
         }
+        self.enter(rows, replaced);
+        self.stamp(moment);
+    }
+
+    /// Puts new nodes in as a copy does, and takes out the one that they are of.
+    fn cross(&mut self, moment: Moment, rows: NodeRows, replaced: &Option<NodeId>, node: NodeId)
+        requires room { FitsNodes self.old.tables self.old.room (length rows) }
+        requires given { AreGiven self.old.tables }
+        requires numbers { HasNumbers self.old.tables rows }
+        ensures { self.new.tables ≡ changed self.old.tables moment (allowed.Cross rows replaced.now node) }
+    {
+        self.enter(rows, replaced);
+        self.purge(node);
+        self.stamp(moment);
+    }
+
+    /// Puts new nodes in; what is to be replaced goes.
+    fn enter(&mut self, rows: NodeRows, replaced: &Option<NodeId>)
+        requires room { FitsNodes self.old.tables self.old.room (length rows) }
+        requires given { AreGiven self.old.tables }
+        requires numbers { HasNumbers self.old.tables rows }
+        ensures { self.new.tables ≡ joined self.old.tables rows replaced.now }
+    {
         self.clear(replaced);
         self.meta.next_node = add_all(&mut self.tree, self.meta.next_node, rows);
-        self.stamp(moment);
     }
 
     /// Takes out what has to go.
     fn clear(&mut self, replaced: &Option<NodeId>)
-        ensures tables { self.new.tables ≡ record self.old.tables { nodes = cleared self.old.tables.nodes replaced.now } }
+        ensures tables { self.new.tables ≡ record self.old.tables { nodes = cleared self.old.tables.nodes replaced.now; shares = ended_for self.old.tables.nodes replaced.now self.old.tables.shares } }
         ensures room { self.new.room ≡ self.old.room }
     {
         if let Some(node) = *replaced {
-            self.tree.purge(node);
+            self.purge(node);
         }
+    }
+
+    /// Takes out a node and all under it, and ends the shares there.
+    fn purge(&mut self, node: NodeId)
+        ensures tables { self.new.tables ≡ removed self.old.tables node }
+        ensures room { self.new.room ≡ self.old.room }
+    {
+        self.shares.end_under(&self.tree, node);
+        self.tree.purge(node);
     }
 
     /// Records when a row was last changed.
@@ -335,17 +377,6 @@ fn push_mounts(list: &mut RowList, mounts: &[MountRow]) -> Result<(), AllocError
         list.push(Row::Mount(copy_mount(mount)?))?;
     }
     Ok(())
-}
-
-/// The node that a change puts.
-fn node_in(change: Change) -> NodeRow
-    requires { IsNodePut change }
-    ensures { Put (kinds.Node result) ≡ change }
-{
-    match change {
-        Change::Put(Row::Node(row)) => row,
-        Change::Put(_) | Change::Drop(_) => unreachable!(),
-    }
 }
 
 /// Puts a node at the end, or another content of a file in the place of the old one.

@@ -5,7 +5,7 @@ ghost use Rattle.nf_base.specs.declared.changes.Change.TheVariants as change;
 ghost use Rattle.nf_base.specs.declared.changes.RowKey.TheVariants as keys;
 ghost use Rattle.nf_base.specs.declared.rows.Row.TheVariants as kinds;
 ghost use Rattle.nf_defs.specs.Tree.{node_row, relinked};
-ghost use Rattle.nf_words.specs.Changes.{blob_of, changes_of, dropped_for, dropped_under, hold_of, meta_after, told, transferred_row, with_meta};
+ghost use Rattle.nf_words.specs.Changes.{blob_of, changes_of, closed_under, ended_row, gone_for, gone_under, hold_of, is_closing, meta_after, told, transferred_row, with_meta};
 ghost use Rattle.nf_words.specs.declared.answer.LockKey.TheVariants as lock_keys;
 ghost use Rattle.nf_words.specs.declared.answer.Mode.TheVariants.{Exclusive, Shared};
 ghost use Rattle.nf_decide.specs.Current.{BearsAct, added_by, is_fresh};
@@ -13,7 +13,7 @@ ghost use Rattle.nf_decide.specs.Current.{BearsAct, added_by, is_fresh};
 use crate::tables::{copy, raised};
 use crate::view::View;
 use nf_base::{
-    BlobId, Change, Changes, MetaRow, Moment, Name, NodeId, NodeRow, Place, Row, RowKey,
+    BlobId, Change, Changes, MetaRow, Moment, Name, NodeId, NodeRow, Place, Row, RowKey, ShareRow,
 };
 use nf_tree::Tree;
 use nf_words::{Allowed, Hold, LockKey, Mode, Transfer};
@@ -51,26 +51,31 @@ fn told(alloc: Global, view: &View<'_>, act: &Allowed) -> Result<Changes, AllocE
 {
     match act {
         Allowed::Change { changes, .. } => changes.copy(alloc),
-        Allowed::Delete(node) => dropped_under(alloc, view.tree(), *node),
-        Allowed::Move { transfer, name } => transferred(alloc, view.tree(), transfer, name),
-        Allowed::Copy { rows, replaced } => joined(alloc, view.tree(), rows.rows(), replaced),
+        Allowed::Delete(node) => gone(alloc, view, *node),
+        Allowed::Move { transfer, name } => transferred(alloc, view, transfer, name),
+        Allowed::Copy { rows, replaced } => joined(alloc, view, rows.rows(), replaced),
+        Allowed::Cross {
+            rows,
+            replaced,
+            node,
+        } => crossed(alloc, view, rows.rows(), replaced, *node),
         Allowed::Get { .. } | Allowed::List(_) | Allowed::Put { .. } | Allowed::Close => {
             Ok(Changes::new(alloc))
         }
     }
 }
 
-/// What has to go is dropped, and a node's row is put in its new place.
+/// What has to go is gone, and a node's row is put in its new place.
 fn transferred(
     alloc: Global,
-    tree: &Tree,
+    view: &View<'_>,
     transfer: &Transfer,
     name: &Name,
 ) -> Result<Changes, AllocError>
-    ensures { IfOk result (λ changes. changes ≡ dropped_for tree.now.rows transfer.now.replaced ++ transferred_row (node_row tree.now.rows transfer.now.node) transfer.now name.now) }
+    ensures { IfOk result (λ changes. changes ≡ gone_for view.now.tables.nodes view.now.tables.shares transfer.now.replaced ++ transferred_row (node_row view.now.tables.nodes transfer.now.node) transfer.now name.now) }
 {
-    let mut changes = dropped_for(alloc, tree, &transfer.replaced)?;
-    if let Some(row) = tree.node(transfer.node) {
+    let mut changes = gone_for(alloc, view, &transfer.replaced)?;
+    if let Some(row) = view.tree().node(transfer.node) {
         let row = relinked(row, transfer.folder, name)?;
         changes.push(Change::Put(Row::Node(row)))?;
     }
@@ -90,17 +95,32 @@ fn relinked(row: &NodeRow, folder: NodeId, name: &Name) -> Result<NodeRow, Alloc
     })
 }
 
-/// What has to go is dropped, and the rows of copies are put.
+/// What has to go is gone, and the rows of copies are put.
 fn joined(
     alloc: Global,
-    tree: &Tree,
+    view: &View<'_>,
     rows: &[NodeRow],
     replaced: &Option<NodeId>,
 ) -> Result<Changes, AllocError>
-    ensures { IfOk result (λ changes. changes ≡ dropped_for tree.now.rows replaced.now ++ map (λ row. change.Put (kinds.Node row)) rows.now) }
+    ensures { IfOk result (λ changes. changes ≡ gone_for view.now.tables.nodes view.now.tables.shares replaced.now ++ map (λ row. change.Put (kinds.Node row)) rows.now) }
 {
-    let mut changes = dropped_for(alloc, tree, replaced)?;
+    let mut changes = gone_for(alloc, view, replaced)?;
     put_all(&mut changes, rows)?;
+    Ok(changes)
+}
+
+/// The same, and the node that the copies are of is gone too.
+fn crossed(
+    alloc: Global,
+    view: &View<'_>,
+    rows: &[NodeRow],
+    replaced: &Option<NodeId>,
+    node: NodeId,
+) -> Result<Changes, AllocError>
+    ensures { IfOk result (λ changes. changes ≡ (gone_for view.now.tables.nodes view.now.tables.shares replaced.now ++ map (λ row. change.Put (kinds.Node row)) rows.now) ++ gone_under view.now.tables.nodes view.now.tables.shares node) }
+{
+    let mut changes = joined(alloc, view, rows, replaced)?;
+    push_gone(alloc, view, node, &mut changes)?;
     Ok(changes)
 }
 
@@ -114,33 +134,94 @@ fn put_all(changes: &mut Changes, rows: &[NodeRow]) -> Result<(), AllocError>
     Ok(())
 }
 
-/// The node that has to go is dropped, if there is one, with all under it.
-fn dropped_for(alloc: Global, tree: &Tree, replaced: &Option<NodeId>) -> Result<Changes, AllocError>
-    ensures { IfOk result (λ changes. changes ≡ dropped_for tree.now.rows replaced.now) }
+// ---- what is gone
+
+/// What becomes of the node that has to go, if there is one, and of all under it.
+fn gone_for(
+    alloc: Global,
+    view: &View<'_>,
+    replaced: &Option<NodeId>,
+) -> Result<Changes, AllocError>
+    ensures { IfOk result (λ changes. changes ≡ gone_for view.now.tables.nodes view.now.tables.shares replaced.now) }
 {
     match replaced {
-        Some(node) => dropped_under(alloc, tree, *node),
+        Some(node) => gone(alloc, view, *node),
         None => Ok(Changes::new(alloc)),
     }
 }
 
-/// A node is dropped with all under it.
-fn dropped_under(alloc: Global, tree: &Tree, node: NodeId) -> Result<Changes, AllocError>
-    ensures { IfOk result (λ changes. changes ≡ dropped_under tree.now.rows node) }
-{
-    let nodes = tree.subtree(alloc, node)?;
-    drop_all(alloc, &nodes)
-}
-
-fn drop_all(alloc: Global, nodes: &[NodeId]) -> Result<Changes, AllocError>
-    ensures { IfOk result (λ changes. changes ≡ map (λ node. change.Drop (keys.Node node)) nodes.now) }
+/// What becomes of a node that is removed, and of all under it.
+fn gone(alloc: Global, view: &View<'_>, node: NodeId) -> Result<Changes, AllocError>
+    ensures { IfOk result (λ changes. changes ≡ gone_under view.now.tables.nodes view.now.tables.shares node) }
 {
     let mut changes = Changes::new(alloc);
+    push_gone(alloc, view, node, &mut changes)?;
+    Ok(changes)
+}
+
+/// A node is dropped with all under it, and the shares there are ended.
+fn push_gone(
+    alloc: Global,
+    view: &View<'_>,
+    node: NodeId,
+    changes: &mut Changes,
+) -> Result<(), AllocError>
+    ensures { OnOk result (changes.new ≡ changes.old ++ gone_under view.now.tables.nodes view.now.tables.shares node) }
+{
+    let nodes = view.tree().subtree(alloc, node)?;
+    drop_all(changes, &nodes)?;
+    close_under(changes, view, node)
+}
+
+fn drop_all(changes: &mut Changes, nodes: &[NodeId]) -> Result<(), AllocError>
+    ensures { OnOk result (changes.new ≡ changes.old ++ map (λ node. change.Drop (keys.Node node)) nodes.now) }
+{
     for node in nodes {
         changes.push(Change::Drop(RowKey::Node(*node)))?;
     }
-    Ok(changes)
+    Ok(())
 }
+
+fn close_under(changes: &mut Changes, view: &View<'_>, top: NodeId) -> Result<(), AllocError>
+    ensures { OnOk result (changes.new ≡ changes.old ++ closed_under view.now.tables.nodes view.now.tables.shares top) }
+{
+    for share in view.shares().rows() {
+        push_closed(changes, view.tree(), top, share)?;
+    }
+    Ok(())
+}
+
+/// A share of a node under the top is ended, where it wasn't.
+fn push_closed(
+    changes: &mut Changes,
+    tree: &Tree,
+    top: NodeId,
+    share: &ShareRow,
+) -> Result<(), AllocError>
+    ensures { OnOk result (changes.new ≡ changes.old ++ closed_under tree.now.rows (share.now ∷ []) top) }
+{
+    if is_closing(tree, top, share) {
+        changes.push(Change::Put(Row::Share(ended(share)?)))?;
+    }
+    Ok(())
+}
+
+fn is_closing(tree: &Tree, top: NodeId, share: &ShareRow) -> bool
+    ensures { result ≡ is_closing tree.now.rows top share.now }
+{
+    !share.ended && tree.under(share.node, top)
+}
+
+/// The row of a share that ended.
+fn ended(share: &ShareRow) -> Result<ShareRow, AllocError>
+    ensures { IfOk result (λ row. row ≡ ended_row share.now) }
+{
+    let mut row = share.clone()?;
+    row.ended = true;
+    Ok(row)
+}
+
+// ---- the other parts of an act
 
 /// The meta row after an act: its counters, and the moment.
 fn meta_after(view: &View<'_>, moment: Moment, act: &Allowed) -> MetaRow
@@ -150,7 +231,7 @@ fn meta_after(view: &View<'_>, moment: Moment, act: &Allowed) -> MetaRow
     let meta = view.meta();
     match act {
         Allowed::Change { changes, blob, .. } => raised(meta, moment, changes.as_slice(), *blob),
-        Allowed::Copy { rows, .. } => MetaRow {
+        Allowed::Copy { rows, .. } | Allowed::Cross { rows, .. } => MetaRow {
             next_node: NodeId::new(meta.next_node.number() + rows.rows().len() as u64),
             last: moment,
             ..*meta
@@ -173,7 +254,7 @@ pub fn added_by(view: &View<'_>, act: &Allowed) -> usize
 {
     match act {
         Allowed::Change { changes, .. } => fresh_count(view.meta().next_node, changes.as_slice()),
-        Allowed::Copy { rows, .. } => rows.rows().len(),
+        Allowed::Copy { rows, .. } | Allowed::Cross { rows, .. } => rows.rows().len(),
         Allowed::Get { .. }
         | Allowed::List(_)
         | Allowed::Put { .. }
@@ -217,6 +298,7 @@ pub fn blob_of(act: &Allowed) -> Option<BlobId>
         | Allowed::Delete(_)
         | Allowed::Move { .. }
         | Allowed::Copy { .. }
+        | Allowed::Cross { .. }
         | Allowed::Close => None,
     }
 }
@@ -233,6 +315,7 @@ pub fn hold_of(act: &Allowed) -> Result<Option<Hold>, AllocError>
         | Allowed::Delete(_)
         | Allowed::Move { .. }
         | Allowed::Copy { .. }
+        | Allowed::Cross { .. }
         | Allowed::Close => Ok(None),
     }
 }

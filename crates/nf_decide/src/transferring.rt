@@ -1,15 +1,16 @@
 //! What is moved or copied, and where to.
 
-ghost use Rattle.std.specs.Prelude.{◌≡◌};
-ghost use Rattle.nf_defs.specs.Tree.{is_root};
-ghost use Rattle.nf_words.specs.Places.{folder_at, is_inside, is_same, is_there, misplaced, transfer_of, transfer_to, unfit_between};
+ghost use Rattle.std.specs.Prelude.{◌≡◌, false};
+ghost use Rattle.std.specs.Option.{option_map_or};
+ghost use Rattle.nf_words.specs.Places.{crosses, folder_at, folder_in, is_free_in, is_inside, is_off_mount, is_root_at, is_same, misplaced, misplaced_by, transfer_between, transfer_by, transfer_of, transfer_to, unfit, unfit_between};
 
-use crate::asked::{node_at, node_found};
-use crate::nodes::{is_root, parent_of};
+use crate::asked::{is_transfer, node_at, node_found};
+use crate::nodes::{is_root, owner_of, parent_of};
 use nf_base::NodeId;
 use nf_defs::Found;
+use nf_reach::{Way, Ways, place_at};
 use nf_tree::Tree;
-use nf_words::{Places, TargetFault, Transfer};
+use nf_words::{Asked, Places, TargetFault, Transfer};
 
 /// From the node at the source to the place of the target, where that is in a folder.
 pub(crate) fn transfer_of(tree: &Tree, places: &Places) -> Option<Transfer>
@@ -41,26 +42,114 @@ fn folder_at(tree: &Tree, place: &Found) -> Option<NodeId>
     }
 }
 
-/// Why what is at the source can't be put at the target: the first of root, same and inside.
-pub(crate) fn unfit_between(tree: &Tree, places: &Places) -> Option<TargetFault>
-    ensures { result ≡ unfit_between tree.now.rows places.now }
+/// Whether the node and the folder that it is put into are of two owners.
+pub(crate) fn crosses(tree: &Tree, transfer: &Transfer) -> bool
+    ensures { result ≡ crosses tree.now.rows transfer.now }
 {
-    if is_root_at(tree, places.source) {
+    owner_of(tree, transfer.node) != owner_of(tree, transfer.folder)
+}
+
+// ---- by ways
+
+/// The folder of what is at the end of a way or is put there: a mount is in the root of its user.
+fn folder_in(tree: &Tree, root: NodeId, way: &Way) -> Option<NodeId>
+    ensures { result ≡ folder_in tree.now.rows root way.now }
+{
+    if way.itself {
+        Some(root)
+    } else {
+        folder_at(tree, &way.place)
+    }
+}
+
+/// From a node to the end of a way that is in a folder.
+fn transfer_by(tree: &Tree, root: NodeId, node: NodeId, way: &Way) -> Option<Transfer>
+    ensures { result ≡ transfer_by tree.now.rows root node way.now }
+{
+    Some(Transfer {
+        node,
+        folder: folder_in(tree, root, way)?,
+        replaced: node_found(&way.place),
+    })
+}
+
+fn transfer_between(tree: &Tree, root: NodeId, ways: &Ways) -> Option<Transfer>
+    ensures { result ≡ transfer_between tree.now.rows root ways.now }
+{
+    let node = node_at(place_at(&ways.source))?;
+    transfer_by(tree, root, node, ways.target.as_ref()?)
+}
+
+/// What may not be done: a transfer that doesn't fit, or the removal of a root.
+pub(crate) fn unfit(
+    tree: &Tree,
+    root: NodeId,
+    asked: &Asked<'_>,
+    ways: &Ways,
+) -> Option<TargetFault>
+    ensures { result ≡ unfit tree.now.rows root asked.now ways.now }
+{
+    let renames = ways.is_mount_asked(asked);
+    if is_transfer(&asked.makes) {
+        return unfit_between(tree, root, renames, ways);
+    }
+    if asked.removes && !renames && is_root_at(tree, &ways.source) {
         return Some(TargetFault::Root);
     }
-    match transfer_of(tree, places) {
-        Some(transfer) => misplaced(tree, &transfer),
+    None
+}
+
+/// Why what is at the source can't be put at the target: the first of root, same, inside and mount.
+fn unfit_between(tree: &Tree, root: NodeId, renames: bool, ways: &Ways) -> Option<TargetFault>
+    ensures { result ≡ unfit_between tree.now.rows root renames ways.now }
+{
+    if !renames && is_root_at(tree, &ways.source) {
+        return Some(TargetFault::Root);
+    }
+    match transfer_between(tree, root, ways) {
+        Some(transfer) => misplaced_by(tree, goes_off(root, renames, &ways.target), &transfer),
         None => Some(TargetFault::Root),
     }
 }
 
 /// Whether a root is there.
-pub(crate) fn is_root_at(tree: &Tree, place: Option<Found>) -> bool
-    ensures { result ≡ is_there (is_root tree.now.rows) place }
+fn is_root_at(tree: &Tree, way: &Option<Way>) -> bool
+    ensures { result ≡ is_root_at tree.now.rows way.now }
 {
-    match node_at(place) {
+    match node_at(place_at(way)) {
         Some(node) => is_root(tree, node),
         None => false,
+    }
+}
+
+/// Whether a mount would be replaced, or one that is renamed would leave its root.
+fn goes_off(root: NodeId, renames: bool, target: &Option<Way>) -> bool
+    ensures { result ≡ option_map_or (is_off_mount root renames) target.now false }
+{
+    match target {
+        Some(way) if renames => !is_free_in(root, &way.place),
+        Some(way) => way.itself,
+        None => false,
+    }
+}
+
+/// Whether the place is a free name in that folder.
+fn is_free_in(folder: NodeId, place: &Found) -> bool
+    ensures { result ≡ is_free_in folder place.now }
+{
+    match place {
+        Found::Free { folder: other } => *other == folder,
+        Found::At(_) | Found::Missing { .. } => false,
+    }
+}
+
+fn misplaced_by(tree: &Tree, off: bool, transfer: &Transfer) -> Option<TargetFault>
+    ensures { result ≡ misplaced_by tree.now.rows off transfer.now }
+{
+    match misplaced(tree, transfer) {
+        Some(fault) => Some(fault),
+        None if off => Some(TargetFault::Mount),
+        None => None,
     }
 }
 

@@ -78,6 +78,12 @@ impl<'a> View<'a> {
         )
     }
 
+    pub(crate) fn shares(&self) -> &Shares
+        ensures { result.now.rows ≡ self.now.tables.shares }
+    {
+        self.shares
+    }
+
     pub(crate) fn mounts(&self) -> &Mounts
         ensures { result.now.rows ≡ self.now.tables.mounts }
     {

@@ -7,7 +7,7 @@ use Rattle.std.proofs.lemmas.Bool.{both_ways}
 use Rattle.std.proofs.lemmas.Option.{none-some}
 use Rattle.nf_base.specs.declared.limits.TheConstants.{MAX_BODY, MAX_ENTRIES}
 use Rattle.nf_defs.specs.Prelude.{Access, AreRising, Tables}
-use Rattle.nf_words.specs.Prelude.{access_of, actor_of, answer_at, answer_to, answered_by, blob_to, decision_of, end_refusal, ends_at, ends_goal, goal_at, IsSound, MayAsk, MayCome, MayEnd, MayWant, reply_to, State, ticket_of, unless_refused}
+use Rattle.nf_words.specs.Prelude.{access_of, answer_at, answer_to, answered_by, blob_to, decision_of, end_refusal, ends_at, ends_goal, goal_at, IsSound, MayAsk, MayCome, MayEnd, MayWant, reply_to, State, ticket_of, unless_refused}
 use Rattle.nf_words.specs.Endings.{stored_at as stores_at}
 use Rattle.nf_words.proofs.Steps.{put_grants_nothing, reports_nothing}
 use Rattle.nf_words.specs.declared.answer.Allowed.{Allowed}
@@ -122,27 +122,28 @@ is_made s n now event (Err refusal) is = here (is_unmade_by refusal) refl
     here false e = refl
     here true e = absurd (never_failed s n now event refusal (unmade_fails refusal e) (sym is))
 
-put_short : (t : Tables) (now : ℕ) (who : Option ℕ) (act : Allowed) (by : By) (key : LockKey) (size : ℕ) → Known t now who act
+put_short : (t : Tables) (now : ℕ) (act : Allowed) (by : By) (key : LockKey) (size : ℕ) → Known t now act
     → reply_to act ≡ reply.Granted (Store by key size) → size ≤ MAX_BODY
-put_short t now who (allowed.Put other lock length) by key size known is =
+put_short t now (allowed.Put other lock length) by key size known is =
     let same : length ≡ size = cc in subst (λ (n : ℕ). n ≤ MAX_BODY) same known.short
-put_short t now who (allowed.Change changes blob report) by key size known is = absurd (reports_nothing report (Store by key size) is)
-put_short t now who (allowed.Move transfer name) by key size known is = absurd (put_grants_nothing transfer.replaced (Store by key size) is)
-put_short t now who (allowed.Copy rows replaced) by key size known is = absurd (put_grants_nothing replaced (Store by key size) is)
-put_short t now who other by key size known is = absurd (cc)
+put_short t now (allowed.Change changes blob report) by key size known is = absurd (reports_nothing report (Store by key size) is)
+put_short t now (allowed.Move transfer name) by key size known is = absurd (put_grants_nothing transfer.replaced (Store by key size) is)
+put_short t now (allowed.Copy rows replaced) by key size known is = absurd (put_grants_nothing replaced (Store by key size) is)
+put_short t now (allowed.Cross rows replaced node) by key size known is = absurd (put_grants_nothing replaced (Store by key size) is)
+put_short t now other by key size known is = absurd (cc)
 
 ok_same : (x y : Reply) → ◌≡◌ {A = Answer} (Ok x) (Ok y) → x ≡ y
 ok_same x y is = cc
 
-granted_short : (t : Tables) (now : ℕ) (who : Option ℕ) (decision : Result Allowed Denial) (by : By) (key : LockKey) (size : ℕ)
-    → ((act : Allowed) → decision ≡ Ok act → Known t now who act) → answered_by decision ≡ Ok (reply.Granted (Store by key size)) → size ≤ MAX_BODY
-granted_short t now who (Ok act) by key size known is = put_short t now who act by key size (known act refl) (ok_same (reply_to act) _ is)
-granted_short t now who (Err refusal) by key size known is = absurd (cc)
+granted_short : (t : Tables) (now : ℕ) (decision : Result Allowed Denial) (by : By) (key : LockKey) (size : ℕ)
+    → ((act : Allowed) → decision ≡ Ok act → Known t now act) → answered_by decision ≡ Ok (reply.Granted (Store by key size)) → size ≤ MAX_BODY
+granted_short t now (Ok act) by key size known is = put_short t now act by key size (known act refl) (ok_same (reply_to act) _ is)
+granted_short t now (Err refusal) by key size known is = absurd (cc)
 
 of_begin : (seat : ℕ) (s : State) (now : ℕ) (words : Words) (request : Request) (answer : Answer) → IsSound s → MayAsk s seat (Begin words request)
     → answer ≡ answer_to s seat now (Begin words request) → IsOfBegin answer
 of_begin seat s now words request (Ok (reply.Granted (Store by key size))) sound asked is =
-    granted_short s.tables now (actor_of s seat (Begin words request)) (decision_of s seat now (Begin words request)) by key size
+    granted_short s.tables now (decision_of s seat now (Begin words request)) by key size
     (λ act done. known_change s seat now (Begin words request) act sound asked done) (sym is)
 of_begin seat s now words request (Ok reply.Closed) sound asked is = absurd (begins_open s seat now words request (sym is))
 of_begin seat s now words request other sound asked is = tt

@@ -1,114 +1,305 @@
--- What a DELETE, a MKCOL and a PUT change.
-use Rattle.std.proofs.Common.{max, ℕ, ◌+◌, ◌-◌, ◌==◌, ◌&&◌, ◌≡◌, ◌<◌, ◌≤◌, Bool, true, false, not, List, [], ◌∷◌, ◌++◌, Option, None, Some, Result, Ok, if◌then◌else◌, length, get_or, map, slice_get, unwrap_or, inl, inr, refl, sym, ap, subst, ◌∙◌, arith, length-append}
+-- What a DELETE, a MKCOL and a PUT change, and a MOVE of a mount.
+use Rattle.std.proofs.Common.{max, ℕ, ◌+◌, ◌-◌, drop, option_map, ◌==◌, ◌&&◌, ◌≡◌, ◌<◌, ◌≤◌, Bool, true, false, not, List, [], ◌∷◌, ◌++◌, Option, None, Some, Result, Ok, if◌then◌else◌, length, get_or, slice_get, unwrap_or, inl, inr, refl, sym, ap, subst, ◌∙◌, arith, length-append}
 use Rattle.std.specs.Prelude.{IsOk}
+use Rattle.std.specs.Option.{IfSome, option_map_or}
+use Rattle.std.specs.declared.cmp.Ordering.{Ordering}
+use Rattle.std.specs.declared.cmp.Ordering.TheVariants.{Equal, Greater, Less}
 use Rattle.std.proofs.Math.Seq.{get_or-append_seam}
 use Rattle.std.proofs.lemmas.Bool.{and_parts, cases_Bool, eqb-true, false_from_ne_true, ne_eqb, not-true}
 use Rattle.std.proofs.lemmas.List.{length-map}
 use Rattle.std.proofs.lemmas.List.Elements.{All-weaker}
 use Rattle.std.proofs.lemmas.Option.{unwrap_or-slice_get}
+use Rattle.std.proofs.lemmas.Slice.Eq.{bytes_eq-Decides}
+use Rattle.nf_access.specs.Mounts.{is_mount_of, mount_row}
 use Rattle.nf_base.specs.Content.{content_eq}
 use Rattle.nf_base.specs.declared.changes.Change.{Change}
 use Rattle.nf_base.specs.declared.changes.Change.TheVariants.{Drop, Put}
 use Rattle.nf_base.specs.declared.changes.RowKey.TheVariants as keys
 use Rattle.nf_base.specs.declared.content.Piece.{Piece}
+use Rattle.nf_base.specs.declared.rows.MountRow.{MountRow}
 use Rattle.nf_base.specs.declared.rows.NodeKind.{NodeKind}
 use Rattle.nf_base.specs.declared.rows.NodeKind.TheVariants.{File, Folder}
 use Rattle.nf_base.specs.declared.rows.NodeRow.{NodeRow}
 use Rattle.nf_base.specs.declared.rows.Row.TheVariants as rows
+use Rattle.nf_base.specs.declared.rows.UserRow.{UserRow}
+use Rattle.nf_defs.proofs.Lookups.{equal_bytes}
 use Rattle.nf_defs.proofs.Walks.{climbs_walk}
-use Rattle.nf_defs.specs.Prelude.{child_of, filled, is_folder, is_folder_kind, is_under, Leads, node_key, node_row, put, Tables, walk_of}
+use Rattle.nf_defs.specs.Prelude.{by_order, child_of, filled, found_from, is_folder, is_folder_kind, is_under, key_cmp, mount_key, node_key, node_row, put, Tables, walk_of}
 use Rattle.nf_defs.specs.declared.Found.{Found}
 use Rattle.nf_defs.specs.declared.Found.TheVariants.{At, Free, Missing}
-use Rattle.nf_defs.specs.declared.Seeker.{Seeker}
-use Rattle.nf_defs.specs.declared.Seeker.TheVariants.{User}
 use Rattle.nf_laws.proofs.Climbs.{holds_some, under_climb}
+use Rattle.nf_laws.proofs.Ended.{are_ended}
 use Rattle.nf_laws.proofs.Entries.{step_changed}
 use Rattle.nf_laws.proofs.Gone.{row_cleared, row_gone}
 use Rattle.nf_laws.proofs.Lists.{put_other}
+use Rattle.nf_laws.proofs.Mounted.{not_it}
 use Rattle.nf_laws.proofs.Paths.{found_free, found_leads}
 use Rattle.nf_laws.proofs.Reading.{none_refused}
 use Rattle.nf_laws.proofs.Rows.{finds_none, row_is, stamp, stamped_some}
 use Rattle.nf_laws.proofs.Upwards.{climbed, climbs_is_under, derived}
-use Rattle.nf_laws.specs.Acts.{DeletesKeep, FoldersAreMade, IsAdded, IsDeleted, IsFolderMade, IsPut, IsRefilled, PutsAreGranted, PutsKeep}
+use Rattle.nf_laws.specs.Access.{LeadsBy}
+use Rattle.nf_laws.specs.Acts.{DeletesKeep, FoldersAreMade, IsAdded, IsDeleted, IsFolderMade, IsMountChanged, IsPut, IsRefilled, LeadsToKeyBy, MountsAreLeft, MountsAreRenamed, PutsAreGranted, PutsKeep}
 use Rattle.nf_laws.specs.Reads.{LeadsToKey}
+use Rattle.nf_laws.specs.Tree.{Under}
 use Rattle.nf_laws.specs.Walks.{LeadsToFree}
+use Rattle.nf_words.proofs.Begins.{only_at, places_at}
 use Rattle.nf_words.proofs.Bodies.{content_decides}
 use Rattle.nf_words.proofs.Ends.{known_change, goal_held}
 use Rattle.nf_words.proofs.Fits.{newest, put_found}
-use Rattle.nf_words.proofs.Found.{free_known}
+use Rattle.nf_words.proofs.Found.{free_known, last_more, last_of}
 use Rattle.nf_words.proofs.Known.{Known}
-use Rattle.nf_words.proofs.Passing.{call_passes, place_passes}
-use Rattle.nf_words.proofs.Starts.{from_root, led_from_root}
-use Rattle.nf_words.specs.Prelude.{access_of, actor_of, allowed_of, answered_by, AreSound, asker_of, blob_after, blob_for, Call, call_decision, call_of, changed, content_in, decision_of, end_refusal, ends_at, exists_rule, found, IsHeld, IsStorable, last_name, lost, makes, MayAsk, MayEnd, new_node, place_rule, refilled, refusal_of, removed, root_of, seeker_of, step, stored, stored_at, stores, taken, told, Way}
+use Rattle.nf_words.proofs.Mounting.{IsOwnMount, mount_found, own_known}
+use Rattle.nf_words.proofs.Passing.{call_passes, Passes, place_passes, PlacePasses}
+use Rattle.nf_words.proofs.Starts.{has_row, row_of_caller}
+use Rattle.nf_words.specs.Prelude.{access_of, allowed_of, answered_by, AreSound, asked_of, asker_of, blob_after, blob_for, by_of, Call, call_decision, call_of, changed, closed_under, content_in, decision_of, deleted, dropped_under, end_refusal, ends_at, exists_rule, found, given, gone_under, IsHeld, IsStorable, last_name, left_row, made_folder, makes, MayAsk, MayEnd, MayWant, mount_left, mount_of, mount_renamed, moved, named_row, new_node, node_at, own_mount, refilled, refusal_of, removed, root_of, seeker_of, source_lost, step, stored, stored_at, stores, taken, target_lost, told, transfer_of, user_of, way_by, way_of, with_mount_row}
 use Rattle.nf_words.specs.declared.answer.Allowed.{Allowed}
 use Rattle.nf_words.specs.declared.answer.Allowed.TheVariants as allowed
 use Rattle.nf_words.specs.declared.answer.Denial.{Denial}
-use Rattle.nf_words.specs.declared.answer.By.{By}
 use Rattle.nf_words.specs.declared.answer.Goal.{Goal}
 use Rattle.nf_words.specs.declared.answer.LockKey.{LockKey}
 use Rattle.nf_words.specs.declared.answer.LockKey.TheVariants.{Node, Slot}
-use Rattle.nf_words.specs.declared.answer.Report.TheVariants.{Done}
+use Rattle.nf_words.specs.declared.answer.Report.{Report}
+use Rattle.nf_words.specs.declared.answer.Report.TheVariants.{Done, Made}
 use Rattle.nf_words.specs.declared.history.Event.TheVariants.{Begin, End}
 use Rattle.nf_words.specs.declared.history.Outcome.TheVariants.{Body}
 use Rattle.nf_words.specs.declared.request.Making.TheVariants as making
 use Rattle.nf_words.specs.declared.request.Spot.{Spot}
+use Rattle.nf_words.specs.declared.request.Wanted.{Wanted}
 use Rattle.nf_words.specs.declared.request.Wanted.TheVariants as wanted
-use Rattle.std.specs.Option.{IfSome}
 
 -- ---- a call that isn't refused
 
--- may do what is given, and passes the rules of the places
+-- may do what is given, and passes the rules
 accepted : (call : Call) → IsOk (answered_by (call_decision call))
-    → (call_decision call ≡ Ok (allowed_of (access_of call.state) call)) × (place_rule (access_of call.state) call ≡ None)
-    × (exists_rule (access_of call.state) call ≡ None)
+    → (call_decision call ≡ Ok (allowed_of (access_of call.state) call)) × Passes (access_of call.state) call
 accepted call ok =
     let access = access_of call.state in
-    let is = none_refused (refusal_of access call) (allowed_of access call) ok in
-    let passes = (call_passes call (allowed_of access call) is).0 in (is, passes.place, passes.exists)
+    let is = none_refused (refusal_of access call) (allowed_of access call) ok in (is, (call_passes call (allowed_of access call) is).0)
+
+-- what it may do is what is given for what it wants
+given_for : (call : Call) (wanted : Wanted) → call.request.wanted ≡ wanted
+    → allowed_of (access_of call.state) call ≡ given (access_of call.state) call (places_at call wanted) wanted
+given_for call wanted asked = ap (λ (w : Wanted). given (access_of call.state) call (places_at call w) w) asked
+
+-- and what it passes of the places is what is asked of them
+placed : (call : Call) (wanted : Wanted) → call.request.wanted ≡ wanted → Passes (access_of call.state) call
+    → PlacePasses (access_of call.state) call (asked_of wanted)
+placed call wanted asked passes =
+    subst (λ (w : Wanted). PlacePasses (access_of call.state) call (asked_of w)) asked (place_passes (access_of call.state) call passes.place)
+
+-- what is asked for is there, where no rule refuses the place
+there_at : (place : Found) → source_lost place ≡ None → (node : ℕ) × (place ≡ At node)
+there_at (At node) none = (node, refl)
+there_at (Free folder) none = absurd (cc)
+there_at (Missing depth) none = absurd (cc)
+
+-- ---- where a path leads
+
+module _ (call : Call) (spot : Spot) (sound : AreSound call.state.tables) where
+  abbrev t : Tables
+  t = call.state.tables
+
+  abbrev lead : Option ℕ → Found
+  lead mount = (way_by t.nodes (root_of call) spot.path mount).place
+
+  leads_by : (node : ℕ) → found call spot ≡ At node → LeadsBy call spot (mount_of call spot) node
+  leads_by node is = here (mount_of call spot) is
+    where
+      here : (mount : Option ℕ) → lead mount ≡ At node → LeadsBy call spot mount node
+      here None is = found_leads t (root_of call) spot.path node sound is
+      here (Some mount) is = found_leads t mount (drop 1 spot.path) node sound is
+
+  -- the name at the end of a path
+  last_is : (front : List (List ℕ)) (last : List ℕ) (path : List (List ℕ)) → path ≡ front ++ last ∷ [] → last_of path ≡ last
+  last_is front last path parts =
+      let counted : length (front ++ last ∷ []) - 1 ≡ length front = omega (arith, length-append front (last ∷ [])) in
+      ap (λ (path : List (List ℕ)). unwrap_or (slice_get path (length path - 1)) []) parts
+      ∙ unwrap_or-slice_get (front ++ last ∷ []) (length (front ++ last ∷ []) - 1) []
+      ∙ ap (λ (k : ℕ). get_or (front ++ last ∷ []) k []) counted
+      ∙ get_or-append_seam front last [] []
+
+  free_key : (from folder : ℕ) (path : List (List ℕ)) → last_of path ≡ last_name spot → LeadsToFree t.nodes from path folder
+      → LeadsToKey t.nodes from path (Slot folder (last_name spot))
+  free_key from folder path named free =
+      let last = last_is free.front free.last path free.parts in
+      (free.front, free.parts ∙ ap (λ (name : List ℕ). free.front ++ name ∷ []) (sym last ∙ named), free.led)
+
+  -- behind a first name the last is the same, where there are more
+  rest_of : (path : List (List ℕ)) (mount folder : ℕ) → found_from t.nodes 0 mount (drop 1 path) ≡ Free folder → last_of (drop 1 path) ≡ last_of path
+  rest_of [] mount folder leads = refl
+  rest_of (first ∷ []) mount folder leads = absurd (cc)
+  rest_of (first ∷ second ∷ rest) mount folder leads = sym (last_more first second rest)
+
+  frees_by : (folder : ℕ) → found call spot ≡ Free folder
+      → LeadsToKeyBy call spot (mount_of call spot) (Slot folder (last_name spot)) × (is_folder t.nodes folder ≡ true)
+      × (child_of t.nodes folder (last_name spot) ≡ None)
+  frees_by folder is = here (mount_of call spot) is
+    where
+      here : (mount : Option ℕ) → lead mount ≡ Free folder
+          → LeadsToKeyBy call spot mount (Slot folder (last_name spot)) × (is_folder t.nodes folder ≡ true) × (child_of t.nodes folder (last_name spot) ≡ None)
+      here None is =
+          let known = free_known t.nodes 0 (root_of call) spot.path folder is in
+          (free_key (root_of call) folder spot.path refl (found_free t (root_of call) spot.path folder sound is), known.0, known.1)
+      here (Some mount) is =
+          let known = free_known t.nodes 0 mount (drop 1 spot.path) folder is in
+          let named = rest_of spot.path mount folder is in (
+            free_key mount folder (drop 1 spot.path) named (found_free t mount (drop 1 spot.path) folder sound is),
+            known.0,
+            ap (child_of t.nodes folder) (sym named) ∙ known.1,
+          )
+
+  -- the mount that a way goes by is that of its path
+  way_mount : (way_of call spot).mount ≡ mount_of call spot
+  way_mount = here (mount_of call spot)
+    where
+      here : (mount : Option ℕ) → (way_by t.nodes (root_of call) spot.path mount).mount ≡ mount
+      here None = refl
+      here (Some mount) = refl
+
+-- who asks is the user of the call
+asks_is : (call : Call) → MayWant call.request → Passes (access_of call.state) call → user_of call ≡ Some (asker_of call)
+asks_is call may passes =
+    let row = has_row call may passes.not_you in
+    (row_of_caller call.state.tables.users (user_of call) row.0 row.1).0
+    ∙ ap Some (sym (ap (λ (o : Option UserRow). option_map_or (λ row. row.id) o 0) row.1))
 
 -- ---- DELETE
 
 -- all that is told of it
-some_dropped : (rows : List NodeRow) (top : ℕ) → 1 ≤ length (map (λ node. Drop (keys.Node node)) (walk_of rows top))
-some_dropped rows top =
-    omega (arith, length-map (walk_of rows top) (λ node. Drop (keys.Node node)), (climbs_walk 0 rows top top (omega arith) refl).1)
+pub some_told : (t : Tables) (top : ℕ) → 1 ≤ length (gone_under t.nodes t.shares top)
+some_told t top =
+    omega (
+      arith,
+      length-append (dropped_under t.nodes top) (closed_under t.nodes t.shares top),
+      length-map (walk_of t.nodes top) (λ node. Drop (keys.Node node)),
+      (climbs_walk 0 t.nodes top top (omega arith) refl).1,
+    )
 
-deleted_rows : (t : Tables) (now top root : ℕ) (path : List (List ℕ)) → AreSound t → Leads t.nodes root path top
-    → IsDeleted t (stamp (removed t top) now) now root path
-deleted_rows t now top root path sound led = record {
+deleted_rows : (call : Call) (spot : Spot) (top : ℕ) → AreSound call.state.tables → LeadsBy call spot (mount_of call spot) top
+    → IsDeleted call spot (stamp (removed call.state.tables top) call.now)
+deleted_rows call spot top sound led = record {
   top = top;
   led = led;
-  gone = λ node under. let c = climbed t.nodes top node under in row_gone t.nodes (Some top) node (climbs_is_under c.0 t node top sound c.1);
-  others = λ node outside.
-      row_cleared t.nodes (Some top) node
-      (false_from_ne_true (is_under t.nodes node top) (λ is.
-      let c = under_climb t.nodes node top is in outside (derived c.0 t.nodes top node c.2)));
+  gone = λ node under. row_gone t.nodes (Some top) node (under_is node under);
+  others = λ node outside. row_cleared t.nodes (Some top) node (outside_is node outside);
+  shares = are_ended (λ node. is_under t.nodes node top) (Under t.nodes top) t.shares under_is outside_is;
   rest = refl;
 }
-
--- a DELETE that is accepted is of the node to which its path leads
-deletes_at : (call : Call) (spot : Spot) → call.request.wanted ≡ wanted.Delete spot → place_rule (access_of call.state) call ≡ None
-    → (top : ℕ) × (found call spot ≡ At top) × (allowed_of (access_of call.state) call ≡ allowed.Delete top)
-deletes_at call spot asked passes = here (found call spot) refl (rw asked at (place_passes (access_of call.state) call passes))
   where
-    here : (place : Found) → found call spot ≡ place → lost (record { source = Some place; target = None }) ≡ None
-        → (top : ℕ) × (found call spot ≡ At top) × (allowed_of (access_of call.state) call ≡ allowed.Delete top)
-    here (At top) e none = (top, e, rw (asked, e) refl)
-    here (Free folder) e none = absurd (cc)
-    here (Missing depth) e none = absurd (cc)
+    t : Tables
+    t = call.state.tables
+
+    under_is : (node : ℕ) → Under t.nodes top node → is_under t.nodes node top ≡ true
+    under_is node under = let c = climbed t.nodes top node under in climbs_is_under c.0 t node top sound c.1
+
+    outside_is : (node : ℕ) → (Under t.nodes top node → ⊥) → is_under t.nodes node top ≡ false
+    outside_is node outside =
+        false_from_ne_true (is_under t.nodes node top) (λ is.
+        let c = under_climb t.nodes node top is in outside (derived c.0 t.nodes top node c.2))
 
 pub deletes_keep : DeletesKeep
-deletes_keep s seat now words request spot sound may asked ok =
+deletes_keep s seat now words request spot sound may asked other ok =
     let call = call_of s seat now words request in
     let t = s.tables in
     let is = accepted call ok in
-    let at = deletes_at call spot asked is.1 in
+    let at = there_at (found call spot) (placed call (wanted.Delete spot) asked is.1).there in
     let act = allowed.Delete at.0 in
+    let gives : allowed_of (access_of s) call ≡ act =
+    given_for call (wanted.Delete spot) asked
+    ∙ ap (λ (b : Bool). if b then mount_left call (way_of call spot) else deleted (node_at (only_at b (found call spot)).source)) other
+    ∙ ap (λ (place : Found). deleted (node_at (Some place))) at.1 in
     let becomes : (step s seat now (Begin words request)).tables ≡ stamp (removed t at.0) now =
-    step_changed s seat now (Begin words request) act (is.0 ∙ ap (λ (a : Allowed). Ok a) at.2)
-    ∙ stamped_some t (removed t at.0) now (told t act) (some_dropped t.nodes at.0) in
-    subst (λ (made : Tables). IsDeleted t made now (root_of call) spot.path) (sym becomes)
-    (deleted_rows t now at.0 (root_of call) spot.path sound.rows (found_leads t (root_of call) spot.path at.0 sound.rows (led_from_root call spot (At at.0) sound.rows at.1)))
+    step_changed s seat now (Begin words request) act (is.0 ∙ ap (λ (a : Allowed). Ok a) gives)
+    ∙ stamped_some t (removed t at.0) now (told t act) (some_told t at.0) in
+    subst (λ (made : Tables). IsDeleted call spot made) (sym becomes)
+    (deleted_rows call spot at.0 sound.rows (leads_by call spot sound.rows at.0 at.1))
+
+-- ---- a mount itself
+
+-- a row that is put is none of another mount's
+mount_other : (row : MountRow) (old : List MountRow) (user node : ℕ) → (user ≡ row.user → node ≡ row.node → ⊥)
+    → mount_row (put mount_key row old) user node ≡ mount_row old user node
+mount_other row [] user node differs = rw (not_it row user node (λ a b. differs (sym a) (sym b))) refl
+mount_other row (x ∷ old) user node differs = here (key_cmp (mount_key row) (mount_key x)) refl (mount_other row old user node differs)
+  where
+    fails : is_mount_of user node row ≡ false
+    fails = not_it row user node (λ a b. differs (sym a) (sym b))
+
+    here : (o : Ordering) → key_cmp (mount_key row) (mount_key x) ≡ o → mount_row (put mount_key row old) user node ≡ mount_row old user node
+        → mount_row (by_order o (row ∷ x ∷ old) (row ∷ old) (x ∷ put mount_key row old)) user node ≡ mount_row (x ∷ old) user node
+    here Less e rest = simp fails refl
+    here Equal e rest =
+        let keyed : row.user ∷ row.node ∷ [] ≡ x.user ∷ x.node ∷ [] =
+        (bytes_eq-Decides (mount_key row) (mount_key x)).0 (equal_bytes (mount_key row) (mount_key x) Equal e) in
+        let same_user : row.user ≡ x.user = cc in
+        let same_node : row.node ≡ x.node = cc in
+        let other = not_it x user node (λ a b. differs (sym (same_user ∙ a)) (sym (same_node ∙ b))) in
+        simp (fails, other)
+    here Greater e rest = ap (λ (o : Option MountRow). if is_mount_of user node x then Some x else o) rest
+
+-- the caller's mount whose own path that is has another row
+remounts : (call : Call) (spot : Spot) (change : MountRow → MountRow) (report : Report) → AreSound call.state.tables
+    → user_of call ≡ Some (asker_of call) → (way_of call spot).itself ≡ true
+    → ((row : MountRow) → (change row).user ≡ row.user) → ((row : MountRow) → (change row).node ≡ row.node)
+    → IsMountChanged call spot
+    (changed call.state.tables call.now (with_mount_row (option_map change (own_mount call (way_of call spot).mount)) report)) change
+remounts call spot change report sound asks itself users nodes =
+    subst (λ (o : Option MountRow). IsMountChanged call spot (changed t call.now (with_mount_row (option_map change o) report)) change)
+    (sym (ap (own_mount call) own.by ∙ own.there))
+    (record {
+      user = asker_of call;
+      caller = asks;
+      node = own.node;
+      by = sym (way_mount call spot sound) ∙ own.by;
+      row = own.row;
+      there = own.there;
+      shown = own.shown;
+      itself = subst (λ (n : ℕ). mount_row (put mount_key new t.mounts) (asker_of call) n ≡ Some new) of_node
+          (subst (λ (n : ℕ). mount_row (put mount_key new t.mounts) n new.node ≡ Some new) of_user (mount_found new t.mounts));
+      others = λ owner other differs.
+          mount_other new t.mounts owner other (λ a b. differs (a ∙ of_user) (b ∙ of_node));
+      rest = refl;
+    })
+  where
+    t : Tables
+    t = call.state.tables
+
+    own : IsOwnMount call spot sound
+    own = own_known call spot sound itself
+
+    new : MountRow
+    new = change own.row
+
+    of_user : new.user ≡ asker_of call
+    of_user = users own.row ∙ own.user
+
+    of_node : new.node ≡ own.node
+    of_node = nodes own.row ∙ own.of_node
+
+pub mounts_left : MountsAreLeft
+mounts_left s seat now words request spot sound may asked itself ok =
+    let call = call_of s seat now words request in
+    let is = accepted call ok in
+    let act = mount_left call (way_of call spot) in
+    let gives : allowed_of (access_of s) call ≡ act =
+    given_for call (wanted.Delete spot) asked
+    ∙ ap (λ (b : Bool). if b then act else deleted (node_at (only_at b (found call spot)).source)) itself in
+    subst (λ (made : Tables). IsMountChanged call spot made left_row)
+    (sym (step_changed s seat now (Begin words request) act (is.0 ∙ ap (λ (a : Allowed). Ok a) gives)))
+    (remounts call spot left_row Done sound.rows (asks_is call may.1 is.1) itself (λ row. refl) (λ row. refl))
+
+pub mounts_renamed : MountsAreRenamed
+mounts_renamed s seat now words request source target overwrite sound may asked itself ok =
+    let call = call_of s seat now words request in
+    let is = accepted call ok in
+    let act = mount_renamed call (way_of call source) (last_name target) in
+    let wants = wanted.Move source target overwrite in
+    let gives : allowed_of (access_of s) call ≡ act =
+    given_for call wants asked
+    ∙ ap (λ (b : Bool). if b then act else moved s.tables now (last_name target) (transfer_of s.tables.nodes (places_at call wants))) itself in
+    subst (λ (made : Tables). IsMountChanged call source made (named_row (last_name target)))
+    (sym (step_changed s seat now (Begin words request) act (is.0 ∙ ap (λ (a : Allowed). Ok a) gives)))
+    (remounts call source (named_row (last_name target)) Made sound.rows (asks_is call may.1 is.1) itself (λ row. refl) (λ row. refl))
 
 -- ---- a node more
 
@@ -136,100 +327,72 @@ added_rows t now folder name kind content blob sound folds free counts =
 -- ---- MKCOL
 
 -- a MKCOL that is accepted makes a folder under the free name at the end of its path
-makes_at : (call : Call) (spot : Spot) → call.request.wanted ≡ wanted.Mkcol spot
-    → place_rule (access_of call.state) call ≡ None → exists_rule (access_of call.state) call ≡ None
+makes_at : (call : Call) (spot : Spot) → call.request.wanted ≡ wanted.Mkcol spot → Passes (access_of call.state) call
     → (folder : ℕ) × (found call spot ≡ Free folder)
     × (allowed_of (access_of call.state) call ≡ makes (new_node call.state.tables call.now folder (last_name spot) Folder []) None)
 unfolding exists_rule
-makes_at call spot asked passes free =
-    here (found call spot) refl (rw asked at (place_passes (access_of call.state) call passes)) (rw asked at free)
+makes_at call spot asked passes =
+    here (found call spot) refl (placed call (wanted.Mkcol spot) asked passes).in_folder
+    (subst (λ (w : Wanted). taken t.nodes (places_at call w) (asked_of w).makes ≡ None) asked passes.exists)
   where
     t : Tables
     t = call.state.tables
 
-    here : (place : Found) → found call spot ≡ place → lost (record { source = None; target = Some place }) ≡ None
-        → taken t.nodes (record { source = None; target = Some place }) making.Folder ≡ None
+    here : (place : Found) → found call spot ≡ place → target_lost place ≡ None
+        → taken t.nodes (record { source = None; target = Some (found call spot) }) making.Folder ≡ None
         → (folder : ℕ) × (found call spot ≡ Free folder)
         × (allowed_of (access_of call.state) call ≡ makes (new_node t call.now folder (last_name spot) Folder []) None)
-    here (At node) e there free = absurd (cc)
-    here (Free folder) e there free = (folder, e, rw (asked, e) refl)
+    here (At node) e there free =
+        let none = subst (λ (place : Found). taken t.nodes (record { source = None; target = Some place }) making.Folder ≡ None) e free in absurd (cc)
+    here (Free folder) e there free =
+        (folder, e, given_for call (wanted.Mkcol spot) asked ∙ ap (λ (place : Found). made_folder t call.now (last_name spot) (Some place)) e)
     here (Missing depth) e there free = absurd (cc)
-
--- the name at the end of a path
-last_is : (front : List (List ℕ)) (last : List ℕ) (spot : Spot) → spot.path ≡ front ++ last ∷ [] → last_name spot ≡ last
-last_is front last spot parts =
-    let counted : length (front ++ last ∷ []) - 1 ≡ length front = omega (arith, length-append front (last ∷ [])) in
-    ap (λ (path : List (List ℕ)). unwrap_or (slice_get path (length path - 1)) []) parts
-    ∙ unwrap_or-slice_get (front ++ last ∷ []) (length (front ++ last ∷ []) - 1) []
-    ∙ ap (λ (k : ℕ). get_or (front ++ last ∷ []) k []) counted
-    ∙ get_or-append_seam front last [] []
-
-free_key : (t : Tables) (root folder : ℕ) (spot : Spot) → LeadsToFree t.nodes root spot.path folder
-    → LeadsToKey t.nodes root spot.path (Slot folder (last_name spot))
-free_key t root folder spot free =
-    let last = last_is free.front free.last spot free.parts in
-    (free.front, free.parts ∙ ap (λ (name : List ℕ). free.front ++ name ∷ []) (sym last), free.led)
 
 pub folders_made : FoldersAreMade
 folders_made s seat now words request spot sound may asked ok =
     let call = call_of s seat now words request in
     let t = s.tables in
     let is = accepted call ok in
-    let at = makes_at call spot asked is.1 is.2 in
+    let at = makes_at call spot asked is.1 in
     let folder = at.0 in
-    let row = new_node t now folder (last_name spot) Folder [] in
-    let act = makes row None in
+    let act = makes (new_node t now folder (last_name spot) Folder []) None in
     let decides : decision_of s seat now (Begin words request) ≡ Ok act = is.0 ∙ ap (λ (a : Allowed). Ok a) at.2 in
-    let led = led_from_root call spot (Free folder) sound.rows at.1 in
-    let free = free_known t.nodes 0 (root_of call) spot.path folder led in
-    subst (λ (made : Tables). IsFolderMade t made now (root_of call) spot.path) (sym (step_changed s seat now (Begin words request) act decides))
+    let free = frees_by call spot sound.rows folder at.1 in
+    subst (λ (made : Tables). IsFolderMade call spot made) (sym (step_changed s seat now (Begin words request) act decides))
     (record {
       folder = folder;
       name = last_name spot;
-      led = free_key t (root_of call) folder spot (found_free t (root_of call) spot.path folder sound.rows led);
-      added = added_rows t now folder (last_name spot) Folder [] None sound.rows free.0 free.1 (omega arith);
+      led = free.0;
+      added = added_rows t now folder (last_name spot) Folder [] None sound.rows free.1 free.2 (omega arith);
     })
 
 -- ---- the begin of a PUT
 
--- who asks, by no mount
-abbrev alone : ℕ → By
-alone user = record { seeker = User user; mount = None }
-
-same_user : (a b : ℕ) → alone a ≡ alone b → a ≡ b
-same_user a b is = let same : ◌≡◌ {A = Seeker} (User a) (User b) = ap (λ (by : By). by.seeker) is in cc
-
 -- a PUT that is accepted is granted at the end of its path
 grants_at : (call : Call) (spot : Spot) (size : ℕ) → AreSound call.state.tables → call.request.wanted ≡ wanted.Put spot size
-    → place_rule (access_of call.state) call ≡ None
-    → (key : LockKey) × LeadsToKey call.state.tables.nodes (root_of call) spot.path key
-    × (allowed_of (access_of call.state) call ≡ allowed.Put (alone (asker_of call)) key size)
+    → Passes (access_of call.state) call
+    → (key : LockKey) × LeadsToKeyBy call spot (mount_of call spot) key
+    × (allowed_of (access_of call.state) call ≡ allowed.Put (by_of call spot) key size)
 grants_at call spot size sound asked passes =
-    here (found call spot) refl (rw asked at (place_passes (access_of call.state) call passes))
+    here (found call spot) refl (placed call (wanted.Put spot size) asked passes).in_folder
   where
-    t : Tables
-    t = call.state.tables
-
-    by : By
-    by = alone (asker_of call)
-
-    puts : (key : LockKey) (place : Found) → found call spot ≡ place → stored by (last_name spot) size (Some place) ≡ allowed.Put by key size
-        → allowed_of (access_of call.state) call ≡ allowed.Put by key size
+    puts : (key : LockKey) (place : Found) → found call spot ≡ place
+        → stored (by_of call spot) (last_name spot) size (Some place) ≡ allowed.Put (by_of call spot) key size
+        → allowed_of (access_of call.state) call ≡ allowed.Put (by_of call spot) key size
     puts key place e is =
-        rw asked
-        (ap (λ (way : Way). stored (record { seeker = seeker_of call; mount = way.mount }) (last_name spot) size (Some (found call spot)))
-        (from_root call spot sound.later)
-        ∙ ap (λ (place : Found). stored by (last_name spot) size (Some place)) e ∙ is)
+        given_for call (wanted.Put spot size) asked ∙ ap (λ (place : Found). stored (by_of call spot) (last_name spot) size (Some place)) e ∙ is
 
-    here : (place : Found) → found call spot ≡ place → lost (record { source = None; target = Some place }) ≡ None
-        → (key : LockKey) × LeadsToKey t.nodes (root_of call) spot.path key × (allowed_of (access_of call.state) call ≡ allowed.Put (alone (asker_of call)) key size)
+    node_key : (node : ℕ) (mount : Option ℕ) → LeadsBy call spot mount node → LeadsToKeyBy call spot mount (Node node)
+    node_key node None led = led
+    node_key node (Some mount) led = led
+
+    here : (place : Found) → found call spot ≡ place → target_lost place ≡ None
+        → (key : LockKey) × LeadsToKeyBy call spot (mount_of call spot) key
+        × (allowed_of (access_of call.state) call ≡ allowed.Put (by_of call spot) key size)
     here (At node) e there =
-        (Node node, found_leads t (root_of call) spot.path node sound (led_from_root call spot (At node) sound e), puts (Node node) (At node) e refl)
-    here (Free folder) e there = (
-      Slot folder (last_name spot),
-      free_key t (root_of call) folder spot (found_free t (root_of call) spot.path folder sound (led_from_root call spot (Free folder) sound e)),
-      puts (Slot folder (last_name spot)) (Free folder) e refl,
-    )
+        (Node node, node_key node (mount_of call spot) (leads_by call spot sound node e), puts (Node node) (At node) e refl)
+    here (Free folder) e there =
+        (Slot folder (last_name spot), (frees_by call spot sound folder e).0, puts (Slot folder (last_name spot)) (Free folder) e refl)
     here (Missing depth) e there = absurd (cc)
 
 pub puts_granted : PutsAreGranted
@@ -237,16 +400,17 @@ puts_granted s seat now words request spot size sound may asked ok =
     let call = call_of s seat now words request in
     let is = accepted call ok in
     let at = grants_at call spot size sound.rows asked is.1 in
-    let act = allowed.Put (alone (asker_of call)) at.0 size in
+    let act = allowed.Put (by_of call spot) at.0 size in
     let decides : decision_of s seat now (Begin words request) ≡ Ok act = is.0 ∙ ap (λ (a : Allowed). Ok a) at.2 in
-    let known = known_change s seat now (Begin words request) act sound may decides in
-    let mine : alone (asker_of call) ≡ alone known.path.row.id = known.storer in
     record {
       user = asker_of call;
-      caller = known.path.caller ∙ ap (λ (n : ℕ). Some n) (sym (same_user (asker_of call) known.path.row.id mine));
+      caller = asks_is call may.1 is.1;
+      mount = mount_of call spot;
+      by = refl;
       key = at.0;
       led = at.1;
-      granted = ap answered_by decides;
+      granted = ap answered_by decides
+          ∙ ap (λ (mount : Option ℕ). answered_by (Ok (allowed.Put (record { seeker = seeker_of call; mount = mount }) at.0 size))) (way_mount call spot sound.rows);
       rows = step_changed s seat now (Begin words request) act decides;
     }
 
@@ -313,17 +477,17 @@ over_rows t now node content blob row sound there file stored counts =
           moment = inr refl;
         }
 
-pub put_rows : (t : Tables) (now : ℕ) (who : Option ℕ) (key : LockKey) (digest : List ℕ) (size : ℕ) → AreSound t → IsHeld t key
-    → Known t now who (stored_at t now key digest size)
+pub put_rows : (t : Tables) (now : ℕ) (key : LockKey) (digest : List ℕ) (size : ℕ) → AreSound t → IsHeld t key
+    → Known t now (stored_at t now key digest size)
     → IsPut t (changed t now (stored_at t now key digest size)) now key (content_in (blob_for t.meta.next_blob size) digest size)
-put_rows t now who (Node node) digest size sound there known =
+put_rows t now (Node node) digest size sound there known =
     let blob = blob_for t.meta.next_blob size in
     let content = content_in blob digest size in
     let file = holds_some (λ row. not (is_folder_kind row.kind)) (node_row t.nodes node) there in
     subst (λ (o : Option NodeRow). IsRefilled t (changed t now (allowed.Change (refilled o now content) blob Done)) now node content) (sym file.1)
     (over_rows t now node content blob file.0 sound file.1 (not-true (is_folder_kind file.0.kind) file.2)
     (λ none. known.stored (ap (λ (o : Option NodeRow). refilled o now content) file.1 ∙ none)) (blobs_counted t.meta.next_blob size digest))
-put_rows t now who (Slot folder name) digest size sound there known =
+put_rows t now (Slot folder name) digest size sound there known =
     added_rows t now folder name File (content_in (blob_for t.meta.next_blob size) digest size) (blob_for t.meta.next_blob size) sound there.0 there.1
     (blobs_counted t.meta.next_blob size digest)
 
@@ -339,4 +503,4 @@ puts_keep s seat now by key digest size sound granted ok =
     let known = known_change s seat now event act sound may (goes ∙ none) in
     let there = subst (λ (o : Option Goal). IfSome o (IsStorable t)) granted (goal_held s seat sound) in
     subst (λ (made : Tables). IsPut t made now key (content_in (blob_for t.meta.next_blob size) digest size))
-    (sym (step_changed s seat now event act (goes ∙ none))) (put_rows t now (actor_of s seat event) key digest size sound.rows there known)
+    (sym (step_changed s seat now event act (goes ∙ none))) (put_rows t now key digest size sound.rows there known)

@@ -13,7 +13,8 @@ use Rattle.nf_base.specs.declared.rows.Place.{Place}
 use Rattle.nf_base.specs.declared.rows.Place.TheVariants.{Inside}
 use Rattle.nf_defs.specs.Prelude.{child_of, climb, depth, is_in, is_place_in, node_row, Tables}
 use Rattle.nf_laws.proofs.Climbs.{parent_at}
-use Rattle.nf_laws.proofs.Rows.{climb_kept, each_fails, finds_none, folder_kept, folder_there, found_is, kept_joined, no_others, no_value, node_kept, pieces_kept, root_kept, row_is, top_kept}
+use Rattle.nf_laws.proofs.Others.{others_still, still_more}
+use Rattle.nf_laws.proofs.Rows.{climb_kept, each_fails, finds_none, folder_kept, folder_there, found_is, kept_joined, no_value, node_kept, none_higher, pieces_kept, root_kept, row_is, top_kept}
 use Rattle.nf_laws.proofs.Upwards.{climbs_depth}
 use Rattle.nf_words.specs.Prelude.{AreApart, AreSound, HasRoot, IsBorn, IsNodeSound, IsPlaceSound}
 
@@ -91,5 +92,5 @@ born_sound t row sound born =
       few_nodes = omega (arith, born.few_nodes, length-append t.nodes (row ∷ []));
       few_pieces = omega (arith, born.few_pieces, sum_by_push (λ row. length row.content) t.nodes row);
       later = sound.later;
-      others = no_others made sound.later;
+      others = others_still t t.meta made.nodes sound (none_higher t.meta t.meta.last) (le_refl _) (still_more t row sound born);
     }

@@ -1,52 +1,65 @@
 -- Where a step makes a row another, who acts may do all that is needed, and what became of the node follows from it.
-use Rattle.std.proofs.Common.{ℕ, ◌==◌, ◌≡◌, ◌≢◌, Bool, true, false, List, [], ◌∷◌, ◌++◌, Option, None, Some, Ok, option_map, refl, sym, ap, subst, ◌∙◌, arith}
+use Rattle.std.proofs.Common.{ℕ, ◌==◌, ◌≡◌, ◌≢◌, ◌⊎◌, suc, Bool, true, false, not, List, [], ◌∷◌, ◌++◌, Option, None, Some, Ok, option_map, if◌then◌else◌, map, inl, inr, refl, sym, ap, subst, ◌∙◌, arith}
+use Rattle.std.specs.Prelude.{is_some}
 use Rattle.std.specs.List.{All}
 use Rattle.std.specs.Option.{IfSome, option_and_then, option_map_or, option_or}
-use Rattle.std.proofs.lemmas.Bool.{both_ways, cond_both, eqb-true}
-use Rattle.std.proofs.lemmas.List.Elements.{Contains-append_right}
-use Rattle.std.proofs.lemmas.Option.{none-some}
+use Rattle.std.specs.declared.cmp.Ordering.{Ordering}
+use Rattle.std.specs.declared.cmp.Ordering.TheVariants.{Equal, Less}
+use Rattle.std.proofs.lemmas.Bool.{both_ways, cases_Bool, cond_both, eq-eqb, eqb-true, false≢true}
+use Rattle.std.proofs.lemmas.Cmp.{tied_itself}
+use Rattle.std.proofs.lemmas.List.Elements.{All-head, All-tail, Contains-append_right}
+use Rattle.std.proofs.lemmas.Option.{none-some, same_Some}
+use Rattle.nf_access.specs.Mounts.{is_mount_of, mount_at, mount_row}
 use Rattle.nf_access.specs.Shares.{ground_of}
 use Rattle.nf_base.specs.declared.content.Piece.{Piece}
 use Rattle.nf_base.specs.declared.perms.Act.{Act}
 use Rattle.nf_base.specs.declared.perms.Act.TheVariants as act
+use Rattle.nf_base.specs.declared.rows.MountRow.{MountRow}
+use Rattle.nf_base.specs.declared.rows.NodeKind.{NodeKind}
 use Rattle.nf_base.specs.declared.rows.NodeKind.TheVariants.{File, Folder}
 use Rattle.nf_base.specs.declared.rows.NodeRow.{NodeRow}
 use Rattle.nf_base.specs.declared.rows.Place.{Place}
 use Rattle.nf_base.specs.declared.rows.UserRow.{UserRow}
-use Rattle.nf_defs.specs.Prelude.{content_of, is_folder, is_under, node_row, parent_of, relinked, Tables}
+use Rattle.nf_defs.proofs.Puts.{below_rest, key_total, tail_rising, turned}
+use Rattle.nf_defs.specs.Prelude.{by_order, child_of, content_of, is_folder, is_under, IsRising, key_cmp, mount_key, node_row, owner_of, parent_of, put, relinked, Tables}
 use Rattle.nf_defs.specs.declared.Found.{Found}
 use Rattle.nf_defs.specs.declared.Found.TheVariants.{At, Free, Missing}
 use Rattle.nf_defs.specs.declared.Seeker.{Seeker}
-use Rattle.nf_defs.specs.declared.Seeker.TheVariants.{User}
 use Rattle.nf_laws.proofs.Acting.{added_rows, put_rows}
-use Rattle.nf_laws.proofs.Entries.{entry_has}
-use Rattle.nf_laws.proofs.Following.{AllFollow, added_follow, copied_follow, deleted_follow, moved_follow, refilled_follow}
-use Rattle.nf_laws.proofs.Owning.{changes_own}
-use Rattle.nf_laws.proofs.Paths.{IsOf, path_own}
-use Rattle.nf_laws.proofs.Rows.{inside_folder, stamped_has}
+use Rattle.nf_laws.proofs.Entries.{entry_has, rest_kept}
+use Rattle.nf_laws.proofs.Following.{AllFollow, added_follow, copied_follow, copied_shares, crossed_follow, crossed_shares, deleted_follow, deleted_shares, kept_shares, moved_follow, moved_shares, refilled_follow}
+use Rattle.nf_laws.proofs.Reaching.{way_mount}
+use Rattle.nf_laws.proofs.Rows.{found_is, inside_folder, parent_there, stamp, stamped_has}
 use Rattle.nf_laws.proofs.Transferred.{moved_rows}
 use Rattle.nf_laws.proofs.Upwards.{climbs_is_under}
-use Rattle.nf_laws.specs.Acts.{IsPut}
-use Rattle.nf_laws.specs.Access.{ChangesWhatMayBeChanged, Follows, IsAllowed, IsNeeded, MayDo, is_moved, is_updated, needs_of, needs_of_goal, seeker_at, seeker_of_goal}
-use Rattle.nf_words.proofs.Begins.{places_at}
-use Rattle.nf_words.proofs.Ends.{goal_sound, known_change, goal_held}
-use Rattle.nf_words.proofs.Found.{free_known}
-use Rattle.nf_words.proofs.Known.{Known, KnownTransfer}
-use Rattle.nf_words.proofs.Passing.{acts_pass, call_passes, end_passes, needs_pass, no_fault, no_limit, not_refused}
-use Rattle.nf_words.proofs.Starts.{from_root, has_row, led_from_root}
-use Rattle.nf_words.proofs.Transfers.{copies_known, moved_known, transfer_parts}
-use Rattle.nf_words.specs.Prelude.{access_of, actor_of, AreSound, asked_by, asked_of, blob_for, by_of, Call, call_of, caller_row, changed, content_in, copied, copies_to, copy_limit, decision_of, deleted, end_refusal, ends_at, folder_at, found, given, goal_at, is_within, IsGoalSound, IsSound, IsStorable, joined, last_name, limit_rule, limited, listing_of, made_folder, MayAsk, MayEnd, move_limit, moved, Need, needed, needed_by, needs, needs_at, needs_between, needs_in, node_found, removed, root_of, seeker_of, served, State, stored, stored_at, target_rule, told, transfer_of, transferred, unfit, unfit_between, user_of, Way, way_of}
+use Rattle.nf_laws.specs.Acts.{IsAdded, IsPut, IsRefilled}
+use Rattle.nf_laws.specs.Access.{ChangesAllowed, ChangesWhatMayBeChanged, Follows, IsAllowed, IsNeeded, IsOwnPath, IsRemounted, MayDo, Remounts, is_left, is_moved, is_renamed, is_updated, needs_of, needs_of_goal, seeker_at, seeker_of_goal, shares_without}
+use Rattle.nf_words.proofs.Begins.{only_at, places_at, wanted_passes, WantedPasses}
+use Rattle.nf_words.proofs.Ends.{known_change, goal_held}
+use Rattle.nf_words.proofs.Fits.{within}
+use Rattle.nf_words.proofs.Known.{Known, KnownCopies, KnownTransfer}
+use Rattle.nf_words.proofs.Mounting.{mounts_differ, own_known, same_key, shown_mount}
+use Rattle.nf_words.proofs.Passing.{acts_pass, call_passes, end_passes, needs_pass, not_refused}
+use Rattle.nf_words.proofs.Starts.{has_row}
+use Rattle.nf_words.proofs.Transfers.{copies_known, no_mount, transfer_known, transfer_parts}
+use Rattle.nf_words.proofs.Ways.{slot_known, way_there}
+use Rattle.nf_words.specs.Needed.{source_act, target_needs}
+use Rattle.nf_words.specs.Prelude.{access_of, altered, AreSound, asked_of, asker_of, blob_for, by_of, Call, call_of, caller_row, carry_limit, changed, content_in, copied, copies_to, copy_limit, crosses, decision_of, deepest_in, deleted, end_refusal, ends_at, folder_at, found, given, goal_at, is_one, is_within, IsSound, IsStorable, joined, last_name, left_row, limited, listing_of, made_folder, MayAsk, MayEnd, mount_left, mount_of, mount_renamed, mounted, move_limit, moved, named_row, Need, needed, needed_by, needs, needs_at, needs_between, needs_in, node_at, node_found, own_mount, removed, root_of, seeker_of, served, State, stored, stored_at, told, transfer_of, transferred, unfit_between, unreached, Way, way_by, way_of, with_mount_row}
 use Rattle.nf_words.specs.declared.answer.Allowed.{Allowed}
 use Rattle.nf_words.specs.declared.answer.Allowed.TheVariants as allowed
 use Rattle.nf_words.specs.declared.answer.By.{By}
 use Rattle.nf_words.specs.declared.answer.Goal.{Goal}
-use Rattle.nf_words.specs.declared.answer.Goal.TheVariants.{Serve, Store}
+use Rattle.nf_words.specs.declared.answer.Goal.TheVariants.{Store}
 use Rattle.nf_words.specs.declared.answer.LockKey.{LockKey}
 use Rattle.nf_words.specs.declared.answer.LockKey.TheVariants.{Node, Slot}
+use Rattle.nf_words.specs.declared.answer.Report.{Report}
+use Rattle.nf_words.specs.declared.answer.Report.TheVariants as report
+use Rattle.nf_words.specs.declared.history.Entry.{Entry}
 use Rattle.nf_words.specs.declared.history.Event.{Event}
 use Rattle.nf_words.specs.declared.history.Event.TheVariants.{Begin, End}
 use Rattle.nf_words.specs.declared.history.Outcome.{Outcome}
 use Rattle.nf_words.specs.declared.history.Outcome.TheVariants.{Body}
+use Rattle.nf_words.specs.declared.request.Making.TheVariants as making
 use Rattle.nf_words.specs.declared.request.Places.{Places}
 use Rattle.nf_words.specs.declared.request.Spot.{Spot}
 use Rattle.nf_words.specs.declared.request.Transfer.{Transfer}
@@ -55,12 +68,51 @@ use Rattle.nf_words.specs.declared.request.Wanted.TheVariants.{Get, Put, Mkcol, 
 
 -- ---- what fits
 
--- where a row is another what became of the node follows from what is needed
-abbrev Fits : Tables → List Need → Tables → Type 0
-Fits t needs made = AllFollow needs t.nodes made.nodes
+-- where a row is another what became of the node follows from what is needed, and shares end with their nodes; the mounts are as they
+-- were, or as something else has it
+record Fits (t : Tables) (needs : List Need) (Other : Tables → Type 0) (made : Tables) : Type 0 where
+  follow : AllFollow needs t.nodes made.nodes
+  shares : made.shares ≡ shares_without t.nodes made.nodes t.shares
+  mounts : (made.mounts ≡ t.mounts) ⊎ Other made
 
-same_fits : (t : Tables) (needs : List Need) → Fits t needs t
-same_fits t needs node differs = absurd (differs refl)
+same_follow : (needs : List Need) (rows : List NodeRow) → AllFollow needs rows rows
+same_follow needs rows node differs = absurd (differs refl)
+
+same_fits : (t : Tables) (needs : List Need) (Other : Tables → Type 0) → AreSound t → Fits t needs Other t
+same_fits t needs Other sound =
+    record { follow = same_follow needs t.nodes; shares = kept_shares t t.nodes sound (λ node there. there); mounts = inl refl }
+
+-- where a node is added, or refilled
+added_fits : (t made : Tables) (now folder : ℕ) (name : List ℕ) (kind : NodeKind) (content : List Piece) (needs : List Need)
+    (Other : Tables → Type 0) → AreSound t → IsAdded t made now folder name kind content → IsNeeded needs act.Create folder
+    → Fits t needs Other made
+added_fits t made now folder name kind content needs Other sound is needed = record {
+  follow = added_follow t made now folder name kind content needs is needed;
+  shares = ap (λ (u : Tables). u.shares) is.rest ∙ kept_shares t made.nodes sound stay;
+  mounts = inl (ap (λ (u : Tables). u.mounts) is.rest);
+}
+  where
+    stay : (node : ℕ) → is_some (node_row t.nodes node) ≡ true → is_some (node_row made.nodes node) ≡ true
+    stay node there =
+        elim (cases_Bool (node == t.meta.next_node)) [
+          | inl same ↦ ap is_some (ap (node_row made.nodes) (eqb-true node t.meta.next_node same) ∙ is.itself)
+          | inr other ↦ ap is_some (is.others node (λ e. both_ways (node == t.meta.next_node) other (eq-eqb node t.meta.next_node e))) ∙ there
+        ]
+
+refilled_fits : (t made : Tables) (now node : ℕ) (content : List Piece) (needs : List Need) (Other : Tables → Type 0) → AreSound t
+    → IsRefilled t made now node content → IsNeeded needs act.Update node → Fits t needs Other made
+refilled_fits t made now node content needs Other sound is needed = record {
+  follow = refilled_follow t made now node content needs is needed;
+  shares = ap (λ (u : Tables). u.shares) is.rest ∙ kept_shares t made.nodes sound stay;
+  mounts = inl (ap (λ (u : Tables). u.mounts) is.rest);
+}
+  where
+    stay : (other : ℕ) → is_some (node_row t.nodes other) ≡ true → is_some (node_row made.nodes other) ≡ true
+    stay other there =
+        elim (cases_Bool (other == node)) [
+          | inl same ↦ ap is_some (ap (node_row made.nodes) (eqb-true other node same) ∙ is.itself)
+          | inr differs ↦ ap is_some (is.others other (λ e. both_ways (other == node) differs (eq-eqb other node e))) ∙ there
+        ]
 
 -- the first of what is needed
 first_needed : (need : Need) (others : List Need) → IsNeeded (need ∷ others) need.act need.node
@@ -69,21 +121,84 @@ first_needed need others = (need.mount, (0, omega arith, refl))
 second_needed : (first need : Need) (others : List Need) → IsNeeded (first ∷ need ∷ others) need.act need.node
 second_needed first need others = (need.mount, (1, omega arith, refl))
 
--- ---- what is needed where no mount is
+-- ---- another row of a mount
 
-abbrev unmounted : Found → Way
-unmounted place = record { mount = None; itself = false; place = place }
+-- it is put where the old one was
+remounted_rows : (row old : MountRow) (rows : List MountRow) → IsRising mount_key rows → mount_row rows row.user row.node ≡ Some old
+    → put mount_key row rows ≡ map (λ other. if is_mount_of row.user row.node other then row else other) rows
+remounted_rows row old [] rising is = absurd (none-some old is)
+remounted_rows row old (x ∷ rows) rising is =
+    elim (cases_Bool (sought x)) [
+      | inl first ↦
+          (let equal : key_cmp (mount_key row) (mount_key x) ≡ Equal =
+          ap (key_cmp (mount_key row)) (key_is x first) ∙ tied_itself key_total (mount_key row) in
+          ap choice equal ∙ simp first (ap (λ (rest : List MountRow). row ∷ rest) (sym (none_sought rows (λ k d within.
+          mounts_differ (x ∷ rows) row.user row.node rising 0 (suc k) d (omega arith) (omega arith) first)))))
+      | inr other ↦
+          (let found : mount_row rows row.user row.node ≡ Some old = simp other at is in
+          let at = found_is (λ (y : MountRow). key_cmp (mount_key x) (mount_key y) ≡ Less) sought rows old (below_rest mount_key x rows rising) found in
+          let less : key_cmp (mount_key x) (mount_key row) ≡ Less = ap (key_cmp (mount_key x)) (sym (key_is old at.0)) ∙ at.1 in
+          ap choice (turned (mount_key x) (mount_key row) Less less)
+          ∙ simp other (ap (λ (rest : List MountRow). x ∷ rest) (remounted_rows row old rows (tail_rising mount_key x rows rising) found)))
+    ]
+  where
+    sought : MountRow → Bool
+    sought = is_mount_of row.user row.node
 
-abbrev need_of : Act → ℕ → Need
-need_of act node = record { act = act; node = node; mount = None }
+    choice : Ordering → List MountRow
+    choice o = by_order o (row ∷ x ∷ rows) (row ∷ rows) (x ∷ put mount_key row rows)
 
--- of what is moved, within its folder or to another, and of what is copied
-abbrev moved_needs : Bool → Transfer → List Need
-moved_needs true transfer = need_of act.Update transfer.node ∷ needs act.Delete transfer.replaced None
-moved_needs false transfer = need_of act.Delete transfer.node ∷ need_of act.Create transfer.folder ∷ needs act.Delete transfer.replaced None
+    key_is : (y : MountRow) → sought y ≡ true → mount_key y ≡ mount_key row
+    key_is y passes = same_key row.user row.node y row passes (itself (eq-eqb row.user row.user refl) (eq-eqb row.node row.node refl))
+      where
+        itself : (row.user == row.user) ≡ true → (row.node == row.node) ≡ true → sought row ≡ true
+        itself user node = rw (user, node) refl
 
-abbrev copied_needs : Transfer → List Need
-copied_needs transfer = need_of act.Read transfer.node ∷ need_of act.Create transfer.folder ∷ needs act.Delete transfer.replaced None
+    none_sought : (rows : List MountRow) → All (λ (y : MountRow). sought y ≡ false) rows
+        → map (λ other. if sought other then row else other) rows ≡ rows
+    none_sought [] none = refl
+    none_sought (y ∷ rows) none =
+        let None : MountRow → Type 0 = λ y. sought y ≡ false in
+        simp (All-head None y rows none) (ap (λ (rest : List MountRow). y ∷ rest) (none_sought rows (All-tail None y rows none)))
+
+-- the one name of a mount's own path is the mount's
+path_named : (t : Tables) (user root : ℕ) (path : List (List ℕ)) (node : ℕ) (row : MountRow) → AreSound t → is_one path ≡ true
+    → mounted t.nodes t.mounts user root path ≡ Some node → mount_row t.mounts user node ≡ Some row → path ≡ row.name ∷ []
+path_named t user root [] node row sound one by there = absurd (false≢true one)
+path_named t user root (name ∷ []) node row sound one by there =
+    let shown = shown_mount t user name node sound (unless (is_some (child_of t.nodes root name)) by) in
+    let same : shown.0 ≡ row = same_Some shown.0 row (sym shown.1 ∙ there) in
+    ap (λ (n : List ℕ). n ∷ []) (sym shown.4 ∙ ap (λ (r : MountRow). r.name) same)
+  where
+    unless : (b : Bool) → (if b then None else mount_at t.mounts user name) ≡ Some node → mount_at t.mounts user name ≡ Some node
+    unless true is = absurd (none-some node is)
+    unless false is = is
+path_named t user root (name ∷ other ∷ names) node row sound one by there = absurd (false≢true one)
+
+-- of a call one mount is another, whose own path it names
+record OneMount (call : Call) (made : Tables) : Type 0 where
+  old : MountRow
+  row : MountRow
+  there : mount_row call.state.tables.mounts old.user old.node ≡ Some old
+  becomes : Remounts call old row
+  mounts : made.mounts ≡ map (λ other. if is_mount_of old.user old.node other then row else other) call.state.tables.mounts
+  nodes : made.nodes ≡ call.state.tables.nodes
+  shares : made.shares ≡ call.state.tables.shares
+
+-- ---- what is needed of transfers
+
+abbrev need_of : Act → ℕ → Option ℕ → Need
+need_of act node mount = record { act = act; node = node; mount = mount }
+
+-- of what is moved, within its folder or to another, and of what is copied, by the mounts of both ways
+abbrev moved_needs : Bool → Option ℕ → Option ℕ → Transfer → List Need
+moved_needs true from to transfer = need_of act.Update transfer.node from ∷ needs act.Delete transfer.replaced to
+moved_needs false from to transfer =
+    need_of act.Delete transfer.node from ∷ need_of act.Create transfer.folder to ∷ needs act.Delete transfer.replaced to
+
+abbrev copied_needs : Option ℕ → Option ℕ → Transfer → List Need
+copied_needs from to transfer =
+    need_of act.Read transfer.node from ∷ need_of act.Create transfer.folder to ∷ needs act.Delete transfer.replaced to
 
 -- a transfer and the places that it is between
 record IsBetween (rows : List NodeRow) (from to : Found) (transfer : Transfer) : Type 0 where
@@ -97,30 +212,31 @@ between rows (At node) to transfer is =
     let parts = transfer_parts rows node to transfer is in record { source = ap At parts.0; replaced = parts.1; folder = parts.2 }
 between rows nowhere to transfer is = absurd (none-some transfer is)
 
-move_needs : (rows : List NodeRow) (root : ℕ) (source target : Spot) (overwrite : Bool) (from to : Found) (transfer : Transfer) (b : Bool)
-    → IsBetween rows from to transfer → is_within rows root (Some (unmounted from)) (Some (unmounted to)) ≡ b
-    → needs_between rows root (asked_of (Move source target overwrite)) (Some (unmounted from)) (Some (unmounted to)) ≡ moved_needs b transfer
-move_needs rows root source target overwrite from to transfer true is within = rw (within, is.source, is.replaced) refl
-move_needs rows root source target overwrite from to transfer false is within = rw (within, is.source, is.replaced, is.folder) refl
+move_needs : (rows : List NodeRow) (root : ℕ) (source target : Spot) (overwrite : Bool) (from to : Way) (transfer : Transfer) (b : Bool)
+    → IsBetween rows from.place to.place transfer → to.itself ≡ false → is_within rows root (Some from) (Some to) ≡ b
+    → needs_at (source_act (asked_of (Move source target overwrite)) b) from ++ target_needs making.Moved rows root b to
+    ≡ moved_needs b from.mount to.mount transfer
+move_needs rows root source target overwrite from to transfer true is other within = rw (is.source, is.replaced) refl
+move_needs rows root source target overwrite from to transfer false is other within = rw (is.source, is.replaced, other, is.folder) refl
 
-copy_needs : (rows : List NodeRow) (root : ℕ) (source target : Spot) (overwrite : Bool) (from to : Found) (transfer : Transfer)
-    → IsBetween rows from to transfer
-    → needs_between rows root (asked_of (Copy source target overwrite)) (Some (unmounted from)) (Some (unmounted to)) ≡ copied_needs transfer
-copy_needs rows root source target overwrite from to transfer is = rw (is.source, is.replaced, is.folder) refl
+copy_needs : (rows : List NodeRow) (root : ℕ) (source target : Spot) (overwrite : Bool) (from to : Way) (transfer : Transfer)
+    → IsBetween rows from.place to.place transfer → to.itself ≡ false
+    → needs_between rows root (asked_of (Copy source target overwrite)) (Some from) (Some to) ≡ copied_needs from.mount to.mount transfer
+copy_needs rows root source target overwrite from to transfer is other = rw (is.source, is.replaced, other, is.folder) refl
 
 -- what has to go is deleted, whatever else is needed
-replaced_needed : (front : List Need) (replaced : Option ℕ)
-    → IfSome replaced (IsNeeded (front ++ needs act.Delete replaced None) act.Delete)
-replaced_needed front None = tt
-replaced_needed front (Some top) =
-    (None, Contains-append_right front (need_of act.Delete top ∷ []) (need_of act.Delete top) (0, omega arith, refl))
+replaced_needed : (front : List Need) (replaced to : Option ℕ)
+    → IfSome replaced (IsNeeded (front ++ needs act.Delete replaced to) act.Delete)
+replaced_needed front None to = tt
+replaced_needed front (Some top) to =
+    (to, Contains-append_right front (need_of act.Delete top to ∷ []) (need_of act.Delete top to) (0, omega arith, refl))
 
 -- a node that is moved within its folder is in the target's
-within_folder : (t : Tables) (root : ℕ) (from to : Found) (transfer : Transfer) → AreSound t → is_under t.nodes transfer.folder transfer.node ≡ false
-    → IsBetween t.nodes from to transfer → is_within t.nodes root (Some (unmounted from)) (Some (unmounted to)) ≡ true
+within_folder : (t : Tables) (root : ℕ) (from to : Way) (transfer : Transfer) → AreSound t → is_under t.nodes transfer.folder transfer.node ≡ false
+    → IsBetween t.nodes from.place to.place transfer → from.itself ≡ false → to.itself ≡ false → is_within t.nodes root (Some from) (Some to) ≡ true
     → parent_of t.nodes transfer.node ≡ Some transfer.folder
-within_folder t root from to transfer sound outside is within =
-    here (parent_of t.nodes transfer.node) refl (rw (is.source, is.folder) at within)
+within_folder t root from to transfer sound outside is from_other to_other within =
+    here (parent_of t.nodes transfer.node) refl (rw (from_other, to_other, is.source, is.folder) at within)
   where
     here : (o : Option ℕ) → parent_of t.nodes transfer.node ≡ o
         → option_map_or (λ folder. folder == transfer.folder) (option_or o (Some transfer.node)) false ≡ true
@@ -131,6 +247,14 @@ within_folder t root from to transfer sound outside is within =
         (climbs_is_under 0 t transfer.folder transfer.node sound itself))
     here (Some parent) e same = e ∙ ap (λ (n : ℕ). Some n) (eqb-true parent transfer.folder same)
 
+-- so it stays its owner's
+within_owner : (t : Tables) (transfer : Transfer) (row : NodeRow) → AreSound t → node_row t.nodes transfer.node ≡ Some row
+    → parent_of t.nodes transfer.node ≡ Some transfer.folder → crosses t.nodes transfer ≡ false
+within_owner t transfer row sound there above =
+    let folder = parent_there t transfer.node transfer.folder row sound there above in
+    let owner = λ (o : Option NodeRow). option_map_or (λ (row : NodeRow). row.owner) o 0 in
+    ap not (eq-eqb (owner_of t.nodes transfer.node) (owner_of t.nodes transfer.folder) (ap owner there ∙ sym folder.3 ∙ sym (ap owner folder.1)))
+
 -- ---- a Begin
 
 -- that a caller, whose row is there, makes
@@ -138,238 +262,419 @@ module _ (call : Call) (row : UserRow) (sound : AreSound call.state.tables) (is 
   abbrev t : Tables
   t = call.state.tables
 
-  abbrev who : Option ℕ
-  who = user_of call
-
-  abbrev seeker : Seeker
-  seeker = User row.id
-
   abbrev root : ℕ
   root = root_of call
 
+  abbrev FitsCall : List Need → Tables → Type 0
+  FitsCall needs made = Fits t needs (OneMount call) made
+
+  abbrev Reached : Spot → Type 0
+  Reached spot = unreached (access_of call.state) call (way_of call spot) ≡ None
+
+  -- ---- mounts
+
+  one_of : (spot : Spot) → (way_of call spot).itself ≡ true → is_one spot.path ≡ true
+  one_of spot itself = here (mount_of call spot) itself
+    where
+      here : (mount : Option ℕ) → (way_by t.nodes root spot.path mount).itself ≡ true → is_one spot.path ≡ true
+      here None itself = absurd (false≢true itself)
+      here (Some mount) itself = itself
+
+  mount_fits : (spot : Spot) (change : MountRow → MountRow) (told : Report) (needs : List Need) → (way_of call spot).itself ≡ true
+      → ((old : MountRow) → (change old).user ≡ old.user) → ((old : MountRow) → (change old).node ≡ old.node)
+      → ((old : MountRow) → IsOwnPath call spot old → Remounts call old (change old))
+      → FitsCall needs (changed t call.now (with_mount_row (option_map change (own_mount call (way_of call spot).mount)) told))
+  mount_fits spot change told needs itself user node becomes =
+      let own = own_known call spot sound itself in
+      let old : MountRow = own.row in
+      let there : mount_row t.mounts old.user old.node ≡ Some old =
+      ap (λ (n : ℕ). mount_row t.mounts n old.node) own.user ∙ ap (mount_row t.mounts (asker_of call)) own.of_node ∙ own.there in
+      let path = path_named t (asker_of call) root spot.path own.node old sound (one_of spot itself) (sym (way_mount call spot) ∙ own.by) own.there in
+      let rows = λ (u n : ℕ). map (λ (other : MountRow). if is_mount_of u n other then change old else other) t.mounts in
+      let put_there : mount_row t.mounts (change old).user (change old).node ≡ Some old =
+      (λ i. mount_row t.mounts (user old i) (node old i)) ∙ there in
+      subst (λ (o : Option MountRow). FitsCall needs (changed t call.now (with_mount_row (option_map change o) told)))
+      (sym (ap (own_mount call) own.by ∙ own.there))
+      (record {
+        follow = same_follow needs t.nodes;
+        shares = kept_shares t t.nodes sound (λ node there. there);
+        mounts = inr (record {
+          old = old;
+          row = change old;
+          there = there;
+          becomes = becomes old (record { user = own.user; shown = own.shown; path = path });
+          mounts = remounted_rows (change old) old t.mounts sound.others.mounts_rise put_there ∙ (λ i. rows (user old i) (node old i));
+          nodes = refl;
+          shares = refl;
+        });
+      })
+
   -- ---- MOVE and COPY
 
-  -- what is known of a transfer
-  module _ (transfer : Transfer) (name : List ℕ) (known : KnownTransfer t who transfer name) where
+  -- what is known of a transfer, by the mounts of its ways
+  module _ (transfer : Transfer) (name : List ℕ) (known : KnownTransfer t transfer name) (from to : Option ℕ) where
     abbrev going : List Need
-    going = needs act.Delete transfer.replaced None
+    going = needs act.Delete transfer.replaced to
 
-    abbrev source_own : IsOf t known.source.row.id transfer.node
-    source_own = path_own t who (At transfer.node) transfer.node sound known.source refl
+    moved_gone : (b : Bool) → IfSome transfer.replaced (IsNeeded (moved_needs b from to transfer) act.Delete)
+    moved_gone true = replaced_needed (need_of act.Update transfer.node from ∷ []) transfer.replaced to
+    moved_gone false = replaced_needed (need_of act.Delete transfer.node from ∷ need_of act.Create transfer.folder to ∷ []) transfer.replaced to
 
-    moved_gone : (b : Bool) → IfSome transfer.replaced (IsNeeded (moved_needs b transfer) act.Delete)
-    moved_gone true = replaced_needed (need_of act.Update transfer.node ∷ []) transfer.replaced
-    moved_gone false = replaced_needed (need_of act.Delete transfer.node ∷ need_of act.Create transfer.folder ∷ []) transfer.replaced
+    abbrev source_row : NodeRow
+    source_row = known.source.0
 
-    moved_row : node_row (transferred t transfer name).nodes transfer.node ≡ Some (relinked transfer.folder name source_own.row)
-    moved_row = (moved_rows t who transfer name sound known).itself ∙ ap (option_map (relinked transfer.folder name)) source_own.there
+    moved_row : node_row (transferred t transfer name).nodes transfer.node ≡ Some (relinked transfer.folder name source_row)
+    moved_row = (moved_rows t transfer name sound known).itself ∙ ap (option_map (relinked transfer.folder name)) known.source.1
 
     moved_itself : (b : Bool) → (b ≡ true → parent_of t.nodes transfer.node ≡ Some transfer.folder)
-        → Follows (moved_needs b transfer) t.nodes (transferred t transfer name).nodes transfer.node
+        → Follows (moved_needs b from to transfer) t.nodes (transferred t transfer name).nodes transfer.node
     moved_itself true within =
-        let old = source_own.row in
-        let place = inside_folder old.place transfer.folder (rw source_own.there at (within refl)) in
-        let needed = first_needed (need_of act.Update transfer.node) going in
-        is_updated old (relinked transfer.folder name old) needed source_own.there moved_row
-        (ap (λ (p : Place). record old { place = p; name = name }) (sym place))
+        let place = inside_folder source_row.place transfer.folder (rw known.source.1 at (within refl)) in
+        let needed = first_needed (need_of act.Update transfer.node from) going in
+        is_updated source_row (relinked transfer.folder name source_row) needed known.source.1 moved_row
+        (ap (λ (p : Place). record source_row { place = p; name = name }) (sym place))
     moved_itself false within =
-        let first = need_of act.Delete transfer.node in
-        let second = need_of act.Create transfer.folder in
-        is_moved transfer.folder source_own.row (relinked transfer.folder name source_own.row) (first_needed first (second ∷ going))
-        (second_needed first second going) source_own.there moved_row refl
+        let first = need_of act.Delete transfer.node from in
+        let second = need_of act.Create transfer.folder to in
+        is_moved transfer.folder source_row (relinked transfer.folder name source_row) (first_needed first (second ∷ going))
+        (second_needed first second going) known.source.1 moved_row refl
 
     moved_fits : (b : Bool) → (b ≡ true → parent_of t.nodes transfer.node ≡ Some transfer.folder)
-        → Fits t (moved_needs b transfer) (changed t call.now (allowed.Move transfer name))
+        → FitsCall (moved_needs b from to transfer) (changed t call.now (allowed.Move transfer name))
     moved_fits b within =
-        stamped_has (Fits t (moved_needs b transfer)) t (transferred t transfer name) call.now (told t (allowed.Move transfer name))
-        (same_fits t (moved_needs b transfer))
-        (moved_follow t who transfer name (moved_needs b transfer) sound known (moved_gone b) (moved_itself b within))
-
-  abbrev places : Spot → Spot → Places
-  places source target = record { source = Some (found call source); target = Some (found call target) }
-
-  copied_fits : (source target : Spot) (transfer : Transfer) → transfer_of t.nodes (places source target) ≡ Some transfer
-      → unfit_between t.nodes (places source target) ≡ None → copy_limit t transfer ≡ None
-      → Fits t (copied_needs transfer) (changed t call.now (copied t call.now (last_name target) (Some transfer)))
-  unfolding copies_known
-  copied_fits source target transfer e fits some =
-      let copies = copies_to t call.now transfer (last_name target) in
-      let known = copies_known call source target row sound is transfer e fits some in
-      let first = need_of act.Read transfer.node in
-      let second = need_of act.Create transfer.folder in
-      let going = needs act.Delete transfer.replaced None in
-      stamped_has (Fits t (copied_needs transfer)) t (joined t copies transfer.replaced) call.now
-      (told t (allowed.Copy copies transfer.replaced)) (same_fits t (copied_needs transfer))
-      (copied_follow t call.now who copies transfer.replaced (copied_needs transfer) sound known
-      (replaced_needed (first ∷ second ∷ []) transfer.replaced) (second_needed first second going))
+        let needs = moved_needs b from to transfer in
+        stamped_has (FitsCall needs) t (transferred t transfer name) call.now (told t (allowed.Move transfer name))
+        (same_fits t needs (OneMount call) sound) (record {
+          follow = moved_follow t transfer name needs sound known (moved_gone b) (moved_itself b within);
+          shares = moved_shares t transfer name sound known;
+          mounts = inl refl;
+        })
 
   -- ---- what each may ask for
-
-  abbrev way : Spot → Way
-  way spot = unmounted (found call spot)
 
   abbrev needed_for : Wanted → List Need
   needed_for wanted =
       let asked = asked_of wanted in
-      needs_between t.nodes root asked (option_map way asked.source) (option_map way asked.target)
+      needs_between t.nodes root asked (option_map (way_of call) asked.source) (option_map (way_of call) asked.target)
 
-  -- which is what is needed, as long as there are no mounts
-  needed_is : needed_for call.request.wanted ≡ needed call
-  needed_is =
-      let asked = asked_by call in
-      ap (λ (f : Spot → Way). needs_between t.nodes root asked (option_map f asked.source) (option_map f asked.target))
-      (λ i spot. sym (way_is spot) i)
-    where
-      way_is : (spot : Spot) → way_of call spot ≡ way spot
-      way_is spot =
-          let from = from_root call spot sound.later in
-          from ∙ ap unmounted (sym (ap (λ (way : Way). way.place) from))
-
-  served_fits : (place : Found) (needs : List Need) → Fits t needs (changed t call.now (served t (node_found place)))
-  served_fits (At node) needs =
-      cond_both (is_folder t.nodes node) (allowed.List (listing_of t node)) (allowed.Get node (content_of t.nodes node))
-      (λ act. Fits t needs (changed t call.now act)) (λ folder. same_fits t needs) (λ file. same_fits t needs)
-  served_fits nowhere needs = same_fits t needs
+  served_fits : (mount : Option ℕ) (place : Found) (needs : List Need)
+      → FitsCall needs (changed t call.now (served (access_of call.state) call mount (node_found place)))
+  served_fits mount (At node) needs =
+      cond_both (is_folder t.nodes node) (allowed.List (listing_of (access_of call.state) call mount node))
+      (allowed.Get node (content_of t.nodes node))
+      (λ act. FitsCall needs (changed t call.now act)) (λ folder. same_fits t needs (OneMount call) sound)
+      (λ file. same_fits t needs (OneMount call) sound)
+  served_fits mount nowhere needs = same_fits t needs (OneMount call) sound
 
   stored_fits : (by : By) (name : List ℕ) (size : ℕ) (place : Found) (needs : List Need)
-      → Fits t needs (changed t call.now (stored by name size (Some place)))
-  stored_fits by name size (Missing depth) needs = same_fits t needs
-  stored_fits by name size place needs = same_fits t needs
+      → FitsCall needs (changed t call.now (stored by name size (Some place)))
+  stored_fits by name size (Missing depth) needs = same_fits t needs (OneMount call) sound
+  stored_fits by name size place needs = same_fits t needs (OneMount call) sound
 
-  made_fits : (spot : Spot) (place : Found) → found call spot ≡ place
-      → Fits t (needs_in t.nodes root (unmounted place)) (changed t call.now (made_folder t call.now (last_name spot) (Some place)))
-  made_fits spot (Free folder) leads =
+  -- a free name is at the end of no mount's own path
+  free_other : (spot : Spot) (folder : ℕ) → found call spot ≡ Free folder → (way_of call spot).itself ≡ false
+  free_other spot folder leads = here (mount_of call spot) leads
+    where
+      one : (path : List (List ℕ)) (mount : ℕ) → (way_by t.nodes root path (Some mount)).place ≡ Free folder → is_one path ≡ false
+      one [] mount leads = refl
+      one (name ∷ []) mount leads = absurd (cc)
+      one (name ∷ other ∷ names) mount leads = refl
+
+      here : (mount : Option ℕ) → (way_by t.nodes root spot.path mount).place ≡ Free folder → (way_by t.nodes root spot.path mount).itself ≡ false
+      here None leads = refl
+      here (Some mount) leads = one spot.path mount leads
+
+  made_fits : (spot : Spot) (place : Found) → Reached spot → found call spot ≡ place
+      → FitsCall (needs_in t.nodes root (way_of call spot)) (changed t call.now (made_folder t call.now (last_name spot) (Some place)))
+  made_fits spot (Free folder) reached leads =
       let name = last_name spot in
       let made = changed t call.now (made_folder t call.now name (Some (Free folder))) in
-      let need = need_of act.Create folder in
-      let free = free_known t.nodes 0 (root_of call) spot.path folder (led_from_root call spot (Free folder) sound leads) in
-      added_follow t made call.now folder name Folder [] (need ∷ [])
-      (added_rows t call.now folder name Folder [] None sound free.0 free.1 (omega arith)) (first_needed need [])
-  made_fits spot nowhere leads = same_fits t (needs_in t.nodes root (unmounted nowhere))
+      let way = way_of call spot in
+      let need = need_of act.Create folder way.mount in
+      let slot = slot_known call spot row sound is folder reached leads in
+      let asked : needs_in t.nodes root way ≡ need ∷ [] = rw (free_other spot folder leads, leads) refl in
+      subst (λ (needs : List Need). FitsCall needs made) (sym asked)
+      (added_fits t made call.now folder name Folder [] (need ∷ []) (OneMount call) sound
+      (added_rows t call.now folder name Folder [] None sound slot.folds slot.free (omega arith)) (first_needed need []))
+  made_fits spot nowhere reached leads = same_fits t (needs_in t.nodes root (way_of call spot)) (OneMount call) sound
 
-  deleted_fits : (spot : Spot) (place : Found) → found call spot ≡ place
-      → Fits t (needs_at act.Delete (unmounted place) ++ []) (changed t call.now (deleted (node_found place)))
-  deleted_fits spot (At top) leads =
-      let need = need_of act.Delete top in
-      stamped_has (Fits t (need ∷ [])) t (removed t top) call.now (told t (allowed.Delete top)) (same_fits t (need ∷ []))
-      (deleted_follow t top (need ∷ []) (first_needed need []))
-  deleted_fits spot nowhere leads = same_fits t []
+  deletes_fit : (spot : Spot) (place : Found) → Reached spot → found call spot ≡ place
+      → FitsCall (needs_at act.Delete (way_of call spot) ++ []) (changed t call.now (deleted (node_found place)))
+  deletes_fit spot (At top) reached leads =
+      let there = way_there call spot row sound is top reached leads in
+      let need = need_of act.Delete top (way_of call spot).mount in
+      let asked : needs_at act.Delete (way_of call spot) ++ [] ≡ need ∷ [] = rw leads refl in
+      subst (λ (needs : List Need). FitsCall needs (changed t call.now (allowed.Delete top))) (sym asked)
+      (stamped_has (FitsCall (need ∷ [])) t (removed t top) call.now (told t (allowed.Delete top)) (same_fits t (need ∷ []) (OneMount call) sound)
+      (record {
+        follow = deleted_follow t top (need ∷ []) (first_needed need []);
+        shares = deleted_shares t top sound (ap is_some there.1);
+        mounts = inl refl;
+      }))
+  deletes_fit spot nowhere reached leads = same_fits t (needs_at act.Delete (way_of call spot) ++ []) (OneMount call) sound
 
-  moves_fit : (source target : Spot) (overwrite : Bool) → unfit_between t.nodes (places source target) ≡ None
-      → option_and_then (move_limit t) (transfer_of t.nodes (places source target)) ≡ None
-      → Fits t (needed_for (Move source target overwrite))
-      (changed t call.now (moved (last_name target) (transfer_of t.nodes (places source target))))
-  moves_fit source target overwrite fits some =
-      here (transfer_of t.nodes (places source target)) refl (moved_known call source target row sound is fits some)
-    where
-      here : (o : Option Transfer) → transfer_of t.nodes (places source target) ≡ o → Known t call.now who (moved (last_name target) o)
-          → Fits t (needed_for (Move source target overwrite)) (changed t call.now (moved (last_name target) o))
-      here None e known = same_fits t (needed_for (Move source target overwrite))
-      here (Some transfer) e known =
-          let from = found call source in
-          let to = found call target in
-          let it = between t.nodes from to transfer e in
-          let b = is_within t.nodes root (Some (unmounted from)) (Some (unmounted to)) in
-          subst (λ (needs : List Need). Fits t needs (changed t call.now (allowed.Move transfer (last_name target))))
-          (sym (move_needs t.nodes root source target overwrite from to transfer b it refl))
-          (moved_fits transfer (last_name target) known b (within_folder t root from to transfer sound known.outside it))
+  delete_fits : (spot : Spot) (b : Bool) → call.request.wanted ≡ Delete spot → (way_of call spot).itself ≡ b → (b ≡ false → Reached spot)
+      → FitsCall (if b then [] else needs_at act.Delete (way_of call spot) ++ [])
+      (changed t call.now (if b then mount_left call (way_of call spot) else deleted (node_at (only_at b (found call spot)).source)))
+  delete_fits spot true wanted itself reached =
+      mount_fits spot left_row report.Done [] itself (λ old. refl) (λ old. refl) (λ old own. is_left spot wanted own)
+  delete_fits spot false wanted itself reached = deletes_fit spot (found call spot) (reached refl) refl
 
-  copies_fit : (source target : Spot) (overwrite : Bool) → unfit_between t.nodes (places source target) ≡ None
-      → option_and_then (copy_limit t) (transfer_of t.nodes (places source target)) ≡ None
-      → Fits t (needed_for (Copy source target overwrite))
-      (changed t call.now (copied t call.now (last_name target) (transfer_of t.nodes (places source target))))
-  copies_fit source target overwrite fits some = here (transfer_of t.nodes (places source target)) refl some
-    where
-      here : (o : Option Transfer) → transfer_of t.nodes (places source target) ≡ o → option_and_then (copy_limit t) o ≡ None
-          → Fits t (needed_for (Copy source target overwrite)) (changed t call.now (copied t call.now (last_name target) o))
-      here None e some = same_fits t (needed_for (Copy source target overwrite))
-      here (Some transfer) e some =
-          let it = between t.nodes (found call source) (found call target) transfer e in
-          subst (λ (needs : List Need). Fits t needs (changed t call.now (copied t call.now (last_name target) (Some transfer))))
-          (sym (copy_needs t.nodes root source target overwrite (found call source) (found call target) transfer it))
-          (copied_fits source target transfer e fits some)
+  -- what is moved or copied, by a caller who is reached
+  module _ (source target : Spot) (from_reached : Reached source) (to_reached : Reached target)
+      (fits : unfit_between t.nodes root false (record { source = Some (way_of call source); target = Some (way_of call target) }) ≡ None) where
+    abbrev places : Places
+    places = record { source = Some (found call source); target = Some (found call target) }
 
-  begin_fits : (wanted : Wanted) → unfit t.nodes (asked_of wanted) (places_at call wanted) ≡ None
-      → limited t (places_at call wanted) (asked_of wanted).makes ≡ None
-      → Fits t (needed_for wanted) (changed t call.now (given (access_of call.state) call (places_at call wanted) wanted))
-  begin_fits (Get spot) fits some = served_fits (found call spot) (needed_for (Get spot))
-  begin_fits (Put spot size) fits some = stored_fits (by_of call spot) (last_name spot) size (found call spot) (needed_for (Put spot size))
-  begin_fits (Mkcol spot) fits some = made_fits spot (found call spot) refl
-  begin_fits (Delete spot) fits some = deleted_fits spot (found call spot) refl
-  begin_fits (Move source target overwrite) fits some = moves_fit source target overwrite fits some
-  begin_fits (Copy source target overwrite) fits some = copies_fit source target overwrite fits some
+    abbrev from : Option ℕ
+    from = (way_of call source).mount
+
+    abbrev to : Option ℕ
+    to = (way_of call target).mount
+
+    abbrev name : List ℕ
+    name = last_name target
+
+    abbrev target_other : (way_of call target).itself ≡ false
+    target_other = no_mount call source target row sound is from_reached to_reached fits
+
+    abbrev copies : Transfer → List NodeRow
+    copies transfer = copies_to t call.now transfer name
+
+    abbrev copies_are : (transfer : Transfer) → transfer_of t.nodes places ≡ Some transfer → copy_limit t transfer ≡ None
+        → KnownCopies t call.now (copies transfer) transfer.replaced
+    copies_are transfer e some = copies_known call source target row sound is from_reached to_reached transfer e fits some
+
+    copied_fits : (transfer : Transfer) → transfer_of t.nodes places ≡ Some transfer → copy_limit t transfer ≡ None
+        → FitsCall (copied_needs from to transfer) (changed t call.now (copied t call.now name (Some transfer)))
+    unfolding copies_known
+    copied_fits transfer e some =
+        let known = copies_are transfer e some in
+        let first = need_of act.Read transfer.node from in
+        let second = need_of act.Create transfer.folder to in
+        let going = needs act.Delete transfer.replaced to in
+        let needs = copied_needs from to transfer in
+        stamped_has (FitsCall needs) t (joined t (copies transfer) transfer.replaced) call.now
+        (told t (allowed.Copy (copies transfer) transfer.replaced)) (same_fits t needs (OneMount call) sound)
+        (record {
+          follow = copied_follow t call.now (copies transfer) transfer.replaced sound known needs
+              (replaced_needed (first ∷ second ∷ []) transfer.replaced to) (second_needed first second going);
+          shares = copied_shares t call.now (copies transfer) transfer.replaced sound known;
+          mounts = inl refl;
+        })
+
+    crossed_fits : (transfer : Transfer) → transfer_of t.nodes places ≡ Some transfer → copy_limit t transfer ≡ None
+        → FitsCall (moved_needs false from to transfer)
+        (changed t call.now (allowed.Cross (copies transfer) transfer.replaced transfer.node))
+    unfolding copies_known
+    crossed_fits transfer e some =
+        let known = copies_are transfer e some in
+        let first = need_of act.Delete transfer.node from in
+        let second = need_of act.Create transfer.folder to in
+        let going = needs act.Delete transfer.replaced to in
+        let needs = moved_needs false from to transfer in
+        stamped_has (FitsCall needs) t (removed (joined t (copies transfer) transfer.replaced) transfer.node) call.now
+        (told t (allowed.Cross (copies transfer) transfer.replaced transfer.node)) (same_fits t needs (OneMount call) sound)
+        (record {
+          follow = crossed_follow t call.now (copies transfer) transfer.replaced sound known needs
+              (replaced_needed (first ∷ second ∷ []) transfer.replaced to) (first_needed first (second ∷ going)) (second_needed first second going);
+          shares = crossed_shares t call.now (copies transfer) transfer.replaced sound known;
+          mounts = inl refl;
+        })
+
+    -- a transfer stays with its owner, or goes to another
+    carried_fits : (transfer : Transfer) (b across : Bool) → (way_of call source).itself ≡ false → transfer_of t.nodes places ≡ Some transfer
+        → is_within t.nodes root (Some (way_of call source)) (Some (way_of call target)) ≡ b → crosses t.nodes transfer ≡ across
+        → (if across then copy_limit t transfer else move_limit t transfer) ≡ None
+        → FitsCall (moved_needs b from to transfer)
+        (changed t call.now (if across then allowed.Cross (copies transfer) transfer.replaced transfer.node else allowed.Move transfer name))
+    unfolding copies_known
+    carried_fits transfer b false other e inside owner some =
+        let deep = (within t 0 (deepest_in t.nodes transfer.node transfer.folder) 0 0 some).deep in
+        let known = transfer_known call source target row sound is from_reached to_reached transfer e fits deep in
+        let it = between t.nodes (found call source) (found call target) transfer e in
+        moved_fits transfer name known from to b (λ same.
+        within_folder t root (way_of call source) (way_of call target) transfer sound known.outside it other target_other (inside ∙ same))
+    carried_fits transfer false true other e inside owner some = crossed_fits transfer e some
+    carried_fits transfer true true other e inside owner some =
+        let known = (copies_are transfer e some).known in
+        let it = between t.nodes (found call source) (found call target) transfer e in
+        let above = within_folder t root (way_of call source) (way_of call target) transfer sound known.outside it other target_other inside in
+        absurd (both_ways (crosses t.nodes transfer) (within_owner t transfer known.source.0 sound known.source.1 above) owner)
+
+    moves_fit : (overwrite : Bool) → (way_of call source).itself ≡ false → option_and_then (carry_limit t) (transfer_of t.nodes places) ≡ None
+        → FitsCall (needs_at (source_act (asked_of (Move source target overwrite))
+        (is_within t.nodes root (Some (way_of call source)) (Some (way_of call target)))) (way_of call source)
+        ++ target_needs making.Moved t.nodes root (is_within t.nodes root (Some (way_of call source)) (Some (way_of call target))) (way_of call target))
+        (changed t call.now (moved t call.now name (transfer_of t.nodes places)))
+    moves_fit overwrite other some = here (transfer_of t.nodes places) refl some
+      where
+        within : Bool
+        within = is_within t.nodes root (Some (way_of call source)) (Some (way_of call target))
+
+        asked : List Need
+        asked = needs_at (source_act (asked_of (Move source target overwrite)) within) (way_of call source)
+            ++ target_needs making.Moved t.nodes root within (way_of call target)
+
+        here : (o : Option Transfer) → transfer_of t.nodes places ≡ o → option_and_then (carry_limit t) o ≡ None
+            → FitsCall asked (changed t call.now (moved t call.now name o))
+        here None e some = same_fits t asked (OneMount call) sound
+        here (Some transfer) e some =
+            let it = between t.nodes (found call source) (found call target) transfer e in
+            subst (λ (needs : List Need). FitsCall needs (changed t call.now (moved t call.now name (Some transfer))))
+            (sym (move_needs t.nodes root source target overwrite (way_of call source) (way_of call target) transfer within it target_other refl))
+            (carried_fits transfer within (crosses t.nodes transfer) other e refl refl some)
+
+    copies_fit : (overwrite : Bool) → option_and_then (copy_limit t) (transfer_of t.nodes places) ≡ None
+        → FitsCall (needed_for (Copy source target overwrite)) (changed t call.now (copied t call.now name (transfer_of t.nodes places)))
+    copies_fit overwrite some = here (transfer_of t.nodes places) refl some
+      where
+        here : (o : Option Transfer) → transfer_of t.nodes places ≡ o → option_and_then (copy_limit t) o ≡ None
+            → FitsCall (needed_for (Copy source target overwrite)) (changed t call.now (copied t call.now name o))
+        here None e some = same_fits t (needed_for (Copy source target overwrite)) (OneMount call) sound
+        here (Some transfer) e some =
+            let it = between t.nodes (found call source) (found call target) transfer e in
+            subst (λ (needs : List Need). FitsCall needs (changed t call.now (copied t call.now name (Some transfer))))
+            (sym (copy_needs t.nodes root source target overwrite (way_of call source) (way_of call target) transfer it target_other))
+            (copied_fits transfer e some)
+
+  move_fits : (source target : Spot) (overwrite b : Bool) → call.request.wanted ≡ Move source target overwrite → (way_of call source).itself ≡ b
+      → (b ≡ false → Reached source) → Reached target
+      → unfit_between t.nodes root b (record { source = Some (way_of call source); target = Some (way_of call target) }) ≡ None
+      → limited t (if b then record { source = None; target = None } else record { source = Some (found call source); target = Some (found call target) })
+      making.Moved ≡ None
+      → FitsCall (if b then [] else needs_at (source_act (asked_of (Move source target overwrite))
+      (is_within t.nodes root (Some (way_of call source)) (Some (way_of call target)))) (way_of call source)
+      ++ target_needs making.Moved t.nodes root (is_within t.nodes root (Some (way_of call source)) (Some (way_of call target))) (way_of call target))
+      (changed t call.now (if b then mount_renamed call (way_of call source) (last_name target)
+      else moved t call.now (last_name target)
+      (transfer_of t.nodes (if b then record { source = None; target = None } else record { source = Some (found call source); target = Some (found call target) }))))
+  move_fits source target overwrite true wanted itself from_reached to_reached fits some =
+      mount_fits source (named_row (last_name target)) report.Made [] itself (λ old. refl) (λ old. refl)
+      (λ old own. is_renamed source target overwrite wanted own)
+  move_fits source target overwrite false wanted itself from_reached to_reached fits some =
+      moves_fit source target (from_reached refl) to_reached fits overwrite itself some
+
+  begin_fits : (wanted : Wanted) → call.request.wanted ≡ wanted → WantedPasses call wanted
+      → FitsCall (needed_for wanted) (changed t call.now (given (access_of call.state) call (places_at call wanted) wanted))
+  begin_fits (Get spot) asked p = served_fits (way_of call spot).mount (found call spot) (needed_for (Get spot))
+  begin_fits (Put spot size) asked p = stored_fits (by_of call spot) (last_name spot) size (found call spot) (needed_for (Put spot size))
+  begin_fits (Mkcol spot) asked p = made_fits spot (found call spot) p.place.target refl
+  begin_fits (Delete spot) asked p = delete_fits spot (way_of call spot).itself asked refl p.place.source
+  begin_fits (Move source target overwrite) asked p =
+      move_fits source target overwrite (way_of call source).itself asked refl p.place.source p.place.target p.fits p.few
+  begin_fits (Copy source target overwrite) asked p =
+      copies_fit source target (p.place.source refl) p.place.target p.fits overwrite p.few
 
 -- ---- an End
 
-put_fits : (t made : Tables) (now : ℕ) (by : By) (key : LockKey) (content : List Piece)
-    → IsPut t made now key content → Fits t (needed_by by key) made
-put_fits t made now by (Node node) content is =
-    let need : Need = record { act = act.Update; node = node; mount = by.mount } in
-    refilled_follow t made now node content (need ∷ []) is (first_needed need [])
-put_fits t made now by (Slot folder name) content is =
-    let need : Need = record { act = act.Create; node = folder; mount = by.mount } in
-    added_follow t made now folder name File content (need ∷ []) is (first_needed need [])
+put_fits : (t made : Tables) (now : ℕ) (by : By) (key : LockKey) (content : List Piece) (Other : Tables → Type 0) → AreSound t
+    → IsPut t made now key content → Fits t (needed_by by key) Other made
+put_fits t made now by (Node node) content Other sound is =
+    let need = need_of act.Update node by.mount in
+    refilled_fits t made now node content (need ∷ []) Other sound is (first_needed need [])
+put_fits t made now by (Slot folder name) content Other sound is =
+    let need = need_of act.Create folder by.mount in
+    added_fits t made now folder name File content (need ∷ []) Other sound is (first_needed need [])
 
 -- ---- the law
 
--- what is needed may be done, and what became of a node follows from it
-allowed_so : (s : State) (now : ℕ) (acts : Option Seeker) (seeker : Seeker) (needs : List Need) (made : Tables) → acts ≡ Some seeker
-    → All (MayDo s now seeker) needs → Fits s.tables needs made → (node : ℕ) → node_row made.nodes node ≢ node_row s.tables.nodes node
-    → IsAllowed s now acts needs made.nodes node
-allowed_so s now acts seeker needs made is may fits node differs =
-    record { seeker = seeker; acts = is; may = may; follows = fits node differs }
+-- what is needed may be done, what became of a node follows from it, and shares and mounts are as they may be
+record AreAllowed (s : State) (e : Entry) (event : Event) (made : Tables) : Type 0 where
+  nodes : (node : ℕ) → node_row made.nodes node ≢ node_row s.tables.nodes node
+      → IsAllowed s e.moment (seeker_at s e.seat e.moment event) (needs_of s e.seat e.moment event) made.nodes node
+  shares : made.shares ≡ shares_without s.tables.nodes made.nodes s.tables.shares
+  mounts : (made.mounts ≡ s.tables.mounts) ⊎ IsRemounted s e made
 
--- of each node whose row is another after an act
-abbrev AllAllowed : State → ℕ → Option Seeker → List Need → Tables → Type 0
-AllAllowed s now acts needs made =
-    (node : ℕ) → node_row made.nodes node ≢ node_row s.tables.nodes node → IsAllowed s now acts needs made.nodes node
+allowed_so : (s : State) (e : Entry) (event : Event) (seeker : Seeker) (Other : Tables → Type 0) (made : Tables)
+    → seeker_at s e.seat e.moment event ≡ Some seeker → All (MayDo s e.moment seeker) (needs_of s e.seat e.moment event)
+    → Fits s.tables (needs_of s e.seat e.moment event) Other made → (Other made → IsRemounted s e made) → AreAllowed s e event made
+allowed_so s e event seeker Other made is may fits other = record {
+  nodes = λ node differs. record { seeker = seeker; acts = is; may = may; follows = fits.follow node differs };
+  shares = fits.shares;
+  mounts = elim fits.mounts [ inl same ↦ inl same | inr one ↦ inr (other one) ];
+}
 
-end_allowed : (s : State) (now : ℕ) (outcome : Outcome) (who : Option ℕ) (goal : Option Goal) (act : Allowed) → AreSound s.tables
-    → IfSome goal (IsGoalSound s.tables) → IfSome goal (IsStorable s.tables) → MayEnd goal outcome → ends_at (access_of s) s.tables now outcome goal ≡ Ok act
-    → Known s.tables now who act
-    → AllAllowed s now (option_and_then seeker_of_goal goal) (option_map_or needs_of_goal goal []) (changed s.tables now act)
-end_allowed s now outcome who None act sound of held may is known = absurd may
-end_allowed s now (Body digest size) who (Some (Serve content)) act sound of held may is known = absurd may
-end_allowed s now (Body digest size) who (Some (Store by key wanted)) act sound of held may is known =
+same_allowed : (s : State) (e : Entry) (event : Event) → IsSound s → AreAllowed s e event s.tables
+same_allowed s e event sound =
+    let fits = same_fits s.tables [] (λ made. ⊥) sound.rows in
+    record { nodes = λ node differs. absurd (differs refl); shares = fits.shares; mounts = inl refl }
+
+abbrev nothing : Tables → Type 0
+nothing made = ⊥
+
+goal_allowed : (s : State) (e : Entry) (outcome : Outcome) (goal : Goal) (act : Allowed) → IsSound s → goal_at s e.seat ≡ Some goal
+    → IsStorable s.tables goal → ends_at (access_of s) s.tables e.moment outcome (Some goal) ≡ Ok act → Known s.tables e.moment act
+    → AreAllowed s e (End outcome) (changed s.tables e.moment act)
+goal_allowed s e (Body digest size) (Store by key wanted) act sound at held is known =
     let t = s.tables in
+    let now = e.moment in
     let stores = stored_at t now key digest size in
     let h = not_refused (end_refusal (access_of s) t now by key size) stores act is in
     let passes = end_passes (access_of s) t now by key size h.0 in
     let content = content_in (blob_for t.meta.next_blob size) digest size in
-    let put = put_rows t now who key digest size sound held (subst (λ (a : Allowed). Known t now who a) (sym h.1) known) in
-    allowed_so s now (Some by.seeker) by.seeker (needed_by by key) (changed t now act) refl
-    (needs_pass (access_of s) (ground_of t) by.seeker now (needed_by by key) passes.allowed)
-    (subst (λ (a : Allowed). Fits t (needed_by by key) (changed t now a)) h.1 (put_fits t (changed t now stores) now by key content put))
-end_allowed s now outcome who (Some goal) act sound of held may is known =
+    let put = put_rows t now key digest size sound.rows held (subst (λ (a : Allowed). Known t now a) (sym h.1) known) in
+    let needs : needs_of s e.seat now (End outcome_of) ≡ needed_by by key = ap (λ (o : Option Goal). option_map_or needs_of_goal o []) at in
+    allowed_so s e (End outcome_of) by.seeker nothing (changed t now act) (ap (option_and_then seeker_of_goal) at)
+    (subst (All (MayDo s now by.seeker)) (sym needs) (needs_pass (access_of s) (ground_of t) by.seeker now (needed_by by key) passes.allowed))
+    (subst (λ (needs : List Need). Fits t needs nothing (changed t now act)) (sym needs)
+    (subst (λ (a : Allowed). Fits t (needed_by by key) nothing (changed t now a)) h.1
+    (put_fits t (changed t now stores) now by key content nothing sound.rows put))) (λ none. absurd none)
+  where
+    outcome_of : Outcome
+    outcome_of = Body digest size
+goal_allowed s e outcome goal act sound at held is known =
     let closes : allowed.Close ≡ act = cc in
-    subst (λ (a : Allowed). AllAllowed s now (seeker_of_goal goal) (needs_of_goal goal) (changed s.tables now a)) closes
-    (λ node differs. absurd (differs refl))
+    subst (λ (a : Allowed). AreAllowed s e (End outcome) (changed s.tables e.moment a)) closes (same_allowed s e (End outcome) sound)
 
-act_allowed : (s : State) (seat now : ℕ) (event : Event) (act : Allowed) → IsSound s → MayAsk s seat event
-    → decision_of s seat now event ≡ Ok act
-    → AllAllowed s now (seeker_at s seat now event) (needs_of s seat now event) (changed s.tables now act)
-unfolding target_rule limit_rule
-act_allowed s seat now (Begin words request) act sound may is =
-    let call = call_of s seat now words request in
+act_allowed : (s : State) (e : Entry) (event : Event) (act : Allowed) → e.event ≡ event → IsSound s → MayAsk s e.seat event
+    → decision_of s e.seat e.moment event ≡ Ok act → AreAllowed s e event (changed s.tables e.moment act)
+act_allowed s e (Begin words request) act begins sound may is =
+    let call = call_of s e.seat e.moment words request in
     let passes = call_passes call act is in
     let row = has_row call may.1 passes.0.not_you in
-    let fits = subst (λ (needs : List Need). Fits s.tables needs
-    (changed s.tables now (given (access_of s) call (places_at call request.wanted) request.wanted)))
-    (needed_is call row.0 sound.rows row.1)
-    (begin_fits call row.0 sound.rows row.1 request.wanted (no_fault _ passes.0.target) (no_limit _ passes.0.limit)) in
-    allowed_so s now (Some (seeker_of call)) (seeker_of call) (needed call) (changed s.tables now act) refl
+    let fits = begin_fits call row.0 sound.rows row.1 request.wanted refl (wanted_passes call may.1 passes.0) in
+    allowed_so s e (Begin words request) (seeker_of call) (OneMount call) (changed s.tables e.moment act) refl
     (acts_pass (access_of s) call passes.0.acts)
-    (subst (λ (a : Allowed). Fits s.tables (needed call) (changed s.tables now a)) passes.1 fits)
-act_allowed s seat now (End outcome) act sound may is =
-    end_allowed s now outcome (actor_of s seat (End outcome)) (goal_at s seat) act sound.rows (goal_sound s seat sound) (goal_held s seat sound) may is
-    (known_change s seat now (End outcome) act sound may is)
+    (subst (λ (a : Allowed). Fits s.tables (needed call) (OneMount call) (changed s.tables e.moment a)) passes.1 fits)
+    (λ one. record {
+      words = words;
+      request = request;
+      begins = begins;
+      old = one.old;
+      row = one.row;
+      there = one.there;
+      becomes = one.becomes;
+      mounts = one.mounts;
+      nodes = one.nodes;
+      shares = one.shares;
+    })
+act_allowed s e (End outcome) act ends sound may is = here (goal_at s e.seat) refl may is (goal_held s e.seat sound)
+  where
+    here : (goal : Option Goal) → goal_at s e.seat ≡ goal → MayEnd goal outcome → ends_at (access_of s) s.tables e.moment outcome goal ≡ Ok act
+        → IfSome goal (IsStorable s.tables) → AreAllowed s e (End outcome) (changed s.tables e.moment act)
+    here None at may is held = absurd may
+    here (Some goal) at brings goes held =
+        goal_allowed s e outcome goal act sound at held goes (known_change s e.seat e.moment (End outcome) act sound may is)
+
+-- no other rows are others
+act_rest : (t : Tables) (now : ℕ) (act : Allowed) → AreSound t → Known t now act
+    → changed t now act
+    ≡ record t { meta = (changed t now act).meta; nodes = (changed t now act).nodes; shares = (changed t now act).shares; mounts = (changed t now act).mounts }
+act_rest t now act sound known =
+    stamped_has (λ (made : Tables). made ≡ record t { meta = made.meta; nodes = made.nodes; shares = made.shares; mounts = made.mounts }) t
+    (altered t now act) now (told t act) refl (ap (λ (made : Tables). stamp made now) (rest_kept t now act sound known))
 
 pub changes_allowed : ChangesWhatMayBeChanged
 changes_allowed n s e sound may =
-    let acts = seeker_at s e.seat e.moment e.event in
-    let needs = needs_of s e.seat e.moment e.event in
+    entry_has (λ t tickets blob. ChangesAllowed s e t) s e e.mark
+    (let same = same_allowed s e e.event sound in
+    record { nodes = same.nodes; shares = same.shares; mounts = same.mounts; rest = refl })
+    (λ act is.
+    let all = act_allowed s e e.event act refl sound may.asked is in
     record {
-      nodes = entry_has (λ t tickets blob. AllAllowed s e.moment acts needs t) s e e.mark (λ node differs. absurd (differs refl))
-          (λ act is. act_allowed s e.seat e.moment e.event act sound may.asked is);
-      rest = (changes_own n s e sound may).rest;
-    }
+      nodes = all.nodes;
+      shares = all.shares;
+      mounts = all.mounts;
+      rest = act_rest s.tables e.moment act sound.rows (known_change s e.seat e.moment e.event act sound may.asked is);
+    })

@@ -1,6 +1,6 @@
 -- The blob that an act stores, and what an event stores in it. Whole blobs stay whole, and what is stored has the next number.
-use Rattle.std.proofs.Common.{◌≡◌, ℕ, ◌<◌, ◌==◌, List, [], ◌∷◌, length, get_or, inl, inr, refl, sym, ap, subst, ◌∙◌, arith, ◌&&◌, Result, Ok, Err, ◌⊎◌}
-use Rattle.std.specs.Prelude.{None, Option, Some}
+use Rattle.std.proofs.Common.{◌≡◌, ℕ, ◌<◌, ◌==◌, Bool, true, false, if◌then◌else◌, List, [], ◌∷◌, length, get_or, inl, inr, refl, sym, ap, subst, ◌∙◌, arith, ◌&&◌, Result, Ok, Err, ◌⊎◌}
+use Rattle.std.specs.Prelude.{None, Option, option_map, Some}
 use Rattle.std.specs.List.{All}
 use Rattle.std.specs.Option.{IfSome, option_map_or}
 use Rattle.std.proofs.lemmas.List.Elements.{All-append, All-cons, All-nil}
@@ -10,12 +10,13 @@ use Rattle.sha2.specs.Sha256.{sha256}
 use Rattle.nf_base.specs.declared.changes.Change.{Change}
 use Rattle.nf_base.specs.declared.content.Piece.{Piece}
 use Rattle.nf_base.specs.declared.rows.MetaRow.{MetaRow}
+use Rattle.nf_base.specs.declared.rows.MountRow.{MountRow}
 use Rattle.nf_base.specs.declared.rows.NodeRow.{NodeRow}
 use Rattle.nf_base.specs.declared.rows.Row.{Row}
 use Rattle.nf_base.specs.Content.{content_eq}
 use Rattle.nf_base.specs.declared.changes.Change.TheVariants.{Put}
 use Rattle.nf_base.specs.declared.rows.Row.TheVariants as rows
-use Rattle.nf_defs.specs.Prelude.{Access, blob_at, Blobs, content_of, filled, is_folder, node_key, node_row, put, put_all, put_blob, relinked, Tables, with_blob}
+use Rattle.nf_defs.specs.Prelude.{Access, blob_at, Blobs, content_of, filled, is_folder, mount_key, node_key, node_row, put, put_all, put_blob, relinked, Tables, with_blob}
 use Rattle.nf_defs.proofs.Blobs.{new_at, put_at, put_elsewhere, still_at}
 use Rattle.nf_defs.proofs.Puts.{all_put}
 use Rattle.nf_defs.specs.declared.Found.{Found}
@@ -23,12 +24,12 @@ use Rattle.nf_defs.specs.declared.Found.TheVariants.{At, Free}
 use Rattle.nf_laws.proofs.Contents.{contents_sound, by_kind, others_have}
 use Rattle.nf_laws.proofs.Entries.{entry_has, rest_kept, tickets_left, tickets_with}
 use Rattle.nf_laws.proofs.Gone.{all_cleared}
-use Rattle.nf_laws.proofs.Lists.{AreNodes}
+use Rattle.nf_laws.proofs.Lists.{AreBuilt}
 use Rattle.nf_laws.proofs.Mirrored.{mirrored}
 use Rattle.nf_laws.proofs.OneRow.{with_all}
 use Rattle.nf_laws.proofs.Rows.{content_has, found_is, stamped_has}
 use Rattle.nf_laws.specs.Wholes.{BlobsAreNew, Brings, IsGoalHeld, IsHeld, IsThere, StaysWhole, blob_in, blob_under}
-use Rattle.nf_words.specs.Prelude.{access_of, after_mark, allowed_of, altered, AreSound, blob_after, blob_for, blob_of, by_of, Call, call_of, changed, cleared, content_in, contents_of, copies_to, decision_of, end_refusal, ends_at, ends_goal, given, goal_at, goal_of, hold_of, IsGoalSound, IsPieceSound, IsSound, IsTicketSound, last_name, listing_of, made_folder, MayAsk, node_at, places_of, raised, refilled, refusal_of, served, stamped, State, stored, stored_at, told, transfer_of, unless_refused, with_goal, without}
+use Rattle.nf_words.specs.Prelude.{access_of, after_mark, allowed_of, altered, AreSound, blob_after, blob_for, blob_of, by_of, Call, call_of, carried, changed, cleared, content_in, contents_of, copies_to, crosses, decision_of, deleted, end_refusal, ends_at, ends_goal, given, goal_at, goal_of, hold_of, IsGoalSound, IsPieceSound, IsSound, IsTicketSound, joined, last_name, left_row, listing_of, made_folder, MayAsk, mount_left, mount_renamed, moved, named_row, node_at, own_mount, places_of, raised, refilled, refusal_of, served, stamped, State, stored, stored_at, told, transfer_of, unless_refused, way_of, with_goal, with_mount_row, without}
 use Rattle.nf_words.specs.declared.answer.Allowed.{Allowed}
 use Rattle.nf_words.specs.declared.answer.Allowed.TheVariants as allowed
 use Rattle.nf_words.specs.declared.answer.Goal.{Goal}
@@ -43,6 +44,8 @@ use Rattle.nf_words.proofs.Known.{Known, KnownCopies}
 use Rattle.nf_words.specs.declared.answer.By.{By}
 use Rattle.nf_words.specs.declared.answer.Denial.{Denial}
 use Rattle.nf_words.specs.declared.answer.LockKey.{LockKey}
+use Rattle.nf_words.specs.declared.answer.Report.{Report}
+use Rattle.nf_words.specs.declared.answer.Report.TheVariants as report
 use Rattle.nf_words.specs.declared.answer.LockKey.TheVariants.{Node, Slot}
 use Rattle.nf_words.specs.declared.history.Event.{Event}
 use Rattle.nf_words.specs.declared.history.Event.TheVariants.{Begin, End}
@@ -64,10 +67,10 @@ body_next meta None content of_body = tt
 body_next meta (Some id) content of_body = of_body.0
 
 -- where changes are of bodies, the blob is that of one of them
-changes_next : (t u : Tables) (who : Option ℕ) (changes : List Change) (blob : Option ℕ) → KnownRows t who blob u changes
+changes_next : (t u : Tables) (changes : List Change) (blob : Option ℕ) → KnownRows t blob u changes
     → (changes ≡ [] → blob ≡ None) → IsNext t.meta.next_blob blob
-changes_next t u who [] blob known stored = subst (IsNext t.meta.next_blob) (sym (stored refl)) tt
-changes_next t u who (Put (rows.Node row) ∷ changes) blob known stored =
+changes_next t u [] blob known stored = subst (IsNext t.meta.next_blob) (sym (stored refl)) tt
+changes_next t u (Put (rows.Node row) ∷ changes) blob known stored =
     elim known.0 [
       | inl it ↦ body_next t.meta blob row.content it.body
       | inr it ↦
@@ -76,27 +79,29 @@ changes_next t u who (Put (rows.Node row) ∷ changes) blob known stored =
             | inr kept ↦ subst (IsNext t.meta.next_blob) (sym kept.0) tt
           ]
     ]
-changes_next t u who (change ∷ changes) blob known stored = absurd known.0
+changes_next t u (Put (rows.Mount row) ∷ changes) blob known stored = subst (IsNext t.meta.next_blob) (sym known.0.0) tt
+changes_next t u (change ∷ changes) blob known stored = absurd known.0
 
-pub act_next : (t : Tables) (now : ℕ) (who : Option ℕ) (act : Allowed) → Known t now who act → IsNext t.meta.next_blob (blob_of act)
-act_next t now who (allowed.Change changes blob report) known = changes_next t (raised t now changes blob) who changes blob known.rows known.stored
-act_next t now who act known = tt
+pub act_next : (t : Tables) (now : ℕ) (act : Allowed) → Known t now act → IsNext t.meta.next_blob (blob_of act)
+act_next t now (allowed.Change changes blob report) known = changes_next t (raised t now changes blob) changes blob known.rows known.stored
+act_next t now act known = tt
 
 pub altered_next : (t : Tables) (now : ℕ) (act : Allowed) → (altered t now act).meta.next_blob ≡ blob_after t.meta.next_blob (blob_of act)
 altered_next t now allowed.Close = refl
 altered_next t now act = refl
 
 -- an act that changes no row stores nothing
-pub told_blob : (t : Tables) (now : ℕ) (who : Option ℕ) (act : Allowed) → Known t now who act → told t act ≡ [] → blob_of act ≡ None
-told_blob t now who (allowed.Change changes blob report) known none = known.stored none
-told_blob t now who act known none = refl
+pub told_blob : (t : Tables) (now : ℕ) (act : Allowed) → Known t now act → told t act ≡ [] → blob_of act ≡ None
+told_blob t now (allowed.Change changes blob report) known none = known.stored none
+told_blob t now act known none = refl
 
 -- ---- what an event stores
 
--- each change is of a node's row, with that content
+-- each change is of a mount's row, or of a node's with that content
 abbrev pub AreOf : List Piece → List Change → Type 0
 AreOf content [] = Unit {0}
 AreOf content (Put (rows.Node row) ∷ changes) = (row.content ≡ content) × AreOf content changes
+AreOf content (Put (rows.Mount row) ∷ changes) = AreOf content changes
 AreOf content (change ∷ changes) = ⊥
 
 pub refilled_of : (o : Option NodeRow) (now : ℕ) (content : List Piece) → AreOf content (refilled o now content)
@@ -105,9 +110,10 @@ refilled_of (Some row) now content =
     cond_both (content_eq row.content content && row.changed == now) [] (Put (rows.Node (filled content now row)) ∷ []) (AreOf content)
     (λ same. tt) (λ other. (refl, tt))
 
-pub of_nodes : (content : List Piece) (changes : List Change) → AreOf content changes → AreNodes changes
+pub of_nodes : (content : List Piece) (changes : List Change) → AreOf content changes → AreBuilt changes
 of_nodes content [] of = tt
 of_nodes content (Put (rows.Node row) ∷ changes) of = of_nodes content changes of.1
+of_nodes content (Put (rows.Mount row) ∷ changes) of = of_nodes content changes of
 of_nodes content (change ∷ changes) of = absurd of
 
 -- each is of a row without content, or with that of a node that is there
@@ -148,15 +154,33 @@ either_alters : {X : Type 0} (t : Tables) (act : X → Allowed) (o : Option X) �
 either_alters t act None all = tt
 either_alters t act (Some x) all = all x
 
+if_alters : (t : Tables) (b : Bool) (act other : Allowed) → Alters t act → Alters t other → Alters t (if b then act else other)
+if_alters t true act other one another = one
+if_alters t false act other one another = another
+
+mount_alters : (t : Tables) (row : Option MountRow) (told : Report) → Alters t (with_mount_row row told)
+mount_alters t None told = (refl, inl tt)
+mount_alters t (Some row) told = (refl, inl tt)
+
 pub given_alters : (call : Call) (places : Places) (asked : Wanted)
     → ((spot : Spot) × (asked ≡ wanted.Get spot)) ⊎ Alters call.state.tables (given (access_of call.state) call places asked)
 given_alters call places (wanted.Get spot) = inl (spot, refl)
 given_alters call places (wanted.Put spot size) = inr (put_alters call.state.tables (by_of call spot) (last_name spot) size places.target)
 given_alters call places (wanted.Mkcol spot) = inr (folder_alters call.state.tables call.now (last_name spot) places.target)
-given_alters call places (wanted.Delete spot) = inr (either_alters call.state.tables allowed.Delete (node_at places.source) (λ node. tt))
+given_alters call places (wanted.Delete spot) =
+    let t = call.state.tables in
+    let way = way_of call spot in
+    inr (if_alters t way.itself (mount_left call way) (deleted (node_at places.source)) (mount_alters t (option_map left_row (own_mount call way.mount)) report.Done)
+    (either_alters t allowed.Delete (node_at places.source) (λ node. tt)))
 given_alters call places (wanted.Move source target overwrite) =
     let t = call.state.tables in
-    inr (either_alters t (λ transfer. allowed.Move transfer (last_name target)) (transfer_of t.nodes places) (λ transfer. tt))
+    let way = way_of call source in
+    let name = last_name target in
+    inr (if_alters t way.itself (mount_renamed call way name) (moved t call.now name (transfer_of t.nodes places))
+    (mount_alters t (option_map (named_row name) (own_mount call way.mount)) report.Made)
+    (either_alters t (carried t call.now name) (transfer_of t.nodes places)
+    (λ transfer. if_alters t (crosses t.nodes transfer) (allowed.Cross (copies_to t call.now transfer name) transfer.replaced transfer.node)
+    (allowed.Move transfer name) tt tt)))
 given_alters call places (wanted.Copy source target overwrite) =
     let t = call.state.tables in
     inr (either_alters t (λ transfer. allowed.Copy (copies_to t call.now transfer (last_name target)) transfer.replaced)
@@ -167,11 +191,12 @@ alters_stores : (t : Tables) (body : List ℕ) (act : Allowed) → Alters t act 
 alters_stores t body (allowed.Change changes blob report) alters = inl alters
 alters_stores t body act alters = tt
 
-served_stores : (t : Tables) (body : List ℕ) (o : Option ℕ) → StoresBody t body (served t o)
-served_stores t body None = tt
-served_stores t body (Some node) =
-    cond_both (is_folder t.nodes node) (allowed.List (listing_of t node)) (allowed.Get node (content_of t.nodes node))
-    (StoresBody t body) (λ folder. tt) (λ file. tt)
+served_stores : (access : Access) (call : Call) (body : List ℕ) (mount o : Option ℕ) → StoresBody call.state.tables body (served access call mount o)
+served_stores access call body mount None = tt
+served_stores access call body mount (Some node) =
+    cond_both (is_folder call.state.tables.nodes node) (allowed.List (listing_of access call mount node))
+    (allowed.Get node (content_of call.state.tables.nodes node))
+    (StoresBody call.state.tables body) (λ folder. tt) (λ file. tt)
 
 given_stores : (call : Call) (body : List ℕ) (places : Places) (asked : Wanted)
     → StoresBody call.state.tables body (given (access_of call.state) call places asked)
@@ -180,7 +205,7 @@ given_stores call body places asked =
     elim (given_alters call places asked) [
       | inl get ↦
           subst (λ (w : Wanted). StoresBody t body (given (access_of call.state) call places w)) (sym get.1)
-          (served_stores t body (node_at places.source))
+          (served_stores (access_of call.state) call body (way_of call get.0).mount (node_at places.source))
       | inr alters ↦ alters_stores t body (given (access_of call.state) call places asked) alters
     ]
 
@@ -290,24 +315,33 @@ of_have : (P : NodeRow → Type 0) (t : Tables) (content : List Piece) (changes 
 of_have P t content [] of has all = all
 of_have P t content (Put (rows.Node row) ∷ changes) of has all =
     of_have P (record t { nodes = put node_key row t.nodes }) content changes of.1 has (all_put node_key P row t.nodes (has row of.0) all)
+of_have P t content (Put (rows.Mount row) ∷ changes) of has all = of_have P (record t { mounts = put mount_key row t.mounts }) content changes of has all
 of_have P t content (change ∷ changes) of has all = absurd of
 
 -- a copy has the content of a node that is there
-copies_held : (t : Tables) (now : ℕ) (who : Option ℕ) (copies : List NodeRow) (replaced : Option ℕ) (opening : List Row)
+copies_held : (t : Tables) (now : ℕ) (copies : List NodeRow) (replaced : Option ℕ) (opening : List Row)
     (start blobs : Blobs)
-    → AreSound t → KnownCopies t now who copies replaced → All (IsRowHeld opening start blobs) t.nodes
+    → AreSound t → KnownCopies t now copies replaced → All (IsRowHeld opening start blobs) t.nodes
     → All (IsRowHeld opening start blobs) copies
-copies_held t now who copies replaced opening start blobs sound known kept k d within =
-    let copy = (mirrored t now who copies replaced sound known).each k (get_or copies k d) (slice_get-get_or copies k d within) in
+copies_held t now copies replaced opening start blobs sound known kept k d within =
+    let copy = (mirrored t now copies replaced sound known).each k (get_or copies k d) (slice_get-get_or copies k d within) in
     subst (All (IsHeld opening start blobs)) (sym copy.content)
     (found_is (IsRowHeld opening start blobs) (λ row. row.id == copy.node) t.nodes copy.of kept copy.there).1
 
+joined_held : (t : Tables) (now : ℕ) (copies : List NodeRow) (replaced : Option ℕ) (opening : List Row) (start blobs : Blobs)
+    → AreSound t → KnownCopies t now copies replaced → All (IsRowHeld opening start blobs) t.nodes
+    → All (IsRowHeld opening start blobs) (joined t copies replaced).nodes
+joined_held t now copies replaced opening start blobs sound known kept =
+    All-append (IsRowHeld opening start blobs) (cleared t.nodes replaced) copies
+    (all_cleared (IsRowHeld opening start blobs) t.nodes replaced kept)
+    (copies_held t now copies replaced opening start blobs sound known kept)
+
 -- where the old nodes' pieces are held with the body, the new nodes' are
-altered_held : (t : Tables) (now : ℕ) (who : Option ℕ) (act : Allowed) (opening : List Row) (start blobs : Blobs) (body : List ℕ)
-    → AreSound t → Known t now who act
+altered_held : (t : Tables) (now : ℕ) (act : Allowed) (opening : List Row) (start blobs : Blobs) (body : List ℕ)
+    → AreSound t → Known t now act
     → All (IsRowHeld opening start (with_blob blobs (blob_of act) body)) t.nodes → StoresBody t body act
     → All (IsRowHeld opening start (with_blob blobs (blob_of act) body)) (altered t now act).nodes
-altered_held t now who (allowed.Change changes blob report) opening start blobs body sound known kept stores =
+altered_held t now (allowed.Change changes blob report) opening start blobs body sound known kept stores =
     let more = with_blob blobs blob body in
     let Held : NodeRow → Type 0 = IsRowHeld opening start more in
     elim stores [
@@ -326,29 +360,30 @@ altered_held t now who (allowed.Change changes blob report) opening start blobs 
           of_have Held t (content_in (blob_for t.meta.next_blob (length body)) (sha256 body) (length body)) changes some.1
           (λ row is. stored_held t.meta.next_blob opening start blobs body blob row.content some.0 is) kept
     ]
-altered_held t now who (allowed.Delete node) opening start blobs body sound known kept stores =
+altered_held t now (allowed.Delete node) opening start blobs body sound known kept stores =
     all_cleared (IsRowHeld opening start blobs) t.nodes (Some node) kept
-altered_held t now who (allowed.Move transfer name) opening start blobs body sound known kept stores =
+altered_held t now (allowed.Move transfer name) opening start blobs body sound known kept stores =
     with_all (IsRowHeld opening start blobs) (cleared t.nodes transfer.replaced) transfer.node (relinked transfer.folder name)
     (λ row held. held)
     (all_cleared (IsRowHeld opening start blobs) t.nodes transfer.replaced kept)
-altered_held t now who (allowed.Copy copies replaced) opening start blobs body sound known kept stores =
-    All-append (IsRowHeld opening start blobs) (cleared t.nodes replaced) copies
-    (all_cleared (IsRowHeld opening start blobs) t.nodes replaced kept)
-    (copies_held t now who copies replaced opening start blobs sound known kept)
-altered_held t now who act opening start blobs body sound known kept stores = kept
+altered_held t now (allowed.Copy copies replaced) opening start blobs body sound known kept stores =
+    joined_held t now copies replaced opening start blobs sound known kept
+altered_held t now (allowed.Cross copies replaced node) opening start blobs body sound known kept stores =
+    all_cleared (IsRowHeld opening start blobs) (joined t copies replaced).nodes (Some node)
+    (joined_held t now copies replaced opening start blobs sound known.copies kept)
+altered_held t now act opening start blobs body sound known kept stores = kept
 
-changed_held : (t : Tables) (now : ℕ) (who : Option ℕ) (act : Allowed) (opening : List Row) (start blobs : Blobs) (body : List ℕ)
-    → AreSound t → Known t now who act
+changed_held : (t : Tables) (now : ℕ) (act : Allowed) (opening : List Row) (start blobs : Blobs) (body : List ℕ)
+    → AreSound t → Known t now act
     → AreHeld opening start (with_blob blobs (blob_of act) body) t → StoresBody t body act
     → AreHeld opening start (with_blob blobs (blob_of act) body) (changed t now act)
-changed_held t now who act opening start blobs body sound known kept stores =
+changed_held t now act opening start blobs body sound known kept stores =
     let more = with_blob blobs (blob_of act) body in
     let Held : List Piece → Type 0 = All (IsHeld opening start more) in
     let each = by_kind Held t kept in
     stamped_has (AreHeld opening start more) t (altered t now act) now (told t act) kept
-    (others_have Held t (altered t now act) (rest_kept t now who act sound known) each
-    (altered_held t now who act opening start blobs body sound known each.nodes stores))
+    (others_have Held t (altered t now act) (rest_kept t now act sound known) each
+    (altered_held t now act opening start blobs body sound known each.nodes stores))
 
 -- ---- the tickets
 
@@ -365,12 +400,12 @@ tickets_kept : (t : Tables) (opening : List Row) (start blobs more : Blobs) (tic
 tickets_kept t opening start blobs more tickets keeps sound held = λ k d within.
     goal_kept t opening start blobs more (get_or tickets k d).goal keeps (sound k d within).goal (held k d within)
 
-granted_held : (t : Tables) (now : ℕ) (who : Option ℕ) (act : Allowed) (opening : List Row) (start blobs : Blobs) → Known t now who act
+granted_held : (t : Tables) (now : ℕ) (act : Allowed) (opening : List Row) (start blobs : Blobs) → Known t now act
     → AreHeld opening start blobs t → IfSome (goal_of act) (IsGoalHeld opening start blobs)
-granted_held t now who (allowed.Get node content) opening start blobs known all =
+granted_held t now (allowed.Get node content) opening start blobs known all =
     let nodes = (by_kind (All (IsHeld opening start blobs)) t all).nodes in
     subst (All (IsHeld opening start blobs)) (sym known.of_node) (content_has (IsHeld opening start blobs) t.nodes node nodes)
-granted_held t now who act opening start blobs known all = tt
+granted_held t now act opening start blobs known all = tt
 
 -- ---- the state
 
@@ -379,19 +414,19 @@ abbrev Holds : List Row → Blobs → Blobs → Tables → List Ticket → Type 
 Holds opening start blobs t tickets = AreHeld opening start blobs t × All (HasGoalHeld opening start blobs) tickets
 
 -- so blobs are whole after an act
-act_whole : (t : Tables) (tickets : List Ticket) (seat now : ℕ) (who : Option ℕ) (act : Allowed) (opening : List Row)
+act_whole : (t : Tables) (tickets : List Ticket) (seat now : ℕ) (act : Allowed) (opening : List Row)
     (start blobs : Blobs) (body : List ℕ)
-    → AreSound t → All (IsTicketSound t) tickets → Known t now who act → StoresBody t body act
+    → AreSound t → All (IsTicketSound t) tickets → Known t now act → StoresBody t body act
     → Holds opening start blobs t tickets
     → Holds opening start (with_blob blobs (blob_of act) body) (changed t now act) (with_goal tickets seat (goal_of act) (hold_of act))
-act_whole t tickets seat now who act opening start blobs body sound goals known stores whole =
+act_whole t tickets seat now act opening start blobs body sound goals known stores whole =
     let more = with_blob blobs (blob_of act) body in
-    let keeps = given_kept t.meta.next_blob blobs (blob_of act) body (act_next t now who act known) in
+    let keeps = given_kept t.meta.next_blob blobs (blob_of act) body (act_next t now act known) in
     let kept = contents_kept t opening start blobs more keeps sound whole.0 in (
-      changed_held t now who act opening start blobs body sound known kept stores,
+      changed_held t now act opening start blobs body sound known kept stores,
       tickets_with (HasGoalHeld opening start more) tickets seat (goal_of act) (hold_of act)
           (tickets_kept t opening start blobs more tickets keeps goals whole.1)
-          (granted_held t now who act opening start more known kept),
+          (granted_held t now act opening start more known kept),
     )
 
 pub stays_whole : StaysWhole
@@ -401,7 +436,7 @@ stays_whole n s e body opening start blobs sound may brings whole =
     let goals = tickets_left (IsTicketSound s.tables) s e.seat e.event sound.tickets in
     let h = entry_has (λ t tickets blob. Holds opening start (with_blob blobs blob body) t tickets) s e e.mark first
     (λ act is.
-    act_whole s.tables _ e.seat e.moment _ act opening start blobs body sound.rows goals
+    act_whole s.tables (without s e.seat e.event).tickets e.seat e.moment act opening start blobs body sound.rows goals
     (known_change s e.seat e.moment e.event act sound may.asked is)
     (subst (Decides s.tables body) is (decision_stores s e.seat e.moment e.event body brings)) first) in
     record { rows = h.0; tickets = h.1 }
@@ -412,15 +447,15 @@ stays_whole n s e body opening start blobs sound may brings whole =
 abbrev IsNew : MetaRow → MetaRow → ℕ → Type 0
 IsNew before after id = (id ≡ before.next_blob) × (id < after.next_blob)
 
-changed_new : (t : Tables) (now : ℕ) (who : Option ℕ) (act : Allowed) (id : ℕ) → AreSound t → Known t now who act → blob_of act ≡ Some id
+changed_new : (t : Tables) (now : ℕ) (act : Allowed) (id : ℕ) → AreSound t → Known t now act → blob_of act ≡ Some id
     → IsNew t.meta (changed t now act).meta id
-changed_new t now who act id sound known is = here (told t act) refl
+changed_new t now act id sound known is = here (told t act) refl
   where
     next : id ≡ t.meta.next_blob
-    next = subst (IsNext t.meta.next_blob) is (act_next t now who act known)
+    next = subst (IsNext t.meta.next_blob) is (act_next t now act known)
 
     here : (changes : List Change) → told t act ≡ changes → IsNew t.meta (stamped t (altered t now act) now changes).meta id
-    here [] e = absurd (none-some id (sym (told_blob t now who act known e) ∙ is))
+    here [] e = absurd (none-some id (sym (told_blob t now act known e) ∙ is))
     here (change ∷ changes) e =
         let given = altered_next t now act ∙ ap (blob_after t.meta.next_blob) is in (next, omega (arith, next, given))
 
@@ -429,7 +464,7 @@ entry_new : (s : State) (e : Entry) (m : Mark) (id : ℕ) → IsSound s → MayA
 entry_new s e m id sound asked =
     entry_has (λ t tickets blob. blob ≡ Some id → IsNew s.tables.meta t.meta id) s e m (λ is. absurd (none-some id is))
     (λ act decides.
-    changed_new s.tables e.moment _ act id sound.rows (known_change s e.seat e.moment e.event act sound asked decides))
+    changed_new s.tables e.moment act id sound.rows (known_change s e.seat e.moment e.event act sound asked decides))
 
 pub blobs_are_new : BlobsAreNew
 blobs_are_new = record {

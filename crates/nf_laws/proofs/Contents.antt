@@ -81,9 +81,9 @@ module _ (P : List Piece → Type 0) where
         chunks = All-nil (λ (row : ChunkRow). P row.content);
       }))
 
-  -- ---- tables whose nodes alone are others
+  -- ---- tables whose nodes, shares and mounts alone are others
 
-  pub others_have : (t made : Tables) → made ≡ record t { meta = made.meta; nodes = made.nodes } → EachHas t
+  pub others_have : (t made : Tables) → made ≡ record t { meta = made.meta; nodes = made.nodes; shares = made.shares; mounts = made.mounts } → EachHas t
       → All (λ (row : NodeRow). P row.content) made.nodes → All P (contents_of made)
   others_have t made rest each nodes =
       all_have made (record {

@@ -1,29 +1,33 @@
 -- The tables with copies more are sound.
-use Rattle.std.proofs.Common.{ℕ, zero, suc, ◌+◌, ◌≡◌, ◌≢◌, ◌<◌, ◌≤◌, true, false, List, [], ◌∷◌, ◌++◌, Option, Some, get_or, length, refl, sym, ap, subst, ◌∙◌, arith, le_refl, length-append}
+use Rattle.std.proofs.Common.{ℕ, zero, suc, ◌+◌, ◌≡◌, ◌≢◌, ◌<◌, ◌≤◌, ◌&&◌, bytes_eq, true, false, List, [], ◌∷◌, ◌++◌, Option, Some, get_or, length, refl, sym, ap, subst, ◌∙◌, arith, le_refl, length-append}
 use Rattle.std.specs.List.{All, AllPairs, slice_get, sum_by}
 use Rattle.std.specs.Option.{option_and_then, option_map_or}
+use Rattle.std.proofs.lemmas.Bool.{and_parts, eqb-true, false_from_ne_true}
 use Rattle.std.proofs.lemmas.List.{get_or-append-add}
 use Rattle.std.proofs.lemmas.List.Elements.{All-append, All-weaker}
 use Rattle.std.proofs.lemmas.List.Sums.{sum_by-append, sum_by-cons}
 use Rattle.std.proofs.lemmas.Option.{get_or_from_slice_get, same_Some, slice_get-get_or, slice_get_within}
+use Rattle.nf_access.specs.Mounts.{root_folder}
 use Rattle.nf_base.specs.declared.limits.TheConstants.{MAX_NODES, MAX_STORED_PIECES}
 use Rattle.nf_base.specs.declared.content.Piece.{Piece}
 use Rattle.nf_base.specs.declared.rows.NodeRow.{NodeRow}
 use Rattle.nf_base.specs.declared.rows.Place.{Place}
 use Rattle.nf_base.specs.declared.rows.Place.TheVariants.{Inside}
-use Rattle.nf_defs.specs.Prelude.{child_of, climb, content_of, depth, is_folder, is_folder_kind, node_row, owner_of, piece_count, Tables, walk_of, walk_within}
+use Rattle.nf_defs.specs.Prelude.{child_of, climb, content_of, depth, is_folder, is_folder_kind, is_in, is_place_in, is_root, is_root_place, node_row, owner_of, piece_count, Tables, walk_of, walk_within}
 use Rattle.nf_laws.proofs.Added.{new_apart}
 use Rattle.nf_laws.proofs.Climbs.{node_row_each, parent_at}
-use Rattle.nf_laws.proofs.Gone.{clearing_sound, counts_cleared, folder_stays, free_cleared, row_cleared}
+use Rattle.nf_laws.proofs.Gone.{cleared_all, clearing_sound, counts_cleared, folder_stays, free_cleared, left_sound, row_cleared}
 use Rattle.nf_laws.proofs.Mirrored.{mirrored}
-use Rattle.nf_laws.proofs.Moved.{depth_cleared}
+use Rattle.nf_laws.proofs.Moved.{depth_cleared, unmounted_cleared}
+use Rattle.nf_laws.proofs.Others.{all_off, IsOff, kept_present, new_off, others_still, root_row, Still, was_same, WasThere}
 use Rattle.nf_laws.proofs.Paths.{child_there}
-use Rattle.nf_laws.proofs.Rows.{child_folder, climb_kept, counters_up, folder_kept, folder_there, kept_joined, no_others, node_kept, parent_there, pieces_kept, root_kept, row_is, row_joined, stamp, top_kept}
+use Rattle.nf_laws.proofs.Rows.{child_folder, climb_kept, counters_up, folder_kept, folder_there, kept_joined, node_kept, parent_there, pieces_kept, root_kept, row_is, row_joined, stamp, top_kept}
 use Rattle.nf_laws.proofs.Upwards.{climbs_depth, deepest_among, depth_up}
 use Rattle.nf_laws.proofs.Walked.{AllPairs-append, walks_take}
+use Rattle.nf_laws.specs.Numbers.{AreHigher}
 use Rattle.nf_laws.specs.Transfers.{IsCopyOf, Mirrors, is_replaced}
-use Rattle.nf_words.proofs.Known.{KnownCopies, KnownTransfer}
-use Rattle.nf_words.specs.Prelude.{AreApart, AreSound, cleared, HasRoot, IsNodeSound, IsPieceSound, IsPlaceSound, IsTop, joined, pieces_in, stored_pieces}
+use Rattle.nf_words.proofs.Known.{KnownCopies, KnownCross, KnownTransfer}
+use Rattle.nf_words.specs.Prelude.{AreApart, AreSound, cleared, HasRoot, IsNodeSound, IsPieceSound, IsPlaceSound, IsTop, IsUnmounted, joined, pieces_in, removed, stored_pieces}
 use Rattle.nf_words.specs.declared.request.Transfer.{Transfer}
 
 -- ---- lists
@@ -81,19 +85,19 @@ module _ (t : Tables) (now : ℕ) (transfer : Transfer) (name : List ℕ) (rows 
       ∙ ap (content_of t.nodes) (sym (get_or_from_slice_get (walk_of t.nodes transfer.node) k copy.node e copy.at_index))))
 
   -- how deep the node of the k-th copy is
-  abbrev depth_at : ℕ → ℕ
+  abbrev pub depth_at : ℕ → ℕ
   depth_at k = depth t.nodes (get_or (walk_of t.nodes transfer.node) k 0)
 
   -- a copy after the first is in one before it, which is a folder, and its node is one deeper than that one's
-  record IsInCopy (k : ℕ) (copy d : NodeRow) : Type 0 where
-    at : ℕ
-    before : at < k
-    place : copy.place ≡ Inside (t.meta.next_node + at)
-    folder : is_folder_kind (get_or rows at d).kind ≡ true
-    deeper : depth_at k ≡ suc (depth_at at)
+  pub record IsInCopy (k : ℕ) (copy d : NodeRow) : Type 0 where
+    pub at : ℕ
+    pub before : at < k
+    pub place : copy.place ≡ Inside (t.meta.next_node + at)
+    pub folder : is_folder_kind (get_or rows at d).kind ≡ true
+    pub deeper : depth_at k ≡ suc (depth_at at)
 
   module _ (sound : AreSound t) where
-    copy_in : (k : ℕ) (d : NodeRow) → suc k < length rows → IsInCopy (suc k) (get_or rows (suc k) d) d
+    pub copy_in : (k : ℕ) (d : NodeRow) → suc k < length rows → IsInCopy (suc k) (get_or rows (suc k) d) d
     copy_in k d within =
         let copy = copy_at (suc k) d within in
         let p = copy.placed.1 in
@@ -132,10 +136,10 @@ module _ (t : Tables) (now : ℕ) (transfer : Transfer) (name : List ℕ) (rows 
 
 -- ---- the tables with the copies
 
-module _ (t : Tables) (now : ℕ) (who : Option ℕ) (transfer : Transfer) (name : List ℕ) (rows : List NodeRow)
-    (mirrors : Mirrors t now transfer name rows) (sound : AreSound t) (known : KnownTransfer t who transfer name) where
+module _ (t : Tables) (now : ℕ) (transfer : Transfer) (name : List ℕ) (rows : List NodeRow)
+    (mirrors : Mirrors t now transfer name rows) (sound : AreSound t) (known : KnownTransfer t transfer name) where
   abbrev left : Tables
-  left = record t { nodes = cleared t.nodes transfer.replaced }
+  left = cleared_all t transfer.replaced
 
   abbrev made : Tables
   made = stamp (joined t rows transfer.replaced) now
@@ -144,22 +148,22 @@ module _ (t : Tables) (now : ℕ) (who : Option ℕ) (transfer : Transfer) (name
   stays : is_replaced t.nodes transfer.replaced transfer.folder ≡ false
   stays = folder_stays t transfer.replaced transfer.folder name sound known.there
 
-  left_sound : AreSound left
-  left_sound = clearing_sound t who transfer name sound known
+  left_fine : AreSound left
+  left_fine = clearing_sound t transfer name sound known
 
   copy : (k : ℕ) (d : NodeRow) → k < length rows → IsCopyOf t now transfer name k (get_or rows k d)
   copy = copy_at t now transfer name rows mirrors
 
   -- the copies come after all that is left
-  rising : AllPairs (λ (a b : NodeRow). a.id < b.id) made.nodes
-  rising =
-      AllPairs-append (λ (a b : NodeRow). a.id < b.id) left.nodes rows left_sound.rising (copies_rise t now transfer name rows mirrors)
-      (λ i d within k e also. omega (arith, (left_sound.nodes i d within).given, (copy k e also).id))
+  pub joined_rises : AllPairs (λ (a b : NodeRow). a.id < b.id) made.nodes
+  joined_rises =
+      AllPairs-append (λ (a b : NodeRow). a.id < b.id) left.nodes rows left_fine.rising (copies_rise t now transfer name rows mirrors)
+      (λ i d within k e also. omega (arith, (left_fine.nodes i d within).given, (copy k e also).id))
 
   copy_there : (d : NodeRow) (k : ℕ) → k < length rows → node_row made.nodes (t.meta.next_node + k) ≡ Some (get_or rows k d)
   copy_there d k within =
       let same = get_or-append-add left.nodes rows k d in
-      let there = node_row_each made.nodes rising (length left.nodes + k) d (omega (arith, length-append left.nodes rows)) in
+      let there = node_row_each made.nodes joined_rises (length left.nodes + k) d (omega (arith, length-append left.nodes rows)) in
       ap (node_row made.nodes) (sym (copy k d within).id)
       ∙ subst (λ (row : NodeRow). node_row made.nodes row.id ≡ Some row) same there
 
@@ -190,8 +194,8 @@ module _ (t : Tables) (now : ℕ) (who : Option ℕ) (transfer : Transfer) (name
   folder_climbs =
       let kept = kept_joined left.nodes rows in
       let there = row_cleared t.nodes transfer.replaced transfer.folder stays ∙ folder_row.1 in
-      let over = climbs_depth left transfer.folder folder_row.0 left_sound there in
-      let deep = depth_cleared t transfer.replaced transfer.folder folder_row.0 sound left_sound there in (
+      let over = climbs_depth left transfer.folder folder_row.0 left_fine there in
+      let deep = depth_cleared t transfer.replaced transfer.folder folder_row.0 sound left_fine there in (
         over.0,
         climb_kept (depth t.nodes transfer.folder) left.nodes made.nodes transfer.folder over.0 kept
             (subst (λ (n : ℕ). climb left.nodes n transfer.folder ≡ Some over.0) deep over.1),
@@ -255,8 +259,8 @@ module _ (t : Tables) (now : ℕ) (who : Option ℕ) (transfer : Transfer) (name
   old_apart i d within (suc k) e also folder place other =
       let old : NodeRow = get_or left.nodes i d in
       let c = copy_in t now transfer name rows mirrors sound k e also in
-      let above = folder_there left.nodes folder (child_folder left old old.place folder (left_sound.nodes i d within).place place) in
-      let h = row_is left folder above.0 left_sound above.1 in
+      let above = folder_there left.nodes folder (child_folder left old old.place folder (left_fine.nodes i d within).place place) in
+      let h = row_is left folder above.0 left_fine above.1 in
       let same : folder ≡ t.meta.next_node + c.at = cc (c.place) in
       absurd (omega (arith, h.0, h.1.given))
 
@@ -290,6 +294,44 @@ module _ (t : Tables) (now : ℕ) (who : Option ℕ) (transfer : Transfer) (name
       (get_or_from_slice_get walk (suc i) a.node 0 a.at_index ∙ sym id_a ∙ same ∙ id_b
       ∙ sym (get_or_from_slice_get walk (suc j) b.node 0 b.at_index))
 
+  -- ---- shares and mounts
+
+  up : AreHigher t.meta made.meta
+  up = record { users = le_refl _; groups = le_refl _; nodes = omega arith; shares = le_refl _; blobs = le_refl _ }
+
+  -- what is left is as it was, also for shares and mounts
+  left_was : (node : ℕ) → node < t.meta.next_node → WasThere left.nodes made.nodes node
+  left_was node given row there =
+      was_same left.nodes node row
+      (sym (row_joined left.nodes rows node (λ k d within same. absurd (omega (arith, given, same, (copy k d within).id)))) ∙ there)
+
+  -- no copy has a mount's name in a user's root
+  copies_off : All (IsOff left) rows
+  copies_off zero d within i e among shown =
+      let c = copy 0 d within in
+      let at = row_cleared t.nodes transfer.replaced transfer.folder stays in
+      new_off left (get_or rows 0 d) transfer.folder left_fine c.placed.0
+      (subst (IsUnmounted left transfer.folder) (sym c.placed.1) (unmounted_cleared t transfer.replaced transfer.folder name at known.unmounted))
+      i e among shown
+  copies_off (suc k) d within i e among shown =
+      let mount = get_or left.mounts i e in
+      let root = root_folder t.users mount.user in
+      let c = copy_in t now transfer name rows mirrors sound k d within in
+      let of = root_row left mount.user left_fine (left_fine.others.mounts i e among).user in
+      let h = row_is left root of.row left_fine of.there in
+      false_from_ne_true (is_in root (get_or rows (suc k) d) && bytes_eq (get_or rows (suc k) d).name mount.name) (λ both.
+      let inside = (and_parts (is_in root (get_or rows (suc k) d)) (bytes_eq (get_or rows (suc k) d).name mount.name) both).0 in
+      let same : t.meta.next_node + c.at ≡ root = eqb-true (t.meta.next_node + c.at) root (ap (is_place_in root) (sym c.place) ∙ inside) in
+      absurd (omega (arith, same, h.0, h.1.given)))
+
+  still : Still left made.nodes
+  still = record {
+    of_shares = λ k d within. left_was (get_or left.shares k d).node (left_fine.others.shares k d within).node;
+    of_mounts = λ k d within. left_was (get_or left.mounts k d).node (left_fine.others.mounts k d within).node;
+    present = kept_present left made.nodes left_fine (kept_joined left.nodes rows);
+    off = All-append (IsOff left) left.nodes rows (all_off left left_fine) copies_off;
+  }
+
   -- ---- all rows
 
   joined_sound : t.meta.last ≤ now → AllPairs (λ (a b : ℕ). a ≢ b) (walk_of t.nodes transfer.node)
@@ -299,20 +341,14 @@ module _ (t : Tables) (now : ℕ) (who : Option ℕ) (transfer : Transfer) (name
       let kept = kept_joined left.nodes rows in
       let counts = counts_cleared t.nodes transfer.replaced in
       record {
-        counters = counters_up t.meta made.meta sound.counters (record {
-          users = le_refl _;
-          groups = le_refl _;
-          nodes = omega arith;
-          shares = le_refl _;
-          blobs = le_refl _;
-        });
-        rising = rising;
+        counters = counters_up t.meta made.meta sound.counters up;
+        rising = joined_rises;
         nodes = All-append (IsNodeSound made) left.nodes rows
             (All-weaker (IsNodeSound left) (IsNodeSound made)
-            (λ row. node_kept left made.meta made.nodes row kept (omega arith) (omega arith) later) left.nodes left_sound.nodes)
+            (λ row. node_kept left made.meta made.nodes row kept (omega arith) (omega arith) later) left.nodes left_fine.nodes)
             copies_sound;
-        names = AllPairs-append AreApart left.nodes rows left_sound.names (copies_apart once) old_apart;
-        roots = All-weaker (HasRoot left) (HasRoot made) (root_kept left made.meta made.nodes kept) t.users left_sound.roots;
+        names = AllPairs-append AreApart left.nodes rows left_fine.names (copies_apart once) old_apart;
+        roots = All-weaker (HasRoot left) (HasRoot made) (root_kept left made.meta made.nodes kept) t.users left_fine.roots;
         few_nodes = omega (arith, few_nodes, counts.0, mirrors.all, length-append left.nodes rows);
         few_pieces = omega (
           arith,
@@ -322,12 +358,39 @@ module _ (t : Tables) (now : ℕ) (who : Option ℕ) (transfer : Transfer) (name
           sum_by-append (λ row. length row.content) left.nodes rows,
         );
         later = sound.later;
-        others = no_others made sound.later;
+        others = others_still left made.meta made.nodes left_fine up later still;
       }
 
-pub copied_sound : (t : Tables) (now : ℕ) (who : Option ℕ) (rows : List NodeRow) (replaced : Option ℕ)
-    → AreSound t → t.meta.last ≤ now → KnownCopies t now who rows replaced → AreSound (stamp (joined t rows replaced) now)
-copied_sound t now who rows replaced sound later copies =
+pub copied_sound : (t : Tables) (now : ℕ) (rows : List NodeRow) (replaced : Option ℕ)
+    → AreSound t → t.meta.last ≤ now → KnownCopies t now rows replaced → AreSound (stamp (joined t rows replaced) now)
+copied_sound t now rows replaced sound later copies =
     subst (λ (o : Option ℕ). AreSound (stamp (joined t rows o) now)) (sym copies.replaced_is)
-    (joined_sound t now who copies.transfer copies.name rows (mirrored t now who rows replaced sound copies) sound copies.known later
+    (joined_sound t now copies.transfer copies.name rows (mirrored t now rows replaced sound copies) sound copies.known later
     (walks_take.once t copies.transfer.node sound) copies.nodes copies.pieces)
+
+-- ---- what goes to another owner
+
+-- the source is there with the copies, as it was
+pub crossed_row : (t : Tables) (now : ℕ) (rows : List NodeRow) (replaced : Option ℕ) (node : ℕ) → AreSound t → KnownCross t now rows replaced node
+    → node_row (joined t rows replaced).nodes node ≡ node_row t.nodes node
+crossed_row t now rows replaced node sound cross =
+    let copies = cross.copies in
+    let transfer = copies.transfer in
+    let source = row_is t transfer.node copies.known.source.0 sound copies.known.source.1 in
+    let given : node < t.meta.next_node = omega (arith, cross.node_is, source.0, source.1.given) in
+    old_joined t now transfer copies.name rows (mirrored t now rows replaced sound copies) (cleared t.nodes replaced) node given
+    ∙ row_cleared t.nodes replaced node
+    (subst (λ (n : ℕ). is_replaced t.nodes replaced n ≡ false) (sym cross.node_is)
+    (subst (λ (o : Option ℕ). is_replaced t.nodes o transfer.node ≡ false) (sym copies.replaced_is) copies.known.apart))
+
+pub crossed_no_root : (t : Tables) (now : ℕ) (rows : List NodeRow) (replaced : Option ℕ) (node : ℕ) → AreSound t → KnownCross t now rows replaced node
+    → is_root (joined t rows replaced).nodes node ≡ false
+crossed_no_root t now rows replaced node sound cross =
+    ap (λ (o : Option NodeRow). option_map_or (λ row. is_root_place row.place) o false) (crossed_row t now rows replaced node sound cross)
+    ∙ ap (is_root t.nodes) cross.node_is ∙ cross.copies.known.no_root
+
+pub crossed_sound : (t : Tables) (now : ℕ) (rows : List NodeRow) (replaced : Option ℕ) (node : ℕ)
+    → AreSound t → t.meta.last ≤ now → KnownCross t now rows replaced node → AreSound (stamp (removed (joined t rows replaced) node) now)
+crossed_sound t now rows replaced node sound later cross =
+    left_sound (stamp (joined t rows replaced) now) node (copied_sound t now rows replaced sound later cross.copies)
+    (crossed_no_root t now rows replaced node sound cross)

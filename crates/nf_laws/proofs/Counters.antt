@@ -21,6 +21,7 @@ same meta = up meta meta.last meta.next_node (le_refl _)
 altered_up : (t : Tables) (now : ℕ) (act : Allowed) → AreHigher t.meta (stamp (altered t now act) now).meta
 altered_up t now (allowed.Change changes blob report) = raised_higher t now changes blob
 altered_up t now (allowed.Copy rows replaced) = up t.meta now (t.meta.next_node + length rows) (omega arith)
+altered_up t now (allowed.Cross rows replaced node) = up t.meta now (t.meta.next_node + length rows) (omega arith)
 altered_up t now act = up t.meta now t.meta.next_node (le_refl _)
 
 pub changed_up : (t : Tables) (now : ℕ) (act : Allowed) → AreHigher t.meta (changed t now act).meta

@@ -4,12 +4,12 @@ use Rattle.std.specs.List.{All}
 use Rattle.std.specs.Option.{IfSome}
 use Rattle.std.proofs.lemmas.List.Elements.{All-filter, All-push}
 use Rattle.nf_defs.specs.Tables.{Tables}
-use Rattle.nf_laws.proofs.Lists.{changes_have, with_born, with_filled}
+use Rattle.nf_laws.proofs.Lists.{changes_have, with_born, with_filled, with_remounted}
 use Rattle.nf_laws.proofs.Rows.{stamp, stamped_has}
 use Rattle.nf_laws.specs.Wholes.{blob_under}
 use Rattle.nf_words.proofs.Ends.{known_change}
 use Rattle.nf_words.proofs.Known.{Known}
-use Rattle.nf_words.specs.Prelude.{actor_of, after, after_mark, altered, AreSound, blob_by, blob_of, changed, decided, decision_of, goal_of, hold_of, IsSound, MayCome, State, step, ticket_for, told, with_goal, without}
+use Rattle.nf_words.specs.Prelude.{after, after_mark, altered, AreSound, blob_by, blob_of, changed, decided, decision_of, goal_of, hold_of, IsSound, MayCome, State, step, ticket_for, told, with_goal, without}
 use Rattle.nf_words.specs.declared.answer.Allowed.{Allowed}
 use Rattle.nf_words.specs.declared.answer.Allowed.TheVariants as allowed
 use Rattle.nf_words.specs.declared.answer.Denial.{Denial}
@@ -80,18 +80,20 @@ entry_has P s e m same acts = subst (λ (t : Tables). P t (without s e.seat e.ev
 
 -- what the tables have before the entry, and those that an act makes once the moment is stamped, they have after it
 pub after_has : (P : Tables → Type 0) (n : ℕ) (s : State) (e : Entry) → IsSound s → MayCome n s e → P s.tables
-    → ((act : Allowed) → Known s.tables e.moment (actor_of s e.seat e.event) act → P (stamp (altered s.tables e.moment act) e.moment))
+    → ((act : Allowed) → Known s.tables e.moment act → P (stamp (altered s.tables e.moment act) e.moment))
     → P (after s e).tables
 after_has P n s e sound may same acts =
     entry_has (λ t tickets blob. P t) s e e.mark same (λ act is.
     stamped_has P s.tables (altered s.tables e.moment act) e.moment (told s.tables act) same
     (acts act (known_change s e.seat e.moment e.event act sound may.asked is)))
 
--- no act makes other rows than nodes and the meta row
-pub rest_kept : (t : Tables) (now : ℕ) (who : Option ℕ) (act : Allowed) → AreSound t → Known t now who act
-    → altered t now act ≡ record t { meta = (altered t now act).meta; nodes = (altered t now act).nodes }
-rest_kept t now who (allowed.Change changes blob report) sound known =
-    changes_have (λ (u : Tables). u ≡ record t { meta = u.meta; nodes = u.nodes }) t now who changes blob report sound.rising known
-    (λ u row same it. ap (λ (v : Tables). with_born v row) same) (λ u row same it. ap (λ (v : Tables). with_filled v row) same) refl
-rest_kept t now who allowed.Close sound known = refl
-rest_kept t now who act sound known = refl
+-- no act makes other rows than nodes, shares, mounts and the meta row
+pub rest_kept : (t : Tables) (now : ℕ) (act : Allowed) → AreSound t → Known t now act
+    → altered t now act
+    ≡ record t { meta = (altered t now act).meta; nodes = (altered t now act).nodes; shares = (altered t now act).shares; mounts = (altered t now act).mounts }
+rest_kept t now (allowed.Change changes blob report) sound known =
+    changes_have (λ (u : Tables). u ≡ record t { meta = u.meta; nodes = u.nodes; shares = u.shares; mounts = u.mounts }) t now changes blob report sound.rising known
+    (λ u row same it. ap (λ (v : Tables). with_born v row) same) (λ u row same it. ap (λ (v : Tables). with_filled v row) same)
+    (λ u row same it. ap (λ (v : Tables). with_remounted v row) same) refl
+rest_kept t now allowed.Close sound known = refl
+rest_kept t now act sound known = refl

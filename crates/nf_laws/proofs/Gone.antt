@@ -13,33 +13,34 @@ use Rattle.nf_base.specs.declared.rows.Place.TheVariants.{Inside, Root, Trash}
 use Rattle.nf_base.specs.declared.rows.UserRow.{UserRow}
 use Rattle.nf_defs.specs.Prelude.{child_of, climb, folder_of, is_root, is_root_place, is_under, node_row, parent_of, piece_count, Tables}
 use Rattle.nf_laws.proofs.Climbs.{climb_those, climb_under, climbs_no_further, node_row_each, parent_at, row_of_those, those, under_climb}
+use Rattle.nf_laws.proofs.Others.{others_ended, without}
 use Rattle.nf_laws.proofs.Paths.{child_is, child_there}
-use Rattle.nf_laws.proofs.Rows.{finds_none, kept_row, no_others, node_still, root_still}
+use Rattle.nf_laws.proofs.Rows.{finds_none, kept_row, node_still, root_still}
 use Rattle.nf_laws.proofs.Upwards.{inside_no_root, never_climbs, no_rings}
 use Rattle.nf_laws.specs.Transfers.{is_replaced}
 use Rattle.nf_words.proofs.Found.{child_parent}
 use Rattle.nf_words.proofs.Known.{KnownTransfer}
-use Rattle.nf_words.specs.Prelude.{AreApart, AreSound, cleared, HasRoot, IsNodeSound, IsPlaceSound, removed}
+use Rattle.nf_words.specs.Prelude.{AreApart, AreSound, cleared, ended_for, HasRoot, IsNodeSound, IsPlaceSound, removed}
 use Rattle.nf_words.specs.declared.request.Transfer.{Transfer}
 
--- ---- the tables with the nodes alone whose numbers pass a test
+-- ---- the tables without the nodes that go
 
-abbrev pub with_those : Tables → (ℕ → Bool) → Tables
-with_those t test = record t { nodes = those test t.nodes }
+abbrev pub stays : (ℕ → Bool) → ℕ → Bool
+stays gone node = not (gone node)
 
 -- the folder of what passes passes
 abbrev pub IsClosed : List NodeRow → (ℕ → Bool) → Type 0
 IsClosed rows test = (node parent : ℕ) → parent_of rows node ≡ Some parent → test node ≡ true → test parent ≡ true
 
 -- what passes has its place, its climb and its root as before
-place_left : (t : Tables) (test : ℕ → Bool) (row : NodeRow) → IsClosed t.nodes test → node_row t.nodes row.id ≡ Some row → test row.id ≡ true
-    → (place : Place) → row.place ≡ place → IsPlaceSound t row place → IsPlaceSound (with_those t test) row place
-place_left t test row closed there passes Root is h = h
-place_left t test row closed there passes (Inside folder) is h =
+place_left : (t : Tables) (gone : ℕ → Bool) (row : NodeRow) → IsClosed t.nodes (stays gone) → node_row t.nodes row.id ≡ Some row → stays gone row.id ≡ true
+    → (place : Place) → row.place ≡ place → IsPlaceSound t row place → IsPlaceSound (without t gone) row place
+place_left t gone row closed there passes Root is h = h
+place_left t gone row closed there passes (Inside folder) is h =
     let above = parent_at t.nodes row.id folder row there is in
-    let e = row_of_those test t.nodes folder (closed row.id folder above passes) in
+    let e = row_of_those (stays gone) t.nodes folder (closed row.id folder above passes) in
     (rw e h.0, rw e h.1)
-place_left t test row closed there passes Trash is h = h
+place_left t gone row closed there passes Trash is h = h
 
 -- what passes climbs to what passes
 climb_passes : (test : ℕ → Bool) (rows : List NodeRow) → IsClosed rows test → (k node top : ℕ) → climb rows k node ≡ Some top
@@ -49,41 +50,41 @@ climb_passes test rows closed (suc k) node top is passes =
     option_and_then_some (climb rows k) (parent_of rows node) top is (λ parent above is.
     climb_passes test rows closed k parent top is (closed node parent above passes))
 
-node_left : (t : Tables) (test : ℕ → Bool) (row : NodeRow) → IsClosed t.nodes test → node_row t.nodes row.id ≡ Some row → test row.id ≡ true
-    → IsNodeSound t row → IsNodeSound (with_those t test) row
-node_left t test row closed there passes h =
-    node_still t (with_those t test) row row.place row.name (le_refl _) (le_refl _) (le_refl _) h
-    (place_left t test row closed there passes row.place refl h.place)
+node_left : (t : Tables) (gone : ℕ → Bool) (row : NodeRow) → IsClosed t.nodes (stays gone) → node_row t.nodes row.id ≡ Some row → stays gone row.id ≡ true
+    → IsNodeSound t row → IsNodeSound (without t gone) row
+node_left t gone row closed there passes h =
+    node_still t (without t gone) row row.place row.name (le_refl _) (le_refl _) (le_refl _) h
+    (place_left t gone row closed there passes row.place refl h.place)
     (record {
       steps = h.steps;
       shallow = h.shallow;
       top = h.top;
-      climbs = climb_those test t.nodes closed h.steps row.id passes ∙ h.climbs;
+      climbs = climb_those (stays gone) t.nodes closed h.steps row.id passes ∙ h.climbs;
       ends = record {
         row = h.ends.row;
-        there = row_of_those test t.nodes h.top (climb_passes test t.nodes closed h.steps row.id h.top h.climbs passes) ∙ h.ends.there;
+        there = row_of_those (stays gone) t.nodes h.top (climb_passes (stays gone) t.nodes closed h.steps row.id h.top h.climbs passes) ∙ h.ends.there;
         ends = h.ends.ends;
       };
     })
 
-root_stays : (t : Tables) (test : ℕ → Bool) (user : UserRow) → test user.root ≡ true → HasRoot t user → HasRoot (with_those t test) user
-root_stays t test user passes root =
-    root_still t (with_those t test) user root
-    (kept_row (those test t.nodes) user.root root.row (row_of_those test t.nodes user.root passes ∙ root.there))
+root_stays : (t : Tables) (gone : ℕ → Bool) (user : UserRow) → stays gone user.root ≡ true → HasRoot t user → HasRoot (without t gone) user
+root_stays t gone user passes root =
+    root_still t (without t gone) user root
+    (kept_row (those (stays gone) t.nodes) user.root root.row (row_of_those (stays gone) t.nodes user.root passes ∙ root.there))
 
-pub those_sound : (t : Tables) (test : ℕ → Bool) → AreSound t → IsClosed t.nodes test
-    → ((user : UserRow) → HasRoot t user → test user.root ≡ true) → AreSound (with_those t test)
-those_sound t test sound closed roots =
-    let passes : NodeRow → Bool = λ row. test row.id in
+pub those_sound : (t : Tables) (gone : ℕ → Bool) → AreSound t → IsClosed t.nodes (stays gone)
+    → ((user : UserRow) → HasRoot t user → stays gone user.root ≡ true) → AreSound (without t gone)
+those_sound t gone sound closed roots =
+    let passes : NodeRow → Bool = λ row. stays gone row.id in
     record {
       counters = sound.counters;
       rising = AllPairs-filter (λ a b. a.id < b.id) passes t.nodes sound.rising;
-      nodes = λ k d within. node_left t test _ closed
+      nodes = λ k d within. node_left t gone _ closed
           (All-filter passes (λ row. node_row t.nodes row.id ≡ Some row) t.nodes (node_row_each t.nodes sound.rising) k d within)
           (filter_passes passes t.nodes k d within)
           (All-filter passes (IsNodeSound t) t.nodes sound.nodes k d within);
       names = AllPairs-filter AreApart passes t.nodes sound.names;
-      roots = All-weaker (HasRoot t) (HasRoot (with_those t test)) (λ user root. root_stays t test user (roots user root) root) t.users sound.roots;
+      roots = All-weaker (HasRoot t) (HasRoot (without t gone)) (λ user root. root_stays t gone user (roots user root) root) t.users sound.roots;
       few_nodes = omega (arith, sound.few_nodes, length-filter_both passes (λ row. not (passes row)) (λ row. refl) t.nodes);
       few_pieces = omega (
         arith,
@@ -91,7 +92,7 @@ those_sound t test sound closed roots =
         sum_by-filter_both passes (λ row. not (passes row)) (λ row. refl) (λ row. length row.content) t.nodes,
       );
       later = sound.later;
-      others = no_others (with_those t test) sound.later;
+      others = others_ended t gone sound;
     }
 
 -- ---- the tables without the nodes under a top
@@ -121,12 +122,16 @@ root_left t top no_root user root =
     both_ways (is_root t.nodes top) no_root (subst (λ (n : ℕ). is_root t.nodes n ≡ true) same is)))
 
 pub left_sound : (t : Tables) (top : ℕ) → AreSound t → is_root t.nodes top ≡ false → AreSound (removed t top)
-left_sound t top sound no_root = those_sound t (is_left t.nodes top) sound (folder_left t top sound) (root_left t top no_root)
+left_sound t top sound no_root =
+    those_sound t (λ node. is_under t.nodes node top) sound (folder_left t top sound) (root_left t top no_root)
 
 -- ---- the tables without what has to go, if anything has
 
+abbrev pub cleared_all : Tables → Option ℕ → Tables
+cleared_all t replaced = record t { nodes = cleared t.nodes replaced; shares = ended_for t.nodes replaced t.shares }
+
 pub cleared_sound : (t : Tables) (replaced : Option ℕ) → AreSound t → option_map_or (is_root t.nodes) replaced false ≡ false
-    → AreSound (record t { nodes = cleared t.nodes replaced })
+    → AreSound (cleared_all t replaced)
 cleared_sound t None sound no_root = sound
 cleared_sound t (Some top) sound no_root = left_sound t top sound no_root
 
@@ -212,7 +217,7 @@ folder_stays t None folder name sound is = refl
 folder_stays t (Some top) folder name sound is = no_rings t top folder sound (child_parent t.nodes folder name top sound.rising is)
 
 -- so the tables that something is moved or copied in are sound
-pub clearing_sound : (t : Tables) (who : Option ℕ) (transfer : Transfer) (name : List ℕ) → AreSound t → KnownTransfer t who transfer name
-    → AreSound (record t { nodes = cleared t.nodes transfer.replaced })
-clearing_sound t who transfer name sound known =
+pub clearing_sound : (t : Tables) (transfer : Transfer) (name : List ℕ) → AreSound t → KnownTransfer t transfer name
+    → AreSound (cleared_all t transfer.replaced)
+clearing_sound t transfer name sound known =
     cleared_sound t transfer.replaced sound (replaced_no_root t transfer.replaced transfer.folder name sound known.there)

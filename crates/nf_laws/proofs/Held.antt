@@ -11,6 +11,7 @@ use Rattle.nf_base.specs.declared.rows.Place.TheVariants.{Inside}
 use Rattle.nf_defs.proofs.Walks.{inside_of}
 use Rattle.nf_defs.specs.Prelude.{child_of, filled, is_folder_kind, is_in, is_under, node_row, relinked, Tables}
 use Rattle.nf_laws.proofs.Climbs.{climb_under}
+use Rattle.nf_laws.proofs.Crossed.{crossed_under}
 use Rattle.nf_laws.proofs.Copied.{copy_at}
 use Rattle.nf_laws.proofs.Gone.{all_cleared, row_cleared}
 use Rattle.nf_laws.proofs.Lists.{changes_all, with_born, with_filled}
@@ -20,9 +21,9 @@ use Rattle.nf_laws.proofs.Rows.{each_fails, finds_none, folder_there, no_value, 
 use Rattle.nf_laws.specs.Locks.{IsFree, KeyStays}
 use Rattle.nf_laws.specs.Transfers.{is_replaced, IsPlacedCopy, Mirrors}
 use Rattle.nf_words.proofs.Fits.{KnownBorn, KnownFilled}
-use Rattle.nf_words.proofs.Known.{Known, KnownCopies}
+use Rattle.nf_words.proofs.Known.{Known, KnownCopies, KnownCross}
 use Rattle.nf_words.proofs.Spared.{Spares, SparesChange, SparesRow, SparesTarget, SparesUnder}
-use Rattle.nf_words.specs.Prelude.{altered, AreSound, changed, cleared, IsHeld, joined, node_of_key, told, transferred}
+use Rattle.nf_words.specs.Prelude.{altered, AreSound, changed, cleared, IsHeld, joined, node_of_key, removed, told, transferred}
 use Rattle.nf_words.specs.declared.answer.Allowed.{Allowed}
 use Rattle.nf_words.specs.declared.answer.Allowed.TheVariants as allowed
 use Rattle.nf_words.specs.declared.answer.Hold.{Hold}
@@ -123,9 +124,9 @@ module _ (t : Tables) (hold : Hold) (sound : AreSound t) (held : IsHeld t hold.k
   given = held_given t key sound held
 
   -- with a new node
-  born_stays : (u : Tables) (who blob : Option ℕ) (row : NodeRow) → Stays u.nodes → KnownBorn t who blob u row → SparesRow t key row
+  born_stays : (u : Tables) (blob : Option ℕ) (row : NodeRow) → Stays u.nodes → KnownBorn t blob u row → SparesRow t key row
       → Stays (with_born u row).nodes
-  born_stays u who blob row stays it spares = (
+  born_stays u blob row stays it spares = (
     row_joined u.nodes (row ∷ []) node
         (All-cons (λ (row : NodeRow). row.id ≢ node) row [] (λ same. absurd (omega (arith, it.fresh, given, same)))
         (All-nil (λ (row : NodeRow). row.id ≢ node)))
@@ -135,8 +136,8 @@ module _ (t : Tables) (hold : Hold) (sound : AreSound t) (held : IsHeld t hold.k
   )
 
   -- a file that gets another content isn't what is held
-  not_filled : (u : Tables) (who blob : Option ℕ) (row : NodeRow) → Stays u.nodes → KnownFilled t who blob u row → SparesRow t key row → node ≢ row.id
-  not_filled u who blob row stays it spares = here key held refl
+  not_filled : (u : Tables) (blob : Option ℕ) (row : NodeRow) → Stays u.nodes → KnownFilled t blob u row → SparesRow t key row → node ≢ row.id
+  not_filled u blob row stays it spares = here key held refl
     where
       here : (k : LockKey) → IsHeld t k → key ≡ k → node_of_key key ≢ row.id
       here (Node n) at is = λ same. spares.node it.given (is ∙ ap Node (sym (ap node_of_key is) ∙ same))
@@ -145,10 +146,10 @@ module _ (t : Tables) (hold : Hold) (sound : AreSound t) (held : IsHeld t hold.k
           (sym it.filled.there ∙ ap (node_row u.nodes) (sym same) ∙ stays.0 ∙ ap (λ (k : LockKey). node_row t.nodes (node_of_key k)) is) in
           both_ways (is_folder_kind it.filled.old.kind) it.filled.file (folds ∙ at.0)
 
-  filled_stays : (u : Tables) (who blob : Option ℕ) (row : NodeRow) → Stays u.nodes → KnownFilled t who blob u row → SparesRow t key row
+  filled_stays : (u : Tables) (blob : Option ℕ) (row : NodeRow) → Stays u.nodes → KnownFilled t blob u row → SparesRow t key row
       → Stays (with_filled u row).nodes
-  filled_stays u who blob row stays it spares = (
-    row_other u.nodes row.id (filled row.content row.changed) (λ r. refl) node (ne_eqb node row.id (not_filled u who blob row stays it spares)) ∙ stays.0,
+  filled_stays u blob row stays it spares = (
+    row_other u.nodes row.id (filled row.content row.changed) (λ r. refl) node (ne_eqb node row.id (not_filled u blob row stays it spares)) ∙ stays.0,
     with_all (Spared key) u.nodes row.id (filled row.content row.changed) (λ old. spared_filled key row old) stays.1,
   )
 
@@ -202,10 +203,10 @@ module _ (t : Tables) (hold : Hold) (sound : AreSound t) (held : IsHeld t hold.k
           spared_row key copy (λ folder place same.
           absurd (omega (arith, given, ap node_of_key same, inside folder (t.meta.next_node + placed.1.1) (sym place ∙ placed.1.5))))
 
-  copied_stays : (now : ℕ) (who : Option ℕ) (rows : List NodeRow) (replaced : Option ℕ) (known : KnownCopies t now who rows replaced)
+  copied_stays : (now : ℕ) (rows : List NodeRow) (replaced : Option ℕ) (known : KnownCopies t now rows replaced)
       → SparesTarget t key known.transfer known.name → Stays (joined t rows replaced).nodes
-  copied_stays now who rows replaced known target =
-      let mirrors = mirrored t now who rows replaced sound known in
+  copied_stays now rows replaced known target =
+      let mirrors = mirrored t now rows replaced sound known in
       let left = cleared_stays replaced (subst (λ (o : Option ℕ). IfSome o (SparesUnder t key)) (sym known.replaced_is) target.replaced) in (
         row_joined (cleared t.nodes replaced) rows node (λ k d within same.
             absurd (omega (arith, given, same, (copy_at t now known.transfer known.name rows mirrors k d within).id)))
@@ -213,17 +214,29 @@ module _ (t : Tables) (hold : Hold) (sound : AreSound t) (held : IsHeld t hold.k
         All-append (Spared key) (cleared t.nodes replaced) rows left.1 (copies_spared now known.transfer known.name rows mirrors target.slot),
       )
 
-  altered_stays : (now : ℕ) (who : Option ℕ) (act : Allowed) → Known t now who act → Spares t now who hold act → Stays (altered t now act).nodes
-  altered_stays now who (allowed.Change changes blob report) known spares =
-      changes_all (λ (u : Tables). Stays u.nodes) (SparesChange t key) t now who changes blob report sound.rising known spares
-      (λ u row stays it is. born_stays u who blob row stays it is) (λ u row stays it is. filled_stays u who blob row stays it is) first
-  altered_stays now who (allowed.Delete top) known spares = cleared_stays (Some top) spares
-  altered_stays now who (allowed.Move transfer name) known spares = moved_stays transfer name spares.0 spares.1
-  altered_stays now who (allowed.Copy rows replaced) known spares = copied_stays now who rows replaced spares.0 spares.1
-  altered_stays now who act known spares = first
+  -- what goes to another owner isn't held, nor is anything under it
+  crossed_stays : (now : ℕ) (rows : List NodeRow) (replaced : Option ℕ) (top : ℕ) (known : KnownCross t now rows replaced top)
+      → (copies : KnownCopies t now rows replaced) × SparesTarget t key copies.transfer copies.name × SparesUnder t key top
+      → Stays (removed (joined t rows replaced) top).nodes
+  crossed_stays now rows replaced top known spares =
+      let beside = copied_stays now rows replaced spares.0 spares.1 in
+      let under = crossed_under t now rows replaced top sound known node ∙ spares.2 in (
+        row_cleared (joined t rows replaced).nodes (Some top) node under ∙ beside.0,
+        all_cleared (Spared key) (joined t rows replaced).nodes (Some top) beside.1,
+      )
+
+  altered_stays : (now : ℕ) (act : Allowed) → Known t now act → Spares t now hold act → Stays (altered t now act).nodes
+  altered_stays now (allowed.Change changes blob report) known spares =
+      changes_all (λ (u : Tables). Stays u.nodes) (SparesChange t key) t now changes blob report sound.rising known spares
+      (λ u row stays it is. born_stays u blob row stays it is) (λ u row stays it is. filled_stays u blob row stays it is) (λ u row stays it is. stays) first
+  altered_stays now (allowed.Delete top) known spares = cleared_stays (Some top) spares
+  altered_stays now (allowed.Move transfer name) known spares = moved_stays transfer name spares.0 spares.1
+  altered_stays now (allowed.Copy rows replaced) known spares = copied_stays now rows replaced spares.0 spares.1
+  altered_stays now (allowed.Cross rows replaced top) known spares = crossed_stays now rows replaced top known spares
+  altered_stays now act known spares = first
 
   -- so it does by an act that leaves it alone
-  pub act_stays : (now : ℕ) (who : Option ℕ) (act : Allowed) → Known t now who act → Spares t now who hold act → KeyStays t (changed t now act) key
-  act_stays now who act known spares =
-      let stays = stamped_has (λ (u : Tables). Stays u.nodes) t (altered t now act) now (told t act) first (altered_stays now who act known spares) in
+  pub act_stays : (now : ℕ) (act : Allowed) → Known t now act → Spares t now hold act → KeyStays t (changed t now act) key
+  act_stays now act known spares =
+      let stays = stamped_has (λ (u : Tables). Stays u.nodes) t (altered t now act) now (told t act) first (altered_stays now act known spares) in
       record { row = stays.0; free = free_of (changed t now act).nodes key stays.1 }

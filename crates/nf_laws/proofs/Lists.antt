@@ -1,28 +1,31 @@
 -- Lists of changed rows: what each known change keeps, all of them keep. By the kind of the row, whatever the act.
-use Rattle.std.proofs.Common.{◌≡◌, ◌≢◌, ℕ, suc, ◌==◌, ◌<◌, ◌≤◌, inl, inr, false, List, [], ◌∷◌, ◌++◌, Option, Some, if◌then◌else◌, refl, sym, ap, subst, ◌∙◌, arith, le_refl}
+use Rattle.std.proofs.Common.{◌≡◌, ◌≢◌, ℕ, suc, ◌==◌, ◌<◌, ◌≤◌, inl, inr, List, [], ◌∷◌, ◌++◌, Option, Some, refl, sym, ap, subst, ◌∙◌, arith, le_refl}
 use Rattle.std.specs.List.{All, AllPairs}
-use Rattle.std.specs.declared.cmp.Ordering.{Ordering}
-use Rattle.std.specs.declared.cmp.Ordering.TheVariants.{Equal, Greater, Less}
 use Rattle.std.proofs.lemmas.Bool.{cond_both, ne_eqb}
 use Rattle.std.proofs.lemmas.List.Elements.{All-cons, All-head, All-nil, All-tail}
 use Rattle.std.proofs.lemmas.List.Quantifiers.{all_pairs_push}
-use Rattle.std.proofs.lemmas.Slice.Eq.{bytes_eq-Decides}
+use Rattle.std.proofs.lemmas.Option.{same_Some}
+use Rattle.nf_access.specs.Mounts.{is_mount_of, mount_row}
 use Rattle.nf_base.specs.declared.changes.Change.{Change}
 use Rattle.nf_base.specs.declared.changes.Change.TheVariants.{Put}
 use Rattle.nf_base.specs.declared.changes.RowKey.TheVariants as keys
 use Rattle.nf_base.specs.declared.rows.MetaRow.{MetaRow}
+use Rattle.nf_base.specs.declared.rows.MountRow.{MountRow}
 use Rattle.nf_base.specs.declared.rows.NodeRow.{NodeRow}
-use Rattle.nf_base.specs.declared.rows.Row.TheVariants.{Group, Node, Share, User}
-use Rattle.nf_defs.proofs.Lookups.{equal_bytes}
-use Rattle.nf_defs.specs.Prelude.{by_order, filled, IsDroppable, key_cmp, made, node_key, node_row, put, put_all, Tables, with_node}
+use Rattle.nf_base.specs.declared.rows.Row.TheVariants.{Group, Mount, Node, Share, User}
+use Rattle.nf_defs.specs.Prelude.{filled, IsDroppable, made, mount_key, node_key, node_row, put, put_all, Tables, with_node}
 use Rattle.nf_laws.proofs.Added.{born_sound}
+use Rattle.nf_laws.proofs.Mounted.{not_it, remounted_sound}
 use Rattle.nf_laws.proofs.Puts.{put_changed, put_new}
 use Rattle.nf_laws.proofs.Replaced.{filled_sound}
-use Rattle.nf_laws.proofs.Rows.{blob_up, meta_sound}
+use Rattle.nf_laws.proofs.Others.{meta_sound}
+use Rattle.nf_laws.proofs.Rows.{blob_up}
 use Rattle.nf_laws.specs.Numbers.{AreHigher}
 use Rattle.nf_laws.proofs.OneRow.{rising_with}
+use Rattle.nf_words.proofs.Found.{put_leaves}
+use Rattle.nf_words.proofs.Mounting.{mount_found}
 use Rattle.nf_words.proofs.Fits.{KnownBorn, KnownChange, KnownFilled, KnownRow, KnownRows, put_found}
-use Rattle.nf_words.specs.Prelude.{above, altered, AreSound, changed_key, counted, IsBorn, IsFilled, IsLean, raised}
+use Rattle.nf_words.specs.Prelude.{above, altered, AreSound, changed_key, counted, IsBorn, IsFilled, IsLean, IsRemounted, raised}
 use Rattle.nf_words.specs.declared.answer.Allowed.TheVariants as allowed
 use Rattle.nf_words.specs.declared.answer.Report.{Report}
 
@@ -74,6 +77,10 @@ with_born t row = record t { nodes = t.nodes ++ row ∷ [] }
 abbrev pub with_filled : Tables → NodeRow → Tables
 with_filled t row = record t { nodes = with_node t.nodes row.id (filled row.content row.changed) }
 
+-- those with another row of a mount
+abbrev pub with_remounted : Tables → MountRow → Tables
+with_remounted t row = record t { mounts = put mount_key row t.mounts }
+
 abbrev pub Rising : List NodeRow → Type 0
 Rising rows = AllPairs (λ (a b : NodeRow). a.id < b.id) rows
 
@@ -86,30 +93,35 @@ filled_made t row rising is =
     (ap (λ (r : NodeRow). put node_key r t.nodes) is.same
     ∙ put_changed t.nodes row.id (filled row.content row.changed) is.old refl rising is.there)
 
--- ---- lists of rows of nodes
+-- ---- lists of rows of nodes and of mounts
 
-abbrev pub AreNodes : List Change → Type 0
-AreNodes [] = Unit {0}
-AreNodes (Put (Node row) ∷ changes) = AreNodes changes
-AreNodes (change ∷ changes) = ⊥
+abbrev pub AreBuilt : List Change → Type 0
+AreBuilt [] = Unit {0}
+AreBuilt (Put (Node row) ∷ changes) = AreBuilt changes
+AreBuilt (Put (Mount row) ∷ changes) = AreBuilt changes
+AreBuilt (change ∷ changes) = ⊥
 
 -- the meta row may be set before or behind them
-meta_first : (t : Tables) (meta : MetaRow) (changes : List Change) → AreNodes changes
+meta_first : (t : Tables) (meta : MetaRow) (changes : List Change) → AreBuilt changes
     → put_all (record t { meta = meta }) changes ≡ record (put_all t changes) { meta = meta }
-meta_first t meta [] nodes = refl
-meta_first t meta (Put (Node row) ∷ changes) nodes = meta_first (made t (Put (Node row))) meta changes nodes
-meta_first t meta (change ∷ changes) nodes = absurd nodes
+meta_first t meta [] built = refl
+meta_first t meta (Put (Node row) ∷ changes) built = meta_first (made t (Put (Node row))) meta changes built
+meta_first t meta (Put (Mount row) ∷ changes) built = meta_first (made t (Put (Mount row))) meta changes built
+meta_first t meta (change ∷ changes) built = absurd built
 
 -- no other row becomes another
-pub nodes_alone : (t : Tables) (changes : List Change) → AreNodes changes → put_all t changes ≡ record t { nodes = (put_all t changes).nodes }
-nodes_alone t [] nodes = refl
-nodes_alone t (Put (Node row) ∷ changes) nodes = nodes_alone (made t (Put (Node row))) changes nodes
-nodes_alone t (change ∷ changes) nodes = absurd nodes
+pub built_alone : (t : Tables) (changes : List Change) → AreBuilt changes
+    → put_all t changes ≡ record t { nodes = (put_all t changes).nodes; mounts = (put_all t changes).mounts }
+built_alone t [] built = refl
+built_alone t (Put (Node row) ∷ changes) built = built_alone (made t (Put (Node row))) changes built
+built_alone t (Put (Mount row) ∷ changes) built = built_alone (made t (Put (Mount row))) changes built
+built_alone t (change ∷ changes) built = absurd built
 
-pub nodes_droppable : (changes : List Change) → AreNodes changes → All IsDroppable changes
-nodes_droppable [] nodes = All-nil IsDroppable
-nodes_droppable (Put (Node row) ∷ changes) nodes = All-cons IsDroppable (Put (Node row)) changes tt (nodes_droppable changes nodes)
-nodes_droppable (change ∷ changes) nodes = absurd nodes
+pub built_droppable : (changes : List Change) → AreBuilt changes → All IsDroppable changes
+built_droppable [] built = All-nil IsDroppable
+built_droppable (Put (Node row) ∷ changes) built = All-cons IsDroppable (Put (Node row)) changes tt (built_droppable changes built)
+built_droppable (Put (Mount row) ∷ changes) built = All-cons IsDroppable (Put (Mount row)) changes tt (built_droppable changes built)
+built_droppable (change ∷ changes) built = absurd built
 
 pub put_more : (t : Tables) (changes more : List Change) → put_all t (changes ++ more) ≡ put_all (put_all t changes) more
 put_more t [] more = refl
@@ -117,29 +129,53 @@ put_more t (change ∷ changes) more = put_more (made t change) changes more
 
 -- a node of another number keeps its row
 pub put_other : (row : NodeRow) (old : List NodeRow) (node : ℕ) → node ≢ row.id → node_row (put node_key row old) node ≡ node_row old node
-put_other row [] node other = rw (ne_eqb row.id node (λ same. other (sym same))) refl
-put_other row (x ∷ old) node other = here (key_cmp (node_key row) (node_key x)) refl (put_other row old node other)
+put_other row old node other =
+    put_leaves node_key (λ (x : NodeRow). x.id == node) row old (ne_eqb row.id node (λ same. other (sym same)))
+    (λ x key. ne_eqb x.id node (λ same. other (sym same ∙ sym (first key))))
   where
-    differs : (row.id == node) ≡ false
-    differs = ne_eqb row.id node (λ same. other (sym same))
+    first : {a b : ℕ} → a ∷ [] ≡ b ∷ [] → a ≡ b
+    first same = cc
 
-    here : (o : Ordering) → key_cmp (node_key row) (node_key x) ≡ o → node_row (put node_key row old) node ≡ node_row old node
-        → node_row (by_order o (row ∷ x ∷ old) (row ∷ old) (x ∷ put node_key row old)) node ≡ node_row (x ∷ old) node
-    here Less e rest = simp differs refl
-    here Equal e rest =
-        let keyed : row.id ∷ [] ≡ x.id ∷ [] = (bytes_eq-Decides (node_key row) (node_key x)).0 (equal_bytes (node_key row) (node_key x) Equal e) in
-        let same : row.id ≡ x.id = cc in
-        simp (differs, ne_eqb x.id node (λ is. other (sym is ∙ sym same))) refl
-    here Greater e rest = ap (λ (o : Option NodeRow). if x.id == node then Some x else o) rest
-
-others_stay : (t : Tables) (changes : List Change) (node : ℕ) → AreNodes changes
+others_stay : (t : Tables) (changes : List Change) (node : ℕ) → AreBuilt changes
     → All (λ (change : Change). keys.Node node ≢ changed_key change) changes → node_row (put_all t changes).nodes node ≡ node_row t.nodes node
-others_stay t [] node nodes other = refl
-others_stay t (Put (Node row) ∷ changes) node nodes other =
+others_stay t [] node built other = refl
+others_stay t (Put (Node row) ∷ changes) node built other =
     let Other : Change → Type 0 = λ change. keys.Node node ≢ changed_key change in
-    others_stay (made t (Put (Node row))) changes node nodes (All-tail Other (Put (Node row)) changes other)
+    others_stay (made t (Put (Node row))) changes node built (All-tail Other (Put (Node row)) changes other)
     ∙ put_other row t.nodes node (λ same. All-head Other (Put (Node row)) changes other (ap keys.Node same))
-others_stay t (change ∷ changes) node nodes other = absurd nodes
+others_stay t (Put (Mount row) ∷ changes) node built other =
+    others_stay (made t (Put (Mount row))) changes node built
+    (All-tail (λ (change : Change). keys.Node node ≢ changed_key change) (Put (Mount row)) changes other)
+others_stay t (change ∷ changes) node built other = absurd built
+
+-- a mount of another key keeps its row
+mount_other : (row : MountRow) (old : List MountRow) (user node : ℕ) → keys.Mount user node ≢ keys.Mount row.user row.node
+    → mount_row (put mount_key row old) user node ≡ mount_row old user node
+mount_other row old user node other =
+    put_leaves mount_key (is_mount_of user node) row old (not_it row user node (λ a b. other (keyed row a b)))
+    (λ x key. not_it x user node (λ a b. other (keyed row (users key ∙ a) (nodes key ∙ b))))
+  where
+    keyed : (row : MountRow) → row.user ≡ user → row.node ≡ node → keys.Mount user node ≡ keys.Mount row.user row.node
+    keyed row a b = ap (λ (n : ℕ). keys.Mount n node) (sym a) ∙ ap (keys.Mount row.user) (sym b)
+
+    users : {a b c d : ℕ} → a ∷ b ∷ [] ≡ c ∷ d ∷ [] → a ≡ c
+    users same = cc
+
+    nodes : {a b c d : ℕ} → a ∷ b ∷ [] ≡ c ∷ d ∷ [] → b ≡ d
+    nodes same = cc
+
+mounts_stay : (t : Tables) (changes : List Change) (user node : ℕ) → AreBuilt changes
+    → All (λ (change : Change). keys.Mount user node ≢ changed_key change) changes
+    → mount_row (put_all t changes).mounts user node ≡ mount_row t.mounts user node
+mounts_stay t [] user node built other = refl
+mounts_stay t (Put (Mount row) ∷ changes) user node built other =
+    let Other : Change → Type 0 = λ change. keys.Mount user node ≢ changed_key change in
+    mounts_stay (made t (Put (Mount row))) changes user node built (All-tail Other (Put (Mount row)) changes other)
+    ∙ mount_other row t.mounts user node (All-head Other (Put (Mount row)) changes other)
+mounts_stay t (Put (Node row) ∷ changes) user node built other =
+    mounts_stay (made t (Put (Node row))) changes user node built
+    (All-tail (λ (change : Change). keys.Mount user node ≢ changed_key change) (Put (Node row)) changes other)
+mounts_stay t (change ∷ changes) user node built other = absurd built
 
 same_rows : (rows : List NodeRow) (node : ℕ) → with_node rows node (λ row. row) ≡ rows
 same_rows [] node = refl
@@ -147,80 +183,96 @@ same_rows (x ∷ rows) node =
     cond_both (x.id == node) (x ∷ rows) (x ∷ with_node rows node (λ row. row)) (λ made. made ≡ x ∷ rows) (λ e. refl)
     (λ e. ap (λ (all : List NodeRow). x ∷ all) (same_rows rows node))
 
--- so a lean list that isn't empty makes other nodes
-pub lean_moves : (t : Tables) (change : Change) (changes : List Change) → Rising t.nodes → AreNodes (change ∷ changes)
-    → IsLean t (change ∷ changes) → (put_all t (change ∷ changes)).nodes ≢ t.nodes
-lean_moves t (Put (Node row)) changes rising nodes lean = λ same.
+-- so a lean list that isn't empty makes other tables
+pub lean_moves : (t up : Tables) (blob : Option ℕ) (change : Change) (changes : List Change) → Rising t.nodes → up.mounts ≡ t.mounts
+    → AreBuilt (change ∷ changes) → KnownRow t blob up change → IsLean t (change ∷ changes) → put_all t (change ∷ changes) ≢ t
+lean_moves t up blob (Put (Node row)) changes rising mounts built known lean = λ same.
     let Other : Change → Type 0 = λ (other : Change). keys.Node row.id ≢ changed_key other in
     let others : All Other changes = λ k d within. lean.once 0 (suc k) d (omega arith) (omega arith) in
     let last : node_row (put_all t (Put (Node row) ∷ changes)).nodes row.id ≡ Some row =
-    others_stay (made t (Put (Node row))) changes row.id nodes others ∙ put_found row t.nodes in
-    let there : node_row t.nodes row.id ≡ Some row = sym (ap (λ (all : List NodeRow). node_row all row.id) same) ∙ last in
+    others_stay (made t (Put (Node row))) changes row.id built others ∙ put_found row t.nodes in
+    let there : node_row t.nodes row.id ≡ Some row = sym (ap (λ (u : Tables). node_row u.nodes row.id) same) ∙ last in
     All-head (λ (c : Change). made t c ≢ t) (Put (Node row)) changes lean.differ
     (ap (λ (all : List NodeRow). record t { nodes = all })
     (put_changed t.nodes row.id (λ r. r) row refl rising there ∙ same_rows t.nodes row.id))
-lean_moves t change changes rising nodes lean = absurd nodes
+lean_moves t up blob (Put (Mount row)) changes rising mounts built known lean = λ same.
+    let Other : Change → Type 0 = λ (other : Change). keys.Mount row.user row.node ≢ changed_key other in
+    let others : All Other changes = λ k d within. lean.once 0 (suc k) d (omega arith) (omega arith) in
+    let last : mount_row (put_all t (Put (Mount row) ∷ changes)).mounts row.user row.node ≡ Some row =
+    mounts_stay (made t (Put (Mount row))) changes row.user row.node built others ∙ mount_found row t.mounts in
+    let was : mount_row t.mounts row.user row.node ≡ Some known.1.old =
+    ap (λ (rows : List MountRow). mount_row rows row.user row.node) (sym mounts) ∙ known.1.there in
+    known.1.other (same_Some row known.1.old (sym last ∙ ap (λ (u : Tables). mount_row u.mounts row.user row.node) same ∙ was))
+lean_moves t up blob change changes rising mounts built known lean = absurd built
 
 -- what is known of a list's changes, in the tables before it
-module _ (first : Tables) (who blob : Option ℕ) where
-  -- what a new node keeps, and another content, each change keeps; it may have a further property
-  row_has : (P : Tables → Type 0) (Q : Change → Type 0) (t : Tables) (change : Change) → Rising t.nodes → KnownRow first who blob t change
-      → ((row : NodeRow) → KnownBorn first who blob t row → Q (Put (Node row)) → P (with_born t row))
-      → ((row : NodeRow) → KnownFilled first who blob t row → Q (Put (Node row)) → P (with_filled t row)) → Q change → P (made t change)
-  row_has P Q t (Put (Node row)) rising known born filled has =
+module _ (first : Tables) (blob : Option ℕ) where
+  -- what a new node keeps, another content, and another row of a mount, each change keeps; it may have a further property
+  row_has : (P : Tables → Type 0) (Q : Change → Type 0) (t : Tables) (change : Change) → Rising t.nodes → KnownRow first blob t change
+      → ((row : NodeRow) → KnownBorn first blob t row → Q (Put (Node row)) → P (with_born t row))
+      → ((row : NodeRow) → KnownFilled first blob t row → Q (Put (Node row)) → P (with_filled t row))
+      → ((row : MountRow) → IsRemounted t row → Q (Put (Mount row)) → P (with_remounted t row)) → Q change → P (made t change)
+  row_has P Q t (Put (Node row)) rising known born fills mounts has =
       elim known [
         | inl it ↦ subst P (sym (born_made t row it.born)) (born row it has)
-        | inr it ↦ subst P (sym (filled_made t row rising it.filled)) (filled row it has)
+        | inr it ↦ subst P (sym (filled_made t row rising it.filled)) (fills row it has)
       ]
-  row_has P Q t change rising known born filled has = absurd known
+  row_has P Q t (Put (Mount row)) rising known born fills mounts has = mounts row known.1 has
+  row_has P Q t change rising known born fills mounts has = absurd known
 
-  pub rising_row : (t : Tables) (change : Change) → Rising t.nodes → KnownRow first who blob t change → Rising (made t change).nodes
+  pub rising_row : (t : Tables) (change : Change) → Rising t.nodes → KnownRow first blob t change → Rising (made t change).nodes
   rising_row t change rising known =
       row_has (λ (u : Tables). Rising u.nodes) (λ change. Unit {0}) t change rising known
       (λ row it any. all_pairs_push (λ (a b : NodeRow). a.id < b.id) t.nodes row rising it.born.newest)
-      (λ row it any. rising_with t.nodes row.id (filled row.content row.changed) (λ r. refl) rising) tt
+      (λ row it any. rising_with t.nodes row.id (filled row.content row.changed) (λ r. refl) rising) (λ row it any. rising) tt
 
   -- and all of them
   rows_have : (P : Tables → Type 0) (Q : Change → Type 0)
-      → ((t : Tables) (row : NodeRow) → P t → KnownBorn first who blob t row → Q (Put (Node row)) → P (with_born t row))
-      → ((t : Tables) (row : NodeRow) → P t → KnownFilled first who blob t row → Q (Put (Node row)) → P (with_filled t row))
-      → (t : Tables) (changes : List Change) → Rising t.nodes → P t → KnownRows first who blob t changes → All Q changes → P (put_all t changes)
-  rows_have P Q born filled t [] rising has known each = has
-  rows_have P Q born filled t (change ∷ changes) rising has known each =
-      rows_have P Q born filled (made t change) changes (rising_row t change rising known.0)
-      (row_has P Q t change rising known.0 (λ row it is. born t row has it is) (λ row it is. filled t row has it is) (All-head Q change changes each))
+      → ((t : Tables) (row : NodeRow) → P t → KnownBorn first blob t row → Q (Put (Node row)) → P (with_born t row))
+      → ((t : Tables) (row : NodeRow) → P t → KnownFilled first blob t row → Q (Put (Node row)) → P (with_filled t row))
+      → ((t : Tables) (row : MountRow) → P t → IsRemounted t row → Q (Put (Mount row)) → P (with_remounted t row))
+      → (t : Tables) (changes : List Change) → Rising t.nodes → P t → KnownRows first blob t changes → All Q changes → P (put_all t changes)
+  rows_have P Q born fills mounts t [] rising has known each = has
+  rows_have P Q born fills mounts t (change ∷ changes) rising has known each =
+      rows_have P Q born fills mounts (made t change) changes (rising_row t change rising known.0)
+      (row_has P Q t change rising known.0 (λ row it is. born t row has it is) (λ row it is. fills t row has it is) (λ row it is. mounts t row has it is)
+      (All-head Q change changes each))
       known.1 (All-tail Q change changes each)
 
   -- of which none is of another kind
-  pub only_nodes : (t : Tables) (changes : List Change) → KnownRows first who blob t changes → AreNodes changes
-  only_nodes t [] known = tt
-  only_nodes t (Put (Node row) ∷ changes) known = only_nodes (made t (Put (Node row))) changes known.1
-  only_nodes t (change ∷ changes) known = absurd known.0
+  pub only_built : (t : Tables) (changes : List Change) → KnownRows first blob t changes → AreBuilt changes
+  only_built t [] known = tt
+  only_built t (Put (Node row) ∷ changes) known = only_built (made t (Put (Node row))) changes known.1
+  only_built t (Put (Mount row) ∷ changes) known = only_built (made t (Put (Mount row))) changes known.1
+  only_built t (change ∷ changes) known = absurd known.0
 
 -- what the tables with raised counters have, and each change of some further property keeps, the tables have after them
-pub changes_all : (P : Tables → Type 0) (Q : Change → Type 0) (t : Tables) (now : ℕ) (who : Option ℕ) (changes : List Change) (blob : Option ℕ)
-    (report : Report) → Rising t.nodes → KnownChange t now who changes blob → All Q changes
-    → ((u : Tables) (row : NodeRow) → P u → KnownBorn t who blob u row → Q (Put (Node row)) → P (with_born u row))
-    → ((u : Tables) (row : NodeRow) → P u → KnownFilled t who blob u row → Q (Put (Node row)) → P (with_filled u row))
+pub changes_all : (P : Tables → Type 0) (Q : Change → Type 0) (t : Tables) (now : ℕ) (changes : List Change) (blob : Option ℕ)
+    (report : Report) → Rising t.nodes → KnownChange t now changes blob → All Q changes
+    → ((u : Tables) (row : NodeRow) → P u → KnownBorn t blob u row → Q (Put (Node row)) → P (with_born u row))
+    → ((u : Tables) (row : NodeRow) → P u → KnownFilled t blob u row → Q (Put (Node row)) → P (with_filled u row))
+    → ((u : Tables) (row : MountRow) → P u → IsRemounted u row → Q (Put (Mount row)) → P (with_remounted u row))
     → P (raised t now changes blob) → P (altered t now (allowed.Change changes blob report))
-changes_all P Q t now who changes blob report rising known each born filled has =
+changes_all P Q t now changes blob report rising known each born fills mounts has =
     let up = raised t now changes blob in
-    subst P (meta_first t up.meta changes (only_nodes t who blob up changes known.rows))
-    (rows_have t who blob P Q born filled up changes rising has known.rows each)
+    subst P (meta_first t up.meta changes (only_built t blob up changes known.rows))
+    (rows_have t blob P Q born fills mounts up changes rising has known.rows each)
 
 -- where they have none
-pub changes_have : (P : Tables → Type 0) (t : Tables) (now : ℕ) (who : Option ℕ) (changes : List Change) (blob : Option ℕ) (report : Report)
-    → Rising t.nodes → KnownChange t now who changes blob
-    → ((u : Tables) (row : NodeRow) → P u → KnownBorn t who blob u row → P (with_born u row))
-    → ((u : Tables) (row : NodeRow) → P u → KnownFilled t who blob u row → P (with_filled u row))
+pub changes_have : (P : Tables → Type 0) (t : Tables) (now : ℕ) (changes : List Change) (blob : Option ℕ) (report : Report)
+    → Rising t.nodes → KnownChange t now changes blob
+    → ((u : Tables) (row : NodeRow) → P u → KnownBorn t blob u row → P (with_born u row))
+    → ((u : Tables) (row : NodeRow) → P u → KnownFilled t blob u row → P (with_filled u row))
+    → ((u : Tables) (row : MountRow) → P u → IsRemounted u row → P (with_remounted u row))
     → P (raised t now changes blob) → P (altered t now (allowed.Change changes blob report))
-changes_have P t now who changes blob report rising known born filled has =
-    changes_all P (λ change. Unit {0}) t now who changes blob report rising known (λ k d within. tt)
-    (λ u row h it any. born u row h it) (λ u row h it any. filled u row h it) has
+changes_have P t now changes blob report rising known born fills mounts has =
+    changes_all P (λ change. Unit {0}) t now changes blob report rising known (λ k d within. tt)
+    (λ u row h it any. born u row h it) (λ u row h it any. fills u row h it) (λ u row h it any. mounts u row h it) has
 
 -- so they stay sound
-pub changes_sound : (t : Tables) (now : ℕ) (who : Option ℕ) (changes : List Change) (blob : Option ℕ) (report : Report)
-    → AreSound t → t.meta.last ≤ now → KnownChange t now who changes blob → AreSound (altered t now (allowed.Change changes blob report))
-changes_sound t now who changes blob report sound later known =
-    changes_have AreSound t now who changes blob report sound.rising known
-    (λ u row s it. born_sound u row s it.born) (λ u row s it. filled_sound u row s it.filled) (raised_sound t now changes blob sound later)
+pub changes_sound : (t : Tables) (now : ℕ) (changes : List Change) (blob : Option ℕ) (report : Report)
+    → AreSound t → t.meta.last ≤ now → KnownChange t now changes blob → AreSound (altered t now (allowed.Change changes blob report))
+changes_sound t now changes blob report sound later known =
+    changes_have AreSound t now changes blob report sound.rising known
+    (λ u row s it. born_sound u row s it.born) (λ u row s it. filled_sound u row s it.filled) (λ u row s it. remounted_sound u row s it)
+    (raised_sound t now changes blob sound later)

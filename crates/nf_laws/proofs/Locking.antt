@@ -18,7 +18,7 @@ use Rattle.nf_words.proofs.Known.{Known}
 use Rattle.nf_words.proofs.Marks.{early, early_pass}
 use Rattle.nf_words.proofs.Spared.{found_apart, holds_turned, least_has, none_least, Spares, step_spares}
 use Rattle.nf_words.proofs.Steps.{other_without}
-use Rattle.nf_words.specs.Prelude.{access_of, actor_of, allowed_of, answered_by, AreApartHolds, AreSound, asked_by, blocks, Call, call_of, changed, clashes, decision_of, earlier_rules, first_that_holds, IsHeld, IsSound, IsTicketSound, key_in_way, later_rules, least, lesser, limit_rule, limited, locked_rule, Pass, places_of, refusal_of, Rule, State, ticket_of, Touch, touches, unless_refused, without}
+use Rattle.nf_words.specs.Prelude.{access_of, allowed_of, answered_by, AreApartHolds, AreSound, asked_by, blocks, Call, call_of, changed, clashes, decision_of, earlier_rules, first_that_holds, IsHeld, IsSound, IsTicketSound, key_in_way, later_rules, least, lesser, limit_rule, limited, locked_rule, Pass, places_of, refusal_of, Rule, State, ticket_of, Touch, touches, unless_refused, without}
 use Rattle.nf_words.specs.declared.answer.Allowed.{Allowed}
 use Rattle.nf_words.specs.declared.answer.Denial.{Denial}
 use Rattle.nf_words.specs.declared.answer.Denial.TheVariants as denial
@@ -54,11 +54,11 @@ holds_agree s seat other ticket another sound differ one two =
 -- ---- the steps of others
 
 -- what a ticket holds stays as it is by an act that leaves it alone
-held_stays : (t : Tables) (now : ℕ) (who : Option ℕ) (act : Allowed) (o : Option Hold) → AreSound t → Known t now who act
-    → IfSome o (λ (hold : Hold). IsHeld t hold.key) → IfSome o (λ (hold : Hold). Spares t now who hold act)
+held_stays : (t : Tables) (now : ℕ) (act : Allowed) (o : Option Hold) → AreSound t → Known t now act
+    → IfSome o (λ (hold : Hold). IsHeld t hold.key) → IfSome o (λ (hold : Hold). Spares t now hold act)
     → IfSome o (λ (hold : Hold). KeyStays t (changed t now act) hold.key)
-held_stays t now who act None sound known held spares = tt
-held_stays t now who act (Some hold) sound known held spares = act_stays t hold sound held now who act known spares
+held_stays t now act None sound known held spares = tt
+held_stays t now act (Some hold) sound known held spares = act_stays t hold sound held now act known spares
 
 nothing_stays : (t : Tables) (o : Option Hold) → IfSome o (λ (hold : Hold). IsHeld t hold.key)
     → IfSome o (λ (hold : Hold). KeyStays t t hold.key)
@@ -70,7 +70,7 @@ others_spare n s e seat ticket sound may differ is =
     entry_has (λ t tickets blob. IfSome ticket.hold (λ (hold : Hold). KeyStays s.tables t hold.key)) s e e.mark
     (nothing_stays s.tables ticket.hold held)
     (λ act decides.
-    held_stays s.tables e.moment (actor_of s e.seat e.event) act ticket.hold sound.rows
+    held_stays s.tables e.moment act ticket.hold sound.rows
     (known_change s e.seat e.moment e.event act sound may.asked decides) held (spared act decides))
   where
     held : IfSome ticket.hold (λ (hold : Hold). IsHeld s.tables hold.key)
@@ -80,9 +80,9 @@ others_spare n s e seat ticket sound may differ is =
     left = other_without s e.seat e.event seat differ ∙ is
 
     spared : (act : Allowed) → decision_of s e.seat e.moment e.event ≡ Ok act
-        → IfSome ticket.hold (λ (hold : Hold). Spares s.tables e.moment (actor_of s e.seat e.event) hold act)
+        → IfSome ticket.hold (λ (hold : Hold). Spares s.tables e.moment hold act)
     spared act decides =
-        let Left : Ticket → Type 0 = λ (t : Ticket). IfSome t.hold (λ (hold : Hold). Spares s.tables e.moment (actor_of s e.seat e.event) hold act) in
+        let Left : Ticket → Type 0 = λ (t : Ticket). IfSome t.hold (λ (hold : Hold). Spares s.tables e.moment hold act) in
         subst (λ (o : Option Ticket). IfSome o Left) left
         (found_has Left (λ (t : Ticket). t.seat == seat) (without s e.seat e.event).tickets
         (step_spares s e.seat e.moment e.event act sound may.asked decides))

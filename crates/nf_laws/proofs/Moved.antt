@@ -1,9 +1,10 @@
 -- The tables with a node moved into another folder are sound.
-use Rattle.std.proofs.Common.{ℕ, suc, ◌+◌, ◌<◌, ◌==◌, ◌≡◌, ◌≢◌, ◌≤◌, true, false, List, Option, None, Some, option_map, length, get_or, refl, sym, ap, subst, ◌∙◌, inl, inr, arith, le_refl}
+use Rattle.std.proofs.Common.{ℕ, suc, ◌+◌, ◌<◌, ◌==◌, ◌≡◌, ◌≢◌, ◌≤◌, not, Bool, true, false, List, Option, None, Some, option_map, length, get_or, refl, sym, ap, subst, ◌∙◌, inl, inr, arith, le_refl}
 use Rattle.std.specs.Option.{option_and_then, option_map_or}
-use Rattle.std.proofs.lemmas.Bool.{both_ways, cases_Bool, false_from_ne_true, ne_eqb}
+use Rattle.std.proofs.lemmas.Bool.{both_ways, cases_Bool, eqb-true, false_from_ne_true, ne_eqb}
 use Rattle.std.proofs.lemmas.List.Elements.{All-contains, All-weaker}
 use Rattle.std.proofs.lemmas.Option.{same_Some}
+use Rattle.nf_access.specs.Mounts.{mount_at}
 use Rattle.nf_base.specs.declared.limits.TheConstants.{MAX_DEPTH}
 use Rattle.nf_base.specs.declared.rows.NodeRow.{NodeRow}
 use Rattle.nf_base.specs.declared.rows.Place.{Place}
@@ -11,18 +12,15 @@ use Rattle.nf_base.specs.declared.rows.Place.TheVariants.{Inside, Root, Trash}
 use Rattle.nf_base.specs.declared.rows.UserRow.{UserRow}
 use Rattle.nf_defs.proofs.Walks.{climbs_walk}
 use Rattle.nf_defs.specs.Prelude.{child_of, climb, depth, folder_of, is_folder, is_folder_kind, is_root, is_root_place, is_under, node_row, owner_of, parent_of, relinked, Tables, walk_of, with_node}
-use Rattle.nf_defs.specs.declared.Found.TheVariants.{At, Free}
 use Rattle.nf_laws.proofs.Added.{new_apart}
 use Rattle.nf_laws.proofs.Climbs.{climb_on, climb_same, depth_is, node_row_each, under_climb}
-use Rattle.nf_laws.proofs.Gone.{clearing_sound, climb_cleared, folder_stays, free_cleared, kept_cleared, row_cleared}
+use Rattle.nf_laws.proofs.Gone.{cleared_all, clearing_sound, climb_cleared, folder_stays, free_cleared, kept_cleared, row_cleared}
 use Rattle.nf_laws.proofs.OneRow.{IsEither, each_either, length_with, pieces_with, rising_with, row_itself, row_other, value_with, with_each}
-use Rattle.nf_laws.proofs.Paths.{path_own}
-use Rattle.nf_laws.proofs.Rows.{IsRooted, folder_there, kept_row, no_others, node_still, none_over, parent_there, root_still}
+use Rattle.nf_laws.proofs.Others.{new_off, others_still, still_with}
+use Rattle.nf_laws.proofs.Rows.{IsRooted, folder_there, kept_row, node_still, none_higher, none_over, root_still}
 use Rattle.nf_laws.proofs.Upwards.{climb_short, climbs_depth, climbs_is_under, deepest_among, depth_climb, never_climbs, rooted}
-use Rattle.nf_words.proofs.Fits.{KnownPath}
-use Rattle.nf_words.proofs.Found.{child_parent}
-use Rattle.nf_words.proofs.Known.{KnownTransfer}
-use Rattle.nf_words.specs.Prelude.{AreApart, AreSound, cleared, deepest, HasRoot, IsNodeSound, IsPlaceSound, IsTop, transferred}
+use Rattle.nf_words.proofs.Known.{KnownMove}
+use Rattle.nf_words.specs.Prelude.{AreApart, AreSound, cleared, crosses, deepest, HasRoot, IsNodeSound, IsPlaceSound, IsTop, IsUnmounted, transferred}
 use Rattle.nf_words.specs.declared.request.Transfer.{Transfer}
 
 -- ---- climbs where a node is put into a folder
@@ -80,6 +78,7 @@ record Fits (u : Tables) (node folder : ℕ) (name : List ℕ) (old : NodeRow) :
   in_folder : is_folder u.nodes folder ≡ true
   owner : owner_of u.nodes folder ≡ old.owner
   free : child_of u.nodes folder name ≡ None
+  unmounted : IsUnmounted u folder name
   outside : is_under u.nodes folder node ≡ false
   shallow : (j below : ℕ) (row : NodeRow) → node_row u.nodes below ≡ Some row → climb u.nodes j below ≡ Some node
       → j + 1 + depth u.nodes folder ≤ MAX_DEPTH
@@ -175,6 +174,9 @@ root_moved u node folder name no_root user root =
     (kept_row (relinking u.nodes node folder name) user.root root.row
     (row_other u.nodes node (relinked folder name) (λ row. refl) user.root differs ∙ root.there))
 
+no_root_row : (u : Tables) (node : ℕ) (row : NodeRow) → is_root u.nodes node ≡ false → node_row u.nodes node ≡ Some row → is_root_place row.place ≡ false
+no_root_row u node row no_root there = sym (ap (λ (o : Option NodeRow). option_map_or (λ row. is_root_place row.place) o false) there) ∙ no_root
+
 relinked_sound : (u : Tables) (node folder : ℕ) (name : List ℕ) (old : NodeRow) → AreSound u → Fits u node folder name old
     → AreSound (relink u node folder name)
 relinked_sound u node folder name old sound fits =
@@ -200,16 +202,23 @@ relinked_sound u node folder name old sound fits =
       few_nodes = omega (arith, counts, sound.few_nodes);
       few_pieces = omega (arith, sound.few_pieces, pieces_with u.nodes node change 0 (λ row is. omega arith));
       later = sound.later;
-      others = no_others made sound.later;
+      others = others_still u u.meta made.nodes sound (none_higher u.meta u.meta.last) (le_refl _)
+          (still_with u node change sound (record {
+            id = λ row. refl;
+            owner = λ row. refl;
+            kind = λ row. refl;
+            root = λ row there. sym (no_root_row u node row fits.no_root there);
+            off = λ row there off. new_off u (change row) folder sound refl fits.unmounted;
+          }));
     }
 
 -- ---- what is known of a move
 
 -- what stays is as deep as before
-pub depth_cleared : (t : Tables) (replaced : Option ℕ) (node : ℕ) (row : NodeRow) → AreSound t → AreSound (record t { nodes = cleared t.nodes replaced })
+pub depth_cleared : (t : Tables) (replaced : Option ℕ) (node : ℕ) (row : NodeRow) → AreSound t → AreSound (cleared_all t replaced)
     → node_row (cleared t.nodes replaced) node ≡ Some row → depth (cleared t.nodes replaced) node ≡ depth t.nodes node
 depth_cleared t replaced node row sound clear there =
-    let u : Tables = record t { nodes = cleared t.nodes replaced } in
+    let u : Tables = cleared_all t replaced in
     let up = climbs_depth u node row clear there in
     let kept = kept_cleared t.nodes replaced node row there in
     let above = kept_cleared t.nodes replaced up.0 up.2.row up.2.there in
@@ -217,45 +226,48 @@ depth_cleared t replaced node row sound clear there =
     (none_over t.nodes up.0 (record { row = up.2.row; there = above.1; ends = up.2.ends })) up.3
     (sym (climb_cleared t replaced (depth u.nodes node) node sound kept.0) ∙ up.1))
 
--- what is put somewhere gets its owner's folder
-pub folder_owner : (t : Tables) (who : Option ℕ) (transfer : Transfer) (name : List ℕ) → AreSound t → (known : KnownTransfer t who transfer name)
-    → owner_of t.nodes transfer.folder ≡ known.target.row.id
-folder_owner t who transfer name sound known = here transfer.replaced known.target refl known.there
+-- what doesn't cross stays its owner's
+pub same_owner : (rows : List NodeRow) (transfer : Transfer) (row : NodeRow) → crosses rows transfer ≡ false → node_row rows transfer.node ≡ Some row
+    → owner_of rows transfer.folder ≡ row.owner
+same_owner rows transfer row within there =
+    sym (eqb-true (owner_of rows transfer.node) (owner_of rows transfer.folder)
+    (not_not (owner_of rows transfer.node == owner_of rows transfer.folder) within))
+    ∙ ap (λ (o : Option NodeRow). option_map_or (λ row. row.owner) o 0) there
   where
-    here : (o : Option ℕ) (path : KnownPath t who (option_map_or At o (Free transfer.folder))) → path.row.id ≡ known.target.row.id
-        → child_of t.nodes transfer.folder name ≡ o → owner_of t.nodes transfer.folder ≡ known.target.row.id
-    here None path same is =
-        let own = path_own t who (Free transfer.folder) transfer.folder sound path refl in
-        rw own.there (own.owner ∙ same)
-    here (Some top) path same is =
-        let own = path_own t who (At top) top sound path refl in
-        let above = child_parent t.nodes transfer.folder name top sound.rising is in
-        let folder = parent_there t top transfer.folder own.row sound own.there above in
-        rw folder.1 (folder.3 ∙ own.owner ∙ same)
+    not_not : (b : Bool) → not b ≡ false → b ≡ true
+    not_not true h = refl
+    not_not false h = absurd (cc)
 
-move_fits : (t : Tables) (who : Option ℕ) (transfer : Transfer) (name : List ℕ) → AreSound t → (known : KnownTransfer t who transfer name)
+-- a name that is no mount's isn't one where something has gone
+pub unmounted_cleared : (t : Tables) (replaced : Option ℕ) (folder : ℕ) (name : List ℕ) → node_row (cleared t.nodes replaced) folder ≡ node_row t.nodes folder
+    → IsUnmounted t folder name → IsUnmounted (cleared_all t replaced) folder name
+unmounted_cleared t replaced folder name same unmounted root =
+    ap (λ (o : Option NodeRow). mount_at t.mounts (option_map_or (λ row. row.owner) o 0) name) same
+    ∙ unmounted (sym (ap (λ (o : Option NodeRow). option_map_or (λ row. is_root_place row.place) o false) same) ∙ root)
+
+move_fits : (t : Tables) (transfer : Transfer) (name : List ℕ) → AreSound t → (known : KnownMove t transfer name)
     → (old : NodeRow)
-    × Fits (record t { nodes = cleared t.nodes transfer.replaced }) transfer.node transfer.folder name old
-move_fits t who transfer name sound known =
-    let u : Tables = record t { nodes = cleared t.nodes transfer.replaced } in
+    × Fits (cleared_all t transfer.replaced) transfer.node transfer.folder name old
+move_fits t transfer name sound move =
+    let known = move.known in
+    let u : Tables = cleared_all t transfer.replaced in
     let node = transfer.node in
     let folder = transfer.folder in
-    let clear = clearing_sound t who transfer name sound known in
-    let own = path_own t who (At node) node sound known.source refl in
+    let clear = clearing_sound t transfer name sound known in
+    let own = known.source in
     let itself = row_cleared t.nodes transfer.replaced node known.apart in
     let stays = folder_stays t transfer.replaced folder name sound known.there in
     let at = row_cleared t.nodes transfer.replaced folder stays in
     let top = folder_there t.nodes folder known.in_folder in
-    let owners : known.target.row.id ≡ known.source.row.id =
-    same_Some known.target.row.id known.source.row.id (sym known.target.caller ∙ known.source.caller) in
     let deep = depth_cleared t transfer.replaced folder top.0 sound clear (at ∙ top.1) in (
-      own.row,
+      own.0,
       record {
-        there = itself ∙ own.there;
+        there = itself ∙ own.1;
         no_root = rw itself known.no_root;
         in_folder = rw at known.in_folder;
-        owner = rw at (folder_owner t who transfer name sound known ∙ owners ∙ sym own.owner);
+        owner = rw at (same_owner t.nodes transfer own.0 move.within own.1);
         free = free_cleared t transfer.replaced folder name sound known.there;
+        unmounted = unmounted_cleared t transfer.replaced folder name at known.unmounted;
         outside = false_from_ne_true (is_under u.nodes folder node) (λ under.
             let c = under_climb u.nodes folder node under in
             both_ways (is_under t.nodes folder node) known.outside
@@ -270,9 +282,9 @@ move_fits t who transfer name sound known =
       },
     )
 
-pub transferred_sound : (t : Tables) (who : Option ℕ) (transfer : Transfer) (name : List ℕ) → AreSound t → KnownTransfer t who transfer name
+pub transferred_sound : (t : Tables) (transfer : Transfer) (name : List ℕ) → AreSound t → KnownMove t transfer name
     → AreSound (transferred t transfer name)
-transferred_sound t who transfer name sound known =
-    let fits = move_fits t who transfer name sound known in
-    relinked_sound (record t { nodes = cleared t.nodes transfer.replaced }) transfer.node transfer.folder name fits.0
-    (clearing_sound t who transfer name sound known) fits.1
+transferred_sound t transfer name sound move =
+    let fits = move_fits t transfer name sound move in
+    relinked_sound (cleared_all t transfer.replaced) transfer.node transfer.folder name fits.0
+    (clearing_sound t transfer name sound move.known) fits.1

@@ -14,8 +14,8 @@ use Rattle.nf_laws.proofs.OneRow.{numbers_with}
 use Rattle.nf_laws.proofs.Owned.{copies_new}
 use Rattle.nf_laws.proofs.Stays.{sound_after}
 use Rattle.nf_laws.specs.Numbers.{NumbersAreNew}
-use Rattle.nf_words.proofs.Known.{Known}
-use Rattle.nf_words.specs.Prelude.{after, altered, AreSound, cleared, IsLegalFrom, IsSound, replay, State}
+use Rattle.nf_words.proofs.Known.{Known, KnownCopies}
+use Rattle.nf_words.specs.Prelude.{after, altered, AreSound, cleared, IsLegalFrom, IsSound, joined, replay, State}
 use Rattle.nf_words.specs.declared.answer.Allowed.{Allowed}
 use Rattle.nf_words.specs.declared.answer.Allowed.TheVariants as allowed
 use Rattle.nf_words.specs.declared.history.Entry.{Entry}
@@ -27,23 +27,30 @@ IsOldOrNew first node = (is_some (node_row first.nodes node) ≡ true) ⊎ (firs
 abbrev AreOldOrNew : Tables → Tables → Type 0
 AreOldOrNew first t = All (λ (row : NodeRow). IsOldOrNew first row.id) t.nodes
 
-numbers_changed : (first t : Tables) (now : ℕ) (who : Option ℕ) (act : Allowed) → AreSound t → first.meta.next_node ≤ t.meta.next_node
-    → AreOldOrNew first t → Known t now who act → AreOldOrNew first (altered t now act)
-numbers_changed first t now who (allowed.Change changes blob report) sound later all known =
-    changes_have (AreOldOrNew first) t now who changes blob report sound.rising known
-    (λ u row all it. All-push (λ (row : NodeRow). IsOldOrNew first row.id) u.nodes row all (inr (omega (arith, later, it.fresh))))
-    (λ u row all it. numbers_with (IsOldOrNew first) u.nodes row.id (filled row.content row.changed) (λ r. refl) all) all
-numbers_changed first t now who (allowed.Delete node) sound later all known =
-    all_cleared (λ (row : NodeRow). IsOldOrNew first row.id) t.nodes (Some node) all
-numbers_changed first t now who (allowed.Move transfer name) sound later all known =
-    numbers_with (IsOldOrNew first) (cleared t.nodes transfer.replaced) transfer.node (relinked transfer.folder name) (λ row. refl)
-    (all_cleared (λ (row : NodeRow). IsOldOrNew first row.id) t.nodes transfer.replaced all)
-numbers_changed first t now who (allowed.Copy rows replaced) sound later all known =
+numbers_copied : (first t : Tables) (now : ℕ) (rows : List NodeRow) (replaced : Option ℕ) → AreSound t → first.meta.next_node ≤ t.meta.next_node
+    → AreOldOrNew first t → KnownCopies t now rows replaced → AreOldOrNew first (joined t rows replaced)
+numbers_copied first t now rows replaced sound later all known =
     All-append (λ (row : NodeRow). IsOldOrNew first row.id) (cleared t.nodes replaced) rows
     (all_cleared (λ (row : NodeRow). IsOldOrNew first row.id) t.nodes replaced all)
     (All-weaker (λ (row : NodeRow). t.meta.next_node ≤ row.id) (λ (row : NodeRow). IsOldOrNew first row.id)
-    (λ row new. inr (omega (arith, later, new))) rows (copies_new t now who rows replaced sound known))
-numbers_changed first t now who act sound later all known = all
+    (λ row new. inr (omega (arith, later, new))) rows (copies_new t now rows replaced sound known))
+
+numbers_changed : (first t : Tables) (now : ℕ) (act : Allowed) → AreSound t → first.meta.next_node ≤ t.meta.next_node
+    → AreOldOrNew first t → Known t now act → AreOldOrNew first (altered t now act)
+numbers_changed first t now (allowed.Change changes blob report) sound later all known =
+    changes_have (AreOldOrNew first) t now changes blob report sound.rising known
+    (λ u row all it. All-push (λ (row : NodeRow). IsOldOrNew first row.id) u.nodes row all (inr (omega (arith, later, it.fresh))))
+    (λ u row all it. numbers_with (IsOldOrNew first) u.nodes row.id (filled row.content row.changed) (λ r. refl) all) (λ u row all it. all) all
+numbers_changed first t now (allowed.Delete node) sound later all known =
+    all_cleared (λ (row : NodeRow). IsOldOrNew first row.id) t.nodes (Some node) all
+numbers_changed first t now (allowed.Move transfer name) sound later all known =
+    numbers_with (IsOldOrNew first) (cleared t.nodes transfer.replaced) transfer.node (relinked transfer.folder name) (λ row. refl)
+    (all_cleared (λ (row : NodeRow). IsOldOrNew first row.id) t.nodes transfer.replaced all)
+numbers_changed first t now (allowed.Copy rows replaced) sound later all known = numbers_copied first t now rows replaced sound later all known
+numbers_changed first t now (allowed.Cross rows replaced node) sound later all known =
+    all_cleared (λ (row : NodeRow). IsOldOrNew first row.id) (joined t rows replaced).nodes (Some node)
+    (numbers_copied first t now rows replaced sound later all known.copies)
+numbers_changed first t now act sound later all known = all
 
 numbers_stay : (first : Tables) (n : ℕ) (s : State) (es : List Entry) → IsSound s → IsLegalFrom n s es
     → first.meta.next_node ≤ s.tables.meta.next_node → AreOldOrNew first s.tables → AreOldOrNew first (replay s es).tables
@@ -51,7 +58,7 @@ numbers_stay first n s [] sound legal later all = all
 numbers_stay first n s (e ∷ es) sound legal later all =
     numbers_stay first (n + 1) (after s e) es (sound_after n s e sound legal.0) legal.1
     (omega (arith, later, (after_up s e e.mark).nodes))
-    (after_has (AreOldOrNew first) n s e sound legal.0 all (λ act known. numbers_changed first s.tables e.moment _ act sound.rows later all known))
+    (after_has (AreOldOrNew first) n s e sound legal.0 all (λ act known. numbers_changed first s.tables e.moment act sound.rows later all known))
 
 pub numbers_new : NumbersAreNew
 numbers_new n s es sound legal =

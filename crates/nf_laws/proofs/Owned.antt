@@ -14,7 +14,7 @@ use Rattle.nf_laws.proofs.OneRow.{KeepsId, row_itself, row_other}
 use Rattle.nf_laws.proofs.Rows.{row_joined, stamped_has}
 use Rattle.nf_words.proofs.Fits.{KnownBorn}
 use Rattle.nf_words.proofs.Known.{Known, KnownCopies}
-use Rattle.nf_words.specs.Prelude.{altered, AreSound, changed, cleared, joined, told, transferred}
+use Rattle.nf_words.specs.Prelude.{altered, AreSound, changed, cleared, joined, removed, told, transferred}
 use Rattle.nf_words.specs.declared.answer.Allowed.{Allowed}
 use Rattle.nf_words.specs.declared.answer.Allowed.TheVariants as allowed
 
@@ -27,8 +27,8 @@ abbrev pub KeepsOwners : Tables → Tables → Type 0
 KeepsOwners t made = (node : ℕ) (row : NodeRow) → node < t.meta.next_node → node_row made.nodes node ≡ Some row → WasOf t.nodes node row
 
 -- a node with a number that wasn't given before is none of these
-pub new_owners : (t u : Tables) (who blob : Option ℕ) (row : NodeRow) → KeepsOwners t u → KnownBorn t who blob u row → KeepsOwners t (with_born u row)
-new_owners t u who blob new keeps it node row given there =
+pub new_owners : (t u : Tables) (blob : Option ℕ) (row : NodeRow) → KeepsOwners t u → KnownBorn t blob u row → KeepsOwners t (with_born u row)
+new_owners t u blob new keeps it node row given there =
     keeps node row given
     (sym (row_joined u.nodes (new ∷ []) node
     (All-cons (λ (row : NodeRow). row.id ≢ node) new [] (λ same. absurd (omega (arith, it.fresh, given))) (All-nil (λ (row : NodeRow). row.id ≢ node))))
@@ -73,15 +73,15 @@ then_owners t made replaced keeps node row given there =
 -- ---- copies
 
 -- a copy's number wasn't given before
-pub copies_new : (t : Tables) (now : ℕ) (who : Option ℕ) (rows : List NodeRow) (replaced : Option ℕ) → AreSound t
-    → KnownCopies t now who rows replaced → All (λ (copy : NodeRow). t.meta.next_node ≤ copy.id) rows
-copies_new t now who rows replaced sound known k d within =
-    (copies_numbered t now known.transfer known.name rows (mirrored t now who rows replaced sound known) k d within).0
+pub copies_new : (t : Tables) (now : ℕ) (rows : List NodeRow) (replaced : Option ℕ) → AreSound t
+    → KnownCopies t now rows replaced → All (λ (copy : NodeRow). t.meta.next_node ≤ copy.id) rows
+copies_new t now rows replaced sound known k d within =
+    (copies_numbered t now known.transfer known.name rows (mirrored t now rows replaced sound known) k d within).0
 
-copied_owners : (t : Tables) (now : ℕ) (who : Option ℕ) (rows : List NodeRow) (replaced : Option ℕ) → AreSound t
-    → KnownCopies t now who rows replaced → KeepsOwners t (joined t rows replaced)
-copied_owners t now who rows replaced sound known node row given there =
-    let same = old_joined t now known.transfer known.name rows (mirrored t now who rows replaced sound known)
+copied_owners : (t : Tables) (now : ℕ) (rows : List NodeRow) (replaced : Option ℕ) → AreSound t
+    → KnownCopies t now rows replaced → KeepsOwners t (joined t rows replaced)
+copied_owners t now rows replaced sound known node row given there =
+    let same = old_joined t now known.transfer known.name rows (mirrored t now rows replaced sound known)
     (cleared t.nodes replaced) node given in
     cleared_owners t replaced node row given (sym same ∙ there)
 
@@ -90,19 +90,22 @@ copied_owners t now who rows replaced sound known node row given there =
 pub all_owners : (t : Tables) → KeepsOwners t t
 all_owners t node row given there = (row, there, refl)
 
-altered_owners : (t : Tables) (now : ℕ) (who : Option ℕ) (act : Allowed) → AreSound t → Known t now who act → KeepsOwners t (altered t now act)
-altered_owners t now who (allowed.Change changes blob report) sound known =
-    changes_have (KeepsOwners t) t now who changes blob report sound.rising known (λ u row. new_owners t u who blob row)
-    (λ u row keeps it. filled_owners t u row keeps) (all_owners t)
-altered_owners t now who (allowed.Delete node) sound known = cleared_owners t (Some node)
-altered_owners t now who (allowed.Move transfer name) sound known =
+altered_owners : (t : Tables) (now : ℕ) (act : Allowed) → AreSound t → Known t now act → KeepsOwners t (altered t now act)
+altered_owners t now (allowed.Change changes blob report) sound known =
+    changes_have (KeepsOwners t) t now changes blob report sound.rising known (λ u row. new_owners t u blob row)
+    (λ u row keeps it. filled_owners t u row keeps) (λ u row keeps it. keeps) (all_owners t)
+altered_owners t now (allowed.Delete node) sound known = cleared_owners t (Some node)
+altered_owners t now (allowed.Move transfer name) sound known =
     then_owners t (transferred t transfer name) transfer.replaced
     (λ node row given.
     with_owners (clearing t transfer.replaced) (transferred t transfer name) transfer.node (relinked transfer.folder name) (λ row. refl) (λ row. refl) refl
     node row)
-altered_owners t now who (allowed.Copy rows replaced) sound known = copied_owners t now who rows replaced sound known
-altered_owners t now who act sound known = all_owners t
+altered_owners t now (allowed.Copy rows replaced) sound known = copied_owners t now rows replaced sound known
+altered_owners t now (allowed.Cross rows replaced node) sound known =
+    also_owners t (joined t rows replaced) (removed (joined t rows replaced) node) (copied_owners t now rows replaced sound known.copies)
+    (λ other row there. (row, (kept_cleared (joined t rows replaced).nodes (Some node) other row there).1, refl))
+altered_owners t now act sound known = all_owners t
 
-pub owners_kept : (t : Tables) (now : ℕ) (who : Option ℕ) (act : Allowed) → AreSound t → Known t now who act → KeepsOwners t (changed t now act)
-owners_kept t now who act sound known =
-    stamped_has (KeepsOwners t) t (altered t now act) now (told t act) (all_owners t) (altered_owners t now who act sound known)
+pub owners_kept : (t : Tables) (now : ℕ) (act : Allowed) → AreSound t → Known t now act → KeepsOwners t (changed t now act)
+owners_kept t now act sound known =
+    stamped_has (KeepsOwners t) t (altered t now act) now (told t act) (all_owners t) (altered_owners t now act sound known)

@@ -16,7 +16,6 @@ use Rattle.nf_defs.specs.declared.Found.TheVariants.{At, Free, Missing}
 use Rattle.nf_laws.proofs.Climbs.{map_some, node_row_each}
 use Rattle.nf_laws.proofs.Rows.{child_owner, found_is, parent_there, row_is}
 use Rattle.nf_laws.specs.Walks.{LeadsNoFurther, LeadsToFree, WalkFollows}
-use Rattle.nf_words.proofs.Fits.{KnownAt, KnownOwn, KnownPath}
 use Rattle.nf_words.specs.Sound.{AreApart, AreSound, HasRoot, IsOwn}
 
 -- ---- a folder's child of a name
@@ -229,25 +228,7 @@ root_own t row sound there =
     let h = (found_is (HasRoot t) (λ user. user.id == row.id) t.users row sound.roots there).1 in
     record { row = h.row; there = h.there; owner = h.owner }
 
--- the node that a place is at, or in
-abbrev pub IsFor : Found → ℕ → Type 0
-IsFor (At node) other = node ≡ other
-IsFor (Free folder) other = folder ≡ other
-IsFor (Missing depth) other = ⊥
-
--- what a path leads to from a user's root is the user's
-pub path_own : (t : Tables) (who : Option ℕ) (place : Found) (node : ℕ) → AreSound t → (path : KnownPath t who place) → IsFor place node
-    → IsOf t path.row.id node
-path_own t who (At other) node sound path is =
-    subst (λ (n : ℕ). IsOf t path.row.id n) is
-    (leads_own t path.row.id path.row.root path.names other sound (found_leads t path.row.root path.names other sound path.leads)
-    (root_own t path.row sound path.there))
-path_own t who (Free folder) node sound path is =
-    let free = found_free t path.row.root path.names folder sound path.leads in
-    subst (λ (n : ℕ). IsOf t path.row.id n) is
-    (leads_own t path.row.id path.row.root free.front folder sound free.led (root_own t path.row sound path.there))
-path_own t who (Missing depth) node sound path is = absurd is
-
+-- its number was given, and it is the user's
 pub is_own : (t : Tables) (user node : ℕ) → AreSound t → IsOf t user node → IsOwn t user node
 is_own t user node sound of =
     let h = row_is t node of.row sound of.there in
@@ -255,10 +236,3 @@ is_own t user node sound of =
       given = omega (arith, h.0, h.1.given);
       owner = λ row there. ap (λ (r : NodeRow). r.owner) (same_Some row of.row (sym there ∙ of.there)) ∙ of.owner;
     }
-
--- so is what is known to be the own of who acts
-pub at_own : (t : Tables) (who : Option ℕ) (node : ℕ) (place : Found) → AreSound t → KnownAt t who node place → IsFor place node
-    → KnownOwn t who node
-at_own t who node place sound (inl own) is = own
-at_own t who node place sound (inr path) is =
-    record { user = path.row.id; holder = path.caller; own = is_own t path.row.id node sound (path_own t who place node sound path is) }

@@ -1,5 +1,6 @@
 -- Rows of nodes that are put and dropped, one after the other.
-use Rattle.std.proofs.Common.{if◌then◌else◌, inl, inr, ℕ, zero, suc, ◌+◌, ◌==◌, ◌≡◌, ◌≢◌, ◌<◌, Bool, true, false, not, List, [], ◌∷◌, ◌++◌, Option, None, Some, filter, map, length, get_or, refl, sym, ap, subst, ◌∙◌, arith, append_assoc}
+use Rattle.std.proofs.Common.{if◌then◌else◌, inl, inr, ℕ, ◌&&◌, length-append, zero, suc, ◌+◌, ◌==◌, ◌≡◌, ◌≢◌, ◌<◌, Bool, true, false, not, List, [], ◌∷◌, ◌++◌, Option, None, Some, filter, map, length, get_or, refl, sym, ap, subst, ◌∙◌, arith, append_assoc}
+use Rattle.std.proofs.Math.Seq.{get_or-append_seam}
 use Rattle.std.specs.Prelude.{is_some}
 use Rattle.std.specs.List.{All, AllPairs, list_any}
 use Rattle.std.specs.declared.cmp.Ordering.{Ordering}
@@ -13,13 +14,15 @@ use Rattle.nf_base.specs.declared.changes.Change.{Change}
 use Rattle.nf_base.specs.declared.changes.Change.TheVariants.{Drop, Put}
 use Rattle.nf_base.specs.declared.changes.RowKey.TheVariants as keys
 use Rattle.nf_base.specs.declared.rows.NodeRow.{NodeRow}
-use Rattle.nf_base.specs.declared.rows.Row.TheVariants.{Node}
-use Rattle.nf_defs.proofs.Puts.{compared, put_last}
-use Rattle.nf_defs.specs.Prelude.{by_order, climb, dropped, folder_of, is_under, key_cmp, node_key, node_row, parent_of, put, put_all, Tables, walk_of, with_node, without_under}
+use Rattle.nf_base.specs.declared.rows.Row.TheVariants.{Node, Share}
+use Rattle.nf_base.specs.declared.rows.ShareRow.{ShareRow}
+use Rattle.nf_defs.proofs.Puts.{below_one, below_rest, compared, put_last, put_rising, tail_rising}
+use Rattle.nf_defs.specs.Prelude.{by_order, climb, dropped, folder_of, is_under, IsRising, key_cmp, node_key, node_row, parent_of, put, put_all, share_key, Tables, walk_of, with_node, without_under}
 use Rattle.nf_laws.proofs.Climbs.{some_there, those, under_climb}
+use Rattle.nf_laws.proofs.Others.{others_ended}
 use Rattle.nf_laws.proofs.Rows.{found_is}
 use Rattle.nf_laws.proofs.Walked.{walk_among}
-use Rattle.nf_words.specs.Prelude.{AreSound, cleared, dropped_for, dropped_under}
+use Rattle.nf_words.specs.Prelude.{AreSound, cleared, closed_under, dropped_under, ended_for, ended_row, ended_under, gone_for, gone_under, is_closing, removed}
 
 -- ---- rows that are put
 
@@ -100,18 +103,89 @@ drops t (n ∷ nodes) rest =
     ∙ ap (λ (all : List NodeRow). put_all (record t { nodes = all }) rest) (both_dropped n nodes t.nodes)
 
 -- where the nodes under one are dropped, the others are left
-pub drops_under : (t : Tables) (top : ℕ) (rest : List Change) → AreSound t
+pub drops_under : (t : Tables) (top : ℕ) (rest : List Change) → AllPairs (λ (a b : NodeRow). a.id < b.id) t.nodes
     → put_all t (dropped_under t.nodes top ++ rest) ≡ put_all (record t { nodes = without_under t.nodes top }) rest
-drops_under t top rest sound =
+drops_under t top rest rising =
     drops t (walk_of t.nodes top) rest
     ∙ ap (λ (all : List NodeRow). put_all (record t { nodes = all }) rest)
     (filter_agree (λ row. not (list_any (λ node. node == row.id) (walk_of t.nodes top))) (λ row. not (is_under t.nodes row.id top))
-    (λ row. ap not (walk_among t top row.id sound)) t.nodes)
+    (λ row. ap not (walk_among t.nodes top row.id rising)) t.nodes)
 
-pub drops_for : (t : Tables) (replaced : Option ℕ) (rest : List Change) → AreSound t
-    → put_all t (dropped_for t.nodes replaced ++ rest) ≡ put_all (record t { nodes = cleared t.nodes replaced }) rest
-drops_for t None rest sound = refl
-drops_for t (Some top) rest sound = drops_under t top rest sound
+-- ---- shares that end
+
+-- a share's changed row goes to its place
+put_share : (done shares : List ShareRow) (row share : ShareRow) → row.id ≡ share.id → IsRising share_key (done ++ share ∷ shares)
+    → put share_key row (done ++ share ∷ shares) ≡ done ++ row ∷ shares
+put_share [] shares row share same rising = ap (λ (o : Ordering). by_order o (row ∷ share ∷ shares) (row ∷ shares) (share ∷ put share_key row shares)) (compared row.id share.id Equal same)
+put_share (x ∷ done) shares row share same rising =
+    let below = below_one x.id share.id (subst (λ (s : ShareRow). key_cmp (share_key x) (share_key s) ≡ Less) (get_or-append_seam done share shares share)
+    (below_rest share_key x (done ++ share ∷ shares) rising (length done) share (omega (arith, length-append done (share ∷ shares))))) in
+    ap (λ (o : Ordering). by_order o (row ∷ x ∷ done ++ share ∷ shares) (row ∷ done ++ share ∷ shares) (x ∷ put share_key row (done ++ share ∷ shares)))
+    (compared row.id x.id Greater (omega (arith, same, below)))
+    ∙ ap (λ (all : List ShareRow). x ∷ all) (put_share done shares row share same (tail_rising share_key x (done ++ share ∷ shares) rising))
+
+same_ended : (share : ShareRow) → share.ended ≡ true → ended_row share ≡ share
+same_ended share is = ap (λ (b : Bool). record share { ended = b }) (sym is)
+
+closes : (t : Tables) (nodes : List NodeRow) (top : ℕ) (done shares : List ShareRow) (rest : List Change) → IsRising share_key (done ++ shares)
+    → put_all (record t { shares = done ++ shares }) (closed_under nodes shares top ++ rest)
+    ≡ put_all (record t { shares = done ++ ended_under nodes top shares }) rest
+closes t nodes top done [] rest rising = refl
+closes t nodes top done (share ∷ shares) rest rising =
+    here (is_under nodes share.node top) (share.ended) refl (λ row same. closes t nodes top (done ++ row ∷ []) shares rest (turned_rising row same))
+  where
+    -- with another row of the same number the rows still rise
+    turned_rising : (row : ShareRow) → row.id ≡ share.id → IsRising share_key ((done ++ row ∷ []) ++ shares)
+    turned_rising row same =
+        subst (IsRising share_key) (put_share done shares row share same rising ∙ sym (append_assoc done (row ∷ []) shares))
+        (put_rising share_key row (done ++ share ∷ shares) rising)
+
+    Ends : List Change → List ShareRow → Type 0
+    Ends changes ended = put_all (record t { shares = done ++ share ∷ shares }) (changes ++ rest) ≡ put_all (record t { shares = done ++ ended }) rest
+
+    onward : (row : ShareRow) → put_all (record t { shares = (done ++ row ∷ []) ++ shares }) (closed_under nodes shares top ++ rest)
+        ≡ put_all (record t { shares = (done ++ row ∷ []) ++ ended_under nodes top shares }) rest
+        → put_all (record t { shares = done ++ row ∷ shares }) (closed_under nodes shares top ++ rest)
+        ≡ put_all (record t { shares = done ++ row ∷ ended_under nodes top shares }) rest
+    onward row is =
+        ap (λ (all : List ShareRow). put_all (record t { shares = all }) (closed_under nodes shares top ++ rest)) (sym (append_assoc done (row ∷ []) shares))
+        ∙ is ∙ ap (λ (all : List ShareRow). put_all (record t { shares = all }) rest) (append_assoc done (row ∷ []) (ended_under nodes top shares))
+
+    here : (under ended : Bool) → share.ended ≡ ended
+        → ((row : ShareRow) → row.id ≡ share.id → put_all (record t { shares = (done ++ row ∷ []) ++ shares }) (closed_under nodes shares top ++ rest)
+        ≡ put_all (record t { shares = (done ++ row ∷ []) ++ ended_under nodes top shares }) rest)
+        → Ends (map (λ share. Put (Share (ended_row share)))
+        (if not ended && under then share ∷ filter (is_closing nodes top) shares else filter (is_closing nodes top) shares))
+        ((if under then ended_row share else share) ∷ ended_under nodes top shares)
+    here true false e more =
+        ap (λ (all : List ShareRow). put_all (record t { shares = all }) (closed_under nodes shares top ++ rest)) (put_share done shares (ended_row share) share refl rising)
+        ∙ onward (ended_row share) (more (ended_row share) refl)
+    here true true e more =
+        onward share (more share refl)
+        ∙ ap (λ (row : ShareRow). put_all (record t { shares = done ++ row ∷ ended_under nodes top shares }) rest) (sym (same_ended share e))
+    here false true e more = onward share (more share refl)
+    here false false e more = onward share (more share refl)
+
+-- ---- what goes
+
+-- where a node is gone with all under it, its shares are ended and the others are left
+pub gone_one : (t : Tables) (top : ℕ) (rest : List Change) → AllPairs (λ (a b : NodeRow). a.id < b.id) t.nodes → IsRising share_key t.shares
+    → put_all t (gone_under t.nodes t.shares top ++ rest) ≡ put_all (removed t top) rest
+gone_one t top rest rising shares_rise =
+    ap (put_all t) (append_assoc (dropped_under t.nodes top) (closed_under t.nodes t.shares top) rest)
+    ∙ drops_under t top (closed_under t.nodes t.shares top ++ rest) rising
+    ∙ closes (record t { nodes = without_under t.nodes top }) t.nodes top [] t.shares rest shares_rise
+
+pub gone_all : (t : Tables) (replaced : Option ℕ) (rest : List Change) → AreSound t
+    → put_all t (gone_for t.nodes t.shares replaced ++ rest)
+    ≡ put_all (record t { nodes = cleared t.nodes replaced; shares = ended_for t.nodes replaced t.shares }) rest
+gone_all t None rest sound = refl
+gone_all t (Some top) rest sound = gone_one t top rest sound.rising sound.others.shares_rise
+
+-- shares rise as before where some of them are ended
+pub ended_rise : (t : Tables) (replaced : Option ℕ) → AreSound t → IsRising share_key (ended_for t.nodes replaced t.shares)
+ended_rise t None sound = sound.others.shares_rise
+ended_rise t (Some top) sound = (others_ended t (λ node. is_under t.nodes node top) sound).shares_rise
 
 -- ---- rows that differ
 
@@ -146,5 +220,5 @@ pub walk_there : (t : Tables) (top : ℕ) → AreSound t → is_some (node_row t
 walk_there t top sound there k d within =
     let node = get_or (walk_of t.nodes top) k d in
     under_there t.nodes node top there
-    (sym (walk_among t top node sound)
+    (sym (walk_among t.nodes top node sound.rising)
     ∙ list_any_at (λ other. other == node) (walk_of t.nodes top) k d within (eq-eqb node node refl))

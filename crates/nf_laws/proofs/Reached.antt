@@ -2,42 +2,17 @@
 use Rattle.std.proofs.Common.{ℕ, ◌≡◌, ◌↔◌, ◌⊎◌, ◌||◌, false, true, Bool, Option, None, Some, ap, ◌∙◌, inl, inr}
 use Rattle.std.specs.List.{list_any}
 use Rattle.std.specs.Option.{option_map_or}
-use Rattle.std.specs.Prelude.{option_and_then}
 use Rattle.std.proofs.Math.Bool.{or-true}
 use Rattle.std.proofs.lemmas.Bool.{or_cases}
-use Rattle.std.proofs.lemmas.List.Elements.{All-weaker}
 use Rattle.nf_access.proofs.Granted.{grants_are_chains_lem}
-use Rattle.nf_access.proofs.Kept.{chained_is_bounded_lem}
 use Rattle.nf_access.specs.Access.{allows}
-use Rattle.nf_access.specs.Kept.{IsShallow}
-use Rattle.nf_access.specs.Laws.{IsBounded}
 use Rattle.nf_access.specs.Shares.{ground_of}
 use Rattle.nf_base.specs.declared.perms.Act.{Act}
-use Rattle.nf_base.specs.declared.rows.NodeRow.{NodeRow}
-use Rattle.nf_defs.specs.Prelude.{folder_of, Tables}
 use Rattle.nf_defs.specs.declared.Seeker.{Seeker}
 use Rattle.nf_laws.proofs.May.{own_may, owns}
 use Rattle.nf_laws.specs.Access.{IsReached, OwnersAndReachedMay, Owns}
-use Rattle.nf_words.specs.Others.{IsShareSound}
-use Rattle.nf_words.specs.Prelude.{access_of, AreSound, is_owner, IsNodeSound, IsSound, may_by, State}
-
--- ---- sound rows have all that access by shares rests on
-
-shallow : (t : Tables) (row : NodeRow) → IsNodeSound t row → IsShallow t.nodes row.id
-shallow t row sound = record {
-  steps = sound.steps;
-  few = sound.shallow;
-  top = sound.top;
-  climbs = sound.climbs;
-  ends = ap (option_and_then (λ (row : NodeRow). folder_of row.place)) sound.ends.there ∙ sound.ends.ends;
-}
-
-pub bounded : (t : Tables) → AreSound t → IsBounded (ground_of t)
-bounded t sound = chained_is_bounded_lem (ground_of t) (record {
-  rising = sound.others.shares_rise;
-  chained = All-weaker (IsShareSound t) _ (λ share is. is.chained) t.shares sound.others.shares;
-  shallow = All-weaker (IsNodeSound t) (λ row. IsShallow t.nodes row.id) (shallow t) t.nodes sound.nodes;
-})
+use Rattle.nf_words.proofs.Ways.{bounded}
+use Rattle.nf_words.specs.Prelude.{access_of, is_owner, IsSound, may_by, State}
 
 -- ---- who may
 

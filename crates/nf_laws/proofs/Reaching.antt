@@ -1,58 +1,305 @@
--- What who asks may do: all that is the own.
-use Rattle.std.proofs.Common.{ℕ, ◌≡◌, drop, subst, true, List, Option, None, Some, Ok, refl, sym, ap, ◌∙◌}
-use Rattle.std.proofs.lemmas.Bool.{both_ways}
-use Rattle.std.proofs.lemmas.Option.{same_Some}
+-- What who asks is served is what may be read, and what may be read is served: the own, and what a mount leads to.
+use Rattle.std.proofs.Common.{ℕ, ◌≡◌, ◌≢◌, drop, false, subst, true, Bool, List, [], Option, None, Some, Result, Ok, refl, sym, ap, ◌∙◌}
+use Rattle.std.specs.Prelude.{if◌then◌else◌}
+use Rattle.std.specs.List.{list_any}
+use Rattle.std.specs.Option.{option_map_or}
+use Rattle.std.proofs.lemmas.Bool.{both_ways, cond_both}
+use Rattle.std.proofs.lemmas.List.Elements.{All-head}
+use Rattle.nf_access.proofs.Granted.{reach_is_a_chain_lem}
+use Rattle.nf_access.specs.Access.{by_chains, is_open}
+use Rattle.nf_access.specs.Shares.{ground_of}
 use Rattle.nf_base.specs.declared.content.Piece.{Piece}
 use Rattle.nf_base.specs.declared.perms.Act.TheVariants.{Read}
 use Rattle.nf_base.specs.declared.rows.NodeRow.{NodeRow}
-use Rattle.nf_defs.specs.Prelude.{is_folder, Tables}
-use Rattle.nf_defs.specs.declared.Found.TheVariants.{At}
-use Rattle.nf_laws.proofs.May.{led_own, own_may}
-use Rattle.nf_laws.proofs.Owning.{lists_own, serves_own}
-use Rattle.nf_laws.proofs.Paths.{leads_found}
+use Rattle.nf_defs.specs.Prelude.{content_of, is_folder, node_row, Tables}
+use Rattle.nf_defs.specs.declared.Found.{Found}
+use Rattle.nf_defs.specs.declared.Found.TheVariants.{At, Free, Missing}
+use Rattle.nf_laws.proofs.Free.{unlocked_free}
+use Rattle.nf_laws.proofs.Paths.{found_leads, leads_found}
 use Rattle.nf_laws.proofs.Reading.{IsLet, granted, shows}
-use Rattle.nf_laws.specs.Access.{IsReadable, LeadsBy, ListsWhatMayBeRead, ServesWhatMayBeRead, WhatMayBeReadIsListed, WhatMayBeReadIsServed}
-use Rattle.nf_laws.specs.Owners.{IsFound}
-use Rattle.nf_words.proofs.Starts.{from_root, has_row, row_of_caller, unmounted}
-use Rattle.nf_words.specs.Prelude.{access_of, answered_by, AreSound, asker_of, Call, call_of, found, may_by, MayWant, mount_of, not_you_rule, root_of, seeker_of, unreached, user_of, way_by, way_of}
+use Rattle.nf_laws.proofs.Rows.{row_id}
+use Rattle.nf_laws.specs.Access.{IsReachedBy, IsReadable, LeadsBy, ListsWhatMayBeRead, ServesWhatMayBeRead, WhatMayBeReadIsListed, WhatMayBeReadIsServed}
+use Rattle.nf_laws.specs.Reads.{IsFreeToRead}
+use Rattle.nf_words.proofs.Begins.{places_at, wanted_passes, WantedPasses}
+use Rattle.nf_words.proofs.Passing.{Passes, call_passes, if_none}
+use Rattle.nf_words.proofs.Starts.{has_row}
+use Rattle.nf_words.proofs.Steps.{ok_reply, put_grants_nothing, reports_nothing}
+use Rattle.nf_words.proofs.Ways.{bounded, way_there}
+use Rattle.nf_words.specs.Prelude.{access_of, allowed_of, answered_by, AreSound, broken_by, by_of, Call, call_decision, call_of, copied, copies_to, crosses, deleted, found, given, last_name, listing_of, made_folder, may_by, MayWant, mount_left, mount_of, mount_renamed, moved, Need, node_at, node_found, reply_by, reported, root_of, seeker_of, served, stored, transfer_of, unreached, way_by, way_of}
+use Rattle.nf_words.specs.declared.answer.Allowed.{Allowed}
 use Rattle.nf_words.specs.declared.answer.Allowed.TheVariants as allowed
+use Rattle.nf_words.specs.declared.answer.By.{By}
+use Rattle.nf_words.specs.declared.answer.Denial.{Denial}
+use Rattle.nf_words.specs.declared.answer.Goal.TheVariants.{Serve}
+use Rattle.nf_words.specs.declared.answer.Reply.TheVariants.{Granted, Listing}
+use Rattle.nf_words.specs.declared.answer.Report.{Report}
+use Rattle.nf_words.specs.declared.answer.Report.TheVariants as report
 use Rattle.nf_words.specs.declared.listing.ListingLine.{ListingLine}
 use Rattle.nf_words.specs.declared.request.Spot.{Spot}
+use Rattle.nf_words.specs.declared.request.Transfer.{Transfer}
+use Rattle.nf_words.specs.declared.request.Wanted.{Wanted}
+use Rattle.nf_words.specs.declared.request.Wanted.TheVariants.{Get, Put, Mkcol, Delete, Move, Copy}
 
--- ---- what is read
+-- ---- what is shown
 
--- who asks is the holder of the token
-pub asker_is : (call : Call) (user : ℕ) → MayWant call.request → not_you_rule (access_of call.state) call ≡ None
-    → user_of call ≡ Some user → asker_of call ≡ user
-asker_is call user may passes holder =
-    let row = has_row call may passes in
-    let is = row_of_caller call.state.tables.users (user_of call) row.0 row.1 in
-    rw row.1 (same_Some row.0.id user (sym is.0 ∙ holder))
+-- what is put at a place is answered no listing
+lists_none : (replaced : Option ℕ) (listing : List ListingLine) → reply_by replaced ≢ Listing listing
+lists_none None listing = λ is. cc
+lists_none (Some node) listing = λ is. cc
 
--- what is found as the caller's own may be read
-readable : (call : Call) (row : NodeRow) → AreSound call.state.tables → IsFound call row → IsReadable call row
-readable call row sound is =
+report_lists_none : (report : Report) (listing : List ListingLine) → reported report ≢ Listing listing
+report_lists_none report.Made listing = λ is. cc
+report_lists_none report.Done listing = λ is. cc
+
+-- only a GET is granted a content to send
+pub got : (decision : Result Allowed Denial) (content : List Piece) → answered_by decision ≡ Ok (Granted (Serve content))
+    → (node : ℕ) × (decision ≡ Ok (allowed.Get node content))
+got (Ok (allowed.Get node other)) content is = (node, cc)
+got (Ok (allowed.Change changes blob report)) content is = absurd (reports_nothing report (Serve content) (ok_reply _ _ is))
+got (Ok (allowed.Move transfer name)) content is = absurd (put_grants_nothing transfer.replaced (Serve content) (ok_reply _ _ is))
+got (Ok (allowed.Copy rows replaced)) content is = absurd (put_grants_nothing replaced (Serve content) (ok_reply _ _ is))
+got (Ok (allowed.Cross rows replaced node)) content is = absurd (put_grants_nothing replaced (Serve content) (ok_reply _ _ is))
+got decision content is = absurd (cc)
+
+-- only a GET is answered a listing
+pub got_listing : (decision : Result Allowed Denial) (listing : List ListingLine) → answered_by decision ≡ Ok (Listing listing)
+    → decision ≡ Ok (allowed.List listing)
+got_listing (Ok (allowed.List other)) listing is = cc
+got_listing (Ok (allowed.Change changes blob report)) listing is = absurd (report_lists_none report listing (ok_reply _ _ is))
+got_listing (Ok (allowed.Move transfer name)) listing is = absurd (lists_none transfer.replaced listing (ok_reply _ _ is))
+got_listing (Ok (allowed.Copy rows replaced)) listing is = absurd (lists_none replaced listing (ok_reply _ _ is))
+got_listing (Ok (allowed.Cross rows replaced node)) listing is = absurd (lists_none replaced listing (ok_reply _ _ is))
+got_listing decision listing is = absurd (cc)
+
+-- it shows a file or a folder
+abbrev pub is_shown : Allowed → Bool
+is_shown (allowed.Get node content) = true
+is_shown (allowed.List listing) = true
+is_shown act = false
+
+-- which a GET alone does
+stored_hides : (by : By) (name : List ℕ) (length : ℕ) (o : Option Found) → is_shown (stored by name length o) ≡ false
+stored_hides by name length None = refl
+stored_hides by name length (Some (At node)) = refl
+stored_hides by name length (Some (Free folder)) = refl
+stored_hides by name length (Some (Missing depth)) = refl
+
+folder_hides : (t : Tables) (now : ℕ) (name : List ℕ) (o : Option Found) → is_shown (made_folder t now name o) ≡ false
+folder_hides t now name None = refl
+folder_hides t now name (Some (At node)) = refl
+folder_hides t now name (Some (Free folder)) = refl
+folder_hides t now name (Some (Missing depth)) = refl
+
+deleted_hides : (o : Option ℕ) → is_shown (deleted o) ≡ false
+deleted_hides None = refl
+deleted_hides (Some node) = refl
+
+either_hides : (b : Bool) (one other : Allowed) → is_shown one ≡ false → is_shown other ≡ false → is_shown (if b then one else other) ≡ false
+either_hides true one other first second = first
+either_hides false one other first second = second
+
+moved_hides : (t : Tables) (now : ℕ) (name : List ℕ) (o : Option Transfer) → is_shown (moved t now name o) ≡ false
+moved_hides t now name None = refl
+moved_hides t now name (Some transfer) =
+    either_hides (crosses t.nodes transfer) (allowed.Cross (copies_to t now transfer name) transfer.replaced transfer.node)
+    (allowed.Move transfer name) refl refl
+
+copied_hides : (t : Tables) (now : ℕ) (name : List ℕ) (o : Option Transfer) → is_shown (copied t now name o) ≡ false
+copied_hides t now name None = refl
+copied_hides t now name (Some transfer) = refl
+
+-- what is shown is asked for by a GET, whose place leads there
+pub asked : (call : Call) (act : Allowed) → allowed_of (access_of call.state) call ≡ act → is_shown act ≡ true
+    → (spot : Spot) × (call.request.wanted ≡ Get spot)
+    × (served (access_of call.state) call (way_of call spot).mount (node_found (found call spot)) ≡ act)
+asked call act is shown = here call.request.wanted refl is
+  where
+    t : Tables
+    t = call.state.tables
+
+    none : (hidden : Allowed) → is_shown hidden ≡ false → hidden ≡ act → ⊥
+    none hidden hides same = both_ways (is_shown act) (ap is_shown (sym same) ∙ hides) shown
+
+    here : (wanted : Wanted) → call.request.wanted ≡ wanted → given (access_of call.state) call (places_at call wanted) wanted ≡ act
+        → (spot : Spot) × (call.request.wanted ≡ Get spot)
+        × (served (access_of call.state) call (way_of call spot).mount (node_found (found call spot)) ≡ act)
+    here (Get spot) e is = (spot, e, is)
+    here (Put spot length) e is =
+        absurd (none (stored (by_of call spot) (last_name spot) length (Some (found call spot)))
+        (stored_hides (by_of call spot) (last_name spot) length (Some (found call spot))) is)
+    here (Mkcol spot) e is =
+        absurd (none (made_folder t call.now (last_name spot) (Some (found call spot))) (folder_hides t call.now (last_name spot) (Some (found call spot))) is)
+    here (Delete spot) e is =
+        let way = way_of call spot in
+        let node = node_at (places_at call (Delete spot)).source in
+        absurd (none (if way.itself then mount_left call way else deleted node)
+        (either_hides way.itself (mount_left call way) (deleted node) refl (deleted_hides node)) is)
+    here (Move source target overwrite) e is =
+        let way = way_of call source in
+        let name = last_name target in
+        let transfer = transfer_of t.nodes (places_at call (Move source target overwrite)) in
+        absurd (none (if way.itself then mount_renamed call way name else moved t call.now name transfer)
+        (either_hides way.itself (mount_renamed call way name) (moved t call.now name transfer) refl (moved_hides t call.now name transfer)) is)
+    here (Copy source target overwrite) e is =
+        let name = last_name target in
+        let transfer = transfer_of t.nodes (places_at call (Copy source target overwrite)) in
+        absurd (none (copied t call.now name transfer) (copied_hides t call.now name transfer) is)
+
+-- a GET gives that of the node at its place
+pub get_at : (call : Call) (mount : Option ℕ) (place : Found) (node : ℕ) (content : List Piece)
+    → served (access_of call.state) call mount (node_found place) ≡ allowed.Get node content
+    → (place ≡ At node) × (is_folder call.state.tables.nodes node ≡ false) × (content ≡ content_of call.state.tables.nodes node)
+get_at call mount (At other) node content is =
+    let t = call.state.tables in
+    cond_both (is_folder t.nodes other) (allowed.List (listing_of (access_of call.state) call mount other)) (allowed.Get other (content_of t.nodes other))
+    (λ act. act ≡ allowed.Get node content
+    → (At other ≡ At node) × (is_folder t.nodes node ≡ false) × (content ≡ content_of t.nodes node)) (λ folder is. absurd (cc))
+    (λ file is.
+    let same : other ≡ node = cc in
+    let sent : content_of t.nodes other ≡ content = cc in (
+      ap At same,
+      subst (λ (n : ℕ). is_folder t.nodes n ≡ false) same file,
+      sym sent ∙ ap (content_of t.nodes) same,
+    )) is
+get_at call mount (Free folder) node content is = absurd (cc)
+get_at call mount (Missing depth) node content is = absurd (cc)
+
+-- or lists the folder that is there
+pub list_at : (call : Call) (mount : Option ℕ) (place : Found) (listing : List ListingLine)
+    → served (access_of call.state) call mount (node_found place) ≡ allowed.List listing
+    → (folder : ℕ) × (place ≡ At folder) × (is_folder call.state.tables.nodes folder ≡ true)
+    × (listing ≡ listing_of (access_of call.state) call mount folder)
+list_at call mount (At other) listing is =
+    let t = call.state.tables in
+    let lines = listing_of (access_of call.state) call mount other in
+    cond_both (is_folder t.nodes other) (allowed.List lines) (allowed.Get other (content_of t.nodes other))
+    (λ act. act ≡ allowed.List listing
+    → (folder : ℕ) × (At other ≡ At folder) × (is_folder t.nodes folder ≡ true) × (listing ≡ listing_of (access_of call.state) call mount folder))
+    (λ folder is. let same : lines ≡ listing = cc in (other, refl, folder, sym same)) (λ file is. absurd (cc)) is
+list_at call mount (Free folder) listing is = absurd (cc)
+list_at call mount (Missing depth) listing is = absurd (cc)
+
+-- ---- where a path leads
+
+pub way_mount : (call : Call) (spot : Spot) → (way_of call spot).mount ≡ mount_of call spot
+way_mount call spot = here (mount_of call spot)
+  where
+    here : (mount : Option ℕ) → (way_by call.state.tables.nodes (root_of call) spot.path mount).mount ≡ mount
+    here None = refl
+    here (Some mount) = refl
+
+-- a way whose mount, if there is one, reaches who asks, is that of a chain
+reached_by : (call : Call) (spot : Spot) → AreSound call.state.tables → unreached (access_of call.state) call (way_of call spot) ≡ None
+    → IsReachedBy call (mount_of call spot)
+reached_by call spot sound reached = here (mount_of call spot) reached
+  where
+    t : Tables
+    t = call.state.tables
+
+    here : (mount : Option ℕ) → unreached (access_of call.state) call (way_by t.nodes (root_of call) spot.path mount) ≡ None → IsReachedBy call mount
+    here None passes = tt
+    here (Some mount) passes =
+        (reach_is_a_chain_lem (ground_of t) call.now (seeker_of call) mount (bounded t sound)).0
+        (if_none (list_any (is_open call.now) (by_chains (ground_of t) (seeker_of call) mount)) _ passes)
+
+-- and that of a chain reaches
+chain_reaches : (call : Call) (spot : Spot) → AreSound call.state.tables → IsReachedBy call (mount_of call spot)
+    → unreached (access_of call.state) call (way_of call spot) ≡ None
+chain_reaches call spot sound reached = here (mount_of call spot) reached
+  where
+    t : Tables
+    t = call.state.tables
+
+    here : (mount : Option ℕ) → IsReachedBy call mount → unreached (access_of call.state) call (way_by t.nodes (root_of call) spot.path mount) ≡ None
+    here None reached = refl
+    here (Some mount) reached =
+        ap (λ (b : Bool). if b then None else Some (broken_by (ground_of t) (seeker_of call) call.now None mount))
+        ((reach_is_a_chain_lem (ground_of t) call.now (seeker_of call) mount (bounded t sound)).1 reached)
+
+leads_by : (call : Call) (spot : Spot) (node : ℕ) → AreSound call.state.tables → found call spot ≡ At node → LeadsBy call spot (mount_of call spot) node
+leads_by call spot node sound at = here (mount_of call spot) at
+  where
+    t : Tables
+    t = call.state.tables
+
+    here : (mount : Option ℕ) → (way_by t.nodes (root_of call) spot.path mount).place ≡ At node → LeadsBy call spot mount node
+    here None at = found_leads t (root_of call) spot.path node sound at
+    here (Some mount) at = found_leads t mount (drop 1 spot.path) node sound at
+
+-- ---- what is served may be read
+
+-- what is at the end of the path of a GET that no rule refuses is there, and may be read
+record Reads (call : Call) (spot : Spot) (node : ℕ) : Type 0 where
+  row : NodeRow
+  id : row.id ≡ node
+  there : node_row call.state.tables.nodes node ≡ Some row
+  readable : IsReadable call row
+  by : readable.spot ≡ spot
+
+reads : (call : Call) (spot : Spot) (node : ℕ) → AreSound call.state.tables → MayWant call.request → Passes (access_of call.state) call
+    → call.request.wanted ≡ Get spot → found call spot ≡ At node → Reads call spot node
+reads call spot node sound may passes wanted at =
+    let t = call.state.tables in
+    let user = has_row call may passes.not_you in
+    let p = subst (WantedPasses call) wanted (wanted_passes call may passes) in
+    let reached = p.place.source refl in
+    let of = way_there call spot user.0 sound user.1 node reached at in
+    let id = row_id t.nodes node of.0 of.1 in
+    let back : node ≡ of.0.id = sym id in
+    let read = λ (n : ℕ) (mount : Option ℕ). may_by (access_of call.state) t.nodes (seeker_of call) call.now Read n mount in
+    let May = λ (need : Need). may_by (access_of call.state) t.nodes (seeker_of call) call.now need.act need.node need.mount ≡ true in
+    let needs : read node (way_of call spot).mount ≡ true =
+    All-head May (record { act = Read; node = node; mount = (way_of call spot).mount }) [] (rw at at p.may) in
     record {
-      spot = is.spot;
-      asked = is.asked;
-      well = is.well;
-      there = is.there;
-      led = subst (λ (mount : Option ℕ). LeadsBy call is.spot mount row.id) (sym (unmounted call is.spot sound.later)) is.led;
-      may = own_may (access_of call.state) call.state.tables.nodes (seeker_of call) call.now Read row.id (mount_of call is.spot)
-          (led_own call is.spot.path row.id row sound is.led is.there);
+      row = of.0;
+      id = id;
+      there = of.1;
+      readable = record {
+        spot = spot;
+        asked = wanted;
+        well = record { token = passes.token; not_you = passes.not_you; forbidden = passes.forbidden };
+        there = ap (node_row t.nodes) id ∙ of.1;
+        led = leads_by call spot of.0.id sound (at ∙ ap At back);
+        reached = reached_by call spot sound reached;
+        may = ap (λ (n : ℕ). read n (mount_of call spot)) id ∙ ap (read node) (sym (way_mount call spot)) ∙ needs;
+      };
+      by = refl;
     }
 
 pub serves_readable : ServesWhatMayBeRead
 serves_readable s seat now words request content sound may is =
-    let own = serves_own s seat now words request content sound may is in
-    let found = readable (call_of s seat now words request) own.row sound.rows own.found in
-    record { row = own.row; readable = found; file = own.file; free = own.free; sent = own.sent }
+    let call = call_of s seat now words request in
+    let get = got (call_decision call) content is in
+    let act = allowed.Get get.0 content in
+    let passes = call_passes call act get.1 in
+    let spot = asked call act passes.1 refl in
+    let at = get_at call (way_of call spot.0).mount (found call spot.0) get.0 content spot.2 in
+    let of = reads call spot.0 get.0 sound.rows may passes.0 spot.1 at.0 in
+    record {
+      row = of.row;
+      readable = of.readable;
+      file = rw of.there at at.1;
+      free = subst (IsFreeToRead s seat) (sym of.id) (unlocked_free call spot.0 get.0 spot.1 at.0 passes.0.locked at.1);
+      sent = sym (at.2 ∙ ap (λ (o : Option NodeRow). option_map_or (λ row. row.content) o []) of.there);
+    }
 
 pub lists_readable : ListsWhatMayBeRead
 lists_readable s seat now words request listing sound may is =
-    let own = lists_own s seat now words request listing sound may is in
-    let found = readable (call_of s seat now words request) own.row sound.rows own.found in
-    record { row = own.row; readable = found; folder = own.folder; listed = own.listed }
+    let call = call_of s seat now words request in
+    let act = allowed.List listing in
+    let passes = call_passes call act (got_listing (call_decision call) listing is) in
+    let spot = asked call act passes.1 refl in
+    let at = list_at call (way_of call spot.0).mount (found call spot.0) listing spot.2 in
+    let of = reads call spot.0 at.0 sound.rows may passes.0 spot.1 at.1 in
+    record {
+      row = of.row;
+      readable = of.readable;
+      folder = rw of.there at at.2;
+      listed = at.3 ∙ ap (λ (mount : Option ℕ). listing_of (access_of s) call mount at.0) (way_mount call spot.0)
+          ∙ (λ i. listing_of (access_of s) call (mount_of call (sym of.by i)) (sym of.id i));
+    }
+
+-- ---- what may be read is served
 
 -- what may be read is where the path leads
 at_readable : (call : Call) (row : NodeRow) → AreSound call.state.tables → (is : IsReadable call row) → found call is.spot ≡ At row.id
@@ -65,16 +312,9 @@ at_readable call row sound is = here (mount_of call is.spot) is.led
     here None led = leads_found t 0 (root_of call) is.spot.path row.id sound led
     here (Some mount) led = leads_found t 0 mount (drop 1 is.spot.path) row.id sound led
 
-way_mount : (call : Call) (spot : Spot) → (way_of call spot).mount ≡ mount_of call spot
-way_mount call spot = here (mount_of call spot)
-  where
-    here : (mount : Option ℕ) → (way_by call.state.tables.nodes (root_of call) spot.path mount).mount ≡ mount
-    here None = refl
-    here (Some mount) = refl
-
 readable_let : (call : Call) (row : NodeRow) → AreSound call.state.tables → (is : IsReadable call row) → IsLet call is.spot row.id
 readable_let call row sound is = record {
-  reached = ap (unreached (access_of call.state) call) (from_root call is.spot sound.later);
+  reached = chain_reaches call is.spot sound is.reached;
   reads = ap (may_by (access_of call.state) call.state.tables.nodes (seeker_of call) call.now Read row.id) (way_mount call is.spot) ∙ is.may;
 }
 
@@ -92,4 +332,5 @@ readable_listed s seat now words request listing sound is =
     let folder : is_folder s.tables.nodes is.row.id ≡ true = rw it.there is.folder in
     ap answered_by (shows call it.spot is.row.id it.asked (at_readable call is.row sound.rows it) it.well (readable_let call is.row sound.rows it)
     (λ file. absurd (both_ways (is_folder s.tables.nodes is.row.id) file folder)))
-    ∙ rw folder (ap (λ (lines : List ListingLine). answered_by (Ok (allowed.List lines))) (sym is.listed))
+    ∙ rw folder (ap (λ (mount : Option ℕ). answered_by (Ok (allowed.List (listing_of (access_of s) call mount is.row.id)))) (way_mount call it.spot)
+    ∙ ap (λ (lines : List ListingLine). answered_by (Ok (allowed.List lines))) (sym is.listed))

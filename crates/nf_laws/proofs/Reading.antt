@@ -1,9 +1,10 @@
 -- What a PUT stored is what a later GET of the path is granted.
 use Rattle.std.proofs.Common.{ℕ, suc, ◌+◌, ◌==◌, ◌&&◌, ◌≡◌, true, false, not, List, [], ◌∷◌, ◌++◌, Option, None, Some, Result, Ok, length, take, option_map, refl, sym, ap, subst, ◌∙◌, arith, le_refl, ◌≢◌, ◌<◌, get_or}
-use Rattle.std.specs.Prelude.{IsOk}
+use Rattle.std.specs.Prelude.{IsOk, is_some, if◌then◌else◌}
 use Rattle.std.specs.Option.{option_map_or, IfSome}
 use Rattle.std.proofs.Math.Seq.{take-length}
 use Rattle.std.proofs.lemmas.Bool.{and_parts, cond_both, false≢true, not-true}
+use Rattle.nf_access.specs.Mounts.{mount_at}
 use Rattle.nf_base.specs.Content.{content_eq}
 use Rattle.nf_base.specs.declared.changes.Change.{Change}
 use Rattle.nf_base.specs.declared.changes.Change.TheVariants.{Put}
@@ -12,15 +13,16 @@ use Rattle.nf_base.specs.declared.rows.NodeKind.TheVariants.{File}
 use Rattle.nf_base.specs.declared.rows.NodeRow.{NodeRow}
 use Rattle.nf_base.specs.declared.rows.Place.TheVariants.{Inside}
 use Rattle.nf_base.specs.declared.rows.Row.TheVariants as rows
-use Rattle.nf_defs.specs.Prelude.{filled, found_from, is_folder, is_folder_kind, Leads, leads_on, node_key, node_row, put, stays, Tables, with_node}
+use Rattle.nf_defs.specs.Prelude.{child_of, filled, is_folder, is_folder_kind, Leads, leads_on, node_key, node_row, put, stays, Tables, with_node}
 use Rattle.nf_base.specs.declared.perms.Act.TheVariants.{Read}
+use Rattle.nf_defs.specs.declared.Found.{Found}
 use Rattle.nf_defs.specs.declared.Found.TheVariants.{At}
 use Rattle.nf_laws.proofs.Added.{new_there}
 use Rattle.nf_laws.proofs.Climbs.{holds_some}
 use Rattle.nf_laws.proofs.Entries.{step_changed}
 use Rattle.nf_laws.proofs.May.{led_own, own_may}
 use Rattle.nf_laws.proofs.OneRow.{row_itself}
-use Rattle.nf_laws.proofs.Paths.{leads_found}
+use Rattle.nf_laws.proofs.Paths.{child_there, leads_found}
 use Rattle.nf_laws.proofs.Puts.{put_changed, put_new}
 use Rattle.nf_laws.proofs.Replaced.{kept_replaced}
 use Rattle.nf_laws.proofs.Rows.{AreKept, folder_kept, kept_joined, row_id}
@@ -31,8 +33,7 @@ use Rattle.nf_words.proofs.Bodies.{content_decides}
 use Rattle.nf_words.proofs.Fits.{newest}
 use Rattle.nf_words.proofs.Orders.{none_of}
 use Rattle.nf_words.proofs.Passing.{Passes, in_order}
-use Rattle.nf_words.proofs.Starts.{from_root}
-use Rattle.nf_words.specs.Prelude.{access_of, actor_of, acts_rule, after, after_mark, allowed_of, answered_by, AreSound, blob_for, Call, call_decision, call_of, changed, content_in, decision_of, end_refusal, ends_at, exists_rule, found, IsSound, IsHeld, IsStorable, limit_rule, makes, may_by, new_node, overwrite_rule, place_rule, refilled, replay, rules, seeker_of, shown, State, stored_at, stores, target_rule, unless_refused, unreached, way_of, AreApartHolds, HoldsFor, IsTicketSound, step, ticket_of, without_ticket, Way}
+use Rattle.nf_words.specs.Prelude.{access_of, acts_rule, after, after_mark, allowed_of, answered_by, AreSound, asker_of, blob_for, Call, call_decision, call_of, changed, content_in, decision_of, end_refusal, ends_at, exists_rule, found, IsSound, IsHeld, IsStorable, limit_rule, makes, may_by, mounted, new_node, overwrite_rule, place_rule, refilled, replay, root_of, rules, seeker_of, shown, State, stored_at, stores, target_rule, unless_refused, unreached, way_of, AreApartHolds, HoldsFor, IsTicketSound, step, ticket_of, without_ticket, Way, way_by}
 use Rattle.nf_words.specs.declared.answer.Allowed.{Allowed}
 use Rattle.nf_words.specs.declared.answer.Allowed.TheVariants as allowed
 use Rattle.nf_words.specs.declared.answer.Denial.{Denial}
@@ -104,10 +105,10 @@ record HasFile (rows : List NodeRow) (root : ℕ) (path : List (List ℕ)) (cont
   file : is_folder_kind row.kind ≡ false
   filled : row.content ≡ content
 
-over_file : (t : Tables) (now node root : ℕ) (path : List (List ℕ)) (content : List Piece) (blob : Option ℕ) (who : Option ℕ) (old : NodeRow)
+over_file : (t : Tables) (now node root : ℕ) (path : List (List ℕ)) (content : List Piece) (blob : Option ℕ) (old : NodeRow)
     → AreSound t → node_row t.nodes node ≡ Some old → is_folder_kind old.kind ≡ false → Leads t.nodes root path node
     → HasFile (changed t now (allowed.Change (refilled (Some old) now content) blob Done)).nodes root path content node
-over_file t now node root path content blob who old sound there file led =
+over_file t now node root path content blob old sound there file led =
     let HasIt : List Change → Type 0 = λ changes. HasFile (changed t now (allowed.Change changes blob Done)).nodes root path content node in
     let change = filled content now in
     let after : List NodeRow = with_node t.nodes node change in
@@ -152,17 +153,17 @@ abbrev stored_node : Tables → LockKey → ℕ
 stored_node t (Node node) = node
 stored_node t (Slot folder name) = t.meta.next_node
 
-stored_file : (t : Tables) (now : ℕ) (who : Option ℕ) (key : LockKey) (digest : List ℕ) (size root : ℕ) (path : List (List ℕ)) → AreSound t
+stored_file : (t : Tables) (now : ℕ) (key : LockKey) (digest : List ℕ) (size root : ℕ) (path : List (List ℕ)) → AreSound t
     → IsHeld t key → LeadsToKey t.nodes root path key
     → HasFile (changed t now (stored_at t now key digest size)).nodes root path (content_in (blob_for t.meta.next_blob size) digest size)
     (stored_node t key)
-stored_file t now who (Node node) digest size root path sound there led =
+stored_file t now (Node node) digest size root path sound there led =
     let content = content_in (blob_for t.meta.next_blob size) digest size in
     let blob = blob_for t.meta.next_blob size in
     let file = holds_some (λ row. not (is_folder_kind row.kind)) (node_row t.nodes node) there in
     subst (λ (o : Option NodeRow). HasFile (changed t now (allowed.Change (refilled o now content) blob Done)).nodes root path content node) (sym file.1)
-    (over_file t now node root path content blob who file.0 sound file.1 (not-true (is_folder_kind file.0.kind) file.2) led)
-stored_file t now who (Slot folder name) digest size root path sound there (front, parts, led) =
+    (over_file t now node root path content blob file.0 sound file.1 (not-true (is_folder_kind file.0.kind) file.2) led)
+stored_file t now (Slot folder name) digest size root path sound there (front, parts, led) =
     let blob = blob_for t.meta.next_blob size in
     let content = content_in blob digest size in
     subst (λ (names : List (List ℕ)). HasFile (changed t now (stored_at t now (Slot folder name) digest size)).nodes root names content t.meta.next_node) (sym parts)
@@ -185,7 +186,7 @@ entry_file n s e root path content is =
     ap (λ (m : Mark). (after_mark s e m).tables) is.answered
     ∙ step_changed s e.seat e.moment e.event act (goes ∙ none) in
     let there = subst (λ (o : Option Goal). IfSome o (IsStorable t)) is.granted (goal_held s e.seat is.sound) in
-    let file = stored_file t e.moment (actor_of s e.seat e.event) is.key is.digest is.size root path is.sound.rows there is.led in
+    let file = stored_file t e.moment is.key is.digest is.size root path is.sound.rows there is.led in
     subst (λ (c : List Piece). HasFile (after s e).tables.nodes root path c (stored_node t is.key)) (sym is.body)
     (subst (λ (u : Tables). HasFile u.nodes root path (content_in (blob_for t.meta.next_blob is.size) is.digest is.size) (stored_node t is.key))
     (sym becomes) file)
@@ -197,17 +198,34 @@ pub record IsLet (call : Call) (spot : Spot) (node : ℕ) : Type 0 where
   pub reached : unreached (access_of call.state) call (way_of call spot) ≡ None
   pub reads : may_by (access_of call.state) call.state.tables.nodes (seeker_of call) call.now Read node (way_of call spot).mount ≡ true
 
+-- names that lead from a root go by no mount: the first, if there is one, is that of a child
+pub led_unmounted : (t : Tables) (user root : ℕ) (names : List (List ℕ)) (node : ℕ) → AreSound t → Leads t.nodes root names node
+    → mounted t.nodes t.mounts user root names ≡ None
+led_unmounted t user _ _ _ sound (stays at) = refl
+led_unmounted t user _ _ _ sound (leads_on at name names child node folds there place named led) =
+    let is : child_of t.nodes at name ≡ Some child.id =
+    subst (λ (n : List ℕ). child_of t.nodes at n ≡ Some child.id) named (child_there t.nodes at child sound.names there place) in
+    ap (λ (o : Option ℕ). if is_some o then None else mount_at t.mounts user name) is
+
+-- so the way of such a path is from the root
+pub led_way : (call : Call) (spot : Spot) (node : ℕ) → AreSound call.state.tables → Leads call.state.tables.nodes (root_of call) spot.path node
+    → way_of call spot ≡ record { mount = None; itself = false; place = At node }
+led_way call spot node sound led =
+    let t = call.state.tables in
+    ap (way_by t.nodes (root_of call) spot.path) (led_unmounted t (asker_of call) (root_of call) spot.path node sound led)
+    ∙ ap (λ (place : Found). record { mount = None; itself = false; place = place }) (leads_found t 0 (root_of call) spot.path node sound led)
+
 -- what leads from the caller's root is the caller's, who may read it
-pub owner_let : (call : Call) (spot : Spot) (node : ℕ) → AreSound call.state.tables → Owns call.state.tables.nodes (seeker_of call) node
-    → IsLet call spot node
-owner_let call spot node sound own = record {
-  reached = ap (unreached (access_of call.state) call) (from_root call spot sound.later);
+pub owner_let : (call : Call) (spot : Spot) (node : ℕ) → AreSound call.state.tables → Leads call.state.tables.nodes (root_of call) spot.path node
+    → Owns call.state.tables.nodes (seeker_of call) node → IsLet call spot node
+owner_let call spot node sound led own = record {
+  reached = ap (unreached (access_of call.state) call) (led_way call spot node sound led);
   reads = own_may (access_of call.state) call.state.tables.nodes (seeker_of call) call.now Read node (way_of call spot).mount own;
 }
 
 -- a call of a GET that the rules of who asks, of names and of access pass is shown what its path leads to
 pub shows : (call : Call) (spot : Spot) (node : ℕ) → call.request.wanted ≡ Get spot → found call spot ≡ At node → IsWellAsked call
-    → IsLet call spot node → (is_folder call.state.tables.nodes node ≡ false → IsFreeToRead call.state call.seat node) → call_decision call ≡ Ok (shown call.state.tables node)
+    → IsLet call spot node → (is_folder call.state.tables.nodes node ≡ false → IsFreeToRead call.state call.seat node) → call_decision call ≡ Ok (shown (access_of call.state) call (way_of call spot).mount node)
 unfolding place_rule acts_rule exists_rule target_rule overwrite_rule limit_rule
 shows call spot node wanted at asked lets free =
     let access = access_of call.state in
@@ -247,11 +265,11 @@ stored_is_read n s e es root path content seat now words request is legal same r
     same (length path) node (le_refl _)
     (subst (λ (names : List (List ℕ)). Leads first.tables.nodes root names node) (sym (take-length path)) file.led)
     ∙ file.there in
-    let at : found call reads.spot ≡ At node =
-    ap (λ (way : Way). way.place) (from_root call reads.spot sound.rows.later)
-    ∙ (λ i. found_from last.tables.nodes 0 (reads.from i) (reads.of_path i)) ∙ leads_found last.tables 0 root path node sound.rows led in
-    let lets = owner_let call reads.spot node sound.rows
-    (led_own call path node file.row sound.rows (subst (λ (from : ℕ). Leads last.tables.nodes from path node) (sym reads.from) led) there) in
+    let from : Leads last.tables.nodes (root_of call) reads.spot.path node =
+    subst (λ (from : ℕ). Leads last.tables.nodes from reads.spot.path node) (sym reads.from)
+    (subst (λ (names : List (List ℕ)). Leads last.tables.nodes root names node) (sym reads.of_path) led) in
+    let at : found call reads.spot ≡ At node = ap (λ (way : Way). way.place) (led_way call reads.spot node sound.rows from) in
+    let lets = owner_let call reads.spot node sound.rows from (led_own call reads.spot.path node file.row sound.rows from there) in
     granted call reads.spot node file.row reads.wanted at there file.file reads.asked lets (reads.free node led)
     ∙ ap (λ (c : List Piece). answered_by (Ok (allowed.Get node c))) file.filled
 

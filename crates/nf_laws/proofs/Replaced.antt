@@ -7,7 +7,8 @@ use Rattle.nf_base.specs.declared.content.Piece.{Piece}
 use Rattle.nf_base.specs.declared.rows.NodeRow.{NodeRow}
 use Rattle.nf_defs.specs.Prelude.{filled, is_folder_kind, node_row, Tables, with_node}
 use Rattle.nf_laws.proofs.OneRow.{IsEither, each_either, length_with, pieces_with, rising_with, row_with, same_either, with_each}
-use Rattle.nf_laws.proofs.Rows.{AreKept, Kept, kept_row, no_others, node_kept, pieces_kept, root_kept}
+use Rattle.nf_laws.proofs.Others.{others_still, still_with}
+use Rattle.nf_laws.proofs.Rows.{AreKept, Kept, kept_row, node_kept, none_higher, pieces_kept, root_kept}
 use Rattle.nf_words.specs.Prelude.{AreSound, HasRoot, IsFilled, IsNodeSound}
 
 -- ---- the tables with another
@@ -96,5 +97,12 @@ filled_sound t row sound is =
             )
       ];
       later = sound.later;
-      others = no_others made sound.later;
+      others = others_still t t.meta made.nodes sound (none_higher t.meta t.meta.last) (le_refl _)
+          (still_with t row.id change sound (record {
+            id = λ row. refl;
+            owner = λ row. refl;
+            kind = λ row. refl;
+            root = λ row there. refl;
+            off = λ row there off. off;
+          }));
     }

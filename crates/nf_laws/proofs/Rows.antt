@@ -1,28 +1,24 @@
 -- Rows that may change while each node keeps its owner, place, name and kind.
 use Rattle.std.proofs.Common.{ℕ, ◌==◌, ◌≡◌, ◌≢◌, ◌≤◌, Bool, true, false, List, [], ◌∷◌, ◌++◌, Option, None, Some, find, length, option_map, refl, sym, ap, subst, ◌∙◌, arith, le_refl}
-use Rattle.std.specs.List.{All, AllPairs}
-use Rattle.std.specs.declared.cmp.Ordering.TheVariants.{Less}
+use Rattle.std.specs.List.{All}
 use Rattle.std.specs.Option.{IfSome, option_map_or, option_or}
 use Rattle.std.proofs.lemmas.Bool.{cond_both, eqb-true, ne_eqb}
 use Rattle.std.proofs.lemmas.List.Elements.{All-cons, All-head, All-nil, All-tail, All-weaker}
 use Rattle.std.proofs.lemmas.List.Folds.{find-append}
 use Rattle.std.proofs.lemmas.Option.{none-some, option_and_then_some, same_Some}
-use Rattle.nf_base.specs.declared.limits.TheConstants.{MAX_DEPTH, MAX_MOUNTS, MAX_SHARES}
+use Rattle.nf_base.specs.declared.limits.TheConstants.{MAX_DEPTH}
 use Rattle.nf_base.specs.declared.changes.Change.{Change}
 use Rattle.nf_base.specs.declared.content.Piece.{Piece}
 use Rattle.nf_base.specs.declared.rows.MetaRow.{MetaRow}
-use Rattle.nf_base.specs.declared.rows.MountRow.{MountRow}
 use Rattle.nf_base.specs.declared.rows.NodeRow.{NodeRow}
 use Rattle.nf_base.specs.declared.rows.Place.{Place}
 use Rattle.nf_base.specs.declared.rows.Place.TheVariants.{Inside, Root, Trash}
-use Rattle.nf_base.specs.declared.rows.ShareRow.{ShareRow}
 use Rattle.nf_base.specs.declared.rows.UserRow.{UserRow}
-use Rattle.nf_defs.specs.Prelude.{climb, content_of, folder_of, is_folder, is_folder_kind, IsRising, key_cmp, mount_key, node_row, owner_of, parent_of, share_key, Tables}
+use Rattle.nf_defs.specs.Prelude.{climb, content_of, folder_of, is_folder, is_folder_kind, node_row, owner_of, parent_of, Tables}
 use Rattle.nf_laws.proofs.Climbs.{climb_same, holds_some}
 use Rattle.nf_laws.specs.Numbers.{AreHigher}
 use Rattle.nf_words.proofs.Found.{found_has, found_passes}
-use Rattle.nf_words.specs.Others.{AreMountsApart, AreOthersSound, IsChunkSound, IsItemSound, IsMountSound, IsShareSound, IsUploadSound, IsVersionSound}
-use Rattle.nf_words.specs.Prelude.{AreCounters, AreSound, blob_after, HasNoLater, HasRoot, IsNodeSound, IsPieceSound, IsPlaceSound, IsTop, stamped}
+use Rattle.nf_words.specs.Prelude.{AreCounters, AreSound, blob_after, HasRoot, IsNodeSound, IsPieceSound, IsPlaceSound, IsTop, stamped}
 
 -- ---- what a look-up finds
 
@@ -249,25 +245,6 @@ counters_up before after counters up = record {
 pub none_higher : (meta : MetaRow) (now : ℕ) → AreHigher meta (record meta { last = now })
 none_higher meta now = record { users = le_refl _; groups = le_refl _; nodes = le_refl _; shares = le_refl _; blobs = le_refl _ }
 
-no_pairs : {X : Type 0} (R : X → X → Type 0) → AllPairs R []
-no_pairs R i j d before within = absurd (omega arith)
-
--- what there is none of keeps its rules
-pub no_others : (t : Tables) → HasNoLater t → AreOthersSound t
-no_others t (shares, (mounts, (versions, (items, (uploads, (chunks, end)))))) = record {
-  shares = subst (All (IsShareSound t)) (sym shares) (All-nil (IsShareSound t));
-  shares_rise = subst (IsRising share_key) (sym shares) (no_pairs (λ (a b : ShareRow). key_cmp (share_key a) (share_key b) ≡ Less));
-  few_shares = subst (λ (rows : List ShareRow). length rows ≤ MAX_SHARES) (sym shares) (omega arith);
-  mounts = subst (All (IsMountSound t)) (sym mounts) (All-nil (IsMountSound t));
-  mounts_rise = subst (IsRising mount_key) (sym mounts) (no_pairs (λ (a b : MountRow). key_cmp (mount_key a) (mount_key b) ≡ Less));
-  mounts_apart = subst (AllPairs AreMountsApart) (sym mounts) (no_pairs AreMountsApart);
-  few_mounts = subst (λ (rows : List MountRow). length rows ≤ MAX_MOUNTS) (sym mounts) (omega arith);
-  versions = subst (All (IsVersionSound t)) (sym versions) (All-nil (IsVersionSound t));
-  items = subst (All (IsItemSound t)) (sym items) (All-nil (IsItemSound t));
-  uploads = subst (All (IsUploadSound t)) (sym uploads) (All-nil (IsUploadSound t));
-  chunks = subst (All (IsChunkSound t)) (sym chunks) (All-nil (IsChunkSound t));
-}
-
 -- no blob's number is taken back
 pub blob_up : (next : ℕ) (blob : Option ℕ) → next ≤ blob_after next blob
 blob_up next None = omega arith
@@ -291,23 +268,3 @@ stamped_some t made now (change ∷ changes) some = refl
 -- and the nodes are those of the tables made
 pub stamped_nodes : (t made : Tables) (now : ℕ) (changes : List Change) → 1 ≤ length changes → (stamped t made now changes).nodes ≡ made.nodes
 stamped_nodes t made now changes some = ap (λ (u : Tables). u.nodes) (stamped_some t made now changes some)
-
--- higher counters and a later moment change nothing else
-pub meta_sound : (t : Tables) (meta : MetaRow) → AreSound t → AreHigher t.meta meta → t.meta.last ≤ meta.last → AreSound (record t { meta = meta })
-meta_sound t meta sound up later =
-    let made : Tables = record t { meta = meta } in
-    record {
-      counters = counters_up t.meta meta sound.counters up;
-      rising = sound.rising;
-      nodes = All-weaker (IsNodeSound t) (IsNodeSound made)
-          (λ row. node_kept t meta t.nodes row (kept_row t.nodes) up.nodes up.blobs later) t.nodes sound.nodes;
-      names = sound.names;
-      roots = All-weaker (HasRoot t) (HasRoot made) (root_kept t meta t.nodes (kept_row t.nodes)) t.users sound.roots;
-      few_nodes = sound.few_nodes;
-      few_pieces = sound.few_pieces;
-      later = sound.later;
-      others = no_others made sound.later;
-    }
-
-pub stamp_sound : (t : Tables) (now : ℕ) → AreSound t → t.meta.last ≤ now → AreSound (stamp t now)
-stamp_sound t now sound later = meta_sound t (record t.meta { last = now }) sound (none_higher t.meta now) later

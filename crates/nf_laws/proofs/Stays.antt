@@ -6,10 +6,9 @@ use Rattle.std.proofs.lemmas.List.Kept.{AllPairs-filter}
 use Rattle.std.proofs.lemmas.List.Quantifiers.{all_pairs_push}
 use Rattle.nf_base.specs.declared.content.Piece.{Piece}
 use Rattle.nf_defs.specs.Prelude.{is_file, is_folder, Tables}
-use Rattle.nf_defs.specs.declared.Found.TheVariants.{At}
 use Rattle.nf_defs.specs.declared.Seeker.{Seeker}
 use Rattle.nf_defs.specs.declared.Seeker.TheVariants as seeker
-use Rattle.nf_laws.proofs.Copied.{copied_sound}
+use Rattle.nf_laws.proofs.Copied.{copied_sound, crossed_sound}
 use Rattle.nf_laws.proofs.Counters.{changed_up}
 use Rattle.nf_laws.proofs.Entries.{entry_has, tickets_left, tickets_with}
 use Rattle.nf_laws.proofs.Gone.{left_sound}
@@ -17,18 +16,15 @@ use Rattle.nf_laws.proofs.Held.{act_stays, held_on}
 use Rattle.nf_laws.proofs.Lists.{changes_sound}
 use Rattle.nf_laws.proofs.Moved.{transferred_sound}
 use Rattle.nf_laws.proofs.Owned.{KeepsOwners, owners_kept}
-use Rattle.nf_laws.proofs.Paths.{IsFor, IsOf, is_own, path_own}
-use Rattle.nf_laws.proofs.Rows.{content_has, pieces_kept, stamp, stamp_sound, stamped_has}
-use Rattle.nf_words.specs.Prelude.{after, after_mark, altered, AreApartHolds, AreSound, changed, goal_of, hold_of, HoldsFor, IsGoalSound, IsHeld, IsLegalFrom, IsPieceSound, IsSound, IsTicketSound, MayCome, MayStoreAt, node_of_key, place_of, removed, replay, State, ticket_for, told, transferred, with_goal, without}
+use Rattle.nf_laws.proofs.Others.{stamp_sound}
+use Rattle.nf_laws.proofs.Rows.{content_has, pieces_kept, stamp, stamped_has}
+use Rattle.nf_words.specs.Prelude.{after, after_mark, altered, AreApartHolds, AreSound, changed, goal_of, hold_of, HoldsFor, IsGoalSound, IsHeld, IsLegalFrom, IsPieceSound, IsSound, IsTicketSound, MayCome, node_of_key, removed, replay, State, ticket_for, told, transferred, with_goal, without}
 use Rattle.nf_words.specs.Sound.{MayStoreBy}
 use Rattle.nf_words.specs.declared.answer.Allowed.{Allowed}
 use Rattle.nf_words.specs.declared.answer.Allowed.TheVariants as allowed
-use Rattle.nf_words.specs.declared.answer.By.{By}
 use Rattle.nf_words.specs.declared.answer.Goal.{Goal}
 use Rattle.nf_words.specs.declared.answer.Goal.TheVariants.{Serve, Store}
 use Rattle.nf_words.specs.declared.answer.Hold.{Hold}
-use Rattle.nf_words.specs.declared.answer.LockKey.{LockKey}
-use Rattle.nf_words.specs.declared.answer.LockKey.TheVariants.{Node, Slot}
 use Rattle.nf_words.specs.declared.history.Entry.{Entry}
 use Rattle.nf_words.specs.declared.history.Event.{Event}
 use Rattle.nf_words.specs.declared.history.Event.TheVariants.{Begin, End}
@@ -36,20 +32,22 @@ use Rattle.nf_words.specs.declared.history.Mark.{Mark}
 use Rattle.nf_words.specs.declared.history.Mark.TheVariants as mark
 use Rattle.nf_words.specs.declared.history.Ticket.{Ticket}
 use Rattle.nf_words.proofs.Ends.{known_change}
-use Rattle.nf_words.proofs.Known.{Known, KnownGranted}
+use Rattle.nf_words.proofs.Known.{Known}
+use Rattle.nf_words.proofs.Ways.{HasRow}
 use Rattle.nf_words.proofs.Spared.{Spares, step_spares}
 use Rattle.nf_words.proofs.Steps.{differ_replay}
 
 -- ---- the rows
 
-altered_sound : (t : Tables) (now : ℕ) (who : Option ℕ) (act : Allowed) → AreSound t → t.meta.last ≤ now → Known t now who act
+altered_sound : (t : Tables) (now : ℕ) (act : Allowed) → AreSound t → t.meta.last ≤ now → Known t now act
     → AreSound (stamp (altered t now act) now)
-altered_sound t now who (allowed.Change changes blob report) sound before known = changes_sound t now who changes blob report sound before known
-altered_sound t now who (allowed.Delete node) sound before known = stamp_sound (removed t node) now (left_sound t node sound known.no_root) before
-altered_sound t now who (allowed.Move transfer name) sound before known =
-    stamp_sound (transferred t transfer name) now (transferred_sound t who transfer name sound known) before
-altered_sound t now who (allowed.Copy rows replaced) sound before known = copied_sound t now who rows replaced sound before known
-altered_sound t now who act sound before known = stamp_sound t now sound before
+altered_sound t now (allowed.Change changes blob report) sound before known = changes_sound t now changes blob report sound before known
+altered_sound t now (allowed.Delete node) sound before known = stamp_sound (removed t node) now (left_sound t node sound known.no_root) before
+altered_sound t now (allowed.Move transfer name) sound before known =
+    stamp_sound (transferred t transfer name) now (transferred_sound t transfer name sound known) before
+altered_sound t now (allowed.Copy rows replaced) sound before known = copied_sound t now rows replaced sound before known
+altered_sound t now (allowed.Cross rows replaced node) sound before known = crossed_sound t now rows replaced node sound before known
+altered_sound t now act sound before known = stamp_sound t now sound before
 
 -- ---- the tickets
 
@@ -64,28 +62,16 @@ goal_stays t made (Store by key length) nodes blobs owners h = (h.0, may_store b
       owner = λ row there.
           let old = owners (node_of_key key) row own.given there in old.2 ∙ own.owner old.0 old.1;
     }
-    may_store who mount own = absurd own
+    may_store (seeker.User user) (Some mount) may = tt
+    may_store (seeker.Link share) mount own = absurd own
 
-key_is_for : (key : LockKey) → IsFor (place_of key) (node_of_key key)
-key_is_for (Node node) = refl
-key_is_for (Slot folder name) = refl
-
-store_sound : (t : Tables) (who : Option ℕ) (by : By) (key : LockKey) (length : ℕ) → AreSound t → KnownGranted t who by key length
-    → IsGoalSound t (Store by key length)
-store_sound t who by key length sound known = (
-  known.short,
-  subst (λ (by : By). MayStoreAt t by (node_of_key key)) (sym known.storer)
-      (is_own t known.path.row.id (node_of_key key) sound
-      (path_own t who (place_of key) (node_of_key key) sound known.path (key_is_for key))),
-)
-
-granted_sound : (t : Tables) (now : ℕ) (who : Option ℕ) (act : Allowed)
-    → AreSound t → Known t now who act → IfSome (goal_of act) (IsGoalSound (changed t now act))
-granted_sound t now who (allowed.Get node content) sound known =
+granted_sound : (t : Tables) (now : ℕ) (act : Allowed)
+    → AreSound t → Known t now act → IfSome (goal_of act) (IsGoalSound (changed t now act))
+granted_sound t now (allowed.Get node content) sound known =
     subst (λ (c : List Piece). All (IsPieceSound t) c) (sym known.of_node)
     (content_has (IsPieceSound t) t.nodes node (λ k d within. (sound.nodes k d within).pieces))
-granted_sound t now who (allowed.Put by key length) sound known = store_sound t who by key length sound known
-granted_sound t now who act sound known = tt
+granted_sound t now (allowed.Put by key length) sound known = (known.short, known.storer)
+granted_sound t now act sound known = tt
 
 -- what it holds is what its goal needs
 granted_holds : (act : Allowed) → IfSome (goal_of act) (λ (goal : Goal). HoldsFor goal (hold_of act))
@@ -93,29 +79,26 @@ granted_holds (allowed.Get node content) = (node, refl)
 granted_holds (allowed.Put by key length) = refl
 granted_holds act = tt
 
--- what a path leads to and is no folder is a file
-file_there : (t : Tables) (user node : ℕ) → IsOf t user node → is_folder t.nodes node ≡ false → is_file t.nodes node ≡ true
-file_there t user node of no_folder = rw of.there (ap not (simp of.there at no_folder))
+-- what is there and no folder is a file
+file_there : (t : Tables) (node : ℕ) → HasRow t.nodes node → is_folder t.nodes node ≡ false → is_file t.nodes node ≡ true
+file_there t node of no_folder = rw of.1 (ap not (simp of.1 at no_folder))
 
 -- what is granted is there, and held from then on
-granted_held : (t : Tables) (now : ℕ) (who : Option ℕ) (act : Allowed) → AreSound t → Known t now who act
+granted_held : (t : Tables) (now : ℕ) (act : Allowed) → AreSound t → Known t now act
     → IfSome (hold_of act) (λ (hold : Hold). IsHeld (changed t now act) hold.key)
-granted_held t now who (allowed.Get node content) sound known =
-    file_there t known.path.row.id node (path_own t who (At node) node sound known.path refl) known.no_folder
-granted_held t now who (allowed.Put by (Node node) length) sound known =
-    file_there t known.path.row.id node (path_own t who (At node) node sound known.path refl) known.fits
-granted_held t now who (allowed.Put by (Slot folder name) length) sound known = known.fits
-granted_held t now who act sound known = tt
+granted_held t now (allowed.Get node content) sound known = file_there t node known.there known.no_folder
+granted_held t now (allowed.Put by key length) sound known = known.held
+granted_held t now act sound known = tt
 
 both_some : {X : Type 0} (P Q : X → Type 0) (o : Option X) → IfSome o P → IfSome o Q → IfSome o (λ (x : X). P x × Q x)
 both_some P Q None p q = tt
 both_some P Q (Some x) p q = (p, q)
 
-granted_ticket : (t : Tables) (now seat : ℕ) (who : Option ℕ) (act : Allowed) → AreSound t → Known t now who act
+granted_ticket : (t : Tables) (now seat : ℕ) (act : Allowed) → AreSound t → Known t now act
     → IfSome (goal_of act) (λ (goal : Goal). IsTicketSound (changed t now act) (ticket_for seat goal (hold_of act)))
-granted_ticket t now seat who act sound known =
-    here (goal_of act) (granted_held t now who act sound known) (both_some (IsGoalSound (changed t now act)) (λ (goal : Goal). HoldsFor goal (hold_of act)) (goal_of act)
-    (granted_sound t now who act sound known) (granted_holds act))
+granted_ticket t now seat act sound known =
+    here (goal_of act) (granted_held t now act sound known) (both_some (IsGoalSound (changed t now act)) (λ (goal : Goal). HoldsFor goal (hold_of act)) (goal_of act)
+    (granted_sound t now act sound known) (granted_holds act))
   where
     here : (o : Option Goal) → IfSome (hold_of act) (λ (hold : Hold). IsHeld (changed t now act) hold.key)
         → IfSome o (λ (goal : Goal). IsGoalSound (changed t now act) goal × HoldsFor goal (hold_of act))
@@ -124,20 +107,20 @@ granted_ticket t now seat who act sound known =
     here (Some goal) held both = record { goal = both.0; hold = both.1; held = held }
 
 -- what stays held by a ticket that a step leaves alone
-spared_held : (t : Tables) (now : ℕ) (who : Option ℕ) (act : Allowed) (o : Option Hold) → AreSound t → Known t now who act
-    → IfSome o (λ (hold : Hold). IsHeld t hold.key) → IfSome o (λ (hold : Hold). Spares t now who hold act)
+spared_held : (t : Tables) (now : ℕ) (act : Allowed) (o : Option Hold) → AreSound t → Known t now act
+    → IfSome o (λ (hold : Hold). IsHeld t hold.key) → IfSome o (λ (hold : Hold). Spares t now hold act)
     → IfSome o (λ (hold : Hold). IsHeld (changed t now act) hold.key)
-spared_held t now who act None sound known held spares = tt
-spared_held t now who act (Some hold) sound known held spares =
-    held_on t (changed t now act) hold.key (act_stays t hold sound held now who act known spares) held
+spared_held t now act None sound known held spares = tt
+spared_held t now act (Some hold) sound known held spares =
+    held_on t (changed t now act) hold.key (act_stays t hold sound held now act known spares) held
 
 -- the new hold agrees with each that its step leaves alone
-granted_apart : (t : Tables) (now : ℕ) (who : Option ℕ) (act : Allowed) (o : Option Hold) → IfSome o (λ (hold : Hold). Spares t now who hold act)
+granted_apart : (t : Tables) (now : ℕ) (act : Allowed) (o : Option Hold) → IfSome o (λ (hold : Hold). Spares t now hold act)
     → AreApartHolds o (hold_of act)
-granted_apart t now who act None spares = tt
-granted_apart t now who (allowed.Get node content) (Some hold) spares = λ same. let both = spares (sym same) in (both.1, both.0)
-granted_apart t now who (allowed.Put by key length) (Some hold) spares = λ same. let both = spares (sym same) in (both.1, both.0)
-granted_apart t now who act (Some hold) spares = tt
+granted_apart t now act None spares = tt
+granted_apart t now (allowed.Get node content) (Some hold) spares = λ same. let both = spares (sym same) in (both.1, both.0)
+granted_apart t now (allowed.Put by key length) (Some hold) spares = λ same. let both = spares (sym same) in (both.1, both.0)
+granted_apart t now act (Some hold) spares = tt
 
 -- holds of different tickets agree
 abbrev AreApart : Ticket → Ticket → Type 0
@@ -158,23 +141,23 @@ apart_left s seat (End outcome) pairs = AllPairs-filter AreApart (λ ticket. not
 abbrev Holds : ℕ → Tables → List Ticket → Type 0
 Holds now t tickets = AreSound t × (t.meta.last ≤ now) × All (IsTicketSound t) tickets × AllPairs AreApart tickets
 
-act_holds : (t : Tables) (tickets : List Ticket) (seat now : ℕ) (who : Option ℕ) (act : Allowed) → Known t now who act → Holds now t tickets
-    → All (λ (ticket : Ticket). IfSome ticket.hold (λ (hold : Hold). Spares t now who hold act)) tickets
+act_holds : (t : Tables) (tickets : List Ticket) (seat now : ℕ) (act : Allowed) → Known t now act → Holds now t tickets
+    → All (λ (ticket : Ticket). IfSome ticket.hold (λ (hold : Hold). Spares t now hold act)) tickets
     → Holds now (changed t now act) (with_goal tickets seat (goal_of act) (hold_of act))
-act_holds t tickets seat now who act known h spares =
+act_holds t tickets seat now act known h spares =
     let made = changed t now act in
     let up = changed_up t now act in
     let left : All (IsTicketSound made) tickets = λ k d within.
     let is = h.2 k d within in
     record {
-      goal = goal_stays t made (get_or tickets k d).goal up.nodes up.blobs (owners_kept t now who act h.0 known) is.goal;
+      goal = goal_stays t made (get_or tickets k d).goal up.nodes up.blobs (owners_kept t now act h.0 known) is.goal;
       hold = is.hold;
-      held = spared_held t now who act (get_or tickets k d).hold h.0 known is.held (spares k d within);
+      held = spared_held t now act (get_or tickets k d).hold h.0 known is.held (spares k d within);
     } in (
-      stamped_has AreSound t (altered t now act) now (told t act) h.0 (altered_sound t now who act h.0 h.1 known),
+      stamped_has AreSound t (altered t now act) now (told t act) h.0 (altered_sound t now act h.0 h.1 known),
       stamped_has (λ (u : Tables). u.meta.last ≤ now) t (altered t now act) now (told t act) h.1 (le_refl _),
-      tickets_with (IsTicketSound made) tickets seat (goal_of act) (hold_of act) left (granted_ticket t now seat who act h.0 known),
-      apart_with tickets seat (goal_of act) (hold_of act) h.3 (λ k d within. granted_apart t now who act (get_or tickets k d).hold (spares k d within)),
+      tickets_with (IsTicketSound made) tickets seat (goal_of act) (hold_of act) left (granted_ticket t now seat act h.0 known),
+      apart_with tickets seat (goal_of act) (hold_of act) h.3 (λ k d within. granted_apart t now act (get_or tickets k d).hold (spares k d within)),
     )
 
 seen_after : (s : State) (e : Entry) (m : Mark) → (after_mark s e m).seen ≡ e.moment
@@ -190,7 +173,7 @@ sound_after n s e sound may =
       apart_left s e.seat e.event sound.apart,
     ) in
     let h = entry_has (λ t tickets blob. Holds e.moment t tickets) s e e.mark first (λ act is.
-    act_holds s.tables _ e.seat e.moment _ act (known_change s e.seat e.moment e.event act sound may.asked is) first
+    act_holds s.tables (without s e.seat e.event).tickets e.seat e.moment act (known_change s e.seat e.moment e.event act sound may.asked is) first
     (step_spares s e.seat e.moment e.event act sound may.asked is)) in
     record {
       rows = h.0;

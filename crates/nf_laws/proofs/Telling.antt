@@ -1,38 +1,43 @@
 -- What a step changes, told as a list, and the tables that it makes.
-use Rattle.std.proofs.Common.{inl, inr, ℕ, ◌==◌, ◌≡◌, ◌≢◌, ◌<◌, ◌≤◌, Bool, true, false, not, List, [], ◌∷◌, ◌++◌, Option, None, Some, Result, Ok, Err, bytes_eq, map, option_map, length, get_or, if◌then◌else◌, refl, sym, ap, subst, ◌∙◌, arith, append_assoc, length-append}
+use Rattle.std.proofs.Common.{inl, inr, ℕ, ◌==◌, ◌≡◌, ◌≢◌, ◌<◌, ◌≤◌, Bool, true, false, not, List, [], ◌∷◌, ◌++◌, Option, None, Some, Result, Ok, Err, bytes_eq, map, option_map, filter, length, get_or, if◌then◌else◌, refl, sym, ap, subst, ◌∙◌, arith, append_assoc, length-append}
 use Rattle.std.specs.Prelude.{is_some}
-use Rattle.std.specs.List.{All}
+use Rattle.std.specs.List.{All, AllPairs}
 use Rattle.std.specs.Option.{option_map_or}
-use Rattle.std.proofs.lemmas.Bool.{and_parts, both_ways, cond_both, eq-eqb, eqb-true}
-use Rattle.std.proofs.lemmas.List.Elements.{All-append, All-cons, All-map, All-nil, All-weaker}
+use Rattle.std.proofs.lemmas.Bool.{and_parts, both_ways, cond_both, eq-eqb, eqb-true, not-true}
+use Rattle.std.proofs.lemmas.List.Elements.{All-append, All-cons, All-filter, All-map, All-nil, All-weaker, Contains-get_or, filter_passes}
 use Rattle.std.proofs.Math.Seq.{get_or-append_seam}
-use Rattle.std.proofs.lemmas.Option.{slice_get-get_or}
+use Rattle.std.proofs.lemmas.Option.{same_Some, slice_get-get_or}
+use Rattle.nf_access.specs.Shares.{share_row}
 use Rattle.nf_base.specs.declared.changes.Change.{Change}
 use Rattle.nf_base.specs.declared.changes.Change.TheVariants.{Drop, Put}
 use Rattle.nf_base.specs.declared.changes.RowKey.TheVariants as keys
 use Rattle.nf_base.specs.declared.rows.MetaRow.{MetaRow}
+use Rattle.nf_base.specs.declared.rows.MountRow.{MountRow}
 use Rattle.nf_base.specs.declared.rows.NodeRow.{NodeRow}
 use Rattle.nf_base.specs.declared.rows.Place.TheVariants.{Inside}
 use Rattle.nf_base.specs.declared.rows.Row.{Row}
 use Rattle.nf_base.specs.declared.rows.Row.TheVariants as rows
-use Rattle.nf_defs.specs.Prelude.{Access, child_of, content_of, is_folder, is_under, IsDroppable, made, node_row, put_all, relinked, Tables, walk_of, with_node, without_under}
-use Rattle.nf_defs.specs.declared.Found.TheVariants.{At, Free}
+use Rattle.nf_base.specs.declared.rows.ShareRow.{ShareRow}
+use Rattle.nf_defs.specs.Prelude.{Access, child_of, content_of, is_folder, is_under, IsDroppable, made, node_row, put, put_all, relinked, share_key, Tables, walk_of, with_node, without_under}
 use Rattle.nf_laws.proofs.Blobs.{Alters, given_alters, of_nodes, refilled_of}
 use Rattle.nf_laws.proofs.Climbs.{climb_under}
-use Rattle.nf_laws.proofs.Copied.{walk_first}
+use Rattle.nf_laws.proofs.Copied.{joined_rises, walk_first}
+use Rattle.nf_laws.proofs.Crossed.{crossed_gone}
 use Rattle.nf_laws.proofs.Entries.{step_has}
-use Rattle.nf_laws.proofs.Gone.{all_cleared, clearing_sound, row_cleared}
-use Rattle.nf_laws.proofs.Lists.{AreNodes, lean_moves, nodes_alone, nodes_droppable, only_nodes, put_more}
+use Rattle.nf_laws.proofs.Gone.{all_cleared, clearing_sound, row_cleared, row_gone}
+use Rattle.nf_laws.proofs.Lists.{AreBuilt, built_alone, built_droppable, lean_moves, only_built, put_more}
 use Rattle.nf_laws.proofs.Mirrored.{mirrored}
 use Rattle.nf_laws.proofs.OneRow.{KeepsId, row_itself}
-use Rattle.nf_laws.proofs.Paths.{child_there, path_own}
-use Rattle.nf_laws.proofs.Puts.{AreNumbered, another, drops_for, drops_under, fewer, put_changed, put_new, puts_new, walk_there}
+use Rattle.nf_laws.proofs.Paths.{child_there}
+use Rattle.nf_laws.proofs.Puts.{AreNumbered, another, ended_rise, fewer, gone_all, gone_one, put_changed, put_new, puts_new, walk_there}
 use Rattle.nf_laws.proofs.Rows.{row_id}
 use Rattle.nf_laws.specs.Tells.{ChangesTell}
 use Rattle.nf_words.proofs.Ends.{known_change}
-use Rattle.nf_words.proofs.Fits.{KnownChange, KnownPath}
-use Rattle.nf_words.proofs.Known.{Known, KnownCopies, KnownGone, KnownTransfer}
-use Rattle.nf_words.specs.Prelude.{access_of, allowed_of, AreSound, Call, call_of, changed, changes_by, changes_of, changes_to, cleared, decision_of, dropped_for, dropped_under, end_refusal, ends_at, ends_goal, given, goal_at, IsSound, joined, listing_of, MayAsk, meta_after, node_at, places_of, raised, refilled, refusal_of, served, stamped, State, step, stored_at, told, transferred, transferred_row, unless_refused, with_meta}
+use Rattle.nf_words.proofs.Fits.{KnownChange}
+use Rattle.nf_words.proofs.Found.{child_parent, put_is_found}
+use Rattle.nf_words.proofs.Known.{Known, KnownCopies, KnownCross, KnownGone, KnownMove, KnownTransfer}
+use Rattle.nf_words.proofs.Ways.{bounded, inside_there}
+use Rattle.nf_words.specs.Prelude.{access_of, allowed_of, AreSound, Call, call_of, changed, changes_by, changes_of, changes_to, cleared, closed_under, decision_of, dropped_under, ended_for, ended_row, ended_under, end_refusal, ends_at, ends_goal, given, goal_at, gone_for, gone_under, is_closing, IsSound, joined, listing_of, MayAsk, meta_after, node_at, places_of, raised, refilled, refusal_of, removed, served, stamped, State, step, stored_at, told, transferred, transferred_row, unless_refused, way_of, with_meta}
 use Rattle.nf_words.specs.Changes.{new_meta, same_meta}
 use Rattle.nf_words.specs.declared.answer.Allowed.{Allowed}
 use Rattle.nf_words.specs.declared.answer.Allowed.TheVariants as allowed
@@ -100,18 +105,22 @@ meta_differs t meta =
     (λ same. both_ways (same_meta t.meta meta) e (ap (same_meta t.meta) (ap (λ (u : Tables). u.meta) same) ∙ same_itself t.meta))
     (All-nil (Differs t)))
 
--- where the changes of nodes make other nodes
-nodes_told : (t : Tables) (now : ℕ) (meta : MetaRow) (nodes : List NodeRow) (changes : List Change)
-    → ((rest : List Change) → put_all t (changes ++ rest) ≡ put_all (record t { nodes = nodes }) rest)
-    → All (Differs t) changes → nodes ≢ t.nodes
-    → Tell t (stamped t (record t { meta = meta; nodes = nodes }) now changes) (with_meta t.meta (record meta { last = now }) changes)
-nodes_told t now meta nodes [] puts differ moved = absurd (moved (sym (ap (λ (u : Tables). u.nodes) (puts []))))
-nodes_told t now meta nodes (change ∷ changes) puts differ moved =
+-- the tables with other nodes, shares and mounts
+abbrev with_rows : Tables → List NodeRow → List ShareRow → List MountRow → Tables
+with_rows t nodes shares mounts = record t { nodes = nodes; shares = shares; mounts = mounts }
+
+-- where the changes of these make other tables
+rows_told : (t : Tables) (now : ℕ) (meta : MetaRow) (nodes : List NodeRow) (shares : List ShareRow) (mounts : List MountRow) (changes : List Change)
+    → ((rest : List Change) → put_all t (changes ++ rest) ≡ put_all (with_rows t nodes shares mounts) rest)
+    → All (Differs t) changes → with_rows t nodes shares mounts ≢ t
+    → Tell t (stamped t (record (with_rows t nodes shares mounts) { meta = meta }) now changes) (with_meta t.meta (record meta { last = now }) changes)
+rows_told t now meta nodes shares mounts [] puts differ moved = absurd (moved (sym (puts [])))
+rows_told t now meta nodes shares mounts (change ∷ changes) puts differ moved =
     let last = record meta { last = now } in
     record {
-      put = puts (new_meta t.meta last) ∙ put_meta (record t { nodes = nodes }) last;
+      put = puts (new_meta t.meta last) ∙ put_meta (with_rows t nodes shares mounts) last;
       differ = All-append (Differs t) (change ∷ changes) (new_meta t.meta last) differ (meta_differs t last);
-      none = λ same. absurd (moved (ap (λ (u : Tables). u.nodes) same));
+      none = λ same. absurd (moved (ap (λ (u : Tables). record u { meta = t.meta }) same));
     }
 
 -- ---- rows that are changed
@@ -120,17 +129,19 @@ abbrev TellsAct : Tables → ℕ → Allowed → Type 0
 TellsAct t now act = Tell t (changed t now act) (changes_of t now act)
 
 -- a lean list tells of itself
-changes_told : (t : Tables) (now : ℕ) (who : Option ℕ) (changes : List Change) (blob : Option ℕ) (report : Report) → AreSound t
-    → KnownChange t now who changes blob → TellsAct t now (allowed.Change changes blob report)
-changes_told t now who [] blob report sound known = nothing_told t
-changes_told t now who (change ∷ changes) blob report sound known =
+changes_told : (t : Tables) (now : ℕ) (changes : List Change) (blob : Option ℕ) (report : Report) → AreSound t
+    → KnownChange t now changes blob → TellsAct t now (allowed.Change changes blob report)
+changes_told t now [] blob report sound known = nothing_told t
+changes_told t now (change ∷ changes) blob report sound known =
     let all : List Change = change ∷ changes in
     let up = raised t now all blob in
-    let nodes = only_nodes t who blob up all known.rows in
-    let alone = nodes_alone t all nodes in
+    let built = only_built t blob up all known.rows in
+    let alone = built_alone t all built in
+    let made = put_all t all in
     subst (λ (made : Tables). Tell t (stamped t (record made { meta = up.meta }) now all) (with_meta t.meta up.meta all)) (sym alone)
-    (nodes_told t now up.meta (put_all t all).nodes all (λ rest. put_more t all rest ∙ ap (λ (u : Tables). put_all u rest) alone)
-    known.lean.differ (lean_moves t change changes sound.rising nodes known.lean))
+    (rows_told t now up.meta made.nodes t.shares made.mounts all (λ rest. put_more t all rest ∙ ap (λ (u : Tables). put_all u rest) alone)
+    known.lean.differ
+    (λ same. lean_moves t up blob change changes sound.rising refl built known.rows.0 known.lean (alone ∙ same)))
 
 all_given : (t : Tables) → AreSound t → All (λ (row : NodeRow). row.id < t.meta.next_node) t.nodes
 all_given t sound k d within = (sound.nodes k d within).given
@@ -155,10 +166,6 @@ changed_differs t node change row keeps sound is other = λ same.
 
 -- ---- nodes that go
 
--- a node to which a path leads is there
-found_there : (t : Tables) (who : Option ℕ) (node : ℕ) → AreSound t → KnownPath t who (At node) → (row : NodeRow) × (node_row t.nodes node ≡ Some row)
-found_there t who node sound path = let of = path_own t who (At node) node sound path refl in (of.row, of.there)
-
 dropped_differs : (t : Tables) (node : ℕ) → is_some (node_row t.nodes node) ≡ true → Differs t (Drop (keys.Node node))
 dropped_differs t node there = λ same.
     fewer (λ other. not (bytes_eq (node ∷ []) (other ∷ []))) t.nodes node there (rw (eq-eqb node node refl))
@@ -175,33 +182,58 @@ under_fewer : (old : List NodeRow) (top : ℕ) → is_some (node_row old top) �
 under_fewer old top there =
     fewer (λ node. not (is_under old node top)) old top there (ap not (climb_under 0 old top top (omega arith) refl))
 
-gone_told : (t : Tables) (now : ℕ) (who : Option ℕ) (top : ℕ) → AreSound t → KnownGone t who top → TellsAct t now (allowed.Delete top)
-gone_told t now who top sound known =
-    let there = ap is_some (found_there t who top sound known.path).1 in
-    nodes_told t now t.meta (without_under t.nodes top) (dropped_under t.nodes top)
-    (λ rest. drops_under t top rest sound) (under_differ t top sound there) (under_fewer t.nodes top there)
+-- a share that ends is another
+ended_differs : (t : Tables) (share : ShareRow) → share_row t.shares share.id ≡ Some share → share.ended ≡ false
+    → Differs t (Put (rows.Share (ended_row share)))
+ended_differs t share there unended = λ same.
+    let found : share_row (put share_key (ended_row share) t.shares) share.id ≡ Some (ended_row share) =
+    put_is_found share_key (λ (row : ShareRow). row.id == share.id) (ended_row share) t.shares (eq-eqb share.id share.id refl)
+    (λ row is. ap (λ (n : ℕ). n ∷ []) (eqb-true row.id share.id is)) in
+    let it = same_Some (ended_row share) share (sym found ∙ ap (λ (u : Tables). share_row u.shares share.id) same ∙ there) in
+    both_ways share.ended unended (sym (ap (λ (row : ShareRow). row.ended) it))
+
+closed_differ : (t : Tables) (top : ℕ) → AreSound t → All (Differs t) (closed_under t.nodes t.shares top)
+closed_differ t top sound =
+    All-map (Differs t) (λ share. Put (rows.Share (ended_row share))) (filter (is_closing t.nodes top) t.shares)
+    (λ k d within.
+    let share = get_or (filter (is_closing t.nodes top) t.shares) k d in
+    let closing = and_parts (not share.ended) (is_under t.nodes share.node top) (filter_passes (is_closing t.nodes top) t.shares k d within) in
+    ended_differs t share (All-filter (is_closing t.nodes top) (λ (row : ShareRow). share_row t.shares row.id ≡ Some row) t.shares numbered k d within)
+    (not-true share.ended closing.0))
+  where
+    numbered : All (λ (row : ShareRow). share_row t.shares row.id ≡ Some row) t.shares
+    numbered k d within = (bounded t sound).numbered (get_or t.shares k d) (Contains-get_or t.shares k d within)
+
+gone_differ : (t : Tables) (top : ℕ) → AreSound t → is_some (node_row t.nodes top) ≡ true → All (Differs t) (gone_under t.nodes t.shares top)
+gone_differ t top sound there =
+    All-append (Differs t) (dropped_under t.nodes top) (closed_under t.nodes t.shares top) (under_differ t top sound there) (closed_differ t top sound)
+
+gone_told : (t : Tables) (now : ℕ) (top : ℕ) → AreSound t → KnownGone t top → TellsAct t now (allowed.Delete top)
+gone_told t now top sound known =
+    let there = ap is_some known.there.1 in
+    rows_told t now t.meta (without_under t.nodes top) (ended_under t.nodes top t.shares) t.mounts (gone_under t.nodes t.shares top)
+    (λ rest. gone_one t top rest sound.rising sound.others.shares_rise) (gone_differ t top sound there) (λ same. under_fewer t.nodes top there (ap (λ (u : Tables). u.nodes) same))
 
 -- what is replaced is there
-target_there : (t : Tables) (who : Option ℕ) (transfer : Transfer) (name : List ℕ) (top : ℕ) → AreSound t → KnownTransfer t who transfer name
+target_there : (t : Tables) (transfer : Transfer) (name : List ℕ) (top : ℕ) → AreSound t → KnownTransfer t transfer name
     → transfer.replaced ≡ Some top → is_some (node_row t.nodes top) ≡ true
-target_there t who transfer name top sound known is =
-    ap is_some (found_there t who top sound
-    (subst (λ (o : Option ℕ). KnownPath t who (option_map_or At o (Free transfer.folder))) is known.target)).1
+target_there t transfer name top sound known is =
+    ap is_some (inside_there t.nodes top transfer.folder (child_parent t.nodes transfer.folder name top sound.rising (known.there ∙ is))).1
 
-replaced_differ : (t : Tables) (who : Option ℕ) (transfer : Transfer) (name : List ℕ) → AreSound t → KnownTransfer t who transfer name
-    → All (Differs t) (dropped_for t.nodes transfer.replaced)
-replaced_differ t who transfer name sound known = here transfer.replaced refl
+replaced_differ : (t : Tables) (transfer : Transfer) (name : List ℕ) → AreSound t → KnownTransfer t transfer name
+    → All (Differs t) (gone_for t.nodes t.shares transfer.replaced)
+replaced_differ t transfer name sound known = here transfer.replaced refl
   where
-    here : (o : Option ℕ) → transfer.replaced ≡ o → All (Differs t) (dropped_for t.nodes o)
+    here : (o : Option ℕ) → transfer.replaced ≡ o → All (Differs t) (gone_for t.nodes t.shares o)
     here None e = All-nil (Differs t)
-    here (Some top) e = under_differ t top sound (target_there t who transfer name top sound known e)
+    here (Some top) e = gone_differ t top sound (target_there t transfer name top sound known e)
 
 -- ---- a node that is moved
 
 -- it wasn't in the folder under that name
-relinked_other : (t : Tables) (who : Option ℕ) (transfer : Transfer) (name : List ℕ) (row : NodeRow) → AreSound t
-    → KnownTransfer t who transfer name → node_row t.nodes transfer.node ≡ Some row → relinked transfer.folder name row ≢ row
-relinked_other t who transfer name row sound known there = λ same.
+relinked_other : (t : Tables) (transfer : Transfer) (name : List ℕ) (row : NodeRow) → AreSound t
+    → KnownTransfer t transfer name → node_row t.nodes transfer.node ≡ Some row → relinked transfer.folder name row ≢ row
+relinked_other t transfer name row sound known there = λ same.
     let id = row_id t.nodes transfer.node row there in
     let place : row.place ≡ Inside transfer.folder = sym (ap (λ (r : NodeRow). r.place) same) in
     let named : row.name ≡ name = sym (ap (λ (r : NodeRow). r.name) same) in
@@ -213,28 +245,29 @@ relinked_other t who transfer name row sound known there = λ same.
     (sym (ap (λ (o : Option ℕ). option_map_or (λ node. node == transfer.node) o false) is) ∙ known.differs)
     (eq-eqb transfer.node transfer.node refl)
 
-moved_told : (t : Tables) (now : ℕ) (who : Option ℕ) (transfer : Transfer) (name : List ℕ) → AreSound t → KnownTransfer t who transfer name
+moved_told : (t : Tables) (now : ℕ) (transfer : Transfer) (name : List ℕ) → AreSound t → KnownMove t transfer name
     → TellsAct t now (allowed.Move transfer name)
-moved_told t now who transfer name sound known =
-    let found = found_there t who transfer.node sound known.source in
+moved_told t now transfer name sound move =
+    let known = move.known in
+    let found = known.source in
     let row : NodeRow = found.0 in
     let change : NodeRow → NodeRow = relinked transfer.folder name in
     let left : List NodeRow = cleared t.nodes transfer.replaced in
     let after : Tables = transferred t transfer name in
-    let drops : List Change = dropped_for t.nodes transfer.replaced in
+    let gone : List Change = gone_for t.nodes t.shares transfer.replaced in
     let new : Change = Put (rows.Node (change row)) in
-    let other = relinked_other t who transfer name row sound known found.1 in
+    let other = relinked_other t transfer name row sound known found.1 in
     let still : node_row left transfer.node ≡ Some row = row_cleared t.nodes transfer.replaced transfer.node known.apart ∙ found.1 in
-    subst (λ (o : Option NodeRow). Tell t (stamped t after now (drops ++ transferred_row o transfer name))
-    (with_meta t.meta (record t.meta { last = now }) (drops ++ transferred_row o transfer name))) (sym found.1)
-    (nodes_told t now t.meta after.nodes (drops ++ new ∷ [])
-    (λ rest. ap (put_all t) (append_assoc drops (new ∷ []) rest) ∙ drops_for t transfer.replaced (new ∷ rest) sound
-    ∙ ap (λ (all : List NodeRow). put_all (record t { nodes = all }) rest)
-    (put_changed left transfer.node change row refl (clearing_sound t who transfer name sound known).rising still))
-    (All-append (Differs t) drops (new ∷ []) (replaced_differ t who transfer name sound known)
+    subst (λ (o : Option NodeRow). Tell t (stamped t after now (gone ++ transferred_row o transfer name))
+    (with_meta t.meta (record t.meta { last = now }) (gone ++ transferred_row o transfer name))) (sym found.1)
+    (rows_told t now t.meta after.nodes after.shares t.mounts (gone ++ new ∷ [])
+    (λ rest. ap (put_all t) (append_assoc gone (new ∷ []) rest) ∙ gone_all t transfer.replaced (new ∷ rest) sound
+    ∙ ap (λ (all : List NodeRow). put_all (record t { nodes = all; shares = after.shares }) rest)
+    (put_changed left transfer.node change row refl (clearing_sound t transfer name sound known).rising still))
+    (All-append (Differs t) gone (new ∷ []) (replaced_differ t transfer name sound known)
     (All-cons (Differs t) new [] (changed_differs t transfer.node change row (λ row. refl) sound found.1 other) (All-nil (Differs t))))
-    (another t.nodes after.nodes transfer.node row (change row) found.1
-    (row_itself left transfer.node change (λ row. refl) ∙ ap (option_map change) still) other))
+    (λ same. another t.nodes after.nodes transfer.node row (change row) found.1
+    (row_itself left transfer.node change (λ row. refl) ∙ ap (option_map change) still) other (ap (λ (u : Tables). u.nodes) same)))
 
 -- ---- nodes that are copied
 
@@ -249,33 +282,72 @@ copies_more t old (copy ∷ copies) sound numbered some = λ same.
     (given (length old) copy (omega (arith, length-append old (copy ∷ copies)))) in
     absurd (omega (arith, first, numbered 0 copy (omega arith)))
 
-copies_told : (t : Tables) (now : ℕ) (who : Option ℕ) (copies : List NodeRow) (replaced : Option ℕ) → AreSound t
-    → KnownCopies t now who copies replaced → TellsAct t now (allowed.Copy copies replaced)
-copies_told t now who copies replaced sound known =
-    let drops : List Change = dropped_for t.nodes replaced in
-    let puts : List Change = map (λ row. Put (rows.Node row)) copies in
-    let mirrors = mirrored t now who copies replaced sound known in
-    let numbered : AreNumbered t.meta.next_node copies = λ k d within.
-    (mirrors.each k (get_or copies k d) (slice_get-get_or copies k d within)).id in
-    nodes_told t now (joined t copies replaced).meta (cleared t.nodes replaced ++ copies) (drops ++ puts)
-    (λ rest. ap (put_all t) (append_assoc drops puts rest) ∙ drops_for t replaced (puts ++ rest) sound
-    ∙ puts_new t (cleared t.nodes replaced) copies rest t.meta.next_node
-    (all_cleared (λ (row : NodeRow). row.id < t.meta.next_node) t.nodes replaced (all_given t sound)) numbered)
-    (All-append (Differs t) drops puts
-    (subst (λ (o : Option ℕ). All (Differs t) (dropped_for t.nodes o)) (sym known.replaced_is)
-    (replaced_differ t who known.transfer known.name sound known.known))
-    (All-map (Differs t) (λ row. Put (rows.Node row)) copies
-    (λ k d within. new_differs t (get_or copies k d) sound (omega (arith, numbered k d within)))))
-    (copies_more t (cleared t.nodes replaced) copies sound numbered (omega (arith, mirrors.all, (walk_first t.nodes known.transfer.node).1)))
+-- the copies, told before further changes
+module _ (t : Tables) (now : ℕ) (copies : List NodeRow) (replaced : Option ℕ) (sound : AreSound t) (known : KnownCopies t now copies replaced) where
+  numbered : AreNumbered t.meta.next_node copies
+  numbered k d within =
+      ((mirrored t now copies replaced sound known).each k (get_or copies k d) (slice_get-get_or copies k d within)).id
+
+  abbrev copied_list : List Change
+  copied_list = gone_for t.nodes t.shares replaced ++ map (λ row. Put (rows.Node row)) copies
+
+  copies_put : (rest : List Change)
+      → put_all t (copied_list ++ rest) ≡ put_all (record t { nodes = cleared t.nodes replaced ++ copies; shares = ended_for t.nodes replaced t.shares }) rest
+  copies_put rest =
+      let puts : List Change = map (λ row. Put (rows.Node row)) copies in
+      ap (put_all t) (append_assoc (gone_for t.nodes t.shares replaced) puts rest) ∙ gone_all t replaced (puts ++ rest) sound
+      ∙ puts_new (record t { shares = ended_for t.nodes replaced t.shares }) (cleared t.nodes replaced) copies rest t.meta.next_node
+      (all_cleared (λ (row : NodeRow). row.id < t.meta.next_node) t.nodes replaced (all_given t sound)) numbered
+
+  copies_differ : All (Differs t) copied_list
+  copies_differ =
+      All-append (Differs t) (gone_for t.nodes t.shares replaced) (map (λ row. Put (rows.Node row)) copies)
+      (subst (λ (o : Option ℕ). All (Differs t) (gone_for t.nodes t.shares o)) (sym known.replaced_is)
+      (replaced_differ t known.transfer known.name sound known.known))
+      (All-map (Differs t) (λ row. Put (rows.Node row)) copies
+      (λ k d within. new_differs t (get_or copies k d) sound (omega (arith, numbered k d within))))
+
+  copies_told : TellsAct t now (allowed.Copy copies replaced)
+  copies_told =
+      rows_told t now (joined t copies replaced).meta (cleared t.nodes replaced ++ copies) (ended_for t.nodes replaced t.shares) t.mounts copied_list copies_put
+      copies_differ
+      (λ same. copies_more t (cleared t.nodes replaced) copies sound numbered
+      (omega (arith, (mirrored t now copies replaced sound known).all, (walk_first t.nodes known.transfer.node).1)) (ap (λ (u : Tables). u.nodes) same))
+
+-- and what goes then
+crossed_told : (t : Tables) (now : ℕ) (copies : List NodeRow) (replaced : Option ℕ) (top : ℕ) → AreSound t
+    → KnownCross t now copies replaced top → TellsAct t now (allowed.Cross copies replaced top)
+crossed_told t now copies replaced top sound cross =
+    let made = joined t copies replaced in
+    let beside : Tables = record t { nodes = made.nodes; shares = made.shares } in
+    let after = removed made top in
+    let gone = gone_under t.nodes t.shares top in
+    let list = copied_list t now copies replaced sound cross.copies in
+    let source : is_some (node_row t.nodes top) ≡ true = ap (λ (n : ℕ). is_some (node_row t.nodes n)) cross.node_is ∙ ap is_some cross.copies.known.source.1 in
+    rows_told t now made.meta after.nodes after.shares t.mounts (list ++ gone)
+    (λ rest. ap (put_all t) (append_assoc list gone rest) ∙ copies_put t now copies replaced sound cross.copies (gone ++ rest)
+    ∙ ap (λ (changes : List Change). put_all beside (changes ++ rest)) (sym (crossed_gone t now copies replaced top sound cross))
+    ∙ gone_one beside top rest
+    (subst (λ (o : Option ℕ). AllPairs (λ (a b : NodeRow). a.id < b.id) (cleared t.nodes o ++ copies)) (sym cross.copies.replaced_is)
+    (joined_rises t now cross.copies.transfer cross.copies.name copies (mirrored t now copies replaced sound cross.copies) sound cross.copies.known))
+    (ended_rise t replaced sound))
+    (All-append (Differs t) list gone (copies_differ t now copies replaced sound cross.copies) (gone_differ t top sound source))
+    (λ same. no_row t after top source
+    (row_gone made.nodes (Some top) top (climb_under 0 made.nodes top top (omega arith) refl)) (ap (λ (u : Tables). u.nodes) same))
+  where
+    no_row : (t after : Tables) (top : ℕ) → is_some (node_row t.nodes top) ≡ true → node_row after.nodes top ≡ None → after.nodes ≢ t.nodes
+    no_row t after top there none = λ same.
+        both_ways (is_some (node_row t.nodes top)) (sym (ap (λ (rows : List NodeRow). is_some (node_row rows top)) same) ∙ ap is_some none) there
 
 -- ---- each act
 
-act_told : (t : Tables) (now : ℕ) (who : Option ℕ) (act : Allowed) → AreSound t → Known t now who act → TellsAct t now act
-act_told t now who (allowed.Change changes blob report) sound known = changes_told t now who changes blob report sound known
-act_told t now who (allowed.Delete node) sound known = gone_told t now who node sound known
-act_told t now who (allowed.Move transfer name) sound known = moved_told t now who transfer name sound known
-act_told t now who (allowed.Copy copies replaced) sound known = copies_told t now who copies replaced sound known
-act_told t now who act sound known = nothing_told t
+act_told : (t : Tables) (now : ℕ) (act : Allowed) → AreSound t → Known t now act → TellsAct t now act
+act_told t now (allowed.Change changes blob report) sound known = changes_told t now changes blob report sound known
+act_told t now (allowed.Delete node) sound known = gone_told t now node sound known
+act_told t now (allowed.Move transfer name) sound known = moved_told t now transfer name sound known
+act_told t now (allowed.Copy copies replaced) sound known = copies_told t now copies replaced sound known
+act_told t now (allowed.Cross copies replaced node) sound known = crossed_told t now copies replaced node sound known
+act_told t now act sound known = nothing_told t
 
 -- ---- each step
 
@@ -283,7 +355,7 @@ step_told : (s : State) (seat now : ℕ) (event : Event) → IsSound s → MayAs
     → Tell s.tables (step s seat now event).tables (changes_to s seat now event)
 step_told s seat now event sound asked =
     step_has (λ t tickets decision. Tell s.tables t (changes_by s.tables now decision)) s seat now event (λ refusal. nothing_told s.tables)
-    (λ act is. act_told s.tables now _ act sound.rows (known_change s seat now event act sound asked is))
+    (λ act is. act_told s.tables now act sound.rows (known_change s seat now event act sound asked is))
 
 -- ---- the meta row is never dropped
 
@@ -291,28 +363,41 @@ put_droppable : (same : Bool) (row : Row) → All IsDroppable (if same then [] e
 put_droppable true row = All-nil IsDroppable
 put_droppable false row = All-cons IsDroppable (Put row) [] tt (All-nil IsDroppable)
 
-replaced_droppable : (nodes : List NodeRow) (replaced : Option ℕ) → All IsDroppable (dropped_for nodes replaced)
-replaced_droppable nodes None = All-nil IsDroppable
-replaced_droppable nodes (Some top) = All-map IsDroppable (λ node. Drop (keys.Node node)) (walk_of nodes top) (λ k d within is. cc)
+gone_droppable : (nodes : List NodeRow) (shares : List ShareRow) (top : ℕ) → All IsDroppable (gone_under nodes shares top)
+gone_droppable nodes shares top =
+    All-append IsDroppable (dropped_under nodes top) (closed_under nodes shares top)
+    (All-map IsDroppable (λ node. Drop (keys.Node node)) (walk_of nodes top) (λ k d within is. cc))
+    (All-map IsDroppable (λ share. Put (rows.Share (ended_row share))) (filter (is_closing nodes top) shares) (λ k d within. tt))
+
+replaced_droppable : (nodes : List NodeRow) (shares : List ShareRow) (replaced : Option ℕ) → All IsDroppable (gone_for nodes shares replaced)
+replaced_droppable nodes shares None = All-nil IsDroppable
+replaced_droppable nodes shares (Some top) = gone_droppable nodes shares top
+
+copied_droppable : (t : Tables) (copies : List NodeRow) (replaced : Option ℕ)
+    → All IsDroppable (gone_for t.nodes t.shares replaced ++ map (λ row. Put (rows.Node row)) copies)
+copied_droppable t copies replaced =
+    All-append IsDroppable (gone_for t.nodes t.shares replaced) (map (λ row. Put (rows.Node row)) copies) (replaced_droppable t.nodes t.shares replaced)
+    (All-map IsDroppable (λ row. Put (rows.Node row)) copies (λ k d within. tt))
 
 row_droppable : (o : Option NodeRow) (transfer : Transfer) (name : List ℕ) → All IsDroppable (transferred_row o transfer name)
 row_droppable None transfer name = All-nil IsDroppable
 row_droppable (Some row) transfer name = put_droppable false (rows.Node (relinked transfer.folder name row))
 
--- where an act is a list, it is one of rows of nodes
-abbrev IsOfNodes : Allowed → Type 0
-IsOfNodes (allowed.Change changes blob report) = AreNodes changes
-IsOfNodes act = Unit {0}
+-- where an act is a list, it is one of rows of nodes and mounts
+abbrev IsBuilt : Allowed → Type 0
+IsBuilt (allowed.Change changes blob report) = AreBuilt changes
+IsBuilt act = Unit {0}
 
-told_droppable : (t : Tables) (act : Allowed) → IsOfNodes act → All IsDroppable (told t act)
-told_droppable t (allowed.Change changes blob report) nodes = nodes_droppable changes nodes
-told_droppable t (allowed.Delete node) nodes = replaced_droppable t.nodes (Some node)
+told_droppable : (t : Tables) (act : Allowed) → IsBuilt act → All IsDroppable (told t act)
+told_droppable t (allowed.Change changes blob report) nodes = built_droppable changes nodes
+told_droppable t (allowed.Delete node) nodes = gone_droppable t.nodes t.shares node
 told_droppable t (allowed.Move transfer name) nodes =
-    All-append IsDroppable (dropped_for t.nodes transfer.replaced) (transferred_row (node_row t.nodes transfer.node) transfer name)
-    (replaced_droppable t.nodes transfer.replaced) (row_droppable (node_row t.nodes transfer.node) transfer name)
-told_droppable t (allowed.Copy copies replaced) nodes =
-    All-append IsDroppable (dropped_for t.nodes replaced) (map (λ row. Put (rows.Node row)) copies) (replaced_droppable t.nodes replaced)
-    (All-map IsDroppable (λ row. Put (rows.Node row)) copies (λ k d within. tt))
+    All-append IsDroppable (gone_for t.nodes t.shares transfer.replaced) (transferred_row (node_row t.nodes transfer.node) transfer name)
+    (replaced_droppable t.nodes t.shares transfer.replaced) (row_droppable (node_row t.nodes transfer.node) transfer name)
+told_droppable t (allowed.Copy copies replaced) nodes = copied_droppable t copies replaced
+told_droppable t (allowed.Cross copies replaced node) nodes =
+    All-append IsDroppable (gone_for t.nodes t.shares replaced ++ map (λ row. Put (rows.Node row)) copies) (gone_under t.nodes t.shares node)
+    (copied_droppable t copies replaced) (gone_droppable t.nodes t.shares node)
 told_droppable t act nodes = All-nil IsDroppable
 
 with_meta_droppable : (old meta : MetaRow) (changes : List Change) → All IsDroppable changes → All IsDroppable (with_meta old meta changes)
@@ -321,54 +406,55 @@ with_meta_droppable old meta (change ∷ changes) all =
     All-append IsDroppable (change ∷ changes) (new_meta old meta) all (put_droppable (same_meta old meta) (rows.Meta meta))
 
 -- a decision changes rows of nodes alone
-abbrev DecidesNodes : Result Allowed Denial → Type 0
-DecidesNodes (Ok act) = IsOfNodes act
-DecidesNodes (Err refusal) = Unit {0}
+abbrev DecidesBuilt : Result Allowed Denial → Type 0
+DecidesBuilt (Ok act) = IsBuilt act
+DecidesBuilt (Err refusal) = Unit {0}
 
-unless_nodes : (refusal : Option Denial) (act : Allowed) → IsOfNodes act → DecidesNodes (unless_refused refusal act)
+unless_nodes : (refusal : Option Denial) (act : Allowed) → IsBuilt act → DecidesBuilt (unless_refused refusal act)
 unless_nodes None act nodes = nodes
 unless_nodes (Some refusal) act nodes = tt
 
-begin_nodes : (call : Call) (asked : Wanted) → IsOfNodes (given (access_of call.state) call (places_of call) asked)
+begin_nodes : (call : Call) (asked : Wanted) → IsBuilt (given (access_of call.state) call (places_of call) asked)
 begin_nodes call asked =
     elim (given_alters call (places_of call) asked) [
       | inl get ↦
-          subst (λ (w : Wanted). IsOfNodes (given (access_of call.state) call (places_of call) w)) (sym get.1)
-          (served_nodes call.state.tables (node_at (places_of call).source))
+          subst (λ (w : Wanted). IsBuilt (given (access_of call.state) call (places_of call) w)) (sym get.1)
+          (served_nodes (way_of call get.0).mount (node_at (places_of call).source))
       | inr alters ↦ alters_nodes (given (access_of call.state) call (places_of call) asked) alters
     ]
   where
-    served_nodes : (t : Tables) (o : Option ℕ) → IsOfNodes (served t o)
-    served_nodes t None = tt
-    served_nodes t (Some node) =
-        cond_both (is_folder t.nodes node) (allowed.List (listing_of t node)) (allowed.Get node (content_of t.nodes node)) IsOfNodes
+    served_nodes : (mount o : Option ℕ) → IsBuilt (served (access_of call.state) call mount o)
+    served_nodes mount None = tt
+    served_nodes mount (Some node) =
+        cond_both (is_folder call.state.tables.nodes node) (allowed.List (listing_of (access_of call.state) call mount node))
+        (allowed.Get node (content_of call.state.tables.nodes node)) IsBuilt
         (λ folder. tt) (λ file. tt)
 
-    alters_nodes : (act : Allowed) → Alters call.state.tables act → IsOfNodes act
+    alters_nodes : (act : Allowed) → Alters call.state.tables act → IsBuilt act
     alters_nodes (allowed.Change changes blob report) alters =
         elim alters.1 [ inl empty ↦ of_nodes [] changes empty | inr old ↦ of_nodes (content_of call.state.tables.nodes old.0) changes old.1 ]
     alters_nodes act alters = tt
 
-stored_nodes : (t : Tables) (now : ℕ) (key : LockKey) (digest : List ℕ) (size : ℕ) → IsOfNodes (stored_at t now key digest size)
+stored_nodes : (t : Tables) (now : ℕ) (key : LockKey) (digest : List ℕ) (size : ℕ) → IsBuilt (stored_at t now key digest size)
 stored_nodes t now (Node node) digest size = let o = node_row t.nodes node in of_nodes _ (refilled o now _) (refilled_of o now _)
 stored_nodes t now (Slot folder name) digest size = tt
 
-goal_nodes : (access : Access) (t : Tables) (now : ℕ) (outcome : Outcome) (goal : Goal) → DecidesNodes (ends_goal access t now outcome goal)
+goal_nodes : (access : Access) (t : Tables) (now : ℕ) (outcome : Outcome) (goal : Goal) → DecidesBuilt (ends_goal access t now outcome goal)
 goal_nodes access t now (Body digest size) (Store by key wanted) =
     unless_nodes (end_refusal access t now by key size) (stored_at t now key digest size) (stored_nodes t now key digest size)
 goal_nodes access t now outcome goal = tt
 
-at_nodes : (access : Access) (t : Tables) (now : ℕ) (outcome : Outcome) (goal : Option Goal) → DecidesNodes (ends_at access t now outcome goal)
+at_nodes : (access : Access) (t : Tables) (now : ℕ) (outcome : Outcome) (goal : Option Goal) → DecidesBuilt (ends_at access t now outcome goal)
 at_nodes access t now outcome None = tt
 at_nodes access t now outcome (Some goal) = goal_nodes access t now outcome goal
 
-decision_nodes : (s : State) (seat now : ℕ) (event : Event) → DecidesNodes (decision_of s seat now event)
+decision_nodes : (s : State) (seat now : ℕ) (event : Event) → DecidesBuilt (decision_of s seat now event)
 decision_nodes s seat now (Begin words request) =
     let call = call_of s seat now words request in
     unless_nodes (refusal_of (access_of s) call) (allowed_of (access_of s) call) (begin_nodes call request.wanted)
 decision_nodes s seat now (End outcome) = at_nodes (access_of s) s.tables now outcome (goal_at s seat)
 
-decided_droppable : (t : Tables) (now : ℕ) (decision : Result Allowed Denial) → DecidesNodes decision → All IsDroppable (changes_by t now decision)
+decided_droppable : (t : Tables) (now : ℕ) (decision : Result Allowed Denial) → DecidesBuilt decision → All IsDroppable (changes_by t now decision)
 decided_droppable t now (Ok act) nodes = with_meta_droppable t.meta (meta_after t now act) (told t act) (told_droppable t act nodes)
 decided_droppable t now (Err refusal) nodes = All-nil IsDroppable
 

@@ -199,7 +199,7 @@ nothing_trashed t node sound is =
     none sound.later (subst (IsPlaceSound t is.top) is.place (row_is t is.top.id is.top sound is.there).1.place).1
   where
     none : HasNoLater t → is_some (item_row t.items is.top.id) ≡ true → ⊥
-    none (shares, (mounts, (versions, (items, rest)))) there = false≢true (sym (ap (λ (rows : List ItemRow). is_some (item_row rows is.top.id)) items) ∙ there)
+    none (versions, (items, rest)) there = false≢true (sym (ap (λ (rows : List ItemRow). is_some (item_row rows is.top.id)) items) ∙ there)
 
 -- ---- names
 

@@ -24,27 +24,28 @@ no_ring t j node sound is = absurd (omega (arith, depth_climb (suc j) t node nod
 
 -- ---- those under the top
 
-pub walk_under : (t : Tables) (top node : ℕ) → AreSound t → Contains (walk_of t.nodes top) node → is_under t.nodes node top ≡ true
-walk_under t top node sound h =
-    let c = walk_climbs t.nodes top node sound.rising h in climb_under c.0 t.nodes node top c.1 c.2
+pub walk_under : (rows : List NodeRow) (top node : ℕ) → AllPairs (λ (a b : NodeRow). a.id < b.id) rows → Contains (walk_of rows top) node
+    → is_under rows node top ≡ true
+walk_under rows top node rising h =
+    let c = walk_climbs rows top node rising h in climb_under c.0 rows node top c.1 c.2
 
-pub under_walk : (t : Tables) (top node : ℕ) → is_under t.nodes node top ≡ true → Contains (walk_of t.nodes top) node
-under_walk t top node is = let c = under_climb t.nodes node top is in climbs_walk c.0 t.nodes top node c.1 c.2
+pub under_walk : (rows : List NodeRow) (top node : ℕ) → is_under rows node top ≡ true → Contains (walk_of rows top) node
+under_walk rows top node is = let c = under_climb rows node top is in climbs_walk c.0 rows top node c.1 c.2
 
 -- the test of a walk is that of its top
-pub walk_among : (t : Tables) (top node : ℕ) → AreSound t
-    → list_any (λ other. other == node) (walk_of t.nodes top) ≡ is_under t.nodes node top
-walk_among t top node sound =
-    elim (cases_Bool (is_under t.nodes node top)) [
+pub walk_among : (rows : List NodeRow) (top node : ℕ) → AllPairs (λ (a b : NodeRow). a.id < b.id) rows
+    → list_any (λ other. other == node) (walk_of rows top) ≡ is_under rows node top
+walk_among rows top node rising =
+    elim (cases_Bool (is_under rows node top)) [
       | inl under ↦
-          (let h = under_walk t top node under in
-          list_any_at (λ other. other == node) (walk_of t.nodes top) h.0 node h.1 (eq-eqb _ node h.2) ∙ sym under)
+          (let h = under_walk rows top node under in
+          list_any_at (λ other. other == node) (walk_of rows top) h.0 node h.1 (eq-eqb _ node h.2) ∙ sym under)
       | inr outside ↦
-          false_from_ne_true (list_any (λ other. other == node) (walk_of t.nodes top)) (λ any.
-          let h = Any-from_list_any (λ other. other == node) (walk_of t.nodes top) any in
-          let has : Contains (walk_of t.nodes top) node =
-          subst (λ (n : ℕ). Contains (walk_of t.nodes top) n) (eqb-true h.1 node h.4) (h.0, h.2, h.3) in
-          both_ways (is_under t.nodes node top) outside (walk_under t top node sound has)) ∙ sym outside
+          false_from_ne_true (list_any (λ other. other == node) (walk_of rows top)) (λ any.
+          let h = Any-from_list_any (λ other. other == node) (walk_of rows top) any in
+          let has : Contains (walk_of rows top) node =
+          subst (λ (n : ℕ). Contains (walk_of rows top) n) (eqb-true h.1 node h.4) (h.0, h.2, h.3) in
+          both_ways (is_under rows node top) outside (walk_under rows top node rising has)) ∙ sym outside
     ]
 
 -- ---- none twice

@@ -1,11 +1,13 @@
 -- What who acts may read is served, and what they may change is changed, and nothing else.
-use Rattle.std.specs.Prelude.{◌≡◌, ◌≢◌, ◌↔◌, ◌⊎◌, ℕ, All, Contains, true, false, drop, List, [], Option, None, Some, Ok, option_and_then}
+use Rattle.std.specs.Prelude.{◌≡◌, ◌≢◌, ◌↔◌, ◌⊎◌, ℕ, ◌&&◌, not, All, Bool, Contains, true, false, drop, List, [], ◌∷◌, map, Option, None, Some, is_some, Ok, option_and_then, if◌then◌else◌}
 use Rattle.std.specs.Option.{option_map_or}
-use Rattle.nf_access.specs.Access.{Allows}
+use Rattle.nf_access.specs.Access.{Allows, Reaches}
+use Rattle.nf_access.specs.Mounts.{is_mount_of, mount_row}
 use Rattle.nf_access.specs.Shares.{ground_of}
 use Rattle.nf_base.specs.declared.content.Piece.{Piece}
 use Rattle.nf_base.specs.declared.perms.Act.{Act}
 use Rattle.nf_base.specs.declared.perms.Act.TheVariants.{Create, Delete, Read, Update}
+use Rattle.nf_base.specs.declared.rows.MountRow.{MountRow}
 use Rattle.nf_base.specs.declared.rows.NodeRow.{NodeRow}
 use Rattle.nf_base.specs.declared.rows.Place.TheVariants.{Inside}
 use Rattle.nf_base.specs.declared.rows.ShareRow.{ShareRow}
@@ -14,7 +16,7 @@ use Rattle.nf_defs.specs.declared.Seeker.{Seeker}
 use Rattle.nf_defs.specs.declared.Seeker.TheVariants.{User}
 use Rattle.nf_laws.specs.Reads.{IsFreeToRead, IsWellAsked}
 use Rattle.nf_laws.specs.Tree.{Under}
-use Rattle.nf_words.specs.Prelude.{access_of, after, answer_to, Call, call_of, goal_at, IsSound, listing_of, may_by, MayCome, MayWant, mount_of, Need, needed, needed_by, root_of, seeker_of, State}
+use Rattle.nf_words.specs.Prelude.{access_of, after, answer_to, asker_of, Call, call_of, ended_row, goal_at, IsSound, last_name, listing_of, may_by, MayCome, MayWant, mount_of, Need, needed, needed_by, root_of, seeker_of, State}
 use Rattle.nf_words.specs.declared.answer.Goal.{Goal}
 use Rattle.nf_words.specs.declared.answer.Goal.TheVariants.{Serve, Store}
 use Rattle.nf_words.specs.declared.answer.Reply.TheVariants.{Granted, Listing}
@@ -24,7 +26,7 @@ use Rattle.nf_words.specs.declared.history.Event.TheVariants.{Begin, End}
 use Rattle.nf_words.specs.declared.listing.ListingLine.{ListingLine}
 use Rattle.nf_words.specs.declared.request.Request.{Request}
 use Rattle.nf_words.specs.declared.request.Spot.{Spot}
-use Rattle.nf_words.specs.declared.request.Wanted.TheVariants.{Get}
+use Rattle.nf_words.specs.declared.request.Wanted.TheVariants.{Delete, Get, Move}
 use Rattle.nf_words.specs.declared.request.Words.{Words}
 
 -- ---- who may do what
@@ -55,13 +57,21 @@ abbrev pub LeadsBy : Call → Spot → Option ℕ → ℕ → Type 0
 LeadsBy call spot None node = Leads call.state.tables.nodes (root_of call) spot.path node
 LeadsBy call spot (Some mount) node = Leads call.state.tables.nodes mount (drop 1 spot.path) node
 
--- a GET, which no rule of who asks or of names refuses, and whose path leads to a node at which the caller may read by its mount
+-- where the path goes by a mount, a chain of live shares reaches who asks on its node
+abbrev pub IsReachedBy : Call → Option ℕ → Type 0
+IsReachedBy call None = Unit {0}
+IsReachedBy call (Some mount) =
+    (share : ShareRow) × (up : List ShareRow) × Reaches (ground_of call.state.tables) call.now (seeker_of call) mount share up
+
+-- a GET, which no rule of who asks or of names refuses, and whose path leads to a node at which the caller may read by its mount, on
+-- which the caller is reached
 pub record IsReadable (call : Call) (row : NodeRow) : Type 0 where
   pub spot : Spot
   pub asked : call.request.wanted ≡ Get spot
   pub well : IsWellAsked call
   pub there : node_row call.state.tables.nodes row.id ≡ Some row
   pub led : LeadsBy call spot (mount_of call spot) row.id
+  pub reached : IsReachedBy call (mount_of call spot)
   pub may : may_by (access_of call.state) call.state.tables.nodes (seeker_of call) call.now Read row.id (mount_of call spot) ≡ true
 
 -- the content is that of a file that may be read so, which nobody else stores over
@@ -86,12 +96,12 @@ WhatMayBeReadIsServed =
     → IsReadableFile (call_of s seat now words request) content
     → answer_to s seat now (Begin words request) ≡ Ok (Granted (Serve content))
 
--- the listing is of what is in a folder that may be read so
+-- the listing is of what is in a folder that may be read so, by the mount of its path
 pub record IsReadableFolder (call : Call) (listing : List ListingLine) : Type 0 where
   pub row : NodeRow
   pub readable : IsReadable call row
   pub folder : is_folder_kind row.kind ≡ true
-  pub listed : listing ≡ listing_of call.state.tables row.id
+  pub listed : listing ≡ listing_of (access_of call.state) call (mount_of call readable.spot) row.id
 
 abbrev pub ListsWhatMayBeRead : Type 0
 ListsWhatMayBeRead =
@@ -164,11 +174,51 @@ pub record IsAllowed (s : State) (now : ℕ) (who : Option Seeker) (needs : List
   pub may : All (MayDo s now seeker) needs
   pub follows : Follows needs s.tables.nodes after node
 
--- each node whose row is another is allowed to be, and of the rows that are no nodes the meta row alone is another
+-- ---- shares and mounts
+
+-- the node was there, and isn't any more
+abbrev pub is_gone_from : List NodeRow → List NodeRow → ℕ → Bool
+is_gone_from before after node = is_some (node_row before node) && not (is_some (node_row after node))
+
+-- the shares, where those are ended whose nodes are gone
+abbrev pub shares_without : List NodeRow → List NodeRow → List ShareRow → List ShareRow
+shares_without before after shares = map (λ share. if is_gone_from before after share.node then ended_row share else share) shares
+
+-- a mount of who asks that wasn't left, and whose own path, its name alone, is that of a place
+pub record IsOwnPath (call : Call) (spot : Spot) (row : MountRow) : Type 0 where
+  pub user : row.user ≡ asker_of call
+  pub shown : row.left ≡ false
+  pub path : spot.path ≡ row.name ∷ []
+
+-- what becomes of a mount whose own path is named: by a DELETE it is left, and by a MOVE it has another name
+pub data Remounts (call : Call) (row : MountRow) : MountRow → Type 0 where
+  is_left : (spot : Spot) → call.request.wanted ≡ Delete spot → IsOwnPath call spot row → Remounts call row (record row { left = true })
+  is_renamed : (source target : Spot) (overwrite : Bool) → call.request.wanted ≡ Move source target overwrite → IsOwnPath call source row
+      → Remounts call row (record row { name = last_name target })
+
+-- a Begin makes one mount another, whose own path it names, and no other mount, no node and no share
+pub record IsRemounted (s : State) (e : Entry) (after : Tables) : Type 0 where
+  pub words : Words
+  pub request : Request
+  pub begins : e.event ≡ Begin words request
+  pub old : MountRow
+  pub row : MountRow
+  pub there : mount_row s.tables.mounts old.user old.node ≡ Some old
+  pub becomes : Remounts (call_of s e.seat e.moment words request) old row
+  pub mounts : after.mounts ≡ map (λ other. if is_mount_of old.user old.node other then row else other) s.tables.mounts
+  pub nodes : after.nodes ≡ s.tables.nodes
+  pub shares : after.shares ≡ s.tables.shares
+
+-- ---- what a step changes
+
+-- each node whose row is another is allowed to be; a share ends exactly where its node goes, and no share is another otherwise; the
+-- mounts are as they were, or the one whose own path is named is another. Of the other rows the meta row alone is another
 pub record ChangesAllowed (s : State) (e : Entry) (after : Tables) : Type 0 where
   pub nodes : (node : ℕ) → node_row after.nodes node ≢ node_row s.tables.nodes node
       → IsAllowed s e.moment (seeker_at s e.seat e.moment e.event) (needs_of s e.seat e.moment e.event) after.nodes node
-  pub rest : after ≡ record s.tables { meta = after.meta; nodes = after.nodes }
+  pub shares : after.shares ≡ shares_without s.tables.nodes after.nodes s.tables.shares
+  pub mounts : (after.mounts ≡ s.tables.mounts) ⊎ IsRemounted s e after
+  pub rest : after ≡ record s.tables { meta = after.meta; nodes = after.nodes; shares = after.shares; mounts = after.mounts }
 
 abbrev pub ChangesWhatMayBeChanged : Type 0
 ChangesWhatMayBeChanged = (n : ℕ) (s : State) (e : Entry) → IsSound s → MayCome n s e → ChangesAllowed s e (after s e).tables

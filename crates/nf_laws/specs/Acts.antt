@@ -1,45 +1,139 @@
--- What a DELETE, a MKCOL and a PUT change, and that they change nothing else.
-use Rattle.std.specs.Prelude.{◌≡◌, ◌≢◌, ◌⊎◌, ℕ, ◌+◌, true, false, List, [], length, None, Some, Ok, IsOk}
+-- What a DELETE, a MKCOL, a PUT and a MOVE change, and that they change nothing else.
+use Rattle.std.specs.Prelude.{◌≡◌, ◌≢◌, ◌⊎◌, ℕ, ◌+◌, ◌<◌, Bool, true, false, drop, List, [], length, Option, None, Some, Ok, IsOk, IfSome, slice_get}
+use Rattle.nf_access.specs.Mounts.{mount_row}
+use Rattle.nf_access.specs.Shares.{share_row}
 use Rattle.nf_base.specs.declared.content.Piece.{Piece}
+use Rattle.nf_base.specs.declared.rows.MountRow.{MountRow}
 use Rattle.nf_base.specs.declared.rows.NodeKind.{NodeKind}
 use Rattle.nf_base.specs.declared.rows.NodeKind.TheVariants.{File, Folder}
 use Rattle.nf_base.specs.declared.rows.NodeRow.{NodeRow}
 use Rattle.nf_base.specs.declared.rows.Place.TheVariants.{Inside}
-use Rattle.nf_defs.specs.Prelude.{child_of, is_folder, is_folder_kind, Leads, node_row, owner_of, Tables}
+use Rattle.nf_base.specs.declared.rows.ShareRow.{ShareRow}
+use Rattle.nf_defs.specs.Prelude.{child_of, is_folder, is_folder_kind, is_under, node_row, owner_of, Tables}
 use Rattle.nf_defs.specs.declared.Seeker.TheVariants.{User}
+use Rattle.nf_laws.specs.Access.{LeadsBy}
 use Rattle.nf_laws.specs.Reads.{LeadsToKey}
+use Rattle.nf_laws.specs.Transfers.{is_replaced, Mirrors}
 use Rattle.nf_laws.specs.Tree.{Under}
 use Rattle.nf_laws.specs.Wholes.{blob_in}
-use Rattle.nf_words.specs.Prelude.{after, answer_to, blob_for, call_of, content_in, goal_at, IsSound, MayAsk, root_of, State, step, user_of, without_ticket}
+use Rattle.nf_words.specs.Prelude.{after, answer_to, blob_for, Call, call_of, content_in, decision_of, ended_row, goal_at, IsSound, last_name, left_row, MayAsk, mount_of, named_row, root_of, State, step, user_of, way_of, without_ticket}
+use Rattle.nf_words.specs.declared.answer.Allowed.TheVariants as allowed
 use Rattle.nf_words.specs.declared.answer.By.{By}
 use Rattle.nf_words.specs.declared.answer.Goal.TheVariants.{Store}
 use Rattle.nf_words.specs.declared.answer.LockKey.{LockKey}
 use Rattle.nf_words.specs.declared.answer.LockKey.TheVariants.{Node, Slot}
 use Rattle.nf_words.specs.declared.answer.Reply.TheVariants.{Granted}
 use Rattle.nf_words.specs.declared.history.Entry.{Entry}
+use Rattle.nf_words.specs.declared.history.Event.{Event}
 use Rattle.nf_words.specs.declared.history.Event.TheVariants.{Begin, End}
 use Rattle.nf_words.specs.declared.history.Outcome.TheVariants.{Body, Gone}
 use Rattle.nf_words.specs.declared.request.Request.{Request}
 use Rattle.nf_words.specs.declared.request.Spot.{Spot}
-use Rattle.nf_words.specs.declared.request.Wanted.TheVariants.{Delete, Mkcol, Put}
+use Rattle.nf_words.specs.declared.request.Transfer.{Transfer}
+use Rattle.nf_words.specs.declared.request.Wanted.TheVariants.{Delete, Mkcol, Move, Put}
 use Rattle.nf_words.specs.declared.request.Words.{Words}
+
+-- a path leads to the file that is stored over, or to the folder and the name that is free in it: from the caller's root, or behind its
+-- first name from the node of the mount that it goes by
+abbrev pub LeadsToKeyBy : Call → Spot → Option ℕ → LockKey → Type 0
+LeadsToKeyBy call spot None key = LeadsToKey call.state.tables.nodes (root_of call) spot.path key
+LeadsToKeyBy call spot (Some mount) key = LeadsToKey call.state.tables.nodes mount (drop 1 spot.path) key
+
+-- the shares of what is gone are ended, and no other share is another
+pub record AreEnded (before after : List ShareRow) (IsGone : ℕ → Type 0) : Type 0 where
+  pub ended : (id : ℕ) (share : ShareRow) → share_row before id ≡ Some share → IsGone share.node → share_row after id ≡ Some (ended_row share)
+  pub others : (id : ℕ) → IfSome (share_row before id) (λ (share : ShareRow). IsGone share.node → ⊥) → share_row after id ≡ share_row before id
 
 -- ---- DELETE
 
--- the node to which the path leads is gone, with all under it; every other node is as it was, and of the meta row the moment alone
--- is another
-pub record IsDeleted (before after : Tables) (now root : ℕ) (path : List (List ℕ)) : Type 0 where
+-- the node to which the path leads is gone, with all under it; every other node is as it was, the shares of what is gone are ended and
+-- the others as they were, and of the meta row the moment alone is another
+pub record IsDeleted (call : Call) (spot : Spot) (after : Tables) : Type 0 where
   pub top : ℕ
-  pub led : Leads before.nodes root path top
-  pub gone : (node : ℕ) → Under before.nodes top node → node_row after.nodes node ≡ None
-  pub others : (node : ℕ) → (Under before.nodes top node → ⊥) → node_row after.nodes node ≡ node_row before.nodes node
-  pub rest : after ≡ record before { meta = record before.meta { last = now }; nodes = after.nodes }
+  pub led : LeadsBy call spot (mount_of call spot) top
+  pub gone : (node : ℕ) → Under call.state.tables.nodes top node → node_row after.nodes node ≡ None
+  pub others : (node : ℕ) → (Under call.state.tables.nodes top node → ⊥) → node_row after.nodes node ≡ node_row call.state.tables.nodes node
+  pub shares : AreEnded call.state.tables.shares after.shares (Under call.state.tables.nodes top)
+  pub rest : after ≡ record call.state.tables {
+    meta = record call.state.tables.meta { last = call.now };
+    nodes = after.nodes;
+    shares = after.shares;
+  }
 
+-- of a path that isn't a mount's own
 abbrev pub DeletesKeep : Type 0
 DeletesKeep =
     (s : State) (seat now : ℕ) (words : Words) (request : Request) (spot : Spot) → IsSound s → MayAsk s seat (Begin words request)
-    → request.wanted ≡ Delete spot → IsOk (answer_to s seat now (Begin words request))
-    → IsDeleted s.tables (step s seat now (Begin words request)).tables now (root_of (call_of s seat now words request)) spot.path
+    → request.wanted ≡ Delete spot → (way_of (call_of s seat now words request) spot).itself ≡ false
+    → IsOk (answer_to s seat now (Begin words request))
+    → IsDeleted (call_of s seat now words request) spot (step s seat now (Begin words request)).tables
+
+-- ---- a mount itself
+
+-- the caller's mount whose own path that is, and which wasn't left, has another row; every other mount is as it was, and of the meta row
+-- the moment alone is another
+pub record IsMountChanged (call : Call) (spot : Spot) (after : Tables) (change : MountRow → MountRow) : Type 0 where
+  pub user : ℕ
+  pub caller : user_of call ≡ Some user
+  pub node : ℕ
+  pub by : mount_of call spot ≡ Some node
+  pub row : MountRow
+  pub there : mount_row call.state.tables.mounts user node ≡ Some row
+  pub shown : row.left ≡ false
+  pub itself : mount_row after.mounts user node ≡ Some (change row)
+  pub others : (owner other : ℕ) → (owner ≡ user → other ≡ node → ⊥)
+      → mount_row after.mounts owner other ≡ mount_row call.state.tables.mounts owner other
+  pub rest : after ≡ record call.state.tables { meta = record call.state.tables.meta { last = call.now }; mounts = after.mounts }
+
+-- a DELETE of it leaves the mount
+abbrev pub MountsAreLeft : Type 0
+MountsAreLeft =
+    (s : State) (seat now : ℕ) (words : Words) (request : Request) (spot : Spot) → IsSound s → MayAsk s seat (Begin words request)
+    → request.wanted ≡ Delete spot → (way_of (call_of s seat now words request) spot).itself ≡ true
+    → IsOk (answer_to s seat now (Begin words request))
+    → IsMountChanged (call_of s seat now words request) spot (step s seat now (Begin words request)).tables left_row
+
+-- a MOVE of it gives the mount the target's last name
+abbrev pub MountsAreRenamed : Type 0
+MountsAreRenamed =
+    (s : State) (seat now : ℕ) (words : Words) (request : Request) (source target : Spot) (overwrite : Bool) → IsSound s
+    → MayAsk s seat (Begin words request) → request.wanted ≡ Move source target overwrite
+    → (way_of (call_of s seat now words request) source).itself ≡ true → IsOk (answer_to s seat now (Begin words request))
+    → IsMountChanged (call_of s seat now words request) source (step s seat now (Begin words request)).tables (named_row (last_name target))
+
+-- ---- MOVE to another owner
+
+-- what goes with it: what is under the node, and what is replaced
+abbrev pub Goes : List NodeRow → Option ℕ → ℕ → ℕ → Type 0
+Goes rows replaced node other = (is_under rows other node ≡ true) ⊎ (is_replaced rows replaced other ≡ true)
+
+-- a copy of the node and of each node under it is there, under a new number and of the owner of the folder that it is moved to. The node
+-- and all under it are gone, and so is what was replaced; every other node is as it was. The shares of what is gone are ended and the
+-- others as they were. Of the meta row these alone are others: the moment, and the next number of a node, which is as many more as there
+-- are copies
+pub record IsCrossed (t after : Tables) (now : ℕ) (rows : List NodeRow) (replaced : Option ℕ) (node : ℕ) : Type 0 where
+  pub transfer : Transfer
+  pub name : List ℕ
+  pub replaced_is : replaced ≡ transfer.replaced
+  pub node_is : node ≡ transfer.node
+  pub owners : owner_of t.nodes node ≢ owner_of t.nodes transfer.folder
+  pub mirrors : Mirrors t now transfer name rows
+  pub there : (k : ℕ) (copy : NodeRow) → slice_get rows k ≡ Some copy → node_row after.nodes copy.id ≡ Some copy
+  pub gone : (other : ℕ) → Goes t.nodes replaced node other → node_row after.nodes other ≡ None
+  pub others : (other : ℕ) → other < t.meta.next_node → (Goes t.nodes replaced node other → ⊥)
+      → node_row after.nodes other ≡ node_row t.nodes other
+  pub shares : AreEnded t.shares after.shares (Goes t.nodes replaced node)
+  pub rest : after ≡ record t {
+    meta = record t.meta { next_node = t.meta.next_node + length rows; last = now };
+    nodes = after.nodes;
+    shares = after.shares;
+  }
+
+abbrev pub CrossesMove : Type 0
+CrossesMove =
+    (s : State) (seat now : ℕ) (event : Event) (rows : List NodeRow) (replaced : Option ℕ) (node : ℕ) → IsSound s → MayAsk s seat event
+    → decision_of s seat now event ≡ Ok (allowed.Cross rows replaced node)
+    → IsCrossed s.tables (step s seat now event).tables now rows replaced node
 
 -- ---- a node more
 
@@ -72,34 +166,37 @@ pub record IsAdded (before after : Tables) (now folder : ℕ) (name : List ℕ) 
 -- ---- MKCOL
 
 -- the new node is a folder, at the end of the path
-pub record IsFolderMade (before after : Tables) (now root : ℕ) (path : List (List ℕ)) : Type 0 where
+pub record IsFolderMade (call : Call) (spot : Spot) (after : Tables) : Type 0 where
   pub folder : ℕ
   pub name : List ℕ
-  pub led : LeadsToKey before.nodes root path (Slot folder name)
-  pub added : IsAdded before after now folder name Folder []
+  pub led : LeadsToKeyBy call spot (mount_of call spot) (Slot folder name)
+  pub added : IsAdded call.state.tables after call.now folder name Folder []
 
 abbrev pub FoldersAreMade : Type 0
 FoldersAreMade =
     (s : State) (seat now : ℕ) (words : Words) (request : Request) (spot : Spot) → IsSound s → MayAsk s seat (Begin words request)
     → request.wanted ≡ Mkcol spot → IsOk (answer_to s seat now (Begin words request))
-    → IsFolderMade s.tables (step s seat now (Begin words request)).tables now (root_of (call_of s seat now words request)) spot.path
+    → IsFolderMade (call_of s seat now words request) spot (step s seat now (Begin words request)).tables
 
 -- ---- PUT
 
--- a PUT is granted to its caller, for the file to which its path leads or for the free name at its end, and changes no row yet
-pub record IsGranted (s : State) (seat now : ℕ) (words : Words) (request : Request) (path : List (List ℕ)) (size : ℕ) : Type 0 where
+-- a PUT is granted to its caller, by the mount that its path goes by, for the file to which the path leads or for the free name at its
+-- end, and changes no row yet
+pub record IsGranted (s : State) (seat now : ℕ) (words : Words) (request : Request) (spot : Spot) (size : ℕ) : Type 0 where
   pub user : ℕ
   pub caller : user_of (call_of s seat now words request) ≡ Some user
+  pub mount : Option ℕ
+  pub by : mount_of (call_of s seat now words request) spot ≡ mount
   pub key : LockKey
-  pub led : LeadsToKey s.tables.nodes (root_of (call_of s seat now words request)) path key
-  pub granted : answer_to s seat now (Begin words request) ≡ Ok (Granted (Store (record { seeker = User user; mount = None }) key size))
+  pub led : LeadsToKeyBy (call_of s seat now words request) spot mount key
+  pub granted : answer_to s seat now (Begin words request) ≡ Ok (Granted (Store (record { seeker = User user; mount = mount }) key size))
   pub rows : (step s seat now (Begin words request)).tables ≡ s.tables
 
 abbrev pub PutsAreGranted : Type 0
 PutsAreGranted =
     (s : State) (seat now : ℕ) (words : Words) (request : Request) (spot : Spot) (size : ℕ) → IsSound s
     → MayAsk s seat (Begin words request) → request.wanted ≡ Put spot size → IsOk (answer_to s seat now (Begin words request))
-    → IsGranted s seat now words request spot.path size
+    → IsGranted s seat now words request spot size
 
 -- the file has the new content, which became current at the moment, and nothing else of it is another; every other node is as it was.
 -- Of the meta row these alone are others: the next number of a blob, which is as many more as the content has pieces, and the moment,

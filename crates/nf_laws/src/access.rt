@@ -10,18 +10,20 @@ pub fn owners_and_reached_may()
 {}
 
 /// What a GET is granted is the content of a file at which the caller may read, and to which the path leads: from the caller's
-/// root, or from the node of the mount that it goes by.
+/// root, or from the node of the mount that it goes by, on which a chain of live shares reaches the caller.
 #[tactic(auto, using(crate::proofs::Reaching::serves_readable))]
 pub fn serves_what_may_be_read()
     ensures { ServesWhatMayBeRead }
 {}
 
-/// And each such file is granted to a GET of its path that no rule of who asks or of names refuses.
+/// And each such file is granted to a GET of its path that no rule of who asks or of names refuses: to its owner, and to whom a mount
+/// leads there.
 pub fn what_may_be_read_is_served()
     ensures { WhatMayBeReadIsServed }
 {}
 
-/// What a GET of a folder is answered is what is in a folder at which the caller may read, and to which the path leads so.
+/// What a GET of a folder is answered is what is in a folder at which the caller may read, and to which the path leads so: in the
+/// caller's own root its mounts among the children, and of each line what the caller may do there.
 #[tactic(auto, using(crate::proofs::Reaching::lists_readable))]
 pub fn lists_what_may_be_read()
     ensures { ListsWhatMayBeRead }
@@ -33,7 +35,9 @@ pub fn what_may_be_read_is_listed()
 {}
 
 /// A step makes a node's row another only where who acts may do all that the request needs, and what became of the node follows
-/// from that: it is updated, made, moved, or gone with what is deleted. Of the other rows the meta row alone becomes another.
+/// from that: it is updated, made, moved, or gone with what is deleted. A share ends exactly where its node goes, and none is another
+/// otherwise. The mounts are as they were, or the caller's one whose own path a DELETE or a MOVE names is left or has another name, and
+/// then no node and no share is another. Of the other rows the meta row alone becomes another.
 pub fn changes_what_may_be_changed()
     ensures { ChangesWhatMayBeChanged }
 {}

@@ -4,8 +4,8 @@
 mod access;
 mod acts;
 mod history;
+mod listings;
 mod locks;
-mod owners;
 mod reads;
 mod tells;
 mod transfers;
@@ -17,10 +17,15 @@ pub use access::{
     changes_what_may_be_changed, lists_what_may_be_read, owners_and_reached_may,
     serves_what_may_be_read, what_may_be_read_is_listed, what_may_be_read_is_served,
 };
-pub use acts::{cut_bodies_keep, deletes_keep, folders_are_made, puts_keep};
+pub use acts::{
+    crosses_move, cut_bodies_keep, deletes_keep, folders_are_made, mounts_are_renamed, puts_keep,
+};
 pub use history::{counters_rise, numbers_are_new, stays_sound};
+pub use listings::{
+    children_are_listed, lines_are_by_name, lines_are_these, mounts_are_listed,
+    permissions_are_acts,
+};
 pub use locks::{held_is_there, holds_agree, locked_exactly, others_spare};
-pub use owners::{changes_only_own, lists_only_own, own_is_listed, own_is_served, serves_only_own};
 pub use reads::stored_is_read;
 pub use tells::changes_tell;
 pub use transfers::{copies_mirror, moves_keep};

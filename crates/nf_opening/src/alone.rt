@@ -35,13 +35,10 @@ fn is_later(row: &Row) -> bool
         | Row::Token(_)
         | Row::Group(_)
         | Row::Member(_)
-        | Row::Node(_) => false,
-        Row::Share(_)
-        | Row::Mount(_)
-        | Row::Version(_)
-        | Row::Item(_)
-        | Row::Upload(_)
-        | Row::Chunk(_) => true,
+        | Row::Node(_)
+        | Row::Share(_)
+        | Row::Mount(_) => false,
+        Row::Version(_) | Row::Item(_) | Row::Upload(_) | Row::Chunk(_) => true,
     }
 }
 

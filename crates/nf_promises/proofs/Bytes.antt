@@ -264,7 +264,7 @@ says_done head a b (close, inl wrote) = (made_reply close, wrote, made_mark clos
 says_done head a b (close, inr wrote) = (done_reply close, wrote, done_mark close)
 
 pub put_then_get_of_bytes : {C : Type 0} (reads : C → ℕ → C → Type 0) → PutThenGetOfBytes reads
-put_then_get_of_bytes {C} reads caller spot put get body rest a b c first last end done puts gets input told turn says later written sound only =
+put_then_get_of_bytes {C} reads caller spot put get body rest a b c first last end done puts gets input told turn says later written sound own only =
     let wrote = says_done (head_of put) a b says in
     let parts : print_request put ++ body ++ print_request get ++ rest ≡ print_request put ++ (body ++ (print_request get ++ rest)) =
     append_assoc (print_request put ++ body) (print_request get) rest ∙ append_assoc (print_request put) body (print_request get ++ rest) in
@@ -273,4 +273,4 @@ put_then_get_of_bytes {C} reads caller spot put get body rest a b c first last e
     let one = turn_puts reads first caller spot put body (print_request get ++ rest) a b end wrote.0 puts (input ∙ ap (λ (bytes : List ℕ). Some bytes) parts) told wrote.1 wrote.2 alone turn in
     let two = turn_gets reads last caller spot get rest b c done gets one.1 written later in
     subst (λ (head : Head). ShowsFile (last || closes_session head) (waits head) body b c) two.1
-    (put_then_get reads caller spot body a b c first last end done one.0 two.0 sound only written)
+    (put_then_get reads caller spot body a b c first last end done one.0 two.0 sound own only written)

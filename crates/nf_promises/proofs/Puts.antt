@@ -31,7 +31,7 @@ use Rattle.nf_session.proofs.Moving.{no_others}
 use Rattle.nf_promises.proofs.Growing.{entered, heads_same, only_within, same_state}
 use Rattle.nf_promises.proofs.Putting.{IsOfPut, content_of_body, ok_answer, put_is_got, put_replies, put_size}
 use Rattle.nf_promises.proofs.Touches.{StartsOther, book_of, starts_other, stored_only}
-use Rattle.nf_promises.specs.Kept.{OnlyOwn, Puts, SaysStored, get_of, put_of}
+use Rattle.nf_promises.specs.Kept.{GoesByNoMount, OnlyOwn, Puts, SaysStored, get_of, put_of}
 use Rattle.nf_words.specs.declared.answer.Goal.TheVariants.{Serve}
 
 -- ---- books
@@ -61,10 +61,10 @@ on_ok (Ok r) ok is = is
 on_ok (Err refusal) ok is = absurd (cc)
 
 kept_books : (a m b : Book) (now moment : ℕ) (caller : Caller) (spot : Spot) (n : ℕ) (by : By) (key : LockKey) (size : ℕ) (body : List ℕ)
-    (answer : Answer) → IsSound (state_of a) → OnlyOwn a m → OnlyOwn m b
+    (answer : Answer) → IsSound (state_of a) → GoesByNoMount (state_of a) caller spot → OnlyOwn a m → OnlyOwn m b
     → Enters a m now (Begin no_words (put_of caller spot n)) (Ok (reply.Granted (goal.Store by key size)))
     → EndsBody m b moment body answer → IsOk answer → length body ≡ size → IsKept b caller spot body
-kept_books a m b now moment caller spot n by key size body answer sound one two enters ends ok long =
+kept_books a m b now moment caller spot n by key size body answer sound own one two enters ends ok long =
     let first = enters.entry in
     let second = ends.enters.entry in
     let s = state_of a in
@@ -75,7 +75,7 @@ kept_books a m b now moment caller spot n by key size body answer sound one two 
     let seat : second.seat ≡ first.seat = end.seat_is ∙ enters.lasts.seat ∙ sym begin.seat_is in
     let answered : answer_at middle second second.mark ≡ answer =
     ap (λ (x : State). answer_at x second second.mark) (sym begin.state) ∙ end.answer_is in
-    let got = put_is_got begin.count end.count s first second no_words caller spot n by key size body sound begin.may begin.event_is begin.answer_is
+    let got = put_is_got begin.count end.count s first second no_words caller spot n by key size body sound own begin.may begin.event_is begin.answer_is
     may end.event_is seat (subst (λ (x : Answer). IsOk x) (sym answered) ok) long in
     let last : state_of b ≡ after middle second = end.state ∙ ap (λ (x : State). after x second) begin.state in
     let there : state_after m ends.enters.others ≡ middle =
@@ -156,24 +156,24 @@ kept_stored : {C : Type 0} (reads : C → ℕ → C → Type 0) (head : Head) (b
     (caller : Caller) (spot : Spot) (size : ℕ) → request_of head ≡ Ok (put_of caller spot size)
     → Judges reads head a m (begun.Asked (Ok (reply.Granted (goal.Store by key size)))) → n.book ≡ m.book
     → Bodies n x size body → StoresBody reads body x b v → SaysStored v
-    → IsSound (state_of a.book) → OnlyOwn a.book m.book → OnlyOwn m.book b.book → IsKept b.book caller spot body
+    → IsSound (state_of a.book) → GoesByNoMount (state_of a.book) caller spot → OnlyOwn a.book m.book → OnlyOwn m.book b.book → IsKept b.book caller spot body
 kept_stored {C} reads head by key v a m n x b body caller spot size asked (r, now, is, read, begins, only) told bodies
-    (moment, answer, later, ends, answers, more) says sound one two =
+    (moment, answer, later, ends, answers, more) says sound own one two =
     let book : x.book ≡ m.book = ap (λ (y : Scene C). y.book) bodies.only ∙ told in
-    kept_books a.book m.book b.book now moment caller spot size by key size body answer sound one two
+    kept_books a.book m.book b.book now moment caller spot size by key size body answer sound own one two
     (asked_enters a.book m.book now head caller spot size r (Ok (reply.Granted (goal.Store by key size))) asked is begins.entry)
     (subst (λ (k : Book). EndsBody k b.book moment body answer) book ends) (stored_ok answer v answers says) bodies.taken.0
 
 kept_taken : {C : Type 0} (reads : C → ℕ → C → Type 0) (head : Head) (begun : Begun) (v : Response) (a m n x b : Scene C) (body : List ℕ)
     (caller : Caller) (spot : Spot) (size : ℕ) → request_of head ≡ Ok (put_of caller spot size)
     → Judges reads head a m begun → n.book ≡ m.book → Bodies n x (taken_length head begun) body → Passes reads body x b begun v → SaysStored v
-    → IsSound (state_of a.book) → OnlyOwn a.book m.book → OnlyOwn m.book b.book → IsKept b.book caller spot body
-kept_taken {C} reads head begun v a m n x b body caller spot size asked judges told bodies passes says sound one two =
+    → IsSound (state_of a.book) → GoesByNoMount (state_of a.book) caller spot → OnlyOwn a.book m.book → OnlyOwn m.book b.book → IsKept b.book caller spot body
+kept_taken {C} reads head begun v a m n x b body caller spot size asked judges told bodies passes says sound own one two =
     let begins = put_begun reads head begun v a m x b body caller spot size asked judges passes says one in
     kept_stored reads head begins.by begins.key v a m n x b body caller spot size asked
     (subst (λ (w : Begun). Judges reads head a m w) begins.is judges) told
     (subst (λ (w : Begun). Bodies n x (taken_length head w) body) begins.is bodies)
-    (subst (λ (w : Begun). Passes reads body x b w v) begins.is passes) says sound one two
+    (subst (λ (w : Begun). Passes reads body x b w v) begins.is passes) says sound own one two
 
 -- ---- the turn
 
@@ -185,8 +185,8 @@ closes_book reads other a b result says same = absurd says
 
 pub put_is_kept : {C : Type 0} (reads : C → ℕ → C → Type 0) (last : Bool) (caller : Caller) (spot : Spot) (body : List ℕ) (a b : Scene C)
     (end : Option Ended) → Puts reads last caller spot body a b end
-    → IsSound (state_of a.book) → OnlyOwn a.book b.book → IsKept b.book caller spot body
-put_is_kept reads last caller spot body a b end put sound only =
+    → IsSound (state_of a.book) → GoesByNoMount (state_of a.book) caller spot → OnlyOwn a.book b.book → IsKept b.book caller spot body
+put_is_kept reads last caller spot body a b end put sound own only =
     let answers = put.answers in
     let v = answers.response in
     let same : put.behind.book ≡ a.book = heads_same a put.behind (Ok (Some put.head)) put.heads in
@@ -202,7 +202,8 @@ put_is_kept reads last caller spot body a b end put sound only =
     let two : OnlyOwn put.judged.book answers.taken.book = only_within (goes_first heads first).book second.book third.book only in
     let kept = kept_taken reads put.head put.begun v put.behind put.judged put.invited answers.takes.0 answers.taken answers.takes.1
     caller spot (length body) put.asked put.judges told answers.takes.2 answers.takes.3
-    put.stored (subst (λ (k : Book). IsSound (state_of k)) (sym same) sound) one two in
+    put.stored (subst (λ (k : Book). IsSound (state_of k)) (sym same) sound)
+    (subst (λ (k : Book). GoesByNoMount (state_of k) caller spot) (sym same) own) one two in
     let book : b.book ≡ answers.taken.book =
     closes_book reads v answers.sent b answers.result put.stored answers.closes
     ∙ book_of answers.taken answers.sent (stored_only last (way_of put.head put.begun) v answers.taken answers.sent answers.result put.stored answers.responds) in

@@ -12,15 +12,14 @@ use Rattle.nf_base.specs.declared.rows.UserRow.{UserRow}
 use Rattle.nf_defs.specs.Prelude.{Access, found_from, holder_of, Leads, Tables, user_row}
 use Rattle.nf_defs.specs.declared.Found.{Found}
 use Rattle.nf_defs.specs.declared.Found.TheVariants.{At, Free, Missing}
-use Rattle.nf_laws.proofs.Owning.{changes_own}
+use Rattle.nf_laws.proofs.Allowing.{changes_allowed}
 use Rattle.nf_laws.proofs.Paths.{found_free, found_leads}
 use Rattle.nf_laws.proofs.Reading.{stored_free, stored_is_read}
 use Rattle.nf_laws.proofs.Stays.{sound_after}
 use Rattle.nf_laws.specs.Reads.{IsFreeToRead, IsReadBy, IsStored, LeadsToKey}
 use Rattle.nf_words.proofs.Passing.{Passes, call_passes}
-use Rattle.nf_words.proofs.Starts.{led_from_root}
 use Rattle.nf_words.proofs.Steps.{granted_step, put_grants_nothing, reports_nothing}
-use Rattle.nf_words.specs.Prelude.{access_of, after, after_mark, answer_at, answer_to, answered_by, AreSound, blob_by, blob_for, blob_of, blob_to, by_of, call_of, content_in, decided, decision_of, end_refusal, ends_at, forbidden_rule, found, goal_at, is_caller, IsSound, last_name, MayAsk, MayCome, named_in, not_you_rule, refusal_of, reply_to, root_of, State, step, stored, stored_at, stores, token_rule, unless_refused}
+use Rattle.nf_words.specs.Prelude.{access_of, after, after_mark, answer_at, answer_to, answered_by, AreSound, blob_by, blob_for, blob_of, blob_to, by_of, call_of, content_in, decided, decision_of, end_refusal, ends_at, forbidden_rule, found, goal_at, is_caller, IsSound, last_name, MayAsk, MayCome, named_in, not_you_rule, refusal_of, reply_to, root_of, State, way_by, step, stored, stored_at, stores, token_rule, unless_refused}
 use Rattle.nf_words.specs.Calls.{caller_of}
 use Rattle.nf_words.specs.declared.answer.Allowed.{Allowed}
 use Rattle.nf_words.specs.declared.answer.Allowed.TheVariants as allowed
@@ -43,7 +42,7 @@ use Rattle.nf_words.specs.declared.request.Caller.TheVariants.{Absent, Token}
 use Rattle.nf_words.specs.declared.request.Spot.{Spot}
 use Rattle.nf_words.specs.declared.request.Words.{Words}
 use Rattle.nf_session.specs.Book.{event_of_body}
-use Rattle.nf_promises.specs.Kept.{get_of, put_of}
+use Rattle.nf_promises.specs.Kept.{get_of, GoesByNoMount, put_of}
 
 -- ---- marks
 
@@ -70,6 +69,7 @@ put_only (Ok (allowed.Put who at length)) by key size is = cc
 put_only (Ok (allowed.Change changes blob report)) by key size is = absurd (reports_nothing report (Store by key size) (cc))
 put_only (Ok (allowed.Move transfer name)) by key size is = absurd (put_grants_nothing transfer.replaced (Store by key size) (cc))
 put_only (Ok (allowed.Copy rows replaced)) by key size is = absurd (put_grants_nothing replaced (Store by key size) (cc))
+put_only (Ok (allowed.Cross rows replaced node)) by key size is = absurd (put_grants_nothing replaced (Store by key size) (cc))
 put_only other by key size is = absurd (cc)
 
 -- the answers of a PUT's Begin, but for refusals
@@ -141,9 +141,9 @@ record PutGranted (s : State) (e : Entry) (words : Words) (caller : Caller) (spo
   passes : Passes (access_of s) (call_of s e.seat e.moment words (put_of caller spot n))
 
 put_granted : (count : ℕ) (s : State) (e : Entry) (words : Words) (caller : Caller) (spot : Spot) (n : ℕ) (by : By) (key : LockKey) (size : ℕ)
-    → IsSound s → MayCome count s e → e.event ≡ Begin words (put_of caller spot n)
+    → IsSound s → GoesByNoMount s caller spot → MayCome count s e → e.event ≡ Begin words (put_of caller spot n)
     → answer_at s e e.mark ≡ Ok (Granted (Store by key size)) → PutGranted s e words caller spot n by key size
-put_granted count s e words caller spot n by key size sound may event_is is =
+put_granted count s e words caller spot n by key size sound own may event_is is =
     let event : Event = Begin words (put_of caller spot n) in
     let call = call_of s e.seat e.moment words (put_of caller spot n) in
     let act : Allowed = allowed.Put by key size in
@@ -156,7 +156,7 @@ put_granted count s e words caller spot n by key size sound may event_is is =
       tables = ap (λ (x : State). x.tables) becomes ∙ ap (λ (d : Result Allowed Denial). (decided s e.seat e.moment d).tables) decides;
       goal = ap (λ (x : State). goal_at x e.seat) becomes ∙ granted_step s e.seat e.moment event (Store by key size) asked.0 h.1;
       led = put_key s.tables (root_of call) n spot (found call spot) (by_of call spot) by key size sound.rows
-          (led_from_root call spot (found call spot) sound.rows refl) passes.1;
+          (sym (ap (λ (mount : Option ℕ). (way_by s.tables.nodes (root_of call) spot.path mount).place) own)) passes.1;
       passes = passes.0;
     }
 
@@ -223,18 +223,18 @@ pub record IsGot (s : State) (e : Entry) (caller : Caller) (spot : Spot) (body :
   pub blob : blob_to s e.seat e.moment e.event ≡ blob_for s.tables.meta.next_blob (length body)
 
 pub put_is_got : (count more : ℕ) (s : State) (first second : Entry) (words : Words) (caller : Caller) (spot : Spot) (n : ℕ)
-    (by : By) (key : LockKey) (size : ℕ) (body : List ℕ) → IsSound s
+    (by : By) (key : LockKey) (size : ℕ) (body : List ℕ) → IsSound s → GoesByNoMount s caller spot
     → MayCome count s first → first.event ≡ Begin words (put_of caller spot n)
     → answer_at s first first.mark ≡ Ok (Granted (Store by key size))
     → MayCome more (after s first) second → second.event ≡ event_of_body body → second.seat ≡ first.seat
     → IsOk (answer_at (after s first) second second.mark) → length body ≡ size → IsGot (after s first) second caller spot body
-put_is_got count more s first second words caller spot n by key size body sound may_first event_first granted_is may event seat ok long =
+put_is_got count more s first second words caller spot n by key size body sound own may_first event_first granted_is may event seat ok long =
     let middle = after s first in
     let t = middle.tables in
     let root = root_of (call_of s first.seat first.moment words (put_of caller spot n)) in
-    let granted = put_granted count s first words caller spot n by key size sound may_first event_first granted_is in
+    let granted = put_granted count s first words caller spot n by key size sound own may_first event_first granted_is in
     let sound_middle : IsSound middle = sound_after count s first sound may_first in
-    let own = changes_own more middle second sound_middle may in
+    let changes = changes_allowed more middle second sound_middle may in
     let marked : second.mark ≡ mark.Answered = ok_marked middle second ok in
     let accepted : IsOk (answer_to middle second.seat second.moment second.event) =
     subst (λ (m : Mark). IsOk (answer_at middle second m)) marked ok in
@@ -257,8 +257,8 @@ put_is_got count more s first second words caller spot n by key size body sound 
       led = subst (λ (u : Tables). LeadsToKey u.nodes root spot.path key) (sym granted.tables) granted.led;
       body = refl;
     } in
-    let users = ap (λ (u : Tables). u.users) own.rest ∙ ap (λ (u : Tables). u.users) granted.tables in
-    let tokens = ap (λ (u : Tables). u.tokens) own.rest ∙ ap (λ (u : Tables). u.tokens) granted.tables in
+    let users = ap (λ (u : Tables). u.users) changes.rest ∙ ap (λ (u : Tables). u.users) granted.tables in
+    let tokens = ap (λ (u : Tables). u.tokens) changes.rest ∙ ap (λ (u : Tables). u.tokens) granted.tables in
     record {
       got = λ later moment others. stored_is_read more middle second [] root spot.path (content_of_body middle body) later moment others (get_of caller spot)
           is_stored tt (λ k node few led. refl)

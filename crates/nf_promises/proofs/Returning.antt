@@ -150,12 +150,12 @@ meets_shown reads last head caller spot body k b end (m, begun, judges, inr (n, 
     absurd (cut_not_written cuts.fault cuts.cut cuts.sent cuts.by cuts.responds (subst (λ (e : Option Ended). IsWritten e) cuts.ends written))
 
 pub put_then_get : {C : Type 0} (reads : C → ℕ → C → Type 0) → PutThenGet reads
-put_then_get {C} reads caller spot body a b c first last end done put get sound only written =
+put_then_get {C} reads caller spot body a b c first last end done put get sound own only written =
     let same : get.behind.book ≡ b.book = heads_same b get.behind (Ok (Some get.head)) get.heads in
     let one = turn_goes reads first a b end
     (inr (inr (put.behind, put.head, put.heads, (put.judged, put.begun, put.judges, inr (put.invited, put.invites, inl put.answers))))) in
     let two = turn_goes reads last b c done (inr (inr (get.behind, get.head, get.heads, get.meets))) in
-    let kept = put_is_kept reads first caller spot body a b end put sound (only_within (same_moves a.book a.book 0 refl) one.book two.book only) in
+    let kept = put_is_kept reads first caller spot body a b end put sound own (only_within (same_moves a.book a.book 0 refl) one.book two.book only) in
     let rest : OnlyOwn b.book c.book = only_within one.book two.book (same_moves c.book c.book 0 refl) only in
     let shown = meets_shown reads last get.head caller spot body get.behind c done get.meets get.asked
     (subst (λ (k : Book). IsKept k caller spot body) (sym same) kept) (subst (λ (k : Book). OnlyOwn k c.book) (sym same) rest) written in

@@ -9,13 +9,13 @@ use Rattle.nf_dav.specs.Reply.{continue_reply, done_reply, file_head, made_reply
 use Rattle.nf_dav.specs.declared.replies.Manner.{Manner}
 use Rattle.httparse.specs.Grammar.{IsRequestHead, RequestHead, print_request}
 use Rattle.nf_http.specs.Head.{Head, closes_session, expects_continue, head_fault, head_of, length_of}
-use Rattle.nf_session.specs.Prelude.{Answers, Book, Heads, Invites, Judges, Meets, Scene, state_of, Turn}
+use Rattle.nf_session.specs.Prelude.{Answers, Book, Heads, Invites, Judges, Meets, no_words, Scene, state_of, Turn}
 use Rattle.nf_session.specs.declared.begun.Begun.{Begun}
 use Rattle.nf_session.specs.declared.ended.Ended.{Ended}
 use Rattle.nf_session.specs.declared.ended.Ended.TheVariants as ended
 use Rattle.nf_session.specs.declared.response.Response.{Response}
 use Rattle.nf_session.specs.declared.response.Response.TheVariants as response
-use Rattle.nf_words.specs.Sound.{IsSound}
+use Rattle.nf_words.specs.Prelude.{call_of, IsSound, mount_of, State}
 use Rattle.nf_words.specs.declared.answer.Damage.{Damage}
 use Rattle.nf_words.specs.declared.answer.Denial.TheVariants as denial
 use Rattle.nf_words.specs.declared.request.Caller.{Caller}
@@ -110,14 +110,18 @@ ShowsFile close unsent body a b =
     ⊎ (Appends a.output b.output (refusal_reply (plainly close) denial.Store) × FailsStore a.book b.book)
     ⊎ ShowsDamage a.book.told close a b
 
+-- the path goes by no mount: it leads on in the caller's own root
+abbrev pub GoesByNoMount : State → Caller → Spot → Type 0
+GoesByNoMount s caller spot = mount_of (call_of s 0 0 no_words (get_of caller spot)) spot ≡ None
+
 -- the body of a PUT that was made or done is what the next turn's GET of its path by the same caller is answered, where
--- the answer is written whole: over a sound state, and byte for byte over a store that tells its bytes
+-- the answer is written whole: over a sound state, in the caller's own root, and byte for byte over a store that tells its bytes
 abbrev pub PutThenGet : {C : Type 0} → (C → ℕ → C → Type 0) → Type 0
 PutThenGet {C} reads =
     (caller : Caller) (spot : Spot) (body : List ℕ)
     (a b c : Scene C) (first last : Bool) (end done : Option Ended)
     → Puts reads first caller spot body a b end → (get : Gets reads last caller spot b c done)
-    → IsSound (state_of a.book) → OnlyOwn a.book c.book → IsWritten done
+    → IsSound (state_of a.book) → GoesByNoMount (state_of a.book) caller spot → OnlyOwn a.book c.book → IsWritten done
     → ShowsFile (last || closes_session get.head) (waits get.head) body b c
 
 -- ---- the same of bytes
@@ -149,5 +153,5 @@ PutThenGetOfBytes {C} reads =
     → Prints put (put_of caller spot (length body)) → Prints get (get_of caller spot)
     → a.input ≡ Some (print_request put ++ body ++ print_request get ++ rest) → IsSome a.output
     → Turn reads first a b end → SaysDone (head_of put) a b → Turn reads last b c done → IsWritten done
-    → IsSound (state_of a.book) → OnlyOwn a.book c.book
+    → IsSound (state_of a.book) → GoesByNoMount (state_of a.book) caller spot → OnlyOwn a.book c.book
     → ShowsFile (last || closes_session (head_of get)) (waits (head_of get)) body b c

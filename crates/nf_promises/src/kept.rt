@@ -4,9 +4,9 @@ ghost use Rattle.nf_promises.specs.Kept.{PutThenGet, PutThenGetOfBytes};
 
 use nf_outside::Clock;
 
-/// A GET is answered the very bytes that a PUT of its path stored just before, unless there is no memory or the store
-/// fails: the head of a file of so many bytes, and the bytes. Over a store that tells nothing they are bytes of that length
-/// and digest, or it is answered that they are damaged.
+/// A GET is answered the very bytes that a PUT of its path stored just before, in the caller's own root, unless there is no
+/// memory or the store fails: the head of a file of so many bytes, and the bytes. Over a store that tells nothing they are bytes
+/// of that length and digest, or it is answered that they are damaged.
 pub fn put_then_get<C: Clock>()
     ensures { PutThenGet C.reads }
 {}

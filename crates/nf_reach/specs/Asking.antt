@@ -1,12 +1,13 @@
 -- A user who asks at a moment, with the rows that access goes by.
-use Rattle.std.specs.Prelude.{ℕ, ◌&&◌, Bool, List, Option, None, option_and_then, if◌then◌else◌}
+use Rattle.std.specs.Prelude.{ℕ, ◌&&◌, Bool, List, Option, None, option_and_then, option_map, if◌then◌else◌}
 use Rattle.std.specs.Option.{option_or}
 use Rattle.nf_access.specs.Access.{by_chains}
 use Rattle.nf_access.specs.Shares.{Ground}
 use Rattle.nf_base.specs.declared.rows.MountRow.{MountRow}
 use Rattle.nf_defs.specs.declared.Seeker.TheVariants.{User}
 use Rattle.nf_words.specs.Needed.{Need}
-use Rattle.nf_words.specs.Calls.{Way, mounted, way_by}
+use Rattle.nf_words.specs.Asked.{Asked}
+use Rattle.nf_words.specs.Calls.{Way, Ways, mounted, way_by}
 use Rattle.nf_words.specs.Places.{source_lost, target_lost}
 use Rattle.nf_words.specs.Reached.{first_refused, unreached_by}
 use Rattle.nf_words.specs.declared.answer.Denial.{Denial}
@@ -22,6 +23,13 @@ pub record Asking : Type 0 where
 -- where names lead for the user, from its root or by a mount of its own
 abbrev pub way_for : Asking → List (List ℕ) → Way
 way_for a names = way_by a.base.nodes a.root names (mounted a.base.nodes a.mounts a.user a.root names)
+
+-- the ways of what is asked for
+abbrev pub ways_in : Asking → Asked → Ways
+ways_in a asked = record {
+  source = option_map (λ spot. way_for a spot.path) asked.source;
+  target = option_map (λ spot. way_for a spot.path) asked.target;
+}
 
 -- the refusal of the first act that is needed and that the user may not do
 abbrev pub refusal_for : Asking → List Need → Option Denial

@@ -2,7 +2,7 @@
 
 ghost use Rattle.std.specs.Prelude.{◌≡◌, ◌∷◌, []};
 ghost use Rattle.std.specs.List.{list_any};
-ghost use Rattle.nf_access.specs.Access.{allows, by_chains};
+ghost use Rattle.nf_access.specs.Access.{allows, by_chains, is_open};
 ghost use Rattle.nf_access.specs.Laws.{IsBounded, IsRefused};
 ghost use Rattle.nf_defs.specs.declared.Seeker.TheVariants.{User};
 ghost use Rattle.nf_reach.specs.Asking.{refusal_for, way_for};
@@ -76,10 +76,23 @@ impl<'a> Asker<'a> {
         self.tree
     }
 
-    pub(crate) fn root(&self) -> NodeId
+    /// The user's root.
+    pub fn root(&self) -> NodeId
         ensures { result ≡ self.now.root }
     {
         self.root
+    }
+
+    pub fn user(&self) -> UserId
+        ensures { result ≡ self.now.user }
+    {
+        self.user
+    }
+
+    pub(crate) fn all_mounts(&self) -> &Mounts
+        ensures { result.now.rows ≡ self.now.mounts }
+    {
+        self.mounts
     }
 
     // ---- paths
@@ -110,8 +123,7 @@ impl<'a> Asker<'a> {
         if self.tree().child(self.root, first).is_some() {
             return None;
         }
-        let mounts = self.mounts;
-        mounts.at(self.user, first)
+        self.all_mounts().at(self.user, first)
     }
 
     // ---- access
@@ -126,11 +138,18 @@ impl<'a> Asker<'a> {
         }
     }
 
+    /// Whether a grant of the user on the mount's node is open.
+    pub(crate) fn is_reached(&self, mount: NodeId) -> bool
+        ensures { result ≡ list_any (is_open self.now.moment) (by_chains self.now.base (User self.now.user) mount) }
+    {
+        self.base.reaches(self.user, mount, self.moment)
+    }
+
     /// Why the user isn't reached by the mount of a node, where that is so.
     pub fn unreached(&self, mount: NodeId) -> Option<Denial>
         ensures { result ≡ unreached_by (by_chains self.now.base) self.now.base (User self.now.user) self.now.moment mount }
     {
-        if self.base.reaches(self.user, mount, self.moment) {
+        if self.is_reached(mount) {
             None
         } else {
             Some(self.broken_by(None, mount))
@@ -149,7 +168,7 @@ impl<'a> Asker<'a> {
     }
 
     /// Whether a grant on the mount's node lets the user do the act.
-    fn is_granted(&self, act: Act, mount: NodeId) -> bool
+    pub(crate) fn is_granted(&self, act: Act, mount: NodeId) -> bool
         ensures { result ≡ list_any (allows self.now.moment act) (by_chains self.now.base (User self.now.user) mount) }
     {
         let share = self.base.allows(self.user, mount, act, self.moment);

@@ -1,10 +1,11 @@
-//! Where paths lead and by which mounts, and whether who asks is reached by these and may do what is needed.
+//! Where paths lead and by which mounts, whether who asks is reached by these and may do what is needed, and what of it is told.
 #![tactic(auto)]
 
 mod asker;
+mod grants;
 mod needs;
 mod places;
 mod ways;
 
 pub use asker::Asker;
-pub use ways::Way;
+pub use ways::{Way, Ways, place_at};

@@ -5,11 +5,11 @@ ghost use Rattle.std.specs.Option.{option_map_or, option_or};
 ghost use Rattle.nf_base.specs.declared.perms.Act.TheVariants.{Delete};
 ghost use Rattle.nf_defs.specs.Tree.{parent_of};
 ghost use Rattle.nf_reach.specs.Asking.{refusal_for};
-ghost use Rattle.nf_words.specs.Needed.{folder_for, is_mount_asked, is_within, needs, needs_at, needs_between, needs_in, source_act, target_needs};
+ghost use Rattle.nf_words.specs.Needed.{folder_for, is_within, needs, needs_at, needs_between, needs_in, source_act, target_needs};
 ghost use Rattle.nf_words.specs.Places.{node_found};
 
 use crate::asker::Asker;
-use crate::ways::Way;
+use crate::ways::{Way, Ways};
 use nf_base::{Act, NodeId, Place};
 use nf_defs::Found;
 use nf_tree::Tree;
@@ -48,16 +48,6 @@ fn source_act(asked: &Asked<'_>, within: bool) -> Act
         Act::Update
     } else {
         Act::Delete
-    }
-}
-
-/// Whether a mount is to be left or to have another name.
-fn is_mount_asked(asked: &Asked<'_>, source: Option<&Way>) -> bool
-    ensures { result ≡ is_mount_asked asked.now (option_copied source.entry) }
-{
-    match source {
-        Some(way) => asked.removes && way.itself,
-        None => false,
     }
 }
 
@@ -141,18 +131,25 @@ impl<'a> Asker<'a> {
     }
 
     /// Why the user may not do what a request needs, by where its paths lead: the first act that is refused.
+    pub fn acts(&self, asked: &Asked<'_>, ways: &Ways) -> Option<Denial>
+        ensures { result ≡ refusal_for self.now (needs_between self.now.base.nodes self.now.root asked.now ways.now.source ways.now.target) }
+    {
+        if ways.is_mount_asked(asked) {
+            return None;
+        }
+        self.acts_between(asked, ways.source.as_ref(), ways.target.as_ref())
+    }
+
+    /// The same, where no mount is to be left or renamed.
     #[tactic(auto, using(crate::proofs::Refusals::first_of_both))]
-    pub fn acts(
+    fn acts_between(
         &self,
         asked: &Asked<'_>,
         source: Option<&Way>,
         target: Option<&Way>,
     ) -> Option<Denial>
-        ensures { result ≡ refusal_for self.now (needs_between self.now.base.nodes self.now.root asked.now (option_copied source.entry) (option_copied target.entry)) }
+        ensures { let within = is_within self.now.base.nodes self.now.root (option_copied source.entry) (option_copied target.entry) in result ≡ refusal_for self.now (option_map_or (needs_at (source_act asked.now within)) (option_copied source.entry) [] ++ option_map_or (target_needs asked.now.makes self.now.base.nodes self.now.root within) (option_copied target.entry) []) }
     {
-        if is_mount_asked(asked, source) {
-            return None;
-        }
         let within = self.is_within(source, target);
         match self.source_refused(asked, within, source) {
             Some(refusal) => Some(refusal),

@@ -6,9 +6,9 @@ ghost use Rattle.nf_reach.specs.Asking.{source_refusal, target_refusal, unreache
 ghost use Rattle.nf_words.specs.Places.{source_lost, target_lost};
 
 use crate::asker::Asker;
-use crate::ways::Way;
+use crate::ways::{Way, Ways};
 use nf_defs::Found;
-use nf_words::Denial;
+use nf_words::{Asked, Denial};
 
 /// What is acted upon has to be there.
 fn source_lost(place: &Found) -> Option<Denial>
@@ -62,17 +62,12 @@ impl<'a> Asker<'a> {
     }
 
     /// Why what the paths of a request lead to isn't reached, or isn't there: that of what it acts upon first.
-    pub fn places(
-        &self,
-        removes: bool,
-        source: Option<&Way>,
-        target: Option<&Way>,
-    ) -> Option<Denial>
-        ensures { result ≡ option_or (option_and_then (source_refusal self.now removes) (option_copied source.entry)) (option_and_then (target_refusal self.now) (option_copied target.entry)) }
+    pub fn places(&self, asked: &Asked<'_>, ways: &Ways) -> Option<Denial>
+        ensures { result ≡ option_or (option_and_then (source_refusal self.now asked.now.removes) ways.now.source) (option_and_then (target_refusal self.now) ways.now.target) }
     {
-        match self.source_refused_on(removes, source) {
+        match self.source_refused_on(asked.removes, ways.source.as_ref()) {
             Some(refusal) => Some(refusal),
-            None => self.target_refusal(target?),
+            None => self.target_refusal(ways.target.as_ref()?),
         }
     }
 

@@ -1,3 +1,4 @@
+pub mod After
 pub mod Among
 pub mod Apart
 pub mod Firsts

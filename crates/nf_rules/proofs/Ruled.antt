@@ -34,13 +34,10 @@ use Rattle.nf_rules.proofs.Firsts.{Keep, none_broken}
 use Rattle.nf_rules.proofs.Later.{not_one_of}
 use Rattle.nf_rules.proofs.Leading.{sound_leads}
 use Rattle.nf_rules.proofs.Shared.{AreUnshared, of_among}
-use Rattle.nf_rules.proofs.Shares.{mount_well}
+use Rattle.nf_rules.proofs.Shares.{is_given_from, mount_well}
 use Rattle.nf_rules.proofs.Stacked.{IsOf, rows_have}
 
 -- ---- numbers
-
-is_given_from : (next id : ℕ) → IsGiven next id → is_given next id ≡ true
-is_given_from next id given = and_from (nat_lt 0 id) (nat_lt id next) (lt-ltb 0 id given.first) (lt-ltb id next given.below)
 
 counters_are : (meta : MetaRow) → AreCounters meta → are_counters meta ≡ true
 counters_are meta h =

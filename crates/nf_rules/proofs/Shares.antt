@@ -3,7 +3,7 @@ use Rattle.std.proofs.Common.{◌≡◌, ℕ, ◌<◌, ◌==◌, ◌&&◌, ◌||
 use Rattle.std.specs.Prelude.{bytes_eq, find, is_some, nat_lt}
 use Rattle.std.specs.List.{All}
 use Rattle.std.specs.Option.{IfSome, option_map_or}
-use Rattle.std.proofs.lemmas.Bool.{and_from, and_parts, both_ways, eq-eqb, eqb-true, false_from_ne_true, false≢true, ltb-false, ltb-true, ne_eqb, not-true, not_from_false}
+use Rattle.std.proofs.lemmas.Bool.{and_from, and_parts, both_ways, eq-eqb, eqb-true, false_from_ne_true, false≢true, lt-ltb, ltb-false, ltb-true, ne_eqb, not-true, not_from_false}
 use Rattle.std.proofs.lemmas.Option.{none-some, same_Some}
 use Rattle.std.proofs.lemmas.Slice.Eq.{bytes_eq-Decides}
 use Rattle.nf_access.specs.Mounts.{root_folder}
@@ -31,6 +31,9 @@ pub given : (next id : ℕ) → is_given next id ≡ true → IsGiven next id
 given next id is =
     let parts = and_parts (nat_lt 0 id) (nat_lt id next) is in
     record { first = ltb-true 0 id parts.0; below = ltb-true id next parts.1 }
+
+pub is_given_from : (next id : ℕ) → IsGiven next id → is_given next id ≡ true
+is_given_from next id given = and_from (nat_lt 0 id) (nat_lt id next) (lt-ltb 0 id given.first) (lt-ltb id next given.below)
 
 -- ---- shares
 

@@ -47,6 +47,10 @@ pub record IsShareRuled (t : Tables) (row : ShareRow) : Type 0 where
   pub names : are_share_names_there t row ≡ true
   pub kept : is_share_kept t row ≡ true
 
+-- two links have different tokens
+abbrev pub AreTokensApart : ShareRow → ShareRow → Type 0
+AreTokensApart a b = (token : List ℕ) → a.kind ≡ to.Link token → b.kind ≢ to.Link token
+
 -- a mount's user and node were given
 pub record IsMountRuled (t : Tables) (row : MountRow) : Type 0 where
   pub user : IsGiven t.meta.next_user row.user
@@ -65,7 +69,7 @@ pub record AreRuled (t : Tables) : Type 0 where
   pub mounts : All (IsMountRuled t) t.mounts
   pub user_names : AllPairs (λ (a b : UserRow). a.name ≢ b.name) t.users
   pub group_names : AllPairs (λ (a b : GroupRow). a.name ≢ b.name) t.groups
-  pub tokens_apart : AllPairs (λ (a b : ShareRow). (token : List ℕ) → a.kind ≡ to.Link token → b.kind ≢ to.Link token) t.shares
+  pub tokens_apart : AllPairs AreTokensApart t.shares
   pub few_users : length t.users ≤ MAX_USERS
   pub few_groups : length t.groups ≤ MAX_GROUPS
   pub few_tokens : length t.tokens ≤ MAX_TOKENS

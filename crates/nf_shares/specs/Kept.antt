@@ -1,5 +1,5 @@
 -- The shares as the program holds them.
-use Rattle.std.specs.Prelude.{◌≡◌, ℕ, Bool, false, ◌==◌, bytes_eq, ◌+◌, ◌-◌, ◌≤◌, List, [], ◌∷◌, filter, find, length, map, min, Option, None, Some, option_map}
+use Rattle.std.specs.Prelude.{◌≡◌, ℕ, Bool, true, false, ◌==◌, bytes_eq, ◌+◌, ◌-◌, ◌≤◌, List, [], ◌∷◌, filter, find, length, map, min, Option, None, Some, option_map, if◌then◌else◌}
 use Rattle.std.specs.Option.{option_map_or}
 use Rattle.nf_access.specs.Shares.{share_row}
 use Rattle.nf_base.specs.declared.rows.ShareKind.{ShareKind}
@@ -38,6 +38,14 @@ is_child_of id (Some parent) = parent == id
 -- the rows where the share of that number is what a function makes of it
 abbrev pub changed : (ShareRow → ShareRow) → ℕ → List ShareRow → List ShareRow
 changed f id rows = option_map_or (λ row. put share_key (f row) rows) (share_row rows id) rows
+
+-- the row of a share that ended
+abbrev pub ended : ShareRow → ShareRow
+ended row = record row { ended = true }
+
+-- the rows where those that pass a test are ended
+abbrev pub ended_where : (ShareRow → Bool) → List ShareRow → List ShareRow
+ended_where test rows = map (λ row. if test row then ended row else row) rows
 
 -- the same share, of the same node
 abbrev pub StaysInPlace : ShareRow → ShareRow → Type 0

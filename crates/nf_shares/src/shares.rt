@@ -6,9 +6,9 @@ ghost use Rattle.std.specs.Option.{option_map_or};
 ghost use Rattle.nf_base.specs.declared.rows.ShareRow.{ShareRow};
 ghost use Rattle.nf_access.specs.Broken.{first_received};
 ghost use Rattle.nf_access.specs.Shares.{chain_of, chain_within, receives, share_row};
-ghost use Rattle.nf_defs.specs.Prelude.{IsRising, share_key};
+ghost use Rattle.nf_defs.specs.Prelude.{IsRising, is_under, share_key};
 ghost use Rattle.nf_defs.specs.declared.Seeker.TheVariants as seeker;
-ghost use Rattle.nf_shares.specs.Kept.{FitsShare, StaysInPlace, changed, ids_of, is_child_of, link_of};
+ghost use Rattle.nf_shares.specs.Kept.{FitsShare, StaysInPlace, changed, ended_where, ids_of, is_child_of, link_of};
 ghost use Rattle.nf_shares.specs.Making.{IsFirstFault, Makes, fault_of, is_again};
 ghost use Rattle.nf_table.specs.Rows.{Changes};
 ghost use Rattle.nf_shares.specs.declared.faults.ShareFault.TheVariants as fault;
@@ -19,6 +19,7 @@ use crate::rows::{is_again, is_child_of, is_link, is_self_share, receives, token
 use nf_access::Facts;
 use nf_base::{MAX_CHAIN, MAX_SHARES, Moment, Name, NodeId, Perms, ShareId, ShareRow, UserId};
 use nf_table::{ShareKey, Table};
+use nf_tree::Tree;
 use std::alloc::{AllocError, Global};
 use std::marker::Model;
 
@@ -193,6 +194,20 @@ impl Shares {
         ensures room { self.new.room ≡ self.old.room }
     {
         self.change(id, |row| row.ended = true);
+    }
+
+    /// Ends the shares of the nodes under a top. It takes no memory.
+    pub fn end_under(&mut self, tree: &Tree, top: NodeId)
+        ensures rows { self.new.rows ≡ ended_where (λ row. is_under tree.now.rows row.node top) self.old.rows }
+        ensures room { self.new.room ≡ self.old.room }
+    {
+        for place in 0..self.count() {
+            let row = &self.rows()[place];
+            let (id, node) = (row.id, row.node);
+            if tree.under(node, top) {
+                self.end(id);
+            }
+        }
     }
 
     /// Gives a share other permissions. It takes no memory.

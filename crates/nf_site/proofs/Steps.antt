@@ -13,7 +13,7 @@ use Rattle.std.specs.Prelude.{All}
 use Rattle.std.proofs.lemmas.Bool.{false≢true}
 use Rattle.std.proofs.lemmas.List.Elements.{All-nil}
 use Rattle.std.proofs.lemmas.List.Sums.{count_by-le-length, length-filter}
-use Rattle.nf_words.specs.Prelude.{actor_of, after, decision_of, goal_of, IsSound, LeavesRoom, MayAsk, MayBear, MayCome, MayEnd, opened, replay, State, stepped_by, ticket_of, without_ticket}
+use Rattle.nf_words.specs.Prelude.{after, decision_of, goal_of, IsSound, LeavesRoom, MayAsk, MayBear, MayCome, MayEnd, opened, replay, State, stepped_by, ticket_of, without_ticket}
 use Rattle.nf_words.specs.declared.answer.Allowed.{Allowed}
 use Rattle.nf_words.specs.declared.answer.Denial.{Denial}
 use Rattle.nf_words.specs.declared.history.Entry.{Entry}
@@ -134,7 +134,7 @@ held_step old new site e is held before asked marked room kept capacity =
 pub bears_step : (s : State) (seat now : ℕ) (event : Event) (act : Allowed) → IsSound s → MayAsk s seat event
     → decision_of s seat now event ≡ Ok act → BearsAct s.tables act
 bears_step s seat now event act sound asked decides =
-    known_bears s.tables now (actor_of s seat event) act sound.rows (known_change s seat now event act sound asked decides)
+    known_bears s.tables now act sound.rows (known_change s seat now event act sound asked decides)
 
 -- ---- a site's fields
 
@@ -179,7 +179,7 @@ bears_plan old site plan act is held ready decides =
 decided_few : (s : State) (seat now : ℕ) (event : Event) (decision : Result Allowed Denial) → IsSound s → MayAsk s seat event
     → decision_of s seat now event ≡ decision → length s.tables.nodes + added_in s.tables decision ≤ MAX_NODES
 decided_few s seat now event (Ok act) sound asked is =
-    known_few s.tables now (actor_of s seat event) act sound.rows (known_change s seat now event act sound asked is)
+    known_few s.tables now act sound.rows (known_change s seat now event act sound asked is)
 decided_few s seat now event (Err refusal) sound asked is = omega (arith, sound.rows.few_nodes)
 
 -- what a plan adds

@@ -145,6 +145,7 @@ fn reply_to(alloc: Global, act: &Allowed) -> Result<Reply, AllocError>
         Allowed::Delete(_) => Ok(Reply::Done),
         Allowed::Move { transfer, name: _ } => Ok(reply_by(transfer.replaced)),
         Allowed::Copy { rows: _, replaced } => Ok(reply_by(*replaced)),
+        Allowed::Cross { replaced, .. } => Ok(reply_by(*replaced)),
         Allowed::Close => Ok(Reply::Closed),
     }
 }

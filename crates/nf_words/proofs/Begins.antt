@@ -1,28 +1,47 @@
 -- What is known of a Begin that no rule refuses.
-use Rattle.std.proofs.Common.{◌≡◌, ℕ, ◌+◌, ◌≤◌, inr, Bool, true, false, [], Option, option_map, Ok, if◌then◌else◌, refl, ap, subst, ◌∙◌, arith}
-use Rattle.std.specs.Prelude.{None, Some}
-use Rattle.std.specs.Option.{option_map_or}
+use Rattle.std.proofs.Common.{◌≡◌, ℕ, ◌+◌, ◌<◌, ◌≤◌, ◌==◌, ◌||◌, ◌&&◌, not, Bool, true, false, List, [], ◌∷◌, ◌++◌, Option, option_map, Ok, if◌then◌else◌, refl, sym, ap, subst, ◌∙◌, arith}
+use Rattle.std.specs.Prelude.{None, Some, is_some}
+use Rattle.std.specs.List.{All, list_any}
+use Rattle.std.specs.Option.{IfSome, option_map_or, option_or}
+use Rattle.std.proofs.lemmas.Bool.{eqb-true, not-true}
+use Rattle.std.proofs.lemmas.List.Elements.{All-head}
+use Rattle.std.proofs.lemmas.Option.{same_Some}
+use Rattle.nf_access.specs.Access.{allows}
+use Rattle.nf_access.specs.Mounts.{mount_at, root_folder}
 use Rattle.nf_base.specs.declared.limits.TheConstants.{MAX_BODY}
+use Rattle.nf_base.specs.declared.perms.Act.{Act}
+use Rattle.nf_base.specs.declared.perms.Act.TheVariants.{Create, Update}
 use Rattle.nf_base.specs.declared.rows.NodeKind.TheVariants.{Folder}
+use Rattle.nf_base.specs.declared.rows.NodeRow.{NodeRow}
 use Rattle.nf_base.specs.declared.rows.UserRow.{UserRow}
-use Rattle.nf_defs.specs.Prelude.{content_of, depth, is_folder, is_root, Tables}
+use Rattle.nf_defs.specs.Prelude.{Access, child_of, content_of, depth, is_folder, is_folder_kind, is_root, is_root_place, node_row, owner_of, parent_of, Tables, user_row}
 use Rattle.nf_defs.specs.declared.Found.{Found}
 use Rattle.nf_defs.specs.declared.Found.TheVariants.{At, Free, Missing}
 use Rattle.nf_defs.specs.declared.Seeker.TheVariants as seeker
 use Rattle.nf_words.proofs.Fits.{new_known, within}
-use Rattle.nf_words.proofs.Found.{free_known}
+use Rattle.nf_words.proofs.Found.{found_has, found_passes}
 use Rattle.nf_words.proofs.Known.{Known}
-use Rattle.nf_words.proofs.Passing.{call_passes, no_fault, no_limit}
-use Rattle.nf_words.proofs.Starts.{from_root, has_row, led_from_root, path_known}
-use Rattle.nf_words.proofs.Transfers.{copied_known, moved_known}
+use Rattle.nf_words.proofs.Mounting.{IsFreeName, left_known, renamed_known}
+use Rattle.nf_words.proofs.Passing.{acts_pass, call_passes, no_fault, no_limit, Passes, PlacePasses, place_passes}
+use Rattle.nf_words.proofs.Starts.{has_row, root_is, row_of_caller}
+use Rattle.nf_words.proofs.Transfers.{copied_known, fit_parts, moved_known}
+use Rattle.nf_words.proofs.Ways.{HasRow, slot_known, way_there}
+use Rattle.nf_words.specs.Asked.{Asked}
 use Rattle.nf_words.specs.History.{IsShort}
-use Rattle.nf_words.specs.Prelude.{access_of, AreSound, asked_of, by_of, Call, call_decision, caller_row, deleted, exists_rule, found, given, is_there, IsSound, last_name, limit_at, limit_rule, limited, listing_of, made_folder, MayWant, node_at, root_of, seeker_of, served, shown, stored, taken, target_rule, unfit, user_of, Way}
+use Rattle.nf_words.specs.Prelude.{access_of, acts_rule, AreSound, asked_of, asker_of, by_of, Call, call_decision, caller_row, deleted, exists_rule, folder_at, found, given, is_free_in, IsHeld, IsNodeSound, is_off_mount, is_owner, is_root_at, is_within, IsSound, is_there, last_name, limit_at, limit_rule, limited, listing_of, made_folder, may_by, MayStoreAt, MayWant, misplaced_by, mount_left, mount_of, mount_renamed, moved, Need, needs, needs_between, needs_in, node_at, node_found, place_rule, places_by, root_of, seeker_of, served, shown, stored, taken, target_rule, transfer_between, transfer_of, unfit, unfit_between, unreached, user_of, Way, way_by, way_of, Ways, ways_for}
+use Rattle.nf_words.specs.Needed.{target_needs}
+use Rattle.nf_words.specs.Sound.{MayStoreBy}
 use Rattle.nf_words.specs.declared.answer.Allowed.{Allowed}
 use Rattle.nf_words.specs.declared.answer.Allowed.TheVariants as allowed
+use Rattle.nf_words.specs.declared.answer.By.{By}
 use Rattle.nf_words.specs.declared.answer.Denial.{Denial}
+use Rattle.nf_words.specs.declared.answer.LockKey.TheVariants.{Node, Slot}
 use Rattle.nf_words.specs.declared.answer.TargetFault.{TargetFault}
+use Rattle.nf_words.specs.declared.answer.TargetFault.TheVariants as target
+use Rattle.nf_words.specs.declared.request.Making.TheVariants as making
 use Rattle.nf_words.specs.declared.request.Places.{Places}
 use Rattle.nf_words.specs.declared.request.Spot.{Spot}
+use Rattle.nf_words.specs.declared.request.Transfer.{Transfer}
 use Rattle.nf_words.specs.declared.request.Wanted.{Wanted}
 use Rattle.nf_words.specs.declared.request.Wanted.TheVariants.{Get, Put, Mkcol, Delete, Move, Copy}
 
@@ -30,92 +49,229 @@ passed : (b : Bool) (fault : TargetFault) → (if b then Some fault else None) �
 passed true fault none = absurd (cc)
 passed false fault none = refl
 
-shown_known : (call : Call) (spot : Spot) (node : ℕ) (row : UserRow) → AreSound call.state.tables → caller_row call ≡ Some row → found call spot ≡ At node
-    → Known call.state.tables call.now (user_of call) (shown call.state.tables node)
-shown_known call spot node row sound is leads = here (is_folder t.nodes node) refl
-  where
-    t : Tables
-    t = call.state.tables
-
-    here : (folds : Bool) → is_folder t.nodes node ≡ folds
-        → Known t call.now (user_of call) (if folds then allowed.List (listing_of t node) else allowed.Get node (content_of t.nodes node))
-    here true folds = record { folder = node; there = folds; of_folder = refl; path = path_known call spot (At node) row sound is leads }
-    here false folds = record { no_folder = folds; of_node = refl; path = path_known call spot (At node) row sound is leads }
-
-served_known : (call : Call) (spot : Spot) (place : Found) (row : UserRow) → AreSound call.state.tables → caller_row call ≡ Some row → found call spot ≡ place
-    → Known call.state.tables call.now (user_of call) (served call.state.tables (node_at (Some place)))
-served_known call spot (At node) row sound is leads = shown_known call spot node row sound is leads
-served_known call spot nowhere row sound is leads = tt
-
--- who asks comes by no mount
-alone : (call : Call) (spot : Spot) (row : UserRow) → AreSound call.state.tables → caller_row call ≡ Some row
-    → by_of call spot ≡ record { seeker = seeker.User row.id; mount = None }
-alone call spot row sound is =
-    ap (λ (way : Way). record { seeker = seeker_of call; mount = way.mount }) (from_root call spot sound.later)
-    ∙ ap (λ (o : Option UserRow). record { seeker = seeker.User (option_map_or (λ row. row.id) o 0); mount = None }) is
-
-granted_known : (call : Call) (spot : Spot) (length : ℕ) (place : Found) (row : UserRow) → AreSound call.state.tables → caller_row call ≡ Some row → length ≤ MAX_BODY
-    → found call spot ≡ place → is_there (is_folder call.state.tables.nodes) (Some place) ≡ false
-    → Known call.state.tables call.now (user_of call) (stored (by_of call spot) (last_name spot) length (Some place))
-unfolding path_known
-granted_known call spot length (Missing depth) row sound is short leads file = tt
-granted_known call spot length (At node) row sound is short leads file = record {
-  short = short;
-  path = path_known call spot (At node) row sound is leads;
-  fits = file;
-  storer = alone call spot row sound is;
-}
-granted_known call spot length (Free folder) row sound is short leads file = record {
-  short = short;
-  path = path_known call spot (Free folder) row sound is leads;
-  fits = free_known call.state.tables.nodes 0 (root_of call) spot.path folder (led_from_root call spot (Free folder) sound leads);
-  storer = alone call spot row sound is;
-}
-
-folder_known : (call : Call) (spot : Spot) (place : Found) (row : UserRow) → AreSound call.state.tables → caller_row call ≡ Some row
-    → found call spot ≡ place → limit_at call.state.tables 0 place ≡ None
-    → Known call.state.tables call.now (user_of call) (made_folder call.state.tables call.now (last_name spot) (Some place))
-folder_known call spot (At node) row sound is leads some = tt
-folder_known call spot (Free folder) row sound is leads some =
-    let t = call.state.tables in
-    let free = free_known t.nodes 0 (root_of call) spot.path folder (led_from_root call spot (Free folder) sound leads) in
-    new_known t call.now folder (last_name spot) Folder [] (user_of call) None 0 sound free.0 free.1
-    (within t 1 (depth t.nodes folder + 1) 0 0 some) (omega arith) refl (λ _. refl) (inr (path_known call spot (Free folder) row sound is leads))
-folder_known call spot (Missing depth) row sound is leads some = tt
-
-deleted_known : (call : Call) (spot : Spot) (place : Found) (row : UserRow) → AreSound call.state.tables → caller_row call ≡ Some row → found call spot ≡ place
-    → is_there (is_root call.state.tables.nodes) (Some place) ≡ false
-    → Known call.state.tables call.now (user_of call) (deleted (node_at (Some place)))
-deleted_known call spot (At node) row sound is leads fits = record { no_root = fits; path = path_known call spot (At node) row sound is leads }
-deleted_known call spot nowhere row sound is leads fits = tt
-
 unless : (b : Bool) (refusal : Denial) → (if b then Some refusal else None) ≡ None → b ≡ false
 unless true refusal none = absurd (cc)
 unless false refusal none = refl
 
+-- ---- one path
+
+-- a call by a caller whose row is there, and a path by whose mount the caller is reached
+module _ (call : Call) (spot : Spot) (row : UserRow) (sound : AreSound call.state.tables) (is : caller_row call ≡ Some row)
+    (reached : unreached (access_of call.state) call (way_of call spot) ≡ None) where
+  abbrev t : Tables
+  t = call.state.tables
+
+  served_known : (place : Found) → found call spot ≡ place
+      → Known t call.now (served (access_of call.state) call (way_of call spot).mount (node_at (Some place)))
+  served_known (At node) leads = here (is_folder t.nodes node) refl
+    where
+      here : (folds : Bool) → is_folder t.nodes node ≡ folds
+          → Known t call.now (if folds then allowed.List (listing_of (access_of call.state) call (way_of call spot).mount node)
+          else allowed.Get node (content_of t.nodes node))
+      here true folds = tt
+      here false folds = record { no_folder = folds; of_node = refl; there = way_there call spot row sound is node reached leads }
+  served_known nowhere leads = tt
+
+  -- who stores by no mount may do so as the owner
+  owner_may : (act : Act) (node : ℕ) (mount : Option ℕ)
+      → may_by (access_of call.state) t.nodes (seeker_of call) call.now act node mount ≡ true → MayStoreBy t (seeker_of call) mount node
+  owner_may act node (Some mount) may = tt
+  owner_may act node None may = here (node_row t.nodes node) refl (alone (is_owner t.nodes (seeker_of call) node) may)
+    where
+      alone : (b : Bool) → (b || false) ≡ true → b ≡ true
+      alone true may = refl
+      alone false may = absurd (cc)
+
+      here : (o : Option NodeRow) → node_row t.nodes node ≡ o → option_map_or (λ row. row.owner == asker_of call) o false ≡ true
+          → MayStoreBy t (seeker_of call) None node
+      here None e own = absurd (cc)
+      here (Some of) e own =
+          let fine = subst (λ (o : Option NodeRow). IfSome o (IsNodeSound t)) e
+          (found_has (IsNodeSound t) (λ (row : NodeRow). row.id == node) t.nodes sound.nodes) in
+          let id : of.id ≡ node = eqb-true of.id node (found_passes (λ (row : NodeRow). row.id == node) t.nodes of e) in
+          record {
+            given = subst (λ (n : ℕ). n < t.meta.next_node) id fine.given;
+            owner = λ row there. ap (λ (r : NodeRow). r.owner) (same_Some row of (sym there ∙ e)) ∙ eqb-true of.owner (asker_of call) own;
+          }
+
+  -- each of some needs may be met
+  abbrev May : Need → Type 0
+  May need = may_by (access_of call.state) t.nodes (seeker_of call) call.now need.act need.node need.mount ≡ true
+
+  abbrev MayAll : List Need → Type 0
+  MayAll needs = All May needs
+
+  granted_known : (length : ℕ) (inside : Bool) (place : Found) → length ≤ MAX_BODY → found call spot ≡ place
+      → is_there (is_folder t.nodes) (Some place) ≡ false
+      → MayAll (target_needs (making.File length) t.nodes (root_of call) inside (way_of call spot))
+      → Known t call.now (stored (by_of call spot) (last_name spot) length (Some place))
+  granted_known length inside (Missing found) short leads file may = tt
+  granted_known length inside (At node) short leads file may =
+      let there = way_there call spot row sound is node reached leads in
+      let asked : target_needs (making.File length) t.nodes (root_of call) inside (way_of call spot) ≡ needs Update (Some node) (way_of call spot).mount =
+      ap (λ (place : Found). if is_some (node_found place) then needs Update (node_found place) (way_of call spot).mount
+      else needs_in t.nodes (root_of call) (way_of call spot)) leads in
+      record {
+        short = short;
+        held = rw there.1 (no_file there.0 (subst (λ (o : Option NodeRow). option_map_or (λ row. is_folder_kind row.kind) o false ≡ false) there.1 file));
+        storer = owner_may Update node (way_of call spot).mount
+            (All-head May (record { act = Update; node = node; mount = (way_of call spot).mount }) [] (subst MayAll asked may));
+      }
+    where
+      no_file : (row : NodeRow) → is_folder_kind row.kind ≡ false → not (is_folder_kind row.kind) ≡ true
+      no_file row none = ap not none
+  granted_known length inside (Free folder) short leads file may =
+      let slot = slot_known call spot row sound is folder reached leads in
+      record { short = short; held = (slot.folds, slot.free); storer = stores (mount_of call spot) refl }
+    where
+      way : Option ℕ → Way
+      way mount = way_by t.nodes (root_of call) spot.path mount
+
+      made : target_needs (making.File length) t.nodes (root_of call) inside (way_of call spot) ≡ needs_in t.nodes (root_of call) (way_of call spot)
+      made =
+          ap (λ (place : Found). if is_some (node_found place) then needs Update (node_found place) (way_of call spot).mount
+          else needs_in t.nodes (root_of call) (way_of call spot)) leads
+
+      stores : (mount : Option ℕ) → mount_of call spot ≡ mount → MayStoreBy t (seeker_of call) (way_of call spot).mount folder
+      stores (Some mount) by = subst (λ (o : Option ℕ). MayStoreBy t (seeker_of call) (way o).mount folder) (sym by) tt
+      stores None none =
+          let at : (way None).place ≡ Free folder = sym (ap (λ (o : Option ℕ). (way o).place) none) ∙ leads in
+          let alone : needs_in t.nodes (root_of call) (way_of call spot) ≡ needs Create (Some folder) None =
+          ap (λ (o : Option ℕ). needs_in t.nodes (root_of call) (way o)) none
+          ∙ ap (λ (place : Found). needs Create (option_or (folder_at t.nodes place) (node_found place)) None) at in
+          subst (λ (o : Option ℕ). MayStoreBy t (seeker_of call) (way o).mount folder) (sym none)
+          (owner_may Create folder None (All-head May (record { act = Create; node = folder; mount = None }) [] (subst MayAll (made ∙ alone) may)))
+
+  folder_known : (place : Found) → found call spot ≡ place → limit_at t 0 place ≡ None
+      → Known t call.now (made_folder t call.now (last_name spot) (Some place))
+  folder_known (At node) leads some = tt
+  folder_known (Free folder) leads some =
+      let slot = slot_known call spot row sound is folder reached leads in
+      new_known t call.now folder (last_name spot) Folder [] None 0 sound slot.folds slot.free slot.unmounted
+      (within t 1 (depth t.nodes folder + 1) 0 0 some) (omega arith) refl (λ _. refl)
+  folder_known (Missing found) leads some = tt
+
+  deleted_known : (place : Found) → found call spot ≡ place → is_there (is_root t.nodes) (Some place) ≡ false
+      → Known t call.now (deleted (node_at (Some place)))
+  deleted_known (At node) leads fits = record { no_root = fits; there = way_there call spot row sound is node reached leads }
+  deleted_known nowhere leads fits = tt
+
+-- ---- a mount that gets another name
+
+-- the target is a free name in the caller's root, where no rule refuses that
+free_name : (call : Call) (source target : Spot) (row : UserRow) → AreSound call.state.tables → caller_row call ≡ Some row
+    → unreached (access_of call.state) call (way_of call target) ≡ None
+    → unfit_between call.state.tables.nodes (root_of call) true (record { source = Some (way_of call source); target = Some (way_of call target) }) ≡ None
+    → IsFreeName call.state.tables (asker_of call) (last_name target)
+free_name call source target row sound is reached fits =
+    here (found call target) refl (not_false (is_free_in (root_of call) (found call target)) (fit_parts t.nodes false
+    (is_off_mount (root_of call) true (way_of call target))
+    (transfer_between t.nodes (root_of call) (record { source = Some (way_of call source); target = Some (way_of call target) })) fits).on)
+  where
+    t : Tables
+    t = call.state.tables
+
+    not_false : (b : Bool) → not b ≡ false → b ≡ true
+    not_false true h = refl
+    not_false false h = absurd (cc)
+
+    here : (place : Found) → found call target ≡ place → is_free_in (root_of call) place ≡ true → IsFreeName t (asker_of call) (last_name target)
+    here (Free folder) leads free =
+        let slot = slot_known call target row sound is folder reached leads in
+        let root = root_is call row sound is in
+        let same : folder ≡ root_of call = eqb-true folder (root_of call) free in
+        let asks : row.id ≡ asker_of call = sym (ap (λ (o : Option UserRow). option_map_or (λ row. row.id) o 0) is) in
+        let known = (row_of_caller t.users (user_of call) row is).1 in
+        let of_user : root_of call ≡ root_folder t.users (asker_of call) =
+        ap (λ (o : Option UserRow). option_map_or (λ row. row.root) o 0) (is ∙ sym known) ∙ ap (root_folder t.users) asks in
+        let owner : owner_of t.nodes folder ≡ asker_of call =
+        ap (owner_of t.nodes) same ∙ ap (λ (o : Option NodeRow). option_map_or (λ row. row.owner) o 0) root.there ∙ root.owner ∙ asks in
+        let rooted : is_root t.nodes folder ≡ true =
+        ap (is_root t.nodes) same ∙ ap (λ (o : Option NodeRow). option_map_or (λ row. is_root_place row.place) o false) root.there
+        ∙ ap is_root_place root.place in
+        record {
+          free = ap (λ (n : ℕ). child_of t.nodes n (last_name target)) (sym (same ∙ of_user)) ∙ slot.free;
+          apart = ap (λ (n : ℕ). mount_at t.mounts n (last_name target)) (sym owner) ∙ slot.unmounted rooted;
+        }
+    here place leads free = absurd (cc)
+
+-- ---- what is wanted
+
 -- where the paths of something wanted lead
 abbrev pub places_at : Call → Wanted → Places
-places_at call wanted =
-    record { source = option_map (found call) (asked_of wanted).source; target = option_map (found call) (asked_of wanted).target }
+places_at call wanted = places_by (asked_of wanted) (ways_for call (asked_of wanted))
 
-wanted_known : (call : Call) (wanted : Wanted) (row : UserRow) → AreSound call.state.tables → caller_row call ≡ Some row
-    → IsShort (asked_of wanted).makes
-    → taken call.state.tables.nodes (places_at call wanted) (asked_of wanted).makes ≡ None
-    → unfit call.state.tables.nodes (asked_of wanted) (places_at call wanted) ≡ None
-    → limited call.state.tables (places_at call wanted) (asked_of wanted).makes ≡ None
-    → Known call.state.tables call.now (user_of call) (given (access_of call.state) call (places_at call wanted) wanted)
-wanted_known call (Get spot) row sound is short free fits some = served_known call spot (found call spot) row sound is refl
-wanted_known call (Put spot length) row sound is short free fits some = granted_known call spot length (found call spot) row sound is short refl (unless _ _ free)
-wanted_known call (Mkcol spot) row sound is short free fits some = folder_known call spot (found call spot) row sound is refl some
-wanted_known call (Delete spot) row sound is short free fits some = deleted_known call spot (found call spot) row sound is refl (passed _ _ fits)
-wanted_known call (Move source target overwrite) row sound is short free fits some = moved_known call source target row sound is fits some
-wanted_known call (Copy source target overwrite) row sound is short free fits some = copied_known call source target row sound is fits some
+-- where the path of what is removed leads, unless it is that of a mount itself
+abbrev pub only_at : Bool → Found → Places
+only_at itself place = if itself then record { source = None; target = None } else record { source = Some place; target = None }
+
+-- what passes the rules, by what is wanted
+pub record WantedPasses (call : Call) (wanted : Wanted) : Type 0 where
+  pub short : IsShort (asked_of wanted).makes
+  pub place : PlacePasses (access_of call.state) call (asked_of wanted)
+  pub may : All (λ (need : Need). may_by (access_of call.state) call.state.tables.nodes (seeker_of call) call.now need.act need.node need.mount ≡ true)
+      (needs_between call.state.tables.nodes (root_of call) (asked_of wanted) (option_map (way_of call) (asked_of wanted).source)
+      (option_map (way_of call) (asked_of wanted).target))
+  pub free : taken call.state.tables.nodes (places_at call wanted) (asked_of wanted).makes ≡ None
+  pub fits : unfit call.state.tables.nodes (root_of call) (asked_of wanted) (ways_for call (asked_of wanted)) ≡ None
+  pub few : limited call.state.tables (places_at call wanted) (asked_of wanted).makes ≡ None
+
+module _ (call : Call) (row : UserRow) (sound : AreSound call.state.tables) (is : caller_row call ≡ Some row) where
+  abbrev all : Tables
+  all = call.state.tables
+
+  abbrev IsKnown : Allowed → Type 0
+  IsKnown act = Known all call.now act
+
+  delete_known : (spot : Spot) (b : Bool) → (way_of call spot).itself ≡ b
+      → (b ≡ false → unreached (access_of call.state) call (way_of call spot) ≡ None)
+      → (if not b && is_root_at all.nodes (Some (way_of call spot)) then Some target.Root else None) ≡ None
+      → IsKnown (if b then mount_left call (way_of call spot)
+      else deleted (node_at (only_at b (found call spot)).source))
+  delete_known spot true itself reached fits = left_known call spot sound itself
+  delete_known spot false itself reached fits = deleted_known call spot row sound is (reached refl) (found call spot) refl (passed _ _ fits)
+
+  move_known : (source to : Spot) (b : Bool) → (way_of call source).itself ≡ b
+      → (b ≡ false → unreached (access_of call.state) call (way_of call source) ≡ None)
+      → unreached (access_of call.state) call (way_of call to) ≡ None
+      → unfit_between all.nodes (root_of call) b (record { source = Some (way_of call source); target = Some (way_of call to) }) ≡ None
+      → limited all (if b then record { source = None; target = None } else record { source = Some (found call source); target = Some (found call to) })
+      making.Moved ≡ None
+      → IsKnown (if b then mount_renamed call (way_of call source) (last_name to)
+      else moved all call.now (last_name to)
+      (transfer_of all.nodes (if b then record { source = None; target = None } else record { source = Some (found call source); target = Some (found call to) })))
+  move_known source to true itself from_reached to_reached fits some =
+      renamed_known call source sound (last_name to) itself (free_name call source to row sound is to_reached fits)
+  move_known source to false itself from_reached to_reached fits some =
+      moved_known call source to row sound is (from_reached refl) to_reached fits some
+
+  pub wanted_known : (wanted : Wanted) → WantedPasses call wanted → IsKnown (given (access_of call.state) call (places_at call wanted) wanted)
+  wanted_known (Get spot) p = served_known call spot row sound is (p.place.source refl) (found call spot) refl
+  wanted_known (Put spot length) p =
+      granted_known call spot row sound is p.place.target length
+      (is_within all.nodes (root_of call) None (Some (way_of call spot))) (found call spot) p.short refl (unless _ _ p.free) p.may
+  wanted_known (Mkcol spot) p = folder_known call spot row sound is p.place.target (found call spot) refl p.few
+  wanted_known (Delete spot) p = delete_known spot (way_of call spot).itself refl p.place.source p.fits
+  wanted_known (Move source to overwrite) p =
+      move_known source to (way_of call source).itself refl p.place.source p.place.target p.fits p.few
+  wanted_known (Copy source to overwrite) p =
+      copied_known call source to row sound is (p.place.source refl) p.place.target p.fits p.few
+
+pub wanted_passes : (call : Call) → MayWant call.request → Passes (access_of call.state) call → WantedPasses call call.request.wanted
+unfolding exists_rule target_rule limit_rule
+wanted_passes call may p = record {
+  short = may.short;
+  place = place_passes (access_of call.state) call p.place;
+  may = acts_pass (access_of call.state) call p.acts;
+  free = p.exists;
+  fits = no_fault _ p.target;
+  few = no_limit _ p.limit;
+}
 
 pub call_known : (call : Call) (act : Allowed) → IsSound call.state → MayWant call.request → call_decision call ≡ Ok act
-    → Known call.state.tables call.now (user_of call) act
-unfolding exists_rule target_rule limit_rule
+    → Known call.state.tables call.now act
 call_known call act sound may is =
     let h = call_passes call act is in
     let row = has_row call may h.0.not_you in
-    subst (λ (a : Allowed). Known call.state.tables call.now (user_of call) a) h.1
-    (wanted_known call call.request.wanted row.0 sound.rows row.1 may.short h.0.exists (no_fault _ h.0.target) (no_limit _ h.0.limit))
+    subst (λ (a : Allowed). Known call.state.tables call.now a) h.1
+    (wanted_known call row.0 sound.rows row.1 call.request.wanted (wanted_passes call may h.0))

@@ -1,25 +1,23 @@
 -- What is known of an End, and of every step, that no rule refuses.
-use Rattle.std.proofs.Common.{◌≡◌, ℕ, ◌+◌, ◌≤◌, ◌==◌, inl, not, sym, true, false, List, Result, Ok, Option, refl, subst, arith}
-use Rattle.std.specs.Prelude.{None, Some, option_map, option_and_then}
+use Rattle.std.proofs.Common.{◌≡◌, ℕ, ◌+◌, ◌≤◌, ◌==◌, ◌&&◌, inl, not, sym, Bool, true, false, List, Result, Ok, Option, refl, subst, arith}
+use Rattle.std.specs.Prelude.{None, Some, is_some, option_map, if◌then◌else◌}
 use Rattle.std.specs.Option.{IfSome, option_map_or}
 use Rattle.std.proofs.lemmas.Bool.{not-true}
+use Rattle.nf_access.specs.Mounts.{mount_at}
 use Rattle.nf_base.specs.declared.limits.TheConstants.{MAX_BODY}
 use Rattle.nf_base.specs.declared.rows.NodeKind.TheVariants.{File}
 use Rattle.nf_base.specs.declared.rows.NodeRow.{NodeRow}
-use Rattle.nf_defs.specs.Prelude.{Access, depth, is_folder_kind, node_row, Tables}
-use Rattle.nf_defs.specs.declared.Seeker.{Seeker}
-use Rattle.nf_defs.specs.declared.Seeker.TheVariants as seeker
+use Rattle.nf_defs.specs.Prelude.{Access, depth, is_folder_kind, is_root, node_row, owner_of, Tables}
 use Rattle.nf_words.proofs.Begins.{call_known}
 use Rattle.nf_words.proofs.Bodies.{body_known}
-use Rattle.nf_words.proofs.Fits.{KnownOwn, Within, new_known, over_known, within}
+use Rattle.nf_words.proofs.Fits.{Within, new_known, over_known, within}
 use Rattle.nf_words.proofs.Found.{found_has}
 use Rattle.nf_words.proofs.Known.{Known}
 use Rattle.nf_words.proofs.Passing.{end_passes, not_refused}
-use Rattle.nf_words.specs.Prelude.{access_of, actor_of, AreSound, blob_for, call_of, content_in, decision_of, end_refusal, ends_at, ends_goal, goal_at, HoldsFor, IsGoalSound, IsHeld, IsSound, IsStorable, IsTicketSound, limit_at, MayAsk, MayBring, MayEnd, MayStoreAt, node_of_key, pieces_of, place_of, refilled, State, stored_at, storer_of, ticket_of, user_in}
-use Rattle.nf_words.specs.Sound.{MayStoreBy}
+use Rattle.nf_words.specs.Prelude.{access_of, AreSound, blob_for, call_of, content_in, decision_of, end_lost, end_refusal, ends_at, ends_goal, goal_at, HoldsFor, IsGoalSound, IsHeld, IsSound, IsStorable, IsTicketSound, IsUnmounted, limit_at, MayAsk, MayBring, MayEnd, pieces_of, place_of, refilled, State, stored_at, ticket_of}
 use Rattle.nf_words.specs.declared.answer.Allowed.{Allowed}
 use Rattle.nf_words.specs.declared.answer.Allowed.TheVariants as allowed
-use Rattle.nf_words.specs.declared.answer.By.{By}
+use Rattle.nf_words.specs.declared.answer.Denial.TheVariants as denial
 use Rattle.nf_words.specs.declared.answer.Denial.{Denial}
 use Rattle.nf_words.specs.declared.answer.Goal.{Goal}
 use Rattle.nf_words.specs.declared.answer.Goal.TheVariants.{Serve, Store}
@@ -33,12 +31,15 @@ use Rattle.nf_words.specs.declared.history.Outcome.{Outcome}
 use Rattle.nf_words.specs.declared.history.Outcome.TheVariants.{Body}
 use Rattle.nf_words.specs.declared.history.Ticket.{Ticket}
 
-own_known : (t : Tables) (by : By) (node : ℕ) → MayStoreAt t by node → KnownOwn t (user_in by.seeker) node
-own_known t by node own = here by.seeker by.mount own
+-- in a root no mount took the name meanwhile
+name_unmounted : (t : Tables) (folder : ℕ) (name : List ℕ) → end_lost t (Slot folder name) ≡ None → IsUnmounted t folder name
+name_unmounted t folder name there root =
+    none_there (mount_at t.mounts (owner_of t.nodes folder) name) (is_root t.nodes folder) root there
   where
-    here : (who : Seeker) (mount : Option ℕ) → MayStoreBy t who mount node → KnownOwn t (user_in who) node
-    here (seeker.User user) None own = record { user = user; holder = refl; own = own }
-    here who mount own = absurd own
+    none_there : (o : Option ℕ) (b : Bool) → b ≡ true → (if b && is_some o then Some denial.NotFound else None) ≡ None → o ≡ None
+    none_there None b root there = refl
+    none_there (Some node) true root there = absurd (cc)
+    none_there (Some node) false root there = absurd (cc)
 
 -- a file that is there has a row
 file_row : (o : Option NodeRow) → option_map_or (λ row. not (is_folder_kind row.kind)) o false ≡ true
@@ -46,44 +47,42 @@ file_row : (o : Option NodeRow) → option_map_or (λ row. not (is_folder_kind r
 file_row None is = absurd (cc)
 file_row (Some row) is = (row, refl, not-true (is_folder_kind row.kind) is)
 
-key_known : (t : Tables) (now : ℕ) (by : By) (key : LockKey) (digest : List ℕ) (size : ℕ) → AreSound t → size ≤ MAX_BODY
-    → MayStoreAt t by (node_of_key key)
-    → IsHeld t key → limit_at t (pieces_of size) (place_of key) ≡ None
-    → Known t now (user_in by.seeker) (stored_at t now key digest size)
-key_known t now by (Node node) digest size sound few own held some =
+key_known : (t : Tables) (now : ℕ) (key : LockKey) (digest : List ℕ) (size : ℕ) → AreSound t → size ≤ MAX_BODY
+    → IsHeld t key → end_lost t key ≡ None → limit_at t (pieces_of size) (place_of key) ≡ None
+    → Known t now (stored_at t now key digest size)
+key_known t now (Node node) digest size sound few held there some =
     let body = body_known t.meta digest size few in
     let blob = blob_for t.meta.next_blob size in
     let content = content_in blob digest size in
     let file = file_row (node_row t.nodes node) held in
-    subst (λ (o : Option NodeRow). Known t now (user_in by.seeker) (allowed.Change (refilled o now content) blob Done)) (sym file.1)
-    (over_known t now node content (user_in by.seeker) blob file.0 sound file.1 file.2
+    subst (λ (o : Option NodeRow). Known t now (allowed.Change (refilled o now content) blob Done)) (sym file.1)
+    (over_known t now node content blob file.0 sound file.1 file.2
     (omega (arith, body.counted, (within t 0 0 (pieces_of size) (pieces_of size) some).next_blob))
-    (inl (omega (arith, body.pieces, (within t 0 0 (pieces_of size) (pieces_of size) some).pieces))) (inl body.of_body)
-    (inl (own_known t by node own)))
-key_known t now by (Slot folder name) digest size sound few own held some =
+    (inl (omega (arith, body.pieces, (within t 0 0 (pieces_of size) (pieces_of size) some).pieces))) (inl body.of_body))
+key_known t now (Slot folder name) digest size sound few held there some =
     let body = body_known t.meta digest size few in
     let blob = blob_for t.meta.next_blob size in
-    new_known t now folder name File (content_in blob digest size) (user_in by.seeker) blob (pieces_of size) sound held.0 held.1
+    new_known t now folder name File (content_in blob digest size) blob (pieces_of size) sound held.0 held.1 (name_unmounted t folder name there)
     (subst (λ (n : ℕ). Within t 1 (depth t.nodes folder + 1) n (pieces_of size)) (sym body.pieces)
     (within t 1 (depth t.nodes folder + 1) (pieces_of size) (pieces_of size) some))
-    (omega (arith, body.counted)) body.of_body (λ e. absurd (cc)) (inl (own_known t by folder own))
+    (omega (arith, body.counted)) body.of_body (λ e. absurd (cc))
 
-closes : (t : Tables) (now : ℕ) (who : Option ℕ) (act : Allowed) → ◌≡◌ {A = Result Allowed Denial} (Ok allowed.Close) (Ok act) → Known t now who act
-closes t now who act is = let e : allowed.Close ≡ act = cc in subst (λ (a : Allowed). Known t now who a) e tt
+closes : (t : Tables) (now : ℕ) (act : Allowed) → ◌≡◌ {A = Result Allowed Denial} (Ok allowed.Close) (Ok act) → Known t now act
+closes t now act is = let e : allowed.Close ≡ act = cc in subst (λ (a : Allowed). Known t now a) e tt
 
 goal_known : (access : Access) (t : Tables) (now : ℕ) (goal : Goal) (outcome : Outcome) (act : Allowed) → AreSound t
-    → IsGoalSound t goal → IsStorable t goal → MayBring goal outcome → ends_goal access t now outcome goal ≡ Ok act → Known t now (storer_of goal) act
+    → IsGoalSound t goal → IsStorable t goal → MayBring goal outcome → ends_goal access t now outcome goal ≡ Ok act → Known t now act
 goal_known access t now (Serve content) (Body digest size) act sound goal held may is = absurd may
 goal_known access t now (Store by key wanted) (Body digest size) act sound goal held may is =
     let h = not_refused (end_refusal access t now by key size) (stored_at t now key digest size) act is in
     let short : size ≤ MAX_BODY = omega (arith, may, goal.0) in
-    subst (λ (a : Allowed). Known t now (user_in by.seeker) a) h.1
-    (key_known t now by key digest size sound short goal.1 held (end_passes access t now by key size h.0).limit)
-goal_known access t now goal without act sound of held may is = closes t now (storer_of goal) act is
+    let passes = end_passes access t now by key size h.0 in
+    subst (λ (a : Allowed). Known t now a) h.1 (key_known t now key digest size sound short held passes.there passes.limit)
+goal_known access t now goal without act sound of held may is = closes t now act is
 
 end_known : (access : Access) (t : Tables) (now : ℕ) (goal : Option Goal) (outcome : Outcome) (act : Allowed) → AreSound t
     → IfSome goal (IsGoalSound t) → IfSome goal (IsStorable t) → MayEnd goal outcome → ends_at access t now outcome goal ≡ Ok act
-    → Known t now (option_and_then storer_of goal) act
+    → Known t now act
 end_known access t now None outcome act sound of held may is = absurd may
 end_known access t now (Some goal) outcome act sound of held may is = goal_known access t now goal outcome act sound of held may is
 
@@ -110,7 +109,7 @@ goal_held s seat sound = here (ticket_of s seat) (found_has (IsTicketSound s.tab
 -- ---- every step
 
 pub known_change : (s : State) (seat now : ℕ) (event : Event) (act : Allowed) → IsSound s
-    → MayAsk s seat event → decision_of s seat now event ≡ Ok act → Known s.tables now (actor_of s seat event) act
+    → MayAsk s seat event → decision_of s seat now event ≡ Ok act → Known s.tables now act
 known_change s seat now (Begin words request) act sound asked is = call_known (call_of s seat now words request) act sound asked.1 is
 known_change s seat now (End outcome) act sound asked is =
     end_known (access_of s) s.tables now (goal_at s seat) outcome act sound.rows (goal_sound s seat sound) (goal_held s seat sound) asked is

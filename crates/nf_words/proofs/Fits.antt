@@ -3,9 +3,7 @@ use Rattle.std.proofs.Common.{◌≡◌, ◌≢◌, ◌⊎◌, ℕ, ◌+◌, ◌
 use Rattle.std.specs.Prelude.{None, Some}
 use Rattle.std.specs.List.{All}
 use Rattle.std.specs.Option.{IfSome}
-use Rattle.std.specs.declared.cmp.Ordering.{Ordering}
-use Rattle.std.specs.declared.cmp.Ordering.TheVariants.{Equal, Greater, Less}
-use Rattle.std.proofs.lemmas.Bool.{and_from, both_ways, cases_Bool, eq-eqb, eqb-true, ltb-false, ne_eqb}
+use Rattle.std.proofs.lemmas.Bool.{and_from, both_ways, cases_Bool, eq-eqb, eqb-true, ltb-false}
 use Rattle.std.proofs.lemmas.List.Elements.{All-cons, All-nil, All-weaker}
 use Rattle.std.proofs.lemmas.Option.{same_Some}
 use Rattle.nf_base.specs.Content.{content_eq}
@@ -14,16 +12,14 @@ use Rattle.nf_base.specs.declared.changes.Change.TheVariants.{Put}
 use Rattle.nf_base.specs.declared.content.Piece.{Piece}
 use Rattle.nf_base.specs.declared.limits.TheConstants.{MAX_DEPTH, MAX_NODES, MAX_STORED_PIECES}
 use Rattle.nf_base.specs.declared.rows.NodeKind.{NodeKind}
+use Rattle.nf_base.specs.declared.rows.MountRow.{MountRow}
 use Rattle.nf_base.specs.declared.rows.NodeRow.{NodeRow}
 use Rattle.nf_base.specs.declared.rows.Row.TheVariants as rows
-use Rattle.nf_base.specs.declared.rows.UserRow.{UserRow}
-use Rattle.nf_defs.specs.Prelude.{by_order, child_of, depth, filled, found_from, is_folder, is_folder_kind, key_cmp, made, node_key, node_row, put, Tables, user_row}
-use Rattle.nf_defs.specs.declared.Found.{Found}
-use Rattle.nf_defs.specs.declared.Found.TheVariants.{At, Free}
-use Rattle.nf_defs.proofs.Puts.{below_one, turned}
+use Rattle.nf_base.specs.declared.rows.ShareRow.{ShareRow}
+use Rattle.nf_defs.specs.Prelude.{child_of, depth, filled, is_folder, is_folder_kind, made, node_key, node_row, put, Tables}
 use Rattle.nf_words.proofs.Bodies.{IsOfBody, body_sound, content_decides, refills_none}
-use Rattle.nf_words.proofs.Found.{found_has, found_passes}
-use Rattle.nf_words.specs.Prelude.{AreSound, blob_after, counted, IsBorn, IsFilled, IsLean, IsNodeSound, IsOwn, IsPieceSound, last_number, limit_passed, new_node, raised, refilled, stored_pieces}
+use Rattle.nf_words.proofs.Found.{found_has, found_passes, put_is_found}
+use Rattle.nf_words.specs.Prelude.{AreSound, blob_after, counted, IsBorn, IsFilled, IsLean, IsMountSound, IsNodeSound, IsPieceSound, IsRemounted, IsShareSound, IsUnmounted, last_number, limit_passed, new_node, raised, refilled, stored_pieces}
 use Rattle.nf_words.specs.declared.answer.Limit.TheVariants as limit
 
 -- ---- limits
@@ -55,51 +51,32 @@ within t nodes deep pieces blobs none =
 
 -- ---- what is known of changes
 
--- who acts owns the node, as long as it is there
-pub record KnownOwn (t : Tables) (who : Option ℕ) (node : ℕ) : Type 0 where
-  pub user : ℕ
-  pub holder : who ≡ Some user
-  pub own : IsOwn t user node
-
--- a path leads there from the root of who acts
-pub record KnownPath (t : Tables) (who : Option ℕ) (place : Found) : Type 0 where
-  pub row : UserRow
-  pub caller : who ≡ Some row.id
-  pub there : user_row t.users row.id ≡ Some row
-  pub names : List (List ℕ)
-  pub leads : found_from t.nodes 0 row.root names ≡ place
-
--- who acts owns a node, or is led there
-abbrev pub KnownAt : Tables → Option ℕ → ℕ → Found → Type 0
-KnownAt t who node place = KnownOwn t who node ⊎ KnownPath t who place
-
--- a new node, with a number that wasn't given before and the content of a body, in a folder of who acts
-pub record KnownBorn (first : Tables) (who blob : Option ℕ) (t : Tables) (row : NodeRow) : Type 0 where
+-- a new node, with a number that wasn't given before and the content of a body
+pub record KnownBorn (first : Tables) (blob : Option ℕ) (t : Tables) (row : NodeRow) : Type 0 where
   pub born : IsBorn t row
   pub fresh : first.meta.next_node ≤ row.id
-  pub at : KnownAt first who born.folder (Free born.folder)
   pub body : IsOfBody first.meta blob row.content
 
--- a file of who acts, with the content of a body or the one that it has
-pub record KnownFilled (first : Tables) (who blob : Option ℕ) (t : Tables) (row : NodeRow) : Type 0 where
+-- a file, with the content of a body or the one that it has
+pub record KnownFilled (first : Tables) (blob : Option ℕ) (t : Tables) (row : NodeRow) : Type 0 where
   pub filled : IsFilled t row
   pub given : row.id < first.meta.next_node
-  pub at : KnownAt first who row.id (At row.id)
   pub body : IsOfBody first.meta blob row.content ⊎ ((blob ≡ None) × (row.content ≡ filled.old.content))
 
 -- what is known of a change in the tables that it meets, by the kind of its row; a kind that isn't built yet isn't changed
-abbrev pub KnownRow : Tables → Option ℕ → Option ℕ → Tables → Change → Type 0
-KnownRow first who blob t (Put (rows.Node row)) = KnownBorn first who blob t row ⊎ KnownFilled first who blob t row
-KnownRow first who blob t other = ⊥
+abbrev pub KnownRow : Tables → Option ℕ → Tables → Change → Type 0
+KnownRow first blob t (Put (rows.Node row)) = KnownBorn first blob t row ⊎ KnownFilled first blob t row
+KnownRow first blob t (Put (rows.Mount row)) = (blob ≡ None) × IsRemounted t row
+KnownRow first blob t other = ⊥
 
 -- each in the tables that those before it make
-abbrev pub KnownRows : Tables → Option ℕ → Option ℕ → Tables → List Change → Type 0
-KnownRows first who blob t [] = Unit {0}
-KnownRows first who blob t (change ∷ changes) = KnownRow first who blob t change × KnownRows first who blob (made t change) changes
+abbrev pub KnownRows : Tables → Option ℕ → Tables → List Change → Type 0
+KnownRows first blob t [] = Unit {0}
+KnownRows first blob t (change ∷ changes) = KnownRow first blob t change × KnownRows first blob (made t change) changes
 
 -- some changes, and the blob that is stored with them
-pub record KnownChange (t : Tables) (now : ℕ) (who : Option ℕ) (changes : List Change) (blob : Option ℕ) : Type 0 where
-  pub rows : KnownRows t who blob (raised t now changes blob) changes
+pub record KnownChange (t : Tables) (now : ℕ) (changes : List Change) (blob : Option ℕ) : Type 0 where
+  pub rows : KnownRows t blob (raised t now changes blob) changes
   pub lean : IsLean t changes
   pub stored : changes ≡ [] → blob ≡ None
   pub next_node : (counted t.meta changes).next_node ≤ max t.meta.next_node last_number
@@ -109,16 +86,9 @@ pub record KnownChange (t : Tables) (now : ℕ) (who : Option ℕ) (changes : Li
 
 -- a node that is put is found
 pub put_found : (row : NodeRow) (old : List NodeRow) → node_row (put node_key row old) row.id ≡ Some row
-put_found row [] = rw (eq-eqb row.id row.id refl) refl
-put_found row (x ∷ old) = here (key_cmp (node_key row) (node_key x)) refl (put_found row old)
-  where
-    here : (o : Ordering) → key_cmp (node_key row) (node_key x) ≡ o → node_row (put node_key row old) row.id ≡ Some row
-        → node_row (by_order o (row ∷ x ∷ old) (row ∷ old) (x ∷ put node_key row old)) row.id ≡ Some row
-    here Less e rest = rw (eq-eqb row.id row.id refl) refl
-    here Equal e rest = rw (eq-eqb row.id row.id refl) refl
-    here Greater e rest =
-        let below : x.id < row.id = below_one x.id row.id (turned (node_key row) (node_key x) Greater e) in
-        simp (ne_eqb x.id row.id (λ same. absurd (omega arith))) rest
+put_found row old =
+    put_is_found node_key (λ (x : NodeRow). x.id == row.id) row old (eq-eqb row.id row.id refl)
+    (λ x same. ap (λ (n : ℕ). n ∷ []) (eqb-true x.id row.id same))
 
 -- so one whose row isn't there makes other tables
 put_differs : (t : Tables) (row : NodeRow) → node_row t.nodes row.id ≢ Some row → made t (Put (rows.Node row)) ≢ t
@@ -146,12 +116,12 @@ not_there t row sound id = λ is.
     (found_has (λ (old : NodeRow). old.id < t.meta.next_node) (λ (old : NodeRow). old.id == row.id) t.nodes (newest t sound)) in
     absurd (omega (arith, given, id))
 
-pub new_known : (t : Tables) (now folder : ℕ) (name : List ℕ) (kind : NodeKind) (content : List Piece) (who blob : Option ℕ) (blobs : ℕ)
-    → AreSound t → is_folder t.nodes folder ≡ true → child_of t.nodes folder name ≡ None
+pub new_known : (t : Tables) (now folder : ℕ) (name : List ℕ) (kind : NodeKind) (content : List Piece) (blob : Option ℕ) (blobs : ℕ)
+    → AreSound t → is_folder t.nodes folder ≡ true → child_of t.nodes folder name ≡ None → IsUnmounted t folder name
     → Within t 1 (depth t.nodes folder + 1) (length content) blobs → blob_after t.meta.next_blob blob ≤ t.meta.next_blob + blobs
-    → IsOfBody t.meta blob content → (is_folder_kind kind ≡ true → content ≡ []) → KnownAt t who folder (Free folder)
-    → KnownChange t now who (Put (rows.Node (new_node t now folder name kind content)) ∷ []) blob
-new_known t now folder name kind content who blob blobs sound there free fits counts body empty at =
+    → IsOfBody t.meta blob content → (is_folder_kind kind ≡ true → content ≡ [])
+    → KnownChange t now (Put (rows.Node (new_node t now folder name kind content)) ∷ []) blob
+new_known t now folder name kind content blob blobs sound there free unmounted fits counts body empty =
     let row = new_node t now folder name kind content in
     let up = raised t now (Put (rows.Node row) ∷ []) blob in
     record {
@@ -163,7 +133,10 @@ new_known t now folder name kind content who blob blobs sound there free fits co
             in_folder = there;
             owner = refl;
             free = free;
+            unmounted = unmounted;
             newest = newest t sound;
+            unshared = All-weaker (IsShareSound t) (λ (share : ShareRow). share.node < t.meta.next_node) (λ share s. s.node) t.shares sound.others.shares;
+            unused = All-weaker (IsMountSound t) (λ (mount : MountRow). mount.node < t.meta.next_node) (λ mount s. s.node) t.mounts sound.others.mounts;
             given = omega arith;
             changed = le_refl _;
             pieces = body_sound t.meta up blob content sound.counters body (le_refl _);
@@ -173,7 +146,6 @@ new_known t now folder name kind content who blob blobs sound there free fits co
             few_pieces = fits.pieces;
           };
           fresh = le_refl _;
-          at = at;
           body = body;
         }),
         tt,
@@ -186,13 +158,13 @@ new_known t now folder name kind content who blob blobs sound there free fits co
 
 -- ---- another content
 
-pub over_known : (t : Tables) (now node : ℕ) (content : List Piece) (who blob : Option ℕ) (old : NodeRow)
+pub over_known : (t : Tables) (now node : ℕ) (content : List Piece) (blob : Option ℕ) (old : NodeRow)
     → AreSound t → node_row t.nodes node ≡ Some old → is_folder_kind old.kind ≡ false
     → blob_after t.meta.next_blob blob ≤ max t.meta.next_blob last_number
     → (stored_pieces t + length content ≤ MAX_STORED_PIECES) ⊎ (content ≡ old.content)
-    → IsOfBody t.meta blob content ⊎ ((blob ≡ None) × (content ≡ old.content)) → KnownAt t who node (At node)
-    → KnownChange t now who (refilled (Some old) now content) blob
-over_known t now node content who blob old sound there file counts few body led =
+    → IsOfBody t.meta blob content ⊎ ((blob ≡ None) × (content ≡ old.content))
+    → KnownChange t now (refilled (Some old) now content) blob
+over_known t now node content blob old sound there file counts few body =
     elim (cases_Bool (content_eq old.content content && old.changed == now)) [
       | inl same ↦ simp same (record {
         rows = tt;
@@ -236,7 +208,7 @@ over_known t now node content who blob old sound there file counts few body led 
         ((content_decides old.content content).1 (ap (λ (r : NodeRow). r.content) it))
         (eq-eqb old.changed now (ap (λ (r : NodeRow). r.changed) it)))
 
-    changed : (content_eq old.content content && old.changed == now) ≡ false → KnownChange t now who (Put (rows.Node row) ∷ []) blob
+    changed : (content_eq old.content content && old.changed == now) ≡ false → KnownChange t now (Put (rows.Node row) ∷ []) blob
     changed other =
         let up = raised t now (Put (rows.Node row) ∷ []) blob in
         record {
@@ -252,7 +224,6 @@ over_known t now node content who blob old sound there file counts few body led 
                 few_pieces = few;
               };
               given = is.given;
-              at = subst (λ (n : ℕ). KnownAt t who n (At n)) (sym id) led;
               body = body;
             }),
             tt,

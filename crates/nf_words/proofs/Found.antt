@@ -1,13 +1,19 @@
 -- What a look-up by names finds.
-use Rattle.std.proofs.Common.{◌≡◌, ℕ, ◌+◌, ◌-◌, ◌<◌, ◌&&◌, bytes_eq, find, slice_get, unwrap_or, sym, Bool, true, false, List, [], ◌∷◌, length, suc, ◌∙◌, Option, option_map, if◌then◌else◌, refl, ap, subst, arith}
+use Rattle.std.proofs.Common.{◌≡◌, ℕ, ◌+◌, ◌-◌, ◌<◌, ◌&&◌, inl, inr, bytes_eq, find, slice_get, unwrap_or, sym, Bool, true, false, List, [], ◌∷◌, length, suc, ◌∙◌, Option, option_map, if◌then◌else◌, refl, ap, subst, arith}
 use Rattle.std.specs.Prelude.{None, Some}
 use Rattle.std.specs.List.{All, AllPairs}
 use Rattle.std.specs.Option.{IfSome, option_and_then}
-use Rattle.std.proofs.lemmas.Bool.{and_parts}
+use Rattle.std.proofs.lemmas.Bool.{and_parts, cases_Bool}
+use Rattle.std.proofs.lemmas.Cmp.{tied_itself}
 use Rattle.std.proofs.lemmas.List.Elements.{All-head, All-tail}
 use Rattle.std.proofs.lemmas.Option.{none-some, same_Some}
+use Rattle.std.proofs.lemmas.Slice.Eq.{bytes_eq-Decides}
+use Rattle.std.specs.declared.cmp.Ordering.{Ordering}
+use Rattle.std.specs.declared.cmp.Ordering.TheVariants.{Equal, Greater, Less}
 use Rattle.nf_base.specs.declared.rows.NodeRow.{NodeRow}
-use Rattle.nf_defs.specs.Prelude.{child_of, folder_of, found_from, is_folder, is_in, node_row, onward, parent_of}
+use Rattle.nf_defs.proofs.Lookups.{equal_bytes}
+use Rattle.nf_defs.proofs.Puts.{key_total}
+use Rattle.nf_defs.specs.Prelude.{by_order, child_of, folder_of, found_from, is_folder, is_in, key_cmp, node_row, onward, parent_of, put}
 use Rattle.nf_defs.specs.declared.Found.TheVariants.{At, Free, Missing}
 use Rattle.nf_defs.proofs.Walks.{inside_of, node_row_each}
 
@@ -30,6 +36,40 @@ found_has {X = X} P test (x ∷ xs) all = here (test x) refl (found_has P test x
     here : (a : Bool) → test x ≡ a → IfSome (find test xs) P → IfSome (find test (x ∷ xs)) P
     here true e rest = simp e (All-head P x xs all)
     here false e rest = simp e rest
+
+-- ---- rows that are put
+
+-- a row that is put is what a look-up for its key finds
+pub put_is_found : {R : Type 0} (key : R → List ℕ) (test : R → Bool) (row : R) (rows : List R) → test row ≡ true
+    → ((x : R) → test x ≡ true → key x ≡ key row) → find test (put key row rows) ≡ Some row
+put_is_found key test row [] is keyed = rw is refl
+put_is_found {R = R} key test row (x ∷ rows) is keyed = here (key_cmp (key row) (key x)) refl (put_is_found key test row rows is keyed)
+  where
+    here : (o : Ordering) → key_cmp (key row) (key x) ≡ o → find test (put key row rows) ≡ Some row
+        → find test (by_order o (row ∷ x ∷ rows) (row ∷ rows) (x ∷ put key row rows)) ≡ Some row
+    here Less e rest = rw is refl
+    here Equal e rest = rw is refl
+    here Greater e rest =
+        elim (cases_Bool (test x)) [
+          | inl same ↦
+              (let equal = tied_itself key_total (key row) in
+              let greater = ap (key_cmp (key row)) (sym (keyed x same)) ∙ e in absurd (cc))
+          | inr other ↦ simp other rest
+        ]
+
+-- and leaves what is found for other keys
+pub put_leaves : {R : Type 0} (key : R → List ℕ) (test : R → Bool) (row : R) (rows : List R) → test row ≡ false
+    → ((x : R) → key row ≡ key x → test x ≡ false) → find test (put key row rows) ≡ find test rows
+put_leaves key test row [] off keyed = rw off refl
+put_leaves {R = R} key test row (x ∷ rows) off keyed = here (key_cmp (key row) (key x)) refl (put_leaves key test row rows off keyed)
+  where
+    here : (o : Ordering) → key_cmp (key row) (key x) ≡ o → find test (put key row rows) ≡ find test rows
+        → find test (by_order o (row ∷ x ∷ rows) (row ∷ rows) (x ∷ put key row rows)) ≡ find test (x ∷ rows)
+    here Less e rest = simp off refl
+    here Equal e rest = simp (off, keyed x ((bytes_eq-Decides (key row) (key x)).0 (equal_bytes (key row) (key x) Equal e))) refl
+    here Greater e rest = ap (λ (o : Option R). if test x then Some x else o) rest
+
+-- ---- children
 
 -- a folder's child is in it
 pub child_parent : (rows : List NodeRow) (folder : ℕ) (name : List ℕ) (node : ℕ) → AllPairs (λ (a b : NodeRow). a.id < b.id) rows
@@ -54,7 +94,7 @@ child_parent rows folder name node rising is = here (find test rows) refl is
 abbrev pub last_of : List (List ℕ) → List ℕ
 last_of names = unwrap_or (slice_get names (length names - 1)) []
 
-last_more : (a b : List ℕ) (names : List (List ℕ)) → last_of (a ∷ b ∷ names) ≡ last_of (b ∷ names)
+pub last_more : (a b : List ℕ) (names : List (List ℕ)) → last_of (a ∷ b ∷ names) ≡ last_of (b ∷ names)
 last_more a b names =
     let e : length (a ∷ b ∷ names) - 1 ≡ suc (length (b ∷ names) - 1) = omega arith in
     ap (λ (k : ℕ). unwrap_or (slice_get (a ∷ b ∷ names) k) []) e
@@ -79,17 +119,17 @@ free_known rows before at (name ∷ names) folder is =
     here folds child names folded found is rest = absurd (cc)
 
 -- a node is its folder's child of that name
-record LastStep (rows : List NodeRow) (name : List ℕ) (node : ℕ) : Type 0 where
-  folder : ℕ
-  folds : is_folder rows folder ≡ true
-  child : child_of rows folder name ≡ Some node
+pub record LastStep (rows : List NodeRow) (name : List ℕ) (node : ℕ) : Type 0 where
+  pub folder : ℕ
+  pub folds : is_folder rows folder ≡ true
+  pub child : child_of rows folder name ≡ Some node
 
 -- no name leads anywhere else, and the last one leads from a folder to its child
-abbrev EndsAt : List NodeRow → ℕ → List (List ℕ) → ℕ → Type 0
+abbrev pub EndsAt : List NodeRow → ℕ → List (List ℕ) → ℕ → Type 0
 EndsAt rows at [] node = at ≡ node
 EndsAt rows at (name ∷ names) node = LastStep rows (last_of (name ∷ names)) node
 
-last_step : (rows : List NodeRow) (before at : ℕ) (names : List (List ℕ)) (node : ℕ)
+pub last_step : (rows : List NodeRow) (before at : ℕ) (names : List (List ℕ)) (node : ℕ)
     → found_from rows before at names ≡ At node → EndsAt rows at names node
 last_step rows before at [] node is = cc
 last_step rows before at (name ∷ names) node is =

@@ -7,6 +7,8 @@ pub mod Known
 pub mod Spared
 pub mod Starts
 pub mod Transfers
+pub mod Ways
+pub mod Mounting
 pub mod Begins
 pub mod Ends
 pub mod Histories

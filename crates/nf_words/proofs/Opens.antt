@@ -1,12 +1,12 @@
 -- What an event isn't answered.
-use Rattle.std.proofs.Common.{◌≡◌, ◌≢◌, ℕ, Bool, true, false, List, Result, Ok, Err, refl, sym, ap, subst}
+use Rattle.std.proofs.Common.{◌≡◌, ◌≢◌, ℕ, Bool, true, false, List, Result, Ok, Err, refl, sym, ap, ◌∙◌, subst}
 use Rattle.std.specs.Prelude.{Option, None, Some, is_some, if◌then◌else◌}
-use Rattle.std.specs.Option.{option_map_or, option_or}
+use Rattle.std.specs.Option.{option_and_then, option_or}
 use Rattle.nf_base.specs.declared.rows.NodeRow.{NodeRow}
-use Rattle.nf_defs.specs.Prelude.{content_of, is_folder, is_root, Tables}
+use Rattle.nf_defs.specs.Prelude.{Access, content_of, is_folder, Tables}
 use Rattle.nf_defs.specs.declared.Found.{Found}
 use Rattle.nf_defs.specs.declared.Found.TheVariants.{At, Free, Missing}
-use Rattle.nf_words.specs.Prelude.{access_of, allowed_of, answer_to, answered_by, asked_of, by_of, Call, call_of, copied, decided, decision_of, deleted, end_refusal, ends_at, exists_rule, found, given, goal_at, goal_of, hold_of, is_there, last_name, listing_of, lost, made_folder, misplaced, moved, node_found, refusal_of, reply_by, reply_to, reported, served, shown, source_lost, State, step, stored, stored_at, taken, target_lost, target_rule, transfer_of, unfit, unless_refused, with_goal}
+use Rattle.nf_words.specs.Prelude.{access_of, allowed_of, answer_to, answered_by, asked_of, by_of, Call, call_of, copied, copies_to, crosses, decided, decision_of, deleted, end_refusal, ends_at, exists_rule, found, given, goal_at, goal_of, hold_of, is_off_mount, is_root_at, last_name, listing_of, made_folder, mount_left, mount_renamed, moved, node_at, node_found, refusal_of, reply_by, reply_to, reported, root_of, served, shown, source_lost, State, step, stored, stored_at, taken, target_lost, target_rule, transfer_between, transfer_by, transfer_of, transfer_to, unfit, unfit_between, unless_refused, Way, way_of, ways_for, with_goal}
 use Rattle.nf_words.specs.declared.answer.Allowed.{Allowed}
 use Rattle.nf_words.specs.declared.answer.Allowed.TheVariants as allowed
 use Rattle.nf_words.specs.declared.answer.Denial.{Denial}
@@ -20,18 +20,19 @@ use Rattle.nf_words.specs.declared.answer.Reply.{Reply}
 use Rattle.nf_words.specs.declared.answer.Reply.TheVariants.{Closed, Granted}
 use Rattle.nf_words.specs.declared.answer.Report.{Report}
 use Rattle.nf_words.specs.declared.answer.Report.TheVariants as report
-use Rattle.nf_words.specs.declared.answer.TargetFault.TheVariants as target
 use Rattle.nf_words.specs.declared.history.Event.TheVariants.{Begin, End}
 use Rattle.nf_words.specs.declared.history.Outcome.{Outcome}
 use Rattle.nf_words.specs.declared.history.Outcome.TheVariants.{Body}
+use Rattle.nf_words.specs.declared.request.Places.{Places}
 use Rattle.nf_words.specs.declared.request.Request.{Request}
 use Rattle.nf_words.specs.declared.request.Transfer.{Transfer}
 use Rattle.nf_words.specs.declared.request.Words.{Words}
 use Rattle.nf_words.specs.declared.request.Wanted.{Wanted}
 use Rattle.nf_words.specs.declared.route.Route.TheVariants.{Files}
 use Rattle.nf_words.specs.declared.request.Wanted.TheVariants.{Get, Put, Mkcol, Delete, Move, Copy}
-use Rattle.nf_words.proofs.Begins.{places_at}
-use Rattle.nf_words.proofs.Passing.{no_fault, place_passes, unrefused}
+use Rattle.nf_words.proofs.Begins.{only_at, places_at}
+use Rattle.nf_words.proofs.Passing.{no_fault, PlacePasses, place_passes, unrefused}
+use Rattle.nf_words.proofs.Transfers.{fit_parts, FitParts, same_transfer}
 use Rattle.nf_words.proofs.Steps.{end_nothing, never_granted, ok_reply}
 
 -- ---- never as the End of what stores nothing
@@ -48,6 +49,7 @@ closes : (act : Allowed) → reply_to act ≡ Closed → act ≡ allowed.Close
 closes (allowed.Change changes blob report) is = absurd (report_opens report is)
 closes (allowed.Move transfer name) is = absurd (put_opens transfer.replaced is)
 closes (allowed.Copy rows replaced) is = absurd (put_opens replaced is)
+closes (allowed.Cross rows replaced node) is = absurd (put_opens replaced is)
 closes allowed.Close is = refl
 closes act is = cc
 
@@ -57,16 +59,18 @@ open_answer : (refusal : Option Denial) (act : Allowed) → (refusal ≡ None �
 open_answer None act opens = λ is. opens refl (closes act (ok_reply (reply_to act) Closed is))
 open_answer (Some refusal) act opens = λ is. cc
 
-open_shown : (t : Tables) (node : ℕ) → shown t node ≢ allowed.Close
-open_shown t node = here (is_folder t.nodes node)
+open_shown : (access : Access) (call : Call) (mount : Option ℕ) (node : ℕ) → shown access call mount node ≢ allowed.Close
+open_shown access call mount node = here (is_folder call.state.tables.nodes node)
   where
-    here : (folds : Bool) → (if folds then allowed.List (listing_of t node) else allowed.Get node (content_of t.nodes node)) ≢ allowed.Close
+    here : (folds : Bool)
+        → (if folds then allowed.List (listing_of access call mount node) else allowed.Get node (content_of call.state.tables.nodes node)) ≢ allowed.Close
     here true = λ is. cc
     here false = λ is. cc
 
-open_served : (t : Tables) (place : Found) → source_lost place ≡ None → served t (node_found place) ≢ allowed.Close
-open_served t (At node) there = open_shown t node
-open_served t nowhere there = absurd (cc)
+open_served : (access : Access) (call : Call) (mount : Option ℕ) (place : Found) → source_lost place ≡ None
+    → served access call mount (node_found place) ≢ allowed.Close
+open_served access call mount (At node) there = open_shown access call mount node
+open_served access call mount nowhere there = absurd (cc)
 
 open_deleted : (place : Found) → source_lost place ≡ None → deleted (node_found place) ≢ allowed.Close
 open_deleted (At node) there = λ is. cc
@@ -81,38 +85,70 @@ open_made : (t : Tables) (now : ℕ) (name : List ℕ) (place : Found) → targe
 open_made t now name (Free folder) there free = λ is. cc
 open_made t now name place there free = absurd (cc)
 
--- what has no transfer is unfit
-open_moved : (rows : List NodeRow) (root : Bool) (name : List ℕ) (transfer : Option Transfer)
-    → (if root then Some target.Root else option_map_or (misplaced rows) transfer (Some target.Root)) ≡ None
-    → moved name transfer ≢ allowed.Close
-open_moved rows false name (Some transfer) fits = λ is. cc
-open_moved rows root name transfer fits = absurd (cc)
+-- what has a transfer is put somewhere
+open_moved : (t : Tables) (now : ℕ) (name : List ℕ) (transfer : Option Transfer) → is_some transfer ≡ true → moved t now name transfer ≢ allowed.Close
+open_moved t now name None some = absurd (cc)
+open_moved t now name (Some transfer) some = here (crosses t.nodes transfer)
+  where
+    here : (b : Bool)
+        → (if b then allowed.Cross (copies_to t now transfer name) transfer.replaced transfer.node else allowed.Move transfer name) ≢ allowed.Close
+    here true = λ is. cc
+    here false = λ is. cc
 
-open_copied : (t : Tables) (now : ℕ) (root : Bool) (name : List ℕ) (transfer : Option Transfer)
-    → (if root then Some target.Root else option_map_or (misplaced t.nodes) transfer (Some target.Root)) ≡ None
-    → copied t now name transfer ≢ allowed.Close
-open_copied t now false name (Some transfer) fits = λ is. cc
-open_copied t now root name transfer fits = absurd (cc)
+open_copied : (t : Tables) (now : ℕ) (name : List ℕ) (transfer : Option Transfer) → is_some transfer ≡ true → copied t now name transfer ≢ allowed.Close
+open_copied t now name None some = absurd (cc)
+open_copied t now name (Some transfer) some = λ is. cc
+
+-- what fits has one
+fits_some : (rows : List NodeRow) (root : ℕ) (from to : Way) → source_lost from.place ≡ None
+    → unfit_between rows root false (record { source = Some from; target = Some to }) ≡ None
+    → is_some (transfer_of rows (record { source = Some from.place; target = Some to.place })) ≡ true
+fits_some rows root from to there fits = here from.place refl there (fit_parts rows (is_root_at rows (Some from)) (is_off_mount root false to)
+    (transfer_between rows root (record { source = Some from; target = Some to })) fits)
+  where
+    here : (place : Found) → from.place ≡ place → source_lost place ≡ None
+        → FitParts rows (is_root_at rows (Some from)) (is_off_mount root false to)
+        (transfer_between rows root (record { source = Some from; target = Some to }))
+        → is_some (option_and_then (λ node. transfer_to rows node to.place) (node_found place)) ≡ true
+    here (At node) e there fit =
+        let between : transfer_between rows root (record { source = Some from; target = Some to }) ≡ transfer_by rows root node to =
+        ap (λ (place : Found). option_and_then (λ node. transfer_by rows root node to) (node_found place)) e in
+        ap is_some (sym (same_transfer rows root node to fit.on) ∙ sym between ∙ fit.is)
+    here place e there fit = absurd (cc)
 
 only_source : (o : Option Denial) → option_or o None ≡ None → o ≡ None
 only_source None none = refl
 only_source (Some refusal) none = absurd (cc)
 
-open_given : (call : Call) (asked : Wanted) → lost (places_at call asked) ≡ None → taken call.state.tables.nodes (places_at call asked) (asked_of asked).makes ≡ None
-    → unfit call.state.tables.nodes (asked_of asked) (places_at call asked) ≡ None
+open_given : (call : Call) (asked : Wanted) → PlacePasses (access_of call.state) call (asked_of asked)
+    → taken call.state.tables.nodes (places_at call asked) (asked_of asked).makes ≡ None
+    → unfit call.state.tables.nodes (root_of call) (asked_of asked) (ways_for call (asked_of asked)) ≡ None
     → given (access_of call.state) call (places_at call asked) asked ≢ allowed.Close
-open_given call (Get spot) led free fits = open_served call.state.tables (found call spot) (only_source _ led)
-open_given call (Put spot length) led free fits = open_put (by_of call spot) (last_name spot) length (found call spot) led
-open_given call (Mkcol spot) led free fits = open_made call.state.tables call.now (last_name spot) (found call spot) led free
-open_given call (Delete spot) led free fits = open_deleted (found call spot) (only_source _ led)
-open_given call (Move source target overwrite) led free fits =
-    let t = call.state.tables in
-    let places = places_at call (Move source target overwrite) in
-    open_moved t.nodes (is_there (is_root t.nodes) places.source) (last_name target) (transfer_of t.nodes places) fits
-open_given call (Copy source target overwrite) led free fits =
-    let t = call.state.tables in
-    let places = places_at call (Copy source target overwrite) in
-    open_copied t call.now (is_there (is_root t.nodes) places.source) (last_name target) (transfer_of t.nodes places) fits
+open_given call (Get spot) led free fits = open_served (access_of call.state) call (way_of call spot).mount (found call spot) led.there
+open_given call (Put spot length) led free fits = open_put (by_of call spot) (last_name spot) length (found call spot) led.in_folder
+open_given call (Mkcol spot) led free fits = open_made call.state.tables call.now (last_name spot) (found call spot) led.in_folder free
+open_given call (Delete spot) led free fits = here (way_of call spot).itself
+  where
+    here : (b : Bool) → (if b then mount_left call (way_of call spot)
+        else deleted (node_at (only_at b (found call spot)).source)) ≢ allowed.Close
+    here true = λ is. cc
+    here false = open_deleted (found call spot) led.there
+open_given call (Move source to overwrite) led free fits = here (way_of call source).itself fits
+  where
+    here : (b : Bool)
+        → unfit_between call.state.tables.nodes (root_of call) b (record { source = Some (way_of call source); target = Some (way_of call to) }) ≡ None
+        → (if b then mount_renamed call (way_of call source) (last_name to)
+        else moved call.state.tables call.now (last_name to) (transfer_of call.state.tables.nodes
+        (if b then record { source = None; target = None } else record { source = Some (found call source); target = Some (found call to) }))) ≢ allowed.Close
+    here true fits = λ is. cc
+    here false fits =
+        let places : Places = record { source = Some (found call source); target = Some (found call to) } in
+        open_moved call.state.tables call.now (last_name to) (transfer_of call.state.tables.nodes places)
+        (fits_some call.state.tables.nodes (root_of call) (way_of call source) (way_of call to) led.there fits)
+open_given call (Copy source to overwrite) led free fits =
+    let places : Places = record { source = Some (found call source); target = Some (found call to) } in
+    open_copied call.state.tables call.now (last_name to) (transfer_of call.state.tables.nodes places)
+    (fits_some call.state.tables.nodes (root_of call) (way_of call source) (way_of call to) led.there fits)
 
 -- a Begin isn't
 pub begins_open : (s : State) (seat now : ℕ) (words : Words) (request : Request) → answer_to s seat now (Begin words request) ≢ Ok Closed

@@ -1,13 +1,14 @@
 -- What a call that no rule refuses passes, by the names of the rules.
-use Rattle.std.proofs.Common.{◌≡◌, ℕ, Bool, true, false, not, List, [], ◌∷◌, Ok, refl, ap, ◌∙◌}
+use Rattle.std.proofs.Common.{◌≡◌, ℕ, ◌&&◌, Bool, true, false, not, List, [], ◌∷◌, Ok, refl, sym, ap, ◌∙◌}
 use Rattle.std.specs.Prelude.{None, Option, Some, find, option_map, option_and_then, if◌then◌else◌}
 use Rattle.std.specs.List.{All}
-use Rattle.std.specs.Option.{option_or}
+use Rattle.std.specs.Option.{IfSome, option_or}
 use Rattle.std.proofs.lemmas.List.Elements.{All-cons, All-nil}
 use Rattle.nf_access.specs.Shares.{Ground, ground_of}
 use Rattle.nf_defs.specs.Prelude.{Access, Tables}
 use Rattle.nf_defs.specs.declared.Seeker.{Seeker}
-use Rattle.nf_words.specs.Prelude.{access_of, acts_rule, allowed_of, asked_by, Call, call_decision, end_lost, end_refusal, end_unallowed, end_unreached, exists_rule, first_refused, first_that_holds, forbidden_rule, found, is_refused, limit_at, limit_rule, locked_rule, lost, may_by, Need, need_broken, needed, node_of_key, not_you_rule, overwrite_rule, Pass, pieces_of, place_of, place_rule, places_of, refusal_of, Rule, rules, seeker_of, source_lost, source_refused, target_lost, target_refused, target_rule, token_rule, unless_refused, way_of}
+use Rattle.nf_words.specs.Asked.{Asked}
+use Rattle.nf_words.specs.Prelude.{access_of, acts_rule, allowed_of, asked_by, Call, call_decision, end_lost, end_refusal, end_unallowed, end_unreached, exists_rule, first_refused, first_that_holds, forbidden_rule, found, is_refused, limit_at, limit_rule, locked_rule, may_by, Need, need_broken, needed, node_of_key, not_you_rule, overwrite_rule, Pass, pieces_of, place_of, place_rule, refusal_of, Rule, rules, seeker_of, source_lost, source_refused, target_lost, target_refused, target_rule, token_rule, unless_refused, unreached, Way, way_of}
 use Rattle.nf_words.specs.declared.answer.Allowed.{Allowed}
 use Rattle.nf_words.specs.declared.answer.By.{By}
 use Rattle.nf_words.specs.declared.answer.Denial.{Denial}
@@ -59,31 +60,52 @@ each_passes [] access call none = tt
 each_passes (rule ∷ others) access call none =
     let h = both_none (rule access call) (first_that_holds others access call) none in (h.0, each_passes others access call h.1)
 
--- what a place that isn't refused leads to isn't lost
-pub place_passes : (access : Access) (call : Call) → place_rule access call ≡ None → lost (places_of call) ≡ None
+-- what isn't refused of the paths is reached, where it isn't a mount that is asked for itself, and isn't lost
+pub record PlacePasses (access : Access) (call : Call) (asked : Asked) : Type 0 where
+  pub source : IfSome asked.source (λ (spot : Spot). (asked.removes && (way_of call spot).itself) ≡ false → unreached access call (way_of call spot) ≡ None)
+  pub there : option_and_then source_lost (option_map (found call) asked.source) ≡ None
+  pub target : IfSome asked.target (λ (spot : Spot). unreached access call (way_of call spot) ≡ None)
+  pub in_folder : option_and_then target_lost (option_map (found call) asked.target) ≡ None
+
+pub place_passes : (access : Access) (call : Call) → place_rule access call ≡ None → PlacePasses access call (asked_by call)
 unfolding place_rule
-place_passes access call none = here (asked_by call).source (asked_by call).target none
+place_passes access call none = here (asked_by call) refl none
   where
-    sources : Option Spot → Option Denial
-    sources source = option_and_then (λ spot. source_refused access call (way_of call spot)) source
+    here : (asked : Asked) → asked_by call ≡ asked
+        → option_or (option_and_then (λ spot. source_refused access call (way_of call spot)) asked.source)
+        (option_and_then (λ spot. target_refused access call (way_of call spot)) asked.target) ≡ None
+        → PlacePasses access call asked
+    here asked same none =
+        let both = both_none (option_and_then (λ spot. source_refused access call (way_of call spot)) asked.source) _ none in
+        record {
+          source = (sources asked.source both.0).0;
+          there = (sources asked.source both.0).1;
+          target = (targets asked.target both.1).0;
+          in_folder = (targets asked.target both.1).1;
+        }
+      where
+        removes : (asked_by call).removes ≡ asked.removes
+        removes = ap (λ (a : Asked). a.removes) same
 
-    targets : Option Spot → Option Denial
-    targets target = option_and_then (λ spot. target_refused access call (way_of call spot)) target
+        tested : (way : Way) (refusal : Option Denial) → (if (asked_by call).removes && way.itself then None else refusal) ≡ None
+            → (asked.removes && way.itself) ≡ false → refusal ≡ None
+        tested way refusal passes other =
+            sym (ap (λ (b : Bool). if b then None else refusal) (ap (λ (b : Bool). b && way.itself) removes ∙ other)) ∙ passes
 
-    source_is : (source : Option Spot) → sources source ≡ None → option_and_then source_lost (option_map (found call) source) ≡ None
-    source_is None none = refl
-    source_is (Some spot) none = (both_none _ (source_lost (found call spot)) none).1
+        sources : (source : Option Spot) → option_and_then (λ spot. source_refused access call (way_of call spot)) source ≡ None
+            → IfSome source (λ (spot : Spot). (asked.removes && (way_of call spot).itself) ≡ false → unreached access call (way_of call spot) ≡ None)
+            × (option_and_then source_lost (option_map (found call) source) ≡ None)
+        sources None none = (tt, refl)
+        sources (Some spot) none =
+            let way = way_of call spot in
+            let both = both_none (if (asked_by call).removes && way.itself then None else unreached access call way) (source_lost way.place) none in
+            (tested way (unreached access call way) both.0, both.1)
 
-    target_is : (target : Option Spot) → targets target ≡ None → option_and_then target_lost (option_map (found call) target) ≡ None
-    target_is None none = refl
-    target_is (Some spot) none = (both_none _ (target_lost (found call spot)) none).1
-
-    here : (source target : Option Spot) → option_or (sources source) (targets target) ≡ None
-        → lost (record { source = option_map (found call) source; target = option_map (found call) target }) ≡ None
-    here source target none =
-        let both = both_none (sources source) (targets target) none in
-        ap (λ (o : Option Denial). option_or o (option_and_then target_lost (option_map (found call) target))) (source_is source both.0)
-        ∙ target_is target both.1
+        targets : (target : Option Spot) → option_and_then (λ spot. target_refused access call (way_of call spot)) target ≡ None
+            → IfSome target (λ (spot : Spot). unreached access call (way_of call spot) ≡ None)
+            × (option_and_then target_lost (option_map (found call) target) ≡ None)
+        targets None none = (tt, refl)
+        targets (Some spot) none = both_none (unreached access call (way_of call spot)) (target_lost (found call spot)) none
 
 none_found : {X : Type 0} (test : X → Bool) (xs : List X) → find (λ x. not (test x)) xs ≡ None → All (λ x. test x ≡ true) xs
 none_found test [] none = All-nil (λ x. test x ≡ true)

@@ -13,6 +13,7 @@ use Rattle.nf_base.specs.declared.changes.Change.TheVariants.{Put}
 use Rattle.nf_base.specs.declared.content.Piece.{Piece}
 use Rattle.nf_base.specs.declared.rows.NodeKind.{NodeKind}
 use Rattle.nf_base.specs.declared.rows.NodeKind.TheVariants.{File, Folder}
+use Rattle.nf_base.specs.declared.rows.MountRow.{MountRow}
 use Rattle.nf_base.specs.declared.rows.NodeRow.{NodeRow}
 use Rattle.nf_base.specs.declared.rows.Place.TheVariants.{Inside}
 use Rattle.nf_base.specs.declared.rows.Row.TheVariants as rows
@@ -20,14 +21,14 @@ use Rattle.nf_base.specs.declared.rows.UserRow.{UserRow}
 use Rattle.nf_defs.specs.Prelude.{Access, content_of, is_folder, is_under, node_row, Tables}
 use Rattle.nf_defs.specs.declared.Found.{Found}
 use Rattle.nf_defs.specs.declared.Found.TheVariants.{At, Free, Missing}
-use Rattle.nf_words.proofs.Begins.{places_at}
+use Rattle.nf_words.proofs.Begins.{only_at, places_at, wanted_passes, WantedPasses}
 use Rattle.nf_words.proofs.Found.{found_has, found_passes}
 use Rattle.nf_words.proofs.Known.{KnownCopies}
-use Rattle.nf_words.proofs.Passing.{call_passes, no_fault, no_key, no_limit, not_refused}
+use Rattle.nf_words.proofs.Passing.{call_passes, no_key, not_refused}
 use Rattle.nf_words.proofs.Starts.{has_row}
 use Rattle.nf_words.proofs.Steps.{fails_each}
 use Rattle.nf_words.proofs.Transfers.{copies_known}
-use Rattle.nf_words.specs.Prelude.{access_of, actor_of, AreApartHolds, AreKeysApart, AreSound, asked_by, asked_of, blob_for, blocks, by_of, Call, call_decision, call_of, caller_row, clashes, content_in, copied, copy_limit, decision_of, deleted, end_decision, end_refusal, ends_at, ends_goal, found, given, HoldsFor, is_exclusive, IsNodeSound, IsSound, IsTicketSound, key_in_way, last_name, least, lesser, limit_rule, limited, listing_of, locked_rule, made_folder, makes, MayAsk, MayWant, moved, new_node, node_at, node_of_key, places_of, refilled, same_key, served, source_touches, State, stored, stored_at, target_rule, target_touches, ticket_of, Touch, touch_key, touch_under, touches, transfer_of, transfer_touches, unfit, user_of, without, without_ticket}
+use Rattle.nf_words.specs.Prelude.{access_of, AreApartHolds, AreKeysApart, AreSound, asked_by, asked_of, blob_for, blocks, by_of, Call, call_decision, call_of, caller_row, carry_limit, clashes, content_in, copied, copies_to, copy_limit, crosses, decision_of, deleted, end_decision, end_refusal, ends_at, ends_goal, found, given, HoldsFor, is_exclusive, IsNodeSound, IsSound, IsTicketSound, key_in_way, last_name, least, left_row, lesser, limited, listing_of, locked_rule, made_folder, makes, MayAsk, MayWant, mount_left, mount_renamed, move_limit, moved, named_row, new_node, node_at, node_of_key, own_mount, places_of, refilled, root_of, same_key, served, source_touches, State, stored, stored_at, target_touches, ticket_of, Touch, touch_key, touch_under, touched, touches, transfer_of, transfer_touches, unfit_between, unreached, way_of, with_mount_row, without, without_ticket}
 use Rattle.nf_words.specs.declared.answer.Allowed.{Allowed}
 use Rattle.nf_words.specs.declared.answer.Allowed.TheVariants as allowed
 use Rattle.nf_words.specs.declared.answer.By.{By}
@@ -39,7 +40,10 @@ use Rattle.nf_words.specs.declared.answer.LockKey.{LockKey}
 use Rattle.nf_words.specs.declared.answer.LockKey.TheVariants.{Node, Slot}
 use Rattle.nf_words.specs.declared.answer.Mode.{Mode}
 use Rattle.nf_words.specs.declared.answer.Mode.TheVariants.{Exclusive, Shared}
-use Rattle.nf_words.specs.declared.answer.Report.TheVariants.{Done}
+use Rattle.nf_words.specs.declared.answer.Report.{Report}
+use Rattle.nf_words.specs.declared.answer.Report.TheVariants as report
+use Rattle.nf_words.specs.declared.request.Making.TheVariants as making
+use Rattle.nf_words.specs.declared.request.Spot.{Spot}
 use Rattle.nf_words.specs.declared.history.Event.{Event}
 use Rattle.nf_words.specs.declared.history.Event.TheVariants.{Begin, End}
 use Rattle.nf_words.specs.declared.history.Outcome.{Outcome}
@@ -72,16 +76,18 @@ pub record SparesTarget (t : Tables) (key : LockKey) (transfer : Transfer) (name
   pub replaced : IfSome transfer.replaced (SparesUnder t key)
 
 -- an act leaves alone what is held, and what it grants is another key, or both read
-abbrev pub Spares : Tables → ℕ → Option ℕ → Hold → Allowed → Type 0
-Spares t now who hold (allowed.Get node content) = AreKeysApart (Node node) Shared hold.key hold.mode
-Spares t now who hold (allowed.List listing) = Unit {0}
-Spares t now who hold (allowed.Put by key length) = AreKeysApart key Exclusive hold.key hold.mode
-Spares t now who hold (allowed.Change changes blob report) = All (SparesChange t hold.key) changes
-Spares t now who hold (allowed.Delete node) = SparesUnder t hold.key node
-Spares t now who hold (allowed.Move transfer name) = SparesUnder t hold.key transfer.node × SparesTarget t hold.key transfer name
-Spares t now who hold (allowed.Copy rows replaced) =
-    (known : KnownCopies t now who rows replaced) × SparesTarget t hold.key known.transfer known.name
-Spares t now who hold allowed.Close = Unit {0}
+abbrev pub Spares : Tables → ℕ → Hold → Allowed → Type 0
+Spares t now hold (allowed.Get node content) = AreKeysApart (Node node) Shared hold.key hold.mode
+Spares t now hold (allowed.List listing) = Unit {0}
+Spares t now hold (allowed.Put by key length) = AreKeysApart key Exclusive hold.key hold.mode
+Spares t now hold (allowed.Change changes blob report) = All (SparesChange t hold.key) changes
+Spares t now hold (allowed.Delete node) = SparesUnder t hold.key node
+Spares t now hold (allowed.Move transfer name) = SparesUnder t hold.key transfer.node × SparesTarget t hold.key transfer name
+Spares t now hold (allowed.Copy rows replaced) =
+    (known : KnownCopies t now rows replaced) × SparesTarget t hold.key known.transfer known.name
+Spares t now hold (allowed.Cross rows replaced node) =
+    (known : KnownCopies t now rows replaced) × SparesTarget t hold.key known.transfer known.name × SparesUnder t hold.key node
+Spares t now hold allowed.Close = Unit {0}
 
 -- ---- keys
 
@@ -121,9 +127,9 @@ no_other f touch others = here (f touch) (list_any f others)
 -- ---- rows
 
 -- a new row is under no name that is held
-new_spared : (t : Tables) (now folder : ℕ) (name : List ℕ) (kind : NodeKind) (content : List Piece) (blob : Option ℕ) (who : Option ℕ) (hold : Hold)
-    → hold.key ≢ Slot folder name → Spares t now who hold (makes (new_node t now folder name kind content) blob)
-new_spared t now folder name kind content blob who hold other =
+new_spared : (t : Tables) (now folder : ℕ) (name : List ℕ) (kind : NodeKind) (content : List Piece) (blob : Option ℕ) (hold : Hold)
+    → hold.key ≢ Slot folder name → Spares t now hold (makes (new_node t now folder name kind content) blob)
+new_spared t now folder name kind content blob hold other =
     All-cons (SparesChange t hold.key) (Put (rows.Node (new_node t now folder name kind content))) []
     (record {
       node = λ given. absurd (omega (arith, given));
@@ -152,34 +158,38 @@ under_spared t hold node others clear =
     alone (is_under t.nodes (node_of_key hold.key) node) hold.mode
     (no_other (λ touch. clashes t.nodes touch hold) (touch_under node Exclusive) others clear).0
 
-served_spares : (t : Tables) (now : ℕ) (who : Option ℕ) (hold : Hold) (node : Option ℕ)
-    → IsClear t hold (option_map_or (source_touches t.nodes false) node []) → Spares t now who hold (served t node)
-served_spares t now who hold None clear = tt
-served_spares t now who hold (Some node) clear = here (is_folder t.nodes node) clear
+served_spares : (access : Access) (call : Call) (hold : Hold) (mount node : Option ℕ)
+    → IsClear call.state.tables hold (option_map_or (source_touches call.state.tables.nodes false) node [])
+    → Spares call.state.tables call.now hold (served access call mount node)
+served_spares access call hold mount None clear = tt
+served_spares access call hold mount (Some node) clear = here (is_folder t.nodes node) clear
   where
+    t : Tables
+    t = call.state.tables
+
     here : (folds : Bool) → IsClear t hold (if folds then [] else touch_key (Node node) Shared ∷ [])
-        → Spares t now who hold (if folds then allowed.List (listing_of t node) else allowed.Get node (content_of t.nodes node))
+        → Spares t call.now hold (if folds then allowed.List (listing_of access call mount node) else allowed.Get node (content_of t.nodes node))
     here true clear = tt
     here false clear = key_apart t hold (Node node) Shared [] clear
 
-stored_spares : (t : Tables) (now : ℕ) (who : Option ℕ) (hold : Hold) (by : By) (name : List ℕ) (length : ℕ) (place : Found)
-    → IsClear t hold (target_touches name place) → Spares t now who hold (stored by name length (Some place))
-stored_spares t now who hold by name length (At node) clear = key_apart t hold (Node node) Exclusive [] clear
-stored_spares t now who hold by name length (Free folder) clear = key_apart t hold (Slot folder name) Exclusive [] clear
-stored_spares t now who hold by name length (Missing depth) clear = tt
+stored_spares : (t : Tables) (now : ℕ) (hold : Hold) (by : By) (name : List ℕ) (length : ℕ) (place : Found)
+    → IsClear t hold (target_touches name place) → Spares t now hold (stored by name length (Some place))
+stored_spares t now hold by name length (At node) clear = key_apart t hold (Node node) Exclusive [] clear
+stored_spares t now hold by name length (Free folder) clear = key_apart t hold (Slot folder name) Exclusive [] clear
+stored_spares t now hold by name length (Missing depth) clear = tt
 
-folder_spares : (t : Tables) (now : ℕ) (who : Option ℕ) (hold : Hold) (name : List ℕ) (place : Found)
-    → IsClear t hold (target_touches name place) → Spares t now who hold (made_folder t now name (Some place))
-folder_spares t now who hold name (At node) clear = tt
-folder_spares t now who hold name (Free folder) clear =
-    new_spared t now folder name Folder [] None who hold
+folder_spares : (t : Tables) (now : ℕ) (hold : Hold) (name : List ℕ) (place : Found)
+    → IsClear t hold (target_touches name place) → Spares t now hold (made_folder t now name (Some place))
+folder_spares t now hold name (At node) clear = tt
+folder_spares t now hold name (Free folder) clear =
+    new_spared t now folder name Folder [] None hold
     (other_key (Slot folder name) hold (key_apart t hold (Slot folder name) Exclusive [] clear))
-folder_spares t now who hold name (Missing depth) clear = tt
+folder_spares t now hold name (Missing depth) clear = tt
 
-deleted_spares : (t : Tables) (now : ℕ) (who : Option ℕ) (hold : Hold) (node : Option ℕ)
-    → IsClear t hold (option_map_or (source_touches t.nodes true) node []) → Spares t now who hold (deleted node)
-deleted_spares t now who hold None clear = tt
-deleted_spares t now who hold (Some node) clear = under_spared t hold node [] clear
+deleted_spares : (t : Tables) (now : ℕ) (hold : Hold) (node : Option ℕ)
+    → IsClear t hold (option_map_or (source_touches t.nodes true) node []) → Spares t now hold (deleted node)
+deleted_spares t now hold None clear = tt
+deleted_spares t now hold (Some node) clear = under_spared t hold node [] clear
 
 -- what is replaced, if anything is
 abbrev gone_touches : Option ℕ → List Touch
@@ -205,48 +215,101 @@ transfer_spared t hold mode name transfer clear =
     (no_other (λ touch. clashes t.nodes touch hold) (touch_under transfer.node mode)
     (touch_key (Slot transfer.folder name) Exclusive ∷ gone_touches transfer.replaced) clear).1
 
-moved_spares : (t : Tables) (now : ℕ) (who : Option ℕ) (hold : Hold) (name : List ℕ) (transfer : Option Transfer)
-    → IsClear t hold (option_map_or (transfer_touches Exclusive name) transfer []) → Spares t now who hold (moved name transfer)
-moved_spares t now who hold name None clear = tt
-moved_spares t now who hold name (Some transfer) clear = (
-  under_spared t hold transfer.node (touch_key (Slot transfer.folder name) Exclusive ∷ gone_touches transfer.replaced) clear,
-  transfer_spared t hold Exclusive name transfer clear,
-)
+-- what becomes of a mount leaves all nodes alone
+mount_spares : (t : Tables) (now : ℕ) (hold : Hold) (row : Option MountRow) (told : Report) → Spares t now hold (with_mount_row row told)
+mount_spares t now hold None told = All-nil (SparesChange t hold.key)
+mount_spares t now hold (Some row) told =
+    All-cons (SparesChange t hold.key) (Put (rows.Mount row)) [] tt (All-nil (SparesChange t hold.key))
 
-wanted_spares : (call : Call) (wanted : Wanted) (row : UserRow) (hold : Hold) → AreSound call.state.tables → caller_row call ≡ Some row
-    → unfit call.state.tables.nodes (asked_of wanted) (places_at call wanted) ≡ None
-    → limited call.state.tables (places_at call wanted) (asked_of wanted).makes ≡ None
-    → IsClear call.state.tables hold (touches call.state.tables.nodes (asked_of wanted) (places_at call wanted))
-    → Spares call.state.tables call.now (user_of call) hold (given (access_of call.state) call (places_at call wanted) wanted)
-unfolding copies_known
-wanted_spares call (Get spot) row hold sound is fits some clear =
-    served_spares call.state.tables call.now (user_of call) hold (node_at (Some (found call spot))) clear
-wanted_spares call (wanted.Put spot length) row hold sound is fits some clear =
-    stored_spares call.state.tables call.now (user_of call) hold (by_of call spot) (last_name spot) length (found call spot) clear
-wanted_spares call (Mkcol spot) row hold sound is fits some clear =
-    folder_spares call.state.tables call.now (user_of call) hold (last_name spot) (found call spot) clear
-wanted_spares call (Delete spot) row hold sound is fits some clear =
-    deleted_spares call.state.tables call.now (user_of call) hold (node_at (Some (found call spot))) clear
-wanted_spares call (Move source target overwrite) row hold sound is fits some clear =
-    moved_spares call.state.tables call.now (user_of call) hold (last_name target)
-    (transfer_of call.state.tables.nodes (places_at call (Move source target overwrite))) clear
-wanted_spares call (Copy source target overwrite) row hold sound is fits some clear =
-    here (transfer_of t.nodes places) refl some clear
-  where
-    t : Tables
-    t = call.state.tables
+module _ (call : Call) (row : UserRow) (hold : Hold) (sound : AreSound call.state.tables) (is : caller_row call ≡ Some row) where
+  abbrev t : Tables
+  t = call.state.tables
 
-    places : Places
-    places = places_at call (Copy source target overwrite)
+  abbrev IsSpared : Allowed → Type 0
+  IsSpared act = Spares t call.now hold act
 
-    here : (o : Option Transfer) → transfer_of t.nodes places ≡ o → option_and_then (copy_limit t) o ≡ None
-        → IsClear t hold (option_map_or (transfer_touches Shared (last_name target)) o [])
-        → Spares t call.now (user_of call) hold (copied t call.now (last_name target) o)
-    here None e some clear = tt
-    here (Some transfer) e some clear = (
-      copies_known call source target row sound is transfer e fits some,
-      transfer_spared t hold Shared (last_name target) transfer clear,
-    )
+  abbrev led : Spot → Spot → Places
+  led from to = record { source = Some (found call from); target = Some (found call to) }
+
+  abbrev nowhere : Places
+  nowhere = record { source = None; target = None }
+
+  delete_spares : (spot : Spot) (b : Bool) → IsClear t hold (option_map_or (source_touches t.nodes true) (node_at (only_at b (found call spot)).source) [])
+      → IsSpared (if b then mount_left call (way_of call spot) else deleted (node_at (only_at b (found call spot)).source))
+  delete_spares spot true clear =
+      mount_spares t call.now hold (option_map left_row (own_mount call (way_of call spot).mount)) report.Done
+  delete_spares spot false clear = deleted_spares t call.now hold (node_at (Some (found call spot))) clear
+
+  -- a transfer that a rule let pass
+  abbrev Copies : Spot → Transfer → Type 0
+  Copies to transfer = KnownCopies t call.now (copies_to t call.now transfer (last_name to)) transfer.replaced
+
+  carried_spares : (to : Spot) (transfer : Option Transfer) → option_and_then (carry_limit t) transfer ≡ None
+      → ((one : Transfer) → transfer ≡ Some one → copy_limit t one ≡ None → (known : Copies to one) × (known.transfer ≡ one) × (known.name ≡ last_name to))
+      → IsClear t hold (option_map_or (transfer_touches Exclusive (last_name to)) transfer [])
+      → IsSpared (moved t call.now (last_name to) transfer)
+  carried_spares to None few known clear = tt
+  carried_spares to (Some transfer) few known clear = here (crosses t.nodes transfer) few
+    where
+      name : List ℕ
+      name = last_name to
+
+      under : SparesUnder t hold.key transfer.node
+      under = under_spared t hold transfer.node (touch_key (Slot transfer.folder name) Exclusive ∷ gone_touches transfer.replaced) clear
+
+      target : SparesTarget t hold.key transfer name
+      target = transfer_spared t hold Exclusive name transfer clear
+
+      here : (b : Bool) → (if b then copy_limit t transfer else move_limit t transfer) ≡ None
+          → IsSpared (if b then allowed.Cross (copies_to t call.now transfer name) transfer.replaced transfer.node else allowed.Move transfer name)
+      here false few = (under, target)
+      here true few =
+          let copies = known transfer refl few in (
+            copies.0,
+            subst (λ (x : Transfer). SparesTarget t hold.key x copies.0.name) (sym copies.1)
+                (subst (λ (n : List ℕ). SparesTarget t hold.key transfer n) (sym copies.2) target),
+            under,
+          )
+
+  move_spares : (from to : Spot) (b : Bool) → (way_of call from).itself ≡ b
+      → (b ≡ false → unreached (access_of call.state) call (way_of call from) ≡ None)
+      → unreached (access_of call.state) call (way_of call to) ≡ None
+      → unfit_between t.nodes (root_of call) b (record { source = Some (way_of call from); target = Some (way_of call to) }) ≡ None
+      → limited t (if b then nowhere else led from to) making.Moved ≡ None
+      → IsClear t hold (touched t.nodes true (last_name to) (if b then nowhere else led from to) making.Moved)
+      → IsSpared (if b then mount_renamed call (way_of call from) (last_name to)
+      else moved t call.now (last_name to) (transfer_of t.nodes (if b then nowhere else led from to)))
+  unfolding copies_known
+  move_spares from to true itself from_reached to_reached fits few clear =
+      mount_spares t call.now hold (option_map (named_row (last_name to)) (own_mount call (way_of call from).mount)) report.Made
+  move_spares from to false itself from_reached to_reached fits few clear =
+      carried_spares to (transfer_of t.nodes (led from to)) few
+      (λ one e some. (copies_known call from to row sound is (from_reached refl) to_reached one e fits some, refl, refl)) clear
+
+  copy_spares : (from to : Spot) → unreached (access_of call.state) call (way_of call from) ≡ None
+      → unreached (access_of call.state) call (way_of call to) ≡ None
+      → unfit_between t.nodes (root_of call) false (record { source = Some (way_of call from); target = Some (way_of call to) }) ≡ None
+      → (o : Option Transfer) → transfer_of t.nodes (led from to) ≡ o → option_and_then (copy_limit t) o ≡ None
+      → IsClear t hold (option_map_or (transfer_touches Shared (last_name to)) o [])
+      → IsSpared (copied t call.now (last_name to) o)
+  unfolding copies_known
+  copy_spares from to from_reached to_reached fits None e some clear = tt
+  copy_spares from to from_reached to_reached fits (Some transfer) e some clear = (
+    copies_known call from to row sound is from_reached to_reached transfer e fits some,
+    transfer_spared t hold Shared (last_name to) transfer clear,
+  )
+
+  wanted_spares : (wanted : Wanted) → WantedPasses call wanted → IsClear t hold (touches t.nodes (asked_of wanted) (places_at call wanted))
+      → IsSpared (given (access_of call.state) call (places_at call wanted) wanted)
+  wanted_spares (Get spot) p clear = served_spares (access_of call.state) call hold (way_of call spot).mount (node_at (Some (found call spot))) clear
+  wanted_spares (wanted.Put spot size) p clear =
+      stored_spares t call.now hold (by_of call spot) (last_name spot) size (found call spot) clear
+  wanted_spares (Mkcol spot) p clear = folder_spares t call.now hold (last_name spot) (found call spot) clear
+  wanted_spares (Delete spot) p clear = delete_spares spot (way_of call spot).itself clear
+  wanted_spares (Move from to overwrite) p clear =
+      move_spares from to (way_of call from).itself refl p.place.source p.place.target p.fits p.few clear
+  wanted_spares (Copy from to overwrite) p clear =
+      copy_spares from to (p.place.source refl) p.place.target p.fits (transfer_of t.nodes (led from to)) refl p.few clear
 
 -- ---- nobody is in the way
 
@@ -300,18 +363,17 @@ none_blocks nodes seat touches tickets none =
 -- a call that may do something leaves alone what no touch of it clashes with
 call_spares : (call : Call) (act : Allowed) (hold : Hold) → IsSound call.state → MayWant call.request → call_decision call ≡ Ok act
     → IsClear call.state.tables hold (touches call.state.tables.nodes (asked_by call) (places_of call))
-    → Spares call.state.tables call.now (user_of call) hold act
-unfolding target_rule limit_rule
+    → Spares call.state.tables call.now hold act
 call_spares call act hold sound may is clear =
     let h = call_passes call act is in
     let row = has_row call may h.0.not_you in
-    subst (λ (a : Allowed). Spares call.state.tables call.now (user_of call) hold a) h.1
-    (wanted_spares call call.request.wanted row.0 hold sound.rows row.1 (no_fault _ h.0.target) (no_limit _ h.0.limit) clear)
+    subst (λ (a : Allowed). Spares call.state.tables call.now hold a) h.1
+    (wanted_spares call row.0 hold sound.rows row.1 call.request.wanted (wanted_passes call may h.0) clear)
 
 -- and what no other seat's hold is
 begin_spares : (call : Call) (act : Allowed) → IsSound call.state → MayWant call.request → IsNone (ticket_of call.state call.seat)
     → call_decision call ≡ Ok act
-    → All (λ ticket. IfSome ticket.hold (λ hold. Spares call.state.tables call.now (user_of call) hold act)) call.state.tickets
+    → All (λ ticket. IfSome ticket.hold (λ hold. Spares call.state.tables call.now hold act)) call.state.tickets
 unfolding locked_rule
 begin_spares call act sound may none is k d within =
     here ticket.hold (clear (ticket.seat == call.seat) (option_map_or (λ hold. list_any (λ touch. clashes t.nodes touch hold) all) ticket.hold false)
@@ -332,15 +394,15 @@ begin_spares call act sound may none is k d within =
     clear true clashing h other = absurd (cc)
 
     here : (o : Option Hold) → option_map_or (λ hold. list_any (λ touch. clashes t.nodes touch hold) all) o false ≡ false
-        → IfSome o (λ hold. Spares t call.now (user_of call) hold act)
+        → IfSome o (λ hold. Spares t call.now hold act)
     here None clear = tt
     here (Some hold) clear = call_spares call act hold sound may is clear
 
 -- ---- what an End leaves alone
 
-put_again : (t : Tables) (now node : ℕ) (content : List Piece) (blob : Option ℕ) (who : Option ℕ) (hold : Hold) → AreSound t → hold.key ≢ Node node
-    → Spares t now who hold (allowed.Change (refilled (node_row t.nodes node) now content) blob Done)
-put_again t now node content blob who hold sound other = here (node_row t.nodes node) refl
+put_again : (t : Tables) (now node : ℕ) (content : List Piece) (blob : Option ℕ) (hold : Hold) → AreSound t → hold.key ≢ Node node
+    → Spares t now hold (allowed.Change (refilled (node_row t.nodes node) now content) blob report.Done)
+put_again t now node content blob hold sound other = here (node_row t.nodes node) refl
   where
     one : (row : NodeRow) → node_row t.nodes node ≡ Some row → SparesRow t hold.key (record row { content = content; changed = now })
     one row there =
@@ -362,28 +424,28 @@ put_again t now node content blob who hold sound other = here (node_row t.nodes 
             All-cons (SparesChange t hold.key) (Put (rows.Node (record row { content = content; changed = now }))) [] (one row there)
             (All-nil (SparesChange t hold.key))
 
-key_spares : (t : Tables) (now : ℕ) (who : Option ℕ) (hold : Hold) (key : LockKey) (digest : List ℕ) (size : ℕ) → AreSound t → hold.key ≢ key
-    → Spares t now who hold (stored_at t now key digest size)
-key_spares t now who hold (Node node) digest size sound other =
-    put_again t now node (content_in (blob_for t.meta.next_blob size) digest size) (blob_for t.meta.next_blob size) who hold sound other
-key_spares t now who hold (Slot folder name) digest size sound other =
-    new_spared t now folder name File (content_in (blob_for t.meta.next_blob size) digest size) (blob_for t.meta.next_blob size) who hold other
+key_spares : (t : Tables) (now : ℕ) (hold : Hold) (key : LockKey) (digest : List ℕ) (size : ℕ) → AreSound t → hold.key ≢ key
+    → Spares t now hold (stored_at t now key digest size)
+key_spares t now hold (Node node) digest size sound other =
+    put_again t now node (content_in (blob_for t.meta.next_blob size) digest size) (blob_for t.meta.next_blob size) hold sound other
+key_spares t now hold (Slot folder name) digest size sound other =
+    new_spared t now folder name File (content_in (blob_for t.meta.next_blob size) digest size) (blob_for t.meta.next_blob size) hold other
 
-closed_spares : (t : Tables) (now : ℕ) (who : Option ℕ) (act : Allowed) → ◌≡◌ {A = Result Allowed Denial} (Ok allowed.Close) (Ok act)
-    → (hold : Hold) → Spares t now who hold act
-closed_spares t now who act is hold = let e : allowed.Close ≡ act = cc in subst (λ (a : Allowed). Spares t now who hold a) e tt
+closed_spares : (t : Tables) (now : ℕ) (act : Allowed) → ◌≡◌ {A = Result Allowed Denial} (Ok allowed.Close) (Ok act)
+    → (hold : Hold) → Spares t now hold act
+closed_spares t now act is hold = let e : allowed.Close ≡ act = cc in subst (λ (a : Allowed). Spares t now hold a) e tt
 
 -- it leaves alone what is apart from what its seat holds
-goal_spares : (access : Access) (t : Tables) (now : ℕ) (who : Option ℕ) (goal : Goal) (own : Option Hold) (outcome : Outcome) (act : Allowed) (hold : Hold)
-    → AreSound t → HoldsFor goal own → AreApartHolds own (Some hold) → ends_goal access t now outcome goal ≡ Ok act → Spares t now who hold act
-goal_spares access t now who (Store by key wanted) own (Body digest size) act hold sound holds other is =
+goal_spares : (access : Access) (t : Tables) (now : ℕ) (goal : Goal) (own : Option Hold) (outcome : Outcome) (act : Allowed) (hold : Hold)
+    → AreSound t → HoldsFor goal own → AreApartHolds own (Some hold) → ends_goal access t now outcome goal ≡ Ok act → Spares t now hold act
+goal_spares access t now (Store by key wanted) own (Body digest size) act hold sound holds other is =
     let h = not_refused (end_refusal access t now by key size) (stored_at t now key digest size) act is in
-    subst (λ (a : Allowed). Spares t now who hold a) h.1
-    (key_spares t now who hold key digest size sound
+    subst (λ (a : Allowed). Spares t now hold a) h.1
+    (key_spares t now hold key digest size sound
     (other_key key hold (subst (λ (o : Option Hold). AreApartHolds o (Some hold)) holds other)))
-goal_spares access t now who (Serve content) own (Body digest size) act hold sound holds other is = closed_spares t now who act is hold
-goal_spares access t now who goal own Sent act hold sound holds other is = closed_spares t now who act is hold
-goal_spares access t now who goal own Gone act hold sound holds other is = closed_spares t now who act is hold
+goal_spares access t now (Serve content) own (Body digest size) act hold sound holds other is = closed_spares t now act is hold
+goal_spares access t now goal own Sent act hold sound holds other is = closed_spares t now act is hold
+goal_spares access t now goal own Gone act hold sound holds other is = closed_spares t now act is hold
 
 -- what is found is apart from all that isn't sought, where each two are apart
 pub found_apart : {X : Type 0} (R : X → X → Type 0) (turned : (a b : X) → R a b → R b a) (test : X → Bool) (xs : List X) (x : X)
@@ -418,28 +480,28 @@ holds_turned a b = here a.hold b.hold
     here (Some one) None apart = tt
     here (Some one) (Some other) apart = λ same. let both = apart (sym same) in (both.1, both.0)
 
-end_spares : (s : State) (seat now : ℕ) (outcome : Outcome) (act : Allowed) (who : Option ℕ) → IsSound s → end_decision (access_of s) s seat now outcome ≡ Ok act
-    → All (λ ticket. IfSome ticket.hold (λ hold. Spares s.tables now who hold act)) (without_ticket s seat).tickets
-end_spares s seat now outcome act who sound is = here (ticket_of s seat) refl is
+end_spares : (s : State) (seat now : ℕ) (outcome : Outcome) (act : Allowed) → IsSound s → end_decision (access_of s) s seat now outcome ≡ Ok act
+    → All (λ ticket. IfSome ticket.hold (λ hold. Spares s.tables now hold act)) (without_ticket s seat).tickets
+end_spares s seat now outcome act sound is = here (ticket_of s seat) refl is
   where
     left : List Ticket
     left = (without_ticket s seat).tickets
 
     Left : Ticket → Type 0
-    Left ticket = IfSome ticket.hold (λ hold. Spares s.tables now who hold act)
+    Left ticket = IfSome ticket.hold (λ hold. Spares s.tables now hold act)
 
     others : All (λ (ticket : Ticket). not (ticket.seat == seat) ≡ true) left
     others = filter_passes (λ ticket. not (ticket.seat == seat)) s.tickets
 
-    of_none : ◌≡◌ {A = Result Allowed Denial} (Ok allowed.Close) (Ok act) → (o : Option Hold) → IfSome o (λ hold. Spares s.tables now who hold act)
+    of_none : ◌≡◌ {A = Result Allowed Denial} (Ok allowed.Close) (Ok act) → (o : Option Hold) → IfSome o (λ hold. Spares s.tables now hold act)
     of_none is None = tt
-    of_none is (Some hold) = closed_spares s.tables now who act is hold
+    of_none is (Some hold) = closed_spares s.tables now act is hold
 
     of_goal : (own : Ticket) → HoldsFor own.goal own.hold → ends_goal (access_of s) s.tables now outcome own.goal ≡ Ok act
-        → (o : Option Hold) → AreApartHolds own.hold o → IfSome o (λ hold. Spares s.tables now who hold act)
+        → (o : Option Hold) → AreApartHolds own.hold o → IfSome o (λ hold. Spares s.tables now hold act)
     of_goal own holds is None apart = tt
     of_goal own holds is (Some hold) apart =
-        goal_spares (access_of s) s.tables now who own.goal own.hold outcome act hold sound.rows holds apart is
+        goal_spares (access_of s) s.tables now own.goal own.hold outcome act hold sound.rows holds apart is
 
     here : (o : Option Ticket) → ticket_of s seat ≡ o
         → ends_at (access_of s) s.tables now outcome (option_map (λ ticket. ticket.goal) o) ≡ Ok act → All Left left
@@ -456,7 +518,7 @@ end_spares s seat now outcome act who sound is = here (ticket_of s seat) refl is
 -- a step leaves alone what the others hold
 pub step_spares : (s : State) (seat now : ℕ) (event : Event) (act : Allowed) → IsSound s → MayAsk s seat event
     → decision_of s seat now event ≡ Ok act
-    → All (λ ticket. IfSome ticket.hold (λ hold. Spares s.tables now (actor_of s seat event) hold act)) (without s seat event).tickets
+    → All (λ ticket. IfSome ticket.hold (λ hold. Spares s.tables now hold act)) (without s seat event).tickets
 step_spares s seat now (Begin words request) act sound asked is =
     begin_spares (call_of s seat now words request) act sound asked.1 asked.0 is
-step_spares s seat now (End outcome) act sound asked is = end_spares s seat now outcome act (actor_of s seat (End outcome)) sound is
+step_spares s seat now (End outcome) act sound asked is = end_spares s seat now outcome act sound is

@@ -1,20 +1,17 @@
--- Who asks, and where the paths of a call that no rule refuses start.
+-- Who asks, and the root of who does.
 use Rattle.std.proofs.Common.{◌≡◌, ℕ, ◌==◌, ◌∷◌, ◌++◌, Bool, if◌then◌else◌, bytes_eq, sym, true, false, List, [], ◌∙◌, Option, refl, ap, subst}
 use Rattle.std.specs.Prelude.{None, Some, is_some}
 use Rattle.std.specs.List.{list_all}
 use Rattle.std.specs.Option.{IfSome, option_and_then, option_map_or}
 use Rattle.std.proofs.lemmas.Bool.{and_parts, eqb-true, false≢true}
 use Rattle.std.proofs.lemmas.List.{append-nil}
-use Rattle.nf_access.specs.Mounts.{mount_at}
-use Rattle.nf_base.specs.declared.rows.MountRow.{MountRow}
 use Rattle.nf_base.specs.declared.rows.NodeRow.{NodeRow}
+use Rattle.nf_base.specs.declared.rows.Place.TheVariants.{Root}
 use Rattle.nf_base.specs.declared.rows.UserRow.{UserRow}
-use Rattle.nf_defs.specs.Prelude.{child_of, folder_of, found_from, parent_of, Tables, user_row}
-use Rattle.nf_defs.specs.declared.Found.{Found}
+use Rattle.nf_defs.specs.Prelude.{folder_of, node_row, parent_of, user_row}
 use Rattle.nf_words.proofs.Found.{found_has, found_passes}
-use Rattle.nf_words.proofs.Fits.{KnownPath}
 use Rattle.nf_words.proofs.Passing.{if_none}
-use Rattle.nf_words.specs.Prelude.{access_of, AreSound, asked_of, asker_of, Call, caller_row, found, HasNoLater, HasRoot, is_caller, MayWant, mount_of, mounted, named_in, NamesUser, not_you_rule, root_of, user_of, users_of, Way, way_by, way_of}
+use Rattle.nf_words.specs.Prelude.{access_of, AreSound, asked_of, Call, caller_row, HasRoot, is_caller, MayWant, named_in, NamesUser, not_you_rule, root_of, user_of, users_of}
 use Rattle.nf_words.specs.declared.request.Caller.{Caller}
 use Rattle.nf_words.specs.declared.request.Caller.TheVariants.{Absent, Token}
 use Rattle.nf_words.specs.declared.request.Spot.{Spot}
@@ -70,52 +67,29 @@ row_of_caller rows (Some user) row is =
     let e : row.id ≡ user = eqb-true row.id user (found_passes (λ (row : UserRow). row.id == user) rows row is) in
     (ap Some (sym e), subst (λ (u : ℕ). user_row rows u ≡ Some row) (sym e) is)
 
--- as long as there are no mounts no path goes by one
-pub unmounted : (call : Call) (spot : Spot) → HasNoLater call.state.tables → mount_of call spot ≡ None
-unmounted call spot (shares, (mounts, others)) =
-    ap (λ (rows : List MountRow). mounted t.nodes rows (asker_of call) (root_of call) spot.path) mounts ∙ none spot.path
-  where
-    t : Tables
-    t = call.state.tables
+-- the caller's root is there: a folder of the caller's, which is in none
+pub record IsRootOf (call : Call) (user : UserRow) : Type 0 where
+  pub row : NodeRow
+  pub there : node_row call.state.tables.nodes (root_of call) ≡ Some row
+  pub place : row.place ≡ Root
+  pub owner : row.owner ≡ user.id
 
-    here : (b : Bool) (name : List ℕ) → (if b then None else mount_at [] (asker_of call) name) ≡ None
-    here true name = refl
-    here false name = refl
-
-    none : (names : List (List ℕ)) → mounted t.nodes [] (asker_of call) (root_of call) names ≡ None
-    none [] = refl
-    none (name ∷ names) = here (is_some (child_of t.nodes (root_of call) name)) name
-
--- and each leads from the caller's root
-pub from_root : (call : Call) (spot : Spot) → HasNoLater call.state.tables
-    → way_of call spot ≡ way_by call.state.tables.nodes (root_of call) spot.path None
-from_root call spot later = ap (way_by call.state.tables.nodes (root_of call) spot.path) (unmounted call spot later)
-
-pub led_from_root : (call : Call) (spot : Spot) (place : Found) → AreSound call.state.tables → found call spot ≡ place
-    → found_from call.state.tables.nodes 0 (root_of call) spot.path ≡ place
-led_from_root call spot place sound leads = sym (ap (λ (way : Way). way.place) (from_root call spot sound.later)) ∙ leads
-
--- its path leads from the caller's root
-unfoldable pub path_known : (call : Call) (spot : Spot) (place : Found) (row : UserRow) → AreSound call.state.tables → caller_row call ≡ Some row
-    → found call spot ≡ place → KnownPath call.state.tables (user_of call) place
-path_known call spot place row sound is leads =
-    let h = row_of_caller call.state.tables.users (user_of call) row is in
-    let root : root_of call ≡ row.root = ap (λ (o : Option UserRow). option_map_or (λ row. row.root) o 0) is in
+pub root_is : (call : Call) (user : UserRow) → AreSound call.state.tables → caller_row call ≡ Some user → IsRootOf call user
+root_is call user sound is =
+    let t = call.state.tables in
+    let there = (row_of_caller t.users (user_of call) user is).1 in
+    let root = subst (λ (o : Option UserRow). IfSome o (HasRoot t)) there
+    (found_has (HasRoot t) (λ (row : UserRow). row.id == user.id) t.users sound.roots) in
     record {
-      row = row;
-      caller = h.0;
-      there = h.1;
-      names = spot.path;
-      leads = subst (λ (n : ℕ). found_from call.state.tables.nodes 0 n spot.path ≡ place) root (led_from_root call spot place sound leads);
+      row = root.row;
+      there = ap (λ (o : Option UserRow). node_row t.nodes (option_map_or (λ row. row.root) o 0)) is ∙ root.there;
+      place = root.place;
+      owner = root.owner;
     }
 
--- the caller's root is in no folder
-pub root_known : (call : Call) (row : UserRow) → AreSound call.state.tables → caller_row call ≡ Some row
+-- so it is in no folder
+pub root_known : (call : Call) (user : UserRow) → AreSound call.state.tables → caller_row call ≡ Some user
     → parent_of call.state.tables.nodes (root_of call) ≡ None
-root_known call row sound is =
-    let t = call.state.tables in
-    let there = (row_of_caller t.users (user_of call) row is).1 in
-    let root = subst (λ (o : Option UserRow). IfSome o (HasRoot t)) there
-    (found_has (HasRoot t) (λ (user : UserRow). user.id == row.id) t.users sound.roots) in
-    ap (λ (o : Option UserRow). parent_of t.nodes (option_map_or (λ row. row.root) o 0)) is
-    ∙ ap (λ (o : Option NodeRow). option_and_then (λ row. folder_of row.place) o) root.there ∙ ap folder_of root.place
+root_known call user sound is =
+    let root = root_is call user sound is in
+    ap (λ (o : Option NodeRow). option_and_then (λ row. folder_of row.place) o) root.there ∙ ap folder_of root.place

@@ -170,6 +170,7 @@ goal_of_reply : (act : Allowed) (goal : Goal) → reply_to act ≡ Granted goal 
 goal_of_reply (allowed.Change changes blob report) goal is = absurd (reports_nothing report goal is)
 goal_of_reply (allowed.Move transfer name) goal is = absurd (put_grants_nothing transfer.replaced goal is)
 goal_of_reply (allowed.Copy rows replaced) goal is = absurd (put_grants_nothing replaced goal is)
+goal_of_reply (allowed.Cross rows replaced node) goal is = absurd (put_grants_nothing replaced goal is)
 goal_of_reply act goal is = cc
 
 pub ok_reply : (x y : Reply) → ◌≡◌ {A = Result Reply Denial} (Ok x) (Ok y) → x ≡ y

@@ -1,7 +1,7 @@
 -- What is known of a MOVE or a COPY that no rule refuses.
-use Rattle.std.proofs.Common.{◌≡◌, ℕ, ◌≤◌, ◌||◌, Bool, true, false, List, length, ◌∙◌, Option, option_map, if◌then◌else◌, refl, ap, subst, arith}
+use Rattle.std.proofs.Common.{◌≡◌, ℕ, ◌≤◌, ◌||◌, ◌&&◌, not, Bool, true, false, List, length, ◌∙◌, Option, option_map, if◌then◌else◌, refl, sym, ap, subst, arith}
 use Rattle.std.specs.Prelude.{None, Some}
-use Rattle.std.specs.Option.{option_and_then, option_map_or}
+use Rattle.std.specs.Option.{option_and_then, option_map_or, option_or}
 use Rattle.std.proofs.lemmas.Option.{none-some, same_Some}
 use Rattle.nf_base.specs.declared.limits.TheConstants.{MAX_DEPTH}
 use Rattle.nf_base.specs.declared.rows.NodeRow.{NodeRow}
@@ -9,11 +9,12 @@ use Rattle.nf_base.specs.declared.rows.UserRow.{UserRow}
 use Rattle.nf_defs.specs.Prelude.{child_of, is_folder, is_root, Tables, walk_of}
 use Rattle.nf_defs.specs.declared.Found.{Found}
 use Rattle.nf_defs.specs.declared.Found.TheVariants.{At, Free, Missing}
-use Rattle.nf_words.proofs.Fits.{KnownPath, within}
-use Rattle.nf_words.proofs.Found.{at_known, free_known}
-use Rattle.nf_words.proofs.Known.{Known, KnownCopies, KnownTransfer, target_place}
-use Rattle.nf_words.proofs.Starts.{led_from_root, path_known, root_known}
-use Rattle.nf_words.specs.Prelude.{AreSound, Call, caller_row, copied, copies_to, copy_limit, deepest_in, folder_at, found, last_name, misplaced, move_limit, moved, node_found, pieces_in, root_of, transfer_of, transfer_to, unfit_between, user_of}
+use Rattle.nf_words.proofs.Fits.{within}
+use Rattle.nf_words.proofs.Known.{Known, KnownCopies, KnownCross, KnownMove, KnownTransfer}
+use Rattle.nf_words.proofs.Ways.{at_in, HasRow, slot_known, taken_unmounted, way_there}
+use Rattle.nf_words.specs.Prelude.{access_of, AreSound, Call, caller_row, carried, carry_limit, copied, copies_to, copy_limit, crosses, deepest_in, folder_at, folder_in, found, is_off_mount, is_root_at, IsUnmounted, last_name, misplaced, misplaced_by, move_limit, moved, node_found, pieces_in, root_of, transfer_between, transfer_by, transfer_of, transfer_to, unfit_between, unreached, Way, Ways, way_of}
+use Rattle.nf_words.specs.declared.answer.Allowed.TheVariants as allowed
+use Rattle.nf_words.specs.declared.answer.TargetFault.{TargetFault}
 use Rattle.nf_words.specs.declared.answer.TargetFault.TheVariants as target
 use Rattle.nf_words.specs.declared.request.Places.{Places}
 use Rattle.nf_words.specs.declared.request.Spot.{Spot}
@@ -35,52 +36,70 @@ transfer_parts rows node place transfer is = here (folder_at rows place) is
         )
 
 -- what is known of the place that something is put at
-record KnownTarget (t : Tables) (who : Option ℕ) (transfer : Transfer) (name : List ℕ) : Type 0 where
-  path : KnownPath t who (target_place transfer)
+record KnownTarget (t : Tables) (transfer : Transfer) (name : List ℕ) : Type 0 where
   in_folder : is_folder t.nodes transfer.folder ≡ true
   there : child_of t.nodes transfer.folder name ≡ transfer.replaced
+  unmounted : IsUnmounted t transfer.folder name
 
 target_known : (call : Call) (spot : Spot) (place : Found) (row : UserRow) (transfer : Transfer)
-    → AreSound call.state.tables → caller_row call ≡ Some row → found call spot ≡ place
+    → AreSound call.state.tables → caller_row call ≡ Some row → unreached (access_of call.state) call (way_of call spot) ≡ None
+    → (way_of call spot).itself ≡ false → found call spot ≡ place
     → node_found place ≡ transfer.replaced → folder_at call.state.tables.nodes place ≡ Some transfer.folder
-    → KnownTarget call.state.tables (user_of call) transfer (last_name spot)
-target_known call spot (At node) row transfer sound is leads replaced above =
+    → KnownTarget call.state.tables transfer (last_name spot)
+target_known call spot (At node) row transfer sound is reached other leads replaced above =
     let t = call.state.tables in
-    let step = at_known t.nodes (root_of call) spot.path node transfer.folder sound.rising (root_known call row sound is)
-    (led_from_root call spot (At node) sound leads) above in
+    let step = at_in call spot row sound is node transfer.folder other leads above in
     record {
-      path = subst (λ (o : Option ℕ). KnownPath t (user_of call) (option_map_or At o (Free transfer.folder))) replaced
-          (path_known call spot (At node) row sound is leads);
       in_folder = step.0;
       there = step.1 ∙ replaced;
+      unmounted = taken_unmounted t transfer.folder node (last_name spot) sound step.1;
     }
-target_known call spot (Free folder) row transfer sound is leads replaced above =
+target_known call spot (Free folder) row transfer sound is reached other leads replaced above =
     let t = call.state.tables in
     let same = same_Some folder transfer.folder above in
-    let free = free_known t.nodes 0 (root_of call) spot.path folder (led_from_root call spot (Free folder) sound leads) in
+    let slot = slot_known call spot row sound is folder reached leads in
     record {
-      path = subst (λ (o : Option ℕ). KnownPath t (user_of call) (option_map_or At o (Free transfer.folder))) replaced
-          (subst (λ (n : ℕ). KnownPath t (user_of call) (Free n)) same (path_known call spot (Free folder) row sound is leads));
-      in_folder = subst (λ (n : ℕ). is_folder t.nodes n ≡ true) same free.0;
-      there = subst (λ (n : ℕ). child_of t.nodes n (last_name spot) ≡ None) same free.1 ∙ replaced;
+      in_folder = subst (λ (n : ℕ). is_folder t.nodes n ≡ true) same slot.folds;
+      there = subst (λ (n : ℕ). child_of t.nodes n (last_name spot) ≡ None) same slot.free ∙ replaced;
+      unmounted = subst (λ (n : ℕ). IsUnmounted t n (last_name spot)) same slot.unmounted;
     }
-target_known call spot (Missing depth) row transfer sound is leads replaced above = absurd (none-some transfer.folder above)
+target_known call spot (Missing depth) row transfer sound is reached other leads replaced above = absurd (none-some transfer.folder above)
 
 none_misplaced : (a b c : Bool)
     → (if a then Some target.Same else if b || c then Some target.Inside else None) ≡ None → (a ≡ false) × (b ≡ false) × (c ≡ false)
 none_misplaced false false false none = (refl, refl, refl)
 none_misplaced a b c none = absurd (cc)
 
--- what fits is of no root, and well placed
-fit_parts : (rows : List NodeRow) (root : Bool) (transfer : Transfer) (o : Option Transfer) → o ≡ Some transfer
-    → (if root then Some target.Root else option_map_or (misplaced rows) o (Some target.Root)) ≡ None
-    → (root ≡ false) × (misplaced rows transfer ≡ None)
-fit_parts rows true transfer o is fits = absurd (cc)
-fit_parts rows false transfer o is fits =
-    (refl, subst (λ (o : Option Transfer). option_map_or (misplaced rows) o (Some target.Root) ≡ None) is fits)
+none_off : (o : Option TargetFault) (off : Bool) → option_or o (if off then Some target.Mount else None) ≡ None → (o ≡ None) × (off ≡ false)
+none_off None false none = (refl, refl)
+none_off o off none = absurd (cc)
 
--- what is moved or copied, by a caller whose row is there
-module _ (call : Call) (source target : Spot) (row : UserRow) (sound : AreSound call.state.tables) (is : caller_row call ≡ Some row) where
+-- what fits is of no root, over no mount, and well placed
+pub record FitParts (rows : List NodeRow) (root off : Bool) (o : Option Transfer) : Type 0 where
+  pub transfer : Transfer
+  pub is : o ≡ Some transfer
+  pub no_root : root ≡ false
+  pub placed : misplaced rows transfer ≡ None
+  pub on : off ≡ false
+
+pub fit_parts : (rows : List NodeRow) (root off : Bool) (o : Option Transfer)
+    → (if root then Some target.Root else option_map_or (misplaced_by rows off) o (Some target.Root)) ≡ None → FitParts rows root off o
+fit_parts rows true off o fits = absurd (cc)
+fit_parts rows false off None fits = absurd (cc)
+fit_parts rows false off (Some transfer) fits =
+    let parts = none_off (misplaced rows transfer) off fits in
+    record { transfer = transfer; is = refl; no_root = refl; placed = parts.0; on = parts.1 }
+
+-- from a node to the end of a way that isn't a mount itself
+pub same_transfer : (rows : List NodeRow) (root node : ℕ) (way : Way) → way.itself ≡ false → transfer_by rows root node way ≡ transfer_to rows node way.place
+same_transfer rows root node way other =
+    ap (λ (b : Bool). option_map (λ folder. record { node = node; folder = folder; replaced = node_found way.place })
+    (if b then Some root else folder_at rows way.place)) other
+
+-- what is moved or copied, by a caller whose row is there and who is reached
+module _ (call : Call) (source target : Spot) (row : UserRow) (sound : AreSound call.state.tables) (is : caller_row call ≡ Some row)
+    (from_reached : unreached (access_of call.state) call (way_of call source) ≡ None)
+    (to_reached : unreached (access_of call.state) call (way_of call target) ≡ None) where
   abbrev t : Tables
   t = call.state.tables
 
@@ -90,23 +109,40 @@ module _ (call : Call) (source target : Spot) (row : UserRow) (sound : AreSound 
   abbrev places : Places
   places = led_to (found call source)
 
-  pub transfer_known : (transfer : Transfer) → transfer_of t.nodes places ≡ Some transfer → unfit_between t.nodes places ≡ None
-      → deepest_in t.nodes transfer.node transfer.folder ≤ MAX_DEPTH → KnownTransfer t (user_of call) transfer (last_name target)
+  abbrev ways : Ways
+  ways = record { source = Some (way_of call source); target = Some (way_of call target) }
+
+  -- it doesn't end at a mount itself
+  pub no_mount : unfit_between t.nodes (root_of call) false ways ≡ None → (way_of call target).itself ≡ false
+  no_mount fits =
+      (fit_parts t.nodes (is_root_at t.nodes (Some (way_of call source))) (is_off_mount (root_of call) false (way_of call target))
+      (transfer_between t.nodes (root_of call) ways) fits).on
+
+  pub transfer_known : (transfer : Transfer) → transfer_of t.nodes places ≡ Some transfer → unfit_between t.nodes (root_of call) false ways ≡ None
+      → deepest_in t.nodes transfer.node transfer.folder ≤ MAX_DEPTH → KnownTransfer t transfer (last_name target)
   transfer_known transfer led fits deep = here (found call source) refl led fits
     where
-      here : (from : Found) → found call source ≡ from → transfer_of t.nodes (led_to from) ≡ Some transfer → unfit_between t.nodes (led_to from) ≡ None
-          → KnownTransfer t (user_of call) transfer (last_name target)
+      here : (from : Found) → found call source ≡ from → transfer_of t.nodes (led_to from) ≡ Some transfer
+          → unfit_between t.nodes (root_of call) false ways ≡ None → KnownTransfer t transfer (last_name target)
       here (At node) leads led fits =
           let parts = transfer_parts t.nodes node (found call target) transfer led in
-          let at = target_known call target (found call target) row transfer sound is refl parts.1 parts.2 in
-          let fit = fit_parts t.nodes (is_root t.nodes node) transfer (transfer_to t.nodes node (found call target)) led fits in
-          let placed = none_misplaced _ _ _ fit.1 in
+          let other = no_mount fits in
+          let at = target_known call target (found call target) row transfer sound is to_reached other refl parts.1 parts.2 in
+          let fit = fit_parts t.nodes (is_root_at t.nodes (Some (way_of call source))) (is_off_mount (root_of call) false (way_of call target))
+          (transfer_between t.nodes (root_of call) ways) fits in
+          let between : transfer_between t.nodes (root_of call) ways ≡ transfer_by t.nodes (root_of call) node (way_of call target) =
+          ap (λ (place : Found). option_and_then (λ node. transfer_by t.nodes (root_of call) node (way_of call target)) (node_found place)) leads in
+          let it : fit.transfer ≡ transfer =
+          same_Some fit.transfer transfer (sym fit.is ∙ between ∙ same_transfer t.nodes (root_of call) node (way_of call target) other ∙ led) in
+          let placed = none_misplaced _ _ _ (subst (λ (x : Transfer). misplaced t.nodes x ≡ None) it fit.placed) in
+          let there = way_there call source row sound is node from_reached leads in
           record {
-            source = subst (λ (n : ℕ). KnownPath t (user_of call) (At n)) parts.0 (path_known call source (At node) row sound is leads);
-            target = at.path;
-            no_root = subst (λ (n : ℕ). is_root t.nodes n ≡ false) parts.0 fit.0;
+            source = subst (HasRow t.nodes) parts.0 there;
+            no_root = subst (λ (n : ℕ). is_root t.nodes n ≡ false) parts.0
+                (sym (ap (λ (place : Found). option_map_or (is_root t.nodes) (node_found place) false) leads) ∙ fit.no_root);
             in_folder = at.in_folder;
             there = at.there;
+            unmounted = at.unmounted;
             differs = placed.0;
             outside = placed.1;
             apart = placed.2;
@@ -114,19 +150,9 @@ module _ (call : Call) (source target : Spot) (row : UserRow) (sound : AreSound 
           }
       here nowhere leads led fits = absurd (none-some transfer led)
 
-  pub moved_known : unfit_between t.nodes places ≡ None → option_and_then (move_limit t) (transfer_of t.nodes places) ≡ None
-      → Known t call.now (user_of call) (moved (last_name target) (transfer_of t.nodes places))
-  moved_known fits some = here (transfer_of t.nodes places) refl some
-    where
-      here : (o : Option Transfer) → transfer_of t.nodes places ≡ o → option_and_then (move_limit t) o ≡ None
-          → Known t call.now (user_of call) (moved (last_name target) o)
-      here None e some = tt
-      here (Some transfer) e some =
-          transfer_known transfer e fits (within t 0 (deepest_in t.nodes transfer.node transfer.folder) 0 0 some).deep
-
-  unfoldable pub copies_known : (transfer : Transfer) → transfer_of t.nodes places ≡ Some transfer → unfit_between t.nodes places ≡ None
+  unfoldable pub copies_known : (transfer : Transfer) → transfer_of t.nodes places ≡ Some transfer → unfit_between t.nodes (root_of call) false ways ≡ None
       → copy_limit t transfer ≡ None
-      → KnownCopies t call.now (user_of call) (copies_to t call.now transfer (last_name target)) transfer.replaced
+      → KnownCopies t call.now (copies_to t call.now transfer (last_name target)) transfer.replaced
   copies_known transfer e fits some =
       let nodes = walk_of t.nodes transfer.node in
       let fits_in = within t (length nodes) (deepest_in t.nodes transfer.node transfer.folder) (pieces_in t.nodes nodes) 0 some in
@@ -142,11 +168,31 @@ module _ (call : Call) (source target : Spot) (row : UserRow) (sound : AreSound 
         next_blob = omega (arith, fits_in.next_blob);
       }
 
-  pub copied_known : unfit_between t.nodes places ≡ None → option_and_then (copy_limit t) (transfer_of t.nodes places) ≡ None
-      → Known t call.now (user_of call) (copied t call.now (last_name target) (transfer_of t.nodes places))
+  pub moved_known : unfit_between t.nodes (root_of call) false ways ≡ None → option_and_then (carry_limit t) (transfer_of t.nodes places) ≡ None
+      → Known t call.now (moved t call.now (last_name target) (transfer_of t.nodes places))
+  unfolding copies_known
+  moved_known fits some = here (transfer_of t.nodes places) refl some
+    where
+      carries : (transfer : Transfer) (b : Bool) → crosses t.nodes transfer ≡ b → transfer_of t.nodes places ≡ Some transfer
+          → (if b then copy_limit t transfer else move_limit t transfer) ≡ None
+          → Known t call.now (if b then allowed.Cross (copies_to t call.now transfer (last_name target)) transfer.replaced transfer.node
+          else allowed.Move transfer (last_name target))
+      carries transfer true across e some = record { copies = copies_known transfer e fits some; node_is = refl; crosses = across }
+      carries transfer false across e some = record {
+        known = transfer_known transfer e fits (within t 0 (deepest_in t.nodes transfer.node transfer.folder) 0 0 some).deep;
+        within = across;
+      }
+
+      here : (o : Option Transfer) → transfer_of t.nodes places ≡ o → option_and_then (carry_limit t) o ≡ None
+          → Known t call.now (moved t call.now (last_name target) o)
+      here None e some = tt
+      here (Some transfer) e some = carries transfer (crosses t.nodes transfer) refl e some
+
+  pub copied_known : unfit_between t.nodes (root_of call) false ways ≡ None → option_and_then (copy_limit t) (transfer_of t.nodes places) ≡ None
+      → Known t call.now (copied t call.now (last_name target) (transfer_of t.nodes places))
   copied_known fits some = here (transfer_of t.nodes places) refl some
     where
       here : (o : Option Transfer) → transfer_of t.nodes places ≡ o → option_and_then (copy_limit t) o ≡ None
-          → Known t call.now (user_of call) (copied t call.now (last_name target) o)
+          → Known t call.now (copied t call.now (last_name target) o)
       here None e some = tt
       here (Some transfer) e some = copies_known transfer e fits some

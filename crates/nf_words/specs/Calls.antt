@@ -1,5 +1,5 @@
 -- A request as the rules see it: who asks, what it names, and where its paths lead.
-use Rattle.std.specs.Prelude.{ℕ, ◌-◌, Bool, true, false, List, [], ◌∷◌, drop, length, Option, None, Some, is_some, option_map, option_and_then, slice_get, unwrap_or, if◌then◌else◌}
+use Rattle.std.specs.Prelude.{ℕ, ◌-◌, ◌&&◌, Bool, true, false, List, [], ◌∷◌, drop, length, Option, None, Some, is_some, option_map, option_and_then, slice_get, unwrap_or, if◌then◌else◌}
 use Rattle.std.specs.Option.{option_map_or}
 use Rattle.nf_access.specs.Mounts.{mount_at}
 use Rattle.nf_base.specs.declared.rows.MountRow.{MountRow}
@@ -94,8 +94,29 @@ way_of call spot = way_by call.state.tables.nodes (root_of call) spot.path (moun
 abbrev pub found : Call → Spot → Found
 found call spot = (way_of call spot).place
 
+-- the ways of a request's paths
+pub record Ways : Type 0 where
+  pub source : Option Way
+  pub target : Option Way
+
+abbrev pub ways_for : Call → Asked → Ways
+ways_for call asked = record { source = option_map (way_of call) asked.source; target = option_map (way_of call) asked.target }
+
+abbrev pub ways_of : Call → Ways
+ways_of call = ways_for call (asked_by call)
+
+-- a mount that is to be left or to have another name: its own path is that of what wouldn't stay
+abbrev pub is_mount_asked : Asked → Option Way → Bool
+is_mount_asked asked source = asked.removes && option_map_or (λ way. way.itself) source false
+
+abbrev pub place_at : Option Way → Option Found
+place_at way = option_map (λ way. way.place) way
+
+-- the places at which something is acted upon: where a mount is left or renamed itself, nothing is
+abbrev pub places_by : Asked → Ways → Places
+places_by asked ways =
+    if is_mount_asked asked ways.source then record { source = None; target = None }
+    else record { source = place_at ways.source; target = place_at ways.target }
+
 abbrev pub places_of : Call → Places
-places_of call = record {
-  source = option_map (found call) (asked_by call).source;
-  target = option_map (found call) (asked_by call).target;
-}
+places_of call = places_by (asked_by call) (ways_of call)

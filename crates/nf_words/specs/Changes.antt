@@ -1,25 +1,28 @@
 -- What each act changes and is answered, where no rule refuses it.
-use Rattle.std.specs.Prelude.{ℕ, ◌+◌, ◌==◌, ◌&&◌, Bool, List, [], ◌∷◌, ◌++◌, length, map, max, Option, None, Some, if◌then◌else◌}
+use Rattle.std.specs.Prelude.{ℕ, ◌+◌, ◌==◌, ◌&&◌, not, Bool, true, List, [], ◌∷◌, ◌++◌, filter, length, map, max, Option, None, Some, option_map, option_and_then, if◌then◌else◌}
 use Rattle.std.specs.Option.{option_map_or}
+use Rattle.nf_access.specs.Mounts.{mount_row}
 use Rattle.nf_base.specs.Content.{content_eq}
 use Rattle.nf_base.specs.declared.changes.Change.{Change}
 use Rattle.nf_base.specs.declared.changes.Change.TheVariants.{Put, Drop}
 use Rattle.nf_base.specs.declared.changes.RowKey.TheVariants as keys
 use Rattle.nf_base.specs.declared.content.Piece.{Piece}
 use Rattle.nf_base.specs.declared.rows.MetaRow.{MetaRow}
+use Rattle.nf_base.specs.declared.rows.MountRow.{MountRow}
 use Rattle.nf_base.specs.declared.rows.NodeKind.{NodeKind}
 use Rattle.nf_base.specs.declared.rows.NodeKind.TheVariants.{Folder}
 use Rattle.nf_base.specs.declared.rows.NodeRow.{NodeRow}
 use Rattle.nf_base.specs.declared.rows.Place.TheVariants.{Inside}
 use Rattle.nf_base.specs.declared.rows.Row.TheVariants as rows
-use Rattle.nf_defs.specs.Prelude.{Access, content_of, is_folder, node_row, owner_of, put_all, relinked, Tables, walk_of, with_node, without_under}
+use Rattle.nf_base.specs.declared.rows.ShareRow.{ShareRow}
+use Rattle.nf_defs.specs.Prelude.{Access, content_of, is_folder, is_under, node_row, owner_of, put_all, relinked, Tables, walk_of, with_node, without_under}
 use Rattle.nf_defs.specs.declared.Found.{Found}
 use Rattle.nf_defs.specs.declared.Found.TheVariants.{At, Free, Missing}
 use Rattle.nf_words.specs.State.{State, ticket_for}
-use Rattle.nf_words.specs.Calls.{Call, last_name, places_of, seeker_of, way_of}
+use Rattle.nf_words.specs.Calls.{asker_of, Call, last_name, places_of, seeker_of, Way, way_of}
 use Rattle.nf_words.specs.Copies.{copies_to}
 use Rattle.nf_words.specs.Listing.{listing_of}
-use Rattle.nf_words.specs.Places.{node_at, transfer_of}
+use Rattle.nf_words.specs.Places.{crosses, node_at, transfer_of}
 use Rattle.nf_words.specs.declared.request.Places.{Places}
 use Rattle.nf_words.specs.declared.request.Spot.{Spot}
 use Rattle.nf_words.specs.declared.request.Transfer.{Transfer}
@@ -54,12 +57,13 @@ new_node t now folder name kind content = record {
 }
 
 -- GET lists the folder that is there, or sends the content of the file
-abbrev pub shown : Tables → ℕ → Allowed
-shown t node =
-    if is_folder t.nodes node then allowed.List (listing_of t node) else allowed.Get node (content_of t.nodes node)
+abbrev pub shown : Access → Call → Option ℕ → ℕ → Allowed
+shown access call mount node =
+    let nodes = call.state.tables.nodes in
+    if is_folder nodes node then allowed.List (listing_of access call mount node) else allowed.Get node (content_of nodes node)
 
-abbrev pub served : Tables → Option ℕ → Allowed
-served t node = option_map_or (shown t) node allowed.Close
+abbrev pub served : Access → Call → Option ℕ → Option ℕ → Allowed
+served access call mount node = option_map_or (shown access call mount) node allowed.Close
 
 -- PUT stores over the file that is there, or under the name that is free
 abbrev pub stored : By → List ℕ → ℕ → Option Found → Allowed
@@ -87,24 +91,57 @@ made_folder t now name (Some (Missing depth)) = allowed.Close
 abbrev pub deleted : Option ℕ → Allowed
 deleted node = option_map_or allowed.Delete node allowed.Close
 
--- MOVE puts the node that is there, and COPY copies of it and of all under it, into the target's folder under the target's name
-abbrev pub moved : List ℕ → Option Transfer → Allowed
-moved name transfer = option_map_or (λ transfer. allowed.Move transfer name) transfer allowed.Close
+-- MOVE puts the node that is there, and COPY copies of it and of all under it, into the target's folder under the target's name. What
+-- goes to another owner is copied there, and then removed
+abbrev pub carried : Tables → ℕ → List ℕ → Transfer → Allowed
+carried t now name transfer =
+    if crosses t.nodes transfer then allowed.Cross (copies_to t now transfer name) transfer.replaced transfer.node
+    else allowed.Move transfer name
+
+abbrev pub moved : Tables → ℕ → List ℕ → Option Transfer → Allowed
+moved t now name transfer = option_map_or (carried t now name) transfer allowed.Close
 
 abbrev pub copied : Tables → ℕ → List ℕ → Option Transfer → Allowed
 copied t now name transfer =
     option_map_or (λ transfer. allowed.Copy (copies_to t now transfer name) transfer.replaced) transfer allowed.Close
 
+-- the row of a mount is another, if there is one
+abbrev pub with_mount_row : Option MountRow → Report → Allowed
+with_mount_row row told = allowed.Change (option_map_or (λ row. Put (rows.Mount row) ∷ []) row []) None told
+
+-- a mount that was left
+abbrev pub left_row : MountRow → MountRow
+left_row row = record row { left = true }
+
+-- one under another name
+abbrev pub named_row : List ℕ → MountRow → MountRow
+named_row name row = record row { name = name }
+
+-- the caller's mount of a node, if it is there
+abbrev pub own_mount : Call → Option ℕ → Option MountRow
+own_mount call node = option_and_then (mount_row call.state.tables.mounts (asker_of call)) node
+
+-- DELETE of the path of a mount itself leaves the mount, and MOVE of it gives the mount another name
+abbrev pub mount_left : Call → Way → Allowed
+mount_left call way = with_mount_row (option_map left_row (own_mount call way.mount)) report.Done
+
+abbrev pub mount_renamed : Call → Way → List ℕ → Allowed
+mount_renamed call way name = with_mount_row (option_map (named_row name) (own_mount call way.mount)) report.Made
+
 abbrev pub given : Access → Call → Places → Wanted → Allowed
-given access call places (wanted.Get spot) = served call.state.tables (node_at places.source)
+given access call places (wanted.Get spot) = served access call (way_of call spot).mount (node_at places.source)
 given access call places (wanted.Put spot length) = stored (by_of call spot) (last_name spot) length places.target
 given access call places (wanted.Mkcol spot) = made_folder call.state.tables call.now (last_name spot) places.target
-given access call places (wanted.Delete spot) = deleted (node_at places.source)
-given access call places (wanted.Move source target overwrite) = moved (last_name target) (transfer_of call.state.tables.nodes places)
+given access call places (wanted.Delete spot) =
+    let way = way_of call spot in if way.itself then mount_left call way else deleted (node_at places.source)
+given access call places (wanted.Move source target overwrite) =
+    let way = way_of call source in
+    if way.itself then mount_renamed call way (last_name target)
+    else moved call.state.tables call.now (last_name target) (transfer_of call.state.tables.nodes places)
 given access call places (wanted.Copy source target overwrite) =
     copied call.state.tables call.now (last_name target) (transfer_of call.state.tables.nodes places)
 
--- what a call that no rule refuses may do, by what shares let their seekers do. No act reads the shares yet
+-- what a call that no rule refuses may do, by what shares let their seekers do
 abbrev pub allowed_of : Access → Call → Allowed
 allowed_of access call = given access call (places_of call) call.request.wanted
 
@@ -133,9 +170,20 @@ raised t now changes blob = record t {
   meta = record (counted t.meta changes) { next_blob = blob_after t.meta.next_blob blob; last = now };
 }
 
--- the tables without the nodes under one, which are gone for good
+-- a share that ended
+abbrev pub ended_row : ShareRow → ShareRow
+ended_row row = record row { ended = true }
+
+-- the shares, where those of nodes under one are ended
+abbrev pub ended_under : List NodeRow → ℕ → List ShareRow → List ShareRow
+ended_under rows top shares = map (λ share. if is_under rows share.node top then ended_row share else share) shares
+
+abbrev pub ended_for : List NodeRow → Option ℕ → List ShareRow → List ShareRow
+ended_for rows replaced shares = option_map_or (λ top. ended_under rows top shares) replaced shares
+
+-- the tables without the nodes under one, which are gone for good; their shares are ended
 abbrev pub removed : Tables → ℕ → Tables
-removed t node = record t { nodes = without_under t.nodes node }
+removed t node = record t { nodes = without_under t.nodes node; shares = ended_under t.nodes node t.shares }
 
 -- the nodes without those under one that has to go, if there is one
 abbrev pub cleared : List NodeRow → Option ℕ → List NodeRow
@@ -145,6 +193,7 @@ cleared rows replaced = option_map_or (without_under rows) replaced rows
 abbrev pub transferred : Tables → Transfer → List ℕ → Tables
 transferred t transfer name = record t {
   nodes = with_node (cleared t.nodes transfer.replaced) transfer.node (relinked transfer.folder name);
+  shares = ended_for t.nodes transfer.replaced t.shares;
 }
 
 -- the tables with some nodes more
@@ -152,6 +201,7 @@ abbrev pub joined : Tables → List NodeRow → Option ℕ → Tables
 joined t rows replaced = record t {
   meta = record t.meta { next_node = t.meta.next_node + length rows };
   nodes = cleared t.nodes replaced ++ rows;
+  shares = ended_for t.nodes replaced t.shares;
 }
 
 abbrev pub altered : Tables → ℕ → Allowed → Tables
@@ -162,6 +212,7 @@ altered t now (allowed.Change changes blob report) = record (put_all t changes) 
 altered t now (allowed.Delete node) = removed t node
 altered t now (allowed.Move transfer name) = transferred t transfer name
 altered t now (allowed.Copy rows replaced) = joined t rows replaced
+altered t now (allowed.Cross rows replaced node) = removed (joined t rows replaced) node
 altered t now allowed.Close = t
 
 -- ---- the same, told as a list of the rows that differ
@@ -182,8 +233,19 @@ transferred_row row transfer name =
 abbrev pub dropped_under : List NodeRow → ℕ → List Change
 dropped_under nodes top = map (λ node. Drop (keys.Node node)) (walk_of nodes top)
 
-abbrev pub dropped_for : List NodeRow → Option ℕ → List Change
-dropped_for nodes replaced = option_map_or (dropped_under nodes) replaced []
+-- the shares of nodes under one are ended, where they weren't
+abbrev pub is_closing : List NodeRow → ℕ → ShareRow → Bool
+is_closing nodes top share = not share.ended && is_under nodes share.node top
+
+abbrev pub closed_under : List NodeRow → List ShareRow → ℕ → List Change
+closed_under nodes shares top = map (λ share. Put (rows.Share (ended_row share))) (filter (is_closing nodes top) shares)
+
+-- what becomes of the rows of a node and of those under it, where it is removed
+abbrev pub gone_under : List NodeRow → List ShareRow → ℕ → List Change
+gone_under nodes shares top = dropped_under nodes top ++ closed_under nodes shares top
+
+abbrev pub gone_for : List NodeRow → List ShareRow → Option ℕ → List Change
+gone_for nodes shares replaced = option_map_or (gone_under nodes shares) replaced []
 
 -- the rows that an act changes, but for the meta row
 abbrev pub told : Tables → Allowed → List Change
@@ -191,9 +253,12 @@ told t (allowed.Get node content) = []
 told t (allowed.List listing) = []
 told t (allowed.Put by key length) = []
 told t (allowed.Change changes blob report) = changes
-told t (allowed.Delete node) = dropped_under t.nodes node
-told t (allowed.Move transfer name) = dropped_for t.nodes transfer.replaced ++ transferred_row (node_row t.nodes transfer.node) transfer name
-told t (allowed.Copy copies replaced) = dropped_for t.nodes replaced ++ map (λ row. Put (rows.Node row)) copies
+told t (allowed.Delete node) = gone_under t.nodes t.shares node
+told t (allowed.Move transfer name) =
+    gone_for t.nodes t.shares transfer.replaced ++ transferred_row (node_row t.nodes transfer.node) transfer name
+told t (allowed.Copy copies replaced) = gone_for t.nodes t.shares replaced ++ map (λ row. Put (rows.Node row)) copies
+told t (allowed.Cross copies replaced node) =
+    (gone_for t.nodes t.shares replaced ++ map (λ row. Put (rows.Node row)) copies) ++ gone_under t.nodes t.shares node
 told t allowed.Close = []
 
 -- the meta row after an act: its counters, and the moment
@@ -205,6 +270,7 @@ meta_after t now (allowed.Change changes blob report) = (raised t now changes bl
 meta_after t now (allowed.Delete node) = record t.meta { last = now }
 meta_after t now (allowed.Move transfer name) = record t.meta { last = now }
 meta_after t now (allowed.Copy rows replaced) = record t.meta { next_node = t.meta.next_node + length rows; last = now }
+meta_after t now (allowed.Cross rows replaced node) = record t.meta { next_node = t.meta.next_node + length rows; last = now }
 meta_after t now allowed.Close = record t.meta { last = now }
 
 abbrev pub same_meta : MetaRow → MetaRow → Bool
@@ -246,6 +312,7 @@ goal_of (allowed.Change changes blob report) = None
 goal_of (allowed.Delete node) = None
 goal_of (allowed.Move transfer name) = None
 goal_of (allowed.Copy rows replaced) = None
+goal_of (allowed.Cross rows replaced node) = None
 goal_of allowed.Close = None
 
 -- what it holds for that: a file that is sent beside others who read it, and what is stored over alone
@@ -257,6 +324,7 @@ hold_of (allowed.Change changes blob report) = None
 hold_of (allowed.Delete node) = None
 hold_of (allowed.Move transfer name) = None
 hold_of (allowed.Copy rows replaced) = None
+hold_of (allowed.Cross rows replaced node) = None
 hold_of allowed.Close = None
 
 abbrev pub with_goal : List Ticket → ℕ → Option Goal → Option Hold → List Ticket
@@ -274,6 +342,7 @@ blob_of (allowed.Change changes blob report) = blob
 blob_of (allowed.Delete node) = None
 blob_of (allowed.Move transfer name) = None
 blob_of (allowed.Copy rows replaced) = None
+blob_of (allowed.Cross rows replaced node) = None
 blob_of allowed.Close = None
 
 -- ---- the state, and the reply
@@ -299,4 +368,5 @@ reply_to (allowed.Change changes blob report) = reported report
 reply_to (allowed.Delete node) = Done
 reply_to (allowed.Move transfer name) = reply_by transfer.replaced
 reply_to (allowed.Copy rows replaced) = reply_by replaced
+reply_to (allowed.Cross rows replaced node) = reply_by replaced
 reply_to allowed.Close = Closed

@@ -6,8 +6,6 @@ use Rattle.nf_base.specs.declared.rows.Row.TheVariants as rows
 use Rattle.nf_defs.specs.Prelude.{Tables}
 
 pub data Kind : Type 0 where
-  shares : Kind
-  mounts : Kind
   versions : Kind
   items : Kind
   uploads : Kind
@@ -15,13 +13,11 @@ pub data Kind : Type 0 where
 
 -- the kinds to come: what builds one deletes it here
 abbrev pub later_kinds : List Kind
-later_kinds = shares ∷ mounts ∷ versions ∷ items ∷ uploads ∷ chunks ∷ []
+later_kinds = versions ∷ items ∷ uploads ∷ chunks ∷ []
 
 -- ---- a row
 
 abbrev pub is_of : Row → Kind → Bool
-is_of (rows.Share row) shares = true
-is_of (rows.Mount row) mounts = true
 is_of (rows.Version row) versions = true
 is_of (rows.Item row) items = true
 is_of (rows.Upload row) uploads = true
@@ -35,8 +31,6 @@ is_later row = list_any (is_of row) later_kinds
 -- ---- tables
 
 abbrev pub HasNone : Tables → Kind → Type 0
-HasNone t shares = t.shares ≡ []
-HasNone t mounts = t.mounts ≡ []
 HasNone t versions = t.versions ≡ []
 HasNone t items = t.items ≡ []
 HasNone t uploads = t.uploads ≡ []

@@ -7,7 +7,7 @@ use Rattle.nf_defs.specs.declared.Found.{Found}
 use Rattle.nf_defs.specs.declared.Found.TheVariants.{At, Free, Missing}
 use Rattle.nf_words.specs.Calls.{Call, asked_by, places_of}
 use Rattle.nf_words.specs.Contents.{stored_pieces}
-use Rattle.nf_words.specs.Places.{transfer_of}
+use Rattle.nf_words.specs.Places.{crosses, transfer_of}
 use Rattle.nf_words.specs.declared.request.Making.{Making}
 use Rattle.nf_words.specs.declared.request.Making.TheVariants as making
 use Rattle.nf_words.specs.declared.request.Places.{Places}
@@ -67,12 +67,16 @@ copy_limit t transfer =
     let nodes = walk_of t.nodes transfer.node in
     limit_passed t (length nodes) (deepest_in t.nodes transfer.node transfer.folder) (pieces_in t.nodes nodes) 0
 
+-- the limit that is passed by what is moved: to another owner it is copied, and what goes then still counts
+abbrev pub carry_limit : Tables → Transfer → Option Limit
+carry_limit t transfer = if crosses t.nodes transfer then copy_limit t transfer else move_limit t transfer
+
 -- the limit that is passed by what is made
 abbrev pub limited : Tables → Places → Making → Option Limit
 limited t places making.Nothing = None
 limited t places (making.File length) = option_and_then (limit_at t (pieces_of length)) places.target
 limited t places making.Folder = option_and_then (limit_at t 0) places.target
-limited t places making.Moved = option_and_then (move_limit t) (transfer_of t.nodes places)
+limited t places making.Moved = option_and_then (carry_limit t) (transfer_of t.nodes places)
 limited t places making.Copied = option_and_then (copy_limit t) (transfer_of t.nodes places)
 
 -- `limit`: the step would pass a limit

@@ -1,5 +1,5 @@
 -- The acts that a request needs, each at its node by the mount of its path, and whether who asks may do them.
-use Rattle.std.specs.Prelude.{ℕ, ◌&&◌, ◌==◌, ◌||◌, not, Bool, false, List, [], ◌∷◌, ◌++◌, Option, None, Some, is_some, option_map, option_and_then, if◌then◌else◌}
+use Rattle.std.specs.Prelude.{ℕ, ◌==◌, ◌||◌, not, Bool, false, List, [], ◌∷◌, ◌++◌, Option, None, Some, is_some, option_map, option_and_then, if◌then◌else◌}
 use Rattle.std.specs.List.{list_any}
 use Rattle.std.specs.Option.{option_map_or, option_or}
 use Rattle.nf_access.specs.Access.{allows}
@@ -10,7 +10,7 @@ use Rattle.nf_defs.specs.Prelude.{Access, node_row}
 use Rattle.nf_defs.specs.declared.Seeker.{Seeker}
 use Rattle.nf_defs.specs.declared.Seeker.TheVariants.{User, Link}
 use Rattle.nf_words.specs.Asked.{Asked}
-use Rattle.nf_words.specs.Calls.{Call, Way, asked_by, root_of, way_of}
+use Rattle.nf_words.specs.Calls.{Call, Way, asked_by, is_mount_asked, root_of, way_of}
 use Rattle.nf_words.specs.Places.{folder_at, node_found}
 use Rattle.nf_words.specs.declared.answer.By.{By}
 use Rattle.nf_words.specs.declared.answer.LockKey.{LockKey}
@@ -73,10 +73,6 @@ target_needs (making.File length) rows root within way =
 target_needs making.Folder rows root within way = needs_in rows root way
 target_needs making.Moved rows root within way = (if within then [] else needs_in rows root way) ++ needs_at Delete way
 target_needs making.Copied rows root within way = needs_in rows root way ++ needs_at Delete way
-
--- a mount that is to be left or to have another name: its own path is that of what wouldn't stay
-abbrev pub is_mount_asked : Asked → Option Way → Bool
-is_mount_asked asked source = asked.removes && option_map_or (λ way. way.itself) source false
 
 -- leaving or renaming one's own mount needs nothing
 abbrev pub needs_between : List NodeRow → ℕ → Asked → Option Way → Option Way → List Need

@@ -4,11 +4,11 @@ use Rattle.std.specs.List.{list_any}
 use Rattle.std.specs.Option.{option_map_or, option_or}
 use Rattle.nf_base.specs.Naming.{is_forbidden}
 use Rattle.nf_base.specs.declared.rows.NodeRow.{NodeRow}
-use Rattle.nf_defs.specs.Prelude.{Access, is_folder, is_root, is_under, parent_of}
+use Rattle.nf_defs.specs.Prelude.{Access, is_folder, is_root, is_under, owner_of, parent_of}
 use Rattle.nf_defs.specs.declared.Found.{Found}
 use Rattle.nf_defs.specs.declared.Found.TheVariants.{At, Free, Missing}
 use Rattle.nf_words.specs.Asked.{Asked, is_transfer, paths_of}
-use Rattle.nf_words.specs.Calls.{Call, asked_by, places_of}
+use Rattle.nf_words.specs.Calls.{Call, Way, Ways, asked_by, is_mount_asked, place_at, places_of, root_of, ways_of}
 use Rattle.nf_words.specs.declared.request.Making.{Making}
 use Rattle.nf_words.specs.declared.request.Making.TheVariants as making
 use Rattle.nf_words.specs.declared.request.Places.{Places}
@@ -101,23 +101,58 @@ is_inside rows transfer =
 abbrev pub misplaced : List NodeRow → Transfer → Option TargetFault
 misplaced rows transfer = if is_same transfer then Some target.Same else if is_inside rows transfer then Some target.Inside else None
 
--- what may not be done between two places: the first of root, same and inside. What is there but in no folder is a root
-abbrev pub unfit_between : List NodeRow → Places → Option TargetFault
-unfit_between rows places =
-    if is_there (is_root rows) places.source then Some target.Root
-    else option_map_or (misplaced rows) (transfer_of rows places) (Some target.Root)
+-- the folder of what is at the end of a way or is put there: a mount is in the root of its user
+abbrev pub folder_in : List NodeRow → ℕ → Way → Option ℕ
+folder_in rows root way = if way.itself then Some root else folder_at rows way.place
+
+-- from a node to the end of a way that is in a folder
+abbrev pub transfer_by : List NodeRow → ℕ → ℕ → Way → Option Transfer
+transfer_by rows root node way =
+    option_map (λ folder. record { node = node; folder = folder; replaced = node_found way.place }) (folder_in rows root way)
+
+abbrev pub transfer_between : List NodeRow → ℕ → Ways → Option Transfer
+transfer_between rows root ways =
+    option_and_then (λ node. option_and_then (transfer_by rows root node) ways.target) (node_at (place_at ways.source))
+
+-- a free name in that folder
+abbrev pub is_free_in : ℕ → Found → Bool
+is_free_in folder (At node) = false
+is_free_in folder (Free other) = other == folder
+is_free_in folder (Missing depth) = false
+
+-- a mount isn't replaced, and where it is renamed it stays in its root, under a free name
+abbrev pub is_off_mount : ℕ → Bool → Way → Bool
+is_off_mount root renames way = if renames then not (is_free_in root way.place) else way.itself
+
+abbrev pub misplaced_by : List NodeRow → Bool → Transfer → Option TargetFault
+misplaced_by rows off transfer = option_or (misplaced rows transfer) (if off then Some target.Mount else None)
+
+abbrev pub is_root_at : List NodeRow → Option Way → Bool
+is_root_at rows way = is_there (is_root rows) (place_at way)
+
+-- what may not be done between two places: the first of root, same, inside and mount. What is there but in no folder is a root
+abbrev pub unfit_between : List NodeRow → ℕ → Bool → Ways → Option TargetFault
+unfit_between rows root renames ways =
+    if not renames && is_root_at rows ways.source then Some target.Root
+    else option_map_or (misplaced_by rows (option_map_or (is_off_mount root renames) ways.target false)) (transfer_between rows root ways)
+    (Some target.Root)
 
 -- what may not be done: a transfer that doesn't fit, or the removal of a root
-abbrev pub unfit : List NodeRow → Asked → Places → Option TargetFault
-unfit rows asked places =
-    if is_transfer asked.makes then unfit_between rows places
-    else if asked.removes && is_there (is_root rows) places.source then Some target.Root
+abbrev pub unfit : List NodeRow → ℕ → Asked → Ways → Option TargetFault
+unfit rows root asked ways =
+    let renames = is_mount_asked asked ways.source in
+    if is_transfer asked.makes then unfit_between rows root renames ways
+    else if asked.removes && not renames && is_root_at rows ways.source then Some target.Root
     else None
 
 -- `bad-target`
 unfoldable pub target_rule : Access → Call → Option Denial
 target_rule access call =
-    option_map denial.BadTarget (unfit call.state.tables.nodes (asked_by call) (places_of call))
+    option_map denial.BadTarget (unfit call.state.tables.nodes (root_of call) (asked_by call) (ways_of call))
+
+-- the node and the folder that it is put into are of two owners
+abbrev pub crosses : List NodeRow → Transfer → Bool
+crosses rows transfer = not (owner_of rows transfer.node == owner_of rows transfer.folder)
 
 -- something is at the target and isn't to be replaced
 abbrev pub is_kept : Bool → Places → Bool

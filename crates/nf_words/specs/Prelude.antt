@@ -3,26 +3,26 @@ pub use Rattle.nf_words.specs.Actors.{actor_of, storer_of, user_in}
 pub use Rattle.nf_words.specs.Asked.{Asked, asked_of, asks_nothing, is_transfer, named_at, named_in, path_at, paths_of, users_of}
 pub use Rattle.nf_words.specs.Callers.{is_caller}
 unfoldable pub use Rattle.nf_words.specs.Callers.{not_you_rule, token_rule}
-pub use Rattle.nf_words.specs.Calls.{Call, Way, asked_by, asker_of, caller_row, found, is_one, last_name, mount_of, mounted, places_of, root_of, seeker_of, user_of, way_by, way_of}
-pub use Rattle.nf_words.specs.Changes.{above, allowed_of, altered, blob_after, blob_of, by_of, changed, changes_of, cleared, copied, counted, deleted, dropped_for, dropped_under, given, goal_of, hold_of, joined, made_folder, makes, meta_after, moved, new_node, raised, refilled, removed, reply_by, reply_to, reported, served, shown, stamped, stored, told, transferred, transferred_row, with_goal, with_meta}
+pub use Rattle.nf_words.specs.Calls.{Call, Way, Ways, asked_by, asker_of, caller_row, found, is_mount_asked, is_one, last_name, mount_of, mounted, place_at, places_by, places_of, root_of, seeker_of, user_of, way_by, way_of, ways_for, ways_of}
+pub use Rattle.nf_words.specs.Changes.{above, allowed_of, altered, blob_after, blob_of, by_of, carried, changed, changes_of, cleared, closed_under, copied, counted, deleted, dropped_under, ended_for, ended_row, ended_under, given, goal_of, gone_for, gone_under, hold_of, is_closing, joined, left_row, made_folder, makes, meta_after, mount_left, mount_renamed, moved, named_row, new_node, own_mount, raised, refilled, removed, reply_by, reply_to, reported, served, shown, stamped, stored, told, transferred, transferred_row, with_goal, with_meta, with_mount_row}
 pub use Rattle.nf_words.specs.Contents.{IsPieceSound, contents_of, row_content, stored_pieces}
 pub use Rattle.nf_words.specs.Copies.{copied_row, copies_of_all, copies_to, renamed}
 unfoldable pub use Rattle.nf_words.specs.Copies.{copies_within}
 pub use Rattle.nf_words.specs.Endings.{blob_for, content_in, end_decision, end_lost, end_refusal, end_unallowed, end_unreached, ends_at, ends_goal, place_of, stored_at, stores, unless_refused}
-pub use Rattle.nf_words.specs.Fine.{IsBorn, IsFilled}
+pub use Rattle.nf_words.specs.Fine.{IsBorn, IsFilled, IsRemounted, IsUnmounted}
 pub use Rattle.nf_words.specs.History.{IsLegal, IsLegalFrom, LeavesRoom, MayAsk, MayBear, MayBring, MayCome, MayEnd, MayWant, NamesUser, after, after_mark, answer_at, failed, replay}
 pub use Rattle.nf_words.specs.Holds.{AreApartHolds, AreKeysApart, blocks, clashes, covers, IsHeld, is_exclusive, key_in_way, least, lesser, mode_of, node_of_key, same_key, Touch, touch_key, touch_under}
 pub use Rattle.nf_words.specs.Later.{HasNoLater, is_later}
 pub use Rattle.nf_words.specs.Laws.{Pass}
 pub use Rattle.nf_words.specs.Lean.{IsLean, changed_key}
-pub use Rattle.nf_words.specs.Limits.{copy_limit, count_of, deepest, deepest_in, last_number, limit_at, limit_passed, limited, move_limit, pieces_in, pieces_of}
+pub use Rattle.nf_words.specs.Limits.{carry_limit, copy_limit, count_of, deepest, deepest_in, last_number, limit_at, limit_passed, limited, move_limit, pieces_in, pieces_of}
 unfoldable pub use Rattle.nf_words.specs.Limits.{limit_rule}
-pub use Rattle.nf_words.specs.Listing.{bytes_of, line_of, listing_of}
+pub use Rattle.nf_words.specs.Listing.{bits_by, bytes_of, child_line, child_lines, granted_by, is_line_before, line_of, listing_of, mount_line, mount_lines, put_line, put_lines}
 pub use Rattle.nf_words.specs.Locks.{source_touches, target_name, target_touches, touched, touches, transfer_touches}
 unfoldable pub use Rattle.nf_words.specs.Locks.{locked_rule}
-pub use Rattle.nf_words.specs.Needed.{folder_for, is_mount_asked, Need, is_owner, is_within, may_by, needed, needed_by, needs, needs_at, needs_between, needs_in}
-pub use Rattle.nf_words.specs.Others.{AreOthersSound}
-pub use Rattle.nf_words.specs.Places.{folder_at, has_forbidden, is_kept, is_there, lost, misplaced, node_at, node_found, source_lost, taken, target_lost, transfer_of, transfer_to, unfit, unfit_between}
+pub use Rattle.nf_words.specs.Needed.{folder_for, Need, is_owner, is_within, may_by, needed, needed_by, needs, needs_at, needs_between, needs_in}
+pub use Rattle.nf_words.specs.Others.{AreMountsApart, AreOthersSound, IsMountSound, IsOfNode, IsShareSound}
+pub use Rattle.nf_words.specs.Places.{crosses, folder_at, folder_in, has_forbidden, is_free_in, is_kept, is_off_mount, is_root_at, is_there, lost, misplaced, misplaced_by, node_at, node_found, source_lost, taken, target_lost, transfer_between, transfer_by, transfer_of, transfer_to, unfit, unfit_between}
 unfoldable pub use Rattle.nf_words.specs.Places.{exists_rule, forbidden_rule, overwrite_rule, target_rule}
 pub use Rattle.nf_words.specs.Reached.{broken_by, first_refused, is_refused, need_broken, source_refused, target_refused, told_broken, unreached, unreached_by}
 unfoldable pub use Rattle.nf_words.specs.Reached.{acts_rule, place_rule}

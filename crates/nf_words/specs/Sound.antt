@@ -97,10 +97,10 @@ pub record IsOwn (t : Tables) (user node : ℕ) : Type 0 where
   pub given : node < t.meta.next_node
   pub owner : (row : NodeRow) → node_row t.nodes node ≡ Some row → row.owner ≡ user
 
--- who stores owns what is stored over, and comes by no mount; nothing is shared yet
+-- who stores by no mount owns what is stored over; nobody stores by a link yet
 abbrev pub MayStoreBy : Tables → Seeker → Option ℕ → ℕ → Type 0
 MayStoreBy t (seeker.User user) None node = IsOwn t user node
-MayStoreBy t (seeker.User user) (Some mount) node = ⊥
+MayStoreBy t (seeker.User user) (Some mount) node = Unit {0}
 MayStoreBy t (seeker.Link share) mount node = ⊥
 
 abbrev pub MayStoreAt : Tables → By → ℕ → Type 0

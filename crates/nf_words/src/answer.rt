@@ -86,6 +86,8 @@ pub enum TargetFault {
     Same,
     /// It is inside what is moved or copied, or that is inside it.
     Inside,
+    /// It is a mount; or a mount is moved elsewhere than to a free name of the same root.
+    Mount,
 }
 
 /// A blob that isn't what a row says of it.
@@ -260,7 +262,7 @@ pub enum Allowed {
         key: LockKey,
         length: u64,
     },
-    /// These rows are put and dropped, each of them once: MKCOL, and PUT at its End.
+    /// These rows are put and dropped, each of them once: MKCOL, PUT at its End, and what becomes of a mount.
     Change {
         changes: Changes,
         blob: Option<BlobId>,
@@ -277,6 +279,12 @@ pub enum Allowed {
     Copy {
         rows: NodeRows,
         replaced: Option<NodeId>,
+    },
+    /// MOVE to another owner: these nodes are made as by COPY, then the node is removed as by DELETE.
+    Cross {
+        rows: NodeRows,
+        replaced: Option<NodeId>,
+        node: NodeId,
     },
     /// The End of a request that stores nothing.
     Close,

@@ -1,8 +1,8 @@
-//! A list for each rule that breaks it and no smaller one, and lists that break none.
+//! Lists of rows that no keeper has, which has each key once and in its order; and such as are too long for a case.
 
 use nf_base::{
-    BlobId, Content, Digest, GroupId, GroupRow, MetaRow, Moment, MountRow, Name, NodeId, NodeKind,
-    NodeRow, Place, Row, ShareId, TokenRow, UserId, UserRow,
+    BlobId, Content, Digest, GroupId, GroupRow, MetaRow, Moment, Name, NodeId, NodeKind, NodeRow,
+    Place, Row, ShareId, TokenRow, UserId, UserRow,
 };
 use nf_opening::{Broken, Loaded, SiteFault, judge};
 use std::alloc::Global;
@@ -54,15 +54,6 @@ fn token(user: u32) -> Row {
     })
 }
 
-fn mount(alloc: Global) -> Result<Row, Fail> {
-    Ok(Row::Mount(MountRow {
-        user: UserId::new(0),
-        node: NodeId::new(1),
-        name: Name::read(alloc, b"m")?,
-        left: false,
-    }))
-}
-
 fn group(alloc: Global, name: &[u8]) -> Result<Row, Fail> {
     Ok(Row::Group(GroupRow {
         id: GroupId::new(1),
@@ -79,13 +70,9 @@ enum Sketch {
     Group(&'static str),
     /// The root of the first user.
     Root,
-    /// A folder in the first user's trash.
-    Trashed(u64),
     /// Number, parent and name.
     Inside(u64, u64, &'static str),
     Token(u32),
-    /// A mount of nobody's.
-    Mount,
 }
 
 fn row(alloc: Global, sketch: Sketch) -> Result<Row, Fail> {
@@ -94,10 +81,8 @@ fn row(alloc: Global, sketch: Sketch) -> Result<Row, Fail> {
         Sketch::User(id, name, root) => user(alloc, id, name.as_bytes(), root),
         Sketch::Group(name) => group(alloc, name.as_bytes()),
         Sketch::Root => folder(alloc, 1, 1, Place::Root, b"ann"),
-        Sketch::Trashed(id) => folder(alloc, id, 1, Place::Trash, b"x"),
         Sketch::Inside(id, parent, name) => inside(alloc, id, parent, name.as_bytes()),
         Sketch::Token(user) => Ok(token(user)),
-        Sketch::Mount => mount(alloc),
     }
 }
 
@@ -121,9 +106,9 @@ fn told(alloc: Global, rows: &[Row]) -> Result<(u8, usize), Fail> {
     }
 }
 
-/// Lists, each with the rule that is broken and the row that breaks it.
-const WHOLE: [(&[Sketch], (u8, usize)); 3] = [
-    (&[Sketch::User(1, "ann", 2)], (1, 1)),
+/// Lists, each with the rule that is broken and the row that breaks it: none at all, two in another order, and between them one with a key
+/// that comes twice.
+const LISTS: [(&[Sketch], (u8, usize)); 4] = [
     (&[], (1, 0)),
     (
         &[
@@ -136,59 +121,34 @@ const WHOLE: [(&[Sketch], (u8, usize)); 3] = [
         ],
         (9, 0),
     ),
-];
-
-/// The same, of what stands behind the first rows.
-const BEHIND: [(&[Sketch], (u8, usize)); 12] = [
-    (&[], (9, 0)),
-    (&[Sketch::Token(0), Sketch::Mount], (0, 4)),
-    (&[Sketch::Token(1), Sketch::Token(2)], (1, 3)),
-    (&[Sketch::Inside(10_000, 1, "x")], (2, 3)),
-    (&[Sketch::User(2, "ann", 0)], (2, 3)),
-    (&[Sketch::Token(2)], (3, 3)),
-    (&[Sketch::Inside(2, 3, "x")], (3, 3)),
     (
         &[
-            Sketch::Inside(2, 1, "x"),
-            Sketch::Inside(3, 1, "y"),
-            Sketch::Inside(4, 1, "x"),
+            Sketch::Meta,
+            Sketch::User(1, "ann", 1),
+            Sketch::Root,
+            Sketch::Token(1),
+            Sketch::Token(2),
         ],
-        (4, 3),
+        (1, 3),
     ),
-    (&[Sketch::User(2, "ann", 1)], (4, 1)),
-    (&[Sketch::User(2, "ben", 1)], (5, 3)),
-    (&[Sketch::Trashed(2)], (5, 3)),
     (
-        &[Sketch::Inside(2, 3, "x"), Sketch::Inside(3, 2, "x")],
+        &[
+            Sketch::Meta,
+            Sketch::User(1, "ann", 1),
+            Sketch::Root,
+            Sketch::User(2, "ben", 1),
+        ],
         (5, 3),
     ),
 ];
 
 #[test]
-fn each_rule_is_broken(rt: HostRuntime) -> Result<(), Fail> {
+fn lists_that_no_keeper_has(rt: HostRuntime) -> Result<(), Fail> {
     let alloc = rt.alloc();
-    for (sketches, expected) in WHOLE {
+    for (sketches, expected) in LISTS {
         let rows = rows_of(alloc, sketches)?;
         assert!(rt; told(alloc, &rows)? == expected);
     }
-    for (sketches, expected) in BEHIND {
-        let mut rows = rows_of(alloc, &FIRST)?;
-        rows.extend(rows_of(alloc, sketches)?)?;
-        assert!(rt; told(alloc, &rows)? == expected);
-    }
-    Ok(())
-}
-
-#[test]
-fn folders_are_64_deep(rt: HostRuntime) -> Result<(), Fail> {
-    let alloc = rt.alloc();
-    let mut rows = rows_of(alloc, &FIRST)?;
-    for id in 2..=66u64 {
-        rows.push(inside(alloc, id, id - 1, b"x")?)?;
-    }
-    assert!(rt; told(alloc, &rows)? == (5, 67));
-    rows.pop();
-    assert!(rt; told(alloc, &rows)? == (9, 0));
     Ok(())
 }
 

@@ -1,6 +1,6 @@
 use Rattle.std.proofs.Common.{◌++◌, ap, sym, ◌∙◌}
 use Rattle.nf_defs.specs.Prelude.{node_row, relinked, Tables, with_node}
-use Rattle.nf_words.specs.Changes.{dropped_for, transferred, transferred_row}
+use Rattle.nf_words.specs.Changes.{gone_for, transferred, transferred_row}
 use Rattle.nf_decide.specs.Rows.{Rows}
 use Rattle.nf_decide.proofs.Stamps.{stamped_some, transferred_some}
 use Rattle.nf_decide.proofs.tables.Tables.transfer.Goals as goal
@@ -14,7 +14,7 @@ returns c =
       nodes = with_node t.nodes transfer.node (relinked transfer.folder c.args.name);
     } in
     let stamp = stamped_some t (transferred t transfer c.args.name) c.args.moment
-    (dropped_for t.nodes transfer.replaced ++ transferred_row (node_row t.nodes transfer.node) transfer c.args.name)
-    (transferred_some t.nodes transfer c.args.name transfer.replaced c.requires) in
+    (gone_for t.nodes t.shares transfer.replaced ++ transferred_row (node_row t.nodes transfer.node) transfer c.args.name)
+    (transferred_some t.nodes t.shares transfer c.args.name transfer.replaced c.requires) in
     let put = rw c.relink.ensures at c.stamp.ensures in
     put ∙ ap (λ (held : Rows). moved held.tables) c.self.view_is ∙ ap moved c.clear.ensures.tables ∙ sym stamp

@@ -1,7 +1,7 @@
 use Rattle.std.proofs.Common.{sym, subst}
 use Rattle.nf_access.specs.Laws.{IsBounded}
 use Rattle.nf_access.specs.Shares.{ground_of}
-use Rattle.nf_laws.proofs.Reached.{bounded}
+use Rattle.nf_words.proofs.Ways.{bounded}
 use Rattle.nf_words.specs.State.{State}
 use Rattle.nf_decide.proofs.view.View.asker.Goals as goal
 

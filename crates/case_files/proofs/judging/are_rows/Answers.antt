@@ -1,0 +1,7 @@
+-- They are compared one by one.
+use Rattle.std.proofs.lemmas.Slice.Eq.{slice_eq-Decides}
+use Rattle.case_files.proofs.Same.{row_decides}
+use Rattle.case_files.proofs.judging.are_rows.Goals as goal
+
+pub returns : goal.returns
+returns c = slice_eq-Decides row_decides c.args.left.now c.args.wanted.now c.eq.result c.eq.ensures

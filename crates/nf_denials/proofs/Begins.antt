@@ -1,0 +1,219 @@
+-- Requests that are refused by shares.
+use Rattle.std.proofs.Common.{◌≡◌, ◌⊎◌, inl, inr, ℕ, ◌&&◌, Bool, true, false, List, [], ◌∷◌, Option, None, Some, option_map, Err, if◌then◌else◌, refl, sym, ap, ◌∙◌, subst}
+use Rattle.std.specs.Prelude.{IfSome, is_some, option_and_then}
+use Rattle.std.specs.List.{list_all, list_any}
+use Rattle.std.specs.Option.{option_or}
+use Rattle.std.proofs.lemmas.Bool.{both_ways}
+use Rattle.std.proofs.lemmas.Option.{none-some, same_Some}
+use Rattle.nf_access.specs.Shares.{ground_of}
+use Rattle.nf_base.specs.declared.rows.NodeRow.{NodeRow}
+use Rattle.nf_defs.specs.declared.Found.{Found}
+use Rattle.nf_defs.specs.declared.Found.TheVariants.{At, Free, Missing}
+use Rattle.nf_defs.specs.Prelude.{Access}
+use Rattle.nf_words.proofs.Orders.{first_of}
+use Rattle.nf_words.specs.Places.{has_forbidden, taken}
+use Rattle.nf_words.specs.Prelude.{access_of, acts_rule, allowed_of, answered_by, asked_by, Call, call_of, exists_rule, forbidden_rule, is_caller, is_one, IsSound, limit_rule, locked_rule, mount_of, needed, not_you_rule, overwrite_rule, paths_of, place_rule, places_of, refusal_of, root_of, seeker_of, source_lost, source_refused, State, target_lost, target_refused, target_rule, token_rule, unless_refused, unreached, unreached_by, user_of, users_of, Way, way_by, way_of}
+use Rattle.nf_words.specs.declared.answer.Allowed.{Allowed}
+use Rattle.nf_words.specs.declared.answer.Denial.{Denial}
+use Rattle.nf_words.specs.declared.answer.Denial.TheVariants as denial
+use Rattle.nf_words.specs.declared.request.Making.{Making}
+use Rattle.nf_words.specs.declared.request.Making.TheVariants as making
+use Rattle.nf_words.specs.declared.request.Places.{Places}
+use Rattle.nf_words.specs.declared.request.Spot.{Spot}
+use Rattle.nf_denials.proofs.Told.{acts_told, unreached_told}
+use Rattle.nf_denials.specs.Laws.{BeginsTellTheirBreak, GoesBy, IsKeptOut, IsStoppedAt, IsUnmet, UnreachedIsRefused, at_source, at_target, is_of_shares}
+
+-- ---- rules of other things
+
+-- none, or a refusal that isn't by shares
+abbrev IsOther : Option Denial → Type 0
+IsOther o = IfSome o (λ (refusal : Denial). is_of_shares refusal ≡ false)
+
+-- such a rule isn't the one that refuses by shares
+skip : (rule rest : Option Denial) (refusal : Denial) → IsOther rule → is_of_shares refusal ≡ true → option_or rule rest ≡ Some refusal
+    → rest ≡ Some refusal
+skip None rest refusal other shares is = is
+skip (Some first) rest refusal other shares is =
+    absurd (both_ways (is_of_shares refusal) (subst (λ (d : Denial). is_of_shares d ≡ false) (same_Some first refusal is) other) shares)
+
+unless_test : (b : Bool) (refusal : Denial) → is_of_shares refusal ≡ false → IsOther (if b then None else Some refusal)
+unless_test true refusal fine = tt
+unless_test false refusal fine = fine
+
+if_test : (b : Bool) (refusal : Denial) → is_of_shares refusal ≡ false → IsOther (if b then Some refusal else None)
+if_test true refusal fine = fine
+if_test false refusal fine = tt
+
+told_by : {X : Type 0} (tell : X → Denial) (o : Option X) → ((x : X) → is_of_shares (tell x) ≡ false) → IsOther (option_map tell o)
+told_by tell None fine = tt
+told_by tell (Some x) fine = fine x
+
+taken_other : (rows : List NodeRow) (places : Places) (makes : Making) → IsOther (taken rows places makes)
+taken_other rows places making.Nothing = tt
+taken_other rows places (making.File length) = if_test _ (denial.Exists _) refl
+taken_other rows places making.Folder = if_test _ (denial.Exists _) refl
+taken_other rows places making.Moved = tt
+taken_other rows places making.Copied = tt
+
+-- the rules behind those of places and of acts don't refuse by shares
+abbrev behind : Access → Call → Option Denial
+behind access call =
+    option_or (exists_rule access call)
+    (option_or (target_rule access call)
+    (option_or (overwrite_rule access call) (option_or (locked_rule access call) (option_or (limit_rule access call) None))))
+
+none_behind : (access : Access) (call : Call) (refusal : Denial) → is_of_shares refusal ≡ true → behind access call ≡ Some refusal → ⊥
+unfolding exists_rule target_rule overwrite_rule locked_rule limit_rule
+none_behind access call refusal shares is =
+    none-some refusal
+    (skip (limit_rule access call) None refusal (told_by denial.Limit _ (λ limit. refl)) shares
+    (skip (locked_rule access call) _ refusal (told_by denial.Locked _ (λ key. refl)) shares
+    (skip (overwrite_rule access call) _ refusal (if_test _ denial.Overwrite refl) shares
+    (skip (target_rule access call) _ refusal (told_by denial.BadTarget _ (λ fault. refl)) shares
+    (skip (exists_rule access call) _ refusal (taken_other call.state.tables.nodes (places_of call) (asked_by call).makes) shares is)))))
+
+-- nor do those of who asks and of names
+by_rules : (access : Access) (call : Call) (refusal : Denial) → is_of_shares refusal ≡ true → refusal_of access call ≡ Some refusal
+    → (place_rule access call ≡ Some refusal) ⊎ (acts_rule access call ≡ Some refusal)
+unfolding token_rule not_you_rule forbidden_rule
+by_rules access call refusal shares is =
+    here (place_rule access call) (acts_rule access call) refl refl
+    (skip (forbidden_rule access call) _ refusal (if_test (list_any has_forbidden (paths_of (asked_by call))) denial.ForbiddenName refl) shares
+    (skip (not_you_rule access call) _ refusal (unless_test (list_all (is_caller call) (users_of (asked_by call))) denial.NotYou refl) shares
+    (skip (token_rule access call) _ refusal (unless_test (is_some (user_of call)) denial.Token refl) shares is)))
+  where
+    here : (place acts : Option Denial) → place_rule access call ≡ place → acts_rule access call ≡ acts
+        → option_or place (option_or acts (behind access call)) ≡ Some refusal
+        → (place_rule access call ≡ Some refusal) ⊎ (acts_rule access call ≡ Some refusal)
+    here (Some first) acts e f is = inl (e ∙ is)
+    here None (Some first) e f is = inr (f ∙ is)
+    here None None e f is = absurd (none_behind access call refusal shares is)
+
+-- ---- places
+
+mount_is : (rows : List NodeRow) (root : ℕ) (names : List (List ℕ)) (mount : Option ℕ) → (way_by rows root names mount).mount ≡ mount
+mount_is rows root names None = refl
+mount_is rows root names (Some node) = refl
+
+itself_is : (rows : List NodeRow) (root : ℕ) (names : List (List ℕ)) (mount : Option ℕ) (node : ℕ) → mount ≡ Some node
+    → (way_by rows root names mount).itself ≡ is_one names
+itself_is rows root names None node is = absurd (cc)
+itself_is rows root names (Some other) node is = refl
+
+source_other : (place : Found) → IsOther (source_lost place)
+source_other (At node) = tt
+source_other (Free folder) = refl
+source_other (Missing depth) = refl
+
+target_other : (place : Found) → IsOther (target_lost place)
+target_other (At node) = tt
+target_other (Free folder) = tt
+target_other (Missing depth) = refl
+
+either : (a b : Option Denial) (refusal : Denial) → option_or a b ≡ Some refusal → (a ≡ Some refusal) ⊎ (b ≡ Some refusal)
+either None b refusal is = inr is
+either (Some first) b refusal is = inl is
+
+first_one : (a b : Option Denial) (refusal : Denial) → IsOther b → is_of_shares refusal ≡ true → option_or a b ≡ Some refusal → a ≡ Some refusal
+first_one None b refusal other shares is = skip b None refusal other shares (ap (λ (o : Option Denial). option_or o None) is ∙ refl)
+first_one (Some first) b refusal other shares is = is
+
+module _ (s : State) (seat now : ℕ) (call : Call) (refusal : Denial) (sound : IsSound call.state) (shares : is_of_shares refusal ≡ true) where
+  by_way : (spot : Spot) → unreached (access_of call.state) call (way_of call spot) ≡ Some refusal
+      → ((mount : ℕ) → mount_of call spot ≡ Some mount → GoesBy call mount) → IsKeptOut call refusal
+  by_way spot is goes =
+      here (mount_of call spot) refl
+      (sym (ap (option_and_then (unreached_by (access_of call.state) (ground_of call.state.tables) (seeker_of call) call.now))
+      (mount_is call.state.tables.nodes (root_of call) spot.path (mount_of call spot))) ∙ is)
+    where
+      here : (mount : Option ℕ) → mount_of call spot ≡ mount
+          → option_and_then (unreached_by (access_of call.state) (ground_of call.state.tables) (seeker_of call) call.now) mount ≡ Some refusal
+          → IsKeptOut call refusal
+      here None e is = absurd (cc)
+      here (Some mount) e is =
+          record { mount = mount; goes = goes mount e; shut = unreached_told call.state (seeker_of call) call.now mount refusal sound is }
+
+  kept_out : place_rule (access_of call.state) call ≡ Some refusal → IsKeptOut call refusal
+  unfolding place_rule
+  kept_out is = elim (either _ _ refusal is) [
+    | inl source ↦ at (asked_by call).source refl source
+    | inr target ↦ to (asked_by call).target refl target
+  ]
+    where
+      tested : (spot : Spot) (b : Bool) → (if b then None else unreached (access_of call.state) call (way_of call spot)) ≡ Some refusal
+          → unreached (access_of call.state) call (way_of call spot) ≡ Some refusal
+      tested spot true is = absurd (cc)
+      tested spot false is = is
+
+      at : (source : Option Spot) → (asked_by call).source ≡ source
+          → option_and_then (λ spot. source_refused (access_of call.state) call (way_of call spot)) source ≡ Some refusal → IsKeptOut call refusal
+      at None e is = absurd (cc)
+      at (Some spot) e is =
+          by_way spot
+          (tested spot ((asked_by call).removes && (way_of call spot).itself)
+          (first_one _ (source_lost (way_of call spot).place) refusal (source_other (way_of call spot).place) shares is))
+          (λ mount by. inl (ap (option_and_then (mount_of call)) e ∙ by))
+
+      to : (target : Option Spot) → (asked_by call).target ≡ target
+          → option_and_then (λ spot. target_refused (access_of call.state) call (way_of call spot)) target ≡ Some refusal → IsKeptOut call refusal
+      to None e is = absurd (cc)
+      to (Some spot) e is =
+          by_way spot (first_one _ (target_lost (way_of call spot).place) refusal (target_other (way_of call spot).place) shares is)
+          (λ mount by. inr (ap (option_and_then (mount_of call)) e ∙ by))
+
+  unmet : acts_rule (access_of call.state) call ≡ Some refusal → IsUnmet call.state call.now (seeker_of call) (needed call) refusal
+  unfolding acts_rule
+  unmet is = acts_told call.state (seeker_of call) call.now (needed call) refusal sound is
+
+-- ---- requests
+
+refused_so : (o : Option Denial) (act : Allowed) (refusal : Denial) → answered_by (unless_refused o act) ≡ Err refusal → o ≡ Some refusal
+refused_so None act refusal is = absurd (cc)
+refused_so (Some first) act refusal is = cc
+
+pub begins_tell : BeginsTellTheirBreak
+begins_tell s seat now words request refusal sound is shares =
+    let call = call_of s seat now words request in
+    let access = access_of s in
+    elim (by_rules access call refusal shares (refused_so (refusal_of access call) (allowed_of access call) refusal is)) [
+      | inl place ↦ inl (kept_out s seat now call refusal sound shares place)
+      | inr acts ↦ inr (unmet s seat now call refusal sound shares acts)
+    ]
+
+-- ---- the mount first
+
+stopped : (s : State) (call : Call) (mount : ℕ) (refusal : Denial) → IsStoppedAt call mount
+    → unreached_by (access_of call.state) (ground_of call.state.tables) (seeker_of call) call.now mount ≡ Some refusal
+    → place_rule (access_of call.state) call ≡ Some refusal
+unfolding place_rule
+stopped s call mount refusal (at_source spot asked by stays) is =
+    let access = access_of call.state in
+    let way : Way = way_of call spot in
+    let reach : unreached access call way ≡ Some refusal =
+    ap (option_and_then (unreached_by access (ground_of call.state.tables) (seeker_of call) call.now))
+    (mount_is call.state.tables.nodes (root_of call) spot.path (mount_of call spot) ∙ by) ∙ is in
+    let itself : ((asked_by call).removes && way.itself) ≡ false =
+    ap (λ (b : Bool). (asked_by call).removes && b) (itself_is call.state.tables.nodes (root_of call) spot.path (mount_of call spot) mount by) ∙ stays in
+    let source : source_refused access call way ≡ Some refusal =
+    ap (λ (b : Bool). option_or (if b then None else unreached access call way) (source_lost way.place)) itself
+    ∙ ap (λ (o : Option Denial). option_or o (source_lost way.place)) reach in
+    ap (λ (o : Option Denial). option_or o (option_and_then (λ spot. target_refused access call (way_of call spot)) (asked_by call).target))
+    (ap (option_and_then (λ spot. source_refused access call (way_of call spot))) asked ∙ source)
+stopped s call mount refusal (at_target spot asked by passes) is =
+    let access = access_of call.state in
+    let way : Way = way_of call spot in
+    let reach : unreached access call way ≡ Some refusal =
+    ap (option_and_then (unreached_by access (ground_of call.state.tables) (seeker_of call) call.now))
+    (mount_is call.state.tables.nodes (root_of call) spot.path (mount_of call spot) ∙ by) ∙ is in
+    ap (λ (o : Option Denial). option_or o (option_and_then (λ spot. target_refused access call (way_of call spot)) (asked_by call).target)) passes
+    ∙ ap (option_and_then (λ spot. target_refused access call (way_of call spot))) asked
+    ∙ ap (λ (o : Option Denial). option_or o (target_lost way.place)) reach
+
+pub unreached_refused : UnreachedIsRefused
+unreached_refused s seat now words request mount refusal well stop is =
+    let call = call_of s seat now words request in
+    let access = access_of s in
+    ap (λ (o : Option Denial). answered_by (unless_refused o (allowed_of access call)))
+    (first_of (token_rule ∷ not_you_rule ∷ forbidden_rule ∷ []) place_rule
+    (acts_rule ∷ exists_rule ∷ target_rule ∷ overwrite_rule ∷ locked_rule ∷ limit_rule ∷ []) access call refusal
+    (well.token, (well.not_you, (well.forbidden, tt))) (stopped s call mount refusal stop is))

@@ -1,0 +1,30 @@
+//! What a refusal by shares tells, and when it is made.
+
+ghost use Rattle.nf_denials.specs.Laws.{ActsAreTold, BeginsTellTheirBreak, ReadsGoOn, RevokedIsRefused, UnreachedIsRefused, UnreachedIsTold};
+
+/// Who is refused at a mount is let in by no chain of shares, and who is refused an act there is let do it by none. What is told is the
+/// first link that is broken, with its first cause, of the chain of the first share that is received there; or that none is.
+pub fn breaks_are_told()
+    ensures reach { UnreachedIsTold }
+    ensures acts { ActsAreTold }
+{}
+
+/// So is each request that is refused by shares: for a mount that its paths go by, or for an act that it needs.
+pub fn begins_tell_their_break()
+    ensures { BeginsTellTheirBreak }
+{}
+
+/// A path that goes by a mount on which nobody lets the caller in is refused for that, whatever its further names are.
+pub fn unreached_is_refused()
+    ensures { UnreachedIsRefused }
+{}
+
+/// A body is refused that comes when its sender isn't let in any more, or may not do any more what it was granted.
+pub fn revoked_is_refused()
+    ensures { RevokedIsRefused }
+{}
+
+/// Whoever was granted a file is sent it, whatever became of the shares since.
+pub fn reads_go_on()
+    ensures { ReadsGoOn }
+{}

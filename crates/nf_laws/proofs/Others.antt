@@ -1,0 +1,425 @@
+-- What rows of shares and mounts keep where the nodes are others, and where shares end.
+use Rattle.std.proofs.Common.{ℕ, zero, suc, ◌==◌, ◌&&◌, ◌≡◌, ◌≢◌, ◌<◌, ◌≤◌, Bool, true, false, not, List, [], ◌∷◌, ◌++◌, Option, None, Some, bytes_eq, get_or, if◌then◌else◌, length, map, option_map, refl, sym, ap, subst, ◌∙◌, arith, le_refl}
+use Rattle.std.specs.Prelude.{is_some, option_and_then}
+use Rattle.std.specs.List.{All, AllPairs, list_any}
+use Rattle.std.specs.Option.{option_map_or}
+use Rattle.std.proofs.lemmas.Bool.{and_from, and_parts, both_ways, eq-eqb, eqb-true, false_from_ne_true, not_from_false}
+use Rattle.std.proofs.lemmas.List.{get_or-map, length-map}
+use Rattle.std.proofs.lemmas.List.Elements.{All-cons, All-filter, All-map, All-nil, All-push, All-weaker, filter_passes}
+use Rattle.std.proofs.lemmas.Slice.Eq.{bytes_eq-Decides}
+use Rattle.nf_access.specs.Mounts.{is_shown_to, mount_at, root_folder}
+use Rattle.nf_access.specs.Shares.{chain_up, chain_within, perms_of_share, share_row}
+use Rattle.nf_base.specs.declared.limits.TheConstants.{MAX_CHAIN, MAX_MOUNTS, MAX_SHARES}
+use Rattle.nf_base.specs.declared.rows.MetaRow.{MetaRow}
+use Rattle.nf_base.specs.declared.rows.MountRow.{MountRow}
+use Rattle.nf_base.specs.declared.rows.NodeKind.{NodeKind}
+use Rattle.nf_base.specs.declared.rows.NodeRow.{NodeRow}
+use Rattle.nf_base.specs.declared.rows.Place.TheVariants.{Inside}
+use Rattle.nf_base.specs.declared.rows.ShareKind.{ShareKind}
+use Rattle.nf_base.specs.declared.rows.ShareKind.TheVariants as to
+use Rattle.nf_base.specs.declared.rows.ShareRow.{ShareRow}
+use Rattle.nf_base.specs.declared.rows.UserRow.{UserRow}
+use Rattle.nf_defs.specs.Prelude.{child_of, is_in, is_place_in, is_root, is_root_place, IsRising, key_cmp, mount_key, node_row, owner_of, share_key, Tables, user_row, with_node}
+use Rattle.nf_laws.proofs.Climbs.{map_some, row_of_those, some_there, those}
+use Rattle.nf_laws.proofs.OneRow.{KeepsId, row_with, with_each}
+use Rattle.nf_laws.proofs.Rows.{AreKept, counters_up, each_fails, finds_none, found_is, kept_joined, kept_row, no_value, node_kept, none_higher, root_kept, row_joined, stamp, with_nodes}
+use Rattle.nf_laws.specs.Numbers.{AreHigher}
+use Rattle.nf_words.specs.Others.{AreMountsApart, AreOthersSound, IsChunkSound, IsItemSound, IsKindSound, IsMountSound, IsShareSound, IsUploadSound, IsVersionSound}
+use Rattle.nf_words.specs.Prelude.{AreSound, ended_row, HasNoLater, HasRoot, IsBorn, IsNodeSound, IsUnmounted}
+
+-- ---- what there is none of keeps its rules
+
+pub others_from : (t : Tables) → HasNoLater t → All (IsShareSound t) t.shares → IsRising share_key t.shares → length t.shares ≤ MAX_SHARES
+    → All (IsMountSound t) t.mounts → IsRising mount_key t.mounts → AllPairs AreMountsApart t.mounts → length t.mounts ≤ MAX_MOUNTS
+    → AreOthersSound t
+others_from t (versions, (items, (uploads, (chunks, end)))) shares shares_rise few_shares mounts mounts_rise mounts_apart few_mounts = record {
+  shares = shares;
+  shares_rise = shares_rise;
+  few_shares = few_shares;
+  mounts = mounts;
+  mounts_rise = mounts_rise;
+  mounts_apart = mounts_apart;
+  few_mounts = few_mounts;
+  versions = subst (All (IsVersionSound t)) (sym versions) (All-nil (IsVersionSound t));
+  items = subst (All (IsItemSound t)) (sym items) (All-nil (IsItemSound t));
+  uploads = subst (All (IsUploadSound t)) (sym uploads) (All-nil (IsUploadSound t));
+  chunks = subst (All (IsChunkSound t)) (sym chunks) (All-nil (IsChunkSound t));
+}
+
+-- ---- names of mounts
+
+-- the row is no child, in the root of a user, with the name of a mount that the user has there
+abbrev pub IsOff : Tables → NodeRow → Type 0
+IsOff t row =
+    All (λ (mount : MountRow). mount.left ≡ false → (is_in (root_folder t.users mount.user) row && bytes_eq row.name mount.name) ≡ false) t.mounts
+
+pub all_off : (t : Tables) → AreSound t → All (IsOff t) t.nodes
+all_off t sound k d within i e among shown =
+    let mount = get_or t.mounts i e in
+    each_fails (λ row. is_in (root_folder t.users mount.user) row && bytes_eq row.name mount.name) t.nodes
+    (no_value (λ row. row.id) _ ((sound.others.mounts i e among).free shown)) k d within
+
+free_off : (t : Tables) (nodes : List NodeRow) → All (IsOff t) nodes
+    → All (λ (mount : MountRow). mount.left ≡ false → child_of nodes (root_folder t.users mount.user) mount.name ≡ None) t.mounts
+free_off t nodes off i e among shown =
+    let mount = get_or t.mounts i e in
+    ap (option_map (λ (row : NodeRow). row.id))
+    (finds_none (λ row. is_in (root_folder t.users mount.user) row && bytes_eq row.name mount.name) nodes (λ k d within. off k d within i e among shown))
+
+-- the root of a user who is there
+pub record IsRootRow (t : Tables) (user : ℕ) : Type 0 where
+  pub row : NodeRow
+  pub there : node_row t.nodes (root_folder t.users user) ≡ Some row
+  pub rooted : is_root_place row.place ≡ true
+  pub owner : row.owner ≡ user
+
+pub root_row : (t : Tables) (user : ℕ) → AreSound t → is_some (user_row t.users user) ≡ true → IsRootRow t user
+root_row t user sound is =
+    let of = some_there (user_row t.users user) is in
+    let found = found_is (HasRoot t) (λ (row : UserRow). row.id == user) t.users of.0 sound.roots of.1 in
+    let root = found.1 in
+    record {
+      row = root.row;
+      there = ap (λ (o : Option UserRow). node_row t.nodes (option_map_or (λ row. row.root) o 0)) of.1 ∙ root.there;
+      rooted = ap is_root_place root.place;
+      owner = root.owner ∙ eqb-true of.0.id user found.0;
+    }
+
+-- what is put under a name that is no mount's is no child of that name
+pub new_off : (t : Tables) (row : NodeRow) (folder : ℕ) → AreSound t → row.place ≡ Inside folder → IsUnmounted t folder row.name → IsOff t row
+new_off t row folder sound inside unmounted i e among shown =
+    false_from_ne_true (is_in root row && bytes_eq row.name mount.name) (λ both.
+    let parts = and_parts (is_in root row) (bytes_eq row.name mount.name) both in
+    let at : folder ≡ root = eqb-true folder root (ap (is_place_in root) (sym inside) ∙ parts.0) in
+    let named : row.name ≡ mount.name = (bytes_eq-Decides row.name mount.name).0 parts.1 in
+    let of = root_row t mount.user sound (sound.others.mounts i e among).user in
+    let there : node_row t.nodes folder ≡ Some of.row = ap (node_row t.nodes) at ∙ of.there in
+    let rooted : is_root t.nodes folder ≡ true = ap (λ (o : Option NodeRow). option_map_or (λ row. is_root_place row.place) o false) there ∙ of.rooted in
+    let owner : owner_of t.nodes folder ≡ mount.user = ap (λ (o : Option NodeRow). option_map_or (λ row. row.owner) o 0) there ∙ of.owner in
+    let none = ap (λ (n : ℕ). mount_at t.mounts n row.name) (sym owner) ∙ unmounted rooted in
+    let fails = each_fails (λ other. is_shown_to mount.user other && bytes_eq other.name row.name) t.mounts (no_value (λ other. other.node) _ none) i e among in
+    both_ways (is_shown_to mount.user mount && bytes_eq mount.name row.name) fails
+    (and_from (is_shown_to mount.user mount) (bytes_eq mount.name row.name)
+    (and_from (mount.user == mount.user) (not mount.left) (eq-eqb mount.user mount.user refl) (not_from_false mount.left shown))
+    ((bytes_eq-Decides mount.name row.name).1 (sym named))))
+  where
+    mount : MountRow
+    mount = get_or t.mounts i e
+
+    root : ℕ
+    root = root_folder t.users mount.user
+
+-- ---- nodes as shares and mounts see them
+
+-- a node's row is of the owner, of the kind, and a root or none, as the row that it had
+pub record WasSo (rows : List NodeRow) (node : ℕ) (row : NodeRow) : Type 0 where
+  pub old : NodeRow
+  pub there : node_row rows node ≡ Some old
+  pub owner : row.owner ≡ old.owner
+  pub root : is_root_place row.place ≡ is_root_place old.place
+  pub kind : row.kind ≡ old.kind
+
+abbrev pub WasThere : List NodeRow → List NodeRow → ℕ → Type 0
+WasThere rows others node = (row : NodeRow) → node_row others node ≡ Some row → WasSo rows node row
+
+pub was_same : (rows : List NodeRow) (node : ℕ) (row : NodeRow) → node_row rows node ≡ Some row → WasSo rows node row
+was_same rows node row there = record { old = row; there = there; owner = refl; root = refl; kind = refl }
+
+-- where all nodes are as they were, so are those of shares and of mounts
+abbrev pub OfShares : Tables → (ℕ → Type 0) → Type 0
+OfShares t P = All (λ (share : ShareRow). P share.node) t.shares
+
+abbrev pub OfMounts : Tables → (ℕ → Type 0) → Type 0
+OfMounts t P = All (λ (mount : MountRow). P mount.node) t.mounts
+
+pub kind_still : (t made : Tables) → made.users ≡ t.users → made.groups ≡ t.groups → (kind : ShareKind) → IsKindSound t kind → IsKindSound made kind
+kind_still t made users groups (to.User user) is = ap (λ rows. is_some (user_row rows user)) users ∙ is
+kind_still t made users groups (to.Group group) is = ap (λ rows. list_any (λ row. row.id == group) rows) groups ∙ is
+kind_still t made users groups (to.Link token) is = tt
+
+share_still : (t : Tables) (meta : MetaRow) (nodes : List NodeRow) (share : ShareRow) → t.meta.next_share ≤ meta.next_share
+    → t.meta.next_node ≤ meta.next_node → t.meta.last ≤ meta.last → WasThere t.nodes nodes share.node
+    → (share.ended ≡ false → is_some (node_row nodes share.node) ≡ true) → IsShareSound t share → IsShareSound (with_nodes t meta nodes) share
+share_still t meta nodes share up_shares up_nodes later was still is = record {
+  some = is.some;
+  given = omega (arith, is.given, up_shares);
+  made = omega (arith, is.made, later);
+  node = omega (arith, is.node, up_nodes);
+  owner = is.owner;
+  initiator = is.initiator;
+  kind = kind_still t (with_nodes t meta nodes) refl refl share.kind is.kind;
+  chained = is.chained;
+  parent = is.parent;
+  present = still;
+  of_node = λ of there.
+      let w = was of there in
+      let o = is.of_node w.old w.there in
+      record {
+        owner = w.owner ∙ o.owner;
+        no_root = w.root ∙ o.no_root;
+        perms = ap (λ (kind : NodeKind). perms_of_share kind share.kind share.perms) w.kind ∙ o.perms;
+      };
+}
+
+-- what all of them need of the nodes
+pub record Still (t : Tables) (nodes : List NodeRow) : Type 0 where
+  pub of_shares : OfShares t (WasThere t.nodes nodes)
+  pub of_mounts : OfMounts t (WasThere t.nodes nodes)
+  pub present : All (λ (share : ShareRow). share.ended ≡ false → is_some (node_row nodes share.node) ≡ true) t.shares
+  pub off : All (IsOff t) nodes
+
+mounts_still : (t made : Tables) → made.users ≡ t.users → t.meta.next_node ≤ made.meta.next_node → AreSound t
+    → OfMounts t (WasThere t.nodes made.nodes) → All (IsOff t) made.nodes → All (IsMountSound made) t.mounts
+mounts_still t made users up sound was off k d within =
+    let mount = get_or t.mounts k d in
+    let is = sound.others.mounts k d within in
+    record {
+      user = ap (λ rows. is_some (user_row rows mount.user)) users ∙ is.user;
+      node = omega (arith, is.node, up);
+      others = λ of there same.
+          let w = was k d within of there in is.others w.old w.there (sym w.owner ∙ same);
+      free = λ shown.
+          ap (λ rows. child_of made.nodes (root_folder rows mount.user) mount.name) users ∙ free_off t made.nodes off k d within shown;
+    }
+
+pub others_still : (t : Tables) (meta : MetaRow) (nodes : List NodeRow) → AreSound t → AreHigher t.meta meta → t.meta.last ≤ meta.last
+    → Still t nodes → AreOthersSound (with_nodes t meta nodes)
+others_still t meta nodes sound up later still =
+    let made = with_nodes t meta nodes in
+    others_from made sound.later
+    (λ k d within. share_still t meta nodes (get_or t.shares k d) up.shares up.nodes later (still.of_shares k d within) (still.present k d within)
+    (sound.others.shares k d within))
+    sound.others.shares_rise sound.others.few_shares (mounts_still t made refl up.nodes sound still.of_mounts still.off) sound.others.mounts_rise
+    sound.others.mounts_apart sound.others.few_mounts
+
+-- nodes that are as they were are still so
+pub still_same : (t : Tables) → AreSound t → Still t t.nodes
+still_same t sound = record {
+  of_shares = λ k d within row there. was_same t.nodes _ row there;
+  of_mounts = λ k d within row there. was_same t.nodes _ row there;
+  present = λ k d within. (sound.others.shares k d within).present;
+  off = all_off t sound;
+}
+
+-- what is kept is there
+pub kept_present : (t : Tables) (nodes : List NodeRow) → AreSound t → AreKept t.nodes nodes
+    → All (λ (share : ShareRow). share.ended ≡ false → is_some (node_row nodes share.node) ≡ true) t.shares
+kept_present t nodes sound kept k d within unended =
+    let share = get_or t.shares k d in
+    let was = some_there (node_row t.nodes share.node) ((sound.others.shares k d within).present unended) in
+    ap is_some (kept share.node was.0 was.1).there
+
+-- with a node more
+pub still_more : (t : Tables) (row : NodeRow) → AreSound t → IsBorn t row → Still t (t.nodes ++ row ∷ [])
+still_more t row sound born = record {
+  of_shares = λ k d within. was (get_or t.shares k d).node (born.unshared k d within);
+  of_mounts = λ k d within. was (get_or t.mounts k d).node (born.unused k d within);
+  present = kept_present t (t.nodes ++ row ∷ []) sound (kept_joined t.nodes (row ∷ []));
+  off = All-push (IsOff t) t.nodes row (all_off t sound) (new_off t row born.folder sound born.place born.unmounted);
+}
+  where
+    was : (node : ℕ) → node < row.id → WasThere t.nodes (t.nodes ++ row ∷ []) node
+    was node less other there =
+        was_same t.nodes node other
+        (sym (row_joined t.nodes (row ∷ []) node (All-cons (λ (r : NodeRow). r.id ≢ node) row [] (λ same. absurd (omega (arith, less, same)))
+        (All-nil (λ (r : NodeRow). r.id ≢ node)))) ∙ there)
+
+-- with another row of a node, which is of the same owner and kind, a root or none as before, and no child of a mount's name
+pub record IsSeenSo (t : Tables) (node : ℕ) (change : NodeRow → NodeRow) : Type 0 where
+  pub id : KeepsId change
+  pub owner : (row : NodeRow) → (change row).owner ≡ row.owner
+  pub kind : (row : NodeRow) → (change row).kind ≡ row.kind
+  pub root : (row : NodeRow) → node_row t.nodes node ≡ Some row → is_root_place (change row).place ≡ is_root_place row.place
+  pub off : (row : NodeRow) → node_row t.nodes node ≡ Some row → IsOff t row → IsOff t (change row)
+
+pub still_with : (t : Tables) (node : ℕ) (change : NodeRow → NodeRow) → AreSound t → IsSeenSo t node change → Still t (with_node t.nodes node change)
+still_with t node change sound seen = record {
+  of_shares = λ k d within. was (get_or t.shares k d).node;
+  of_mounts = λ k d within. was (get_or t.mounts k d).node;
+  present = λ k d within unended.
+      let n = (get_or t.shares k d).node in
+      ap is_some (row_with t.nodes node change seen.id n) ∙ same_some n (n == node) ∙ (sound.others.shares k d within).present unended;
+  off = with_each (IsOff t) (IsOff t) t.nodes node change (λ row off. off) (λ row there off. seen.off row there off) (all_off t sound);
+}
+  where
+    mapped : (o : Option NodeRow) → is_some (option_map change o) ≡ is_some o
+    mapped None = refl
+    mapped (Some row) = refl
+
+    same_some : (n : ℕ) (b : Bool) → is_some (if b then option_map change (node_row t.nodes n) else node_row t.nodes n) ≡ is_some (node_row t.nodes n)
+    same_some n true = mapped (node_row t.nodes n)
+    same_some n false = refl
+
+    was : (n : ℕ) → WasThere t.nodes (with_node t.nodes node change) n
+    was n row there = here (n == node) refl (sym (row_with t.nodes node change seen.id n) ∙ there)
+      where
+        here : (b : Bool) → (n == node) ≡ b → (if b then option_map change (node_row t.nodes n) else node_row t.nodes n) ≡ Some row → WasSo t.nodes n row
+        here false e is = was_same t.nodes n row is
+        here true e is =
+            let of = map_some change (node_row t.nodes n) row is in
+            let at : node_row t.nodes node ≡ Some of.0 = ap (node_row t.nodes) (sym (eqb-true n node e)) ∙ of.1 in
+            record {
+              old = of.0;
+              there = of.1;
+              owner = ap (λ (r : NodeRow). r.owner) (sym of.2) ∙ seen.owner of.0;
+              root = ap (λ (r : NodeRow). is_root_place r.place) (sym of.2) ∙ seen.root of.0 at;
+              kind = ap (λ (r : NodeRow). r.kind) (sym of.2) ∙ seen.kind of.0;
+            }
+
+-- ---- shares that end
+
+-- a share, which is ended where its node goes
+abbrev pub unless_gone : (ℕ → Bool) → ShareRow → ShareRow
+unless_gone gone share = if gone share.node then ended_row share else share
+
+-- it has the same number, chain and node
+module _ (gone : ℕ → Bool) where
+  abbrev end_some : ShareRow → ShareRow
+  end_some = unless_gone gone
+
+  same_field : {X : Type 0} (field : ShareRow → X) → ((share : ShareRow) → field (ended_row share) ≡ field share) → (share : ShareRow)
+      → field (end_some share) ≡ field share
+  same_field field same share = here (gone share.node)
+    where
+      here : (b : Bool) → field (if b then ended_row share else share) ≡ field share
+      here true = same share
+      here false = refl
+
+  row_ended : (shares : List ShareRow) (id : ℕ) → share_row (map end_some shares) id ≡ option_map end_some (share_row shares id)
+  row_ended [] id = refl
+  row_ended (share ∷ shares) id =
+      ap (λ (n : ℕ). if n == id then Some (end_some share) else share_row (map end_some shares) id) (same_field (λ s. s.id) (λ s. refl) share)
+      ∙ here (share.id == id) (row_ended shares id)
+    where
+      here : (b : Bool) → share_row (map end_some shares) id ≡ option_map end_some (share_row shares id)
+          → (if b then Some (end_some share) else share_row (map end_some shares) id) ≡ option_map end_some (if b then Some share else share_row shares id)
+      here true rest = refl
+      here false rest = rest
+
+  up_ended : (share : ShareRow) (parent : Option ℕ) (f g : ℕ → Option (List ShareRow)) → ((id : ℕ) → is_some (f id) ≡ is_some (g id))
+      → is_some (chain_up (end_some share) parent f) ≡ is_some (chain_up share parent g)
+  up_ended share None f g same = here (gone share.node)
+    where
+      made : (row : ShareRow) (b : Bool) → is_some (if b then Some (row ∷ []) else None) ≡ b
+      made row true = refl
+      made row false = refl
+
+      here : (b : Bool) → is_some (chain_up (if b then ended_row share else share) None f) ≡ is_some (chain_up share None g)
+      here true = made (ended_row share) (share.initiator == share.owner) ∙ sym (made share (share.initiator == share.owner))
+      here false = refl
+  up_ended share (Some id) f g same = mapped (end_some share) (f id) ∙ same id ∙ sym (mapped share (g id))
+    where
+      mapped : (row : ShareRow) (o : Option (List ShareRow)) → is_some (option_map (λ up. row ∷ up) o) ≡ is_some o
+      mapped row None = refl
+      mapped row (Some up) = refl
+
+  chain_ended : (k : ℕ) (shares : List ShareRow) (id : ℕ) → is_some (chain_within k (map end_some shares) id) ≡ is_some (chain_within k shares id)
+  unfolding chain_within
+  chain_ended zero shares id = refl
+  chain_ended (suc k) shares id =
+      ap (λ (o : Option ShareRow). is_some (option_and_then (λ row. chain_up row row.parent (chain_within k (map end_some shares))) o)) (row_ended shares id)
+      ∙ here (share_row shares id) (λ id. chain_ended k shares id)
+    where
+      here : (o : Option ShareRow) → ((id : ℕ) → is_some (chain_within k (map end_some shares) id) ≡ is_some (chain_within k shares id))
+          → is_some (option_and_then (λ row. chain_up row row.parent (chain_within k (map end_some shares))) (option_map end_some o))
+          ≡ is_some (option_and_then (λ row. chain_up row row.parent (chain_within k shares)) o)
+      here None rest = refl
+      here (Some share) rest =
+          ap (λ (p : Option ℕ). is_some (chain_up (end_some share) p (chain_within k (map end_some shares)))) (same_field (λ s. s.parent) (λ s. refl) share)
+          ∙ up_ended share share.parent (chain_within k (map end_some shares)) (chain_within k shares) rest
+
+-- the tables without the nodes that go, and with their shares ended
+abbrev pub without : Tables → (ℕ → Bool) → Tables
+without t gone = record t { nodes = those (λ node. not (gone node)) t.nodes; shares = map (unless_gone gone) t.shares }
+
+-- what is there after is what was
+pub those_were : (test : ℕ → Bool) (rows : List NodeRow) (node : ℕ) (row : NodeRow) → node_row (those test rows) node ≡ Some row
+    → (test node ≡ true) × (node_row rows node ≡ Some row)
+those_were test rows node row is =
+    let found = found_is (λ (row : NodeRow). test row.id ≡ true) (λ row. row.id == node) (those test rows) row (filter_passes (λ row. test row.id) rows) is in
+    let passes = subst (λ (n : ℕ). test n ≡ true) (eqb-true row.id node found.0) found.1 in
+    (passes, sym (row_of_those test rows node passes) ∙ is)
+
+share_ended : (t : Tables) (gone : ℕ → Bool) (share : ShareRow) → IsShareSound t share → IsShareSound (without t gone) (unless_gone gone share)
+share_ended t gone share is = here (gone share.node) refl
+  where
+    made : Tables
+    made = without t gone
+
+    test : ℕ → Bool
+    test node = not (gone node)
+
+    chained : (row : ShareRow) → row.id ≡ share.id → is_some (chain_within MAX_CHAIN made.shares row.id) ≡ true
+    chained row same = ap (λ (n : ℕ). is_some (chain_within MAX_CHAIN made.shares n)) same ∙ chain_ended gone MAX_CHAIN t.shares share.id ∙ is.chained
+
+    here : (b : Bool) → gone share.node ≡ b → IsShareSound made (if b then ended_row share else share)
+    here true goes = record {
+      some = is.some;
+      given = is.given;
+      made = is.made;
+      node = is.node;
+      owner = is.owner;
+      initiator = is.initiator;
+      kind = kind_still t made refl refl share.kind is.kind;
+      chained = chained (ended_row share) refl;
+      parent = is.parent;
+      present = λ unended. absurd (cc);
+      of_node = λ of there. let o = is.of_node of (those_were test t.nodes share.node of there).1 in record { owner = o.owner; no_root = o.no_root; perms = o.perms };
+    }
+    here false stays = record {
+      some = is.some;
+      given = is.given;
+      made = is.made;
+      node = is.node;
+      owner = is.owner;
+      initiator = is.initiator;
+      kind = kind_still t made refl refl share.kind is.kind;
+      chained = chained share refl;
+      parent = is.parent;
+      present = λ unended. ap is_some (row_of_those test t.nodes share.node (ap not stays)) ∙ is.present unended;
+      of_node = λ of there. let o = is.of_node of (those_were test t.nodes share.node of there).1 in record { owner = o.owner; no_root = o.no_root; perms = o.perms };
+    }
+
+pub others_ended : (t : Tables) (gone : ℕ → Bool) → AreSound t → AreOthersSound (without t gone)
+others_ended t gone sound =
+    let made = without t gone in
+    let test : ℕ → Bool = λ node. not (gone node) in
+    others_from made sound.later
+    (All-map (IsShareSound made) (unless_gone gone) t.shares
+    (λ k d within. share_ended t gone (get_or t.shares k d) (sound.others.shares k d within)))
+    (λ i j d before within.
+    let few : j < length t.shares = omega (arith, length-map t.shares (unless_gone gone)) in
+    let a = get_or-map (unless_gone gone) t.shares i d d (omega (arith, before, few)) in
+    let b = get_or-map (unless_gone gone) t.shares j d d few in
+    ap (λ (row : ShareRow). key_cmp (share_key row) (share_key (get_or made.shares j d))) a
+    ∙ ap (λ (row : ShareRow). key_cmp (share_key (unless_gone gone (get_or t.shares i d))) (share_key row)) b
+    ∙ ap (λ (k : List ℕ). key_cmp k (share_key (unless_gone gone (get_or t.shares j d)))) (same_field gone share_key (λ s. refl) (get_or t.shares i d))
+    ∙ ap (key_cmp (share_key (get_or t.shares i d))) (same_field gone share_key (λ s. refl) (get_or t.shares j d))
+    ∙ sound.others.shares_rise i j d before few)
+    (omega (arith, length-map t.shares (unless_gone gone), sound.others.few_shares))
+    (mounts_still t made refl (le_refl _) sound
+    (λ k d within row there. was_same t.nodes _ row (those_were test t.nodes _ row there).1)
+    (All-filter (λ (row : NodeRow). test row.id) (IsOff t) t.nodes (all_off t sound)))
+    sound.others.mounts_rise sound.others.mounts_apart sound.others.few_mounts
+
+-- ---- counters and moments
+
+-- higher counters and a later moment change nothing else
+pub meta_sound : (t : Tables) (meta : MetaRow) → AreSound t → AreHigher t.meta meta → t.meta.last ≤ meta.last → AreSound (record t { meta = meta })
+meta_sound t meta sound up later =
+    let made : Tables = record t { meta = meta } in
+    record {
+      counters = counters_up t.meta meta sound.counters up;
+      rising = sound.rising;
+      nodes = All-weaker (IsNodeSound t) (IsNodeSound made)
+          (λ row. node_kept t meta t.nodes row (kept_row t.nodes) up.nodes up.blobs later) t.nodes sound.nodes;
+      names = sound.names;
+      roots = All-weaker (HasRoot t) (HasRoot made) (root_kept t meta t.nodes (kept_row t.nodes)) t.users sound.roots;
+      few_nodes = sound.few_nodes;
+      few_pieces = sound.few_pieces;
+      later = sound.later;
+      others = others_still t meta t.nodes sound up later (still_same t sound);
+    }
+
+pub stamp_sound : (t : Tables) (now : ℕ) → AreSound t → t.meta.last ≤ now → AreSound (stamp t now)
+stamp_sound t now sound later = meta_sound t (record t.meta { last = now }) sound (none_higher t.meta now) later

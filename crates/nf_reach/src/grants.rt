@@ -1,0 +1,80 @@
+//! What is granted to who asks, as a listing tells it.
+
+ghost use Rattle.std.specs.Prelude.{◌≡◌, ◌≤◌, ◌==◌, ◌&&◌, filter, not};
+ghost use Rattle.std.specs.List.{list_any};
+ghost use Rattle.nf_access.specs.Access.{by_chains, is_open};
+ghost use Rattle.nf_base.specs.Perms.{bit_of};
+ghost use Rattle.nf_defs.specs.declared.Seeker.TheVariants.{User};
+ghost use Rattle.nf_words.specs.Listing.{bit_by, bits_by, granted_by};
+
+use crate::asker::Asker;
+use nf_base::{Act, MountRow, NodeId, Perms};
+
+/// The bit of an act in permissions.
+fn bit_of(act: Act) -> u8
+    ensures { result ≡ bit_of act }
+{
+    match act {
+        Act::Read => 1,
+        Act::Update => 2,
+        Act::Create => 4,
+        Act::Delete => 8,
+        Act::Share => 16,
+    }
+}
+
+impl<'a> Asker<'a> {
+    /// What the user may do by its grants on a node.
+    pub fn permissions(&self, node: NodeId) -> Perms
+        ensures { result ≡ bits_by self.now.moment (by_chains self.now.base (User self.now.user) node) }
+    {
+        let bits = self.bit_by(Act::Read, node)
+            + self.bit_by(Act::Update, node)
+            + self.bit_by(Act::Create, node)
+            + self.bit_by(Act::Delete, node)
+            + self.bit_by(Act::Share, node);
+        Perms::read(bits).unwrap()
+    }
+
+    /// What the user may do with what it doesn't own, by the mount that a path goes by.
+    pub fn granted_by(&self, mount: Option<NodeId>) -> Perms
+        ensures { result ≡ granted_by (by_chains self.now.base) self.now.user self.now.moment mount }
+    {
+        match mount {
+            Some(mount) => self.permissions(mount),
+            None => nothing(),
+        }
+    }
+
+    fn bit_by(&self, act: Act, node: NodeId) -> u8
+        ensures bit { result ≡ bit_by self.now.moment (by_chains self.now.base (User self.now.user) node) act }
+        ensures few { result ≤ bit_of act }
+    {
+        if self.is_granted(act, node) {
+            bit_of(act)
+        } else {
+            0
+        }
+    }
+
+    /// The user's mounts, with those that were left.
+    pub fn mounts(&self) -> &[MountRow]
+        ensures { result.now ≡ filter (λ row. row.user == self.now.user) self.now.mounts }
+    {
+        self.all_mounts().of_user(self.user())
+    }
+
+    /// Whether a mount of the user's is listed.
+    pub fn lists(&self, mount: &MountRow) -> bool
+        ensures { result ≡ (not mount.now.left && list_any (is_open self.now.moment) (by_chains self.now.base (User self.now.user) mount.now.node)) }
+    {
+        !mount.left && self.is_reached(mount.node)
+    }
+}
+
+/// The permissions to do nothing.
+fn nothing() -> Perms
+    ensures { result ≡ 0 }
+{
+    Perms::read(0).unwrap()
+}
