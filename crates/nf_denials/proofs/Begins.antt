@@ -26,11 +26,11 @@ use Rattle.nf_denials.specs.Laws.{BeginsTellTheirBreak, GoesBy, IsKeptOut, IsSto
 -- ---- rules of other things
 
 -- none, or a refusal that isn't by shares
-abbrev IsOther : Option Denial → Type 0
+abbrev pub IsOther : Option Denial → Type 0
 IsOther o = IfSome o (λ (refusal : Denial). is_of_shares refusal ≡ false)
 
 -- such a rule isn't the one that refuses by shares
-skip : (rule rest : Option Denial) (refusal : Denial) → IsOther rule → is_of_shares refusal ≡ true → option_or rule rest ≡ Some refusal
+pub skip : (rule rest : Option Denial) (refusal : Denial) → IsOther rule → is_of_shares refusal ≡ true → option_or rule rest ≡ Some refusal
     → rest ≡ Some refusal
 skip None rest refusal other shares is = is
 skip (Some first) rest refusal other shares is =
@@ -40,11 +40,11 @@ unless_test : (b : Bool) (refusal : Denial) → is_of_shares refusal ≡ false �
 unless_test true refusal fine = tt
 unless_test false refusal fine = fine
 
-if_test : (b : Bool) (refusal : Denial) → is_of_shares refusal ≡ false → IsOther (if b then Some refusal else None)
+pub if_test : (b : Bool) (refusal : Denial) → is_of_shares refusal ≡ false → IsOther (if b then Some refusal else None)
 if_test true refusal fine = fine
 if_test false refusal fine = tt
 
-told_by : {X : Type 0} (tell : X → Denial) (o : Option X) → ((x : X) → is_of_shares (tell x) ≡ false) → IsOther (option_map tell o)
+pub told_by : {X : Type 0} (tell : X → Denial) (o : Option X) → ((x : X) → is_of_shares (tell x) ≡ false) → IsOther (option_map tell o)
 told_by tell None fine = tt
 told_by tell (Some x) fine = fine x
 
@@ -110,11 +110,11 @@ target_other (At node) = tt
 target_other (Free folder) = tt
 target_other (Missing depth) = refl
 
-either : (a b : Option Denial) (refusal : Denial) → option_or a b ≡ Some refusal → (a ≡ Some refusal) ⊎ (b ≡ Some refusal)
+pub either : (a b : Option Denial) (refusal : Denial) → option_or a b ≡ Some refusal → (a ≡ Some refusal) ⊎ (b ≡ Some refusal)
 either None b refusal is = inr is
 either (Some first) b refusal is = inl is
 
-first_one : (a b : Option Denial) (refusal : Denial) → IsOther b → is_of_shares refusal ≡ true → option_or a b ≡ Some refusal → a ≡ Some refusal
+pub first_one : (a b : Option Denial) (refusal : Denial) → IsOther b → is_of_shares refusal ≡ true → option_or a b ≡ Some refusal → a ≡ Some refusal
 first_one None b refusal other shares is = skip b None refusal other shares (ap (λ (o : Option Denial). option_or o None) is ∙ refl)
 first_one (Some first) b refusal other shares is = is
 
@@ -167,7 +167,7 @@ module _ (s : State) (seat now : ℕ) (call : Call) (refusal : Denial) (sound : 
 
 -- ---- requests
 
-refused_so : (o : Option Denial) (act : Allowed) (refusal : Denial) → answered_by (unless_refused o act) ≡ Err refusal → o ≡ Some refusal
+pub refused_so : (o : Option Denial) (act : Allowed) (refusal : Denial) → answered_by (unless_refused o act) ≡ Err refusal → o ≡ Some refusal
 refused_so None act refusal is = absurd (cc)
 refused_so (Some first) act refusal is = cc
 

@@ -1,9 +1,9 @@
 -- Bodies whose senders were refused meanwhile, and files that are sent.
-use Rattle.std.proofs.Common.{◌≡◌, ℕ, Bool, List, Option, None, Some, Result, Ok, Err, if◌then◌else◌, refl, ap, ◌∙◌}
+use Rattle.std.proofs.Common.{◌≡◌, ◌⊎◌, inl, inr, ℕ, Bool, true, false, List, Option, None, Some, Result, Ok, Err, if◌then◌else◌, refl, sym, ap, ◌∙◌}
 use Rattle.std.specs.Prelude.{option_and_then, option_map}
 use Rattle.std.specs.Option.{option_or}
 use Rattle.nf_access.specs.Shares.{ground_of}
-use Rattle.nf_words.specs.Prelude.{access_of, answered_by, end_lost, end_refusal, end_unallowed, end_unreached, ends_at, goal_at, limit_at, node_of_key, pieces_of, place_of, State, stored_at, unless_refused, unreached_by}
+use Rattle.nf_words.specs.Prelude.{access_of, answered_by, end_lost, end_refusal, end_unallowed, end_unreached, ends_at, goal_at, is_owner, IsSound, limit_at, needed_by, node_of_key, pieces_of, place_of, State, stored_at, unless_refused, unreached_by}
 use Rattle.nf_words.specs.declared.answer.By.{By}
 use Rattle.nf_words.specs.declared.answer.Denial.{Denial}
 use Rattle.nf_words.specs.declared.answer.Denial.TheVariants as denial
@@ -14,7 +14,10 @@ use Rattle.nf_words.specs.declared.answer.Reply.{Reply}
 use Rattle.nf_words.specs.declared.answer.Reply.TheVariants.{Closed}
 use Rattle.nf_words.specs.declared.history.Outcome.{Outcome}
 use Rattle.nf_words.specs.declared.history.Outcome.TheVariants.{Body, Gone, Sent}
-use Rattle.nf_denials.specs.Laws.{ReadsGoOn, RevokedIsRefused}
+use Rattle.nf_words.specs.declared.answer.LockKey.TheVariants.{Node, Slot}
+use Rattle.nf_denials.proofs.Begins.{IsOther, either, first_one, if_test, refused_so, told_by}
+use Rattle.nf_denials.proofs.Told.{acts_told, unreached_told}
+use Rattle.nf_denials.specs.Laws.{EndsTellTheirBreak, IsKeptOutBy, IsUnmet, ReadsGoOn, RevokedIsRefused, is_of_shares}
 
 -- the first two of the rules of an End, and the rest
 refused : (s : State) (seat now : ℕ) (by : By) (key : LockKey) (wanted length : ℕ) (digest : List ℕ) (refusal : Denial)
@@ -50,3 +53,56 @@ reads_on s seat now outcome content goal =
     here Sent = refl
     here Gone = refl
     here (Body digest length) = refl
+
+-- ---- what is told
+
+end_told : (s : State) (now : ℕ) (by : By) (key : LockKey) (length : ℕ) (refusal : Denial) → IsSound s → is_of_shares refusal ≡ true
+    → end_refusal (access_of s) s.tables now by key length ≡ Some refusal
+    → IsKeptOutBy s now by (node_of_key key) refusal ⊎ IsUnmet s now by.seeker (needed_by by key) refusal
+end_told s now by key length refusal sound shares is = elim (either _ _ refusal is) [
+  | inl reach ↦ inl (out (is_owner s.tables.nodes by.seeker (node_of_key key)) refl reach)
+  | inr rest ↦
+      inr (acts_told s by.seeker now (needed_by by key) refusal sound
+      (first_one (end_unallowed (access_of s) s.tables now by key) _ refusal lost shares rest))
+]
+  where
+    limits : Option Denial
+    limits = option_map denial.Limit (limit_at s.tables (pieces_of length) (place_of key))
+
+    -- that the name was taken isn't of shares, nor is a limit
+    lost_other : (key : LockKey) → IsOther (end_lost s.tables key)
+    lost_other (Node node) = tt
+    lost_other (Slot folder name) = if_test _ denial.NotFound refl
+
+    or_other : (a b : Option Denial) → IsOther a → IsOther b → IsOther (option_or a b)
+    or_other None b fine more = more
+    or_other (Some first) b fine more = fine
+
+    lost : IsOther (option_or (end_lost s.tables key) limits)
+    lost = or_other (end_lost s.tables key) limits (lost_other key) (told_by denial.Limit _ (λ limit. refl))
+
+    by_mount : (mount : Option ℕ) → by.mount ≡ mount → is_owner s.tables.nodes by.seeker (node_of_key key) ≡ false
+        → option_and_then (unreached_by (access_of s) (ground_of s.tables) by.seeker now) mount ≡ Some refusal
+        → IsKeptOutBy s now by (node_of_key key) refusal
+    by_mount None e other is = absurd (cc)
+    by_mount (Some mount) e other is =
+        record { mount = mount; goes = e; other = other; shut = unreached_told s by.seeker now mount refusal sound is }
+
+    out : (owns : Bool) → is_owner s.tables.nodes by.seeker (node_of_key key) ≡ owns
+        → (if owns then None else option_and_then (unreached_by (access_of s) (ground_of s.tables) by.seeker now) by.mount) ≡ Some refusal
+        → IsKeptOutBy s now by (node_of_key key) refusal
+    out true e is = absurd (cc)
+    out false e is = by_mount by.mount refl e is
+
+pub ends_tell : EndsTellTheirBreak
+ends_tell s seat now by key wanted outcome refusal sound goal is shares =
+    here outcome
+    (sym (ap (λ (g : Option Goal). answered_by (ends_at (access_of s) s.tables now outcome g)) goal) ∙ is)
+  where
+    here : (outcome : Outcome) → answered_by (ends_at (access_of s) s.tables now outcome (Some (Store by key wanted))) ≡ Err refusal
+        → IsKeptOutBy s now by (node_of_key key) refusal ⊎ IsUnmet s now by.seeker (needed_by by key) refusal
+    here Sent is = absurd (cc)
+    here Gone is = absurd (cc)
+    here (Body digest length) is =
+        end_told s now by key length refusal sound shares
+        (refused_so (end_refusal (access_of s) s.tables now by key length) (stored_at s.tables now key digest length) refusal is)

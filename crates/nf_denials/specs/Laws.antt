@@ -125,6 +125,20 @@ pub record RevokedIsRefused : Type 0 where
       → first_refused (access_of s) (ground_of s.tables) by.seeker now (needed_by by key) ≡ Some denial
       → answer_to s seat now (End (Body digest length)) ≡ Err denial
 
+-- the mount by which it was granted to store doesn't let who stores in, who doesn't own the node
+pub record IsKeptOutBy (s : State) (now : ℕ) (by : By) (node : ℕ) (denial : Denial) : Type 0 where
+  pub mount : ℕ
+  pub goes : by.mount ≡ Some mount
+  pub other : is_owner s.tables.nodes by.seeker node ≡ false
+  pub shut : IsShut (ground_of s.tables) now by.seeker None mount denial
+
+-- a body that is refused by shares is refused for that mount, or for the act that storing needs
+abbrev pub EndsTellTheirBreak : Type 0
+EndsTellTheirBreak =
+    (s : State) (seat now : ℕ) (by : By) (key : LockKey) (wanted : ℕ) (outcome : Outcome) (denial : Denial) → IsSound s
+    → goal_at s seat ≡ Some (Store by key wanted) → answer_to s seat now (End outcome) ≡ Err denial → is_of_shares denial ≡ true
+    → IsKeptOutBy s now by (node_of_key key) denial ⊎ IsUnmet s now by.seeker (needed_by by key) denial
+
 -- what was granted to be read is read
 abbrev pub ReadsGoOn : Type 0
 ReadsGoOn =

@@ -1,6 +1,6 @@
 //! What a refusal by shares tells, and when it is made.
 
-ghost use Rattle.nf_denials.specs.Laws.{ActsAreTold, BeginsTellTheirBreak, ReadsGoOn, RevokedIsRefused, UnreachedIsRefused, UnreachedIsTold};
+ghost use Rattle.nf_denials.specs.Laws.{ActsAreTold, BeginsTellTheirBreak, EndsTellTheirBreak, ReadsGoOn, RevokedIsRefused, UnreachedIsRefused, UnreachedIsTold};
 
 /// Who is refused at a mount is let in by no chain of shares, and who is refused an act there is let do it by none. What is told is the
 /// first link that is broken, with its first cause, of the chain of the first share that is received there; or that none is.
@@ -22,6 +22,11 @@ pub fn unreached_is_refused()
 /// A body is refused that comes when its sender isn't let in any more, or may not do any more what it was granted.
 pub fn revoked_is_refused()
     ensures { RevokedIsRefused }
+{}
+
+/// What is told then is the first broken link, too.
+pub fn ends_tell_their_break()
+    ensures { EndsTellTheirBreak }
 {}
 
 /// Whoever was granted a file is sent it, whatever became of the shares since.
