@@ -1,14 +1,15 @@
 -- What a refusal by shares tells, and when it is made.
-use Rattle.std.specs.Prelude.{◌≡◌, ◌⊎◌, ℕ, ◌&&◌, Bool, false, true, Contains, List, Option, None, Some, Ok, Err, option_and_then}
+use Rattle.std.specs.Prelude.{◌≡◌, ◌⊎◌, ℕ, ◌&&◌, All, Bool, false, true, Contains, List, Option, None, Some, Ok, Err, option_and_then}
 use Rattle.nf_access.specs.Broken.{IsFirstBroken, first_received}
 use Rattle.nf_access.specs.Laws.{IsRefused}
 use Rattle.nf_access.specs.Shares.{Ground, chain_of, ground_of}
 use Rattle.nf_access.specs.declared.Cause.{Cause}
 use Rattle.nf_base.specs.declared.perms.Act.{Act}
 use Rattle.nf_base.specs.declared.rows.ShareRow.{ShareRow}
+use Rattle.nf_base.specs.declared.rows.UserRow.{UserRow}
 use Rattle.nf_defs.specs.declared.Seeker.{Seeker}
 use Rattle.nf_laws.specs.Reads.{IsWellAsked}
-use Rattle.nf_words.specs.Prelude.{access_of, answer_to, asked_by, Call, call_of, end_unreached, first_refused, goal_at, is_one, is_owner, IsSound, may_by, mount_of, Need, needed, needed_by, node_of_key, seeker_of, source_refused, State, unreached_by, way_of}
+use Rattle.nf_words.specs.Prelude.{access_of, answer_to, asked_by, Call, call_of, caller_row, end_unreached, first_refused, goal_at, is_one, is_owner, IsSound, may_by, mount_of, Need, needed, needed_by, node_of_key, seeker_of, source_refused, State, unreached_by, way_of}
 use Rattle.nf_words.specs.declared.answer.By.{By}
 use Rattle.nf_words.specs.declared.answer.Denial.{Denial}
 use Rattle.nf_words.specs.declared.answer.Denial.TheVariants.{BrokenLink, NoShare}
@@ -93,6 +94,14 @@ BeginsTellTheirBreak =
     → answer_to s seat now (Begin words request) ≡ Err denial → is_of_shares denial ≡ true
     → let call = call_of s seat now words request in
     IsKeptOut call denial ⊎ IsUnmet s now (seeker_of call) (needed call) denial
+
+-- who is known may do all that a request needs by no mount: a path in the own root leads to one's own. So what is unmet is by a mount
+abbrev pub OwnIsNotRefused : Type 0
+OwnIsNotRefused =
+    (s : State) (seat now : ℕ) (words : Words) (request : Request) (user : UserRow) → IsSound s
+    → let call = call_of s seat now words request in
+    caller_row call ≡ Some user
+    → All (λ (need : Need). need.mount ≡ None → may_by (access_of s) s.tables.nodes (seeker_of call) now need.act need.node need.mount ≡ true) (needed call)
 
 -- by a mount that doesn't reach who asks: the source, where it isn't a mount to be left or renamed itself, and the target of a request whose
 -- source isn't refused

@@ -1,6 +1,6 @@
 //! What a refusal by shares tells, and when it is made.
 
-ghost use Rattle.nf_denials.specs.Laws.{ActsAreTold, BeginsTellTheirBreak, EndsTellTheirBreak, ReadsGoOn, RevokedIsRefused, UnreachedIsRefused, UnreachedIsTold};
+ghost use Rattle.nf_denials.specs.Laws.{ActsAreTold, BeginsTellTheirBreak, EndsTellTheirBreak, OwnIsNotRefused, ReadsGoOn, RevokedIsRefused, UnreachedIsRefused, UnreachedIsTold};
 
 /// Who is refused at a mount is let in by no chain of shares, and who is refused an act there is let do it by none. What is told is the
 /// first link that is broken, with its first cause, of the chain of the first share that is received there; or that none is.
@@ -12,6 +12,11 @@ pub fn breaks_are_told()
 /// So is each request that is refused by shares: for a mount that its paths go by, or for an act that it needs.
 pub fn begins_tell_their_break()
     ensures { BeginsTellTheirBreak }
+{}
+
+/// No request is refused so for a path in the caller's own root: who is known may do all that it needs there.
+pub fn own_is_not_refused()
+    ensures { OwnIsNotRefused }
 {}
 
 /// A path that goes by a mount on which nobody lets the caller in is refused for that, whatever its further names are.
