@@ -1,5 +1,5 @@
 -- The words of this layer that other files use, in one place to import them from.
-pub use Rattle.nf_defs.specs.Access.{Access, unshared}
+pub use Rattle.nf_defs.specs.Access.{Access}
 pub use Rattle.nf_defs.specs.Blobs.{Blobs, blob_at, blob_key, put_blob, with_blob}
 pub use Rattle.nf_defs.specs.Changes.{IsDroppable, drop_row, made, numbers_of, put_all}
 pub use Rattle.nf_defs.specs.Keys.{chunk_key, group_key, item_key, member_key, mount_key, node_key, share_key, token_key, upload_key, user_key, version_key}

@@ -10,19 +10,6 @@ ghost use Rattle.nf_words.specs.Listing.{bit_by, bits_by, granted_by};
 use crate::asker::Asker;
 use nf_base::{Act, MountRow, NodeId, Perms};
 
-/// The bit of an act in permissions.
-fn bit_of(act: Act) -> u8
-    ensures { result ≡ bit_of act }
-{
-    match act {
-        Act::Read => 1,
-        Act::Update => 2,
-        Act::Create => 4,
-        Act::Delete => 8,
-        Act::Share => 16,
-    }
-}
-
 impl<'a> Asker<'a> {
     /// What the user may do by its grants on a node.
     pub fn permissions(&self, node: NodeId) -> Perms
@@ -51,7 +38,7 @@ impl<'a> Asker<'a> {
         ensures few { result ≤ bit_of act }
     {
         if self.is_granted(act, node) {
-            bit_of(act)
+            act.bit()
         } else {
             0
         }

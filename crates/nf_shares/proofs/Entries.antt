@@ -16,7 +16,7 @@ use Rattle.nf_defs.specs.Prelude.{by_order, IsRising, key_cmp, put, share_key}
 use Rattle.nf_defs.proofs.Lookups.{equal_bytes}
 use Rattle.nf_defs.proofs.Puts.{below_rest, key_total, put_rising, tail_rising, turned}
 use Rattle.nf_shares.specs.Kept.{IsNodeIndex, StaysInPlace, entry_key, entry_of, ids_of}
-use Rattle.nf_shares.specs.Making.{is_again}
+use Rattle.nf_access.specs.Making.{is_again}
 use Rattle.nf_shares.specs.declared.nodes.NodeShare.{NodeShare}
 use Rattle.nf_table.specs.Rows.{Changes, begins, row_at}
 

@@ -1,7 +1,8 @@
 -- Making a share, and why it may be refused.
 use Rattle.std.specs.Prelude.{◌≡◌, ℕ, Bool, false, not, ◌&&◌, ◌||◌, ◌==◌, nat_le, List, find, length, Option, None, Some, option_map, Result, Ok, Err, if◌then◌else◌}
 use Rattle.std.specs.Option.{option_or, option_map_or}
-use Rattle.nf_access.specs.Shares.{chain_of, is_before}
+use Rattle.nf_access.specs.Making.{is_again, is_self_share}
+use Rattle.nf_access.specs.Shares.{chain_of}
 use Rattle.nf_base.specs.declared.limits.TheConstants.{MAX_CHAIN}
 use Rattle.nf_base.specs.declared.rows.ShareKind.{ShareKind}
 use Rattle.nf_base.specs.declared.rows.ShareKind.TheVariants as kind
@@ -11,24 +12,6 @@ use Rattle.nf_shares.specs.Kept.{is_link}
 use Rattle.nf_base.specs.declared.limits.TheConstants.{MAX_SHARES}
 use Rattle.nf_shares.specs.declared.faults.ShareFault.{ShareFault}
 use Rattle.nf_shares.specs.declared.faults.ShareFault.TheVariants as fault
-
--- a user share names its initiator or its node's owner
-abbrev pub is_self_share : ShareRow → ShareKind → Bool
-is_self_share row (kind.User user) = user == row.initiator || user == row.owner
-is_self_share row (kind.Group group) = false
-is_self_share row (kind.Link token) = false
-
--- the kinds name one recipient; links never do
-abbrev pub is_same_recipient : ShareKind → ShareKind → Bool
-is_same_recipient (kind.User a) (kind.User b) = a == b
-is_same_recipient (kind.Group a) (kind.Group b) = a == b
-is_same_recipient a b = false
-
--- a share that is neither ended nor expired gives the same recipient the same node by the same initiator
-abbrev pub is_again : ShareRow → ℕ → ShareRow → Bool
-is_again row now other =
-    not other.ended && is_before now other.until && other.node == row.node && other.initiator == row.initiator
-    && is_same_recipient other.kind row.kind
 
 abbrev pub has_token_of : ShareKind → ShareRow → Bool
 has_token_of (kind.Link token) other = is_link token other.kind

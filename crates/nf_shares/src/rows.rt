@@ -4,7 +4,8 @@ ghost use Rattle.std.specs.Prelude.{◌≡◌, ◌==◌, find, option_copied};
 ghost use Rattle.nf_access.specs.Shares.{receives, is_before};
 ghost use Rattle.nf_defs.specs.declared.Seeker.TheVariants as seeker;
 ghost use Rattle.nf_shares.specs.Kept.{is_link, is_child_of};
-ghost use Rattle.nf_shares.specs.Making.{is_again, is_self_share, is_same_recipient, has_token_of};
+ghost use Rattle.nf_access.specs.Making.{is_again, is_self_share, is_same_recipient};
+ghost use Rattle.nf_shares.specs.Making.{has_token_of};
 
 use nf_access::Facts;
 use nf_base::{Moment, Name, ShareId, ShareKind, ShareRow, UserId};
@@ -41,7 +42,8 @@ pub(crate) fn is_child_of(id: ShareId, parent: Option<ShareId>) -> bool
 
 // ---- making one
 
-pub(crate) fn is_self_share(row: &ShareRow) -> bool
+/// Whether it is for who made it or for its node's owner.
+pub fn is_self_share(row: &ShareRow) -> bool
     ensures { result ≡ is_self_share row.now row.now.kind }
 {
     match &row.kind {

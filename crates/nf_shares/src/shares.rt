@@ -9,7 +9,8 @@ ghost use Rattle.nf_access.specs.Shares.{chain_of, chain_within, receives, share
 ghost use Rattle.nf_defs.specs.Prelude.{IsRising, is_under, share_key};
 ghost use Rattle.nf_defs.specs.declared.Seeker.TheVariants as seeker;
 ghost use Rattle.nf_shares.specs.Kept.{FitsShare, StaysInPlace, changed, ended_where, ids_of, is_child_of, link_of};
-ghost use Rattle.nf_shares.specs.Making.{IsFirstFault, Makes, fault_of, is_again};
+ghost use Rattle.nf_access.specs.Making.{is_again};
+ghost use Rattle.nf_shares.specs.Making.{IsFirstFault, Makes, fault_of};
 ghost use Rattle.nf_table.specs.Rows.{Changes};
 ghost use Rattle.nf_shares.specs.declared.faults.ShareFault.TheVariants as fault;
 

@@ -5,7 +5,9 @@ use Rattle.nf_words.specs.declared.request.Making.{Making}
 use Rattle.nf_words.specs.declared.request.Making.TheVariants as making
 use Rattle.nf_words.specs.declared.request.Spot.{Spot}
 use Rattle.nf_words.specs.declared.request.Wanted.{Wanted}
-use Rattle.nf_words.specs.declared.request.Wanted.TheVariants.{Get, Put, Mkcol, Delete, Move, Copy}
+use Rattle.nf_words.specs.declared.request.ShareAsk.{ShareAsk}
+use Rattle.nf_words.specs.declared.request.ShareAsk.TheVariants as ask
+use Rattle.nf_words.specs.declared.request.Wanted.TheVariants.{Get, Put, Mkcol, Delete, Move, Copy, Share}
 
 -- the place of what it acts upon, that of what it makes or stores over, what it makes there, whether what is at the source doesn't
 -- stay, and whether what is at the target may be replaced
@@ -19,6 +21,14 @@ pub record Asked : Type 0 where
 abbrev pub asks_nothing : Asked
 asks_nothing = record { source = None; target = None; makes = making.Nothing; removes = false; overwrites = false }
 
+-- a new share is of what is at the source, and so are the shares that are told
+abbrev pub asked_about : ShareAsk → Asked
+asked_about (ask.New spot to perms) = record asks_nothing { source = Some spot; makes = making.Shared }
+asked_about (ask.List spot with_me) = record asks_nothing { source = spot; makes = making.Told }
+asked_about (ask.Show share) = asks_nothing
+asked_about (ask.Set share perms) = asks_nothing
+asked_about (ask.End share) = asks_nothing
+
 abbrev pub asked_of : Wanted → Asked
 asked_of (Get spot) = record asks_nothing { source = Some spot }
 asked_of (Put spot length) = record asks_nothing { target = Some spot; makes = making.File length; overwrites = true }
@@ -28,6 +38,7 @@ asked_of (Move source target overwrite) =
     record { source = Some source; target = Some target; makes = making.Moved; removes = true; overwrites = overwrite }
 asked_of (Copy source target overwrite) =
     record { source = Some source; target = Some target; makes = making.Copied; removes = false; overwrites = overwrite }
+asked_of (Share ask) = asked_about ask
 
 -- ---- what follows from it
 
@@ -57,3 +68,10 @@ is_transfer (making.File length) = false
 is_transfer making.Folder = false
 is_transfer making.Moved = true
 is_transfer making.Copied = true
+is_transfer making.Shared = false
+is_transfer making.Told = false
+
+-- something is asked about shares
+abbrev pub is_about_shares : Wanted → Bool
+is_about_shares (Share ask) = true
+is_about_shares other = false

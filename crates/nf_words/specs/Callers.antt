@@ -4,13 +4,13 @@ use Rattle.std.specs.List.{list_all}
 use Rattle.std.specs.Option.{option_map_or}
 use Rattle.nf_defs.specs.Access.{Access}
 use Rattle.nf_words.specs.Asked.{users_of}
-use Rattle.nf_words.specs.Calls.{Call, asked_by, caller_row, user_of}
+use Rattle.nf_words.specs.Calls.{Call, asked_by, caller_row}
 use Rattle.nf_words.specs.declared.answer.Denial.{Denial}
 use Rattle.nf_words.specs.declared.answer.Denial.TheVariants as denial
 
--- `token`: nobody who is known asks
+-- `token`: nobody whose row is there asks
 unfoldable pub token_rule : Access → Call → Option Denial
-token_rule access call = if is_some (user_of call) then None else Some denial.Token
+token_rule access call = if is_some (caller_row call) then None else Some denial.Token
 
 -- the caller has that name
 abbrev pub is_caller : Call → List ℕ → Bool

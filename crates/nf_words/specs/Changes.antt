@@ -1,7 +1,7 @@
 -- What each act changes and is answered, where no rule refuses it.
 use Rattle.std.specs.Prelude.{ℕ, ◌+◌, ◌==◌, ◌&&◌, not, Bool, true, List, [], ◌∷◌, ◌++◌, filter, length, map, max, Option, None, Some, option_map, option_and_then, if◌then◌else◌}
 use Rattle.std.specs.Option.{option_map_or}
-use Rattle.nf_access.specs.Mounts.{mount_row}
+use Rattle.nf_access.specs.Mounts.{ensured, mount_row}
 use Rattle.nf_base.specs.Content.{content_eq}
 use Rattle.nf_base.specs.declared.changes.Change.{Change}
 use Rattle.nf_base.specs.declared.changes.Change.TheVariants.{Put, Drop}
@@ -23,7 +23,11 @@ use Rattle.nf_words.specs.Calls.{asker_of, Call, last_name, places_of, seeker_of
 use Rattle.nf_words.specs.Copies.{copies_to}
 use Rattle.nf_words.specs.Listing.{listing_of}
 use Rattle.nf_words.specs.Places.{crosses, node_at, transfer_of}
+use Rattle.nf_words.specs.Sharing.{new_share, offered, perms_after, share_line, share_lines, share_shown, share_steered}
+use Rattle.nf_words.specs.declared.request.Offer.{Offer}
 use Rattle.nf_words.specs.declared.request.Places.{Places}
+use Rattle.nf_words.specs.declared.request.ShareAsk.{ShareAsk}
+use Rattle.nf_words.specs.declared.request.ShareAsk.TheVariants as ask
 use Rattle.nf_words.specs.declared.request.Spot.{Spot}
 use Rattle.nf_words.specs.declared.request.Transfer.{Transfer}
 use Rattle.nf_words.specs.declared.request.Wanted.{Wanted}
@@ -38,6 +42,7 @@ use Rattle.nf_words.specs.declared.answer.LockKey.TheVariants.{Node, Slot}
 use Rattle.nf_words.specs.declared.answer.Mode.TheVariants.{Exclusive, Shared}
 use Rattle.nf_words.specs.declared.answer.Reply.{Reply}
 use Rattle.nf_words.specs.declared.answer.Reply.TheVariants.{Made, Done, Closed, Granted, Listing}
+use Rattle.nf_words.specs.declared.answer.Reply.TheVariants as reply
 use Rattle.nf_words.specs.declared.answer.Report.{Report}
 use Rattle.nf_words.specs.declared.answer.Report.TheVariants as report
 use Rattle.nf_words.specs.declared.history.Ticket.{Ticket}
@@ -105,9 +110,13 @@ abbrev pub copied : Tables → ℕ → List ℕ → Option Transfer → Allowed
 copied t now name transfer =
     option_map_or (λ transfer. allowed.Copy (copies_to t now transfer name) transfer.replaced) transfer allowed.Close
 
+-- the change that puts the row of a mount, if there is one
+abbrev pub mounting : Option MountRow → List Change
+mounting row = option_map_or (λ row. Put (rows.Mount row) ∷ []) row []
+
 -- the row of a mount is another, if there is one
 abbrev pub with_mount_row : Option MountRow → Report → Allowed
-with_mount_row row told = allowed.Change (option_map_or (λ row. Put (rows.Mount row) ∷ []) row []) None told
+with_mount_row row told = allowed.Change (mounting row) None told
 
 -- a mount that was left
 abbrev pub left_row : MountRow → MountRow
@@ -128,6 +137,44 @@ mount_left call way = with_mount_row (option_map left_row (own_mount call way.mo
 abbrev pub mount_renamed : Call → Way → List ℕ → Allowed
 mount_renamed call way name = with_mount_row (option_map (named_row name) (own_mount call way.mount)) report.Made
 
+-- a share that ended
+abbrev pub ended_row : ShareRow → ShareRow
+ended_row row = record row { ended = true }
+
+-- some rows are put, and a share is told as it is then
+abbrev pub share_told : Tables → List Change → ShareRow → Allowed
+share_told t changes row = allowed.Change changes None (option_map_or report.Share (share_line t row) report.Plain)
+
+-- nothing is done
+abbrev pub nothing_done : Allowed
+nothing_done = allowed.Change [] None report.Plain
+
+-- a share is made, and its user has a mount of the node
+abbrev pub share_made : Access → Call → Offer → Allowed
+share_made access call offer =
+    let t = call.state.tables in
+    let row = new_share access call offer in
+    share_told t (Put (rows.Share row) ∷ mounting (ensured t.users t.nodes t.mounts offer.to offer.node)) row
+
+-- a share has those permissions
+abbrev pub share_set : Tables → ℕ → ShareRow → Allowed
+share_set t perms row =
+    share_told t (if perms == row.perms then [] else Put (rows.Share (record row { perms = perms })) ∷ []) (record row { perms = perms })
+
+-- a share is ended
+abbrev pub share_ended : ShareRow → Allowed
+share_ended row = allowed.Change (Put (rows.Share (ended_row row)) ∷ []) None report.Plain
+
+abbrev pub shared : Access → Call → Places → ShareAsk → Allowed
+shared access call places (ask.New spot to perms) =
+    option_map_or (share_made access call) (offered call spot to perms) nothing_done
+shared access call places (ask.List spot with_me) =
+    allowed.Change [] None (report.Shares (share_lines call.state.tables (asker_of call) (node_at places.source) with_me))
+shared access call places (ask.Show share) = option_map_or (share_told call.state.tables []) (share_shown call share) nothing_done
+shared access call places (ask.Set share perms) =
+    option_map_or (λ row. share_set call.state.tables (perms_after call.state.tables perms row) row) (share_steered call share) nothing_done
+shared access call places (ask.End share) = option_map_or share_ended (share_steered call share) nothing_done
+
 abbrev pub given : Access → Call → Places → Wanted → Allowed
 given access call places (wanted.Get spot) = served access call (way_of call spot).mount (node_at places.source)
 given access call places (wanted.Put spot length) = stored (by_of call spot) (last_name spot) length places.target
@@ -140,6 +187,7 @@ given access call places (wanted.Move source target overwrite) =
     else moved call.state.tables call.now (last_name target) (transfer_of call.state.tables.nodes places)
 given access call places (wanted.Copy source target overwrite) =
     copied call.state.tables call.now (last_name target) (transfer_of call.state.tables.nodes places)
+given access call places (wanted.Share ask) = shared access call places ask
 
 -- what a call that no rule refuses may do, by what shares let their seekers do
 abbrev pub allowed_of : Access → Call → Allowed
@@ -169,10 +217,6 @@ abbrev pub raised : Tables → ℕ → List Change → Option ℕ → Tables
 raised t now changes blob = record t {
   meta = record (counted t.meta changes) { next_blob = blob_after t.meta.next_blob blob; last = now };
 }
-
--- a share that ended
-abbrev pub ended_row : ShareRow → ShareRow
-ended_row row = record row { ended = true }
 
 -- the shares, where those of nodes under one are ended
 abbrev pub ended_under : List NodeRow → ℕ → List ShareRow → List ShareRow
@@ -358,6 +402,9 @@ reply_by replaced = option_map_or (λ node. Done) replaced Made
 abbrev pub reported : Report → Reply
 reported report.Made = Made
 reported report.Done = Done
+reported (report.Share line) = reply.Share line
+reported (report.Shares lines) = reply.Shares lines
+reported report.Plain = reply.Plain
 
 -- what is answered
 abbrev pub reply_to : Allowed → Reply

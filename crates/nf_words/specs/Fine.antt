@@ -1,13 +1,15 @@
 -- What a changed row keeps in the tables that it meets, by what becomes of it, whatever the act. The tables know its numbers already.
-use Rattle.std.specs.Prelude.{◌≡◌, ◌≢◌, ◌⊎◌, List, ℕ, ◌+◌, ◌<◌, ◌≤◌, All, false, true, [], length, None, Some}
+use Rattle.std.specs.Prelude.{◌≡◌, ◌≢◌, ◌⊎◌, List, ℕ, ◌+◌, ◌<◌, ◌≤◌, All, false, true, [], length, Option, None, Some, is_some}
 use Rattle.nf_access.specs.Mounts.{mount_at, mount_row, root_folder}
-use Rattle.nf_base.specs.declared.limits.TheConstants.{MAX_DEPTH, MAX_NODES, MAX_STORED_PIECES}
+use Rattle.nf_access.specs.Shares.{chain_of, share_row}
+use Rattle.nf_base.specs.declared.limits.TheConstants.{MAX_CHAIN, MAX_DEPTH, MAX_MOUNTS, MAX_NODES, MAX_SHARES, MAX_STORED_PIECES}
 use Rattle.nf_base.specs.declared.rows.MountRow.{MountRow}
 use Rattle.nf_base.specs.declared.rows.NodeRow.{NodeRow}
 use Rattle.nf_base.specs.declared.rows.Place.TheVariants.{Inside}
 use Rattle.nf_base.specs.declared.rows.ShareRow.{ShareRow}
-use Rattle.nf_defs.specs.Prelude.{child_of, depth, filled, is_folder, is_folder_kind, is_root, node_row, owner_of, Tables}
+use Rattle.nf_defs.specs.Prelude.{child_of, depth, filled, is_folder, is_folder_kind, is_root, node_row, owner_of, Tables, user_row}
 use Rattle.nf_words.specs.Contents.{IsPieceSound, stored_pieces}
+use Rattle.nf_words.specs.Others.{IsKindSound, IsOfNode}
 
 -- where the folder is a user's root, no mount of the user has that name
 abbrev pub IsUnmounted : Tables → ℕ → List ℕ → Type 0
@@ -51,3 +53,44 @@ pub record IsRemounted (t : Tables) (row : MountRow) : Type 0 where
   pub other : row ≢ old
   pub free : row.left ≡ false → child_of t.nodes (root_folder t.users row.user) row.name ≡ None
   pub apart : row.left ≡ false → mount_at t.mounts row.user row.name ≡ None
+
+-- a new mount, of a node that is there and another's, under a name that is free in its user's root
+pub record IsMounted (t : Tables) (row : MountRow) : Type 0 where
+  pub fresh : mount_row t.mounts row.user row.node ≡ None
+  pub stays : row.left ≡ false
+  pub user : is_some (user_row t.users row.user) ≡ true
+  pub node : NodeRow
+  pub there : node_row t.nodes row.node ≡ Some node
+  pub others : node.owner ≢ row.user
+  pub free : child_of t.nodes (root_folder t.users row.user) row.name ≡ None
+  pub apart : mount_at t.mounts row.user row.name ≡ None
+  pub few : length t.mounts + 1 ≤ MAX_MOUNTS
+
+-- what a new share stands on: nothing, where it is the owner's, or a share that is there, with room in its chain
+abbrev pub StandsOn : Tables → ShareRow → Option ℕ → Type 0
+StandsOn t row None = row.initiator ≡ row.owner
+StandsOn t row (Some parent) = (is_some (share_row t.shares parent) ≡ true) × (length (chain_of t.shares parent) < MAX_CHAIN)
+
+-- a new share of a node that is there, whose number is above all others
+pub record IsShared (t : Tables) (row : ShareRow) : Type 0 where
+  pub newest : All (λ (old : ShareRow). old.id < row.id) t.shares
+  pub given : row.id < t.meta.next_share
+  pub made : row.made ≤ t.meta.last
+  pub live : row.ended ≡ false
+  pub forever : row.until ≡ None
+  pub node : NodeRow
+  pub there : node_row t.nodes row.node ≡ Some node
+  pub of_node : IsOfNode row node
+  pub initiator : is_some (user_row t.users row.initiator) ≡ true
+  pub kind : IsKindSound t row.kind
+  pub on : StandsOn t row row.parent
+  pub few : length t.shares + 1 ≤ MAX_SHARES
+
+-- a share that is there, with other permissions, or ended
+pub record IsReshared (t : Tables) (row : ShareRow) : Type 0 where
+  pub old : ShareRow
+  pub there : share_row t.shares row.id ≡ Some old
+  pub same : row ≡ record old { perms = row.perms; ended = row.ended }
+  pub other : row ≢ old
+  pub lasts : old.ended ≡ false
+  pub of_node : (of : NodeRow) → node_row t.nodes row.node ≡ Some of → IsOfNode row of

@@ -1,7 +1,7 @@
 -- Legal histories: lists of entries, each of which may come in the state that those before it made.
-use Rattle.std.specs.Prelude.{◌≡◌, ◌≢◌, ℕ, ◌+◌, ◌≤◌, Bool, false, not, List, [], ◌∷◌, length, Option, None, Some, IsNone, IfSome, is_some, Result, Err}
+use Rattle.std.specs.Prelude.{◌≡◌, ◌≢◌, ℕ, ◌+◌, ◌≤◌, ◌&&◌, Bool, false, not, List, [], ◌∷◌, length, Option, None, Some, IsNone, IfSome, is_some, Result, Err}
 use Rattle.nf_base.specs.declared.limits.TheConstants.{MAX_BODY, MAX_ENTRIES}
-use Rattle.nf_words.specs.Asked.{asked_of}
+use Rattle.nf_words.specs.Asked.{asked_of, is_about_shares}
 use Rattle.nf_words.specs.State.{State, goal_at, ticket_of}
 use Rattle.nf_words.specs.Step.{step, answer_to, changes_to, without}
 use Rattle.nf_words.specs.declared.answer.Denial.{Denial}
@@ -56,20 +56,22 @@ IsShort (making.File length) = length ≤ MAX_BODY
 IsShort making.Folder = Unit {0}
 IsShort making.Moved = Unit {0}
 IsShort making.Copied = Unit {0}
+IsShort making.Shared = Unit {0}
+IsShort making.Told = Unit {0}
 
 -- who asks by a link; nobody does yet
 abbrev pub is_link : Caller → Bool
 is_link Absent = false
 is_link (Token digest) = false
 
--- a place names its user exactly where the caller isn't a link
-abbrev pub NamesUser : Caller → Spot → Type 0
-NamesUser caller spot = is_some spot.user ≡ not (is_link caller)
+-- a place names its user exactly where the caller isn't a link and nothing is asked about shares
+abbrev pub NamesUser : Request → Spot → Type 0
+NamesUser request spot = is_some spot.user ≡ (not (is_link request.caller) && not (is_about_shares request.wanted))
 
 pub record MayWant (request : Request) : Type 0 where
   pub short : IsShort (asked_of request.wanted).makes
-  pub source : IfSome (asked_of request.wanted).source (NamesUser request.caller)
-  pub target : IfSome (asked_of request.wanted).target (NamesUser request.caller)
+  pub source : IfSome (asked_of request.wanted).source (NamesUser request)
+  pub target : IfSome (asked_of request.wanted).target (NamesUser request)
 
 -- a body is for a goal that stores one, and has its length
 abbrev pub MayBring : Goal → Outcome → Type 0

@@ -1,7 +1,7 @@
 -- The limits of the site, and the rule that none is passed.
 use Rattle.std.specs.Prelude.{ℕ, ◌+◌, ◌-◌, ◌==◌, ◌||◌, nat_lt, max, List, [], ◌∷◌, length, sum_by, Option, None, Some, option_map, option_and_then, if◌then◌else◌}
 use Rattle.nf_defs.specs.Prelude.{Access, content_of, depth, Tables, walk_of}
-use Rattle.nf_base.specs.declared.limits.TheConstants.{MAX_DEPTH, MAX_NODES, MAX_STORED_PIECES}
+use Rattle.nf_base.specs.declared.limits.TheConstants.{MAX_DEPTH, MAX_MOUNTS, MAX_NODES, MAX_SHARES, MAX_STORED_PIECES}
 use Rattle.nf_base.specs.declared.rows.NodeRow.{NodeRow}
 use Rattle.nf_defs.specs.declared.Found.{Found}
 use Rattle.nf_defs.specs.declared.Found.TheVariants.{At, Free, Missing}
@@ -21,6 +21,8 @@ use Rattle.nf_words.specs.declared.answer.Limit.TheVariants as limit
 abbrev pub count_of : Limit → ℕ
 count_of limit.Nodes = MAX_NODES
 count_of limit.Depth = MAX_DEPTH
+count_of limit.Shares = MAX_SHARES
+count_of limit.Mounts = MAX_MOUNTS
 count_of limit.Pieces = MAX_STORED_PIECES
 
 -- the greatest number that a counter holds
@@ -78,6 +80,8 @@ limited t places (making.File length) = option_and_then (limit_at t (pieces_of l
 limited t places making.Folder = option_and_then (limit_at t 0) places.target
 limited t places making.Moved = option_and_then (carry_limit t) (transfer_of t.nodes places)
 limited t places making.Copied = option_and_then (copy_limit t) (transfer_of t.nodes places)
+limited t places making.Shared = None
+limited t places making.Told = None
 
 -- `limit`: the step would pass a limit
 unfoldable pub limit_rule : Access → Call → Option Denial

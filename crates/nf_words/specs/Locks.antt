@@ -42,6 +42,8 @@ touched rows removes name places (making.File length) = option_map_or (target_to
 touched rows removes name places making.Folder = option_map_or (target_touches name) places.target []
 touched rows removes name places making.Moved = option_map_or (transfer_touches Exclusive name) (transfer_of rows places) []
 touched rows removes name places making.Copied = option_map_or (transfer_touches Shared name) (transfer_of rows places) []
+touched rows removes name places making.Shared = []
+touched rows removes name places making.Told = []
 
 -- the name under which something is put
 abbrev pub target_name : Asked → List ℕ

@@ -4,7 +4,7 @@ use Rattle.std.specs.List.{list_any}
 use Rattle.std.specs.Option.{option_map_or, option_or}
 use Rattle.nf_access.specs.Access.{allows}
 use Rattle.nf_base.specs.declared.perms.Act.{Act}
-use Rattle.nf_base.specs.declared.perms.Act.TheVariants.{Read, Update, Create, Delete}
+use Rattle.nf_base.specs.declared.perms.Act.TheVariants.{Read, Update, Create, Delete, Share}
 use Rattle.nf_base.specs.declared.rows.NodeRow.{NodeRow}
 use Rattle.nf_defs.specs.Prelude.{Access, node_row}
 use Rattle.nf_defs.specs.declared.Seeker.{Seeker}
@@ -62,8 +62,14 @@ is_within rows root source target =
     option_map_or (λ to. option_map_or (λ folder. folder == to) from false) (option_and_then (folder_for rows root) target) false
 
 -- what is acted upon is read where it stays, and else deleted, or updated if it stays in its folder
-abbrev pub source_act : Asked → Bool → Act
-source_act asked within = if not asked.removes then Read else if within then Update else Delete
+abbrev pub source_act : Bool → Bool → Act
+source_act removes within = if not removes then Read else if within then Update else Delete
+
+-- what is shared has to be shareable; where shares of it are told, nothing is needed
+abbrev pub source_needs : Making → Bool → Bool → Way → List Need
+source_needs making.Shared removes within way = needs_at Share way
+source_needs making.Told removes within way = []
+source_needs other removes within way = needs_at (source_act removes within) way
 
 -- what is there is updated by a body, and has to go at a transfer; what wasn't in the folder is created in it
 abbrev pub target_needs : Making → List NodeRow → ℕ → Bool → Way → List Need
@@ -73,13 +79,17 @@ target_needs (making.File length) rows root within way =
 target_needs making.Folder rows root within way = needs_in rows root way
 target_needs making.Moved rows root within way = (if within then [] else needs_in rows root way) ++ needs_at Delete way
 target_needs making.Copied rows root within way = needs_in rows root way ++ needs_at Delete way
+target_needs making.Shared rows root within way = []
+target_needs making.Told rows root within way = []
 
 -- leaving or renaming one's own mount needs nothing
 abbrev pub needs_between : List NodeRow → ℕ → Asked → Option Way → Option Way → List Need
 needs_between rows root asked source target =
     let within = is_within rows root source target in
     if is_mount_asked asked source then []
-    else option_map_or (needs_at (source_act asked within)) source [] ++ option_map_or (target_needs asked.makes rows root within) target []
+    else
+      option_map_or (source_needs asked.makes asked.removes within) source []
+      ++ option_map_or (target_needs asked.makes rows root within) target []
 
 -- what a request needs
 abbrev pub needed : Call → List Need

@@ -66,6 +66,8 @@ taken rows places (making.File length) = if is_there (is_folder rows) places.tar
 taken rows places making.Folder = if is_some (node_at places.target) then Some (denial.Exists Files) else None
 taken rows places making.Moved = None
 taken rows places making.Copied = None
+taken rows places making.Shared = None
+taken rows places making.Told = None
 
 -- `exists`
 unfoldable pub exists_rule : Access → Call → Option Denial

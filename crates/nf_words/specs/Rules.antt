@@ -7,6 +7,7 @@ use Rattle.nf_words.specs.Callers.{token_rule, not_you_rule}
 use Rattle.nf_words.specs.Places.{forbidden_rule, exists_rule, target_rule, overwrite_rule}
 use Rattle.nf_words.specs.Reached.{acts_rule, place_rule}
 use Rattle.nf_words.specs.Limits.{limit_rule}
+use Rattle.nf_words.specs.Sharing.{named_rule, room_rule, sharing_rule}
 use Rattle.nf_words.specs.Locks.{locked_rule}
 use Rattle.nf_words.specs.declared.answer.Denial.{Denial}
 
@@ -14,22 +15,24 @@ use Rattle.nf_words.specs.declared.answer.Denial.{Denial}
 abbrev pub Rule : Type 0
 Rule = Access → Call → Option Denial
 
--- the rules of who asks, of names, of places and of what who asks may do there
+-- the rules of who asks, of names, of places, of what who asks may do there, and of sharing
 abbrev pub earlier_rules : List Rule
 earlier_rules =
     token_rule
     ∷ not_you_rule
     ∷ forbidden_rule
     ∷ place_rule
+    ∷ named_rule
     ∷ acts_rule
     ∷ exists_rule
     ∷ target_rule
     ∷ overwrite_rule
+    ∷ sharing_rule
     ∷ []
 
 -- those of what others hold and of limits
 abbrev pub later_rules : List Rule
-later_rules = locked_rule ∷ limit_rule ∷ []
+later_rules = locked_rule ∷ limit_rule ∷ room_rule ∷ []
 
 -- the order in which they are tried
 abbrev pub rules : List Rule

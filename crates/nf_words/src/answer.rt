@@ -3,11 +3,11 @@
 ghost use Rattle.std.specs.Prelude.{◌≡◌, IfOk};
 ghost use Rattle.nf_words.specs.Limits.{count_of};
 
-use crate::{Listing, Route, Transfer};
+use crate::{Listing, Route, ShareLine, ShareLines, Transfer};
 use nf_access::Cause;
 use nf_base::{
-    BlobId, Changes, Content, Digest, MAX_DEPTH, MAX_NODES, MAX_STORED_PIECES, Name, NameFault,
-    NodeId, NodeRow, ShareId,
+    BlobId, Changes, Content, Digest, MAX_DEPTH, MAX_MOUNTS, MAX_NODES, MAX_SHARES, MAX_STORED_PIECES,
+    Name, NameFault, NodeId, NodeRow, ShareId,
 };
 use nf_defs::Seeker;
 use std::alloc::AllocError;
@@ -35,7 +35,9 @@ pub enum Denial {
     NoShare,
     /// 403: that can't be done to what the path leads to.
     BadTarget(TargetFault),
-    /// 404: there is no such file or folder, or no such route.
+    /// 403: what is asked of a share breaks a rule of sharing.
+    Rule(ShareRule),
+    /// 404: there is no such file, folder, user or share, or no such route.
     NotFound,
     /// 405: the route doesn't have the method.
     Method(Route),
@@ -90,6 +92,21 @@ pub enum TargetFault {
     Mount,
 }
 
+/// A rule of sharing.
+#[derive(Clone, Copy, PartialEq, Eq)]
+pub enum ShareRule {
+    /// A root isn't shared.
+    Root,
+    /// Nothing is shared with who makes the share, nor with the owner.
+    SelfShare,
+    /// The same is shared with the same user by the same one already.
+    Already,
+    /// No share allows more than those that it stands on.
+    Widened,
+    /// No chain has more than `MAX_CHAIN` shares.
+    Chain,
+}
+
 /// A blob that isn't what a row says of it.
 #[derive(Clone, Copy, PartialEq, Eq)]
 pub struct Damage {
@@ -114,6 +131,10 @@ pub enum Limit {
     Nodes,
     /// `MAX_DEPTH` folders above a node.
     Depth,
+    /// `MAX_SHARES` shares, and 2^64 - 1 numbers of shares ever given.
+    Shares,
+    /// `MAX_MOUNTS` mounts.
+    Mounts,
     /// `MAX_STORED_PIECES` pieces of all nodes, and 2^64 - 1 numbers of blobs ever given.
     Pieces,
 }
@@ -126,6 +147,8 @@ impl Limit {
         match self {
             Limit::Nodes => MAX_NODES as u32,
             Limit::Depth => MAX_DEPTH,
+            Limit::Shares => MAX_SHARES as u32,
+            Limit::Mounts => MAX_MOUNTS as u32,
             Limit::Pieces => MAX_STORED_PIECES,
         }
     }
@@ -198,6 +221,11 @@ pub enum Reply {
     Granted(Goal),
     /// What is in a folder.
     Listing(Listing),
+    /// What there is to tell of a share.
+    Share(ShareLine),
+    Shares(ShareLines),
+    /// What was asked of a share was done, and there is nothing to tell.
+    Plain,
 }
 
 pub type Answer = Result<Reply, Denial>;
@@ -237,13 +265,18 @@ impl NodeRows {
     }
 }
 
-/// What is told of a change that was made.
-#[derive(Clone, Copy, PartialEq, Eq)]
+/// What is told of a change that was made, or of shares where nothing changes.
+#[derive(Drop)]
 pub enum Report {
     /// What was asked for was made.
     Made,
     /// It was done.
     Done,
+    /// A share as it is now.
+    Share(ShareLine),
+    Shares(ShareLines),
+    /// Nothing more.
+    Plain,
 }
 
 /// What a step that isn't refused does. A blob is one that the act stores, not one that it names again.
@@ -262,7 +295,8 @@ pub enum Allowed {
         key: LockKey,
         length: u64,
     },
-    /// These rows are put and dropped, each of them once: MKCOL, PUT at its End, and what becomes of a mount.
+    /// These rows are put and dropped, each of them once: MKCOL, PUT at its End, and what becomes of a mount or is asked about shares.
+    /// Where shares are only told, there is none.
     Change {
         changes: Changes,
         blob: Option<BlobId>,

@@ -8,10 +8,11 @@ mod laws;
 mod listing;
 mod request;
 mod route;
+mod sharing;
 
 pub use answer::{
     Allowed, Answer, By, Damage, Denial, Goal, Hold, Limit, LockKey, Measure, Mode, NodeRows,
-    Parameter, Reply, Report, TargetFault,
+    Parameter, Reply, Report, ShareRule, TargetFault,
 };
 pub use history::{Entry, Event, Mark, Outcome, Ticket};
 pub use laws::{
@@ -19,5 +20,8 @@ pub use laws::{
     seats_differ,
 };
 pub use listing::{Listing, ListingLine};
-pub use request::{Asked, Caller, Making, Places, Request, Spot, Transfer, Wanted, Words};
+pub use request::{
+    Asked, Caller, Making, Offer, Places, Request, ShareAsk, Spot, Transfer, Wanted, Words,
+};
 pub use route::Route;
+pub use sharing::{Recipient, ShareLine, ShareLines};

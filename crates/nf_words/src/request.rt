@@ -1,10 +1,10 @@
 //! Requests.
 
 ghost use Rattle.std.specs.Prelude.{◌≡◌};
-ghost use Rattle.nf_words.specs.Asked.{asked_of, asks_nothing};
+ghost use Rattle.nf_words.specs.Asked.{asked_about, asked_of, asks_nothing};
 ghost use Rattle.nf_words.specs.declared.request.Wanted.TheVariants as wanted;
 
-use nf_base::{Digest, Name, NodeId, Path};
+use nf_base::{Digest, Name, NodeId, Path, Perms, ShareId, UserId};
 use nf_defs::Found;
 use std::marker::Model;
 
@@ -17,7 +17,8 @@ pub enum Caller {
     Token(Digest),
 }
 
-/// A place in a user's files. There is no user on the public route, where a link leads to the place.
+/// A place in a user's files. There is no user on the public route, where a link leads to the place, nor in what is asked about shares,
+/// where the files are the caller's.
 #[derive(Drop)]
 pub struct Spot {
     pub user: Option<Name>,
@@ -50,6 +51,31 @@ pub enum Wanted {
         target: Spot,
         overwrite: bool,
     },
+    /// Something about shares.
+    Share(ShareAsk),
+}
+
+/// What is asked about shares.
+#[derive(Drop)]
+pub enum ShareAsk {
+    /// A new share of what is there, for the user of that name. Where no permissions are named, all are asked for.
+    New {
+        spot: Spot,
+        to: Name,
+        perms: Option<Perms>,
+    },
+    /// The shares that the caller made; with a place, those of what is there that the caller made or owns. `with_me` asks for those that
+    /// the caller receives instead.
+    List { spot: Option<Spot>, with_me: bool },
+    /// What there is to tell of a share.
+    Show(ShareId),
+    /// That a share has other permissions; without any, they stay.
+    Set {
+        share: ShareId,
+        perms: Option<Perms>,
+    },
+    /// That a share ends.
+    End(ShareId),
 }
 
 /// What a request puts at its target.
@@ -64,6 +90,10 @@ pub enum Making {
     Moved,
     /// A copy of it.
     Copied,
+    /// Nothing: what is at the source is shared.
+    Shared,
+    /// Nothing: shares of what is at the source are told.
+    Told,
 }
 
 /// What a request asks for, as the rules see it.
@@ -146,7 +176,26 @@ impl Wanted {
                 target,
                 overwrite,
             } => copies(source, target, *overwrite),
+            Wanted::Share(ask) => about(ask),
         }
+    }
+}
+
+fn about(ask: &ShareAsk) -> Asked<'_>
+    ensures { result ≡ asked_about ask.now }
+{
+    match ask {
+        ShareAsk::New { spot, .. } => Asked {
+            source: Some(spot),
+            makes: Making::Shared,
+            ..Asked::nothing()
+        },
+        ShareAsk::List { spot, .. } => Asked {
+            source: spot.as_ref(),
+            makes: Making::Told,
+            ..Asked::nothing()
+        },
+        ShareAsk::Show(_) | ShareAsk::Set { .. } | ShareAsk::End(_) => Asked::nothing(),
     }
 }
 
@@ -200,4 +249,14 @@ pub struct Transfer {
     pub folder: NodeId,
     /// The node that is there and has to go.
     pub replaced: Option<NodeId>,
+}
+
+/// A share that is asked for.
+#[derive(Clone, Copy)]
+pub struct Offer {
+    pub node: NodeId,
+    /// The node of the mount that its path goes by, if it goes by one.
+    pub mount: Option<NodeId>,
+    pub to: UserId,
+    pub perms: Perms,
 }

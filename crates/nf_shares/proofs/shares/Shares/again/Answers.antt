@@ -2,7 +2,7 @@ use Rattle.std.proofs.Common.{◌==◌, ℕ, Bool, List, option_map, false, find
 use Rattle.std.specs.Option.{option_map_or}
 use Rattle.nf_access.specs.Shares.{share_row}
 use Rattle.nf_base.specs.declared.rows.ShareRow.{ShareRow}
-use Rattle.nf_shares.specs.Making.{is_again}
+use Rattle.nf_access.specs.Making.{is_again}
 use Rattle.nf_shares.proofs.Entries.{again_there, first_of}
 use Rattle.nf_shares.proofs.shares.Shares.again.Goals as goal
 
