@@ -6,8 +6,8 @@ ghost use Rattle.nf_words.specs.Limits.{count_of};
 use crate::{Listing, Route, ShareLine, ShareLines, Transfer};
 use nf_access::Cause;
 use nf_base::{
-    BlobId, Changes, Content, Digest, MAX_DEPTH, MAX_MOUNTS, MAX_NODES, MAX_SHARES, MAX_STORED_PIECES,
-    Name, NameFault, NodeId, NodeRow, ShareId,
+    BlobId, Changes, Content, Digest, MAX_DEPTH, MAX_MOUNTS, MAX_NODES, MAX_SHARES,
+    MAX_STORED_PIECES, Name, NameFault, NodeId, NodeRow, ShareId,
 };
 use nf_defs::Seeker;
 use std::alloc::AllocError;
