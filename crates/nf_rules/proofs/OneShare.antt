@@ -200,7 +200,7 @@ module _ (s : State) (e : Entry) (made : Tables) (h : AreRuled s.tables) (sound 
   of_old : (share : ℕ) (old : ShareRow) → IsSteered call share old → All (λ (other : ShareRow). other.id ≢ old.id → AreTokensApart old other) t.shares
   of_old share old steered k d within other token link link' =
       let among = (find_among (λ (row : ShareRow). row.id == share) t.shares old steered.there).0 in
-      let at : get_or t.shares among.0 d ≡ old = get_or-default t.shares among.0 d old among.1 ∙ among.2 in
+      let at : get_or t.shares among.0 d ≡ old = get_or_default t.shares among.0 d old among.1 ∙ among.2 in
       elim (cases_order among.0 k) [
         | inl same ↦ other (ap (λ (r : ShareRow). r.id) (sym (ap (λ (n : ℕ). get_or t.shares n d) same) ∙ at))
         | inr (inl before) ↦
