@@ -4,7 +4,7 @@ use Rattle.std.specs.List.{All, AllPairs}
 use Rattle.std.proofs.lemmas.Bool.{cond_both, ne_eqb}
 use Rattle.std.proofs.lemmas.List.Elements.{All-cons, All-head, All-nil, All-tail}
 use Rattle.std.proofs.lemmas.List.Quantifiers.{all_pairs_push}
-use Rattle.std.proofs.lemmas.Option.{same_Some}
+use Rattle.std.proofs.lemmas.Option.{same_Some, none-some}
 use Rattle.nf_access.specs.Mounts.{is_mount_of, mount_row}
 use Rattle.nf_base.specs.declared.changes.Change.{Change}
 use Rattle.nf_base.specs.declared.changes.Change.TheVariants.{Put}
@@ -16,8 +16,8 @@ use Rattle.nf_base.specs.declared.rows.Row.TheVariants.{Group, Mount, Node, Shar
 use Rattle.nf_defs.specs.Prelude.{filled, IsDroppable, made, mount_key, node_key, node_row, put, put_all, Tables, with_node}
 use Rattle.nf_laws.proofs.Added.{born_sound}
 use Rattle.nf_laws.proofs.Mounted.{mounted_sound, not_it}
-use Rattle.nf_laws.proofs.Sharing.{first, new_share_sound, other_share_sound, share_other, share_was}
-use Rattle.nf_laws.proofs.Puts.{put_changed, put_new}
+use Rattle.nf_laws.proofs.Sharing.{new_share_sound, other_share_sound}
+use Rattle.nf_laws.proofs.Puts.{other_number, put_changed, put_new}
 use Rattle.nf_laws.proofs.Replaced.{filled_sound}
 use Rattle.nf_laws.proofs.Others.{meta_sound}
 use Rattle.nf_laws.proofs.Rows.{blob_up}
@@ -177,9 +177,7 @@ all_leave of key nodes mounts shares t (change ∷ changes) built other = absurd
 
 -- a node of another number keeps its row
 pub put_other : (row : NodeRow) (old : List NodeRow) (node : ℕ) → node ≢ row.id → node_row (put node_key row old) node ≡ node_row old node
-put_other row old node other =
-    put_leaves node_key (λ (x : NodeRow). x.id == node) row old (ne_eqb row.id node (λ same. other (sym same)))
-    (λ x key. ne_eqb x.id node (λ same. other (sym same ∙ sym (first key))))
+put_other = other_number (λ (row : NodeRow). row.id)
 
 -- a mount of another key keeps its row
 mount_other : (row : MountRow) (old : List MountRow) (user node : ℕ) → keys.Mount user node ≢ keys.Mount row.user row.node
@@ -210,7 +208,7 @@ mount_anew t row (inr is) = λ same. none-some row (sym is.fresh ∙ same)
 
 -- nor was a share
 share_anew : (first t : Tables) (row : ShareRow) → KnownShare first t row → share_row t.shares row.id ≢ Some row
-share_anew first t row (inl (is, new)) = λ same. absurd (omega (arith, (share_was t row.id row is.newest same).1))
+share_anew first t row (inl (is, new)) = λ same. absurd (omega (arith, (found_is (λ (old : ShareRow). old.id < row.id) (λ (old : ShareRow). old.id == row.id) t.shares row is.newest same).1))
 share_anew first t row (inr (is, old)) = λ same. is.other (same_Some row is.old (sym same ∙ is.there))
 
 -- so a lean list that isn't empty makes other tables
@@ -243,7 +241,7 @@ lean_moves t up blob (Put (Share row)) changes rising mounts shares built known 
     let others : All Other changes = λ k d within. lean.once 0 (suc k) d (omega arith) (omega arith) in
     let last : share_row (put_all t (Put (Share row) ∷ changes)).shares row.id ≡ Some row =
     all_leave (λ (u : Tables). share_row u.shares row.id) (keys.Share row.id) (λ u other differs. refl) (λ u other differs. refl)
-    (λ u other differs. share_other other u.shares row.id (λ same. differs (ap keys.Share same)))
+    (λ u other differs. other_number (λ (r : ShareRow). r.id) other u.shares row.id (λ same. differs (ap keys.Share same)))
     (made t (Put (Share row))) changes built others ∙ share_found row t.shares in
     share_anew t up row known.1
     (ap (λ (rows : List ShareRow). share_row rows row.id) shares ∙ sym (ap (λ (u : Tables). share_row u.shares row.id) same) ∙ last)
