@@ -13,14 +13,14 @@ use Rattle.nf_base.specs.declared.rows.MetaRow.{MetaRow}
 use Rattle.nf_base.specs.declared.rows.MountRow.{MountRow}
 use Rattle.nf_base.specs.declared.rows.NodeRow.{NodeRow}
 use Rattle.nf_base.specs.declared.rows.Row.TheVariants.{Group, Mount, Node, Share, User}
-use Rattle.nf_defs.specs.Prelude.{filled, IsDroppable, made, mount_key, node_key, node_row, put, put_all, Tables, with_node}
+use Rattle.nf_defs.specs.Prelude.{filled, IsDroppable, made, mount_key, node_key, node_row, put, put_all, Tables, with_node, share_key}
 use Rattle.nf_laws.proofs.Added.{born_sound}
 use Rattle.nf_laws.proofs.Mounted.{mounted_sound, not_it}
 use Rattle.nf_laws.proofs.Sharing.{new_share_sound, other_share_sound}
 use Rattle.nf_laws.proofs.Puts.{other_number, put_changed, put_new}
 use Rattle.nf_laws.proofs.Replaced.{filled_sound}
 use Rattle.nf_laws.proofs.Others.{meta_sound}
-use Rattle.nf_laws.proofs.Rows.{blob_up}
+use Rattle.nf_laws.proofs.Rows.{blob_up, found_is}
 use Rattle.nf_laws.specs.Numbers.{AreHigher}
 use Rattle.nf_laws.proofs.OneRow.{rising_with}
 use Rattle.nf_words.proofs.Found.{put_leaves}
@@ -29,6 +29,10 @@ use Rattle.nf_words.proofs.Fits.{KnownBorn, KnownChange, KnownFilled, KnownRow, 
 use Rattle.nf_words.specs.Prelude.{above, altered, AreSound, changed_key, counted, IsBorn, IsFilled, IsLean, IsNewMount, IsNewShare, IsOtherShare, IsRemounted, raised}
 use Rattle.nf_words.specs.declared.answer.Allowed.TheVariants as allowed
 use Rattle.nf_words.specs.declared.answer.Report.{Report}
+use Rattle.nf_base.specs.declared.rows.ShareRow.{ShareRow}
+use Rattle.nf_base.specs.declared.changes.RowKey.{RowKey}
+use Rattle.nf_access.specs.Shares.{share_row}
+use Rattle.nf_words.proofs.Asks.{share_found}
 
 -- ---- the counters, which are raised first
 

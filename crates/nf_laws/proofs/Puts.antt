@@ -5,7 +5,7 @@ use Rattle.std.specs.Prelude.{is_some}
 use Rattle.std.specs.List.{All, AllPairs, list_any}
 use Rattle.std.specs.declared.cmp.Ordering.{Ordering}
 use Rattle.std.specs.declared.cmp.Ordering.TheVariants.{Equal, Greater, Less}
-use Rattle.std.proofs.lemmas.Bool.{both_ways, cases_Bool, eq-eqb, eqb-true, false_from_ne_true}
+use Rattle.std.proofs.lemmas.Bool.{both_ways, cases_Bool, eq-eqb, eqb-true, false_from_ne_true, ne_eqb}
 use Rattle.std.proofs.lemmas.List.{append-nil}
 use Rattle.std.proofs.lemmas.List.Elements.{All-push, All-weaker, filter_agree, filter_passes}
 use Rattle.std.proofs.lemmas.List.Folds.{list_any_at}
@@ -16,13 +16,15 @@ use Rattle.nf_base.specs.declared.changes.RowKey.TheVariants as keys
 use Rattle.nf_base.specs.declared.rows.NodeRow.{NodeRow}
 use Rattle.nf_base.specs.declared.rows.Row.TheVariants.{Node, Share}
 use Rattle.nf_base.specs.declared.rows.ShareRow.{ShareRow}
-use Rattle.nf_defs.proofs.Puts.{below_one, below_rest, compared, put_last, put_rising, tail_rising}
+use Rattle.nf_defs.proofs.Puts.{below_one, below_rest, compared, put_last, put_rising, tail_rising, key_total, turned}
 use Rattle.nf_defs.specs.Prelude.{by_order, climb, dropped, folder_of, is_under, IsRising, key_cmp, node_key, node_row, parent_of, put, put_all, share_key, Tables, walk_of, with_node, without_under}
 use Rattle.nf_laws.proofs.Climbs.{some_there, those, under_climb}
 use Rattle.nf_laws.proofs.Others.{others_ended}
 use Rattle.nf_laws.proofs.Rows.{found_is}
 use Rattle.nf_laws.proofs.Walked.{walk_among}
 use Rattle.nf_words.specs.Prelude.{AreSound, cleared, closed_under, dropped_under, ended_for, ended_row, ended_under, gone_for, gone_under, is_closing, removed}
+use Rattle.nf_words.proofs.Found.{put_leaves}
+use Rattle.std.proofs.lemmas.Cmp.{tied_itself}
 
 -- ---- rows that are put
 

@@ -1,6 +1,6 @@
 -- The tables with a new share, or with another row of one, are sound.
 use Rattle.std.proofs.Common.{◌≡◌, ◌≢◌, ℕ, ◌+◌, ◌-◌, ◌==◌, ◌<◌, ◌≤◌, inl, inr, List, ◌∷◌, Option, None, Some, length, true, false, refl, sym, ap, subst, ◌∙◌, arith, le_refl, unwrap_or, []}
-use Rattle.std.specs.Prelude.{is_some}
+use Rattle.std.specs.Prelude.{is_some, unwrap_or}
 use Rattle.std.specs.Option.{IfSome}
 use Rattle.std.proofs.lemmas.Bool.{cases_Bool, eq-eqb, eqb-true, both_ways}
 use Rattle.std.proofs.lemmas.List.Elements.{All-weaker}
