@@ -1,7 +1,7 @@
 -- Lists of changed rows: what each known change keeps, all of them keep. By the kind of the row, whatever the act.
 use Rattle.std.proofs.Common.{◌≡◌, ◌≢◌, ◌⊎◌, ℕ, suc, ◌==◌, ◌<◌, ◌≤◌, inl, inr, List, [], ◌∷◌, ◌++◌, Option, Some, refl, sym, ap, subst, ◌∙◌, arith, le_refl}
 use Rattle.std.specs.List.{All, AllPairs}
-use Rattle.std.proofs.lemmas.Bool.{cond_both, ne_eqb}
+use Rattle.std.proofs.lemmas.Bool.{cond_both}
 use Rattle.std.proofs.lemmas.List.Elements.{All-cons, All-head, All-nil, All-tail}
 use Rattle.std.proofs.lemmas.List.Quantifiers.{all_pairs_push}
 use Rattle.std.proofs.lemmas.Option.{same_Some, none-some}
@@ -117,21 +117,6 @@ AreBuilt (Put (Mount row) ∷ changes) = AreBuilt changes
 AreBuilt (Put (Share row) ∷ changes) = AreBuilt changes
 AreBuilt (change ∷ changes) = ⊥
 
--- what each of them has, a list has
-pub each_built : (P : Change → Type 0) → ((row : NodeRow) → P (Put (Node row))) → ((row : MountRow) → P (Put (Mount row)))
-    → ((row : ShareRow) → P (Put (Share row))) → (changes : List Change) → AreBuilt changes → All P changes
-each_built P nodes mounts shares [] built = All-nil P
-each_built P nodes mounts shares (Put (Node row) ∷ changes) built =
-    All-cons P (Put (Node row)) changes (nodes row) (each_built P nodes mounts shares changes built)
-each_built P nodes mounts shares (Put (Mount row) ∷ changes) built =
-    All-cons P (Put (Mount row)) changes (mounts row) (each_built P nodes mounts shares changes built)
-each_built P nodes mounts shares (Put (Share row) ∷ changes) built =
-    All-cons P (Put (Share row)) changes (shares row) (each_built P nodes mounts shares changes built)
-each_built P nodes mounts shares (change ∷ changes) built = absurd built
-
-pub built_droppable : (changes : List Change) → AreBuilt changes → All IsDroppable changes
-built_droppable = each_built IsDroppable (λ row. tt) (λ row. tt) (λ row. tt)
-
 -- the meta row may be set before or behind them
 meta_first : (t : Tables) (meta : MetaRow) (changes : List Change) → AreBuilt changes
     → put_all (record t { meta = meta }) changes ≡ record (put_all t changes) { meta = meta }
@@ -150,6 +135,13 @@ built_alone t (Put (Node row) ∷ changes) built = built_alone (made t (Put (Nod
 built_alone t (Put (Mount row) ∷ changes) built = built_alone (made t (Put (Mount row))) changes built
 built_alone t (Put (Share row) ∷ changes) built = built_alone (made t (Put (Share row))) changes built
 built_alone t (change ∷ changes) built = absurd built
+
+pub built_droppable : (changes : List Change) → AreBuilt changes → All IsDroppable changes
+built_droppable [] built = All-nil IsDroppable
+built_droppable (Put (Node row) ∷ changes) built = All-cons IsDroppable (Put (Node row)) changes tt (built_droppable changes built)
+built_droppable (Put (Mount row) ∷ changes) built = All-cons IsDroppable (Put (Mount row)) changes tt (built_droppable changes built)
+built_droppable (Put (Share row) ∷ changes) built = All-cons IsDroppable (Put (Share row)) changes tt (built_droppable changes built)
+built_droppable (change ∷ changes) built = absurd built
 
 pub put_more : (t : Tables) (changes more : List Change) → put_all t (changes ++ more) ≡ put_all (put_all t changes) more
 put_more t [] more = refl
@@ -212,7 +204,8 @@ mount_anew t row (inr is) = λ same. none-some row (sym is.fresh ∙ same)
 
 -- nor was a share
 share_anew : (first t : Tables) (row : ShareRow) → KnownShare first t row → share_row t.shares row.id ≢ Some row
-share_anew first t row (inl (is, new)) = λ same. absurd (omega (arith, (found_is (λ (old : ShareRow). old.id < row.id) (λ (old : ShareRow). old.id == row.id) t.shares row is.newest same).1))
+share_anew first t row (inl (is, new)) = λ same.
+    absurd (omega (arith, (found_is (λ (old : ShareRow). old.id < row.id) (λ (old : ShareRow). old.id == row.id) t.shares row is.newest same).1))
 share_anew first t row (inr (is, old)) = λ same. is.other (same_Some row is.old (sym same ∙ is.there))
 
 -- so a lean list that isn't empty makes other tables

@@ -1,22 +1,21 @@
 -- The tables with a row of a mount, new or another, are sound.
-use Rattle.std.proofs.Common.{ℕ, zero, suc, ◌==◌, ◌&&◌, ◌≡◌, ◌<◌, Bool, true, false, not, List, [], ◌∷◌, Some, bytes_eq, get_or, length, refl, sym, ap, subst, ◌∙◌, arith, le_refl, None, ◌≤◌, ◌⊎◌, inl, inr}
+use Rattle.std.proofs.Common.{ℕ, zero, suc, ◌==◌, ◌&&◌, ◌≡◌, ◌<◌, true, false, not, List, [], ◌∷◌, bytes_eq, get_or, length, refl, sym, ap, subst, ◌∙◌, arith, le_refl, None, ◌≤◌, ◌⊎◌, inl, inr}
 use Rattle.std.specs.Prelude.{is_some}
 use Rattle.std.specs.List.{All, AllPairs}
 use Rattle.std.specs.declared.cmp.Ordering.{Ordering}
 use Rattle.std.specs.declared.cmp.Ordering.TheVariants.{Equal, Greater, Less}
 use Rattle.std.proofs.lemmas.Bool.{and_from, and_parts, both_ways, eq-eqb, eqb-true, false_from_ne_true, not_from_false}
-use Rattle.std.proofs.lemmas.Cmp.{tied_itself}
 use Rattle.std.proofs.lemmas.List.Elements.{All-head, All-tail, All-weaker}
-use Rattle.std.proofs.lemmas.Option.{none-some, same_Some}
+use Rattle.std.proofs.lemmas.Option.{same_Some}
 use Rattle.std.proofs.lemmas.Slice.Eq.{bytes_eq-Decides}
-use Rattle.nf_access.specs.Mounts.{is_mount_of, is_shown_to, mount_row, mount_at}
+use Rattle.nf_access.specs.Mounts.{is_mount_of, is_shown_to, mount_at}
 use Rattle.nf_base.specs.declared.rows.MountRow.{MountRow}
 use Rattle.nf_base.specs.declared.rows.NodeRow.{NodeRow}
 use Rattle.nf_base.specs.declared.rows.Place.{Place}
 use Rattle.nf_base.specs.declared.rows.Place.TheVariants.{Inside, Root, Trash}
 use Rattle.nf_base.specs.declared.rows.ShareRow.{ShareRow}
-use Rattle.nf_defs.proofs.Puts.{all_put, below_rest, key_total, put_rising, tail_rising, turned, put_length}
-use Rattle.nf_defs.specs.Prelude.{by_order, IsRising, key_cmp, mount_key, node_row, put, Tables, user_row}
+use Rattle.nf_defs.proofs.Puts.{all_put, put_rising, put_length}
+use Rattle.nf_defs.specs.Prelude.{by_order, key_cmp, mount_key, node_row, put, Tables, user_row}
 use Rattle.nf_laws.proofs.Others.{kind_still, others_from}
 use Rattle.nf_laws.proofs.Rows.{each_fails, found_is, no_value, node_still, row_is}
 use Rattle.nf_words.proofs.Mounting.{same_key}
@@ -164,8 +163,12 @@ module _ (t : Tables) (row : MountRow) (sound : AreSound t) where
         free = is.free;
       })
       is.apart
-      (omega (arith, sound.others.few_mounts, put_length_over mount_key (is_mount_of row.user row.node) row is.old t.mounts
-      (λ x passes. same_key row.user row.node x row passes (itself row)) sound.others.mounts_rise is.there))
+      (omega (
+        arith,
+        sound.others.few_mounts,
+        put_length_over mount_key (is_mount_of row.user row.node) row is.old t.mounts
+            (λ x passes. same_key row.user row.node x row passes (itself row)) sound.others.mounts_rise is.there,
+      ))
   mounted_sound (inr is) =
       put_sound
       (record {

@@ -1,6 +1,6 @@
 -- What rows of shares and mounts keep where the nodes are others, and where shares end.
-use Rattle.std.proofs.Common.{ℕ, zero, suc, ◌==◌, ◌&&◌, ◌≡◌, ◌≢◌, ◌<◌, ◌≤◌, Bool, true, false, not, List, [], ◌∷◌, ◌++◌, Option, None, Some, bytes_eq, get_or, if◌then◌else◌, length, map, option_map, refl, sym, ap, subst, ◌∙◌, arith, le_refl}
-use Rattle.std.specs.Prelude.{is_some, option_and_then}
+use Rattle.std.proofs.Common.{ℕ, ◌==◌, ◌&&◌, ◌≡◌, ◌≢◌, ◌<◌, ◌≤◌, Bool, true, false, not, List, [], ◌∷◌, ◌++◌, Option, None, Some, bytes_eq, get_or, if◌then◌else◌, length, map, option_map, refl, sym, ap, subst, ◌∙◌, arith, le_refl}
+use Rattle.std.specs.Prelude.{is_some}
 use Rattle.std.specs.List.{All, AllPairs, list_any}
 use Rattle.std.specs.Option.{option_map_or}
 use Rattle.std.proofs.lemmas.Bool.{and_from, and_parts, both_ways, eq-eqb, eqb-true, false_from_ne_true, not_from_false}
@@ -8,7 +8,7 @@ use Rattle.std.proofs.lemmas.List.{get_or-map, length-map}
 use Rattle.std.proofs.lemmas.List.Elements.{All-cons, All-filter, All-map, All-nil, All-push, All-weaker, filter_passes}
 use Rattle.std.proofs.lemmas.Slice.Eq.{bytes_eq-Decides}
 use Rattle.nf_access.specs.Mounts.{is_shown_to, mount_at, root_folder}
-use Rattle.nf_access.specs.Shares.{chain_up, chain_within, perms_of_share, share_row}
+use Rattle.nf_access.specs.Shares.{chain_within, perms_of_share, share_row}
 use Rattle.nf_base.specs.declared.limits.TheConstants.{MAX_CHAIN, MAX_MOUNTS, MAX_SHARES}
 use Rattle.nf_base.specs.declared.rows.MetaRow.{MetaRow}
 use Rattle.nf_base.specs.declared.rows.MountRow.{MountRow}
@@ -329,7 +329,7 @@ share_ended t gone share is = here (gone share.node) refl
     test node = not (gone node)
 
     chained : (row : ShareRow) → row.id ≡ share.id → is_some (chain_within MAX_CHAIN made.shares row.id) ≡ true
-    chained row same = ap (λ (n : ℕ). is_some (chain_within MAX_CHAIN made.shares n)) same 
+    chained row same = ap (λ (n : ℕ). is_some (chain_within MAX_CHAIN made.shares n)) same
         ∙ still_chained MAX_CHAIN t.shares made.shares share.id (linked_ended gone t.shares) is.chained
 
     here : (b : Bool) → gone share.node ≡ b → IsShareSound made (if b then ended_row share else share)

@@ -1,5 +1,5 @@
 -- The tables with a new share, or with another row of one, are sound.
-use Rattle.std.proofs.Common.{◌≡◌, ◌≢◌, ℕ, ◌+◌, ◌-◌, ◌==◌, ◌<◌, ◌≤◌, inl, inr, List, ◌∷◌, Option, None, Some, length, true, false, refl, sym, ap, subst, ◌∙◌, arith, le_refl, unwrap_or, []}
+use Rattle.std.proofs.Common.{◌≡◌, ℕ, ◌-◌, ◌==◌, ◌<◌, ◌≤◌, inl, inr, List, ◌∷◌, Option, None, Some, length, true, refl, sym, ap, subst, ◌∙◌, arith, unwrap_or, []}
 use Rattle.std.specs.Prelude.{is_some, unwrap_or}
 use Rattle.std.specs.Option.{IfSome}
 use Rattle.std.proofs.lemmas.Bool.{cases_Bool, eq-eqb, eqb-true, both_ways}
@@ -147,5 +147,9 @@ module _ (t : Tables) (row : ShareRow) where
         of_node = λ of there.
             subst (λ (r : ShareRow). IsOfNode r of) is.same (is.of_node of (ap (node_row t.nodes) node ∙ there));
       }))
-      (omega (arith, sound.others.few_shares, put_length_over share_key (λ (other : ShareRow). other.id == row.id) row is.old t.shares
-      (λ other same. ap (λ (n : ℕ). n ∷ []) (eqb-true other.id row.id same)) sound.others.shares_rise is.there))
+      (omega (
+        arith,
+        sound.others.few_shares,
+        put_length_over share_key (λ (other : ShareRow). other.id == row.id) row is.old t.shares
+            (λ other same. ap (λ (n : ℕ). n ∷ []) (eqb-true other.id row.id same)) sound.others.shares_rise is.there,
+      ))
