@@ -13,6 +13,7 @@ use Rattle.nf_base.specs.declared.rows.MetaRow.{MetaRow}
 use Rattle.nf_base.specs.declared.rows.MountRow.{MountRow}
 use Rattle.nf_base.specs.declared.rows.NodeRow.{NodeRow}
 use Rattle.nf_base.specs.declared.rows.Row.{Row}
+use Rattle.nf_base.specs.declared.rows.ShareRow.{ShareRow}
 use Rattle.nf_base.specs.Content.{content_eq}
 use Rattle.nf_base.specs.declared.changes.Change.TheVariants.{Put}
 use Rattle.nf_base.specs.declared.rows.Row.TheVariants as rows
@@ -29,7 +30,7 @@ use Rattle.nf_laws.proofs.Mirrored.{mirrored}
 use Rattle.nf_laws.proofs.OneRow.{with_all}
 use Rattle.nf_laws.proofs.Rows.{content_has, found_is, stamped_has}
 use Rattle.nf_laws.specs.Wholes.{BlobsAreNew, Brings, IsGoalHeld, IsHeld, IsThere, StaysWhole, blob_in, blob_under}
-use Rattle.nf_words.specs.Prelude.{access_of, after_mark, allowed_of, altered, AreSound, blob_after, blob_for, blob_of, by_of, Call, call_of, carried, changed, cleared, content_in, contents_of, copies_to, crosses, decision_of, deleted, end_refusal, ends_at, ends_goal, given, goal_at, goal_of, hold_of, IsGoalSound, IsPieceSound, IsSound, IsTicketSound, joined, last_name, left_row, listing_of, made_folder, MayAsk, mount_left, mount_renamed, moved, named_row, node_at, own_mount, places_of, raised, refilled, refusal_of, served, stamped, State, stored, stored_at, told, transfer_of, unless_refused, way_of, with_goal, with_mount_row, without}
+use Rattle.nf_words.specs.Prelude.{access_of, after_mark, allowed_of, altered, AreSound, blob_after, blob_for, blob_of, by_of, Call, call_of, carried, changed, cleared, content_in, contents_of, copies_to, crosses, decision_of, deleted, end_refusal, ends_at, ends_goal, given, goal_at, goal_of, hold_of, IsGoalSound, IsPieceSound, IsSound, IsTicketSound, joined, last_name, left_row, listing_of, made_folder, MayAsk, mount_left, mount_renamed, moved, named_row, node_at, own_mount, places_of, raised, refilled, refusal_of, served, stamped, State, stored, stored_at, told, transfer_of, unless_refused, way_of, with_goal, with_mount_row, without, nothing_done}
 use Rattle.nf_words.specs.declared.answer.Allowed.{Allowed}
 use Rattle.nf_words.specs.declared.answer.Allowed.TheVariants as allowed
 use Rattle.nf_words.specs.declared.answer.Goal.{Goal}
@@ -52,6 +53,8 @@ use Rattle.nf_words.specs.declared.history.Event.TheVariants.{Begin, End}
 use Rattle.nf_words.specs.declared.history.Outcome.{Outcome}
 use Rattle.nf_words.specs.declared.history.Outcome.TheVariants.{Body}
 use Rattle.nf_words.specs.declared.request.Places.{Places}
+use Rattle.nf_words.specs.declared.request.ShareAsk.{ShareAsk}
+use Rattle.nf_words.specs.declared.request.ShareAsk.TheVariants as ask
 use Rattle.nf_words.specs.declared.request.Spot.{Spot}
 use Rattle.nf_words.specs.declared.request.Wanted.{Wanted}
 use Rattle.nf_words.specs.declared.request.Wanted.TheVariants as wanted
@@ -165,6 +168,34 @@ mount_alters : (t : Tables) (row : Option MountRow) (told : Report) → Alters t
 mount_alters t None told = (refl, inl tt)
 mount_alters t (Some row) told = (refl, inl tt)
 
+-- what is asked about shares puts rows of shares and mounts alone
+found_alters : {X : Type 0} (t : Tables) (act : X → Allowed) (o : Option X) → ((x : X) → Alters t (act x)) → Alters t (option_map_or act o nothing_done)
+found_alters t act None all = (refl, inl tt)
+found_alters t act (Some x) all = all x
+
+made_alters : (t : Tables) (share row : ShareRow) (mount : Option MountRow) → Alters t (share_told t (Put (rows.Share share) ∷ mounting mount) row)
+made_alters t share row None = (refl, inl tt)
+made_alters t share row (Some mount) = (refl, inl tt)
+
+set_alters : (t : Tables) (share row : ShareRow) (same : Bool) → Alters t (share_told t (if same then [] else Put (rows.Share share) ∷ []) row)
+set_alters t share row true = (refl, inl tt)
+set_alters t share row false = (refl, inl tt)
+
+shared_alters : (call : Call) (places : Places) (asked : ShareAsk) → Alters call.state.tables (shared (access_of call.state) call places asked)
+shared_alters call places (ask.New spot to perms) =
+    let t = call.state.tables in
+    found_alters t (share_made (access_of call.state) call) (offered call spot to perms) (λ offer.
+    let row = new_share (access_of call.state) call offer in made_alters t row row (ensured t.users t.nodes t.mounts offer.to offer.node))
+shared_alters call places (ask.List spot with_me) = (refl, inl tt)
+shared_alters call places (ask.Show share) =
+    found_alters call.state.tables (share_told call.state.tables []) (share_shown call share) (λ row. (refl, inl tt))
+shared_alters call places (ask.Set share perms) =
+    let t = call.state.tables in
+    found_alters t (λ row. share_set t (perms_after t perms row) row) (share_steered call share) (λ row.
+    let wanted = perms_after t perms row in
+    let other = record row { perms = wanted } in set_alters t other other (wanted == row.perms))
+shared_alters call places (ask.End share) = found_alters call.state.tables share_ended (share_steered call share) (λ row. (refl, inl tt))
+
 pub given_alters : (call : Call) (places : Places) (asked : Wanted)
     → ((spot : Spot) × (asked ≡ wanted.Get spot)) ⊎ Alters call.state.tables (given (access_of call.state) call places asked)
 given_alters call places (wanted.Get spot) = inl (spot, refl)
@@ -188,6 +219,7 @@ given_alters call places (wanted.Copy source target overwrite) =
     let t = call.state.tables in
     inr (either_alters t (λ transfer. allowed.Copy (copies_to t call.now transfer (last_name target)) transfer.replaced)
     (transfer_of t.nodes places) (λ transfer. tt))
+given_alters call places (wanted.Share asked) = inr (shared_alters call places asked)
 
 -- so a Begin stores nothing
 alters_stores : (t : Tables) (body : List ℕ) (act : Allowed) → Alters t act → StoresBody t body act

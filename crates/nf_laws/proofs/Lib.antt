@@ -1,6 +1,7 @@
 pub mod Acting
 pub mod Added
 pub mod Allowing
+pub mod Asking
 pub mod Blobs
 pub mod Chained
 pub mod Children
