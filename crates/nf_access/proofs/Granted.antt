@@ -10,10 +10,11 @@ use Rattle.std.proofs.lemmas.List.Folds.{Any-from_list_any, list_any-from_Any}
 use Rattle.nf_access.proofs.Chains.{chain_is, own_row}
 use Rattle.nf_access.proofs.LookUps.{find_among}
 use Rattle.nf_access.proofs.Standing.{end_is, mask_is, stands_is, tells_itself}
-use Rattle.nf_access.specs.Access.{IsChain, Reaches, Stands, allows, by_chains, grant_of, is_open}
+use Rattle.nf_access.specs.Access.{Allows, IsChain, Reaches, Stands, allows, by_chains, grant_of, is_open}
 use Rattle.nf_access.specs.Laws.{GrantsAreChains, IsBounded, ReachIsAChain}
 use Rattle.nf_access.specs.Shares.{Ground, end_of, mask_of, receives, stands}
 use Rattle.nf_base.specs.Perms.{has}
+use Rattle.nf_base.specs.declared.perms.Act.{Act}
 use Rattle.nf_base.specs.declared.rows.ShareRow.{ShareRow}
 use Rattle.nf_defs.specs.declared.Grant.{Grant}
 use Rattle.nf_defs.specs.declared.Seeker.{Seeker}
@@ -104,18 +105,18 @@ reach_is_a_chain_lem g now who node bounded = (
       (any_is (is_open now) g who node bounded).1 (by.0, by.1, by.2.chain, given.0, given.1),
 )
 
+-- where the grant lets it do an act, so does each share of the chain
+pub granted_allows : (g : Ground) (now : ℕ) (who : Seeker) (act : Act) (node : ℕ) (share : ShareRow) (up : List ShareRow)
+    → IsChain g.shares (share ∷ up) → IsGiven g who node share up → IsTrue (allows now act (grant_from share up)) → Allows g now who node act share up
+granted_allows g now who act node share up chain given is =
+    let both = and_parts (is_open now (grant_from share up)) (has (mask_of (share ∷ up)) act) is in
+    record { reaches = reached g now who node share up chain given both.0; allowed = (mask_is share up act).0 both.1 }
+
 pub grants_are_chains_lem : GrantsAreChains
 grants_are_chains_lem g now who act node bounded = (
   λ any.
       let by = (any_is (allows now act) g who node bounded).0 any in
-      let both = and_parts (is_open now (grant_from by.0 by.1)) (has (mask_of (by.0 ∷ by.1)) act) by.4 in (
-        by.0,
-        by.1,
-        record {
-          reaches = reached g now who node by.0 by.1 by.2 by.3 both.0;
-          allowed = (mask_is by.0 by.1 act).0 both.1;
-        },
-      ),
+      (by.0, by.1, granted_allows g now who act node by.0 by.1 by.2 by.3 by.4),
   λ by.
       let given = given_open g now who node by.0 by.1 by.2.reaches in
       (any_is (allows now act) g who node bounded).1

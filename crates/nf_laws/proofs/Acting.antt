@@ -157,9 +157,9 @@ module _ (call : Call) (spot : Spot) (sound : AreSound call.state.tables) where
       here (Some mount) = refl
 
 -- who asks is the user of the call
-asks_is : (call : Call) → MayWant call.request → Passes (access_of call.state) call → user_of call ≡ Some (asker_of call)
-asks_is call may passes =
-    let row = has_row call may passes.not_you in
+asks_is : (call : Call) → Passes (access_of call.state) call → user_of call ≡ Some (asker_of call)
+asks_is call passes =
+    let row = has_row call passes.token in
     (row_of_caller call.state.tables.users (user_of call) row.0 row.1).0
     ∙ ap Some (sym (ap (λ (o : Option UserRow). option_map_or (λ row. row.id) o 0) row.1))
 
@@ -286,7 +286,7 @@ mounts_left s seat now words request spot sound may asked itself ok =
     ∙ ap (λ (b : Bool). if b then act else deleted (node_at (only_at b (found call spot)).source)) itself in
     subst (λ (made : Tables). IsMountChanged call spot made left_row)
     (sym (step_changed s seat now (Begin words request) act (is.0 ∙ ap (λ (a : Allowed). Ok a) gives)))
-    (remounts call spot left_row Done sound.rows (asks_is call may.1 is.1) itself (λ row. refl) (λ row. refl))
+    (remounts call spot left_row Done sound.rows (asks_is call is.1) itself (λ row. refl) (λ row. refl))
 
 pub mounts_renamed : MountsAreRenamed
 mounts_renamed s seat now words request source target overwrite sound may asked itself ok =
@@ -299,7 +299,7 @@ mounts_renamed s seat now words request source target overwrite sound may asked 
     ∙ ap (λ (b : Bool). if b then act else moved s.tables now (last_name target) (transfer_of s.tables.nodes (places_at call wants))) itself in
     subst (λ (made : Tables). IsMountChanged call source made (named_row (last_name target)))
     (sym (step_changed s seat now (Begin words request) act (is.0 ∙ ap (λ (a : Allowed). Ok a) gives)))
-    (remounts call source (named_row (last_name target)) Made sound.rows (asks_is call may.1 is.1) itself (λ row. refl) (λ row. refl))
+    (remounts call source (named_row (last_name target)) Made sound.rows (asks_is call is.1) itself (λ row. refl) (λ row. refl))
 
 -- ---- a node more
 
@@ -404,7 +404,7 @@ puts_granted s seat now words request spot size sound may asked ok =
     let decides : decision_of s seat now (Begin words request) ≡ Ok act = is.0 ∙ ap (λ (a : Allowed). Ok a) at.2 in
     record {
       user = asker_of call;
-      caller = asks_is call may.1 is.1;
+      caller = asks_is call is.1;
       mount = mount_of call spot;
       by = refl;
       key = at.0;

@@ -26,6 +26,7 @@ use Rattle.nf_defs.specs.declared.Found.{Found}
 use Rattle.nf_defs.specs.declared.Found.TheVariants.{At, Free, Missing}
 use Rattle.nf_defs.specs.declared.Seeker.{Seeker}
 use Rattle.nf_laws.proofs.Acting.{added_rows, put_rows}
+use Rattle.nf_laws.proofs.Asking.{asks_share, OneShare}
 use Rattle.nf_laws.proofs.Entries.{entry_has, rest_kept}
 use Rattle.nf_laws.proofs.Following.{AllFollow, added_follow, copied_follow, copied_shares, crossed_follow, crossed_shares, deleted_follow, deleted_shares, kept_shares, moved_follow, moved_shares, refilled_follow}
 use Rattle.nf_laws.proofs.Reaching.{way_mount}
@@ -33,7 +34,7 @@ use Rattle.nf_laws.proofs.Rows.{found_is, inside_folder, parent_there, stamp, st
 use Rattle.nf_laws.proofs.Transferred.{moved_rows}
 use Rattle.nf_laws.proofs.Upwards.{climbs_is_under}
 use Rattle.nf_laws.specs.Acts.{IsAdded, IsPut, IsRefilled}
-use Rattle.nf_laws.specs.Access.{ChangesAllowed, ChangesWhatMayBeChanged, Follows, IsAllowed, IsNeeded, IsOwnPath, IsRemounted, MayDo, Remounts, is_left, is_moved, is_renamed, is_updated, needs_of, needs_of_goal, seeker_at, seeker_of_goal, shares_without}
+use Rattle.nf_laws.specs.Access.{ChangesAllowed, ChangesWhatMayBeChanged, Follows, IsAllowed, IsNeeded, IsOwnPath, IsRemounted, IsSharing, KeepsShares, MayDo, Remounts, is_left, is_moved, is_renamed, is_updated, needs_of, needs_of_goal, seeker_at, seeker_of_goal, shares_without}
 use Rattle.nf_words.proofs.Begins.{only_at, places_at, wanted_passes, WantedPasses}
 use Rattle.nf_words.proofs.Ends.{known_change, goal_held}
 use Rattle.nf_words.proofs.Fits.{within}
@@ -44,7 +45,7 @@ use Rattle.nf_words.proofs.Starts.{has_row}
 use Rattle.nf_words.proofs.Transfers.{copies_known, no_mount, transfer_known, transfer_parts}
 use Rattle.nf_words.proofs.Ways.{slot_known, way_there}
 use Rattle.nf_words.specs.Needed.{source_act, target_needs}
-use Rattle.nf_words.specs.Prelude.{access_of, altered, AreSound, asked_of, asker_of, blob_for, by_of, Call, call_of, caller_row, carry_limit, changed, content_in, copied, copies_to, copy_limit, crosses, decision_of, deepest_in, deleted, end_refusal, ends_at, folder_at, found, given, goal_at, is_one, is_within, IsSound, IsStorable, joined, last_name, left_row, limited, listing_of, made_folder, MayAsk, MayEnd, mount_left, mount_of, mount_renamed, mounted, move_limit, moved, named_row, Need, needed, needed_by, needs, needs_at, needs_between, needs_in, node_at, node_found, own_mount, removed, root_of, seeker_of, served, State, stored, stored_at, told, transfer_of, transferred, unfit_between, unreached, Way, way_by, way_of, with_mount_row}
+use Rattle.nf_words.specs.Prelude.{access_of, altered, AreSound, asked_of, asker_of, blob_for, by_of, Call, call_of, caller_row, carry_limit, changed, content_in, copied, copies_to, copy_limit, crosses, decision_of, deepest_in, deleted, end_refusal, ends_at, fault_of_ask, folder_at, found, given, goal_at, is_one, is_within, IsSound, IsStorable, joined, last_name, left_row, limited, listing_of, made_folder, MayAsk, MayEnd, mount_left, mount_of, mount_renamed, mounted, move_limit, moved, named_row, Need, needed, needed_by, needs, needs_at, needs_between, needs_in, node_at, node_found, own_mount, removed, root_of, seeker_of, served, shared, State, stored, stored_at, told, transfer_of, transferred, unfit_between, unreached, Way, way_by, way_of, with_mount_row}
 use Rattle.nf_words.specs.declared.answer.Allowed.{Allowed}
 use Rattle.nf_words.specs.declared.answer.Allowed.TheVariants as allowed
 use Rattle.nf_words.specs.declared.answer.By.{By}
@@ -61,26 +62,29 @@ use Rattle.nf_words.specs.declared.history.Outcome.{Outcome}
 use Rattle.nf_words.specs.declared.history.Outcome.TheVariants.{Body}
 use Rattle.nf_words.specs.declared.request.Making.TheVariants as making
 use Rattle.nf_words.specs.declared.request.Places.{Places}
+use Rattle.nf_words.specs.declared.request.ShareAsk.{ShareAsk}
 use Rattle.nf_words.specs.declared.request.Spot.{Spot}
 use Rattle.nf_words.specs.declared.request.Transfer.{Transfer}
 use Rattle.nf_words.specs.declared.request.Wanted.{Wanted}
-use Rattle.nf_words.specs.declared.request.Wanted.TheVariants.{Get, Put, Mkcol, Delete, Move, Copy}
+use Rattle.nf_words.specs.declared.request.Wanted.TheVariants.{Get, Put, Mkcol, Delete, Move, Copy, Share}
 
 -- ---- what fits
 
--- where a row is another what became of the node follows from what is needed, and shares end with their nodes; the mounts are as they
--- were, or as something else has it
+-- where a row is another what became of the node follows from what is needed. Shares end with their nodes and mounts are as they were,
+-- or both are as something else has it
 record Fits (t : Tables) (needs : List Need) (Other : Tables → Type 0) (made : Tables) : Type 0 where
   follow : AllFollow needs t.nodes made.nodes
-  shares : made.shares ≡ shares_without t.nodes made.nodes t.shares
-  mounts : (made.mounts ≡ t.mounts) ⊎ Other made
+  others : KeepsShares t made ⊎ Other made
 
 same_follow : (needs : List Need) (rows : List NodeRow) → AllFollow needs rows rows
 same_follow needs rows node differs = absurd (differs refl)
 
 same_fits : (t : Tables) (needs : List Need) (Other : Tables → Type 0) → AreSound t → Fits t needs Other t
 same_fits t needs Other sound =
-    record { follow = same_follow needs t.nodes; shares = kept_shares t t.nodes sound (λ node there. there); mounts = inl refl }
+    record {
+      follow = same_follow needs t.nodes;
+      others = inl (record { shares = kept_shares t t.nodes sound (λ node there. there); mounts = refl });
+    }
 
 -- where a node is added, or refilled
 added_fits : (t made : Tables) (now folder : ℕ) (name : List ℕ) (kind : NodeKind) (content : List Piece) (needs : List Need)
@@ -88,8 +92,10 @@ added_fits : (t made : Tables) (now folder : ℕ) (name : List ℕ) (kind : Node
     → Fits t needs Other made
 added_fits t made now folder name kind content needs Other sound is needed = record {
   follow = added_follow t made now folder name kind content needs is needed;
-  shares = ap (λ (u : Tables). u.shares) is.rest ∙ kept_shares t made.nodes sound stay;
-  mounts = inl (ap (λ (u : Tables). u.mounts) is.rest);
+  others = inl (record {
+    shares = ap (λ (u : Tables). u.shares) is.rest ∙ kept_shares t made.nodes sound stay;
+    mounts = ap (λ (u : Tables). u.mounts) is.rest;
+  });
 }
   where
     stay : (node : ℕ) → is_some (node_row t.nodes node) ≡ true → is_some (node_row made.nodes node) ≡ true
@@ -103,8 +109,10 @@ refilled_fits : (t made : Tables) (now node : ℕ) (content : List Piece) (needs
     → IsRefilled t made now node content → IsNeeded needs act.Update node → Fits t needs Other made
 refilled_fits t made now node content needs Other sound is needed = record {
   follow = refilled_follow t made now node content needs is needed;
-  shares = ap (λ (u : Tables). u.shares) is.rest ∙ kept_shares t made.nodes sound stay;
-  mounts = inl (ap (λ (u : Tables). u.mounts) is.rest);
+  others = inl (record {
+    shares = ap (λ (u : Tables). u.shares) is.rest ∙ kept_shares t made.nodes sound stay;
+    mounts = ap (λ (u : Tables). u.mounts) is.rest;
+  });
 }
   where
     stay : (other : ℕ) → is_some (node_row t.nodes other) ≡ true → is_some (node_row made.nodes other) ≡ true
@@ -185,6 +193,10 @@ record OneMount (call : Call) (made : Tables) : Type 0 where
   nodes : made.nodes ≡ call.state.tables.nodes
   shares : made.shares ≡ call.state.tables.shares
 
+-- or one share is
+abbrev OneOther : Call → Tables → Type 0
+OneOther call made = OneMount call made ⊎ OneShare call made
+
 -- ---- what is needed of transfers
 
 abbrev need_of : Act → ℕ → Option ℕ → Need
@@ -214,7 +226,7 @@ between rows nowhere to transfer is = absurd (none-some transfer is)
 
 move_needs : (rows : List NodeRow) (root : ℕ) (source target : Spot) (overwrite : Bool) (from to : Way) (transfer : Transfer) (b : Bool)
     → IsBetween rows from.place to.place transfer → to.itself ≡ false → is_within rows root (Some from) (Some to) ≡ b
-    → needs_at (source_act (asked_of (Move source target overwrite)) b) from ++ target_needs making.Moved rows root b to
+    → needs_at (source_act true b) from ++ target_needs making.Moved rows root b to
     ≡ moved_needs b from.mount to.mount transfer
 move_needs rows root source target overwrite from to transfer true is other within = rw (is.source, is.replaced) refl
 move_needs rows root source target overwrite from to transfer false is other within = rw (is.source, is.replaced, other, is.folder) refl
@@ -266,7 +278,7 @@ module _ (call : Call) (row : UserRow) (sound : AreSound call.state.tables) (is 
   root = root_of call
 
   abbrev FitsCall : List Need → Tables → Type 0
-  FitsCall needs made = Fits t needs (OneMount call) made
+  FitsCall needs made = Fits t needs (OneOther call) made
 
   abbrev Reached : Spot → Type 0
   Reached spot = unreached (access_of call.state) call (way_of call spot) ≡ None
@@ -297,8 +309,7 @@ module _ (call : Call) (row : UserRow) (sound : AreSound call.state.tables) (is 
       (sym (ap (own_mount call) own.by ∙ own.there))
       (record {
         follow = same_follow needs t.nodes;
-        shares = kept_shares t t.nodes sound (λ node there. there);
-        mounts = inr (record {
+        others = inr (inl (record {
           old = old;
           row = change old;
           there = there;
@@ -306,7 +317,7 @@ module _ (call : Call) (row : UserRow) (sound : AreSound call.state.tables) (is 
           mounts = remounted_rows (change old) old t.mounts sound.others.mounts_rise put_there ∙ (λ i. rows (user old i) (node old i));
           nodes = refl;
           shares = refl;
-        });
+        }));
       })
 
   -- ---- MOVE and COPY
@@ -344,10 +355,9 @@ module _ (call : Call) (row : UserRow) (sound : AreSound call.state.tables) (is 
     moved_fits b within =
         let needs = moved_needs b from to transfer in
         stamped_has (FitsCall needs) t (transferred t transfer name) call.now (told t (allowed.Move transfer name))
-        (same_fits t needs (OneMount call) sound) (record {
+        (same_fits t needs (OneOther call) sound) (record {
           follow = moved_follow t transfer name needs sound known (moved_gone b) (moved_itself b within);
-          shares = moved_shares t transfer name sound known;
-          mounts = inl refl;
+          others = inl (record { shares = moved_shares t transfer name sound known; mounts = refl });
         })
 
   -- ---- what each may ask for
@@ -362,14 +372,14 @@ module _ (call : Call) (row : UserRow) (sound : AreSound call.state.tables) (is 
   served_fits mount (At node) needs =
       cond_both (is_folder t.nodes node) (allowed.List (listing_of (access_of call.state) call mount node))
       (allowed.Get node (content_of t.nodes node))
-      (λ act. FitsCall needs (changed t call.now act)) (λ folder. same_fits t needs (OneMount call) sound)
-      (λ file. same_fits t needs (OneMount call) sound)
-  served_fits mount nowhere needs = same_fits t needs (OneMount call) sound
+      (λ act. FitsCall needs (changed t call.now act)) (λ folder. same_fits t needs (OneOther call) sound)
+      (λ file. same_fits t needs (OneOther call) sound)
+  served_fits mount nowhere needs = same_fits t needs (OneOther call) sound
 
   stored_fits : (by : By) (name : List ℕ) (size : ℕ) (place : Found) (needs : List Need)
       → FitsCall needs (changed t call.now (stored by name size (Some place)))
-  stored_fits by name size (Missing depth) needs = same_fits t needs (OneMount call) sound
-  stored_fits by name size place needs = same_fits t needs (OneMount call) sound
+  stored_fits by name size (Missing depth) needs = same_fits t needs (OneOther call) sound
+  stored_fits by name size place needs = same_fits t needs (OneOther call) sound
 
   -- a free name is at the end of no mount's own path
   free_other : (spot : Spot) (folder : ℕ) → found call spot ≡ Free folder → (way_of call spot).itself ≡ false
@@ -394,9 +404,9 @@ module _ (call : Call) (row : UserRow) (sound : AreSound call.state.tables) (is 
       let slot = slot_known call spot row sound is folder reached leads in
       let asked : needs_in t.nodes root way ≡ need ∷ [] = rw (free_other spot folder leads, leads) refl in
       subst (λ (needs : List Need). FitsCall needs made) (sym asked)
-      (added_fits t made call.now folder name Folder [] (need ∷ []) (OneMount call) sound
+      (added_fits t made call.now folder name Folder [] (need ∷ []) (OneOther call) sound
       (added_rows t call.now folder name Folder [] None sound slot.folds slot.free (omega arith)) (first_needed need []))
-  made_fits spot nowhere reached leads = same_fits t (needs_in t.nodes root (way_of call spot)) (OneMount call) sound
+  made_fits spot nowhere reached leads = same_fits t (needs_in t.nodes root (way_of call spot)) (OneOther call) sound
 
   deletes_fit : (spot : Spot) (place : Found) → Reached spot → found call spot ≡ place
       → FitsCall (needs_at act.Delete (way_of call spot) ++ []) (changed t call.now (deleted (node_found place)))
@@ -405,13 +415,12 @@ module _ (call : Call) (row : UserRow) (sound : AreSound call.state.tables) (is 
       let need = need_of act.Delete top (way_of call spot).mount in
       let asked : needs_at act.Delete (way_of call spot) ++ [] ≡ need ∷ [] = rw leads refl in
       subst (λ (needs : List Need). FitsCall needs (changed t call.now (allowed.Delete top))) (sym asked)
-      (stamped_has (FitsCall (need ∷ [])) t (removed t top) call.now (told t (allowed.Delete top)) (same_fits t (need ∷ []) (OneMount call) sound)
+      (stamped_has (FitsCall (need ∷ [])) t (removed t top) call.now (told t (allowed.Delete top)) (same_fits t (need ∷ []) (OneOther call) sound)
       (record {
         follow = deleted_follow t top (need ∷ []) (first_needed need []);
-        shares = deleted_shares t top sound (ap is_some there.1);
-        mounts = inl refl;
+        others = inl (record { shares = deleted_shares t top sound (ap is_some there.1); mounts = refl });
       }))
-  deletes_fit spot nowhere reached leads = same_fits t (needs_at act.Delete (way_of call spot) ++ []) (OneMount call) sound
+  deletes_fit spot nowhere reached leads = same_fits t (needs_at act.Delete (way_of call spot) ++ []) (OneOther call) sound
 
   delete_fits : (spot : Spot) (b : Bool) → call.request.wanted ≡ Delete spot → (way_of call spot).itself ≡ b → (b ≡ false → Reached spot)
       → FitsCall (if b then [] else needs_at act.Delete (way_of call spot) ++ [])
@@ -455,12 +464,11 @@ module _ (call : Call) (row : UserRow) (sound : AreSound call.state.tables) (is 
         let going = needs act.Delete transfer.replaced to in
         let needs = copied_needs from to transfer in
         stamped_has (FitsCall needs) t (joined t (copies transfer) transfer.replaced) call.now
-        (told t (allowed.Copy (copies transfer) transfer.replaced)) (same_fits t needs (OneMount call) sound)
+        (told t (allowed.Copy (copies transfer) transfer.replaced)) (same_fits t needs (OneOther call) sound)
         (record {
           follow = copied_follow t call.now (copies transfer) transfer.replaced sound known needs
               (replaced_needed (first ∷ second ∷ []) transfer.replaced to) (second_needed first second going);
-          shares = copied_shares t call.now (copies transfer) transfer.replaced sound known;
-          mounts = inl refl;
+          others = inl (record { shares = copied_shares t call.now (copies transfer) transfer.replaced sound known; mounts = refl });
         })
 
     crossed_fits : (transfer : Transfer) → transfer_of t.nodes places ≡ Some transfer → copy_limit t transfer ≡ None
@@ -474,12 +482,11 @@ module _ (call : Call) (row : UserRow) (sound : AreSound call.state.tables) (is 
         let going = needs act.Delete transfer.replaced to in
         let needs = moved_needs false from to transfer in
         stamped_has (FitsCall needs) t (removed (joined t (copies transfer) transfer.replaced) transfer.node) call.now
-        (told t (allowed.Cross (copies transfer) transfer.replaced transfer.node)) (same_fits t needs (OneMount call) sound)
+        (told t (allowed.Cross (copies transfer) transfer.replaced transfer.node)) (same_fits t needs (OneOther call) sound)
         (record {
           follow = crossed_follow t call.now (copies transfer) transfer.replaced sound known needs
               (replaced_needed (first ∷ second ∷ []) transfer.replaced to) (first_needed first (second ∷ going)) (second_needed first second going);
-          shares = crossed_shares t call.now (copies transfer) transfer.replaced sound known;
-          mounts = inl refl;
+          others = inl (record { shares = crossed_shares t call.now (copies transfer) transfer.replaced sound known; mounts = refl });
         })
 
     -- a transfer stays with its owner, or goes to another
@@ -503,7 +510,7 @@ module _ (call : Call) (row : UserRow) (sound : AreSound call.state.tables) (is 
         absurd (both_ways (crosses t.nodes transfer) (within_owner t transfer known.source.0 sound known.source.1 above) owner)
 
     moves_fit : (overwrite : Bool) → (way_of call source).itself ≡ false → option_and_then (carry_limit t) (transfer_of t.nodes places) ≡ None
-        → FitsCall (needs_at (source_act (asked_of (Move source target overwrite))
+        → FitsCall (needs_at (source_act true
         (is_within t.nodes root (Some (way_of call source)) (Some (way_of call target)))) (way_of call source)
         ++ target_needs making.Moved t.nodes root (is_within t.nodes root (Some (way_of call source)) (Some (way_of call target))) (way_of call target))
         (changed t call.now (moved t call.now name (transfer_of t.nodes places)))
@@ -513,12 +520,12 @@ module _ (call : Call) (row : UserRow) (sound : AreSound call.state.tables) (is 
         within = is_within t.nodes root (Some (way_of call source)) (Some (way_of call target))
 
         asked : List Need
-        asked = needs_at (source_act (asked_of (Move source target overwrite)) within) (way_of call source)
+        asked = needs_at (source_act true within) (way_of call source)
             ++ target_needs making.Moved t.nodes root within (way_of call target)
 
         here : (o : Option Transfer) → transfer_of t.nodes places ≡ o → option_and_then (carry_limit t) o ≡ None
             → FitsCall asked (changed t call.now (moved t call.now name o))
-        here None e some = same_fits t asked (OneMount call) sound
+        here None e some = same_fits t asked (OneOther call) sound
         here (Some transfer) e some =
             let it = between t.nodes (found call source) (found call target) transfer e in
             subst (λ (needs : List Need). FitsCall needs (changed t call.now (moved t call.now name (Some transfer))))
@@ -531,7 +538,7 @@ module _ (call : Call) (row : UserRow) (sound : AreSound call.state.tables) (is 
       where
         here : (o : Option Transfer) → transfer_of t.nodes places ≡ o → option_and_then (copy_limit t) o ≡ None
             → FitsCall (needed_for (Copy source target overwrite)) (changed t call.now (copied t call.now name o))
-        here None e some = same_fits t (needed_for (Copy source target overwrite)) (OneMount call) sound
+        here None e some = same_fits t (needed_for (Copy source target overwrite)) (OneOther call) sound
         here (Some transfer) e some =
             let it = between t.nodes (found call source) (found call target) transfer e in
             subst (λ (needs : List Need). FitsCall needs (changed t call.now (copied t call.now name (Some transfer))))
@@ -543,7 +550,7 @@ module _ (call : Call) (row : UserRow) (sound : AreSound call.state.tables) (is 
       → unfit_between t.nodes root b (record { source = Some (way_of call source); target = Some (way_of call target) }) ≡ None
       → limited t (if b then record { source = None; target = None } else record { source = Some (found call source); target = Some (found call target) })
       making.Moved ≡ None
-      → FitsCall (if b then [] else needs_at (source_act (asked_of (Move source target overwrite))
+      → FitsCall (if b then [] else needs_at (source_act true
       (is_within t.nodes root (Some (way_of call source)) (Some (way_of call target)))) (way_of call source)
       ++ target_needs making.Moved t.nodes root (is_within t.nodes root (Some (way_of call source)) (Some (way_of call target))) (way_of call target))
       (changed t call.now (if b then mount_renamed call (way_of call source) (last_name target)
@@ -555,6 +562,18 @@ module _ (call : Call) (row : UserRow) (sound : AreSound call.state.tables) (is 
   move_fits source target overwrite false wanted itself from_reached to_reached fits some =
       moves_fit source target (from_reached refl) to_reached fits overwrite itself some
 
+  asks_fit : (places : Places) (asked : ShareAsk) (needs : List Need) → call.request.wanted ≡ Share asked
+      → fault_of_ask (access_of call.state) call asked ≡ None
+      → FitsCall needs (changed t call.now (shared (access_of call.state) call places asked))
+  asks_fit places asked needs wanted fits =
+      elim (asks_share call sound places asked wanted fits) [
+        | inl same ↦ subst (FitsCall needs) (sym same) (same_fits t needs (OneOther call) sound)
+        | inr one ↦ record {
+          follow = λ node differs. absurd (differs (ap (λ (rows : List NodeRow). node_row rows node) one.nodes));
+          others = inr (inr one);
+        }
+      ]
+
   begin_fits : (wanted : Wanted) → call.request.wanted ≡ wanted → WantedPasses call wanted
       → FitsCall (needed_for wanted) (changed t call.now (given (access_of call.state) call (places_at call wanted) wanted))
   begin_fits (Get spot) asked p = served_fits (way_of call spot).mount (found call spot) (needed_for (Get spot))
@@ -565,6 +584,7 @@ module _ (call : Call) (row : UserRow) (sound : AreSound call.state.tables) (is 
       move_fits source target overwrite (way_of call source).itself asked refl p.place.source p.place.target p.fits p.few
   begin_fits (Copy source target overwrite) asked p =
       copies_fit source target (p.place.source refl) p.place.target p.fits overwrite p.few
+  begin_fits (Share asks) asked p = asks_fit (places_at call (Share asks)) asks (needed_for (Share asks)) asked p.sharing
 
 -- ---- an End
 
@@ -583,22 +603,20 @@ put_fits t made now by (Slot folder name) content Other sound is =
 record AreAllowed (s : State) (e : Entry) (event : Event) (made : Tables) : Type 0 where
   nodes : (node : ℕ) → node_row made.nodes node ≢ node_row s.tables.nodes node
       → IsAllowed s e.moment (seeker_at s e.seat e.moment event) (needs_of s e.seat e.moment event) made.nodes node
-  shares : made.shares ≡ shares_without s.tables.nodes made.nodes s.tables.shares
-  mounts : (made.mounts ≡ s.tables.mounts) ⊎ IsRemounted s e made
+  others : KeepsShares s.tables made ⊎ (IsRemounted s e made ⊎ IsSharing s e made)
 
 allowed_so : (s : State) (e : Entry) (event : Event) (seeker : Seeker) (Other : Tables → Type 0) (made : Tables)
     → seeker_at s e.seat e.moment event ≡ Some seeker → All (MayDo s e.moment seeker) (needs_of s e.seat e.moment event)
-    → Fits s.tables (needs_of s e.seat e.moment event) Other made → (Other made → IsRemounted s e made) → AreAllowed s e event made
+    → Fits s.tables (needs_of s e.seat e.moment event) Other made → (Other made → IsRemounted s e made ⊎ IsSharing s e made) → AreAllowed s e event made
 allowed_so s e event seeker Other made is may fits other = record {
   nodes = λ node differs. record { seeker = seeker; acts = is; may = may; follows = fits.follow node differs };
-  shares = fits.shares;
-  mounts = elim fits.mounts [ inl same ↦ inl same | inr one ↦ inr (other one) ];
+  others = elim fits.others [ inl keeps ↦ inl keeps | inr one ↦ inr (other one) ];
 }
 
 same_allowed : (s : State) (e : Entry) (event : Event) → IsSound s → AreAllowed s e event s.tables
 same_allowed s e event sound =
     let fits = same_fits s.tables [] (λ made. ⊥) sound.rows in
-    record { nodes = λ node differs. absurd (differs refl); shares = fits.shares; mounts = inl refl }
+    record { nodes = λ node differs. absurd (differs refl); others = elim fits.others [ inl keeps ↦ inl keeps | inr none ↦ absurd none ] }
 
 abbrev nothing : Tables → Type 0
 nothing made = ⊥
@@ -632,23 +650,35 @@ act_allowed : (s : State) (e : Entry) (event : Event) (act : Allowed) → e.even
 act_allowed s e (Begin words request) act begins sound may is =
     let call = call_of s e.seat e.moment words request in
     let passes = call_passes call act is in
-    let row = has_row call may.1 passes.0.not_you in
+    let row = has_row call passes.0.token in
     let fits = begin_fits call row.0 sound.rows row.1 request.wanted refl (wanted_passes call may.1 passes.0) in
-    allowed_so s e (Begin words request) (seeker_of call) (OneMount call) (changed s.tables e.moment act) refl
+    allowed_so s e (Begin words request) (seeker_of call) (OneOther call) (changed s.tables e.moment act) refl
     (acts_pass (access_of s) call passes.0.acts)
-    (subst (λ (a : Allowed). Fits s.tables (needed call) (OneMount call) (changed s.tables e.moment a)) passes.1 fits)
-    (λ one. record {
-      words = words;
-      request = request;
-      begins = begins;
-      old = one.old;
-      row = one.row;
-      there = one.there;
-      becomes = one.becomes;
-      mounts = one.mounts;
-      nodes = one.nodes;
-      shares = one.shares;
-    })
+    (subst (λ (a : Allowed). Fits s.tables (needed call) (OneOther call) (changed s.tables e.moment a)) passes.1 fits)
+    (λ other. elim other [
+      | inl one ↦ inl (record {
+        words = words;
+        request = request;
+        begins = begins;
+        old = one.old;
+        row = one.row;
+        there = one.there;
+        becomes = one.becomes;
+        mounts = one.mounts;
+        nodes = one.nodes;
+        shares = one.shares;
+      })
+      | inr one ↦ inr (record {
+        words = words;
+        request = request;
+        begins = begins;
+        row = one.row;
+        one = one.one;
+        shares = one.shares;
+        mounts = one.mounts;
+        nodes = one.nodes;
+      })
+    ])
 act_allowed s e (End outcome) act ends sound may is = here (goal_at s e.seat) refl may is (goal_held s e.seat sound)
   where
     here : (goal : Option Goal) → goal_at s e.seat ≡ goal → MayEnd goal outcome → ends_at (access_of s) s.tables e.moment outcome goal ≡ Ok act
@@ -669,12 +699,11 @@ pub changes_allowed : ChangesWhatMayBeChanged
 changes_allowed n s e sound may =
     entry_has (λ t tickets blob. ChangesAllowed s e t) s e e.mark
     (let same = same_allowed s e e.event sound in
-    record { nodes = same.nodes; shares = same.shares; mounts = same.mounts; rest = refl })
+    record { nodes = same.nodes; others = same.others; rest = refl })
     (λ act is.
     let all = act_allowed s e e.event act refl sound may.asked is in
     record {
       nodes = all.nodes;
-      shares = all.shares;
-      mounts = all.mounts;
+      others = all.others;
       rest = act_rest s.tables e.moment act sound.rows (known_change s e.seat e.moment e.event act sound may.asked is);
     })

@@ -13,10 +13,11 @@ use Rattle.nf_base.specs.declared.rows.MetaRow.{MetaRow}
 use Rattle.nf_base.specs.declared.rows.MountRow.{MountRow}
 use Rattle.nf_base.specs.declared.rows.NodeRow.{NodeRow}
 use Rattle.nf_base.specs.declared.rows.Row.{Row}
+use Rattle.nf_base.specs.declared.rows.ShareRow.{ShareRow}
 use Rattle.nf_base.specs.Content.{content_eq}
 use Rattle.nf_base.specs.declared.changes.Change.TheVariants.{Put}
 use Rattle.nf_base.specs.declared.rows.Row.TheVariants as rows
-use Rattle.nf_defs.specs.Prelude.{Access, blob_at, Blobs, content_of, filled, is_folder, mount_key, node_key, node_row, put, put_all, put_blob, relinked, Tables, with_blob}
+use Rattle.nf_defs.specs.Prelude.{Access, blob_at, Blobs, content_of, filled, is_folder, mount_key, node_key, node_row, put, put_all, put_blob, relinked, Tables, with_blob, share_key}
 use Rattle.nf_defs.proofs.Blobs.{new_at, put_at, put_elsewhere, still_at}
 use Rattle.nf_defs.proofs.Puts.{all_put}
 use Rattle.nf_defs.specs.declared.Found.{Found}
@@ -29,7 +30,7 @@ use Rattle.nf_laws.proofs.Mirrored.{mirrored}
 use Rattle.nf_laws.proofs.OneRow.{with_all}
 use Rattle.nf_laws.proofs.Rows.{content_has, found_is, stamped_has}
 use Rattle.nf_laws.specs.Wholes.{BlobsAreNew, Brings, IsGoalHeld, IsHeld, IsThere, StaysWhole, blob_in, blob_under}
-use Rattle.nf_words.specs.Prelude.{access_of, after_mark, allowed_of, altered, AreSound, blob_after, blob_for, blob_of, by_of, Call, call_of, carried, changed, cleared, content_in, contents_of, copies_to, crosses, decision_of, deleted, end_refusal, ends_at, ends_goal, given, goal_at, goal_of, hold_of, IsGoalSound, IsPieceSound, IsSound, IsTicketSound, joined, last_name, left_row, listing_of, made_folder, MayAsk, mount_left, mount_renamed, moved, named_row, node_at, own_mount, places_of, raised, refilled, refusal_of, served, stamped, State, stored, stored_at, told, transfer_of, unless_refused, way_of, with_goal, with_mount_row, without}
+use Rattle.nf_words.specs.Prelude.{access_of, after_mark, allowed_of, altered, AreSound, blob_after, blob_for, blob_of, by_of, Call, call_of, carried, changed, cleared, content_in, contents_of, copies_to, crosses, decision_of, deleted, end_refusal, ends_at, ends_goal, given, goal_at, goal_of, hold_of, IsGoalSound, IsPieceSound, IsSound, IsTicketSound, joined, last_name, left_row, listing_of, made_folder, MayAsk, mount_left, mount_renamed, moved, named_row, node_at, own_mount, places_of, raised, refilled, refusal_of, served, stamped, State, stored, stored_at, told, transfer_of, unless_refused, way_of, with_goal, with_mount_row, without, nothing_done}
 use Rattle.nf_words.specs.declared.answer.Allowed.{Allowed}
 use Rattle.nf_words.specs.declared.answer.Allowed.TheVariants as allowed
 use Rattle.nf_words.specs.declared.answer.Goal.{Goal}
@@ -52,6 +53,8 @@ use Rattle.nf_words.specs.declared.history.Event.TheVariants.{Begin, End}
 use Rattle.nf_words.specs.declared.history.Outcome.{Outcome}
 use Rattle.nf_words.specs.declared.history.Outcome.TheVariants.{Body}
 use Rattle.nf_words.specs.declared.request.Places.{Places}
+use Rattle.nf_words.specs.declared.request.ShareAsk.{ShareAsk}
+use Rattle.nf_words.specs.declared.request.ShareAsk.TheVariants as ask
 use Rattle.nf_words.specs.declared.request.Spot.{Spot}
 use Rattle.nf_words.specs.declared.request.Wanted.{Wanted}
 use Rattle.nf_words.specs.declared.request.Wanted.TheVariants as wanted
@@ -80,6 +83,7 @@ changes_next t u (Put (rows.Node row) ∷ changes) blob known stored =
           ]
     ]
 changes_next t u (Put (rows.Mount row) ∷ changes) blob known stored = subst (IsNext t.meta.next_blob) (sym known.0.0) tt
+changes_next t u (Put (rows.Share row) ∷ changes) blob known stored = subst (IsNext t.meta.next_blob) (sym known.0.0) tt
 changes_next t u (change ∷ changes) blob known stored = absurd known.0
 
 pub act_next : (t : Tables) (now : ℕ) (act : Allowed) → Known t now act → IsNext t.meta.next_blob (blob_of act)
@@ -97,11 +101,12 @@ told_blob t now act known none = refl
 
 -- ---- what an event stores
 
--- each change is of a mount's row, or of a node's with that content
+-- each change is of a mount's or a share's row, or of a node's with that content
 abbrev pub AreOf : List Piece → List Change → Type 0
 AreOf content [] = Unit {0}
 AreOf content (Put (rows.Node row) ∷ changes) = (row.content ≡ content) × AreOf content changes
 AreOf content (Put (rows.Mount row) ∷ changes) = AreOf content changes
+AreOf content (Put (rows.Share row) ∷ changes) = AreOf content changes
 AreOf content (change ∷ changes) = ⊥
 
 pub refilled_of : (o : Option NodeRow) (now : ℕ) (content : List Piece) → AreOf content (refilled o now content)
@@ -114,6 +119,7 @@ pub of_nodes : (content : List Piece) (changes : List Change) → AreOf content 
 of_nodes content [] of = tt
 of_nodes content (Put (rows.Node row) ∷ changes) of = of_nodes content changes of.1
 of_nodes content (Put (rows.Mount row) ∷ changes) of = of_nodes content changes of
+of_nodes content (Put (rows.Share row) ∷ changes) of = of_nodes content changes of
 of_nodes content (change ∷ changes) of = absurd of
 
 -- each is of a row without content, or with that of a node that is there
@@ -162,6 +168,34 @@ mount_alters : (t : Tables) (row : Option MountRow) (told : Report) → Alters t
 mount_alters t None told = (refl, inl tt)
 mount_alters t (Some row) told = (refl, inl tt)
 
+-- what is asked about shares puts rows of shares and mounts alone
+found_alters : {X : Type 0} (t : Tables) (act : X → Allowed) (o : Option X) → ((x : X) → Alters t (act x)) → Alters t (option_map_or act o nothing_done)
+found_alters t act None all = (refl, inl tt)
+found_alters t act (Some x) all = all x
+
+made_alters : (t : Tables) (share row : ShareRow) (mount : Option MountRow) → Alters t (share_told t (Put (rows.Share share) ∷ mounting mount) row)
+made_alters t share row None = (refl, inl tt)
+made_alters t share row (Some mount) = (refl, inl tt)
+
+set_alters : (t : Tables) (share row : ShareRow) (same : Bool) → Alters t (share_told t (if same then [] else Put (rows.Share share) ∷ []) row)
+set_alters t share row true = (refl, inl tt)
+set_alters t share row false = (refl, inl tt)
+
+shared_alters : (call : Call) (places : Places) (asked : ShareAsk) → Alters call.state.tables (shared (access_of call.state) call places asked)
+shared_alters call places (ask.New spot to perms) =
+    let t = call.state.tables in
+    found_alters t (share_made (access_of call.state) call) (offered call spot to perms) (λ offer.
+    let row = new_share (access_of call.state) call offer in made_alters t row row (ensured t.users t.nodes t.mounts offer.to offer.node))
+shared_alters call places (ask.List spot with_me) = (refl, inl tt)
+shared_alters call places (ask.Show share) =
+    found_alters call.state.tables (share_told call.state.tables []) (share_shown call share) (λ row. (refl, inl tt))
+shared_alters call places (ask.Set share perms) =
+    let t = call.state.tables in
+    found_alters t (λ row. share_set t (perms_after t perms row) row) (share_steered call share) (λ row.
+    let wanted = perms_after t perms row in
+    let other = record row { perms = wanted } in set_alters t other other (wanted == row.perms))
+shared_alters call places (ask.End share) = found_alters call.state.tables share_ended (share_steered call share) (λ row. (refl, inl tt))
+
 pub given_alters : (call : Call) (places : Places) (asked : Wanted)
     → ((spot : Spot) × (asked ≡ wanted.Get spot)) ⊎ Alters call.state.tables (given (access_of call.state) call places asked)
 given_alters call places (wanted.Get spot) = inl (spot, refl)
@@ -185,6 +219,7 @@ given_alters call places (wanted.Copy source target overwrite) =
     let t = call.state.tables in
     inr (either_alters t (λ transfer. allowed.Copy (copies_to t call.now transfer (last_name target)) transfer.replaced)
     (transfer_of t.nodes places) (λ transfer. tt))
+given_alters call places (wanted.Share asked) = inr (shared_alters call places asked)
 
 -- so a Begin stores nothing
 alters_stores : (t : Tables) (body : List ℕ) (act : Allowed) → Alters t act → StoresBody t body act
@@ -316,6 +351,7 @@ of_have P t content [] of has all = all
 of_have P t content (Put (rows.Node row) ∷ changes) of has all =
     of_have P (record t { nodes = put node_key row t.nodes }) content changes of.1 has (all_put node_key P row t.nodes (has row of.0) all)
 of_have P t content (Put (rows.Mount row) ∷ changes) of has all = of_have P (record t { mounts = put mount_key row t.mounts }) content changes of has all
+of_have P t content (Put (rows.Share row) ∷ changes) of has all = of_have P (record t { shares = put share_key row t.shares }) content changes of has all
 of_have P t content (change ∷ changes) of has all = absurd of
 
 -- a copy has the content of a node that is there

@@ -18,7 +18,7 @@ use Rattle.nf_words.proofs.Known.{Known}
 use Rattle.nf_words.proofs.Marks.{early, early_pass}
 use Rattle.nf_words.proofs.Spared.{found_apart, holds_turned, least_has, none_least, Spares, step_spares}
 use Rattle.nf_words.proofs.Steps.{other_without}
-use Rattle.nf_words.specs.Prelude.{access_of, allowed_of, answered_by, AreApartHolds, AreSound, asked_by, blocks, Call, call_of, changed, clashes, decision_of, earlier_rules, first_that_holds, IsHeld, IsSound, IsTicketSound, key_in_way, later_rules, least, lesser, limit_rule, limited, locked_rule, Pass, places_of, refusal_of, Rule, State, ticket_of, Touch, touches, unless_refused, without}
+use Rattle.nf_words.specs.Prelude.{access_of, allowed_of, answered_by, AreApartHolds, AreSound, asked_by, blocks, Call, call_of, changed, clashes, decision_of, earlier_rules, first_that_holds, IsHeld, IsSound, IsTicketSound, key_in_way, later_rules, least, lesser, limit_by, limit_rule, limited, locked_rule, Pass, places_of, refusal_of, room_rule, Rule, State, ticket_of, Touch, touches, unless_refused, without}
 use Rattle.nf_words.specs.declared.answer.Allowed.{Allowed}
 use Rattle.nf_words.specs.declared.answer.Denial.{Denial}
 use Rattle.nf_words.specs.declared.answer.Denial.TheVariants as denial
@@ -240,14 +240,15 @@ module _ (call : Call) where
 
   -- what later rules answer
   locked_is : (key : LockKey) → first_that_holds later_rules (access_of call.state) call ≡ Some (denial.Locked key) → way ≡ Some key
-  unfolding locked_rule limit_rule
-  locked_is key is = here way (limited call.state.tables (places_of call) (asked_by call).makes) is
+  unfolding locked_rule limit_rule room_rule
+  locked_is key is = here way (limited call.state.tables (places_of call) (asked_by call).makes) (limit_by call call.request.wanted) is
     where
-      here : (o : Option LockKey) (limit : Option Limit)
-          → option_or (option_map denial.Locked o) (option_or (option_map denial.Limit limit) None) ≡ Some (denial.Locked key) → o ≡ Some key
-      here None None is = absurd (cc)
-      here None (Some limit) is = absurd (cc)
-      here (Some other) limit is = cc
+      here : (o : Option LockKey) (limit room : Option Limit)
+          → option_or (option_map denial.Locked o) (option_or (option_map denial.Limit limit) (option_or (option_map denial.Limit room) None)) ≡ Some (denial.Locked key) → o ≡ Some key
+      here None None None is = absurd (cc)
+      here None None (Some limit) is = absurd (cc)
+      here None (Some limit) room is = absurd (cc)
+      here (Some other) limit room is = cc
 
   is_locked : (key : LockKey) → way ≡ Some key → first_that_holds later_rules (access_of call.state) call ≡ Some (denial.Locked key)
   unfolding locked_rule

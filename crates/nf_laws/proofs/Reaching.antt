@@ -25,7 +25,7 @@ use Rattle.nf_words.proofs.Passing.{Passes, call_passes, if_none}
 use Rattle.nf_words.proofs.Starts.{has_row}
 use Rattle.nf_words.proofs.Steps.{ok_reply, put_grants_nothing, reports_nothing}
 use Rattle.nf_words.proofs.Ways.{bounded, way_there}
-use Rattle.nf_words.specs.Prelude.{access_of, allowed_of, answered_by, AreSound, broken_by, by_of, Call, call_decision, call_of, copied, copies_to, crosses, deleted, found, given, last_name, listing_of, made_folder, may_by, MayWant, mount_left, mount_of, mount_renamed, moved, Need, node_at, node_found, reply_by, reported, root_of, seeker_of, served, stored, transfer_of, unreached, way_by, way_of}
+use Rattle.nf_words.specs.Prelude.{access_of, allowed_of, answered_by, AreSound, broken_by, by_of, Call, call_decision, call_of, copied, copies_to, crosses, deleted, found, given, last_name, listing_of, made_folder, may_by, MayWant, mount_left, mount_of, mount_renamed, moved, Need, node_at, node_found, nothing_done, offered, perms_after, reply_by, reported, root_of, seeker_of, served, share_ended, share_made, share_set, share_shown, share_steered, share_told, shared, stored, transfer_of, unreached, way_by, way_of}
 use Rattle.nf_words.specs.declared.answer.Allowed.{Allowed}
 use Rattle.nf_words.specs.declared.answer.Allowed.TheVariants as allowed
 use Rattle.nf_words.specs.declared.answer.By.{By}
@@ -35,10 +35,13 @@ use Rattle.nf_words.specs.declared.answer.Reply.TheVariants.{Granted, Listing}
 use Rattle.nf_words.specs.declared.answer.Report.{Report}
 use Rattle.nf_words.specs.declared.answer.Report.TheVariants as report
 use Rattle.nf_words.specs.declared.listing.ListingLine.{ListingLine}
+use Rattle.nf_words.specs.declared.request.Places.{Places}
+use Rattle.nf_words.specs.declared.request.ShareAsk.{ShareAsk}
+use Rattle.nf_words.specs.declared.request.ShareAsk.TheVariants as ask
 use Rattle.nf_words.specs.declared.request.Spot.{Spot}
 use Rattle.nf_words.specs.declared.request.Transfer.{Transfer}
 use Rattle.nf_words.specs.declared.request.Wanted.{Wanted}
-use Rattle.nf_words.specs.declared.request.Wanted.TheVariants.{Get, Put, Mkcol, Delete, Move, Copy}
+use Rattle.nf_words.specs.declared.request.Wanted.TheVariants.{Get, Put, Mkcol, Delete, Move, Copy, Share}
 
 -- ---- what is shown
 
@@ -50,6 +53,9 @@ lists_none (Some node) listing = λ is. cc
 report_lists_none : (report : Report) (listing : List ListingLine) → reported report ≢ Listing listing
 report_lists_none report.Made listing = λ is. cc
 report_lists_none report.Done listing = λ is. cc
+report_lists_none (report.Share line) listing = λ is. cc
+report_lists_none (report.Shares lines) listing = λ is. cc
+report_lists_none report.Plain listing = λ is. cc
 
 -- only a GET is granted a content to send
 pub got : (decision : Result Allowed Denial) (content : List Piece) → answered_by decision ≡ Ok (Granted (Serve content))
@@ -108,6 +114,20 @@ copied_hides : (t : Tables) (now : ℕ) (name : List ℕ) (o : Option Transfer) 
 copied_hides t now name None = refl
 copied_hides t now name (Some transfer) = refl
 
+-- what is done for what is found
+found_hides : {X : Type 0} (act : X → Allowed) (o : Option X) → ((x : X) → is_shown (act x) ≡ false) → is_shown (option_map_or act o nothing_done) ≡ false
+found_hides act None all = refl
+found_hides act (Some x) all = all x
+
+shared_hides : (call : Call) (places : Places) (asked : ShareAsk) → is_shown (shared (access_of call.state) call places asked) ≡ false
+shared_hides call places (ask.New spot to perms) =
+    found_hides (share_made (access_of call.state) call) (offered call spot to perms) (λ offer. refl)
+shared_hides call places (ask.List spot with_me) = refl
+shared_hides call places (ask.Show share) = found_hides (share_told call.state.tables []) (share_shown call share) (λ row. refl)
+shared_hides call places (ask.Set share perms) =
+    found_hides (λ row. share_set call.state.tables (perms_after call.state.tables perms row) row) (share_steered call share) (λ row. refl)
+shared_hides call places (ask.End share) = found_hides share_ended (share_steered call share) (λ row. refl)
+
 -- what is shown is asked for by a GET, whose place leads there
 pub asked : (call : Call) (act : Allowed) → allowed_of (access_of call.state) call ≡ act → is_shown act ≡ true
     → (spot : Spot) × (call.request.wanted ≡ Get spot)
@@ -144,6 +164,9 @@ asked call act is shown = here call.request.wanted refl is
         let name = last_name target in
         let transfer = transfer_of t.nodes (places_at call (Copy source target overwrite)) in
         absurd (none (copied t call.now name transfer) (copied_hides t call.now name transfer) is)
+    here (Share ask) e is =
+        absurd (none (shared (access_of call.state) call (places_at call (Share ask)) ask)
+        (shared_hides call (places_at call (Share ask)) ask) is)
 
 -- a GET gives that of the node at its place
 pub get_at : (call : Call) (mount : Option ℕ) (place : Found) (node : ℕ) (content : List Piece)
@@ -216,7 +239,7 @@ chain_reaches call spot sound reached = here (mount_of call spot) reached
         ap (λ (b : Bool). if b then None else Some (broken_by (ground_of t) (seeker_of call) call.now None mount))
         ((reach_is_a_chain_lem (ground_of t) call.now (seeker_of call) mount (bounded t sound)).1 reached)
 
-leads_by : (call : Call) (spot : Spot) (node : ℕ) → AreSound call.state.tables → found call spot ≡ At node → LeadsBy call spot (mount_of call spot) node
+pub leads_by : (call : Call) (spot : Spot) (node : ℕ) → AreSound call.state.tables → found call spot ≡ At node → LeadsBy call spot (mount_of call spot) node
 leads_by call spot node sound at = here (mount_of call spot) at
   where
     t : Tables
@@ -240,7 +263,7 @@ reads : (call : Call) (spot : Spot) (node : ℕ) → AreSound call.state.tables 
     → call.request.wanted ≡ Get spot → found call spot ≡ At node → Reads call spot node
 reads call spot node sound may passes wanted at =
     let t = call.state.tables in
-    let user = has_row call may passes.not_you in
+    let user = has_row call passes.token in
     let p = subst (WantedPasses call) wanted (wanted_passes call may passes) in
     let reached = p.place.source refl in
     let of = way_there call spot user.0 sound user.1 node reached at in

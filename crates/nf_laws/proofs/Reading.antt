@@ -33,7 +33,7 @@ use Rattle.nf_words.proofs.Bodies.{content_decides}
 use Rattle.nf_words.proofs.Fits.{newest}
 use Rattle.nf_words.proofs.Orders.{none_of}
 use Rattle.nf_words.proofs.Passing.{Passes, in_order}
-use Rattle.nf_words.specs.Prelude.{access_of, acts_rule, after, after_mark, allowed_of, answered_by, AreSound, asker_of, blob_for, Call, call_decision, call_of, changed, content_in, decision_of, end_refusal, ends_at, exists_rule, found, IsSound, IsHeld, IsStorable, limit_rule, makes, may_by, mounted, new_node, overwrite_rule, place_rule, refilled, replay, root_of, rules, seeker_of, shown, State, stored_at, stores, target_rule, unless_refused, unreached, way_of, AreApartHolds, HoldsFor, IsTicketSound, step, ticket_of, without_ticket, Way, way_by}
+use Rattle.nf_words.specs.Prelude.{access_of, acts_rule, after, after_mark, allowed_of, answered_by, AreSound, asker_of, blob_for, Call, call_decision, call_of, changed, content_in, decision_of, end_refusal, ends_at, exists_rule, found, IsSound, IsHeld, IsStorable, limit_rule, makes, may_by, mounted, new_node, overwrite_rule, place_rule, refilled, replay, root_of, rules, seeker_of, shown, State, stored_at, stores, target_rule, unless_refused, unreached, way_of, AreApartHolds, HoldsFor, IsTicketSound, step, ticket_of, without_ticket, Way, way_by, named_rule, sharing_rule, room_rule}
 use Rattle.nf_words.specs.declared.answer.Allowed.{Allowed}
 use Rattle.nf_words.specs.declared.answer.Allowed.TheVariants as allowed
 use Rattle.nf_words.specs.declared.answer.Denial.{Denial}
@@ -226,7 +226,7 @@ owner_let call spot node sound led own = record {
 -- a call of a GET that the rules of who asks, of names and of access pass is shown what its path leads to
 pub shows : (call : Call) (spot : Spot) (node : ℕ) → call.request.wanted ≡ Get spot → found call spot ≡ At node → IsWellAsked call
     → IsLet call spot node → (is_folder call.state.tables.nodes node ≡ false → IsFreeToRead call.state call.seat node) → call_decision call ≡ Ok (shown (access_of call.state) call (way_of call spot).mount node)
-unfolding place_rule acts_rule exists_rule target_rule overwrite_rule limit_rule
+unfolding place_rule named_rule acts_rule exists_rule target_rule overwrite_rule sharing_rule limit_rule room_rule
 shows call spot node wanted at asked lets free =
     let access = access_of call.state in
     let passes : Passes access call = record {
@@ -234,12 +234,15 @@ shows call spot node wanted at asked lets free =
       not_you = asked.not_you;
       forbidden = asked.forbidden;
       place = rw (wanted, at, lets.reached) refl;
+      named = rw wanted refl;
       acts = rw (wanted, at, lets.reads) refl;
       exists = rw wanted refl;
       target = rw wanted refl;
       overwrite = rw wanted refl;
+      sharing = rw wanted refl;
       locked = free_unlocked call spot node wanted at free;
       limit = rw wanted refl;
+      room = rw wanted refl;
     } in
     ap (λ (refusal : Option Denial). unless_refused refusal (allowed_of access call)) (none_of rules access call (in_order access call passes))
     ∙ rw (wanted, at) refl

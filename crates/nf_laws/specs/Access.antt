@@ -271,9 +271,9 @@ pub record IsSharing (s : State) (e : Entry) (after : Tables) : Type 0 where
   pub nodes : after.nodes ≡ s.tables.nodes
 
 -- a share ends exactly where its node goes, and no share and no mount is another otherwise
-pub record KeepsShares (s : State) (after : Tables) : Type 0 where
-  pub shares : after.shares ≡ shares_without s.tables.nodes after.nodes s.tables.shares
-  pub mounts : after.mounts ≡ s.tables.mounts
+pub record KeepsShares (before after : Tables) : Type 0 where
+  pub shares : after.shares ≡ shares_without before.nodes after.nodes before.shares
+  pub mounts : after.mounts ≡ before.mounts
 
 -- ---- what a step changes
 
@@ -282,7 +282,7 @@ pub record KeepsShares (s : State) (after : Tables) : Type 0 where
 pub record ChangesAllowed (s : State) (e : Entry) (after : Tables) : Type 0 where
   pub nodes : (node : ℕ) → node_row after.nodes node ≢ node_row s.tables.nodes node
       → IsAllowed s e.moment (seeker_at s e.seat e.moment e.event) (needs_of s e.seat e.moment e.event) after.nodes node
-  pub others : KeepsShares s after ⊎ (IsRemounted s e after ⊎ IsSharing s e after)
+  pub others : KeepsShares s.tables after ⊎ (IsRemounted s e after ⊎ IsSharing s e after)
   pub rest : after ≡ record s.tables { meta = after.meta; nodes = after.nodes; shares = after.shares; mounts = after.mounts }
 
 abbrev pub ChangesWhatMayBeChanged : Type 0

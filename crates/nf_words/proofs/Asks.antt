@@ -128,24 +128,31 @@ pub record IsThere (t : Tables) (user : ℕ) (row : ShareRow) : Type 0 where
   pub lasts : row.ended ≡ false
   pub by : is_steered_by user row ≡ true
 
-pub steered_there : (t : Tables) (user share : ℕ) (row : ShareRow) → AreSound t → live_share (is_steered_by user) t.shares share ≡ Some row → IsThere t user row
-steered_there t user share row sound is = here (share_row t.shares share) refl is
+-- what is found so is there
+pub live_is : (test : ShareRow → Bool) (shares : List ShareRow) (share : ℕ) (row : ShareRow) → live_share test shares share ≡ Some row
+    → (share_row shares share ≡ Some row) × (row.ended ≡ false) × (test row ≡ true)
+live_is test shares share row is = here (share_row shares share) refl is
   where
     tested : (a b : Bool) (found : ShareRow) → (if not a && b then Some found else None) ≡ Some row → (a ≡ false) × (b ≡ true) × (found ≡ row)
     tested false true found is = (refl, refl, same_Some found row is)
     tested false false found is = absurd (none-some row is)
     tested true b found is = absurd (none-some row is)
 
-    here : (o : Option ShareRow) → share_row t.shares share ≡ o
-        → option_and_then (λ row. if not row.ended && is_steered_by user row then Some row else None) o ≡ Some row → IsThere t user row
+    here : (o : Option ShareRow) → share_row shares share ≡ o
+        → option_and_then (λ row. if not row.ended && test row then Some row else None) o ≡ Some row
+        → (share_row shares share ≡ Some row) × (row.ended ≡ false) × (test row ≡ true)
     here None e is = absurd (none-some row is)
     here (Some found) e is =
-        let passes = tested found.ended (is_steered_by user found) found is in
-        let number : found.id ≡ share = eqb-true found.id share (found_passes (λ (x : ShareRow). x.id == share) t.shares found e) in
-        let fine = subst (λ (o : Option ShareRow). IfSome o (IsShareSound t)) e
-        (found_has (IsShareSound t) (λ (x : ShareRow). x.id == share) t.shares sound.others.shares) in
-        subst (IsThere t user) passes.2
-        (record { there = subst (λ (n : ℕ). share_row t.shares n ≡ Some found) (sym number) e; sound = fine; lasts = passes.0; by = passes.1 })
+        let passes = tested found.ended (test found) found is in
+        subst (λ (r : ShareRow). (share_row shares share ≡ Some r) × (r.ended ≡ false) × (test r ≡ true)) passes.2 (e, passes.0, passes.1)
+
+pub steered_there : (t : Tables) (user share : ℕ) (row : ShareRow) → AreSound t → live_share (is_steered_by user) t.shares share ≡ Some row → IsThere t user row
+steered_there t user share row sound is =
+    let live = live_is (is_steered_by user) t.shares share row is in
+    let number : row.id ≡ share = eqb-true row.id share (found_passes (λ (x : ShareRow). x.id == share) t.shares row live.0) in
+    let fine = subst (λ (o : Option ShareRow). IfSome o (IsShareSound t)) live.0
+    (found_has (IsShareSound t) (λ (x : ShareRow). x.id == share) t.shares sound.others.shares) in
+    record { there = subst (λ (n : ℕ). share_row t.shares n ≡ Some row) (sym number) live.0; sound = fine; lasts = live.1; by = live.2 }
 
 pub ended_known : (t : Tables) (now user : ℕ) (row : ShareRow) → IsThere t user row → Known t now (share_ended row)
 ended_known t now user row is =
@@ -306,7 +313,7 @@ named_there users name user is = here (find (λ (row : UserRow). bytes_eq row.na
         (list_any-from_Any (λ (x : UserRow). x.id == user) users
         (among.0, row, among.1, among.2, eq-eqb row.id user (same_Some row.id user is)))
 
-none_broken : (a b c d e : Bool)
+pub none_broken : (a b c d e : Bool)
     → (if a then Some rule.Root else if b then Some rule.SelfShare else if c then Some rule.Already else if d then Some rule.Widened
     else if e then Some rule.Chain else None) ≡ None
     → (a ≡ false) × (b ≡ false) × (c ≡ false) × (d ≡ false) × (e ≡ false)
