@@ -9,7 +9,7 @@ use Rattle.nf_access.proofs.Granted.{any_is, granted_allows}
 use Rattle.nf_access.proofs.LookUps.{find_among}
 use Rattle.nf_access.specs.Access.{allows, by_chains}
 use Rattle.nf_access.specs.Making.{is_part, passes_on}
-use Rattle.nf_access.specs.Mounts.{is_mounted}
+use Rattle.nf_access.specs.Mounts.{free_name_of, is_mounted, name_of, names_in_root}
 use Rattle.nf_access.specs.Shares.{ground_of, mask_of}
 use Rattle.nf_base.specs.declared.perms.Act.TheVariants as act
 use Rattle.nf_base.specs.declared.rows.MountRow.{MountRow}
@@ -135,7 +135,12 @@ module _ (call : Call) (sound : AreSound call.state.tables) where
               })
 
           mount : MountRow
-          mount = record { user = to; node = node; name = _; left = false }
+          mount = record {
+            user = to;
+            node = node;
+            name = free_name_of (name_of t.nodes node) (names_in_root t.users t.nodes t.mounts to);
+            left = false;
+          }
 
           makes : (there : Bool) → SharesAtMost call (share_told t (Put (rows.Share row) ∷ mounting (if there then None else Some mount)) row)
           makes true = inr (record { row = row; one = one; shares = refl; mounts = inl refl; nodes = refl })

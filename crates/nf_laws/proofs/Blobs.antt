@@ -7,6 +7,7 @@ use Rattle.std.proofs.lemmas.List.Elements.{All-append, All-cons, All-nil}
 use Rattle.std.proofs.lemmas.Option.{none-some, slice_get-get_or}
 use Rattle.std.proofs.lemmas.Bool.{cases_Bool, cond_both}
 use Rattle.sha2.specs.Sha256.{sha256}
+use Rattle.nf_access.specs.Mounts.{ensured}
 use Rattle.nf_base.specs.declared.changes.Change.{Change}
 use Rattle.nf_base.specs.declared.content.Piece.{Piece}
 use Rattle.nf_base.specs.declared.rows.MetaRow.{MetaRow}
@@ -17,7 +18,7 @@ use Rattle.nf_base.specs.declared.rows.ShareRow.{ShareRow}
 use Rattle.nf_base.specs.Content.{content_eq}
 use Rattle.nf_base.specs.declared.changes.Change.TheVariants.{Put}
 use Rattle.nf_base.specs.declared.rows.Row.TheVariants as rows
-use Rattle.nf_defs.specs.Prelude.{Access, blob_at, Blobs, content_of, filled, is_folder, mount_key, node_key, node_row, put, put_all, put_blob, relinked, Tables, with_blob}
+use Rattle.nf_defs.specs.Prelude.{Access, blob_at, Blobs, content_of, filled, is_folder, mount_key, node_key, node_row, put, put_all, put_blob, relinked, share_key, Tables, with_blob}
 use Rattle.nf_defs.proofs.Blobs.{new_at, put_at, put_elsewhere, still_at}
 use Rattle.nf_defs.proofs.Puts.{all_put}
 use Rattle.nf_defs.specs.declared.Found.{Found}
@@ -30,7 +31,7 @@ use Rattle.nf_laws.proofs.Mirrored.{mirrored}
 use Rattle.nf_laws.proofs.OneRow.{with_all}
 use Rattle.nf_laws.proofs.Rows.{content_has, found_is, stamped_has}
 use Rattle.nf_laws.specs.Wholes.{BlobsAreNew, Brings, IsGoalHeld, IsHeld, IsThere, StaysWhole, blob_in, blob_under}
-use Rattle.nf_words.specs.Prelude.{access_of, after_mark, allowed_of, altered, AreSound, blob_after, blob_for, blob_of, by_of, Call, call_of, carried, changed, cleared, content_in, contents_of, copies_to, crosses, decision_of, deleted, end_refusal, ends_at, ends_goal, given, goal_at, goal_of, hold_of, IsGoalSound, IsPieceSound, IsSound, IsTicketSound, joined, last_name, left_row, listing_of, made_folder, MayAsk, mount_left, mount_renamed, moved, named_row, node_at, own_mount, places_of, raised, refilled, refusal_of, served, stamped, State, stored, stored_at, told, transfer_of, unless_refused, way_of, with_goal, with_mount_row, without, nothing_done}
+use Rattle.nf_words.specs.Prelude.{access_of, after_mark, allowed_of, altered, AreSound, blob_after, blob_for, blob_of, by_of, Call, call_of, carried, changed, cleared, content_in, contents_of, copies_to, crosses, decision_of, deleted, end_refusal, ends_at, ends_goal, given, goal_at, goal_of, hold_of, IsGoalSound, IsPieceSound, IsSound, IsTicketSound, joined, last_name, left_row, listing_of, made_folder, MayAsk, mount_left, mount_renamed, moved, named_row, node_at, own_mount, places_of, raised, refilled, refusal_of, served, stamped, State, stored, stored_at, told, transfer_of, unless_refused, way_of, with_goal, with_mount_row, without, nothing_done, share_told, shared, mounting, share_made, offered, new_share, share_shown, share_set, perms_after, share_steered, share_ended}
 use Rattle.nf_words.specs.declared.answer.Allowed.{Allowed}
 use Rattle.nf_words.specs.declared.answer.Allowed.TheVariants as allowed
 use Rattle.nf_words.specs.declared.answer.Goal.{Goal}
@@ -82,6 +83,7 @@ changes_next t u (Put (rows.Node row) ∷ changes) blob known stored =
             | inr kept ↦ subst (IsNext t.meta.next_blob) (sym kept.0) tt
           ]
     ]
+changes_next t u (Put (rows.Share row) ∷ changes) blob known stored = subst (IsNext t.meta.next_blob) (sym known.0.0) tt
 changes_next t u (Put (rows.Mount row) ∷ changes) blob known stored = subst (IsNext t.meta.next_blob) (sym known.0.0) tt
 changes_next t u (change ∷ changes) blob known stored = absurd known.0
 
@@ -100,10 +102,11 @@ told_blob t now act known none = refl
 
 -- ---- what an event stores
 
--- each change is of a mount's row, or of a node's with that content
+-- each change is of a share's row or a mount's, or of a node's with that content
 abbrev pub AreOf : List Piece → List Change → Type 0
 AreOf content [] = Unit {0}
 AreOf content (Put (rows.Node row) ∷ changes) = (row.content ≡ content) × AreOf content changes
+AreOf content (Put (rows.Share row) ∷ changes) = AreOf content changes
 AreOf content (Put (rows.Mount row) ∷ changes) = AreOf content changes
 AreOf content (change ∷ changes) = ⊥
 
@@ -116,6 +119,7 @@ refilled_of (Some row) now content =
 pub of_nodes : (content : List Piece) (changes : List Change) → AreOf content changes → AreBuilt changes
 of_nodes content [] of = tt
 of_nodes content (Put (rows.Node row) ∷ changes) of = of_nodes content changes of.1
+of_nodes content (Put (rows.Share row) ∷ changes) of = of_nodes content changes of
 of_nodes content (Put (rows.Mount row) ∷ changes) of = of_nodes content changes of
 of_nodes content (change ∷ changes) of = absurd of
 
@@ -347,6 +351,7 @@ of_have : (P : NodeRow → Type 0) (t : Tables) (content : List Piece) (changes 
 of_have P t content [] of has all = all
 of_have P t content (Put (rows.Node row) ∷ changes) of has all =
     of_have P (record t { nodes = put node_key row t.nodes }) content changes of.1 has (all_put node_key P row t.nodes (has row of.0) all)
+of_have P t content (Put (rows.Share row) ∷ changes) of has all = of_have P (record t { shares = put share_key row t.shares }) content changes of has all
 of_have P t content (Put (rows.Mount row) ∷ changes) of has all = of_have P (record t { mounts = put mount_key row t.mounts }) content changes of has all
 of_have P t content (change ∷ changes) of has all = absurd of
 
