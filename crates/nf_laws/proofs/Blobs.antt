@@ -18,7 +18,7 @@ use Rattle.nf_base.specs.declared.rows.ShareRow.{ShareRow}
 use Rattle.nf_base.specs.Content.{content_eq}
 use Rattle.nf_base.specs.declared.changes.Change.TheVariants.{Put}
 use Rattle.nf_base.specs.declared.rows.Row.TheVariants as rows
-use Rattle.nf_defs.specs.Prelude.{Access, blob_at, Blobs, content_of, filled, is_folder, mount_key, node_key, node_row, put, put_all, put_blob, relinked, share_key, Tables, with_blob}
+use Rattle.nf_defs.specs.Prelude.{Access, blob_at, Blobs, content_of, filled, is_folder, mount_key, node_key, node_row, put, put_all, put_blob, relinked, Tables, with_blob, share_key}
 use Rattle.nf_defs.proofs.Blobs.{new_at, put_at, put_elsewhere, still_at}
 use Rattle.nf_defs.proofs.Puts.{all_put}
 use Rattle.nf_defs.specs.declared.Found.{Found}
@@ -83,8 +83,8 @@ changes_next t u (Put (rows.Node row) ∷ changes) blob known stored =
             | inr kept ↦ subst (IsNext t.meta.next_blob) (sym kept.0) tt
           ]
     ]
-changes_next t u (Put (rows.Share row) ∷ changes) blob known stored = subst (IsNext t.meta.next_blob) (sym known.0.0) tt
 changes_next t u (Put (rows.Mount row) ∷ changes) blob known stored = subst (IsNext t.meta.next_blob) (sym known.0.0) tt
+changes_next t u (Put (rows.Share row) ∷ changes) blob known stored = subst (IsNext t.meta.next_blob) (sym known.0.0) tt
 changes_next t u (change ∷ changes) blob known stored = absurd known.0
 
 pub act_next : (t : Tables) (now : ℕ) (act : Allowed) → Known t now act → IsNext t.meta.next_blob (blob_of act)
@@ -102,12 +102,12 @@ told_blob t now act known none = refl
 
 -- ---- what an event stores
 
--- each change is of a share's row or a mount's, or of a node's with that content
+-- each change is of a mount's or a share's row, or of a node's with that content
 abbrev pub AreOf : List Piece → List Change → Type 0
 AreOf content [] = Unit {0}
 AreOf content (Put (rows.Node row) ∷ changes) = (row.content ≡ content) × AreOf content changes
-AreOf content (Put (rows.Share row) ∷ changes) = AreOf content changes
 AreOf content (Put (rows.Mount row) ∷ changes) = AreOf content changes
+AreOf content (Put (rows.Share row) ∷ changes) = AreOf content changes
 AreOf content (change ∷ changes) = ⊥
 
 pub refilled_of : (o : Option NodeRow) (now : ℕ) (content : List Piece) → AreOf content (refilled o now content)
@@ -119,8 +119,8 @@ refilled_of (Some row) now content =
 pub of_nodes : (content : List Piece) (changes : List Change) → AreOf content changes → AreBuilt changes
 of_nodes content [] of = tt
 of_nodes content (Put (rows.Node row) ∷ changes) of = of_nodes content changes of.1
-of_nodes content (Put (rows.Share row) ∷ changes) of = of_nodes content changes of
 of_nodes content (Put (rows.Mount row) ∷ changes) of = of_nodes content changes of
+of_nodes content (Put (rows.Share row) ∷ changes) of = of_nodes content changes of
 of_nodes content (change ∷ changes) of = absurd of
 
 -- each is of a row without content, or with that of a node that is there
@@ -351,8 +351,8 @@ of_have : (P : NodeRow → Type 0) (t : Tables) (content : List Piece) (changes 
 of_have P t content [] of has all = all
 of_have P t content (Put (rows.Node row) ∷ changes) of has all =
     of_have P (record t { nodes = put node_key row t.nodes }) content changes of.1 has (all_put node_key P row t.nodes (has row of.0) all)
-of_have P t content (Put (rows.Share row) ∷ changes) of has all = of_have P (record t { shares = put share_key row t.shares }) content changes of has all
 of_have P t content (Put (rows.Mount row) ∷ changes) of has all = of_have P (record t { mounts = put mount_key row t.mounts }) content changes of has all
+of_have P t content (Put (rows.Share row) ∷ changes) of has all = of_have P (record t { shares = put share_key row t.shares }) content changes of has all
 of_have P t content (change ∷ changes) of has all = absurd of
 
 -- a copy has the content of a node that is there

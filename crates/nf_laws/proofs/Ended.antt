@@ -1,12 +1,11 @@
 -- Shares that are ended with what is removed.
-use Rattle.std.proofs.Common.{◌≡◌, ℕ, ◌==◌, ◌||◌, Bool, true, false, List, [], ◌∷◌, map, option_map, Option, if◌then◌else◌, inl, inr, refl, sym, ap, ◌∙◌}
+use Rattle.std.proofs.Common.{◌≡◌, ℕ, ◌||◌, Bool, true, false, List, [], ◌∷◌, map, option_map, Option, if◌then◌else◌, refl, sym, ap, ◌∙◌}
 use Rattle.std.specs.Prelude.{None, Some}
 use Rattle.std.specs.Option.{IfSome}
-use Rattle.std.proofs.lemmas.Bool.{cases_Bool}
 use Rattle.nf_access.specs.Shares.{share_row}
 use Rattle.nf_base.specs.declared.rows.NodeRow.{NodeRow}
 use Rattle.nf_base.specs.declared.rows.ShareRow.{ShareRow}
-use Rattle.nf_laws.proofs.Others.{unless_gone}
+use Rattle.nf_laws.proofs.Others.{row_ended, unless_gone}
 use Rattle.nf_laws.specs.Acts.{AreEnded}
 use Rattle.nf_laws.specs.Transfers.{is_replaced}
 use Rattle.nf_words.specs.Prelude.{ended_for, ended_row}
@@ -17,27 +16,13 @@ is_ended gone share is = ap (λ (b : Bool). if b then ended_row share else share
 is_same : (gone : ℕ → Bool) (share : ShareRow) → gone share.node ≡ false → unless_gone gone share ≡ share
 is_same gone share is = ap (λ (b : Bool). if b then ended_row share else share) is
 
-same_id : (gone : ℕ → Bool) (share : ShareRow) → (unless_gone gone share).id ≡ share.id
-same_id gone share = elim (cases_Bool (gone share.node)) [
-  | inl e ↦ ap (λ (row : ShareRow). row.id) (is_ended gone share e)
-  | inr e ↦ ap (λ (row : ShareRow). row.id) (is_same gone share e)
-]
-
--- the share of a number is the one that had it, ended where its node passes
-found_ended : (gone : ℕ → Bool) (shares : List ShareRow) (id : ℕ)
-    → share_row (map (unless_gone gone) shares) id ≡ option_map (unless_gone gone) (share_row shares id)
-found_ended gone [] id = refl
-found_ended gone (share ∷ shares) id =
-    let same : ((unless_gone gone share).id == id) ≡ (share.id == id) = ap (λ (n : ℕ). n == id) (same_id gone share) in
-    elim (cases_Bool (share.id == id)) [ inl e ↦ simp (same, e) | inr e ↦ simp (same, e) (found_ended gone shares id) ]
-
 -- where what is gone is what passes, just its shares are ended
 pub are_ended : (gone : ℕ → Bool) (IsGone : ℕ → Type 0) (shares : List ShareRow) → ((node : ℕ) → IsGone node → gone node ≡ true)
     → ((node : ℕ) → (IsGone node → ⊥) → gone node ≡ false) → AreEnded shares (map (unless_gone gone) shares) IsGone
 are_ended gone IsGone shares passes fails = record {
   ended = λ id share there goes.
-      found_ended gone shares id ∙ ap (option_map (unless_gone gone)) there ∙ ap Some (is_ended gone share (passes share.node goes));
-  others = λ id stays. found_ended gone shares id ∙ here (share_row shares id) stays;
+      row_ended gone shares id ∙ ap (option_map (unless_gone gone)) there ∙ ap Some (is_ended gone share (passes share.node goes));
+  others = λ id stays. row_ended gone shares id ∙ here (share_row shares id) stays;
 }
   where
     here : (o : Option ShareRow) → IfSome o (λ (share : ShareRow). IsGone share.node → ⊥) → option_map (unless_gone gone) o ≡ o

@@ -4,7 +4,7 @@ use Rattle.std.specs.List.{All}
 use Rattle.std.specs.Option.{IfSome}
 use Rattle.std.proofs.lemmas.List.Elements.{All-filter, All-push}
 use Rattle.nf_defs.specs.Tables.{Tables}
-use Rattle.nf_laws.proofs.Lists.{changes_have, with_born, with_filled, with_remounted}
+use Rattle.nf_laws.proofs.Lists.{changes_have, with_born, with_filled, with_remounted, with_share}
 use Rattle.nf_laws.proofs.Rows.{stamp, stamped_has}
 use Rattle.nf_laws.specs.Wholes.{blob_under}
 use Rattle.nf_words.proofs.Ends.{known_change}
@@ -94,6 +94,6 @@ pub rest_kept : (t : Tables) (now : ℕ) (act : Allowed) → AreSound t → Know
 rest_kept t now (allowed.Change changes blob report) sound known =
     changes_have (λ (u : Tables). u ≡ record t { meta = u.meta; nodes = u.nodes; shares = u.shares; mounts = u.mounts }) t now changes blob report sound.rising known
     (λ u row same it. ap (λ (v : Tables). with_born v row) same) (λ u row same it. ap (λ (v : Tables). with_filled v row) same)
-    (λ u row same it. ap (λ (v : Tables). with_remounted v row) same) refl
+    (λ u row same it. ap (λ (v : Tables). with_remounted v row) same) (λ u row same it. ap (λ (v : Tables). with_share v row) same) refl
 rest_kept t now allowed.Close sound known = refl
 rest_kept t now act sound known = refl

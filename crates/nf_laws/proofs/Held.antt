@@ -228,7 +228,8 @@ module _ (t : Tables) (hold : Hold) (sound : AreSound t) (held : IsHeld t hold.k
   altered_stays : (now : ℕ) (act : Allowed) → Known t now act → Spares t now hold act → Stays (altered t now act).nodes
   altered_stays now (allowed.Change changes blob report) known spares =
       changes_all (λ (u : Tables). Stays u.nodes) (SparesChange t key) t now changes blob report sound.rising known spares
-      (λ u row stays it is. born_stays u blob row stays it is) (λ u row stays it is. filled_stays u blob row stays it is) (λ u row stays it is. stays) first
+      (λ u row stays it is. born_stays u blob row stays it is) (λ u row stays it is. filled_stays u blob row stays it is) (λ u row stays it is. stays)
+      (λ u row stays it is. stays) first
   altered_stays now (allowed.Delete top) known spares = cleared_stays (Some top) spares
   altered_stays now (allowed.Move transfer name) known spares = moved_stays transfer name spares.0 spares.1
   altered_stays now (allowed.Copy rows replaced) known spares = copied_stays now rows replaced spares.0 spares.1

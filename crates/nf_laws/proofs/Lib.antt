@@ -3,6 +3,7 @@ pub mod Added
 pub mod Allowing
 pub mod Asking
 pub mod Blobs
+pub mod Chained
 pub mod Children
 pub mod Climbs
 pub mod Contents
@@ -36,6 +37,7 @@ pub mod Reaching
 pub mod Reading
 pub mod Replaced
 pub mod Rows
+pub mod Sharing
 pub mod Sizes
 pub mod Sources
 pub mod Stays

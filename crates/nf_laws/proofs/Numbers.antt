@@ -40,7 +40,8 @@ numbers_changed : (first t : Tables) (now : ℕ) (act : Allowed) → AreSound t 
 numbers_changed first t now (allowed.Change changes blob report) sound later all known =
     changes_have (AreOldOrNew first) t now changes blob report sound.rising known
     (λ u row all it. All-push (λ (row : NodeRow). IsOldOrNew first row.id) u.nodes row all (inr (omega (arith, later, it.fresh))))
-    (λ u row all it. numbers_with (IsOldOrNew first) u.nodes row.id (filled row.content row.changed) (λ r. refl) all) (λ u row all it. all) all
+    (λ u row all it. numbers_with (IsOldOrNew first) u.nodes row.id (filled row.content row.changed) (λ r. refl) all) (λ u row all it. all) (λ u row all it. all)
+    all
 numbers_changed first t now (allowed.Delete node) sound later all known =
     all_cleared (λ (row : NodeRow). IsOldOrNew first row.id) t.nodes (Some node) all
 numbers_changed first t now (allowed.Move transfer name) sound later all known =

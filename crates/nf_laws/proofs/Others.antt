@@ -1,6 +1,6 @@
 -- What rows of shares and mounts keep where the nodes are others, and where shares end.
-use Rattle.std.proofs.Common.{ℕ, zero, suc, ◌==◌, ◌&&◌, ◌≡◌, ◌≢◌, ◌<◌, ◌≤◌, Bool, true, false, not, List, [], ◌∷◌, ◌++◌, Option, None, Some, bytes_eq, get_or, if◌then◌else◌, length, map, option_map, refl, sym, ap, subst, ◌∙◌, arith, le_refl}
-use Rattle.std.specs.Prelude.{is_some, option_and_then}
+use Rattle.std.proofs.Common.{ℕ, ◌==◌, ◌&&◌, ◌≡◌, ◌≢◌, ◌<◌, ◌≤◌, Bool, true, false, not, List, [], ◌∷◌, ◌++◌, Option, None, Some, bytes_eq, get_or, if◌then◌else◌, length, map, option_map, refl, sym, ap, subst, ◌∙◌, arith, le_refl}
+use Rattle.std.specs.Prelude.{is_some}
 use Rattle.std.specs.List.{All, AllPairs, list_any}
 use Rattle.std.specs.Option.{option_map_or}
 use Rattle.std.proofs.lemmas.Bool.{and_from, and_parts, both_ways, eq-eqb, eqb-true, false_from_ne_true, not_from_false}
@@ -8,7 +8,7 @@ use Rattle.std.proofs.lemmas.List.{get_or-map, length-map}
 use Rattle.std.proofs.lemmas.List.Elements.{All-cons, All-filter, All-map, All-nil, All-push, All-weaker, filter_passes}
 use Rattle.std.proofs.lemmas.Slice.Eq.{bytes_eq-Decides}
 use Rattle.nf_access.specs.Mounts.{is_shown_to, mount_at, root_folder}
-use Rattle.nf_access.specs.Shares.{chain_up, chain_within, perms_of_share, share_row}
+use Rattle.nf_access.specs.Shares.{chain_within, perms_of_share, share_row}
 use Rattle.nf_base.specs.declared.limits.TheConstants.{MAX_CHAIN, MAX_MOUNTS, MAX_SHARES}
 use Rattle.nf_base.specs.declared.rows.MetaRow.{MetaRow}
 use Rattle.nf_base.specs.declared.rows.MountRow.{MountRow}
@@ -20,6 +20,7 @@ use Rattle.nf_base.specs.declared.rows.ShareKind.TheVariants as to
 use Rattle.nf_base.specs.declared.rows.ShareRow.{ShareRow}
 use Rattle.nf_base.specs.declared.rows.UserRow.{UserRow}
 use Rattle.nf_defs.specs.Prelude.{child_of, is_in, is_place_in, is_root, is_root_place, IsRising, key_cmp, mount_key, node_row, owner_of, share_key, Tables, user_row, with_node}
+use Rattle.nf_laws.proofs.Chained.{AreLinked, still_chained}
 use Rattle.nf_laws.proofs.Climbs.{map_some, row_of_those, some_there, those}
 use Rattle.nf_laws.proofs.OneRow.{KeepsId, row_with, with_each}
 use Rattle.nf_laws.proofs.Rows.{AreKept, counters_up, each_fails, finds_none, found_is, kept_joined, kept_row, no_value, node_kept, none_higher, root_kept, row_joined, stamp, with_nodes}
@@ -285,7 +286,7 @@ module _ (gone : ℕ → Bool) where
       here true = same share
       here false = refl
 
-  row_ended : (shares : List ShareRow) (id : ℕ) → share_row (map end_some shares) id ≡ option_map end_some (share_row shares id)
+  pub row_ended : (shares : List ShareRow) (id : ℕ) → share_row (map end_some shares) id ≡ option_map end_some (share_row shares id)
   row_ended [] id = refl
   row_ended (share ∷ shares) id =
       ap (λ (n : ℕ). if n == id then Some (end_some share) else share_row (map end_some shares) id) (same_field (λ s. s.id) (λ s. refl) share)
@@ -296,37 +297,15 @@ module _ (gone : ℕ → Bool) where
       here true rest = refl
       here false rest = rest
 
-  up_ended : (share : ShareRow) (parent : Option ℕ) (f g : ℕ → Option (List ShareRow)) → ((id : ℕ) → is_some (f id) ≡ is_some (g id))
-      → is_some (chain_up (end_some share) parent f) ≡ is_some (chain_up share parent g)
-  up_ended share None f g same = here (gone share.node)
-    where
-      made : (row : ShareRow) (b : Bool) → is_some (if b then Some (row ∷ []) else None) ≡ b
-      made row true = refl
-      made row false = refl
-
-      here : (b : Bool) → is_some (chain_up (if b then ended_row share else share) None f) ≡ is_some (chain_up share None g)
-      here true = made (ended_row share) (share.initiator == share.owner) ∙ sym (made share (share.initiator == share.owner))
-      here false = refl
-  up_ended share (Some id) f g same = mapped (end_some share) (f id) ∙ same id ∙ sym (mapped share (g id))
-    where
-      mapped : (row : ShareRow) (o : Option (List ShareRow)) → is_some (option_map (λ up. row ∷ up) o) ≡ is_some o
-      mapped row None = refl
-      mapped row (Some up) = refl
-
-  chain_ended : (k : ℕ) (shares : List ShareRow) (id : ℕ) → is_some (chain_within k (map end_some shares) id) ≡ is_some (chain_within k shares id)
-  unfolding chain_within
-  chain_ended zero shares id = refl
-  chain_ended (suc k) shares id =
-      ap (λ (o : Option ShareRow). is_some (option_and_then (λ row. chain_up row row.parent (chain_within k (map end_some shares))) o)) (row_ended shares id)
-      ∙ here (share_row shares id) (λ id. chain_ended k shares id)
-    where
-      here : (o : Option ShareRow) → ((id : ℕ) → is_some (chain_within k (map end_some shares) id) ≡ is_some (chain_within k shares id))
-          → is_some (option_and_then (λ row. chain_up row row.parent (chain_within k (map end_some shares))) (option_map end_some o))
-          ≡ is_some (option_and_then (λ row. chain_up row row.parent (chain_within k shares)) o)
-      here None rest = refl
-      here (Some share) rest =
-          ap (λ (p : Option ℕ). is_some (chain_up (end_some share) p (chain_within k (map end_some shares)))) (same_field (λ s. s.parent) (λ s. refl) share)
-          ∙ up_ended share share.parent (chain_within k (map end_some shares)) (chain_within k shares) rest
+  -- and stands on the same
+  linked_ended : (shares : List ShareRow) → AreLinked shares (map end_some shares)
+  linked_ended shares id old there = record {
+    row = end_some old;
+    there = row_ended shares id ∙ ap (option_map end_some) there;
+    parent = same_field (λ s. s.parent) (λ s. refl) old;
+    initiator = same_field (λ s. s.initiator) (λ s. refl) old;
+    owner = same_field (λ s. s.owner) (λ s. refl) old;
+  }
 
 -- the tables without the nodes that go, and with their shares ended
 abbrev pub without : Tables → (ℕ → Bool) → Tables
@@ -350,7 +329,8 @@ share_ended t gone share is = here (gone share.node) refl
     test node = not (gone node)
 
     chained : (row : ShareRow) → row.id ≡ share.id → is_some (chain_within MAX_CHAIN made.shares row.id) ≡ true
-    chained row same = ap (λ (n : ℕ). is_some (chain_within MAX_CHAIN made.shares n)) same ∙ chain_ended gone MAX_CHAIN t.shares share.id ∙ is.chained
+    chained row same = ap (λ (n : ℕ). is_some (chain_within MAX_CHAIN made.shares n)) same
+        ∙ still_chained MAX_CHAIN t.shares made.shares share.id (linked_ended gone t.shares) is.chained
 
     here : (b : Bool) → gone share.node ≡ b → IsShareSound made (if b then ended_row share else share)
     here true goes = record {

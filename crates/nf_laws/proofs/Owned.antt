@@ -93,7 +93,7 @@ all_owners t node row given there = (row, there, refl)
 altered_owners : (t : Tables) (now : ℕ) (act : Allowed) → AreSound t → Known t now act → KeepsOwners t (altered t now act)
 altered_owners t now (allowed.Change changes blob report) sound known =
     changes_have (KeepsOwners t) t now changes blob report sound.rising known (λ u row. new_owners t u blob row)
-    (λ u row keeps it. filled_owners t u row keeps) (λ u row keeps it. keeps) (all_owners t)
+    (λ u row keeps it. filled_owners t u row keeps) (λ u row keeps it. keeps) (λ u row keeps it. keeps) (all_owners t)
 altered_owners t now (allowed.Delete node) sound known = cleared_owners t (Some node)
 altered_owners t now (allowed.Move transfer name) sound known =
     then_owners t (transferred t transfer name) transfer.replaced

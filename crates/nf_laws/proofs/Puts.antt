@@ -1,11 +1,11 @@
 -- Rows of nodes that are put and dropped, one after the other.
-use Rattle.std.proofs.Common.{if◌then◌else◌, inl, inr, ℕ, ◌&&◌, length-append, zero, suc, ◌+◌, ◌==◌, ◌≡◌, ◌≢◌, ◌<◌, Bool, true, false, not, List, [], ◌∷◌, ◌++◌, Option, None, Some, filter, map, length, get_or, refl, sym, ap, subst, ◌∙◌, arith, append_assoc}
+use Rattle.std.proofs.Common.{if◌then◌else◌, inl, inr, ℕ, ◌&&◌, length-append, zero, suc, ◌+◌, ◌==◌, ◌≡◌, ◌≢◌, ◌<◌, Bool, true, false, not, List, [], ◌∷◌, ◌++◌, Option, None, Some, filter, map, length, get_or, refl, sym, ap, subst, ◌∙◌, arith, append_assoc, find}
 use Rattle.std.proofs.Math.Seq.{get_or-append_seam}
 use Rattle.std.specs.Prelude.{is_some}
 use Rattle.std.specs.List.{All, AllPairs, list_any}
 use Rattle.std.specs.declared.cmp.Ordering.{Ordering}
 use Rattle.std.specs.declared.cmp.Ordering.TheVariants.{Equal, Greater, Less}
-use Rattle.std.proofs.lemmas.Bool.{both_ways, cases_Bool, eq-eqb, eqb-true}
+use Rattle.std.proofs.lemmas.Bool.{both_ways, cases_Bool, eq-eqb, eqb-true, false_from_ne_true, ne_eqb}
 use Rattle.std.proofs.lemmas.List.{append-nil}
 use Rattle.std.proofs.lemmas.List.Elements.{All-push, All-weaker, filter_agree, filter_passes}
 use Rattle.std.proofs.lemmas.List.Folds.{list_any_at}
@@ -16,13 +16,15 @@ use Rattle.nf_base.specs.declared.changes.RowKey.TheVariants as keys
 use Rattle.nf_base.specs.declared.rows.NodeRow.{NodeRow}
 use Rattle.nf_base.specs.declared.rows.Row.TheVariants.{Node, Share}
 use Rattle.nf_base.specs.declared.rows.ShareRow.{ShareRow}
-use Rattle.nf_defs.proofs.Puts.{below_one, below_rest, compared, put_last, put_rising, tail_rising}
+use Rattle.nf_defs.proofs.Puts.{below_one, below_rest, compared, put_last, put_rising, tail_rising, key_total, turned}
 use Rattle.nf_defs.specs.Prelude.{by_order, climb, dropped, folder_of, is_under, IsRising, key_cmp, node_key, node_row, parent_of, put, put_all, share_key, Tables, walk_of, with_node, without_under}
 use Rattle.nf_laws.proofs.Climbs.{some_there, those, under_climb}
 use Rattle.nf_laws.proofs.Others.{others_ended}
 use Rattle.nf_laws.proofs.Rows.{found_is}
 use Rattle.nf_laws.proofs.Walked.{walk_among}
 use Rattle.nf_words.specs.Prelude.{AreSound, cleared, closed_under, dropped_under, ended_for, ended_row, ended_under, gone_for, gone_under, is_closing, removed}
+use Rattle.nf_words.proofs.Found.{put_leaves}
+use Rattle.std.proofs.lemmas.Cmp.{tied_itself}
 
 -- ---- rows that are put
 
@@ -74,6 +76,41 @@ put_changed (x ∷ old) node change row keeps rising is =
           ∙ ap (λ (all : List NodeRow). x ∷ all) (put_changed old node change row keeps
           (λ i j d before within. rising (suc i) (suc j) d (omega arith) (omega arith)) found)))
     ]
+
+-- a row of another number is left
+pub other_number : {R : Type 0} (number : R → ℕ) (row : R) (old : List R) (id : ℕ) → id ≢ number row
+    → find (λ x. number x == id) (put (λ x. number x ∷ []) row old) ≡ find (λ x. number x == id) old
+other_number {R = R} number row old id other =
+    put_leaves (λ (x : R). number x ∷ []) (λ x. number x == id) row old (ne_eqb (number row) id (λ same. other (sym same)))
+    (λ x key. ne_eqb (number x) id (λ same. other (sym same ∙ sym (first key))))
+  where
+    first : {a b : ℕ} → a ∷ [] ≡ b ∷ [] → a ≡ b
+    first same = cc
+
+-- a row put over another makes no more of them
+pub put_length_over : {R : Type 0} (key : R → List ℕ) (sought : R → Bool) (row old : R) (rows : List R)
+    → ((x : R) → sought x ≡ true → key x ≡ key row) → IsRising key rows → find sought rows ≡ Some old
+    → length (put key row rows) ≡ length rows
+put_length_over key sought row old [] keyed rising is = absurd (none-some old is)
+put_length_over {R = R} key sought row old (x ∷ rows) keyed rising is =
+    here (key_cmp (key row) (key x)) refl (λ is. put_length_over key sought row old rows keyed (tail_rising key x rows rising) is)
+  where
+    behind : sought x ≡ false → find sought rows ≡ Some old
+    behind other = simp other at is
+
+    not_here : (o : Ordering) → key_cmp (key row) (key x) ≡ o → (o ≡ Equal → ⊥) → sought x ≡ false
+    not_here o e other =
+        false_from_ne_true (sought x) (λ passes. other (sym e ∙ ap (key_cmp (key row)) (keyed x passes) ∙ tied_itself key_total (key row)))
+
+    here : (o : Ordering) → key_cmp (key row) (key x) ≡ o → (find sought rows ≡ Some old → length (put key row rows) ≡ length rows)
+        → length (by_order o (row ∷ x ∷ rows) (row ∷ rows) (x ∷ put key row rows)) ≡ length (x ∷ rows)
+    here Less e rest =
+        let found = found_is (λ (y : R). key_cmp (key x) (key y) ≡ Less) sought rows old (below_rest key x rows rising)
+        (behind (not_here Less e (λ same. absurd (cc)))) in
+        let less = ap (key_cmp (key x)) (sym (keyed old found.0)) ∙ found.1 in
+        let greater = turned (key row) (key x) Less e in absurd (cc)
+    here Equal e rest = refl
+    here Greater e rest = ap suc (rest (behind (not_here Greater e (λ same. absurd (cc)))))
 
 -- ---- rows that are dropped
 
