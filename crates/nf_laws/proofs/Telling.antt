@@ -139,9 +139,9 @@ changes_told t now (change ∷ changes) blob report sound known =
     let alone = built_alone t all built in
     let made = put_all t all in
     subst (λ (made : Tables). Tell t (stamped t (record made { meta = up.meta }) now all) (with_meta t.meta up.meta all)) (sym alone)
-    (rows_told t now up.meta made.nodes t.shares made.mounts all (λ rest. put_more t all rest ∙ ap (λ (u : Tables). put_all u rest) alone)
+    (rows_told t now up.meta made.nodes made.shares made.mounts all (λ rest. put_more t all rest ∙ ap (λ (u : Tables). put_all u rest) alone)
     known.lean.differ
-    (λ same. lean_moves t up blob change changes sound.rising refl built known.rows.0 known.lean (alone ∙ same)))
+    (λ same. lean_moves t up blob change changes sound.rising refl refl built known.rows.0 known.lean (alone ∙ same)))
 
 all_given : (t : Tables) → AreSound t → All (λ (row : NodeRow). row.id < t.meta.next_node) t.nodes
 all_given t sound k d within = (sound.nodes k d within).given
