@@ -9,17 +9,21 @@ use Rattle.nf_access.specs.Shares.{ground_of}
 use Rattle.nf_base.specs.declared.rows.NodeRow.{NodeRow}
 use Rattle.nf_defs.specs.declared.Found.{Found}
 use Rattle.nf_defs.specs.declared.Found.TheVariants.{At, Free, Missing}
-use Rattle.nf_defs.specs.Prelude.{Access}
+use Rattle.nf_defs.specs.Prelude.{Access, user_named}
 use Rattle.nf_words.proofs.Orders.{first_of}
 use Rattle.nf_words.specs.Places.{has_forbidden, taken}
-use Rattle.nf_words.specs.Prelude.{access_of, acts_rule, allowed_of, answered_by, asked_by, Call, call_of, exists_rule, forbidden_rule, is_caller, is_one, IsSound, limit_rule, locked_rule, mount_of, needed, not_you_rule, overwrite_rule, paths_of, place_rule, places_of, refusal_of, root_of, seeker_of, source_lost, source_refused, State, target_lost, target_refused, target_rule, token_rule, unless_refused, unreached, unreached_by, user_of, users_of, Way, way_by, way_of}
+use Rattle.nf_words.specs.Sharing.{unnamed_by}
+use Rattle.nf_words.specs.Prelude.{access_of, acts_rule, allowed_of, answered_by, asked_by, Call, call_of, caller_row, exists_rule, forbidden_rule, is_caller, is_one, IsSound, limit_rule, locked_rule, mount_of, named_rule, needed, not_you_rule, overwrite_rule, paths_of, place_rule, places_of, refusal_of, room_rule, root_of, seeker_of, share_shown, share_steered, sharing_rule, source_lost, source_refused, State, target_lost, target_refused, target_rule, token_rule, unless_refused, unreached, unreached_by, user_of, users_of, Way, way_by, way_of}
 use Rattle.nf_words.specs.declared.answer.Allowed.{Allowed}
 use Rattle.nf_words.specs.declared.answer.Denial.{Denial}
 use Rattle.nf_words.specs.declared.answer.Denial.TheVariants as denial
 use Rattle.nf_words.specs.declared.request.Making.{Making}
 use Rattle.nf_words.specs.declared.request.Making.TheVariants as making
 use Rattle.nf_words.specs.declared.request.Places.{Places}
+use Rattle.nf_words.specs.declared.request.ShareAsk.TheVariants as ask
 use Rattle.nf_words.specs.declared.request.Spot.{Spot}
+use Rattle.nf_words.specs.declared.request.Wanted.{Wanted}
+use Rattle.nf_words.specs.declared.request.Wanted.TheVariants.{Share}
 use Rattle.nf_denials.proofs.Told.{acts_told, unreached_told}
 use Rattle.nf_denials.specs.Laws.{BeginsTellTheirBreak, GoesBy, IsKeptOut, IsStoppedAt, IsUnmet, UnreachedIsRefused, at_source, at_target, is_of_shares}
 
@@ -54,40 +58,60 @@ taken_other rows places (making.File length) = if_test _ (denial.Exists _) refl
 taken_other rows places making.Folder = if_test _ (denial.Exists _) refl
 taken_other rows places making.Moved = tt
 taken_other rows places making.Copied = tt
+taken_other rows places making.Shared = tt
+taken_other rows places making.Told = tt
+
+-- a user or a share that isn't there
+named_other : (call : Call) (wanted : Wanted) → IsOther (unnamed_by call wanted)
+named_other call (Share (ask.New spot to perms)) = unless_test (is_some (user_named call.state.tables.users to)) denial.NotFound refl
+named_other call (Share (ask.List spot with_me)) = tt
+named_other call (Share (ask.Show share)) = unless_test (is_some (share_shown call share)) denial.NotFound refl
+named_other call (Share (ask.Set share perms)) = unless_test (is_some (share_steered call share)) denial.NotFound refl
+named_other call (Share (ask.End share)) = unless_test (is_some (share_steered call share)) denial.NotFound refl
+named_other call other = tt
 
 -- the rules behind those of places and of acts don't refuse by shares
 abbrev behind : Access → Call → Option Denial
 behind access call =
     option_or (exists_rule access call)
     (option_or (target_rule access call)
-    (option_or (overwrite_rule access call) (option_or (locked_rule access call) (option_or (limit_rule access call) None))))
+    (option_or (overwrite_rule access call)
+    (option_or (sharing_rule access call)
+    (option_or (locked_rule access call) (option_or (limit_rule access call) (option_or (room_rule access call) None))))))
 
 none_behind : (access : Access) (call : Call) (refusal : Denial) → is_of_shares refusal ≡ true → behind access call ≡ Some refusal → ⊥
-unfolding exists_rule target_rule overwrite_rule locked_rule limit_rule
+unfolding exists_rule target_rule overwrite_rule sharing_rule locked_rule limit_rule room_rule
 none_behind access call refusal shares is =
     none-some refusal
-    (skip (limit_rule access call) None refusal (told_by denial.Limit _ (λ limit. refl)) shares
+    (skip (room_rule access call) None refusal (told_by denial.Limit _ (λ limit. refl)) shares
+    (skip (limit_rule access call) _ refusal (told_by denial.Limit _ (λ limit. refl)) shares
     (skip (locked_rule access call) _ refusal (told_by denial.Locked _ (λ key. refl)) shares
+    (skip (sharing_rule access call) _ refusal (told_by denial.Rule _ (λ fault. refl)) shares
     (skip (overwrite_rule access call) _ refusal (if_test _ denial.Overwrite refl) shares
     (skip (target_rule access call) _ refusal (told_by denial.BadTarget _ (λ fault. refl)) shares
-    (skip (exists_rule access call) _ refusal (taken_other call.state.tables.nodes (places_of call) (asked_by call).makes) shares is)))))
+    (skip (exists_rule access call) _ refusal (taken_other call.state.tables.nodes (places_of call) (asked_by call).makes) shares is)))))))
 
 -- nor do those of who asks and of names
 by_rules : (access : Access) (call : Call) (refusal : Denial) → is_of_shares refusal ≡ true → refusal_of access call ≡ Some refusal
     → (place_rule access call ≡ Some refusal) ⊎ (acts_rule access call ≡ Some refusal)
-unfolding token_rule not_you_rule forbidden_rule
+unfolding token_rule not_you_rule forbidden_rule named_rule
 by_rules access call refusal shares is =
     here (place_rule access call) (acts_rule access call) refl refl
     (skip (forbidden_rule access call) _ refusal (if_test (list_any has_forbidden (paths_of (asked_by call))) denial.ForbiddenName refl) shares
     (skip (not_you_rule access call) _ refusal (unless_test (list_all (is_caller call) (users_of (asked_by call))) denial.NotYou refl) shares
-    (skip (token_rule access call) _ refusal (unless_test (is_some (user_of call)) denial.Token refl) shares is)))
+    (skip (token_rule access call) _ refusal (unless_test (is_some (caller_row call)) denial.Token refl) shares is)))
   where
     here : (place acts : Option Denial) → place_rule access call ≡ place → acts_rule access call ≡ acts
-        → option_or place (option_or acts (behind access call)) ≡ Some refusal
+        → option_or place (option_or (named_rule access call) (option_or acts (behind access call))) ≡ Some refusal
         → (place_rule access call ≡ Some refusal) ⊎ (acts_rule access call ≡ Some refusal)
     here (Some first) acts e f is = inl (e ∙ is)
-    here None (Some first) e f is = inr (f ∙ is)
-    here None None e f is = absurd (none_behind access call refusal shares is)
+    here None acts e f is =
+        by_acts acts f (skip (named_rule access call) _ refusal (named_other call call.request.wanted) shares is)
+      where
+        by_acts : (acts : Option Denial) → acts_rule access call ≡ acts → option_or acts (behind access call) ≡ Some refusal
+            → (place_rule access call ≡ Some refusal) ⊎ (acts_rule access call ≡ Some refusal)
+        by_acts (Some first) f is = inr (f ∙ is)
+        by_acts None f is = absurd (none_behind access call refusal shares is)
 
 -- ---- places
 
@@ -215,5 +239,5 @@ unreached_refused s seat now words request mount refusal well stop is =
     let access = access_of s in
     ap (λ (o : Option Denial). answered_by (unless_refused o (allowed_of access call)))
     (first_of (token_rule ∷ not_you_rule ∷ forbidden_rule ∷ []) place_rule
-    (acts_rule ∷ exists_rule ∷ target_rule ∷ overwrite_rule ∷ locked_rule ∷ limit_rule ∷ []) access call refusal
+    (named_rule ∷ acts_rule ∷ exists_rule ∷ target_rule ∷ overwrite_rule ∷ sharing_rule ∷ locked_rule ∷ limit_rule ∷ room_rule ∷ []) access call refusal
     (well.token, (well.not_you, (well.forbidden, tt))) (stopped s call mount refusal stop is))

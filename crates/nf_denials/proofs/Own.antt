@@ -6,7 +6,7 @@ use Rattle.std.specs.Option.{option_map_or, option_or}
 use Rattle.std.proofs.lemmas.List.Elements.{All-append, All-cons, All-nil}
 use Rattle.std.proofs.lemmas.Option.{none-some, same_Some}
 use Rattle.nf_base.specs.declared.perms.Act.{Act}
-use Rattle.nf_base.specs.declared.perms.Act.TheVariants.{Create, Delete, Update}
+use Rattle.nf_base.specs.declared.perms.Act.TheVariants.{Create, Delete, Share, Update}
 use Rattle.nf_base.specs.declared.rows.UserRow.{UserRow}
 use Rattle.nf_defs.specs.Prelude.{found_from, parent_of, Tables}
 use Rattle.nf_defs.specs.declared.Found.{Found}
@@ -18,7 +18,7 @@ use Rattle.nf_laws.proofs.Rows.{parent_there}
 use Rattle.nf_laws.specs.Access.{Owns}
 use Rattle.nf_words.proofs.Starts.{row_of_caller}
 use Rattle.nf_words.specs.Places.{folder_at}
-use Rattle.nf_words.specs.Needed.{source_act, target_needs}
+use Rattle.nf_words.specs.Needed.{source_act, source_needs, target_needs}
 use Rattle.nf_words.specs.Prelude.{access_of, AreSound, asked_by, asker_of, Call, call_of, caller_row, is_mount_asked, is_within, may_by, mount_of, Need, needed, needs, needs_at, needs_in, node_found, root_of, seeker_of, user_of, Way, way_by, way_of}
 use Rattle.nf_words.specs.declared.request.Making.{Making}
 use Rattle.nf_words.specs.declared.request.Making.TheVariants as making
@@ -124,10 +124,18 @@ module _ (call : Call) (user : UserRow) (sound : AreSound call.state.tables) (kn
         here true = at_met Delete
         here false = All-append Met (needs_in t.nodes (root_of call) way) (needs_at Delete way) in_met (at_met Delete)
     target_met making.Copied within = All-append Met (needs_in t.nodes (root_of call) way) (needs_at Delete way) in_met (at_met Delete)
+    target_met making.Shared within = All-nil Met
+    target_met making.Told within = All-nil Met
 
-  sources_met : (act : Act) (source : Option Spot) → All Met (option_map_or (needs_at act) (option_map (way_of call) source) [])
-  sources_met act None = All-nil Met
-  sources_met act (Some spot) = at_met spot act
+    source_met : (makes : Making) (removes within : Bool) → All Met (source_needs makes removes within way)
+    source_met making.Shared removes within = at_met Share
+    source_met making.Told removes within = All-nil Met
+    source_met other removes within = at_met (source_act removes within)
+
+  sources_met : (makes : Making) (removes within : Bool) (source : Option Spot)
+      → All Met (option_map_or (source_needs makes removes within) (option_map (way_of call) source) [])
+  sources_met makes removes within None = All-nil Met
+  sources_met makes removes within (Some spot) = source_met spot makes removes within
 
   targets_met : (makes : Making) (within : Bool) (target : Option Spot)
       → All Met (option_map_or (target_needs makes t.nodes (root_of call) within) (option_map (way_of call) target) [])
@@ -146,11 +154,11 @@ module _ (call : Call) (user : UserRow) (sound : AreSound call.state.tables) (kn
       within : Bool
       within = is_within t.nodes (root_of call) source target
 
-      here : (b : Bool) → All Met (if b then [] else option_map_or (needs_at (source_act (asked_by call) within)) source []
+      here : (b : Bool) → All Met (if b then [] else option_map_or (source_needs (asked_by call).makes (asked_by call).removes within) source []
           ++ option_map_or (target_needs (asked_by call).makes t.nodes (root_of call) within) target [])
       here true = All-nil Met
       here false =
-          All-append Met _ _ (sources_met (source_act (asked_by call) within) (asked_by call).source)
+          All-append Met _ _ (sources_met (asked_by call).makes (asked_by call).removes within (asked_by call).source)
           (targets_met (asked_by call).makes within (asked_by call).target)
 
 pub own_unrefused : OwnIsNotRefused

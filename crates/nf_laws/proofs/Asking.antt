@@ -9,7 +9,7 @@ use Rattle.nf_access.proofs.Granted.{any_is, granted_allows}
 use Rattle.nf_access.proofs.LookUps.{find_among}
 use Rattle.nf_access.specs.Access.{allows, by_chains}
 use Rattle.nf_access.specs.Making.{is_part, passes_on}
-use Rattle.nf_access.specs.Mounts.{is_mounted}
+use Rattle.nf_access.specs.Mounts.{free_name_of, is_mounted, name_of, names_in_root}
 use Rattle.nf_access.specs.Shares.{ground_of, mask_of}
 use Rattle.nf_base.specs.declared.perms.Act.TheVariants as act
 use Rattle.nf_base.specs.declared.rows.MountRow.{MountRow}
@@ -40,7 +40,7 @@ pub record OneShare (call : Call) (made : Tables) : Type 0 where
   pub one : SharesOne call row
   pub shares : made.shares ≡ put share_key row call.state.tables.shares
   pub mounts : (made.mounts ≡ call.state.tables.mounts)
-      ⊎ ((mount : MountRow) × IsMountFor row mount × (made.mounts ≡ put mount_key mount call.state.tables.mounts))
+      ⊎ ((mount : MountRow) × IsMountFor call.state.tables row mount × (made.mounts ≡ put mount_key mount call.state.tables.mounts))
   pub nodes : made.nodes ≡ call.state.tables.nodes
 
 -- an act changes nothing, or that one share
@@ -111,7 +111,7 @@ module _ (call : Call) (sound : AreSound call.state.tables) where
       here : (place : Found) (to : Option ℕ) → found call spot ≡ place → user_named t.users name ≡ to
           → option_and_then (offer_fault access call) (of place to) ≡ None
           → SharesAtMost call (option_map_or (share_made access call) (of place to) nothing_done)
-      here (At node) (Some to) leads named fits = makes (is_mounted t.mounts to node)
+      here (At node) (Some to) leads named fits = makes (is_mounted t.mounts to node) refl
         where
           offer : Offer
           offer = offer_of t.nodes (way_of call spot).mount wanted node to
@@ -135,15 +135,21 @@ module _ (call : Call) (sound : AreSound call.state.tables) where
               })
 
           mount : MountRow
-          mount = record { user = to; node = node; name = _; left = false }
+          mount = record {
+            user = to;
+            node = node;
+            name = free_name_of (name_of t.nodes node) (names_in_root t.users t.nodes t.mounts to);
+            left = false;
+          }
 
-          makes : (there : Bool) → SharesAtMost call (share_told t (Put (rows.Share row) ∷ mounting (if there then None else Some mount)) row)
-          makes true = inr (record { row = row; one = one; shares = refl; mounts = inl refl; nodes = refl })
-          makes false = inr (record {
+          makes : (there : Bool) → is_mounted t.mounts to node ≡ there
+              → SharesAtMost call (share_told t (Put (rows.Share row) ∷ mounting (if there then None else Some mount)) row)
+          makes true is = inr (record { row = row; one = one; shares = refl; mounts = inl refl; nodes = refl })
+          makes false is = inr (record {
             row = row;
             one = one;
             shares = refl;
-            mounts = inr (mount, record { user = refl; node = refl; stays = refl }, refl);
+            mounts = inr (mount, record { new = refl; user = refl; node = refl; stays = refl; none = is }, refl);
             nodes = refl;
           })
       here (At node) None leads named fits = inl refl

@@ -7,6 +7,7 @@ use Rattle.std.proofs.lemmas.List.Elements.{All-append, All-cons, All-nil}
 use Rattle.std.proofs.lemmas.Option.{none-some, slice_get-get_or}
 use Rattle.std.proofs.lemmas.Bool.{cases_Bool, cond_both}
 use Rattle.sha2.specs.Sha256.{sha256}
+use Rattle.nf_access.specs.Mounts.{ensured}
 use Rattle.nf_base.specs.declared.changes.Change.{Change}
 use Rattle.nf_base.specs.declared.content.Piece.{Piece}
 use Rattle.nf_base.specs.declared.rows.MetaRow.{MetaRow}
@@ -30,7 +31,7 @@ use Rattle.nf_laws.proofs.Mirrored.{mirrored}
 use Rattle.nf_laws.proofs.OneRow.{with_all}
 use Rattle.nf_laws.proofs.Rows.{content_has, found_is, stamped_has}
 use Rattle.nf_laws.specs.Wholes.{BlobsAreNew, Brings, IsGoalHeld, IsHeld, IsThere, StaysWhole, blob_in, blob_under}
-use Rattle.nf_words.specs.Prelude.{access_of, after_mark, allowed_of, altered, AreSound, blob_after, blob_for, blob_of, by_of, Call, call_of, carried, changed, cleared, content_in, contents_of, copies_to, crosses, decision_of, deleted, end_refusal, ends_at, ends_goal, given, goal_at, goal_of, hold_of, IsGoalSound, IsPieceSound, IsSound, IsTicketSound, joined, last_name, left_row, listing_of, made_folder, MayAsk, mount_left, mount_renamed, moved, named_row, node_at, own_mount, places_of, raised, refilled, refusal_of, served, stamped, State, stored, stored_at, told, transfer_of, unless_refused, way_of, with_goal, with_mount_row, without, nothing_done}
+use Rattle.nf_words.specs.Prelude.{access_of, after_mark, allowed_of, altered, AreSound, blob_after, blob_for, blob_of, by_of, Call, call_of, carried, changed, cleared, content_in, contents_of, copies_to, crosses, decision_of, deleted, end_refusal, ends_at, ends_goal, given, goal_at, goal_of, hold_of, IsGoalSound, IsPieceSound, IsSound, IsTicketSound, joined, last_name, left_row, listing_of, made_folder, MayAsk, mount_left, mount_renamed, moved, named_row, node_at, own_mount, places_of, raised, refilled, refusal_of, served, stamped, State, stored, stored_at, told, transfer_of, unless_refused, way_of, with_goal, with_mount_row, without, nothing_done, share_told, shared, mounting, share_made, offered, new_share, share_shown, share_set, perms_after, share_steered, share_ended}
 use Rattle.nf_words.specs.declared.answer.Allowed.{Allowed}
 use Rattle.nf_words.specs.declared.answer.Allowed.TheVariants as allowed
 use Rattle.nf_words.specs.declared.answer.Goal.{Goal}

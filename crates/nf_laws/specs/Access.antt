@@ -3,7 +3,7 @@ use Rattle.std.specs.Prelude.{◌≡◌, ◌≢◌, ◌↔◌, ◌⊎◌, ℕ, �
 use Rattle.std.specs.Option.{option_map_or}
 use Rattle.nf_access.specs.Access.{Allows, Reaches}
 use Rattle.nf_access.specs.Making.{is_part}
-use Rattle.nf_access.specs.Mounts.{is_mount_of, mount_row}
+use Rattle.nf_access.specs.Mounts.{is_mount_of, is_mounted, mount_row}
 use Rattle.nf_access.specs.Shares.{ground_of, mask_of, share_row}
 use Rattle.nf_base.specs.declared.content.Piece.{Piece}
 use Rattle.nf_base.specs.declared.perms.Act.{Act}
@@ -252,11 +252,13 @@ pub data SharesOne (call : Call) : ShareRow → Type 0 where
   is_ended : (share : ℕ) (old : ShareRow) → call.request.wanted ≡ Share (ask.End share) → IsSteered call share old
       → SharesOne call (ended_row old)
 
--- a mount of the node of a new share, for its user
-pub record IsMountFor (share : ShareRow) (row : MountRow) : Type 0 where
+-- a mount of the node of a new share, for its user, who has none
+pub record IsMountFor (t : Tables) (share : ShareRow) (row : MountRow) : Type 0 where
+  pub new : share.id ≡ t.meta.next_share
   pub user : share.kind ≡ kinds.User row.user
   pub node : row.node ≡ share.node
   pub stays : row.left ≡ false
+  pub none : is_mounted t.mounts row.user row.node ≡ false
 
 -- a Begin makes, changes or ends one share, and a mount for it if it is new; no node is another
 pub record IsSharing (s : State) (e : Entry) (after : Tables) : Type 0 where
@@ -267,7 +269,7 @@ pub record IsSharing (s : State) (e : Entry) (after : Tables) : Type 0 where
   pub one : SharesOne (call_of s e.seat e.moment words request) row
   pub shares : after.shares ≡ put share_key row s.tables.shares
   pub mounts : (after.mounts ≡ s.tables.mounts)
-      ⊎ ((mount : MountRow) × IsMountFor row mount × (after.mounts ≡ put mount_key mount s.tables.mounts))
+      ⊎ ((mount : MountRow) × IsMountFor s.tables row mount × (after.mounts ≡ put mount_key mount s.tables.mounts))
   pub nodes : after.nodes ≡ s.tables.nodes
 
 -- a share ends exactly where its node goes, and no share and no mount is another otherwise

@@ -546,7 +546,7 @@ module _ (call : Call) (user : UserRow) (sound : AreSound call.state.tables) (is
     where
       here : (o : Option ShareRow) → Known t call.now (option_map_or (share_told t []) o nothing_done)
       here None = nothing_known t call.now
-      here (Some row) = nothing_known t call.now
+      here (Some it) = nothing_known t call.now
   asks_known places (ask.Set share wanted) reached fits few =
       steered_known share (λ row. share_set t (perms_after t wanted row) row) (λ row there. set_known t call.now (asker_of call) wanted row there)
   asks_known places (ask.End share) reached fits few = steered_known share share_ended (λ row there. ended_known t call.now (asker_of call) row there)
