@@ -1,5 +1,5 @@
 -- Shares of which one is made, has other permissions, or is ended.
-use Rattle.std.proofs.Common.{◌≡◌, ◌≢◌, ℕ, suc, ◌<◌, ◌==◌, inl, inr, Bool, true, false, if◌then◌else◌, List, [], ◌∷◌, get_or, refl, sym, ap, ◌∙◌, subst, arith}
+use Rattle.std.proofs.Common.{◌≡◌, ◌≢◌, ℕ, zero, suc, ◌<◌, ◌≤◌, ◌==◌, inl, inr, true, false, List, [], ◌∷◌, get_or, refl, sym, ap, ◌∙◌, subst, arith}
 use Rattle.std.specs.Prelude.{None, Some, Option, is_some}
 use Rattle.std.specs.List.{All, AllPairs}
 use Rattle.std.specs.Option.{IfSome, option_map_or}
@@ -10,6 +10,7 @@ use Rattle.nf_access.proofs.LookUps.{find_among}
 use Rattle.nf_access.proofs.Kept.{share_row_each}
 use Rattle.std.proofs.lemmas.List.Elements.{All-head, All-tail, All-weaker}
 use Rattle.std.proofs.lemmas.List.Kept.{AllPairs-cons}
+use Rattle.std.proofs.lemmas.List.{get_or_default}
 use Rattle.nf_base.specs.declared.limits.TheConstants.{MAX_CHAIN}
 use Rattle.nf_base.specs.declared.rows.MetaRow.{MetaRow}
 use Rattle.nf_base.specs.declared.rows.MountRow.{MountRow}
@@ -21,7 +22,7 @@ use Rattle.nf_base.specs.declared.rows.UserRow.{UserRow}
 use Rattle.nf_defs.proofs.Puts.{all_put, below_one, same_one, turned}
 use Rattle.nf_defs.specs.Prelude.{by_order, IsRising, key_cmp, node_row, put, share_key, Tables, user_row}
 use Rattle.nf_laws.proofs.Rows.{found_is}
-use Rattle.nf_laws.specs.Access.{IsMadeBy, IsMountFor, IsSharing, IsSteered, is_ended, is_made, is_set, SharesOne}
+use Rattle.nf_laws.specs.Access.{IsMountFor, IsSharing, IsSteered, is_ended, is_made, is_set, SharesOne}
 use Rattle.nf_laws.specs.Numbers.{AreHigher}
 use Rattle.nf_words.proofs.Asks.{share_found}
 use Rattle.nf_words.proofs.Found.{found_has}
@@ -67,7 +68,7 @@ pairs_put P back row (x ∷ rows) rising one pairs =
         (λ k d within. first less k d within) pairs
       where
         first : row.id < x.id → All (P row) (x ∷ rows)
-        first less 0 d within =
+        first less zero d within =
             All-head (λ (other : ShareRow). other.id ≢ row.id → P row other) x rows one (λ same. absurd (omega (arith, less, same)))
         first less (suc k) d within = others (λ n above same. absurd (omega (arith, less, above, same))) k d (omega (arith, within))
     here Equal e rest =
@@ -173,7 +174,7 @@ module _ (s : State) (e : Entry) (made : Tables) (h : AreRuled s.tables) (sound 
   fine = subst (λ (o : Option ShareRow). IfSome o (IsShareSound made)) there
       (found_has (IsShareSound made) (λ (row : ShareRow). row.id == is.row.id) made.shares sound.others.shares)
 
-  Numbered : ShareRow → Type 0
+  abbrev Numbered : ShareRow → Type 0
   Numbered row = row.made ≤ made.meta.last → are_share_numbers made.meta row ≡ true
 
   raised : (row : ShareRow) → are_share_numbers t.meta row ≡ true → Numbered row
@@ -189,7 +190,7 @@ module _ (s : State) (e : Entry) (made : Tables) (h : AreRuled s.tables) (sound 
       (λ user own. still_given t.meta.next_user made.meta.next_user user.id up.users own.id) t.users h.users)
 
   of_one : (row : ShareRow) → SharesOne call row → is.row ≡ row → Numbered row
-  of_one row (is_made spot to perms _ asked by) same =
+  of_one row (is_made spot name perms _ asked by) same =
       λ before. new_numbers made users_given sound row (subst (IsShareSound made) same fine)
       (subst (λ (r : ShareRow). share_row made.shares r.id ≡ Some r) same there) by.lasts by.forever by.user by.kind
   of_one row (is_set share perms old _ asked steered like) same =
@@ -228,7 +229,7 @@ module _ (s : State) (e : Entry) (made : Tables) (h : AreRuled s.tables) (sound 
 
   -- links keep their tokens, and what is new is none
   apart_from : (row : ShareRow) → SharesOne call row → All (λ (other : ShareRow). other.id ≢ row.id → AreTokensApart row other) t.shares
-  apart_from row (is_made spot to perms _ asked by) k d within other token link = absurd (no_link by.user token (sym by.kind ∙ link))
+  apart_from row (is_made spot name perms _ asked by) k d within other token link = absurd (no_link by.user token (sym by.kind ∙ link))
     where
       no_link : (user : ℕ) (token : List ℕ) → to.User user ≡ to.Link token → ⊥
       no_link user token same = cc
@@ -243,7 +244,7 @@ module _ (s : State) (e : Entry) (made : Tables) (h : AreRuled s.tables) (sound 
       (pairs_put AreTokensApart (λ a b apart token first second. apart token second first) is.row t.shares h.sound.others.shares_rise
       (apart_from is.row is.one) h.tokens_apart)
 
-  pub mount_ruled : (mount : MountRow) → IsMountFor is.row mount → IsMountRuled made mount
+  pub mount_ruled : (mount : MountRow) → IsMountFor t is.row mount → IsMountRuled made mount
   mount_ruled mount of = record {
     user = given made.meta.next_user mount.user
         (subst (λ (k : ShareKind). is_recipient_given made.meta k ≡ true) of.user (recipient_given made.meta is.row own_numbers));

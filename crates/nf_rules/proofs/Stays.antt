@@ -168,7 +168,7 @@ record AreKept (made : Tables) : Type 0 where
   mounts : All (IsMountRuled made) made.mounts
 
 others_kept : (s : State) (e : Entry) (made : Tables) → AreRuled s.tables → AreSound made → AreHigher s.tables.meta made.meta
-    → made.users ≡ s.tables.users → KeepsShares s made ⊎ (IsRemounted s e made ⊎ IsSharing s e made) → AreKept made
+    → made.users ≡ s.tables.users → KeepsShares s.tables made ⊎ (IsRemounted s e made ⊎ IsSharing s e made) → AreKept made
 others_kept s e made ruled sound up users others = elim others [
   | inl keeps ↦
       record {
