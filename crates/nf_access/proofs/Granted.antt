@@ -63,7 +63,7 @@ any_of_each test given (share ∷ shares) =
     ∙ ap (λ b. option_map_or test (given share) false || b) (any_of_each test given shares)
 
 -- a grant passes the test exactly where a share with its chain gives one that does
-any_is : (test : Grant → Bool) (g : Ground) (who : Seeker) (node : ℕ) → IsBounded g
+pub any_is : (test : Grant → Bool) (g : Ground) (who : Seeker) (node : ℕ) → IsBounded g
     → IsTrue (list_any test (by_chains g who node))
     ↔ ((share : ShareRow) × (up : List ShareRow) × IsChain g.shares (share ∷ up) × IsGiven g who node share up × IsTrue (test (grant_from share up)))
 any_is test g who node bounded = (

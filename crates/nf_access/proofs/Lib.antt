@@ -6,3 +6,4 @@ pub mod Granted
 pub mod Places
 pub mod Breaks
 pub mod Kept
+pub mod Naming

@@ -2,16 +2,19 @@
 use Rattle.std.specs.Prelude.{◌≡◌, ◌≢◌, ◌↔◌, ◌⊎◌, ℕ, ◌&&◌, not, All, Bool, Contains, true, false, drop, List, [], ◌∷◌, map, Option, None, Some, is_some, Ok, option_and_then, if◌then◌else◌}
 use Rattle.std.specs.Option.{option_map_or}
 use Rattle.nf_access.specs.Access.{Allows, Reaches}
+use Rattle.nf_access.specs.Making.{is_part}
 use Rattle.nf_access.specs.Mounts.{is_mount_of, mount_row}
-use Rattle.nf_access.specs.Shares.{ground_of}
+use Rattle.nf_access.specs.Shares.{ground_of, mask_of, share_row}
 use Rattle.nf_base.specs.declared.content.Piece.{Piece}
 use Rattle.nf_base.specs.declared.perms.Act.{Act}
+use Rattle.nf_base.specs.declared.perms.Act.TheVariants as act
 use Rattle.nf_base.specs.declared.perms.Act.TheVariants.{Create, Delete, Read, Update}
 use Rattle.nf_base.specs.declared.rows.MountRow.{MountRow}
 use Rattle.nf_base.specs.declared.rows.NodeRow.{NodeRow}
 use Rattle.nf_base.specs.declared.rows.Place.TheVariants.{Inside}
+use Rattle.nf_base.specs.declared.rows.ShareKind.TheVariants as kinds
 use Rattle.nf_base.specs.declared.rows.ShareRow.{ShareRow}
-use Rattle.nf_defs.specs.Prelude.{is_folder_kind, Leads, node_row, parent_of, Tables}
+use Rattle.nf_defs.specs.Prelude.{is_folder_kind, Leads, mount_key, node_row, parent_of, put, share_key, Tables, user_named}
 use Rattle.nf_defs.specs.declared.Seeker.{Seeker}
 use Rattle.nf_defs.specs.declared.Seeker.TheVariants.{User}
 use Rattle.nf_laws.specs.Reads.{IsFreeToRead, IsWellAsked}
@@ -26,7 +29,8 @@ use Rattle.nf_words.specs.declared.history.Event.TheVariants.{Begin, End}
 use Rattle.nf_words.specs.declared.listing.ListingLine.{ListingLine}
 use Rattle.nf_words.specs.declared.request.Request.{Request}
 use Rattle.nf_words.specs.declared.request.Spot.{Spot}
-use Rattle.nf_words.specs.declared.request.Wanted.TheVariants.{Delete, Get, Move}
+use Rattle.nf_words.specs.declared.request.Wanted.TheVariants.{Delete, Get, Move, Share}
+use Rattle.nf_words.specs.declared.request.ShareAsk.TheVariants as ask
 use Rattle.nf_words.specs.declared.request.Words.{Words}
 
 -- ---- who may do what
@@ -209,15 +213,76 @@ pub record IsRemounted (s : State) (e : Entry) (after : Tables) : Type 0 where
   pub nodes : after.nodes ≡ s.tables.nodes
   pub shares : after.shares ≡ s.tables.shares
 
+-- ---- what is asked about shares
+
+-- the caller owns the node, and the share passes on none; or it passes on a share that the caller receives on the mount's node, with a
+-- chain of live shares that each let what they are of be shared, and allow all that it allows
+abbrev pub IsPassedOn : Call → Spot → ShareRow → Option ℕ → Type 0
+IsPassedOn call spot row None = Owns call.state.tables.nodes (seeker_of call) row.node
+IsPassedOn call spot row (Some parent) =
+    (mount : ℕ) × (mount_of call spot ≡ Some mount)
+    × ((share : ShareRow) × (up : List ShareRow) × (share.id ≡ parent)
+    × Allows (ground_of call.state.tables) call.now (seeker_of call) mount act.Share share up
+    × (is_part row.perms (mask_of (share ∷ up)) ≡ true))
+
+-- a new share of what a path of the caller's leads to, with the user of that name
+pub record IsMadeBy (call : Call) (spot : Spot) (to : List ℕ) (row : ShareRow) : Type 0 where
+  pub number : row.id ≡ call.state.tables.meta.next_share
+  pub led : LeadsBy call spot (mount_of call spot) row.node
+  pub initiator : row.initiator ≡ asker_of call
+  pub user : ℕ
+  pub named : user_named call.state.tables.users to ≡ Some user
+  pub kind : row.kind ≡ kinds.User user
+  pub passed_on : IsPassedOn call spot row row.parent
+  pub forever : row.until ≡ None
+  pub lasts : row.ended ≡ false
+
+-- a share that is there and isn't ended, by who made it or owns its node
+pub record IsSteered (call : Call) (share : ℕ) (old : ShareRow) : Type 0 where
+  pub there : share_row call.state.tables.shares share ≡ Some old
+  pub lasts : old.ended ≡ false
+  pub by : (old.initiator ≡ asker_of call) ⊎ (old.owner ≡ asker_of call)
+
+-- the one share that is made, has other permissions, or is ended
+pub data SharesOne (call : Call) : ShareRow → Type 0 where
+  is_made : (spot : Spot) (to : List ℕ) (perms : Option ℕ) (row : ShareRow) → call.request.wanted ≡ Share (ask.New spot to perms)
+      → IsMadeBy call spot to row → SharesOne call row
+  is_set : (share : ℕ) (perms : Option ℕ) (old row : ShareRow) → call.request.wanted ≡ Share (ask.Set share perms)
+      → IsSteered call share old → row ≡ record old { perms = row.perms } → SharesOne call row
+  is_ended : (share : ℕ) (old : ShareRow) → call.request.wanted ≡ Share (ask.End share) → IsSteered call share old
+      → SharesOne call (ended_row old)
+
+-- a mount of the node of a new share, for its user
+pub record IsMountFor (share : ShareRow) (row : MountRow) : Type 0 where
+  pub user : share.kind ≡ kinds.User row.user
+  pub node : row.node ≡ share.node
+  pub stays : row.left ≡ false
+
+-- a Begin makes, changes or ends one share, and a mount for it if it is new; no node is another
+pub record IsSharing (s : State) (e : Entry) (after : Tables) : Type 0 where
+  pub words : Words
+  pub request : Request
+  pub begins : e.event ≡ Begin words request
+  pub row : ShareRow
+  pub one : SharesOne (call_of s e.seat e.moment words request) row
+  pub shares : after.shares ≡ put share_key row s.tables.shares
+  pub mounts : (after.mounts ≡ s.tables.mounts)
+      ⊎ ((mount : MountRow) × IsMountFor row mount × (after.mounts ≡ put mount_key mount s.tables.mounts))
+  pub nodes : after.nodes ≡ s.tables.nodes
+
+-- a share ends exactly where its node goes, and no share and no mount is another otherwise
+pub record KeepsShares (s : State) (after : Tables) : Type 0 where
+  pub shares : after.shares ≡ shares_without s.tables.nodes after.nodes s.tables.shares
+  pub mounts : after.mounts ≡ s.tables.mounts
+
 -- ---- what a step changes
 
--- each node whose row is another is allowed to be; a share ends exactly where its node goes, and no share is another otherwise; the
--- mounts are as they were, or the one whose own path is named is another. Of the other rows the meta row alone is another
+-- each node whose row is another is allowed to be. A share ends exactly where its node goes, and no share and no mount is another
+-- otherwise, but for the mount whose own path is named, or the share that is asked about. Of the other rows the meta row alone is another
 pub record ChangesAllowed (s : State) (e : Entry) (after : Tables) : Type 0 where
   pub nodes : (node : ℕ) → node_row after.nodes node ≢ node_row s.tables.nodes node
       → IsAllowed s e.moment (seeker_at s e.seat e.moment e.event) (needs_of s e.seat e.moment e.event) after.nodes node
-  pub shares : after.shares ≡ shares_without s.tables.nodes after.nodes s.tables.shares
-  pub mounts : (after.mounts ≡ s.tables.mounts) ⊎ IsRemounted s e after
+  pub others : KeepsShares s after ⊎ (IsRemounted s e after ⊎ IsSharing s e after)
   pub rest : after ≡ record s.tables { meta = after.meta; nodes = after.nodes; shares = after.shares; mounts = after.mounts }
 
 abbrev pub ChangesWhatMayBeChanged : Type 0

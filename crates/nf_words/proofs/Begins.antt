@@ -22,13 +22,13 @@ use Rattle.nf_words.proofs.Fits.{new_known, within}
 use Rattle.nf_words.proofs.Found.{found_has, found_passes}
 use Rattle.nf_words.proofs.Known.{Known}
 use Rattle.nf_words.proofs.Mounting.{IsFreeName, left_known, renamed_known}
-use Rattle.nf_words.proofs.Passing.{acts_pass, call_passes, no_fault, no_limit, Passes, PlacePasses, place_passes}
+use Rattle.nf_words.proofs.Passing.{acts_pass, call_passes, no_fault, no_limit, Passes, PlacePasses, place_passes, no_rule}
 use Rattle.nf_words.proofs.Starts.{has_row, root_is, row_of_caller}
 use Rattle.nf_words.proofs.Transfers.{copied_known, fit_parts, moved_known}
 use Rattle.nf_words.proofs.Ways.{HasRow, slot_known, way_there}
-use Rattle.nf_words.specs.Asked.{Asked}
+use Rattle.nf_words.specs.Asked.{Asked, asked_about}
 use Rattle.nf_words.specs.History.{IsShort}
-use Rattle.nf_words.specs.Prelude.{access_of, acts_rule, AreSound, asked_of, asker_of, by_of, Call, call_decision, caller_row, deleted, exists_rule, folder_at, found, given, is_free_in, IsHeld, IsNodeSound, is_off_mount, is_owner, is_root_at, is_within, IsSound, is_there, last_name, limit_at, limit_rule, limited, listing_of, made_folder, may_by, MayStoreAt, MayWant, misplaced_by, mount_left, mount_of, mount_renamed, moved, Need, needs, needs_between, needs_in, node_at, node_found, place_rule, places_by, root_of, seeker_of, served, shown, stored, taken, target_rule, transfer_between, transfer_of, unfit, unfit_between, unreached, user_of, Way, way_by, way_of, Ways, ways_for}
+use Rattle.nf_words.specs.Prelude.{access_of, acts_rule, AreSound, asked_of, asker_of, by_of, Call, call_decision, caller_row, deleted, exists_rule, folder_at, found, given, is_free_in, IsHeld, IsNodeSound, is_off_mount, is_owner, is_root_at, is_within, IsSound, is_there, last_name, limit_at, limit_rule, limited, listing_of, made_folder, may_by, MayStoreAt, MayWant, misplaced_by, mount_left, mount_of, mount_renamed, moved, Need, needs, needs_between, needs_in, node_at, node_found, place_rule, places_by, root_of, seeker_of, served, shown, stored, taken, target_rule, transfer_between, transfer_of, unfit, unfit_between, unreached, user_of, Way, way_by, way_of, Ways, ways_for, fault_by, sharing_rule, limit_by, room_rule}
 use Rattle.nf_words.specs.Needed.{target_needs}
 use Rattle.nf_words.specs.Sound.{MayStoreBy}
 use Rattle.nf_words.specs.declared.answer.Allowed.{Allowed}
@@ -43,7 +43,10 @@ use Rattle.nf_words.specs.declared.request.Places.{Places}
 use Rattle.nf_words.specs.declared.request.Spot.{Spot}
 use Rattle.nf_words.specs.declared.request.Transfer.{Transfer}
 use Rattle.nf_words.specs.declared.request.Wanted.{Wanted}
-use Rattle.nf_words.specs.declared.request.Wanted.TheVariants.{Get, Put, Mkcol, Delete, Move, Copy}
+use Rattle.nf_words.specs.declared.request.Wanted.TheVariants.{Get, Put, Mkcol, Delete, Move, Copy, Share}
+use Rattle.nf_words.specs.declared.request.ShareAsk.{ShareAsk}
+use Rattle.nf_words.specs.declared.request.ShareAsk.TheVariants as ask
+use Rattle.nf_words.proofs.Asks.{asks_known}
 
 passed : (b : Bool) (fault : TargetFault) → (if b then Some fault else None) ≡ None → b ≡ false
 passed true fault none = absurd (cc)
@@ -215,6 +218,8 @@ pub record WantedPasses (call : Call) (wanted : Wanted) : Type 0 where
   pub free : taken call.state.tables.nodes (places_at call wanted) (asked_of wanted).makes ≡ None
   pub fits : unfit call.state.tables.nodes (root_of call) (asked_of wanted) (ways_for call (asked_of wanted)) ≡ None
   pub few : limited call.state.tables (places_at call wanted) (asked_of wanted).makes ≡ None
+  pub sharing : fault_by (access_of call.state) call wanted ≡ None
+  pub room : limit_by call wanted ≡ None
 
 module _ (call : Call) (row : UserRow) (sound : AreSound call.state.tables) (is : caller_row call ≡ Some row) where
   abbrev all : Tables
@@ -245,6 +250,16 @@ module _ (call : Call) (row : UserRow) (sound : AreSound call.state.tables) (is 
   move_known source to false itself from_reached to_reached fits some =
       moved_known call source to row sound is (from_reached refl) to_reached fits some
 
+  -- what is asked about shares leaves what is at its path, so that its mount is tested
+  of_place : (asked : ShareAsk) → PlacePasses (access_of call.state) call (asked_about asked)
+      → (spot : Spot) → (asked_about asked).source ≡ Some spot → unreached (access_of call.state) call (way_of call spot) ≡ None
+  of_place (ask.New spot name perms) p other same =
+      subst (λ (s : Spot). unreached (access_of call.state) call (way_of call s) ≡ None) (same_Some spot other same) (p.source refl)
+  of_place (ask.List None with_me) p other same = absurd (cc)
+  of_place (ask.List (Some spot) with_me) p other same =
+      subst (λ (s : Spot). unreached (access_of call.state) call (way_of call s) ≡ None) (same_Some spot other same) (p.source refl)
+  of_place asked p other same = absurd (cc)
+
   pub wanted_known : (wanted : Wanted) → WantedPasses call wanted → IsKnown (given (access_of call.state) call (places_at call wanted) wanted)
   wanted_known (Get spot) p = served_known call spot row sound is (p.place.source refl) (found call spot) refl
   wanted_known (Put spot length) p =
@@ -256,9 +271,11 @@ module _ (call : Call) (row : UserRow) (sound : AreSound call.state.tables) (is 
       move_known source to (way_of call source).itself refl p.place.source p.place.target p.fits p.few
   wanted_known (Copy source to overwrite) p =
       copied_known call source to row sound is (p.place.source refl) p.place.target p.fits p.few
+  wanted_known (Share asked) p =
+      asks_known call row sound is (places_at call (Share asked)) asked (of_place asked p.place) p.sharing p.room
 
 pub wanted_passes : (call : Call) → MayWant call.request → Passes (access_of call.state) call → WantedPasses call call.request.wanted
-unfolding exists_rule target_rule limit_rule
+unfolding exists_rule target_rule limit_rule sharing_rule room_rule
 wanted_passes call may p = record {
   short = may.short;
   place = place_passes (access_of call.state) call p.place;
@@ -266,12 +283,14 @@ wanted_passes call may p = record {
   free = p.exists;
   fits = no_fault _ p.target;
   few = no_limit _ p.limit;
+  sharing = no_rule _ p.sharing;
+  room = no_limit _ p.room;
 }
 
 pub call_known : (call : Call) (act : Allowed) → IsSound call.state → MayWant call.request → call_decision call ≡ Ok act
     → Known call.state.tables call.now act
 call_known call act sound may is =
     let h = call_passes call act is in
-    let row = has_row call may h.0.not_you in
+    let row = has_row call h.0.token in
     subst (λ (a : Allowed). Known call.state.tables call.now a) h.1
     (wanted_known call row.0 sound.rows row.1 call.request.wanted (wanted_passes call may h.0))

@@ -19,7 +19,7 @@ use Rattle.nf_base.specs.declared.rows.ShareRow.{ShareRow}
 use Rattle.nf_defs.specs.Prelude.{child_of, depth, filled, is_folder, is_folder_kind, made, node_key, node_row, put, Tables}
 use Rattle.nf_words.proofs.Bodies.{IsOfBody, body_sound, content_decides, refills_none}
 use Rattle.nf_words.proofs.Found.{found_has, found_passes, put_is_found}
-use Rattle.nf_words.specs.Prelude.{AreSound, blob_after, counted, IsBorn, IsFilled, IsLean, IsMountSound, IsNodeSound, IsPieceSound, IsRemounted, IsShareSound, IsUnmounted, last_number, limit_passed, new_node, raised, refilled, stored_pieces}
+use Rattle.nf_words.specs.Prelude.{AreSound, blob_after, counted, IsBorn, IsFilled, IsLean, IsMountSound, IsNewMount, IsNewShare, IsNodeSound, IsOtherShare, IsPieceSound, IsRemounted, IsShareSound, IsUnmounted, last_number, limit_passed, new_node, raised, refilled, stored_pieces}
 use Rattle.nf_words.specs.declared.answer.Limit.TheVariants as limit
 
 -- ---- limits
@@ -66,7 +66,9 @@ pub record KnownFilled (first : Tables) (blob : Option ℕ) (t : Tables) (row : 
 -- what is known of a change in the tables that it meets, by the kind of its row; a kind that isn't built yet isn't changed
 abbrev pub KnownRow : Tables → Option ℕ → Tables → Change → Type 0
 KnownRow first blob t (Put (rows.Node row)) = KnownBorn first blob t row ⊎ KnownFilled first blob t row
-KnownRow first blob t (Put (rows.Mount row)) = (blob ≡ None) × IsRemounted t row
+KnownRow first blob t (Put (rows.Mount row)) = (blob ≡ None) × (IsRemounted t row ⊎ IsNewMount t row)
+KnownRow first blob t (Put (rows.Share row)) =
+    (blob ≡ None) × ((IsNewShare t row × (first.meta.next_share ≤ row.id)) ⊎ (IsOtherShare t row × (row.id < first.meta.next_share)))
 KnownRow first blob t other = ⊥
 
 -- each in the tables that those before it make
@@ -80,6 +82,7 @@ pub record KnownChange (t : Tables) (now : ℕ) (changes : List Change) (blob : 
   pub lean : IsLean t changes
   pub stored : changes ≡ [] → blob ≡ None
   pub next_node : (counted t.meta changes).next_node ≤ max t.meta.next_node last_number
+  pub next_share : (counted t.meta changes).next_share ≤ max t.meta.next_share last_number
   pub next_blob : blob_after t.meta.next_blob blob ≤ max t.meta.next_blob last_number
 
 -- ---- rows that differ
@@ -101,7 +104,7 @@ one_lean t row other = record {
       (All-nil (λ (change : Change). made t change ≢ t));
 }
 
-none_lean : (t : Tables) → IsLean t []
+pub none_lean : (t : Tables) → IsLean t []
 none_lean t = record { once = λ i j d before within. absurd (omega arith); differ = All-nil (λ (change : Change). made t change ≢ t) }
 
 -- ---- a new node
@@ -153,6 +156,7 @@ new_known t now folder name kind content blob blobs sound there free unmounted f
       lean = one_lean t row (not_there t row sound refl);
       stored = λ none. absurd (cc);
       next_node = omega (arith, fits.next_node);
+      next_share = omega arith;
       next_blob = omega (arith, fits.next_blob, counts);
     }
 
@@ -171,6 +175,7 @@ over_known t now node content blob old sound there file counts few body =
         lean = none_lean t;
         stored = λ none. elim body [ inl of ↦ refills_none t old now content blob is.pieces of (rw same refl) | inr kept ↦ kept.0 ];
         next_node = omega arith;
+        next_share = omega arith;
         next_blob = counts;
       })
       | inr other ↦ simp other (changed other)
@@ -231,5 +236,6 @@ over_known t now node content blob old sound there file counts few body =
           lean = one_lean t row (differs other);
           stored = λ none. absurd (cc);
           next_node = omega (arith, is.given);
+          next_share = omega arith;
           next_blob = counts;
         }

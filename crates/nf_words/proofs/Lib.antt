@@ -15,3 +15,4 @@ pub mod Histories
 pub mod Marks
 pub mod Opens
 pub mod Orders
+pub mod Asks

@@ -18,7 +18,7 @@ use Rattle.nf_words.specs.declared.request.Spot.{Spot}
 use Rattle.nf_defs.specs.Prelude.{Access, is_root, owner_of, Tables}
 use Rattle.nf_defs.specs.declared.Found.{Found}
 use Rattle.nf_defs.specs.declared.Found.TheVariants.{At, Missing}
-use Rattle.nf_words.specs.Prelude.{access_of, acts_rule, allowed_of, answer_at, answer_to, answered_by, asked_by, broken_by, Call, call_of, decision_of, earlier_rules, end_lost, end_refusal, end_unallowed, end_unreached, ends_at, ends_goal, exists_rule, first_refused, first_that_holds, forbidden_rule, goal_at, has_forbidden, is_caller, is_kept, is_owner, is_refused, is_transfer, key_in_way, later_rules, limit_at, limit_rule, limited, locked_rule, Need, need_broken, needed, needed_by, node_of_key, not_you_rule, overwrite_rule, Pass, pieces_of, place_of, paths_of, place_rule, places_of, refusal_of, root_of, Rule, seeker_of, source_lost, source_refused, State, stored_at, taken, target_lost, target_refused, target_rule, told_broken, token_rule, touches, unfit, unless_refused, unreached, unreached_by, user_of, users_of, Way, way_of, ways_of}
+use Rattle.nf_words.specs.Prelude.{access_of, acts_rule, allowed_of, answer_at, answer_to, answered_by, asked_by, broken_by, Call, call_of, decision_of, earlier_rules, end_lost, end_refusal, end_unallowed, end_unreached, ends_at, ends_goal, exists_rule, first_refused, first_that_holds, forbidden_rule, goal_at, has_forbidden, is_caller, is_kept, is_owner, is_refused, is_transfer, key_in_way, later_rules, limit_at, limit_rule, limited, locked_rule, Need, need_broken, needed, needed_by, node_of_key, not_you_rule, overwrite_rule, Pass, pieces_of, place_of, paths_of, place_rule, places_of, refusal_of, root_of, Rule, seeker_of, source_lost, source_refused, State, stored_at, taken, target_lost, target_refused, target_rule, told_broken, token_rule, touches, unfit, unless_refused, unreached, unreached_by, user_of, users_of, Way, way_of, ways_of, caller_row, named_rule, sharing_rule, room_rule, unnamed, fault_by, limit_by, unnamed_by}
 use Rattle.nf_words.specs.declared.answer.Allowed.{Allowed}
 use Rattle.nf_words.specs.declared.answer.Denial.{Denial}
 use Rattle.nf_words.specs.declared.answer.Denial.TheVariants as denial
@@ -38,6 +38,11 @@ use Rattle.nf_words.specs.declared.history.Outcome.TheVariants.{Body}
 use Rattle.nf_words.specs.declared.request.Making.{Making}
 use Rattle.nf_words.specs.declared.request.Making.TheVariants as making
 use Rattle.nf_words.specs.declared.request.Places.{Places}
+use Rattle.nf_words.specs.declared.request.ShareAsk.{ShareAsk}
+use Rattle.nf_words.specs.declared.request.ShareAsk.TheVariants as ask
+use Rattle.nf_words.specs.declared.request.Wanted.{Wanted}
+use Rattle.nf_words.specs.declared.request.Wanted.TheVariants as wanted
+use Rattle.nf_words.specs.declared.answer.ShareRule.{ShareRule}
 use Rattle.nf_words.specs.declared.route.Route.TheVariants.{Files}
 
 -- a denial that no rule gives: the step failed, or there was no room for it
@@ -121,7 +126,7 @@ early_pass (rule ∷ others) behind access call refusal early later is =
 
 token_fine : (access : Access) (call : Call) → IsEarly (token_rule access call)
 unfolding token_rule
-token_fine access call = unless_test (is_some (user_of call)) denial.Token refl
+token_fine access call = unless_test (is_some (caller_row call)) denial.Token refl
 
 not_you_fine : (access : Access) (call : Call) → IsEarly (not_you_rule access call)
 unfolding not_you_rule
@@ -192,6 +197,22 @@ needs_fine access g seeker now needs = here (find (is_refused access g.nodes see
     here None = tt
     here (Some need) = by_mount need.act need.mount
 
+-- what is named is there or not
+named_fine : (access : Access) (call : Call) → IsEarly (named_rule access call)
+unfolding named_rule
+named_fine access call = here call.request.wanted
+  where
+    of_ask : (asked : ShareAsk) → IsEarly (unnamed call asked)
+    of_ask (ask.New spot name perms) = unless_test _ denial.NotFound refl
+    of_ask (ask.List spot with_me) = tt
+    of_ask (ask.Show share) = unless_test _ denial.NotFound refl
+    of_ask (ask.Set share perms) = unless_test _ denial.NotFound refl
+    of_ask (ask.End share) = unless_test _ denial.NotFound refl
+
+    here : (wanted : Wanted) → IsEarly (unnamed_by call wanted)
+    here (wanted.Share asked) = of_ask asked
+    here other = tt
+
 acts_fine : (access : Access) (call : Call) → IsEarly (acts_rule access call)
 unfolding acts_rule
 acts_fine access call = needs_fine access (ground_of call.state.tables) (seeker_of call) call.now (needed call)
@@ -208,6 +229,14 @@ overwrite_fine : (access : Access) (call : Call) → IsEarly (overwrite_rule acc
 unfolding overwrite_rule
 overwrite_fine access call = if_test (is_transfer (asked_by call).makes && is_kept (asked_by call).overwrites (places_of call)) denial.Overwrite refl
 
+sharing_fine : (access : Access) (call : Call) → IsEarly (sharing_rule access call)
+unfolding sharing_rule
+sharing_fine access call = here (fault_by access call call.request.wanted)
+  where
+    here : (o : Option ShareRule) → IsEarly (option_map denial.Rule o)
+    here None = tt
+    here (Some fault) = refl
+
 keys : (o : Option LockKey) → IsRefusal (option_map denial.Locked o)
 keys None = tt
 keys (Some key) = refl
@@ -221,13 +250,19 @@ limit_fine : (access : Access) (call : Call) → IsRefusal (limit_rule access ca
 unfolding limit_rule
 limit_fine access call = limits (limited call.state.tables (places_of call) (asked_by call).makes)
 
-pub early : AreEarly earlier_rules
-early = (token_fine, (not_you_fine, (forbidden_fine, (place_fine, (acts_fine, (exists_fine, (fit_fine, (overwrite_fine, tt))))))))
+room_fine : (access : Access) (call : Call) → IsRefusal (room_rule access call)
+unfolding room_rule
+room_fine access call = limits (limit_by call call.request.wanted)
 
-either_later : (a b : Option Denial) → IsRefusal a → IsRefusal b → IsRefusal (option_or a (option_or b None))
-either_later None None fine more = tt
-either_later None (Some refusal) fine more = more
-either_later (Some refusal) b fine more = fine
+pub early : AreEarly earlier_rules
+early =
+    (token_fine, (not_you_fine, (forbidden_fine, (place_fine, (named_fine, (acts_fine, (exists_fine, (fit_fine, (overwrite_fine, (sharing_fine, tt))))))))))
+
+any_later : (a b c : Option Denial) → IsRefusal a → IsRefusal b → IsRefusal c → IsRefusal (option_or a (option_or b (option_or c None)))
+any_later None None None one two three = tt
+any_later None None (Some refusal) one two three = three
+any_later None (Some refusal) c one two three = two
+any_later (Some refusal) b c one two three = one
 
 refusals : (access : Access) (call : Call) → IsRefusal (refusal_of access call)
 refusals access call = here (refusal_of access call) refl
@@ -238,7 +273,8 @@ refusals access call = here (refusal_of access call) refl
         elim (cases_Bool (is_later refusal)) [
           | inl later ↦
               (subst IsRefusal (early_pass earlier_rules later_rules access call refusal early later is).1
-              (either_later (locked_rule access call) (limit_rule access call) (locked_fine access call) (limit_fine access call)))
+              (any_later (locked_rule access call) (limit_rule access call) (room_rule access call) (locked_fine access call) (limit_fine access call)
+              (room_fine access call)))
           | inr first ↦ later_failure refusal first
         ]
 

@@ -118,12 +118,13 @@ pub remount_known : (t : Tables) (now : ℕ) (row : MountRow) → IsRemounted t 
     → KnownChange t now (Put (rows.Mount row) ∷ []) None
 remount_known t now row is = record {
   rows = (
-    (refl, record { old = is.old; there = is.there; same = is.same; other = is.other; free = is.free; apart = is.apart }),
+    (refl, inl (record { old = is.old; there = is.there; same = is.same; other = is.other; free = is.free; apart = is.apart })),
     tt,
   );
   lean = remount_lean t row (λ same. is.other (same_Some row is.old (sym same ∙ is.there)));
   stored = λ none. absurd (cc);
   next_node = omega arith;
+  next_share = omega arith;
   next_blob = omega arith;
 }
 

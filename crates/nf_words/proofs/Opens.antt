@@ -1,12 +1,12 @@
 -- What an event isn't answered.
-use Rattle.std.proofs.Common.{◌≡◌, ◌≢◌, ℕ, Bool, true, false, List, Result, Ok, Err, refl, sym, ap, ◌∙◌, subst}
+use Rattle.std.proofs.Common.{◌≡◌, ◌≢◌, ℕ, Bool, true, false, List, Result, Ok, Err, refl, sym, ap, ◌∙◌, subst, []}
 use Rattle.std.specs.Prelude.{Option, None, Some, is_some, if◌then◌else◌}
-use Rattle.std.specs.Option.{option_and_then, option_or}
+use Rattle.std.specs.Option.{option_and_then, option_map_or, option_or}
 use Rattle.nf_base.specs.declared.rows.NodeRow.{NodeRow}
 use Rattle.nf_defs.specs.Prelude.{Access, content_of, is_folder, Tables}
 use Rattle.nf_defs.specs.declared.Found.{Found}
 use Rattle.nf_defs.specs.declared.Found.TheVariants.{At, Free, Missing}
-use Rattle.nf_words.specs.Prelude.{access_of, allowed_of, answer_to, answered_by, asked_of, by_of, Call, call_of, copied, copies_to, crosses, decided, decision_of, deleted, end_refusal, ends_at, exists_rule, found, given, goal_at, goal_of, hold_of, is_off_mount, is_root_at, last_name, listing_of, made_folder, mount_left, mount_renamed, moved, node_at, node_found, refusal_of, reply_by, reply_to, reported, root_of, served, shown, source_lost, State, step, stored, stored_at, taken, target_lost, target_rule, transfer_between, transfer_by, transfer_of, transfer_to, unfit, unfit_between, unless_refused, Way, way_of, ways_for, with_goal}
+use Rattle.nf_words.specs.Prelude.{access_of, allowed_of, answer_to, answered_by, asked_of, by_of, Call, call_of, copied, copies_to, crosses, decided, decision_of, deleted, end_refusal, ends_at, exists_rule, found, given, goal_at, goal_of, hold_of, is_off_mount, is_root_at, last_name, listing_of, made_folder, mount_left, mount_renamed, moved, node_at, node_found, refusal_of, reply_by, reply_to, reported, root_of, served, shown, source_lost, State, step, stored, stored_at, taken, target_lost, target_rule, transfer_between, transfer_by, transfer_of, transfer_to, unfit, unfit_between, unless_refused, Way, way_of, ways_for, with_goal, shared, share_made, nothing_done, offered, share_told, share_shown, share_set, perms_after, share_steered, share_ended}
 use Rattle.nf_words.specs.declared.answer.Allowed.{Allowed}
 use Rattle.nf_words.specs.declared.answer.Allowed.TheVariants as allowed
 use Rattle.nf_words.specs.declared.answer.Denial.{Denial}
@@ -23,13 +23,17 @@ use Rattle.nf_words.specs.declared.answer.Report.TheVariants as report
 use Rattle.nf_words.specs.declared.history.Event.TheVariants.{Begin, End}
 use Rattle.nf_words.specs.declared.history.Outcome.{Outcome}
 use Rattle.nf_words.specs.declared.history.Outcome.TheVariants.{Body}
+use Rattle.nf_base.specs.declared.rows.ShareRow.{ShareRow}
+use Rattle.nf_words.specs.declared.request.Offer.{Offer}
 use Rattle.nf_words.specs.declared.request.Places.{Places}
+use Rattle.nf_words.specs.declared.request.ShareAsk.{ShareAsk}
+use Rattle.nf_words.specs.declared.request.ShareAsk.TheVariants as ask
 use Rattle.nf_words.specs.declared.request.Request.{Request}
 use Rattle.nf_words.specs.declared.request.Transfer.{Transfer}
 use Rattle.nf_words.specs.declared.request.Words.{Words}
 use Rattle.nf_words.specs.declared.request.Wanted.{Wanted}
 use Rattle.nf_words.specs.declared.route.Route.TheVariants.{Files}
-use Rattle.nf_words.specs.declared.request.Wanted.TheVariants.{Get, Put, Mkcol, Delete, Move, Copy}
+use Rattle.nf_words.specs.declared.request.Wanted.TheVariants.{Get, Put, Mkcol, Delete, Move, Copy, Share}
 use Rattle.nf_words.proofs.Begins.{only_at, places_at}
 use Rattle.nf_words.proofs.Passing.{no_fault, PlacePasses, place_passes, unrefused}
 use Rattle.nf_words.proofs.Transfers.{fit_parts, FitParts, same_transfer}
@@ -44,6 +48,9 @@ put_opens (Some node) = λ is. cc
 report_opens : (report : Report) → reported report ≢ Closed
 report_opens report.Made = λ is. cc
 report_opens report.Done = λ is. cc
+report_opens (report.Share line) = λ is. cc
+report_opens (report.Shares lines) = λ is. cc
+report_opens report.Plain = λ is. cc
 
 closes : (act : Allowed) → reply_to act ≡ Closed → act ≡ allowed.Close
 closes (allowed.Change changes blob report) is = absurd (report_opens report is)
@@ -120,6 +127,30 @@ only_source : (o : Option Denial) → option_or o None ≡ None → o ≡ None
 only_source None none = refl
 only_source (Some refusal) none = absurd (cc)
 
+open_shared : (access : Access) (call : Call) (places : Places) (asked : ShareAsk) → shared access call places asked ≢ allowed.Close
+open_shared access call places (ask.New spot name perms) = here (offered call spot name perms)
+  where
+    here : (o : Option Offer) → option_map_or (share_made access call) o nothing_done ≢ allowed.Close
+    here None = λ is. cc
+    here (Some offer) = λ is. cc
+open_shared access call places (ask.List spot with_me) = λ is. cc
+open_shared access call places (ask.Show share) = here (share_shown call share)
+  where
+    here : (o : Option ShareRow) → option_map_or (share_told call.state.tables []) o nothing_done ≢ allowed.Close
+    here None = λ is. cc
+    here (Some row) = λ is. cc
+open_shared access call places (ask.Set share perms) = here (share_steered call share)
+  where
+    here : (o : Option ShareRow)
+        → option_map_or (λ row. share_set call.state.tables (perms_after call.state.tables perms row) row) o nothing_done ≢ allowed.Close
+    here None = λ is. cc
+    here (Some row) = λ is. cc
+open_shared access call places (ask.End share) = here (share_steered call share)
+  where
+    here : (o : Option ShareRow) → option_map_or share_ended o nothing_done ≢ allowed.Close
+    here None = λ is. cc
+    here (Some row) = λ is. cc
+
 open_given : (call : Call) (asked : Wanted) → PlacePasses (access_of call.state) call (asked_of asked)
     → taken call.state.tables.nodes (places_at call asked) (asked_of asked).makes ≡ None
     → unfit call.state.tables.nodes (root_of call) (asked_of asked) (ways_for call (asked_of asked)) ≡ None
@@ -149,6 +180,7 @@ open_given call (Copy source to overwrite) led free fits =
     let places : Places = record { source = Some (found call source); target = Some (found call to) } in
     open_copied call.state.tables call.now (last_name to) (transfer_of call.state.tables.nodes places)
     (fits_some call.state.tables.nodes (root_of call) (way_of call source) (way_of call to) led.there fits)
+open_given call (Share asked) led free fits = open_shared (access_of call.state) call (places_at call (Share asked)) asked
 
 -- a Begin isn't
 pub begins_open : (s : State) (seat now : ℕ) (words : Words) (request : Request) → answer_to s seat now (Begin words request) ≢ Ok Closed

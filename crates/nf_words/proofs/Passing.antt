@@ -8,13 +8,14 @@ use Rattle.nf_access.specs.Shares.{Ground, ground_of}
 use Rattle.nf_defs.specs.Prelude.{Access, Tables}
 use Rattle.nf_defs.specs.declared.Seeker.{Seeker}
 use Rattle.nf_words.specs.Asked.{Asked}
-use Rattle.nf_words.specs.Prelude.{access_of, acts_rule, allowed_of, asked_by, Call, call_decision, end_lost, end_refusal, end_unallowed, end_unreached, exists_rule, first_refused, first_that_holds, forbidden_rule, found, is_refused, limit_at, limit_rule, locked_rule, may_by, Need, need_broken, needed, node_of_key, not_you_rule, overwrite_rule, Pass, pieces_of, place_of, place_rule, refusal_of, Rule, rules, seeker_of, source_lost, source_refused, target_lost, target_refused, target_rule, token_rule, unless_refused, unreached, Way, way_of}
+use Rattle.nf_words.specs.Prelude.{access_of, acts_rule, allowed_of, asked_by, Call, call_decision, end_lost, end_refusal, end_unallowed, end_unreached, exists_rule, first_refused, first_that_holds, forbidden_rule, found, is_refused, limit_at, limit_rule, locked_rule, may_by, named_rule, Need, need_broken, needed, node_of_key, not_you_rule, overwrite_rule, Pass, pieces_of, place_of, place_rule, refusal_of, room_rule, Rule, rules, seeker_of, sharing_rule, source_lost, source_refused, target_lost, target_refused, target_rule, token_rule, unless_refused, unreached, Way, way_of}
 use Rattle.nf_words.specs.declared.answer.Allowed.{Allowed}
 use Rattle.nf_words.specs.declared.answer.By.{By}
 use Rattle.nf_words.specs.declared.answer.Denial.{Denial}
 use Rattle.nf_words.specs.declared.answer.Denial.TheVariants as denial
 use Rattle.nf_words.specs.declared.answer.Limit.{Limit}
 use Rattle.nf_words.specs.declared.answer.LockKey.{LockKey}
+use Rattle.nf_words.specs.declared.answer.ShareRule.{ShareRule}
 use Rattle.nf_words.specs.declared.answer.TargetFault.{TargetFault}
 use Rattle.nf_words.specs.declared.request.Spot.{Spot}
 
@@ -24,30 +25,65 @@ pub record Passes (access : Access) (call : Call) : Type 0 where
   pub not_you : not_you_rule access call ≡ None
   pub forbidden : forbidden_rule access call ≡ None
   pub place : place_rule access call ≡ None
+  pub named : named_rule access call ≡ None
   pub acts : acts_rule access call ≡ None
   pub exists : exists_rule access call ≡ None
   pub target : target_rule access call ≡ None
   pub overwrite : overwrite_rule access call ≡ None
+  pub sharing : sharing_rule access call ≡ None
   pub locked : locked_rule access call ≡ None
   pub limit : limit_rule access call ≡ None
+  pub room : room_rule access call ≡ None
 
 named : (access : Access) (call : Call) → Pass rules access call → Passes access call
-named access call (token, (not_you, (forbidden, (place, (acts, (exists, (target, (overwrite, (locked, (limit, end)))))))))) = record {
+named access call (token, (not_you, (forbidden, (place, (names, (acts, (exists, (target, (overwrite, (sharing, (locked, (limit, (room, end))))))))))))) = record {
   token = token;
   not_you = not_you;
   forbidden = forbidden;
   place = place;
+  named = names;
   acts = acts;
   exists = exists;
   target = target;
   overwrite = overwrite;
+  sharing = sharing;
   locked = locked;
   limit = limit;
+  room = room;
 }
 
 pub in_order : (access : Access) (call : Call) → Passes access call → Pass rules access call
-in_order access call p =
-    (p.token, (p.not_you, (p.forbidden, (p.place, (p.acts, (p.exists, (p.target, (p.overwrite, (p.locked, (p.limit, tt))))))))))
+in_order access call p = (
+  p.token,
+  (
+    p.not_you,
+    (
+      p.forbidden,
+      (
+        p.place,
+        (
+          p.named,
+          (
+            p.acts,
+            (
+              p.exists,
+              (
+                p.target,
+                (
+                  p.overwrite,
+                  (
+                    p.sharing,
+                    (p.locked, (p.limit, (p.room, tt))),
+                  ),
+                ),
+              ),
+            ),
+          ),
+        ),
+      ),
+    ),
+  ),
+)
 
 -- ---- of a call
 
@@ -156,6 +192,10 @@ no_fault (Some fault) none = absurd (cc)
 pub no_key : (key : Option LockKey) → option_map denial.Locked key ≡ None → key ≡ None
 no_key None none = refl
 no_key (Some key) none = absurd (cc)
+
+pub no_rule : (fault : Option ShareRule) → option_map denial.Rule fault ≡ None → fault ≡ None
+no_rule None none = refl
+no_rule (Some fault) none = absurd (cc)
 
 pub no_limit : (passed : Option Limit) → option_map denial.Limit passed ≡ None → passed ≡ None
 no_limit None none = refl

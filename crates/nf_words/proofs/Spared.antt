@@ -7,6 +7,7 @@ use Rattle.std.proofs.lemmas.Bool.{both_ways, eq-eqb, eqb-true, not-true}
 use Rattle.std.proofs.lemmas.List.Elements.{All-cons, All-filter, All-head, All-nil, All-tail, filter_passes}
 use Rattle.std.proofs.lemmas.Option.{none-some, same_Some}
 use Rattle.std.proofs.lemmas.Slice.Eq.{bytes_eq-Decides}
+use Rattle.nf_access.specs.Mounts.{ensured}
 use Rattle.nf_base.specs.Content.{content_eq}
 use Rattle.nf_base.specs.declared.changes.Change.{Change}
 use Rattle.nf_base.specs.declared.changes.Change.TheVariants.{Put}
@@ -28,7 +29,7 @@ use Rattle.nf_words.proofs.Passing.{call_passes, no_key, not_refused}
 use Rattle.nf_words.proofs.Starts.{has_row}
 use Rattle.nf_words.proofs.Steps.{fails_each}
 use Rattle.nf_words.proofs.Transfers.{copies_known}
-use Rattle.nf_words.specs.Prelude.{access_of, AreApartHolds, AreKeysApart, AreSound, asked_by, asked_of, blob_for, blocks, by_of, Call, call_decision, call_of, caller_row, carry_limit, clashes, content_in, copied, copies_to, copy_limit, crosses, decision_of, deleted, end_decision, end_refusal, ends_at, ends_goal, found, given, HoldsFor, is_exclusive, IsNodeSound, IsSound, IsTicketSound, key_in_way, last_name, least, left_row, lesser, limited, listing_of, locked_rule, made_folder, makes, MayAsk, MayWant, mount_left, mount_renamed, move_limit, moved, named_row, new_node, node_at, node_of_key, own_mount, places_of, refilled, root_of, same_key, served, source_touches, State, stored, stored_at, target_touches, ticket_of, Touch, touch_key, touch_under, touched, touches, transfer_of, transfer_touches, unfit_between, unreached, way_of, with_mount_row, without, without_ticket}
+use Rattle.nf_words.specs.Prelude.{access_of, AreApartHolds, AreKeysApart, AreSound, asked_by, asked_of, blob_for, blocks, by_of, Call, call_decision, call_of, caller_row, carry_limit, clashes, content_in, copied, copies_to, copy_limit, crosses, decision_of, deleted, end_decision, end_refusal, ends_at, ends_goal, found, given, HoldsFor, is_exclusive, IsNodeSound, IsSound, IsTicketSound, key_in_way, last_name, least, left_row, lesser, limited, listing_of, locked_rule, made_folder, makes, MayAsk, MayWant, mount_left, mount_renamed, move_limit, moved, named_row, new_node, node_at, node_of_key, own_mount, places_of, refilled, root_of, same_key, served, source_touches, State, stored, stored_at, target_touches, ticket_of, Touch, touch_key, touch_under, touched, touches, transfer_of, transfer_touches, unfit_between, unreached, way_of, with_mount_row, without, without_ticket, share_made, shared, new_share, nothing_done, mounting, offered, share_told, share_shown, share_set, perms_after, share_steered, share_ended, ended_row}
 use Rattle.nf_words.specs.declared.answer.Allowed.{Allowed}
 use Rattle.nf_words.specs.declared.answer.Allowed.TheVariants as allowed
 use Rattle.nf_words.specs.declared.answer.By.{By}
@@ -49,7 +50,11 @@ use Rattle.nf_words.specs.declared.history.Event.TheVariants.{Begin, End}
 use Rattle.nf_words.specs.declared.history.Outcome.{Outcome}
 use Rattle.nf_words.specs.declared.history.Outcome.TheVariants.{Body, Gone, Sent}
 use Rattle.nf_words.specs.declared.history.Ticket.{Ticket}
+use Rattle.nf_base.specs.declared.rows.ShareRow.{ShareRow}
+use Rattle.nf_words.specs.declared.request.Offer.{Offer}
 use Rattle.nf_words.specs.declared.request.Places.{Places}
+use Rattle.nf_words.specs.declared.request.ShareAsk.{ShareAsk}
+use Rattle.nf_words.specs.declared.request.ShareAsk.TheVariants as ask
 use Rattle.nf_words.specs.declared.request.Transfer.{Transfer}
 use Rattle.nf_words.specs.declared.request.Wanted.{Wanted}
 use Rattle.nf_words.specs.declared.request.Wanted.TheVariants.{Copy, Delete, Get, Mkcol, Move}
@@ -299,6 +304,46 @@ module _ (call : Call) (row : UserRow) (hold : Hold) (sound : AreSound call.stat
     transfer_spared t hold Shared (last_name to) transfer clear,
   )
 
+  -- no key is of a share or of a mount
+  share_spares : (offer : Offer) → IsSpared (share_made (access_of call.state) call offer)
+  share_spares offer = here (ensured t.users t.nodes t.mounts offer.to offer.node)
+    where
+      share : Change
+      share = Put (rows.Share (new_share (access_of call.state) call offer))
+
+      here : (mount : Option MountRow) → All (SparesChange t hold.key) (share ∷ mounting mount)
+      here None = All-cons (SparesChange t hold.key) share [] tt (All-nil (SparesChange t hold.key))
+      here (Some mount) =
+          All-cons (SparesChange t hold.key) share (Put (rows.Mount mount) ∷ []) tt
+          (All-cons (SparesChange t hold.key) (Put (rows.Mount mount)) [] tt (All-nil (SparesChange t hold.key)))
+
+  put_spares : (row : ShareRow) (b : Bool) → All (SparesChange t hold.key) (if b then [] else Put (rows.Share row) ∷ [])
+  put_spares row true = All-nil (SparesChange t hold.key)
+  put_spares row false = All-cons (SparesChange t hold.key) (Put (rows.Share row)) [] tt (All-nil (SparesChange t hold.key))
+
+  asks_spare : (places : Places) (asked : ShareAsk) → IsSpared (shared (access_of call.state) call places asked)
+  asks_spare places (ask.New spot name perms) = here (offered call spot name perms)
+    where
+      here : (o : Option Offer) → IsSpared (option_map_or (share_made (access_of call.state) call) o nothing_done)
+      here None = All-nil (SparesChange t hold.key)
+      here (Some offer) = share_spares offer
+  asks_spare places (ask.List spot with_me) = All-nil (SparesChange t hold.key)
+  asks_spare places (ask.Show share) = here (share_shown call share)
+    where
+      here : (o : Option ShareRow) → IsSpared (option_map_or (share_told t []) o nothing_done)
+      here None = All-nil (SparesChange t hold.key)
+      here (Some row) = All-nil (SparesChange t hold.key)
+  asks_spare places (ask.Set share perms) = here (share_steered call share)
+    where
+      here : (o : Option ShareRow) → IsSpared (option_map_or (λ row. share_set t (perms_after t perms row) row) o nothing_done)
+      here None = All-nil (SparesChange t hold.key)
+      here (Some row) = put_spares (record row { perms = perms_after t perms row }) (perms_after t perms row == row.perms)
+  asks_spare places (ask.End share) = here (share_steered call share)
+    where
+      here : (o : Option ShareRow) → IsSpared (option_map_or share_ended o nothing_done)
+      here None = All-nil (SparesChange t hold.key)
+      here (Some row) = put_spares (ended_row row) false
+
   wanted_spares : (wanted : Wanted) → WantedPasses call wanted → IsClear t hold (touches t.nodes (asked_of wanted) (places_at call wanted))
       → IsSpared (given (access_of call.state) call (places_at call wanted) wanted)
   wanted_spares (Get spot) p clear = served_spares (access_of call.state) call hold (way_of call spot).mount (node_at (Some (found call spot))) clear
@@ -310,6 +355,7 @@ module _ (call : Call) (row : UserRow) (hold : Hold) (sound : AreSound call.stat
       move_spares from to (way_of call from).itself refl p.place.source p.place.target p.fits p.few clear
   wanted_spares (Copy from to overwrite) p clear =
       copy_spares from to (p.place.source refl) p.place.target p.fits (transfer_of t.nodes (led from to)) refl p.few clear
+  wanted_spares (wanted.Share asked) p clear = asks_spare (places_at call (wanted.Share asked)) asked
 
 -- ---- nobody is in the way
 
@@ -366,7 +412,7 @@ call_spares : (call : Call) (act : Allowed) (hold : Hold) → IsSound call.state
     → Spares call.state.tables call.now hold act
 call_spares call act hold sound may is clear =
     let h = call_passes call act is in
-    let row = has_row call may h.0.not_you in
+    let row = has_row call h.0.token in
     subst (λ (a : Allowed). Spares call.state.tables call.now hold a) h.1
     (wanted_spares call row.0 hold sound.rows row.1 call.request.wanted (wanted_passes call may h.0) clear)
 

@@ -11,53 +11,21 @@ use Rattle.nf_base.specs.declared.rows.UserRow.{UserRow}
 use Rattle.nf_defs.specs.Prelude.{folder_of, node_row, parent_of, user_row}
 use Rattle.nf_words.proofs.Found.{found_has, found_passes}
 use Rattle.nf_words.proofs.Passing.{if_none}
-use Rattle.nf_words.specs.Prelude.{access_of, AreSound, asked_of, Call, caller_row, HasRoot, is_caller, MayWant, named_in, NamesUser, not_you_rule, root_of, user_of, users_of}
+use Rattle.nf_words.specs.Prelude.{access_of, AreSound, asked_of, Call, caller_row, HasRoot, is_caller, MayWant, named_in, NamesUser, not_you_rule, root_of, token_rule, user_of, users_of}
 use Rattle.nf_words.specs.declared.request.Caller.{Caller}
 use Rattle.nf_words.specs.declared.request.Caller.TheVariants.{Absent, Token}
 use Rattle.nf_words.specs.declared.request.Spot.{Spot}
 use Rattle.nf_words.specs.declared.request.Wanted.{Wanted}
 use Rattle.nf_words.specs.declared.request.Wanted.TheVariants.{Get, Put, Mkcol, Delete, Move, Copy}
 
-caller_there : (call : Call) (name : List ℕ) → is_caller call name ≡ true → (row : UserRow) × (caller_row call ≡ Some row)
-caller_there call name is = here (caller_row call) refl is
+-- the caller's row is there
+pub has_row : (call : Call) → token_rule (access_of call.state) call ≡ None → (row : UserRow) × (caller_row call ≡ Some row)
+unfolding token_rule
+has_row call passes = here (caller_row call) refl (if_none _ _ passes)
   where
-    here : (o : Option UserRow) → caller_row call ≡ o → option_map_or (λ row. bytes_eq row.name name) o false ≡ true
-        → (row : UserRow) × (caller_row call ≡ Some row)
-    here None e is = absurd (false≢true is)
+    here : (o : Option UserRow) → caller_row call ≡ o → is_some o ≡ true → (row : UserRow) × (caller_row call ≡ Some row)
+    here None e is = absurd (cc)
     here (Some row) e is = (row, e)
-
-no_link : (caller : Caller) (spot : Spot) → NamesUser caller spot → is_some spot.user ≡ true
-no_link Absent spot names = names
-no_link (Token digest) spot names = names
-
--- a place that names its user, before others, is in the files of the caller, whose row is there
-of_caller : (call : Call) (spot : Spot) (others : List (List ℕ)) → NamesUser call.request.caller spot
-    → list_all (is_caller call) (named_in spot.user ++ others) ≡ true → (row : UserRow) × (caller_row call ≡ Some row)
-of_caller call spot others names all = here spot.user (no_link call.request.caller spot names) all
-  where
-    here : (name : Option (List ℕ)) → is_some name ≡ true → list_all (is_caller call) (named_in name ++ others) ≡ true
-        → (row : UserRow) × (caller_row call ≡ Some row)
-    here None named all = absurd (cc)
-    here (Some name) named all = caller_there call name (and_parts (is_caller call name) (list_all (is_caller call) others) all).0
-
--- so the caller's row is there
-pub has_row : (call : Call) → MayWant call.request → not_you_rule (access_of call.state) call ≡ None
-    → (row : UserRow) × (caller_row call ≡ Some row)
-unfolding not_you_rule
-has_row call may passes = here call.request.wanted (if_none _ _ passes) may.source may.target
-  where
-    alone : (name : Option (List ℕ)) → list_all (is_caller call) (named_in name ++ []) ≡ list_all (is_caller call) (named_in name)
-    alone name = ap (list_all (is_caller call)) (append-nil (named_in name))
-
-    here : (wanted : Wanted) → list_all (is_caller call) (users_of (asked_of wanted)) ≡ true
-        → IfSome (asked_of wanted).source (NamesUser call.request.caller) → IfSome (asked_of wanted).target (NamesUser call.request.caller)
-        → (row : UserRow) × (caller_row call ≡ Some row)
-    here (Get spot) all source target = of_caller call spot [] source all
-    here (Put spot length) all source target = of_caller call spot [] target (alone spot.user ∙ all)
-    here (Mkcol spot) all source target = of_caller call spot [] target (alone spot.user ∙ all)
-    here (Delete spot) all source target = of_caller call spot [] source all
-    here (Move from to overwrite) all source target = of_caller call from (named_in to.user) source all
-    here (Copy from to overwrite) all source target = of_caller call from (named_in to.user) source all
 
 -- the caller's row is that of the user who asks
 pub row_of_caller : (rows : List UserRow) (who : Option ℕ) (row : UserRow) → option_and_then (user_row rows) who ≡ Some row

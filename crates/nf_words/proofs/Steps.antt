@@ -165,6 +165,9 @@ put_grants_nothing (Some node) goal = λ is. cc
 pub reports_nothing : (report : Report) (goal : Goal) → reported report ≢ Granted goal
 reports_nothing report.Made goal = λ is. cc
 reports_nothing report.Done goal = λ is. cc
+reports_nothing (report.Share line) goal = λ is. cc
+reports_nothing (report.Shares lines) goal = λ is. cc
+reports_nothing report.Plain goal = λ is. cc
 
 goal_of_reply : (act : Allowed) (goal : Goal) → reply_to act ≡ Granted goal → goal_of act ≡ Some goal
 goal_of_reply (allowed.Change changes blob report) goal is = absurd (reports_nothing report goal is)

@@ -55,7 +55,7 @@ pub record IsRemounted (t : Tables) (row : MountRow) : Type 0 where
   pub apart : row.left ≡ false → mount_at t.mounts row.user row.name ≡ None
 
 -- a new mount, of a node that is there and another's, under a name that is free in its user's root
-pub record IsMounted (t : Tables) (row : MountRow) : Type 0 where
+pub record IsNewMount (t : Tables) (row : MountRow) : Type 0 where
   pub fresh : mount_row t.mounts row.user row.node ≡ None
   pub stays : row.left ≡ false
   pub user : is_some (user_row t.users row.user) ≡ true
@@ -72,7 +72,7 @@ StandsOn t row None = row.initiator ≡ row.owner
 StandsOn t row (Some parent) = (is_some (share_row t.shares parent) ≡ true) × (length (chain_of t.shares parent) < MAX_CHAIN)
 
 -- a new share of a node that is there, whose number is above all others
-pub record IsShared (t : Tables) (row : ShareRow) : Type 0 where
+pub record IsNewShare (t : Tables) (row : ShareRow) : Type 0 where
   pub newest : All (λ (old : ShareRow). old.id < row.id) t.shares
   pub given : row.id < t.meta.next_share
   pub made : row.made ≤ t.meta.last
@@ -87,7 +87,7 @@ pub record IsShared (t : Tables) (row : ShareRow) : Type 0 where
   pub few : length t.shares + 1 ≤ MAX_SHARES
 
 -- a share that is there, with other permissions, or ended
-pub record IsReshared (t : Tables) (row : ShareRow) : Type 0 where
+pub record IsOtherShare (t : Tables) (row : ShareRow) : Type 0 where
   pub old : ShareRow
   pub there : share_row t.shares row.id ≡ Some old
   pub same : row ≡ record old { perms = row.perms; ended = row.ended }

@@ -88,8 +88,8 @@ needs_between rows root asked source target =
     let within = is_within rows root source target in
     if is_mount_asked asked source then []
     else
-      option_map_or (source_needs asked.makes asked.removes within) source []
-      ++ option_map_or (target_needs asked.makes rows root within) target []
+    option_map_or (source_needs asked.makes asked.removes within) source []
+    ++ option_map_or (target_needs asked.makes rows root within) target []
 
 -- what a request needs
 abbrev pub needed : Call → List Need

@@ -66,7 +66,10 @@ pub enum ShareAsk {
     },
     /// The shares that the caller made; with a place, those of what is there that the caller made or owns. `with_me` asks for those that
     /// the caller receives instead.
-    List { spot: Option<Spot>, with_me: bool },
+    List {
+        spot: Option<Spot>,
+        with_me: bool,
+    },
     /// What there is to tell of a share.
     Show(ShareId),
     /// That a share has other permissions; without any, they stay.

@@ -2,7 +2,8 @@ use Rattle.std.proofs.Common.{◌≡◌, true, false, ◌∙◌, arith}
 use Rattle.nf_access.specs.Mounts.{names_in_root}
 use Rattle.nf_base.specs.FreeNames.{candidate, is_taken}
 use Rattle.nf_base.proofs.FreeNames.{AreTakenBelow-two, AreTakenBelow-more}
-use Rattle.nf_mounts.proofs.Naming.{first_free, names_few}
+use Rattle.nf_mounts.proofs.Naming.{first_free}
+use Rattle.nf_access.proofs.Naming.{names_few}
 use Rattle.nf_mounts.proofs.mounts.Mounts.free_in_root.Goals as goal
 
 pub loop-free-init : goal.loop-free-init

@@ -1,5 +1,5 @@
 use Rattle.std.proofs.Common.{arith}
-use Rattle.nf_mounts.proofs.Naming.{taken_in_root}
+use Rattle.nf_access.proofs.Naming.{taken_in_root}
 use Rattle.nf_mounts.proofs.mounts.Mounts.is_name_free.Goals as goal
 
 pub returns-then-is_none : goal.returns-then-is_none
