@@ -1,12 +1,12 @@
 //! The shares of the site.
 
-ghost use Rattle.std.specs.Prelude.{◌≡◌, ◌≢◌, ◌==◌, ◌≤◌, true, false, None, [], ◌∷◌, length, map, find, option_copied, option_map, Err, IfOk, IfSome, IsOk, IsSome, OnOk};
+ghost use Rattle.std.specs.Prelude.{◌≡◌, ◌≢◌, ◌==◌, ◌≤◌, ◌+◌, true, false, None, Some, [], ◌∷◌, length, map, find, option_copied, option_map, Err, IfOk, IfSome, IsOk, IsSome, OnOk};
 ghost use Rattle.std.specs.Fn.{FnOnceReturnsAtMut};
 ghost use Rattle.std.specs.Option.{option_map_or};
 ghost use Rattle.nf_base.specs.declared.rows.ShareRow.{ShareRow};
 ghost use Rattle.nf_access.specs.Broken.{first_received};
-ghost use Rattle.nf_access.specs.Shares.{chain_of, chain_within, receives, share_row};
-ghost use Rattle.nf_defs.specs.Prelude.{IsRising, is_under, share_key};
+ghost use Rattle.nf_access.specs.Shares.{chain_of, chain_within, mask_of, receives, share_row};
+ghost use Rattle.nf_defs.specs.Prelude.{IsRising, is_under, put, share_key};
 ghost use Rattle.nf_defs.specs.declared.Seeker.TheVariants as seeker;
 ghost use Rattle.nf_shares.specs.Kept.{FitsShare, StaysInPlace, changed, ended_where, ids_of, is_child_of, link_of};
 ghost use Rattle.nf_access.specs.Making.{is_again};
@@ -15,9 +15,9 @@ ghost use Rattle.nf_table.specs.Rows.{Changes};
 ghost use Rattle.nf_shares.specs.declared.faults.ShareFault.TheVariants as fault;
 
 use crate::faults::ShareFault;
-use crate::nodes::{NodeShare, node_index};
+use crate::nodes::{NodeShare, node_index, renew};
 use crate::rows::{is_again, is_child_of, is_link, is_self_share, receives, token_of};
-use nf_access::Facts;
+use nf_access::{Facts, nothing};
 use nf_base::{MAX_CHAIN, MAX_SHARES, Moment, Name, NodeId, Perms, ShareId, ShareRow, UserId};
 use nf_table::{ShareKey, Table};
 use nf_tree::Tree;
@@ -103,6 +103,13 @@ impl Shares {
         self.depth_within(id, MAX_CHAIN).unwrap_or(0)
     }
 
+    /// What every share of the share's chain allows, whether or not the chain stands; nothing where there is none.
+    pub fn mask(&self, id: ShareId) -> Perms
+        ensures { result ≡ mask_of (chain_of self.now.rows id) }
+    {
+        self.mask_within(id, MAX_CHAIN).unwrap_or(nothing())
+    }
+
     pub fn count(&self) -> usize
         ensures { result ≡ length self.now.rows }
     {
@@ -172,6 +179,13 @@ impl Shares {
             .collect(alloc)
     }
 
+    /// The first share, neither ended nor expired, by which the initiator of a share that is to be made gives its recipient its node already.
+    pub fn again(&self, row: &ShareRow, now: Moment) -> Option<ShareId>
+        ensures { result ≡ option_map (λ row. row.id) (find (is_again row.now now) self.now.rows) }
+    {
+        self.again_of(row, now, self.entries(row.node))
+    }
+
     /// Puts in a share of a new number, or says why it can't be made. Where there is room for it, there is memory.
     pub fn create(&mut self, row: ShareRow, now: Moment) -> Result<(), ShareFault>
         requires { share_row self.old.rows row.id ≡ None }
@@ -180,12 +194,20 @@ impl Shares {
     {
         self.check(&row, now)?;
         self.reserve()?;
-        self.by_node.put(NodeShare {
-            node: row.node,
-            share: row.id,
-        });
-        self.rows.put(row);
+        self.put(row);
         Ok(())
+    }
+
+    /// Puts a row over that of the same share, which is on the same node, or as a new one. It takes no memory.
+    pub fn put(&mut self, row: ShareRow)
+        requires room { share_row self.old.rows row.id ≡ None → FitsShare self.old }
+        requires place { (old : ShareRow) → share_row self.old.rows row.id ≡ Some old → old.node ≡ row.node }
+        ensures rows { self.new.rows ≡ put share_key row self.old.rows }
+        ensures room { self.old.room ≤ self.new.room }
+        ensures count { length self.new.rows ≤ length self.old.rows + 1 }
+    {
+        renew(&mut self.by_node, &self.rows, &row);
+        self.rows.put(row);
     }
 
     /// Ends a share. It takes no memory.
@@ -251,6 +273,24 @@ impl Shares {
         }
     }
 
+    /// What every share of the share's chain allows, where there are at most so many.
+    fn mask_within(&self, id: ShareId, most: usize) -> Option<Perms>
+        ensures { result ≡ option_map mask_of (chain_within most self.now.rows id) }
+    {
+        if most == 0 {
+            return None;
+        }
+        let row = self.row(id)?;
+        match row.parent {
+            None if row.initiator == row.owner => Some(row.perms),
+            None => None,
+            Some(parent) => {
+                let above = self.mask_within(parent, most - 1)?;
+                Some(row.perms.and(above))
+            }
+        }
+    }
+
     /// The first of these entries' shares that the user receives.
     fn first_of<F: Facts>(&self, facts: &F, user: UserId, entries: &[NodeShare]) -> Option<ShareId>
         ensures { result ≡ find (λ id. option_map_or (receives (F.members facts.now) (seeker.User user)) (share_row self.now.rows id) false) (map (λ entry. entry.share) entries.now) }
@@ -269,13 +309,6 @@ impl Shares {
             Some(row) => receives(facts, user, row),
             None => false,
         }
-    }
-
-    /// The first share that gives the same already. It is one of the same node.
-    fn again(&self, row: &ShareRow, now: Moment) -> Option<ShareId>
-        ensures { result ≡ option_map (λ row. row.id) (find (is_again row.now now) self.now.rows) }
-    {
-        self.again_of(row, now, self.entries(row.node))
     }
 
     /// The first of these entries' shares that gives the same already.
