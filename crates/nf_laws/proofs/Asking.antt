@@ -1,5 +1,5 @@
 -- What is asked about shares changes nothing, or makes, changes or ends one share.
-use Rattle.std.proofs.Common.{◌≡◌, ◌⊎◌, inl, inr, ℕ, ◌==◌, ◌&&◌, ◌||◌, not, Bool, true, false, List, [], ◌∷◌, find, Option, None, Some, option_map, if◌then◌else◌, refl, sym, ap, ◌∙◌}
+use Rattle.std.proofs.Common.{◌≡◌, ◌⊎◌, inl, inr, ℕ, ◌==◌, ◌&&◌, not, Bool, true, false, List, [], ◌∷◌, find, Option, None, Some, option_map, if◌then◌else◌, refl, sym}
 use Rattle.std.specs.Prelude.{is_none}
 use Rattle.std.specs.Option.{option_and_then, option_map_or}
 use Rattle.std.proofs.lemmas.Bool.{and_from, and_parts, eq-eqb, eqb-true, or_cases}
@@ -7,7 +7,7 @@ use Rattle.std.proofs.lemmas.List.Folds.{list_any-from_Any}
 use Rattle.std.proofs.lemmas.Option.{none-some, same_Some}
 use Rattle.nf_access.proofs.Granted.{any_is, granted_allows}
 use Rattle.nf_access.proofs.LookUps.{find_among}
-use Rattle.nf_access.specs.Access.{allows, by_chains}
+use Rattle.nf_access.specs.Access.{by_chains}
 use Rattle.nf_access.specs.Making.{is_part, passes_on}
 use Rattle.nf_access.specs.Mounts.{free_name_of, is_mounted, name_of, names_in_root}
 use Rattle.nf_access.specs.Shares.{ground_of, mask_of}
