@@ -13,7 +13,7 @@ use Rattle.nf_defs.specs.Prelude.{Access, user_named}
 use Rattle.nf_words.proofs.Orders.{first_of}
 use Rattle.nf_words.specs.Places.{has_forbidden, taken}
 use Rattle.nf_words.specs.Sharing.{unnamed_by}
-use Rattle.nf_words.specs.Prelude.{access_of, acts_rule, allowed_of, answered_by, asked_by, Call, call_of, caller_row, exists_rule, forbidden_rule, is_caller, is_one, IsSound, limit_rule, locked_rule, mount_of, named_rule, needed, not_you_rule, overwrite_rule, paths_of, place_rule, places_of, refusal_of, room_rule, root_of, seeker_of, share_shown, share_steered, sharing_rule, source_lost, source_refused, State, target_lost, target_refused, target_rule, token_rule, unless_refused, unreached, unreached_by, user_of, users_of, Way, way_by, way_of}
+use Rattle.nf_words.specs.Prelude.{access_of, acts_rule, allowed_of, answered_by, asked_by, Call, call_of, caller_row, exists_rule, forbidden_rule, is_caller, is_one, IsSound, limit_rule, locked_rule, mount_of, named_rule, needed, not_you_rule, overwrite_rule, paths_of, place_rule, places_of, refusal_of, room_rule, root_of, seeker_of, share_shown, share_steered, sharing_rule, source_lost, source_refused, State, target_lost, target_refused, target_rule, token_rule, unless_refused, unreached, unreached_by, users_of, Way, way_by, way_of}
 use Rattle.nf_words.specs.declared.answer.Allowed.{Allowed}
 use Rattle.nf_words.specs.declared.answer.Denial.{Denial}
 use Rattle.nf_words.specs.declared.answer.Denial.TheVariants as denial

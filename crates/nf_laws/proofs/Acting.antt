@@ -51,7 +51,7 @@ use Rattle.nf_words.proofs.Known.{Known}
 use Rattle.nf_words.proofs.Mounting.{IsOwnMount, mount_found, own_known}
 use Rattle.nf_words.proofs.Passing.{call_passes, Passes, place_passes, PlacePasses}
 use Rattle.nf_words.proofs.Starts.{has_row, row_of_caller}
-use Rattle.nf_words.specs.Prelude.{access_of, allowed_of, answered_by, AreSound, asked_of, asker_of, blob_after, blob_for, by_of, Call, call_decision, call_of, changed, closed_under, content_in, decision_of, deleted, dropped_under, end_refusal, ends_at, exists_rule, found, given, gone_under, IsHeld, IsStorable, last_name, left_row, made_folder, makes, MayAsk, MayEnd, MayWant, mount_left, mount_of, mount_renamed, moved, named_row, new_node, node_at, own_mount, refilled, refusal_of, removed, root_of, seeker_of, source_lost, step, stored, stored_at, stores, taken, target_lost, told, transfer_of, user_of, way_by, way_of, with_mount_row}
+use Rattle.nf_words.specs.Prelude.{access_of, allowed_of, answered_by, AreSound, asked_of, asker_of, blob_after, blob_for, by_of, Call, call_decision, call_of, changed, closed_under, content_in, decision_of, deleted, dropped_under, end_refusal, ends_at, exists_rule, found, given, gone_under, IsHeld, IsStorable, last_name, left_row, made_folder, makes, MayAsk, MayEnd, mount_left, mount_of, mount_renamed, moved, named_row, new_node, node_at, own_mount, refilled, refusal_of, removed, root_of, seeker_of, source_lost, step, stored, stored_at, stores, taken, target_lost, told, transfer_of, user_of, way_by, way_of, with_mount_row}
 use Rattle.nf_words.specs.declared.answer.Allowed.{Allowed}
 use Rattle.nf_words.specs.declared.answer.Allowed.TheVariants as allowed
 use Rattle.nf_words.specs.declared.answer.Denial.{Denial}

@@ -34,7 +34,7 @@ use Rattle.nf_laws.proofs.Rows.{found_is, inside_folder, parent_there, stamp, st
 use Rattle.nf_laws.proofs.Transferred.{moved_rows}
 use Rattle.nf_laws.proofs.Upwards.{climbs_is_under}
 use Rattle.nf_laws.specs.Acts.{IsAdded, IsPut, IsRefilled}
-use Rattle.nf_laws.specs.Access.{ChangesAllowed, ChangesWhatMayBeChanged, Follows, IsAllowed, IsNeeded, IsOwnPath, IsRemounted, IsSharing, KeepsShares, MayDo, Remounts, is_left, is_moved, is_renamed, is_updated, needs_of, needs_of_goal, seeker_at, seeker_of_goal, shares_without}
+use Rattle.nf_laws.specs.Access.{ChangesAllowed, ChangesWhatMayBeChanged, Follows, IsAllowed, IsNeeded, IsOwnPath, IsRemounted, IsSharing, KeepsShares, MayDo, Remounts, is_left, is_moved, is_renamed, is_updated, needs_of, needs_of_goal, seeker_at, seeker_of_goal}
 use Rattle.nf_words.proofs.Begins.{only_at, places_at, wanted_passes, WantedPasses}
 use Rattle.nf_words.proofs.Ends.{known_change, goal_held}
 use Rattle.nf_words.proofs.Fits.{within}

@@ -1,13 +1,13 @@
 -- What is asked about shares changes nothing, or makes, changes or ends one share.
-use Rattle.std.proofs.Common.{◌≡◌, ◌⊎◌, inl, inr, ℕ, ◌==◌, ◌&&◌, ◌||◌, not, Bool, true, false, List, [], ◌∷◌, find, Option, None, Some, option_map, if◌then◌else◌, refl, sym, ap, ◌∙◌}
+use Rattle.std.proofs.Common.{◌≡◌, ◌⊎◌, inl, inr, ℕ, ◌==◌, ◌&&◌, not, Bool, true, false, List, [], ◌∷◌, find, Option, None, Some, option_map, if◌then◌else◌, refl, sym}
 use Rattle.std.specs.Prelude.{is_none}
 use Rattle.std.specs.Option.{option_and_then, option_map_or}
 use Rattle.std.proofs.lemmas.Bool.{and_from, and_parts, eq-eqb, eqb-true, or_cases}
 use Rattle.std.proofs.lemmas.List.Folds.{list_any-from_Any}
-use Rattle.std.proofs.lemmas.Option.{none-some, same_Some}
+use Rattle.std.proofs.lemmas.Option.{none-some}
 use Rattle.nf_access.proofs.Granted.{any_is, granted_allows}
-use Rattle.nf_access.proofs.LookUps.{find_among}
-use Rattle.nf_access.specs.Access.{allows, by_chains}
+use Rattle.nf_access.proofs.LookUps.{find_among, map_some}
+use Rattle.nf_access.specs.Access.{by_chains}
 use Rattle.nf_access.specs.Making.{is_part, passes_on}
 use Rattle.nf_access.specs.Mounts.{free_name_of, is_mounted, name_of, names_in_root}
 use Rattle.nf_access.specs.Shares.{ground_of, mask_of}
@@ -58,22 +58,6 @@ module _ (call : Call) (sound : AreSound call.state.tables) where
   -- ---- what a new share stands on
 
   -- by a mount it passes on the share of the grant that was found
-  by_grant : (spot : Spot) (offer : Offer) (parent mount : ℕ) (o : Option Grant) → mount_of call spot ≡ Some mount
-      → find (passes_on call.now offer.perms) (by_chains (ground_of t) (seeker_of call) mount) ≡ o → option_map (λ grant. grant.share) o ≡ Some parent
-      → IsPassedOn call spot (new_share access call offer) (Some parent)
-  by_grant spot offer parent mount None goes e is = absurd (none-some parent is)
-  by_grant spot offer parent mount (Some grant) goes e is =
-      let grants = by_chains (ground_of t) (seeker_of call) mount in
-      let among = find_among (passes_on call.now offer.perms) grants grant e in
-      let test = λ (g : Grant). passes_on call.now offer.perms g && g.share == parent in
-      let same = eq-eqb grant.share parent (same_Some grant.share parent is) in
-      let by = (any_is test (ground_of t) (seeker_of call) mount (bounded t sound)).0
-      (list_any-from_Any test grants (among.0.0, grant, among.0.1, among.0.2, and_from (passes_on call.now offer.perms grant) _ among.1 same)) in
-      let both = and_parts _ (by.0.id == parent) by.4 in
-      let parts = and_parts _ (is_part offer.perms (mask_of (by.0 ∷ by.1))) both.0 in
-      let allows = granted_allows (ground_of t) call.now (seeker_of call) act.Share mount by.0 by.1 by.2 by.3 parts.0 in
-      (mount, goes, (by.0, by.1, eqb-true by.0.id parent both.1, allows, parts.1))
-
   by_parent : (spot : Spot) (offer : Offer) (parent : ℕ) → offer.mount ≡ mount_of call spot → parent_for access call offer ≡ Some parent
       → IsPassedOn call spot (new_share access call offer) (Some parent)
   by_parent spot offer parent goes is = here offer.mount goes is
@@ -83,7 +67,19 @@ module _ (call : Call) (sound : AreSound call.state.tables) where
           (find (passes_on call.now offer.perms) (by_chains (ground_of t) (seeker_of call) mount))) mount ≡ Some parent
           → IsPassedOn call spot (new_share access call offer) (Some parent)
       here None goes is = absurd (none-some parent is)
-      here (Some mount) goes is = by_grant spot offer parent mount _ (sym goes) refl is
+      here (Some mount) goes is =
+          let grants = by_chains (ground_of t) (seeker_of call) mount in
+          let passes = passes_on call.now offer.perms in
+          let found = map_some (λ (g : Grant). g.share) (find passes grants) parent is in
+          let among = find_among passes grants found.0 found.1 in
+          let test = λ (g : Grant). passes g && g.share == parent in
+          let by = (any_is test (ground_of t) (seeker_of call) mount (bounded t sound)).0
+          (list_any-from_Any test grants
+          (among.0.0, found.0, among.0.1, among.0.2, and_from (passes found.0) _ among.1 (eq-eqb found.0.share parent found.2))) in
+          let both = and_parts _ (by.0.id == parent) by.4 in
+          let parts = and_parts _ (is_part offer.perms (mask_of (by.0 ∷ by.1))) both.0 in
+          let allows = granted_allows (ground_of t) call.now (seeker_of call) act.Share mount by.0 by.1 by.2 by.3 parts.0 in
+          (mount, sym goes, (by.0, by.1, eqb-true by.0.id parent both.1, allows, parts.1))
 
   passed_on : (spot : Spot) (offer : Offer) → offer.mount ≡ mount_of call spot → offer_fault access call offer ≡ None
       → IsPassedOn call spot (new_share access call offer) (new_share access call offer).parent

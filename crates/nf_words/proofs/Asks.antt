@@ -1,47 +1,44 @@
 -- What is known of what is asked about shares.
-use Rattle.std.proofs.Common.{◌≡◌, ◌≢◌, ◌⊎◌, ℕ, zero, suc, ◌+◌, ◌<◌, ◌≤◌, ◌^◌, ◌==◌, ◌&&◌, ◌||◌, not, inl, inr, min, max, Bool, true, false, List, [], ◌∷◌, find, length, Option, option_map, if◌then◌else◌, refl, ap, sym, subst, ◌∙◌, arith, le_refl}
-use Rattle.std.specs.Prelude.{None, Some, bit_and, bit_or, bytes_eq, is_none, is_some, nat_le, nat_lt}
+use Rattle.std.proofs.Common.{◌≡◌, ◌≢◌, ◌⊎◌, ℕ, zero, suc, ◌+◌, ◌<◌, ◌≤◌, ◌==◌, ◌&&◌, ◌||◌, not, inl, inr, min, max, Bool, true, false, List, [], ◌∷◌, find, length, Option, option_map, if◌then◌else◌, refl, ap, sym, subst, ◌∙◌, arith, le_refl}
+use Rattle.std.specs.Prelude.{None, Some, bit_and, bit_or, bytes_eq, is_none, is_some, nat_lt}
 use Rattle.std.specs.Int.{bit_at}
-use Rattle.std.specs.List.{All, AllPairs, list_any}
+use Rattle.std.specs.List.{AllPairs, list_any}
 use Rattle.std.specs.Option.{IfSome, option_and_then, option_map_or}
-use Rattle.std.proofs.lemmas.Bool.{both_ways, cases_Bool, eq-eqb, eqb-true, leb-false, ltb-false, not-true}
+use Rattle.std.proofs.lemmas.Bool.{both_ways, eq-eqb, eqb-true, leb-false, ltb-false}
 use Rattle.std.proofs.lemmas.List.Elements.{All-cons, All-nil, All-weaker}
 use Rattle.std.proofs.lemmas.List.Folds.{list_any-from_Any}
 use Rattle.std.proofs.lemmas.Nat.Bits.{bit_at_and, bit_at_or, same_from_bits}
 use Rattle.std.proofs.lemmas.Option.{none-some, same_Some}
 use Rattle.nf_access.proofs.Chains.{own_row}
 use Rattle.nf_access.proofs.Granted.{any_is}
-use Rattle.nf_access.proofs.LookUps.{find_among, map_some}
+use Rattle.nf_access.proofs.LookUps.{find_among}
 use Rattle.nf_access.proofs.Naming.{free_is_free, names_few, taken_in_root}
 use Rattle.nf_access.specs.Access.{by_chains}
 use Rattle.nf_access.specs.Making.{is_again, is_self_share, passes_on}
-use Rattle.nf_access.specs.Mounts.{ensured, free_name_of, is_mounted, mount_at, mount_row, name_of, names_in_root, root_folder}
+use Rattle.nf_access.specs.Mounts.{ensured, free_name_of, mount_at, mount_row, name_of, names_in_root, root_folder}
 use Rattle.nf_access.specs.Shares.{chain_of, ground_of, most_of_node, most_of_share, perms_of_share, share_row}
-use Rattle.nf_base.specs.FreeNames.{is_taken}
 use Rattle.nf_base.specs.declared.changes.Change.{Change}
 use Rattle.nf_base.specs.declared.changes.Change.TheVariants.{Put}
-use Rattle.nf_base.specs.declared.limits.TheConstants.{MAX_CHAIN, MAX_MOUNTS, MAX_NODES, MAX_SHARES}
+use Rattle.nf_base.specs.declared.limits.TheConstants.{MAX_CHAIN, MAX_MOUNTS, MAX_SHARES}
 use Rattle.nf_base.specs.declared.rows.MetaRow.{MetaRow}
 use Rattle.nf_base.specs.declared.rows.MountRow.{MountRow}
 use Rattle.nf_base.specs.declared.rows.NodeKind.{NodeKind}
 use Rattle.nf_base.specs.declared.rows.NodeRow.{NodeRow}
 use Rattle.nf_base.specs.declared.rows.Row.TheVariants as rows
 use Rattle.nf_base.specs.declared.rows.ShareKind.{ShareKind}
-use Rattle.nf_base.specs.declared.rows.ShareKind.TheVariants as kind
 use Rattle.nf_base.specs.declared.rows.ShareRow.{ShareRow}
 use Rattle.nf_base.specs.declared.rows.UserRow.{UserRow}
 use Rattle.nf_defs.specs.Prelude.{Access, child_of, is_root, is_root_place, made, node_row, owner_of, put, share_key, Tables, user_named, user_row}
 use Rattle.nf_defs.specs.declared.Found.{Found}
 use Rattle.nf_defs.specs.declared.Found.TheVariants.{At, Free, Missing}
 use Rattle.nf_defs.specs.declared.Grant.{Grant}
-use Rattle.nf_words.proofs.Fits.{KnownChange, KnownRow, none_lean}
+use Rattle.nf_words.proofs.Fits.{KnownChange, none_lean}
 use Rattle.nf_words.proofs.Found.{found_has, found_passes, put_is_found}
 use Rattle.nf_words.proofs.Known.{Known}
 use Rattle.nf_words.proofs.Mounting.{mount_found}
-use Rattle.nf_words.proofs.Passing.{if_none}
 use Rattle.nf_words.proofs.Starts.{row_of_caller}
 use Rattle.nf_words.proofs.Ways.{bounded, way_there}
-use Rattle.nf_words.specs.Prelude.{access_of, AreSound, asked_about, asker_of, Call, caller_row, changed_key, ended_row, fault_of_ask, found, is_long, is_own, is_owner, is_steered_by, is_widened, IsKindSound, IsLean, IsNewMount, IsNewShare, IsOfNode, IsOtherShare, IsRemounted, IsShareSound, kind_of, last_number, limit_of_ask, live_share, mounting, new_share, offer_fault, offer_limit, offer_of, parent_by, parent_for, node_found, nothing_done, offered, perms_after, raised, seeker_of, share_ended, share_made, share_set, share_shown, share_steered, share_told, shared, StandsOn, unreached, user_of, way_of}
+use Rattle.nf_words.specs.Prelude.{access_of, AreSound, asked_about, asker_of, Call, caller_row, changed_key, ended_row, fault_of_ask, found, is_long, is_own, is_steered_by, is_widened, IsLean, IsNewMount, IsNewShare, IsOfNode, IsOtherShare, IsRemounted, IsShareSound, kind_of, last_number, limit_of_ask, live_share, mounting, new_share, offer_fault, offer_limit, offer_of, parent_by, parent_for, node_found, nothing_done, offered, perms_after, raised, seeker_of, share_ended, share_made, share_set, share_shown, share_steered, share_told, shared, StandsOn, unreached, user_of, way_of}
 use Rattle.nf_words.specs.declared.answer.Limit.TheVariants as limit
 use Rattle.nf_words.specs.declared.answer.ShareRule.TheVariants as rule
 use Rattle.nf_words.specs.declared.answer.Allowed.{Allowed}

@@ -1,12 +1,11 @@
 -- What is known of a Begin that no rule refuses.
-use Rattle.std.proofs.Common.{◌≡◌, ℕ, ◌+◌, ◌<◌, ◌≤◌, ◌==◌, ◌||◌, ◌&&◌, not, Bool, true, false, List, [], ◌∷◌, ◌++◌, Option, option_map, Ok, if◌then◌else◌, refl, sym, ap, subst, ◌∙◌, arith}
+use Rattle.std.proofs.Common.{◌≡◌, ℕ, ◌+◌, ◌<◌, ◌≤◌, ◌==◌, ◌||◌, ◌&&◌, not, Bool, true, false, List, [], Option, option_map, Ok, if◌then◌else◌, refl, sym, ap, subst, ◌∙◌, arith}
 use Rattle.std.specs.Prelude.{None, Some, is_some}
-use Rattle.std.specs.List.{All, list_any}
+use Rattle.std.specs.List.{All}
 use Rattle.std.specs.Option.{IfSome, option_map_or, option_or}
-use Rattle.std.proofs.lemmas.Bool.{eqb-true, not-true}
+use Rattle.std.proofs.lemmas.Bool.{eqb-true}
 use Rattle.std.proofs.lemmas.List.Elements.{All-head}
 use Rattle.std.proofs.lemmas.Option.{same_Some}
-use Rattle.nf_access.specs.Access.{allows}
 use Rattle.nf_access.specs.Mounts.{mount_at, root_folder}
 use Rattle.nf_base.specs.declared.limits.TheConstants.{MAX_BODY}
 use Rattle.nf_base.specs.declared.perms.Act.{Act}
@@ -14,10 +13,9 @@ use Rattle.nf_base.specs.declared.perms.Act.TheVariants.{Create, Update}
 use Rattle.nf_base.specs.declared.rows.NodeKind.TheVariants.{Folder}
 use Rattle.nf_base.specs.declared.rows.NodeRow.{NodeRow}
 use Rattle.nf_base.specs.declared.rows.UserRow.{UserRow}
-use Rattle.nf_defs.specs.Prelude.{Access, child_of, content_of, depth, is_folder, is_folder_kind, is_root, is_root_place, node_row, owner_of, parent_of, Tables, user_row}
+use Rattle.nf_defs.specs.Prelude.{child_of, content_of, depth, is_folder, is_folder_kind, is_root, is_root_place, node_row, owner_of, Tables}
 use Rattle.nf_defs.specs.declared.Found.{Found}
 use Rattle.nf_defs.specs.declared.Found.TheVariants.{At, Free, Missing}
-use Rattle.nf_defs.specs.declared.Seeker.TheVariants as seeker
 use Rattle.nf_words.proofs.Fits.{new_known, within}
 use Rattle.nf_words.proofs.Found.{found_has, found_passes}
 use Rattle.nf_words.proofs.Known.{Known}
@@ -25,23 +23,20 @@ use Rattle.nf_words.proofs.Mounting.{IsFreeName, left_known, renamed_known}
 use Rattle.nf_words.proofs.Passing.{acts_pass, call_passes, no_fault, no_limit, Passes, PlacePasses, place_passes, no_rule}
 use Rattle.nf_words.proofs.Starts.{has_row, root_is, row_of_caller}
 use Rattle.nf_words.proofs.Transfers.{copied_known, fit_parts, moved_known}
-use Rattle.nf_words.proofs.Ways.{HasRow, slot_known, way_there}
-use Rattle.nf_words.specs.Asked.{Asked, asked_about}
+use Rattle.nf_words.proofs.Ways.{slot_known, way_there}
+use Rattle.nf_words.specs.Asked.{asked_about}
 use Rattle.nf_words.specs.History.{IsShort}
-use Rattle.nf_words.specs.Prelude.{access_of, acts_rule, AreSound, asked_of, asker_of, by_of, Call, call_decision, caller_row, deleted, exists_rule, folder_at, found, given, is_free_in, IsHeld, IsNodeSound, is_off_mount, is_owner, is_root_at, is_within, IsSound, is_there, last_name, limit_at, limit_rule, limited, listing_of, made_folder, may_by, MayStoreAt, MayWant, misplaced_by, mount_left, mount_of, mount_renamed, moved, Need, needs, needs_between, needs_in, node_at, node_found, place_rule, places_by, root_of, seeker_of, served, shown, stored, taken, target_rule, transfer_between, transfer_of, unfit, unfit_between, unreached, user_of, Way, way_by, way_of, Ways, ways_for, fault_by, sharing_rule, limit_by, room_rule}
+use Rattle.nf_words.specs.Prelude.{access_of, AreSound, asked_of, asker_of, by_of, Call, call_decision, caller_row, deleted, exists_rule, folder_at, found, given, is_free_in, IsNodeSound, is_off_mount, is_owner, is_root_at, is_within, IsSound, is_there, last_name, limit_at, limit_rule, limited, listing_of, made_folder, may_by, MayWant, mount_left, mount_of, mount_renamed, moved, Need, needs, needs_between, needs_in, node_at, node_found, places_by, root_of, seeker_of, served, stored, taken, target_rule, transfer_between, transfer_of, unfit, unfit_between, unreached, user_of, Way, way_by, way_of, ways_for, fault_by, sharing_rule, limit_by, room_rule}
 use Rattle.nf_words.specs.Needed.{target_needs}
 use Rattle.nf_words.specs.Sound.{MayStoreBy}
 use Rattle.nf_words.specs.declared.answer.Allowed.{Allowed}
 use Rattle.nf_words.specs.declared.answer.Allowed.TheVariants as allowed
-use Rattle.nf_words.specs.declared.answer.By.{By}
 use Rattle.nf_words.specs.declared.answer.Denial.{Denial}
-use Rattle.nf_words.specs.declared.answer.LockKey.TheVariants.{Node, Slot}
 use Rattle.nf_words.specs.declared.answer.TargetFault.{TargetFault}
 use Rattle.nf_words.specs.declared.answer.TargetFault.TheVariants as target
 use Rattle.nf_words.specs.declared.request.Making.TheVariants as making
 use Rattle.nf_words.specs.declared.request.Places.{Places}
 use Rattle.nf_words.specs.declared.request.Spot.{Spot}
-use Rattle.nf_words.specs.declared.request.Transfer.{Transfer}
 use Rattle.nf_words.specs.declared.request.Wanted.{Wanted}
 use Rattle.nf_words.specs.declared.request.Wanted.TheVariants.{Get, Put, Mkcol, Delete, Move, Copy, Share}
 use Rattle.nf_words.specs.declared.request.ShareAsk.{ShareAsk}

@@ -18,7 +18,7 @@ use Rattle.nf_words.specs.declared.request.Spot.{Spot}
 use Rattle.nf_defs.specs.Prelude.{Access, is_root, owner_of, Tables}
 use Rattle.nf_defs.specs.declared.Found.{Found}
 use Rattle.nf_defs.specs.declared.Found.TheVariants.{At, Missing}
-use Rattle.nf_words.specs.Prelude.{access_of, acts_rule, allowed_of, answer_at, answer_to, answered_by, asked_by, broken_by, Call, call_of, decision_of, earlier_rules, end_lost, end_refusal, end_unallowed, end_unreached, ends_at, ends_goal, exists_rule, first_refused, first_that_holds, forbidden_rule, goal_at, has_forbidden, is_caller, is_kept, is_owner, is_refused, is_transfer, key_in_way, later_rules, limit_at, limit_rule, limited, locked_rule, Need, need_broken, needed, needed_by, node_of_key, not_you_rule, overwrite_rule, Pass, pieces_of, place_of, paths_of, place_rule, places_of, refusal_of, root_of, Rule, seeker_of, source_lost, source_refused, State, stored_at, taken, target_lost, target_refused, target_rule, told_broken, token_rule, touches, unfit, unless_refused, unreached, unreached_by, user_of, users_of, Way, way_of, ways_of, caller_row, named_rule, sharing_rule, room_rule, unnamed, fault_by, limit_by, unnamed_by}
+use Rattle.nf_words.specs.Prelude.{access_of, acts_rule, allowed_of, answer_at, answer_to, answered_by, asked_by, broken_by, Call, call_of, decision_of, earlier_rules, end_lost, end_refusal, end_unallowed, end_unreached, ends_at, ends_goal, exists_rule, first_refused, first_that_holds, forbidden_rule, goal_at, has_forbidden, is_caller, is_kept, is_owner, is_refused, is_transfer, key_in_way, later_rules, limit_at, limit_rule, limited, locked_rule, Need, need_broken, needed, needed_by, node_of_key, not_you_rule, overwrite_rule, Pass, pieces_of, place_of, paths_of, place_rule, places_of, refusal_of, root_of, Rule, seeker_of, source_lost, source_refused, State, stored_at, taken, target_lost, target_refused, target_rule, told_broken, token_rule, touches, unfit, unless_refused, unreached, unreached_by, users_of, Way, way_of, ways_of, caller_row, named_rule, sharing_rule, room_rule, unnamed, fault_by, limit_by, unnamed_by}
 use Rattle.nf_words.specs.declared.answer.Allowed.{Allowed}
 use Rattle.nf_words.specs.declared.answer.Denial.{Denial}
 use Rattle.nf_words.specs.declared.answer.Denial.TheVariants as denial

@@ -1,8 +1,8 @@
 -- What is known of a mount that is left, or gets another name.
-use Rattle.std.proofs.Common.{◌≡◌, ◌≢◌, ℕ, ◌<◌, ◌==◌, ◌&&◌, inl, inr, bytes_eq, find, get_or, not, sym, suc, Bool, true, false, List, [], ◌∷◌, length, ◌∙◌, Option, option_map, if◌then◌else◌, refl, ap, subst, arith, le_refl}
+use Rattle.std.proofs.Common.{◌≡◌, ◌≢◌, ℕ, ◌==◌, ◌&&◌, inl, inr, bytes_eq, find, get_or, not, sym, suc, Bool, true, false, List, [], ◌∷◌, ◌∙◌, Option, option_map, if◌then◌else◌, refl, ap, subst, arith}
 use Rattle.std.specs.Prelude.{None, Some, is_some}
 use Rattle.std.specs.List.{All, AllPairs}
-use Rattle.std.specs.Option.{IfSome, option_and_then, option_map_or}
+use Rattle.std.specs.Option.{IfSome}
 use Rattle.std.specs.declared.cmp.Ordering.TheVariants.{Less}
 use Rattle.std.proofs.lemmas.Bool.{and_from, and_parts, both_ways, cases_Bool, eq-eqb, eqb-true, not-true}
 use Rattle.std.proofs.lemmas.Cmp.{tied_itself}

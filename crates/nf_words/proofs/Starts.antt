@@ -1,22 +1,15 @@
 -- Who asks, and the root of who does.
-use Rattle.std.proofs.Common.{◌≡◌, ℕ, ◌==◌, ◌∷◌, ◌++◌, Bool, if◌then◌else◌, bytes_eq, sym, true, false, List, [], ◌∙◌, Option, refl, ap, subst}
+use Rattle.std.proofs.Common.{◌≡◌, ℕ, ◌==◌, sym, true, List, ◌∙◌, Option, refl, ap, subst}
 use Rattle.std.specs.Prelude.{None, Some, is_some}
-use Rattle.std.specs.List.{list_all}
 use Rattle.std.specs.Option.{IfSome, option_and_then, option_map_or}
-use Rattle.std.proofs.lemmas.Bool.{and_parts, eqb-true, false≢true}
-use Rattle.std.proofs.lemmas.List.{append-nil}
+use Rattle.std.proofs.lemmas.Bool.{eqb-true}
 use Rattle.nf_base.specs.declared.rows.NodeRow.{NodeRow}
 use Rattle.nf_base.specs.declared.rows.Place.TheVariants.{Root}
 use Rattle.nf_base.specs.declared.rows.UserRow.{UserRow}
 use Rattle.nf_defs.specs.Prelude.{folder_of, node_row, parent_of, user_row}
 use Rattle.nf_words.proofs.Found.{found_has, found_passes}
 use Rattle.nf_words.proofs.Passing.{if_none}
-use Rattle.nf_words.specs.Prelude.{access_of, AreSound, asked_of, Call, caller_row, HasRoot, is_caller, MayWant, named_in, NamesUser, not_you_rule, root_of, token_rule, user_of, users_of}
-use Rattle.nf_words.specs.declared.request.Caller.{Caller}
-use Rattle.nf_words.specs.declared.request.Caller.TheVariants.{Absent, Token}
-use Rattle.nf_words.specs.declared.request.Spot.{Spot}
-use Rattle.nf_words.specs.declared.request.Wanted.{Wanted}
-use Rattle.nf_words.specs.declared.request.Wanted.TheVariants.{Get, Put, Mkcol, Delete, Move, Copy}
+use Rattle.nf_words.specs.Prelude.{access_of, AreSound, Call, caller_row, HasRoot, root_of, token_rule, user_of}
 
 -- the caller's row is there
 pub has_row : (call : Call) → token_rule (access_of call.state) call ≡ None → (row : UserRow) × (caller_row call ≡ Some row)

@@ -1,5 +1,5 @@
 -- What is known of a MOVE or a COPY that no rule refuses.
-use Rattle.std.proofs.Common.{◌≡◌, ℕ, ◌≤◌, ◌||◌, ◌&&◌, not, Bool, true, false, List, length, ◌∙◌, Option, option_map, if◌then◌else◌, refl, sym, ap, subst, arith}
+use Rattle.std.proofs.Common.{◌≡◌, ℕ, ◌≤◌, ◌||◌, Bool, true, false, List, length, ◌∙◌, Option, option_map, if◌then◌else◌, refl, sym, ap, subst, arith}
 use Rattle.std.specs.Prelude.{None, Some}
 use Rattle.std.specs.Option.{option_and_then, option_map_or, option_or}
 use Rattle.std.proofs.lemmas.Option.{none-some, same_Some}
@@ -10,9 +10,9 @@ use Rattle.nf_defs.specs.Prelude.{child_of, is_folder, is_root, Tables, walk_of}
 use Rattle.nf_defs.specs.declared.Found.{Found}
 use Rattle.nf_defs.specs.declared.Found.TheVariants.{At, Free, Missing}
 use Rattle.nf_words.proofs.Fits.{within}
-use Rattle.nf_words.proofs.Known.{Known, KnownCopies, KnownCross, KnownMove, KnownTransfer}
+use Rattle.nf_words.proofs.Known.{Known, KnownCopies, KnownTransfer}
 use Rattle.nf_words.proofs.Ways.{at_in, HasRow, slot_known, taken_unmounted, way_there}
-use Rattle.nf_words.specs.Prelude.{access_of, AreSound, Call, caller_row, carried, carry_limit, copied, copies_to, copy_limit, crosses, deepest_in, folder_at, folder_in, found, is_off_mount, is_root_at, IsUnmounted, last_name, misplaced, misplaced_by, move_limit, moved, node_found, pieces_in, root_of, transfer_between, transfer_by, transfer_of, transfer_to, unfit_between, unreached, Way, Ways, way_of}
+use Rattle.nf_words.specs.Prelude.{access_of, AreSound, Call, caller_row, carry_limit, copied, copies_to, copy_limit, crosses, deepest_in, folder_at, found, is_off_mount, is_root_at, IsUnmounted, last_name, misplaced, misplaced_by, move_limit, moved, node_found, pieces_in, root_of, transfer_between, transfer_by, transfer_of, transfer_to, unfit_between, unreached, Way, Ways, way_of}
 use Rattle.nf_words.specs.declared.answer.Allowed.TheVariants as allowed
 use Rattle.nf_words.specs.declared.answer.TargetFault.{TargetFault}
 use Rattle.nf_words.specs.declared.answer.TargetFault.TheVariants as target

@@ -1,7 +1,7 @@
 -- Where the ways of a call lead by whose mounts it is reached.
-use Rattle.std.proofs.Common.{◌≡◌, ◌⊎◌, ℕ, ◌+◌, ◌<◌, ◌==◌, ◌&&◌, inl, inr, bytes_eq, drop, find, not, sym, Bool, true, false, List, [], ◌∷◌, ◌∙◌, Option, option_map, if◌then◌else◌, refl, ap, subst, arith}
+use Rattle.std.proofs.Common.{◌≡◌, ◌⊎◌, ℕ, ◌+◌, ◌<◌, ◌==◌, ◌&&◌, inl, inr, bytes_eq, drop, find, not, sym, Bool, true, false, List, [], ◌∷◌, ◌∙◌, Option, option_map, if◌then◌else◌, refl, ap, subst}
 use Rattle.std.specs.Prelude.{None, Some, is_some}
-use Rattle.std.specs.List.{All, AllPairs, list_any}
+use Rattle.std.specs.List.{AllPairs, list_any}
 use Rattle.std.specs.Option.{IfSome, option_and_then, option_map_or}
 use Rattle.std.proofs.lemmas.Bool.{and_parts, both_ways, eqb-true, not-true}
 use Rattle.std.proofs.lemmas.List.Elements.{All-weaker}
@@ -9,7 +9,7 @@ use Rattle.std.proofs.lemmas.Option.{none-some, same_Some}
 use Rattle.std.proofs.lemmas.Slice.Eq.{bytes_eq-Decides}
 use Rattle.nf_access.proofs.Granted.{reach_is_a_chain_lem}
 use Rattle.nf_access.proofs.Kept.{chained_is_bounded_lem}
-use Rattle.nf_access.specs.Access.{IsChain, Reaches, Stands, by_chains, is_open}
+use Rattle.nf_access.specs.Access.{IsChain, Stands, by_chains, is_open}
 use Rattle.nf_access.specs.Kept.{IsShallow}
 use Rattle.nf_access.specs.Laws.{IsBounded}
 use Rattle.nf_access.specs.Mounts.{is_shown_to, mount_at, root_folder}
@@ -20,15 +20,14 @@ use Rattle.nf_base.specs.declared.rows.Place.{Place}
 use Rattle.nf_base.specs.declared.rows.Place.TheVariants.{Root, Inside, Trash}
 use Rattle.nf_base.specs.declared.rows.ShareRow.{ShareRow}
 use Rattle.nf_base.specs.declared.rows.UserRow.{UserRow}
-use Rattle.nf_defs.specs.Prelude.{child_of, folder_of, found_from, is_folder, is_root, is_root_place, node_row, onward, owner_of, parent_of, Tables, user_row}
+use Rattle.nf_defs.specs.Prelude.{child_of, folder_of, found_from, is_folder, is_root, is_root_place, node_row, onward, owner_of, parent_of, Tables}
 use Rattle.nf_defs.specs.declared.Found.{Found}
 use Rattle.nf_defs.specs.declared.Found.TheVariants.{At, Free, Missing}
 use Rattle.nf_defs.specs.declared.Seeker.{Seeker}
 use Rattle.nf_words.proofs.Found.{at_known, child_parent, found_has, found_passes, free_known, last_more, last_of, last_step}
 use Rattle.nf_words.proofs.Passing.{if_none}
-use Rattle.nf_words.proofs.Starts.{root_is, root_known, row_of_caller}
-use Rattle.nf_words.specs.Prelude.{access_of, AreSound, asker_of, Call, caller_row, found, IsMountSound, IsNodeSound, IsOfNode, is_one, IsShareSound, IsUnmounted, IsPlaceSound, last_name, mount_of, mounted, root_of, root_of_user, seeker_of, unreached, unreached_by, Way, way_by, way_of}
-use Rattle.nf_words.specs.declared.answer.Denial.{Denial}
+use Rattle.nf_words.proofs.Starts.{root_is, root_known}
+use Rattle.nf_words.specs.Prelude.{access_of, AreSound, asker_of, Call, caller_row, found, IsMountSound, IsNodeSound, is_one, IsShareSound, IsUnmounted, IsPlaceSound, last_name, mount_of, mounted, root_of, root_of_user, seeker_of, unreached, unreached_by, Way, way_by, way_of}
 use Rattle.nf_words.specs.declared.request.Spot.{Spot}
 
 -- the node is there

@@ -1,5 +1,5 @@
 -- What is listed of a folder.
-use Rattle.std.specs.Prelude.{ℕ, ◌+◌, ◌==◌, min, Bool, false, List, [], ◌∷◌, Option, None, sum_by, filter_map, option_map, option_and_then, if◌then◌else◌}
+use Rattle.std.specs.Prelude.{ℕ, ◌==◌, min, Bool, List, [], ◌∷◌, Option, sum_by, filter_map, option_map, option_and_then, if◌then◌else◌}
 use Rattle.std.specs.Cmp.Lexicographic.{slice_cmp}
 use Rattle.std.specs.List.{list_any}
 use Rattle.std.specs.Option.{option_map_or}
@@ -13,7 +13,6 @@ use Rattle.nf_base.specs.declared.rows.MountRow.{MountRow}
 use Rattle.nf_base.specs.declared.rows.NodeRow.{NodeRow}
 use Rattle.nf_defs.specs.Prelude.{Access, children_of, content_of, node_row, Tables, user_row, walk_of}
 use Rattle.nf_defs.specs.declared.Grant.{Grant}
-use Rattle.nf_defs.specs.declared.Seeker.{Seeker}
 use Rattle.nf_defs.specs.declared.Seeker.TheVariants.{User}
 use Rattle.nf_words.specs.Calls.{Call, asker_of, root_of}
 use Rattle.nf_words.specs.Limits.{last_number}
