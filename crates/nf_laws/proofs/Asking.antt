@@ -1,5 +1,5 @@
 -- What is asked about shares changes nothing, or makes, changes or ends one share.
-use Rattle.std.proofs.Common.{◌≡◌, ◌⊎◌, inl, inr, ℕ, ◌==◌, ◌&&◌, not, Bool, true, false, List, [], ◌∷◌, find, Option, None, Some, option_map, if◌then◌else◌, refl, sym}
+use Rattle.std.proofs.Common.{◌≡◌, ◌⊎◌, inl, inr, ℕ, ◌==◌, ◌&&◌, not, Bool, true, false, List, [], ◌∷◌, find, Option, None, Some, option_map, if◌then◌else◌, refl, sym, ap, ◌∙◌}
 use Rattle.std.specs.Prelude.{is_none}
 use Rattle.std.specs.Option.{option_and_then, option_map_or}
 use Rattle.std.proofs.lemmas.Bool.{and_from, and_parts, eq-eqb, eqb-true, or_cases}
@@ -25,7 +25,7 @@ use Rattle.nf_laws.proofs.Reaching.{leads_by, way_mount}
 use Rattle.nf_laws.specs.Access.{IsMountFor, IsPassedOn, IsSteered, SharesOne, is_ended, is_made, is_set}
 use Rattle.nf_words.proofs.Asks.{live_is, none_broken}
 use Rattle.nf_words.proofs.Ways.{bounded}
-use Rattle.nf_words.specs.Prelude.{access_of, AreSound, asker_of, Call, changed, ended_row, fault_of_ask, found, is_own, is_steered_by, mount_of, mounting, new_share, node_found, nothing_done, offer_fault, offer_of, offered, parent_for, perms_after, seeker_of, share_ended, share_made, share_set, share_shown, share_steered, share_told, shared, way_of}
+use Rattle.nf_words.specs.Prelude.{access_of, AreSound, asker_of, Call, changed, ended_row, fault_of_ask, found, is_own, is_steered_by, mount_of, mounting, new_share, node_found, nothing_done, offer_fault, offer_of, offered, parent_for, perms_after, seeker_of, share_ended, share_made, share_set, share_shown, share_steered, share_told, shared, way_of, set_fault}
 use Rattle.nf_words.specs.declared.answer.Allowed.{Allowed}
 use Rattle.nf_words.specs.declared.request.Offer.{Offer}
 use Rattle.nf_words.specs.declared.request.Places.{Places}
@@ -122,9 +122,11 @@ module _ (call : Call) (sound : AreSound call.state.tables) where
                 number = refl;
                 led = leads_by call spot node sound leads;
                 initiator = refl;
+                owner = refl;
                 user = to;
                 named = named;
                 kind = refl;
+                allowed = refl;
                 passed_on = passed_on spot offer (way_mount call spot) fits;
                 forever = refl;
                 lasts = refl;
@@ -145,7 +147,7 @@ module _ (call : Call) (sound : AreSound call.state.tables) where
             row = row;
             one = one;
             shares = refl;
-            mounts = inr (mount, record { new = refl; user = refl; node = refl; stays = refl; none = is }, refl);
+            mounts = inr (mount, record { new = refl; user = refl; node = refl; name = refl; stays = refl; none = is }, refl);
             nodes = refl;
           })
       here (At node) None leads named fits = inl refl
@@ -153,7 +155,8 @@ module _ (call : Call) (sound : AreSound call.state.tables) where
       here (Missing depth) to leads named fits = inl refl
 
   -- of a share that is there
-  steered : (share : ℕ) (act : ShareRow → Allowed) → ((row : ShareRow) → IsSteered call share row → SharesAtMost call (act row))
+  steered : (share : ℕ) (act : ShareRow → Allowed)
+      → ((row : ShareRow) → share_steered call share ≡ Some row → IsSteered call share row → SharesAtMost call (act row))
       → SharesAtMost call (option_map_or act (share_steered call share) nothing_done)
   steered share act fits = here (share_steered call share) refl
     where
@@ -168,7 +171,7 @@ module _ (call : Call) (sound : AreSound call.state.tables) where
       here None e = inl refl
       here (Some row) e =
           let live = live_is (is_steered_by (asker_of call)) t.shares share row e in
-          fits row (record { there = live.0; lasts = live.1; by = by row live.2 })
+          fits row e (record { there = live.0; lasts = live.1; by = by row live.2 })
 
   pub asks_share : (places : Places) (asked : ShareAsk) → call.request.wanted ≡ Share asked → fault_of_ask access call asked ≡ None
       → SharesAtMost call (shared access call places asked)
@@ -179,10 +182,11 @@ module _ (call : Call) (sound : AreSound call.state.tables) where
       here : (o : Option ShareRow) → SharesAtMost call (option_map_or (share_told t []) o nothing_done)
       here None = inl refl
       here (Some row) = inl refl
-  asks_share places (ask.Set share wanted) asked fits = steered share (λ row. share_set t (perms_after t wanted row) row) (λ row is. set row is)
+  asks_share places (ask.Set share wanted) asked fits = steered share (λ row. share_set t (perms_after t wanted row) row) (λ row e is. set row e is)
     where
-      set : (row : ShareRow) → IsSteered call share row → SharesAtMost call (share_set t (perms_after t wanted row) row)
-      set row is = here (perms_after t wanted row == row.perms)
+      set : (row : ShareRow) → share_steered call share ≡ Some row → IsSteered call share row
+          → SharesAtMost call (share_set t (perms_after t wanted row) row)
+      set row e is = here (perms_after t wanted row == row.perms)
         where
           new : ShareRow
           new = record row { perms = perms_after t wanted row }
@@ -190,7 +194,13 @@ module _ (call : Call) (sound : AreSound call.state.tables) where
           here : (same : Bool) → SharesAtMost call (share_told t (if same then [] else Put (rows.Share new) ∷ []) new)
           here true = inl refl
           here false =
-              inr (record { row = new; one = is_set share wanted row new asked is refl; shares = refl; mounts = inl refl; nodes = refl })
+              inr (record {
+                row = new;
+                one = is_set share wanted row new asked is refl (sym (ap (option_and_then (set_fault t wanted)) e) ∙ fits);
+                shares = refl;
+                mounts = inl refl;
+                nodes = refl;
+              })
   asks_share places (ask.End share) asked fits =
-      steered share share_ended (λ row is.
+      steered share share_ended (λ row e is.
       inr (record { row = ended_row row; one = is_ended share row asked is; shares = refl; mounts = inl refl; nodes = refl }))

@@ -1,10 +1,10 @@
 -- What who acts may read is served, and what they may change is changed, and nothing else.
-use Rattle.std.specs.Prelude.{◌≡◌, ◌≢◌, ◌↔◌, ◌⊎◌, ℕ, ◌&&◌, not, All, Bool, Contains, true, false, drop, List, [], ◌∷◌, map, Option, None, Some, is_some, Ok, option_and_then, if◌then◌else◌}
+use Rattle.std.specs.Prelude.{◌≡◌, ◌≢◌, ◌↔◌, ◌⊎◌, ℕ, ◌&&◌, not, All, Bool, Contains, true, false, drop, List, [], ◌∷◌, map, Option, None, Some, is_some, Ok, option_and_then, if◌then◌else◌, unwrap_or}
 use Rattle.std.specs.Option.{option_map_or}
 use Rattle.nf_access.specs.Access.{Allows, Reaches}
 use Rattle.nf_access.specs.Making.{is_part}
-use Rattle.nf_access.specs.Mounts.{is_mount_of, is_mounted, mount_row}
-use Rattle.nf_access.specs.Shares.{ground_of, mask_of, share_row}
+use Rattle.nf_access.specs.Mounts.{is_mount_of, is_mounted, mount_row, free_name_of, name_of, names_in_root}
+use Rattle.nf_access.specs.Shares.{ground_of, mask_of, share_row, perms_of_share}
 use Rattle.nf_base.specs.declared.content.Piece.{Piece}
 use Rattle.nf_base.specs.declared.perms.Act.{Act}
 use Rattle.nf_base.specs.declared.perms.Act.TheVariants as act
@@ -14,12 +14,13 @@ use Rattle.nf_base.specs.declared.rows.NodeRow.{NodeRow}
 use Rattle.nf_base.specs.declared.rows.Place.TheVariants.{Inside}
 use Rattle.nf_base.specs.declared.rows.ShareKind.TheVariants as kinds
 use Rattle.nf_base.specs.declared.rows.ShareRow.{ShareRow}
-use Rattle.nf_defs.specs.Prelude.{is_folder_kind, Leads, mount_key, node_row, parent_of, put, share_key, Tables, user_named}
+use Rattle.nf_defs.specs.Prelude.{is_folder_kind, Leads, mount_key, node_row, owner_of, parent_of, put, share_key, Tables, user_named}
 use Rattle.nf_defs.specs.declared.Seeker.{Seeker}
 use Rattle.nf_defs.specs.declared.Seeker.TheVariants.{User}
 use Rattle.nf_laws.specs.Reads.{IsFreeToRead, IsWellAsked}
 use Rattle.nf_laws.specs.Tree.{Under}
-use Rattle.nf_words.specs.Prelude.{access_of, after, answer_to, asker_of, Call, call_of, ended_row, goal_at, IsSound, last_name, listing_of, may_by, MayCome, MayWant, mount_of, Need, needed, needed_by, root_of, seeker_of, State}
+use Rattle.nf_words.specs.Listing.{all_permissions}
+use Rattle.nf_words.specs.Prelude.{access_of, after, answer_to, asker_of, Call, call_of, ended_row, goal_at, IsSound, last_name, listing_of, may_by, MayCome, MayWant, mount_of, Need, needed, needed_by, root_of, seeker_of, State, perms_after, set_fault, kind_of}
 use Rattle.nf_words.specs.declared.answer.Goal.{Goal}
 use Rattle.nf_words.specs.declared.answer.Goal.TheVariants.{Serve, Store}
 use Rattle.nf_words.specs.declared.answer.Reply.TheVariants.{Granted, Listing}
@@ -226,13 +227,15 @@ IsPassedOn call spot row (Some parent) =
     × (is_part row.perms (mask_of (share ∷ up)) ≡ true))
 
 -- a new share of what a path of the caller's leads to, with the user of that name
-pub record IsMadeBy (call : Call) (spot : Spot) (to : List ℕ) (row : ShareRow) : Type 0 where
+pub record IsMadeBy (call : Call) (spot : Spot) (to : List ℕ) (perms : Option ℕ) (row : ShareRow) : Type 0 where
   pub number : row.id ≡ call.state.tables.meta.next_share
   pub led : LeadsBy call spot (mount_of call spot) row.node
   pub initiator : row.initiator ≡ asker_of call
+  pub owner : row.owner ≡ owner_of call.state.tables.nodes row.node
   pub user : ℕ
   pub named : user_named call.state.tables.users to ≡ Some user
   pub kind : row.kind ≡ kinds.User user
+  pub allowed : row.perms ≡ perms_of_share (kind_of call.state.tables.nodes row.node) row.kind (unwrap_or perms all_permissions)
   pub passed_on : IsPassedOn call spot row row.parent
   pub forever : row.until ≡ None
   pub lasts : row.ended ≡ false
@@ -243,20 +246,22 @@ pub record IsSteered (call : Call) (share : ℕ) (old : ShareRow) : Type 0 where
   pub lasts : old.ended ≡ false
   pub by : (old.initiator ≡ asker_of call) ⊎ (old.owner ≡ asker_of call)
 
--- the one share that is made, has other permissions, or is ended
+-- the one share that is made, has other permissions, which no rule forbids, or is ended
 pub data SharesOne (call : Call) : ShareRow → Type 0 where
   is_made : (spot : Spot) (to : List ℕ) (perms : Option ℕ) (row : ShareRow) → call.request.wanted ≡ Share (ask.New spot to perms)
-      → IsMadeBy call spot to row → SharesOne call row
+      → IsMadeBy call spot to perms row → SharesOne call row
   is_set : (share : ℕ) (perms : Option ℕ) (old row : ShareRow) → call.request.wanted ≡ Share (ask.Set share perms)
-      → IsSteered call share old → row ≡ record old { perms = row.perms } → SharesOne call row
+      → IsSteered call share old → row ≡ record old { perms = perms_after call.state.tables perms old }
+      → set_fault call.state.tables perms old ≡ None → SharesOne call row
   is_ended : (share : ℕ) (old : ShareRow) → call.request.wanted ≡ Share (ask.End share) → IsSteered call share old
       → SharesOne call (ended_row old)
 
--- a mount of the node of a new share, for its user, who has none
+-- a mount of the node of a new share, under a free name, for its user, who has none
 pub record IsMountFor (t : Tables) (share : ShareRow) (row : MountRow) : Type 0 where
   pub new : share.id ≡ t.meta.next_share
   pub user : share.kind ≡ kinds.User row.user
   pub node : row.node ≡ share.node
+  pub name : row.name ≡ free_name_of (name_of t.nodes row.node) (names_in_root t.users t.nodes t.mounts row.user)
   pub stays : row.left ≡ false
   pub none : is_mounted t.mounts row.user row.node ≡ false
 

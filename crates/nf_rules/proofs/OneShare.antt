@@ -26,7 +26,7 @@ use Rattle.nf_laws.specs.Access.{IsMountFor, IsSharing, IsSteered, is_ended, is_
 use Rattle.nf_laws.specs.Numbers.{AreHigher}
 use Rattle.nf_words.proofs.Asks.{share_found}
 use Rattle.nf_words.proofs.Found.{found_has}
-use Rattle.nf_words.specs.Prelude.{AreSound, Call, call_of, ended_row, IsKindSound, IsNodeSound, IsShareSound, State}
+use Rattle.nf_words.specs.Prelude.{AreSound, Call, call_of, ended_row, IsKindSound, IsNodeSound, IsShareSound, State, perms_after}
 use Rattle.nf_words.specs.declared.history.Entry.{Entry}
 use Rattle.nf_access.specs.Shares.{share_row}
 use Rattle.nf_rules.specs.Ruled.{AreRuled, AreTokensApart, IsGiven, IsMountRuled, IsShareRuled, IsUserRuled}
@@ -193,8 +193,8 @@ module _ (s : State) (e : Entry) (made : Tables) (h : AreRuled s.tables) (sound 
   of_one row (is_made spot name perms _ asked by) same =
       λ before. new_numbers made users_given sound row (subst (IsShareSound made) same fine)
       (subst (λ (r : ShareRow). share_row made.shares r.id ≡ Some r) same there) by.lasts by.forever by.user by.kind
-  of_one row (is_set share perms old _ asked steered like) same =
-      subst Numbered (sym like) (raised (record old { perms = row.perms }) (old_of share old steered).numbers)
+  of_one row (is_set share perms old _ asked steered like fits) same =
+      subst Numbered (sym like) (raised (record old { perms = perms_after t perms old }) (old_of share old steered).numbers)
   of_one _ (is_ended share old asked steered) same = raised (ended_row old) (old_of share old steered).numbers
 
   -- a link and another share that is there
@@ -233,7 +233,7 @@ module _ (s : State) (e : Entry) (made : Tables) (h : AreRuled s.tables) (sound 
     where
       no_link : (user : ℕ) (token : List ℕ) → to.User user ≡ to.Link token → ⊥
       no_link user token same = cc
-  apart_from row (is_set share perms old _ asked steered like) k d within other token link =
+  apart_from row (is_set share perms old _ asked steered like fits) k d within other token link =
       of_old share old steered k d within (λ same. other (same ∙ sym (ap (λ (r : ShareRow). r.id) like))) token
       (sym (ap (λ (r : ShareRow). r.kind) like) ∙ link)
   apart_from _ (is_ended share old asked steered) k d within other token link = of_old share old steered k d within other token link
