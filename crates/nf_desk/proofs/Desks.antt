@@ -221,27 +221,19 @@ body_goal None body may = absurd may
 body_goal (Some (Serve content)) body may = absurd may
 body_goal (Some (Store by key size)) body may = (by, key, size, refl)
 
--- what stores a body lists nothing
-stored_lists_nothing : (refusal : Option Denial) (t : Tables) (now : ℕ) (key : LockKey) (digest : List ℕ) (size : ℕ) (lines : List ListingLine)
-    → answered_by (unless_refused refusal (stores_at t now key digest size)) ≢ Ok (reply.Listing lines)
-stored_lists_nothing None t now (Node node) digest size lines = λ is. cc
-stored_lists_nothing None t now (Slot folder name) digest size lines = λ is. cc
-stored_lists_nothing (Some refusal) t now key digest size lines = λ is. cc
-
-body_lists_nothing : (seat : ℕ) (s : State) (now : ℕ) (body : List ℕ) (by : By) (key : LockKey) (size : ℕ) (lines : List ListingLine)
-    → goal_at s seat ≡ Some (Store by key size) → answer_to s seat now (event_of_body body) ≢ Ok (reply.Listing lines)
-body_lists_nothing seat s now body by key size lines has =
-    subst (λ (goal : Option Goal). answered_by (ends_at (access_of s) s.tables now (Body (sha256 body) (length body)) goal) ≢ Ok (reply.Listing lines))
-    (sym has) (stored_lists_nothing (end_refusal (access_of s) s.tables now by key (length body)) s.tables now key (sha256 body) (length body) lines)
+-- what stores a body makes or replaces a file
+stored_of_body : (refusal : Option Denial) (t : Tables) (now : ℕ) (key : LockKey) (digest : List ℕ) (size : ℕ)
+    → IsOfBody (answered_by (unless_refused refusal (stores_at t now key digest size)))
+stored_of_body None t now (Node node) digest size = tt
+stored_of_body None t now (Slot folder name) digest size = tt
+stored_of_body (Some refusal) t now key digest size = tt
 
 of_body : (seat : ℕ) (s : State) (now : ℕ) (body : List ℕ) (by : By) (key : LockKey) (size : ℕ) (answer : Answer)
     → goal_at s seat ≡ Some (Store by key size) → answer ≡ answer_to s seat now (event_of_body body) → IsOfBody answer
-of_body seat s now body by key size (Ok reply.Closed) has is =
-    absurd (bodies_open s seat now (sha256 body) (length body) by key size has (sym is))
-of_body seat s now body by key size (Ok (reply.Granted goal)) has is =
-    absurd (ends_grant_nothing s seat now (Body (sha256 body) (length body)) goal (sym is))
-of_body seat s now body by key size (Ok (reply.Listing lines)) has is = absurd (body_lists_nothing seat s now body by key size lines has (sym is))
-of_body seat s now body by key size other has is = tt
+of_body seat s now body by key size answer has is =
+    subst IsOfBody (sym is)
+    (subst (λ (goal : Option Goal). IsOfBody (answered_by (ends_at (access_of s) s.tables now (Body (sha256 body) (length body)) goal))) (sym has)
+    (stored_of_body (end_refusal (access_of s) s.tables now by key (length body)) s.tables now key (sha256 body) (length body)))
 
 marked_of_body : (seat : ℕ) (k : Kept) (now : ℕ) (body : List ℕ) (m : Mark) (answer : Answer)
     → MayAsk k.state seat (event_of_body body) → answer ≡ answer_at k.state (entry_at seat k now (event_of_body body) m) m → IsOfBody answer
