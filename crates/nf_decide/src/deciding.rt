@@ -72,7 +72,7 @@ impl<'a> Call<'a> {
             Ok(seen) => seen,
             Err(refusal) => return Ok(Err(refusal)),
         };
-        match self.late(alloc, &seen.places, seen.offer)? {
+        match self.late(alloc, &seen.places, &seen.offer)? {
             Some(refusal) => Ok(Err(refusal)),
             None => Ok(Ok(self.allowed(alloc, &seen)?)),
         }
@@ -83,10 +83,10 @@ impl<'a> Call<'a> {
         &self,
         alloc: Global,
         places: &Places,
-        offer: Option<Offer>,
+        offer: &Option<Offer>,
     ) -> Result<Option<Denial>, AllocError>
         requires places { places.now ≡ places_of self.now }
-        requires offer { offer ≡ offer_in self.now self.now.request.wanted }
+        requires offer { offer.now ≡ offer_in self.now self.now.request.wanted }
         ensures { IfOk result (λ refusal. refusal ≡ late_refusal (access_of self.entry.now.state) self.entry.now) }
     {
         match self.locked(alloc, places)? {
@@ -103,9 +103,9 @@ impl<'a> Call<'a> {
         &self,
         alloc: Global,
         places: &Places,
-        offer: Option<Offer>,
+        offer: &Option<Offer>,
     ) -> Result<Option<Limit>, AllocError>
-        ensures { IfOk result (λ limit. limit ≡ option_or (limited self.entry.now.state.tables places.now (asked_by self.entry.now).makes) (option_and_then (offer_limit self.entry.now.state.tables) offer)) }
+        ensures { IfOk result (λ limit. limit ≡ option_or (limited self.entry.now.state.tables places.now (asked_by self.entry.now).makes) (option_and_then (offer_limit self.entry.now.state.tables) offer.now)) }
     {
         match self.limit(alloc, places)? {
             Some(limit) => Ok(Some(limit)),
@@ -114,10 +114,13 @@ impl<'a> Call<'a> {
     }
 
     /// The limit of shares or mounts that a new share would pass.
-    fn room(&self, offer: Option<Offer>) -> Option<Limit>
-        ensures { result ≡ option_and_then (offer_limit self.entry.now.state.tables) offer }
+    fn room(&self, offer: &Option<Offer>) -> Option<Limit>
+        ensures { result ≡ option_and_then (offer_limit self.entry.now.state.tables) offer.now }
     {
-        offer_limit(&self.view, &offer?)
+        match offer {
+            Some(offer) => offer_limit(&self.view, offer),
+            None => None,
+        }
     }
 
     fn locked(&self, alloc: Global, places: &Places) -> Result<Option<Denial>, AllocError>
@@ -150,7 +153,7 @@ impl<'a> Call<'a> {
         self.allows(&asker, &ways)?;
         let places = self.places(&ways);
         let offer = self.offer(&ways);
-        self.places_fit(&asker, &ways, &places, offer)?;
+        self.places_fit(&asker, &ways, &places, &offer)?;
         Ok(Seen {
             user: asker.user(),
             root: asker.root(),
@@ -166,12 +169,12 @@ impl<'a> Call<'a> {
         asker: &Asker<'_>,
         ways: &Ways,
         places: &Places,
-        offer: Option<Offer>,
+        offer: &Option<Offer>,
     ) -> Result<(), Denial>
         requires asker { asker.now ≡ asking_of self.now }
         requires ways { ways.now ≡ ways_of self.now }
         requires places { places.now ≡ places_of self.now }
-        requires offer { offer ≡ offer_in self.now self.now.request.wanted }
+        requires offer { offer.now ≡ offer_in self.now self.now.request.wanted }
         ensures rules { Follows (place_refusal (access_of self.entry.now.state)) self.entry.now result }
         ensures target { OnOk result (target_rule (access_of self.entry.now.state) self.entry.now ≡ None) }
     {
@@ -364,7 +367,7 @@ impl<'a> Call<'a> {
         ensures { IfOk result (λ allowed. allowed ≡ shared (access_of self.entry.now.state) self.entry.now seen.now.places ask.now) }
     {
         let asker = self.view.asker(seen.user, seen.root, self.now);
-        self.shared(alloc, &asker, seen.offer, &seen.places, ask)
+        self.shared(alloc, &asker, &seen.offer, &seen.places, ask)
     }
 
     /// GET of what is there, by the mount on its path.

@@ -28,20 +28,20 @@ impl<'a> Call<'a> {
         &self,
         alloc: Global,
         asker: &Asker<'_>,
-        offer: Option<Offer>,
+        offer: &Option<Offer>,
         places: &Places,
         ask: &ShareAsk,
     ) -> Result<Allowed, AllocError>
         requires sound { AreSound self.now.state.tables }
         requires asker { asker.now ≡ asking_of self.now }
-        requires offer { offer ≡ offer_by self.now ask.now }
-        requires there { IsThere self.now.state.tables offer }
+        requires offer { offer.now ≡ offer_by self.now ask.now }
+        requires there { IsThere self.now.state.tables offer.now }
         ensures { IfOk result (λ allowed. allowed ≡ shared (access_of self.entry.now.state) self.entry.now places.now ask.now) }
     {
         match ask {
             ShareAsk::New { .. } => self.share_made(alloc, asker, offer),
             ShareAsk::List { with_me, .. } => {
-                shares_told(alloc, &self.view, asker, node_at(places.source), *with_me)
+                shares_told(alloc, &self.view, asker, &node_at(places.source), *with_me)
             }
             ShareAsk::Show(share) => {
                 let row = self.share_shown(asker, *share);
@@ -63,18 +63,18 @@ impl<'a> Call<'a> {
         &self,
         alloc: Global,
         asker: &Asker<'_>,
-        offer: Option<Offer>,
+        offer: &Option<Offer>,
     ) -> Result<Allowed, AllocError>
         requires sound { AreSound self.now.state.tables }
         requires asker { asker.now ≡ asking_of self.now }
-        requires there { IsThere self.now.state.tables offer }
-        ensures { IfOk result (λ allowed. allowed ≡ option_map_or (share_made (access_of self.entry.now.state) self.entry.now) offer nothing_done) }
+        requires there { IsThere self.now.state.tables offer.now }
+        ensures { IfOk result (λ allowed. allowed ≡ option_map_or (share_made (access_of self.entry.now.state) self.entry.now) offer.now nothing_done) }
     {
         let Some(offer) = offer else {
             return Ok(nothing_done(alloc));
         };
-        let row = self.new_share(asker, &offer);
-        let mount = mount_for(alloc, &self.view, &offer)?;
+        let row = self.new_share(asker, offer);
+        let mount = mount_for(alloc, &self.view, offer)?;
         let report = report_of(&self.view, &row)?;
         Ok(Allowed::Change {
             changes: made(alloc, row, mount)?,
@@ -225,11 +225,11 @@ fn shares_told(
     alloc: Global,
     view: &View<'_>,
     asker: &Asker<'_>,
-    node: Option<NodeId>,
+    node: &Option<NodeId>,
     with_me: bool,
 ) -> Result<Allowed, AllocError>
     requires { asker.now.base.members ≡ view.now.tables.members }
-    ensures { IfOk result (λ told. told ≡ allowed.Change [] None (report.Shares (share_lines view.now.tables asker.now.user node with_me))) }
+    ensures { IfOk result (λ told. told ≡ allowed.Change [] None (report.Shares (share_lines view.now.tables asker.now.user node.now with_me))) }
 {
     let lines = share_lines(alloc, view, asker, node, with_me)?;
     Ok(Allowed::Change {
@@ -244,11 +244,11 @@ fn share_lines(
     alloc: Global,
     view: &View<'_>,
     asker: &Asker<'_>,
-    node: Option<NodeId>,
+    node: &Option<NodeId>,
     with_me: bool,
 ) -> Result<Vec<ShareLine>, AllocError>
     requires { asker.now.base.members ≡ view.now.tables.members }
-    ensures { IfOk result (λ lines. lines.items ≡ share_lines view.now.tables asker.now.user node with_me) }
+    ensures { IfOk result (λ lines. lines.items ≡ share_lines view.now.tables asker.now.user node.now with_me) }
 {
     let mut lines = Vec::new(alloc);
     for row in view.shares().rows() {
@@ -261,25 +261,25 @@ fn share_lines(
 fn push_share(
     view: &View<'_>,
     asker: &Asker<'_>,
-    node: Option<NodeId>,
+    node: &Option<NodeId>,
     with_me: bool,
     row: &ShareRow,
     lines: &mut Vec<ShareLine>,
 ) -> Result<(), AllocError>
-    ensures { OnOk result (lines.new.items ≡ lines.old.items ++ filter_map (share_line view.now.tables) (filter (is_listed_for asker.now.base.members asker.now.user node with_me) (row.now ∷ []))) }
+    ensures { OnOk result (lines.new.items ≡ lines.old.items ++ filter_map (share_line view.now.tables) (filter (is_listed_for asker.now.base.members asker.now.user node.now with_me) (row.now ∷ []))) }
 {
     if !is_listed_for(asker, node, with_me, row) {
         return Ok(());
     }
-    match share_line(view, row)? {
-        Some(line) => lines.push(line),
-        None => Ok(()),
+    if let Some(line) = share_line(view, row)? {
+        lines.push(line)?;
     }
+    Ok(())
 }
 
 /// Whether a share is listed: one that isn't ended, of that node if one is named, and made or owned by who asks or received by it.
-fn is_listed_for(asker: &Asker<'_>, node: Option<NodeId>, with_me: bool, row: &ShareRow) -> bool
-    ensures { result ≡ is_listed_for asker.now.base.members asker.now.user node with_me row.now }
+fn is_listed_for(asker: &Asker<'_>, node: &Option<NodeId>, with_me: bool, row: &ShareRow) -> bool
+    ensures { result ≡ is_listed_for asker.now.base.members asker.now.user node.now with_me row.now }
 {
     if row.ended || !is_on(node, row) {
         return false;
@@ -294,11 +294,11 @@ fn is_listed_for(asker: &Asker<'_>, node: Option<NodeId>, with_me: bool, row: &S
 }
 
 /// Whether a share is of that node, if one is named.
-fn is_on(node: Option<NodeId>, row: &ShareRow) -> bool
-    ensures { result ≡ is_on node row.now }
+fn is_on(node: &Option<NodeId>, row: &ShareRow) -> bool
+    ensures { result ≡ is_on node.now row.now }
 {
     match node {
-        Some(node) => row.node == node,
+        Some(node) => row.node == *node,
         None => true,
     }
 }

@@ -69,9 +69,9 @@ impl<'a> Call<'a> {
 
     /// `rule`: what is asked breaks a rule of sharing.
     #[tactic(auto, unfolding(nf_words::specs::Sharing::sharing_rule))]
-    pub(crate) fn sharing(&self, asker: &Asker<'_>, offer: Option<Offer>) -> Result<(), Denial>
+    pub(crate) fn sharing(&self, asker: &Asker<'_>, offer: &Option<Offer>) -> Result<(), Denial>
         requires asker { asker.now ≡ asking_of self.now }
-        requires offer { offer ≡ offer_in self.now self.now.request.wanted }
+        requires offer { offer.now ≡ offer_in self.now self.now.request.wanted }
         ensures { Follows (sharing_rule (access_of self.entry.now.state)) self.entry.now result }
     {
         match self.fault_by(asker, offer) {
@@ -80,9 +80,9 @@ impl<'a> Call<'a> {
         }
     }
 
-    fn fault_by(&self, asker: &Asker<'_>, offer: Option<Offer>) -> Option<ShareRule>
+    fn fault_by(&self, asker: &Asker<'_>, offer: &Option<Offer>) -> Option<ShareRule>
         requires asker { asker.now ≡ asking_of self.now }
-        requires offer { offer ≡ offer_in self.now self.now.request.wanted }
+        requires offer { offer.now ≡ offer_in self.now self.now.request.wanted }
         ensures { result ≡ fault_by (access_of self.entry.now.state) self.entry.now self.entry.now.request.wanted }
     {
         match &self.request.wanted {
@@ -99,15 +99,15 @@ impl<'a> Call<'a> {
     fn fault_of_ask(
         &self,
         asker: &Asker<'_>,
-        offer: Option<Offer>,
+        offer: &Option<Offer>,
         ask: &ShareAsk,
     ) -> Option<ShareRule>
         requires asker { asker.now ≡ asking_of self.now }
-        requires offer { offer ≡ offer_by self.now ask.now }
+        requires offer { offer.now ≡ offer_by self.now ask.now }
         ensures { result ≡ fault_of_ask (access_of self.entry.now.state) self.entry.now ask.now }
     {
         match ask {
-            ShareAsk::New { .. } => self.offer_fault(asker, &offer?),
+            ShareAsk::New { .. } => self.offer_fault(asker, offer.as_ref()?),
             ShareAsk::Set { share, perms } => {
                 let row = self.share_steered(asker, *share)?;
                 self.set_fault(asker, *perms, row)
