@@ -160,10 +160,23 @@ impl<'a> Call<'a> {
         requires { asker.now ≡ asking_of self.now }
         ensures { result ≡ set_fault self.entry.now.state.tables perms row.now }
     {
-        if perms.is_some() && is_wider(asker, row.parent, perms_after(&self.view, perms, row)) {
+        let is_asked = perms.is_some();
+        let wider = self.is_wider(asker, row.parent, perms_after(&self.view, perms, row));
+        if is_asked && wider {
             Some(ShareRule::Widened)
         } else {
             None
+        }
+    }
+
+    /// Whether a share with those permissions would allow more than the chain that it stands on.
+    fn is_wider(&self, asker: &Asker<'_>, parent: Option<ShareId>, perms: Perms) -> bool
+        requires { asker.now ≡ asking_of self.now }
+        ensures { result ≡ is_wider self.entry.now.state.tables.shares parent perms }
+    {
+        match parent {
+            Some(parent) => !is_part(perms, asker.mask(parent)),
+            None => false,
         }
     }
 }
@@ -174,16 +187,6 @@ fn is_long(shares: &Shares, parent: Option<ShareId>) -> bool
 {
     match parent {
         Some(parent) => shares.depth(parent) >= MAX_CHAIN,
-        None => false,
-    }
-}
-
-/// Whether a share with those permissions would allow more than the chain that it stands on.
-fn is_wider(asker: &Asker<'_>, parent: Option<ShareId>, perms: Perms) -> bool
-    ensures { result ≡ is_wider asker.now.base.shares parent perms }
-{
-    match parent {
-        Some(parent) => !is_part(perms, asker.mask(parent)),
         None => false,
     }
 }

@@ -27,7 +27,7 @@ returns c =
     let a = c.args.asker.now in
     let t = c.args.view.now.tables in
     let line : (ShareRow → Option ShareLine) = share_line t in
-    let all = take_all c.loop-row.row-index c.rows-row-items.result.now c.loop-row-test.false ∙ c.rows-row-items.ensures.rows in
+    let all = take_all c.loop-row.row-index c.rows-row-items.result.now c.loop-row-test.false ∙ c.rows-row-items.ensures.rows ∙ c.shares.ensures in
     c.loop-row.invariant
     ∙ ap (λ (list : List ShareRow). filter_map line (filter (is_listed_for a.base.members a.user c.args.node.now c.args.with_me) list)) all
     ∙ ap (λ (members : List MemberRow). filter_map line (filter (is_listed_for members a.user c.args.node.now c.args.with_me) t.shares)) c.requires
