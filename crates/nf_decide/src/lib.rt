@@ -11,6 +11,8 @@ mod listing;
 mod locking;
 mod mounting;
 mod nodes;
+mod shared;
+mod sharing;
 mod state;
 mod tables;
 mod telling;
