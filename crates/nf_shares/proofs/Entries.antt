@@ -1,19 +1,20 @@
 -- Shares by their nodes: what is found there, and what a new share and a changed one leave.
-use Rattle.std.proofs.Common.{ℕ, ◌≡◌, ◌≢◌, ◌==◌, ◌&&◌, Bool, true, false, cond, List, [], ◌∷◌, get_or, map, Option, Some, None, option_map, refl, sym, ap, subst, ◌∙◌, arith}
+use Rattle.std.proofs.Common.{ℕ, ◌≡◌, ◌≢◌, ◌==◌, ◌&&◌, Bool, true, false, cond, List, [], ◌∷◌, get_or, length, bytes_eq, suc, map, Option, Some, None, option_map, is_some, refl, sym, ap, subst, ◌+◌, ◌≤◌, ◌∙◌, arith}
 use Rattle.std.specs.Cmp.{nat_cmp_total, tied_itself}
 use Rattle.std.specs.List.{All, filter, find}
 use Rattle.std.specs.Option.{IfSome, MatchOption, option_map_or}
 use Rattle.std.specs.declared.cmp.Ordering.{Ordering}
 use Rattle.std.specs.declared.cmp.Ordering.TheVariants.{Less, Equal, Greater}
-use Rattle.std.proofs.lemmas.Bool.{cond_both}
+use Rattle.std.proofs.lemmas.Bool.{cond_both, eqb-true}
 use Rattle.std.proofs.lemmas.Bool.Decides.{nat_tests}
 use Rattle.std.proofs.lemmas.List.Elements.{All-cons, All-head, All-nil, All-tail, All-weaker, filter_agree}
 use Rattle.std.proofs.lemmas.Slice.Eq.{bytes_eq-Decides}
 use Rattle.nf_access.proofs.Kept.{share_row_each}
+use Rattle.nf_access.proofs.LookUps.{find_among}
 use Rattle.nf_access.specs.Shares.{share_row}
 use Rattle.nf_base.specs.declared.rows.ShareRow.{ShareRow}
 use Rattle.nf_defs.specs.Prelude.{by_order, IsRising, key_cmp, put, share_key}
-use Rattle.nf_defs.proofs.Lookups.{equal_bytes}
+use Rattle.nf_defs.proofs.Lookups.{bytes_turned, equal_bytes}
 use Rattle.nf_defs.proofs.Puts.{below_rest, key_total, put_rising, tail_rising, turned}
 use Rattle.nf_shares.specs.Kept.{IsNodeIndex, StaysInPlace, entry_key, entry_of, ids_of}
 use Rattle.nf_access.specs.Making.{is_again}
@@ -77,6 +78,30 @@ module _ {R : Type 0} (key : R → List ℕ) (number : R → ℕ) (p : R → Boo
           grind (arith, λ (passes : p row ≡ true). put_below (x ∷ xs) passes agree below)
       here Equal e rest = let same = first.alike e in let order = first.ordered in grind arith
       here Greater e rest = let order = first.ordered in grind arith
+
+-- ---- how many there are with it
+
+module _ {R : Type 0} (key : R → List ℕ) where
+  pub no_fewer : (row : R) (rows : List R) → length rows ≤ length (put key row rows)
+  no_fewer row [] = omega arith
+  no_fewer row (x ∷ xs) = here (key_cmp (key row) (key x)) (no_fewer row xs)
+    where
+      here : (r : Ordering) → length xs ≤ length (put key row xs) → suc (length xs) ≤ length (by_order r (row ∷ x ∷ xs) (row ∷ xs) (x ∷ put key row xs))
+      here Less rest = omega arith
+      here Equal rest = omega arith
+      here Greater rest = omega arith
+
+  pub one_more : (row : R) (rows : List R) → row_at key (key row) rows ≡ None → length (put key row rows) ≡ length rows + 1
+  one_more row [] none = refl
+  one_more row (x ∷ xs) none = here (key_cmp (key row) (key x)) refl (bytes_eq (key x) (key row)) refl none (one_more row xs)
+    where
+      here : (r : Ordering) → key_cmp (key row) (key x) ≡ r → (b : Bool) → bytes_eq (key x) (key row) ≡ b → cond b (Some x) (row_at key (key row) xs) ≡ None
+          → (row_at key (key row) xs ≡ None → length (put key row xs) ≡ length xs + 1)
+          → length (by_order r (row ∷ x ∷ xs) (row ∷ xs) (x ∷ put key row xs)) ≡ suc (length xs) + 1
+      here r e true same none rest = absurd (cc)
+      here Less e false other none rest = omega arith
+      here Equal e false other none rest = absurd (cc (bytes_turned (key x) (key row), equal_bytes (key row) (key x) Equal e))
+      here Greater e false other none rest = let more = rest none in omega arith
 
 -- ---- a new share
 
@@ -153,8 +178,26 @@ module _ (id : ℕ) (old new : ShareRow) (same_id : new.id ≡ old.id) (same_nod
           let behind = rest later in
           rw above (grind arith)
 
+  index_kept : (index : List NodeShare) (rows : List ShareRow) → share_row rows id ≡ Some old → IsNodeIndex index rows → IsNodeIndex index (put share_key new rows)
+  index_kept index rows found is = record {
+    entries_rise = is.entries_rise;
+    rows_rise = put_rising share_key new rows is.rows_rise;
+    numbers = λ node. is.numbers node ∙ sym (kept node rows is.rows_rise found);
+  }
+
+-- a row over that of the same share, which is of the same node
+pub index_over : (index : List NodeShare) (rows : List ShareRow) (row : ShareRow) → is_some (share_row rows row.id) ≡ true
+    → ((old : ShareRow) → share_row rows row.id ≡ Some old → old.node ≡ row.node) → IsNodeIndex index rows → IsNodeIndex index (put share_key row rows)
+index_over index rows row there place is = here (share_row rows row.id) refl there
+  where
+    here : (o : Option ShareRow) → share_row rows row.id ≡ o → is_some o ≡ true → IsNodeIndex index (put share_key row rows)
+    here None found there = absurd (cc)
+    here (Some old) found there =
+        let number = eqb-true old.id row.id (find_among (λ other. other.id == row.id) rows old found).1 in
+        index_kept row.id old row (sym number) (sym (place old found)) index rows found is
+
 -- the test of a share's number is that of its key
-by_id : (rows : List ShareRow) (id : ℕ) → row_at share_key (id ∷ []) rows ≡ share_row rows id
+pub by_id : (rows : List ShareRow) (id : ℕ) → row_at share_key (id ∷ []) rows ≡ share_row rows id
 by_id rows id = ap (λ (test : ShareRow → Bool). find test rows) (λ i row. and_true (row.id == id) i)
 
 module _ (rows rows' : List ShareRow) (id : ℕ) (Becomes : ShareRow → ShareRow → Type 0) (changes : Changes share_key (id ∷ []) Becomes rows rows') where
@@ -172,12 +215,7 @@ module _ (rows rows' : List ShareRow) (id : ℕ) (Becomes : ShareRow → ShareRo
       here None found same = subst (IsNodeIndex index) (sym same) is
       here (Some row) found (row', becomes, put_is) =
           let (same_id, same_node) = stays row row' becomes in
-          subst (IsNodeIndex index) (sym put_is)
-          (record {
-            entries_rise = is.entries_rise;
-            rows_rise = put_rising share_key row' rows is.rows_rise;
-            numbers = λ node. is.numbers node ∙ sym (kept id row row' same_id same_node node rows is.rows_rise found);
-          })
+          subst (IsNodeIndex index) (sym put_is) (index_kept id row row' same_id same_node index rows found is)
 
 -- ---- the first share of a node that passes a test
 

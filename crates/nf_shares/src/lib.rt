@@ -8,5 +8,5 @@ mod shares;
 
 pub use faults::ShareFault;
 pub use nodes::NodeShare;
-pub use rows::{is_before, receives};
+pub use rows::{is_before, is_self_share, receives};
 pub use shares::Shares;

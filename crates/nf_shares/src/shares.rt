@@ -1,12 +1,12 @@
 //! The shares of the site.
 
-ghost use Rattle.std.specs.Prelude.{◌≡◌, ◌≢◌, ◌==◌, ◌≤◌, true, false, None, [], ◌∷◌, length, map, find, option_copied, option_map, Err, IfOk, IfSome, IsOk, IsSome, OnOk};
+ghost use Rattle.std.specs.Prelude.{◌≡◌, ◌≢◌, ◌==◌, ◌≤◌, ◌+◌, true, false, None, Some, [], ◌∷◌, length, map, find, option_copied, option_map, Err, IfOk, IfSome, IsOk, IsSome, OnOk};
 ghost use Rattle.std.specs.Fn.{FnOnceReturnsAtMut};
 ghost use Rattle.std.specs.Option.{option_map_or};
 ghost use Rattle.nf_base.specs.declared.rows.ShareRow.{ShareRow};
 ghost use Rattle.nf_access.specs.Broken.{first_received};
 ghost use Rattle.nf_access.specs.Shares.{chain_of, chain_within, receives, share_row};
-ghost use Rattle.nf_defs.specs.Prelude.{IsRising, is_under, share_key};
+ghost use Rattle.nf_defs.specs.Prelude.{IsRising, is_under, put, share_key};
 ghost use Rattle.nf_defs.specs.declared.Seeker.TheVariants as seeker;
 ghost use Rattle.nf_shares.specs.Kept.{FitsShare, StaysInPlace, changed, ended_where, ids_of, is_child_of, link_of};
 ghost use Rattle.nf_access.specs.Making.{is_again};
@@ -15,7 +15,7 @@ ghost use Rattle.nf_table.specs.Rows.{Changes};
 ghost use Rattle.nf_shares.specs.declared.faults.ShareFault.TheVariants as fault;
 
 use crate::faults::ShareFault;
-use crate::nodes::{NodeShare, node_index};
+use crate::nodes::{NodeShare, node_index, renew};
 use crate::rows::{is_again, is_child_of, is_link, is_self_share, receives, token_of};
 use nf_access::Facts;
 use nf_base::{MAX_CHAIN, MAX_SHARES, Moment, Name, NodeId, Perms, ShareId, ShareRow, UserId};
@@ -172,6 +172,13 @@ impl Shares {
             .collect(alloc)
     }
 
+    /// The first share, neither ended nor expired, by which the initiator of a share that is to be made gives its recipient its node already.
+    pub fn again(&self, row: &ShareRow, now: Moment) -> Option<ShareId>
+        ensures { result ≡ option_map (λ row. row.id) (find (is_again row.now now) self.now.rows) }
+    {
+        self.again_of(row, now, self.entries(row.node))
+    }
+
     /// Puts in a share of a new number, or says why it can't be made. Where there is room for it, there is memory.
     pub fn create(&mut self, row: ShareRow, now: Moment) -> Result<(), ShareFault>
         requires { share_row self.old.rows row.id ≡ None }
@@ -180,12 +187,20 @@ impl Shares {
     {
         self.check(&row, now)?;
         self.reserve()?;
-        self.by_node.put(NodeShare {
-            node: row.node,
-            share: row.id,
-        });
-        self.rows.put(row);
+        self.put(row);
         Ok(())
+    }
+
+    /// Puts a row over that of the same share, which is on the same node, or as a new one. It takes no memory.
+    pub fn put(&mut self, row: ShareRow)
+        requires room { share_row self.old.rows row.id ≡ None → FitsShare self.old }
+        requires place { (old : ShareRow) → share_row self.old.rows row.id ≡ Some old → old.node ≡ row.node }
+        ensures rows { self.new.rows ≡ put share_key row self.old.rows }
+        ensures room { self.old.room ≤ self.new.room }
+        ensures count { length self.new.rows ≤ length self.old.rows + 1 }
+    {
+        renew(&mut self.by_node, &self.rows, &row);
+        self.rows.put(row);
     }
 
     /// Ends a share. It takes no memory.
@@ -269,13 +284,6 @@ impl Shares {
             Some(row) => receives(facts, user, row),
             None => false,
         }
-    }
-
-    /// The first share that gives the same already. It is one of the same node.
-    fn again(&self, row: &ShareRow, now: Moment) -> Option<ShareId>
-        ensures { result ≡ option_map (λ row. row.id) (find (is_again row.now now) self.now.rows) }
-    {
-        self.again_of(row, now, self.entries(row.node))
     }
 
     /// The first of these entries' shares that gives the same already.
