@@ -3,9 +3,24 @@
 ghost use Rattle.std.specs.Prelude.{◌≡◌, ◌<◌, bit_and, bit_or};
 ghost use Rattle.nf_base.specs.Perms.{bit_of};
 ghost use Rattle.nf_base.specs.declared.perms.Act.TheVariants as act;
+ghost use Rattle.nf_access.specs.Making.{is_part};
 ghost use Rattle.nf_access.specs.Shares.{most_of_node, most_of_share, perms_of_share};
 
 use nf_base::{NodeKind, Perms, ShareKind};
+
+/// The permissions to do nothing.
+pub fn nothing() -> Perms
+    ensures { result ≡ 0 }
+{
+    Perms::read(0).unwrap()
+}
+
+/// Whether all of these permissions are among those.
+pub fn is_part(perms: Perms, all: Perms) -> bool
+    ensures { result ≡ is_part perms all }
+{
+    perms.and(all) == perms
+}
 
 /// The permissions of a share for which some are asked: those of a file lack create and delete, those of a link lack share, and read
 /// is always among them.

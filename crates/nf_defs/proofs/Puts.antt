@@ -173,6 +173,9 @@ compared a b o is = then_Equal (nat_cmp a b) ∙ sym (nat_cmp_is a b o is)
 pub below_one : (a b : ℕ) → key_cmp (a ∷ []) (b ∷ []) ≡ Less → a < b
 below_one a b less = ranked a b Less (sym less ∙ then_Equal (nat_cmp a b))
 
+pub same_one : (a b : ℕ) → key_cmp (a ∷ []) (b ∷ []) ≡ Equal → a ≡ b
+same_one a b equal = ranked a b Equal (sym equal ∙ then_Equal (nat_cmp a b))
+
 pub then_then : (a b c : Ordering) → ordering_then (ordering_then a b) c ≡ ordering_then a (ordering_then b c)
 then_then Less b c = refl
 then_then Equal b c = refl

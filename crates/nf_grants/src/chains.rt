@@ -2,11 +2,11 @@
 
 ghost use Rattle.std.specs.Prelude.{◌≡◌, [], Some, unwrap_or};
 ghost use Rattle.nf_access.specs.Access.{grant_by};
-ghost use Rattle.nf_access.specs.Shares.{chain_of, chain_up, chain_within, earlier, share_row};
+ghost use Rattle.nf_access.specs.Shares.{chain_of, chain_up, chain_within, earlier, mask_of, share_row};
 ghost use Rattle.nf_grants.specs.Grants.{grant_to, is_link_kind};
 
 use crate::ground::Ground;
-use nf_base::{MAX_CHAIN, Moment, ShareId, ShareKind, ShareRow};
+use nf_base::{MAX_CHAIN, Moment, Perms, ShareId, ShareKind, ShareRow};
 use nf_defs::{Grant, Seeker};
 
 /// The earlier of two end moments, where there are any.
@@ -30,6 +30,13 @@ pub(crate) fn is_link(kind: &ShareKind) -> bool
 }
 
 impl<'a> Ground<'a> {
+    /// What every share of the share's chain allows, whether or not the chain stands; nothing where there is none.
+    pub fn mask(&self, share: ShareId) -> Perms
+        ensures { result ≡ mask_of (chain_of self.now.shares share) }
+    {
+        self.shares().mask(share)
+    }
+
     /// What the share gives a seeker that receives it.
     pub(crate) fn grant_to(&self, seeker: Seeker, share: ShareId) -> Option<Grant>
         ensures { result ≡ grant_to self.now seeker share }

@@ -4,12 +4,14 @@ ghost use Rattle.std.specs.Prelude.{◌≡◌, false, find, option_map, IfOk};
 ghost use Rattle.std.specs.List.{list_any};
 ghost use Rattle.std.specs.Option.{option_map_or};
 ghost use Rattle.nf_access.specs.Access.{allows, by_chains, is_open};
+ghost use Rattle.nf_access.specs.Making.{passes_on};
 ghost use Rattle.nf_defs.specs.declared.Seeker.TheVariants as seeker;
 ghost use Rattle.nf_grants.specs.Grants.{link_grant};
 
 use crate::chains::is_link;
 use crate::ground::Ground;
-use nf_base::{Act, Moment, NodeId, ShareId, UserId};
+use nf_access::is_part;
+use nf_base::{Act, Moment, NodeId, Perms, ShareId, UserId};
 use nf_defs::{Grant, Seeker};
 use nf_shares::is_before;
 use std::alloc::{AllocError, Global};
@@ -26,6 +28,13 @@ fn allows(grant: &Grant, act: Act, now: Moment) -> bool
     ensures { result ≡ allows now act grant.now }
 {
     is_open(grant, now) && grant.mask.has(act)
+}
+
+/// Whether what the grant is on may be shared by it, with those permissions.
+fn passes_on(grant: &Grant, perms: Perms, now: Moment) -> bool
+    ensures { result ≡ passes_on now perms grant.now }
+{
+    allows(grant, Act::Share, now) && is_part(perms, grant.mask)
 }
 
 impl<'a> Ground<'a> {
@@ -52,6 +61,23 @@ impl<'a> Ground<'a> {
             .iter()
             .filter_map(|entry| self.grant_to(Seeker::User(user), entry.share))
             .find(|grant| allows(grant, act, now))
+            .map(|grant| grant.share)
+    }
+
+    /// The least share by which the user may share the node with those permissions.
+    pub fn passes_on(
+        &self,
+        user: UserId,
+        node: NodeId,
+        perms: Perms,
+        now: Moment,
+    ) -> Option<ShareId>
+        ensures { result ≡ option_map (λ grant. grant.share) (find (passes_on now perms) (by_chains self.now (seeker.User user) node)) }
+    {
+        self.entries(node)
+            .iter()
+            .filter_map(|entry| self.grant_to(Seeker::User(user), entry.share))
+            .find(|grant| passes_on(grant, perms, now))
             .map(|grant| grant.share)
     }
 

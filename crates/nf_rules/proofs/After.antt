@@ -42,7 +42,7 @@ parent_up : (next more : ℕ) (parent : Option ℕ) → next ≤ more → option
 parent_up next more None up is = refl
 parent_up next more (Some id) up is = given_up next more id up is
 
-numbers_up : (meta more : MetaRow) (row : ShareRow) → AreHigher meta more → row.made ≤ more.last → are_share_numbers meta row ≡ true
+pub numbers_up : (meta more : MetaRow) (row : ShareRow) → AreHigher meta more → row.made ≤ more.last → are_share_numbers meta row ≡ true
     → are_share_numbers more row ≡ true
 numbers_up meta more row up made is =
     let until = and_parts _ _ (and_parts _ _ is).0 in
@@ -67,11 +67,11 @@ numbers_up meta more row up made is =
 -- ---- chains
 
 -- what a share passes on is there, and where it passes on none the node's owner made it
-abbrev IsAbove : List ShareRow → ShareRow → Option ℕ → Type 0
+abbrev pub IsAbove : List ShareRow → ShareRow → Option ℕ → Type 0
 IsAbove shares row None = (row.initiator == row.owner) ≡ true
 IsAbove shares row (Some parent) = is_some (share_row shares parent) ≡ true
 
-chain_above : (k : ℕ) (shares : List ShareRow) (row : ShareRow) → share_row shares row.id ≡ Some row
+pub chain_above : (k : ℕ) (shares : List ShareRow) (row : ShareRow) → share_row shares row.id ≡ Some row
     → is_some (chain_within k shares row.id) ≡ true → IsAbove shares row row.parent
 unfolding chain_within
 chain_above zero shares row there is = absurd (false≢true is)

@@ -4,6 +4,7 @@ pub mod Apart
 pub mod Firsts
 pub mod Later
 pub mod Leading
+pub mod OneShare
 pub mod Ruled
 pub mod Shared
 pub mod Shares

@@ -10,14 +10,14 @@ use Rattle.nf_base.specs.declared.rows.MountRow.{MountRow}
 use Rattle.nf_base.specs.declared.rows.NodeRow.{NodeRow}
 use Rattle.nf_base.specs.declared.rows.ShareRow.{ShareRow}
 use Rattle.nf_defs.proofs.Loads.{rises}
-use Rattle.nf_defs.proofs.Puts.{compared}
-use Rattle.nf_defs.specs.Prelude.{IsRising, node_key, Tables}
+use Rattle.nf_defs.proofs.Puts.{all_put, compared}
+use Rattle.nf_defs.specs.Prelude.{IsRising, mount_key, node_key, Tables}
 use Rattle.nf_laws.proofs.Allowing.{changes_allowed}
 use Rattle.nf_laws.proofs.Counters.{after_up}
 use Rattle.nf_laws.proofs.Rows.{found_is}
 use Rattle.nf_laws.proofs.Stays.{sound_after}
 use Rattle.nf_laws.proofs.Upwards.{owners_there}
-use Rattle.nf_laws.specs.Access.{IsRemounted, is_gone_from, is_left, is_renamed, Remounts}
+use Rattle.nf_laws.specs.Access.{IsRemounted, IsSharing, is_gone_from, is_left, is_renamed, KeepsShares, Remounts}
 use Rattle.nf_laws.specs.Numbers.{AreHigher}
 use Rattle.nf_words.specs.Prelude.{after, AreSound, Call, call_of, ended_row, IsSound, MayCome, State}
 use Rattle.nf_words.specs.declared.history.Entry.{Entry}
@@ -25,6 +25,7 @@ use Rattle.nf_rules.specs.Laws.{StaysRuled}
 use Rattle.nf_rules.specs.Ruled.{AreRuled, AreTokensApart, IsGiven, IsGroupRuled, IsMemberRuled, IsMountRuled, IsShareRuled, IsTokenRuled, IsUserRuled}
 use Rattle.nf_rules.specs.Rules.{are_share_numbers}
 use Rattle.nf_rules.proofs.After.{share_ruled, still_given}
+use Rattle.nf_rules.proofs.OneShare.{mount_ruled, one_apart, one_ruled}
 
 -- ---- shares and mounts
 
@@ -75,25 +76,25 @@ same_mount : (call : Call) (old row : MountRow) → Remounts call old row → (r
 same_mount call old _ (is_left spot asked own) = (refl, refl)
 same_mount call old _ (is_renamed source target overwrite asked own) = (refl, refl)
 
-mounts_ruled : (s : State) (e : Entry) (made : Tables) → AreRuled s.tables → AreHigher s.tables.meta made.meta
-    → (made.mounts ≡ s.tables.mounts) ⊎ IsRemounted s e made → All (IsMountRuled made) made.mounts
-mounts_ruled s e made h up mounts = elim mounts [
-  | inl same ↦ subst (All (IsMountRuled made)) (sym same) each
-  | inr is ↦
-      subst (All (IsMountRuled made)) (sym is.mounts)
-      (All-map (IsMountRuled made) (put is) s.tables.mounts (λ k d within. one is (get_or s.tables.mounts k d) (each k d within)))
-]
+still_mounted : (t made : Tables) → AreRuled t → AreHigher t.meta made.meta → All (IsMountRuled made) t.mounts
+still_mounted t made h up =
+    All-weaker (IsMountRuled t) (IsMountRuled made)
+    (λ row own. record {
+      user = still_given t.meta.next_user made.meta.next_user row.user up.users own.user;
+      node = still_given t.meta.next_node made.meta.next_node row.node up.nodes own.node;
+    }) t.mounts h.mounts
+
+remounted_ruled : (s : State) (e : Entry) (made : Tables) → AreRuled s.tables → AreHigher s.tables.meta made.meta
+    → IsRemounted s e made → All (IsMountRuled made) made.mounts
+remounted_ruled s e made h up is =
+    subst (All (IsMountRuled made)) (sym is.mounts)
+    (All-map (IsMountRuled made) (put is) s.tables.mounts (λ k d within. one is (get_or s.tables.mounts k d) (each k d within)))
   where
     t : Tables
     t = s.tables
 
     each : All (IsMountRuled made) t.mounts
-    each =
-        All-weaker (IsMountRuled t) (IsMountRuled made)
-        (λ row own. record {
-          user = still_given t.meta.next_user made.meta.next_user row.user up.users own.user;
-          node = still_given t.meta.next_node made.meta.next_node row.node up.nodes own.node;
-        }) t.mounts h.mounts
+    each = still_mounted t made h up
 
     put : IsRemounted s e made → MountRow → MountRow
     put is other = if is_mount_of is.old.user is.old.node other then is.row else other
@@ -160,6 +161,55 @@ others_ruled t other h sound up shares apart mounts =
 
 -- ---- histories
 
+-- the shares and the mounts keep the rules
+record AreKept (made : Tables) : Type 0 where
+  shares : All (IsShareRuled made) made.shares
+  apart : AllPairs AreTokensApart made.shares
+  mounts : All (IsMountRuled made) made.mounts
+
+others_kept : (s : State) (e : Entry) (made : Tables) → AreRuled s.tables → AreSound made → AreHigher s.tables.meta made.meta
+    → made.users ≡ s.tables.users → KeepsShares s made ⊎ (IsRemounted s e made ⊎ IsSharing s e made) → AreKept made
+others_kept s e made ruled sound up users others = elim others [
+  | inl keeps ↦
+      record {
+        shares = shares_ruled t made gone ruled sound up keeps.shares;
+        apart = apart t made gone ruled sound up keeps.shares;
+        mounts = subst (All (IsMountRuled made)) (sym keeps.mounts) (still_mounted t made ruled up);
+      }
+  | inr (inl is) ↦
+      (let same : made.shares ≡ map (ending nowhere) t.shares = is.shares ∙ sym (ends_none t.shares) in
+      record {
+        shares = shares_ruled t made nowhere ruled sound up same;
+        apart = apart t made nowhere ruled sound up same;
+        mounts = remounted_ruled s e made ruled up is;
+      })
+  | inr (inr is) ↦
+      record {
+        shares = one_ruled s e made ruled sound up users is;
+        apart = one_apart s e made ruled sound up users is;
+        mounts = elim is.mounts [
+          | inl same ↦ subst (All (IsMountRuled made)) (sym same) (still_mounted t made ruled up)
+          | inr one ↦
+              subst (All (IsMountRuled made)) (sym one.2)
+              (all_put mount_key (IsMountRuled made) one.0 t.mounts (mount_ruled s e made ruled sound up users is one.0 one.1)
+              (still_mounted t made ruled up))
+        ];
+      }
+]
+  where
+    t : Tables
+    t = s.tables
+
+    gone : ℕ → Bool
+    gone = is_gone_from t.nodes made.nodes
+
+    nowhere : ℕ → Bool
+    nowhere node = false
+
+    ends_none : (shares : List ShareRow) → map (ending nowhere) shares ≡ shares
+    ends_none [] = refl
+    ends_none (share ∷ shares) = ap (λ (rest : List ShareRow). share ∷ rest) (ends_none shares)
+
 -- an entry changes the nodes, the shares, the mounts and the meta row alone
 ruled_after : (n : ℕ) (s : State) (e : Entry) → AreRuled s.tables → IsSound s → MayCome n s e → AreRuled (after s e).tables
 ruled_after n s e ruled sound may =
@@ -167,12 +217,11 @@ ruled_after n s e ruled sound may =
     let changes = changes_allowed n s e sound may in
     let rows : AreSound made = (sound_after n s e sound may).rows in
     let up = after_up s e e.mark in
-    let gone : ℕ → Bool = is_gone_from s.tables.nodes made.nodes in
+    let kept = others_kept s e made ruled rows up (ap (λ (t : Tables). t.users) changes.rest) changes.others in
     subst AreRuled (sym changes.rest)
     (others_ruled s.tables made ruled (subst AreSound changes.rest rows) up
-    (subst (λ (u : Tables). All (IsShareRuled u) u.shares) changes.rest (shares_ruled s.tables made gone ruled rows up changes.shares))
-    (apart s.tables made gone ruled rows up changes.shares)
-    (subst (λ (u : Tables). All (IsMountRuled u) u.mounts) changes.rest (mounts_ruled s e made ruled up changes.mounts)))
+    (subst (λ (u : Tables). All (IsShareRuled u) u.shares) changes.rest kept.shares) kept.apart
+    (subst (λ (u : Tables). All (IsMountRuled u) u.mounts) changes.rest kept.mounts))
 
 pub stays_ruled : StaysRuled
 stays_ruled n s [] ruled sound legal = ruled

@@ -1,4 +1,4 @@
-pub mod Depths
+pub mod Along
 pub mod Entries
 pub mod Sorted
 pub mod Ending

@@ -5,7 +5,7 @@ ghost use Rattle.std.specs.Fn.{FnOnceReturnsAtMut};
 ghost use Rattle.std.specs.Option.{option_map_or};
 ghost use Rattle.nf_base.specs.declared.rows.ShareRow.{ShareRow};
 ghost use Rattle.nf_access.specs.Broken.{first_received};
-ghost use Rattle.nf_access.specs.Shares.{chain_of, chain_within, receives, share_row};
+ghost use Rattle.nf_access.specs.Shares.{chain_of, chain_within, mask_of, receives, share_row};
 ghost use Rattle.nf_defs.specs.Prelude.{IsRising, is_under, put, share_key};
 ghost use Rattle.nf_defs.specs.declared.Seeker.TheVariants as seeker;
 ghost use Rattle.nf_shares.specs.Kept.{FitsShare, StaysInPlace, changed, ended_where, ids_of, is_child_of, link_of};
@@ -17,7 +17,7 @@ ghost use Rattle.nf_shares.specs.declared.faults.ShareFault.TheVariants as fault
 use crate::faults::ShareFault;
 use crate::nodes::{NodeShare, node_index, renew};
 use crate::rows::{is_again, is_child_of, is_link, is_self_share, receives, token_of};
-use nf_access::Facts;
+use nf_access::{Facts, nothing};
 use nf_base::{MAX_CHAIN, MAX_SHARES, Moment, Name, NodeId, Perms, ShareId, ShareRow, UserId};
 use nf_table::{ShareKey, Table};
 use nf_tree::Tree;
@@ -110,6 +110,13 @@ impl Shares {
         ensures { result ≡ length (chain_of self.now.rows id) }
     {
         self.depth_within(id, MAX_CHAIN).unwrap_or(0)
+    }
+
+    /// What every share of the share's chain allows, whether or not the chain stands; nothing where there is none.
+    pub fn mask(&self, id: ShareId) -> Perms
+        ensures { result ≡ mask_of (chain_of self.now.rows id) }
+    {
+        self.mask_within(id, MAX_CHAIN).unwrap_or(nothing())
     }
 
     pub fn count(&self) -> usize
@@ -271,6 +278,24 @@ impl Shares {
             Some(parent) => {
                 let above = self.depth_within(parent, most - 1)?;
                 Some(above + 1)
+            }
+        }
+    }
+
+    /// What every share of the share's chain allows, where there are at most so many.
+    fn mask_within(&self, id: ShareId, most: usize) -> Option<Perms>
+        ensures { result ≡ option_map mask_of (chain_within most self.now.rows id) }
+    {
+        if most == 0 {
+            return None;
+        }
+        let row = self.row(id)?;
+        match row.parent {
+            None if row.initiator == row.owner => Some(row.perms),
+            None => None,
+            Some(parent) => {
+                let above = self.mask_within(parent, most - 1)?;
+                Some(row.perms.and(above))
             }
         }
     }

@@ -47,9 +47,11 @@ pub enum Denial {
     NoParent,
     /// 412: something is at the target that isn't to be replaced.
     Overwrite,
+    /// 412: an OCS request doesn't say that it is one.
+    OcsHeader,
     /// 413: the body is over `MAX_BODY` bytes.
     TooLarge,
-    /// 415: the request takes no body.
+    /// 415: the request takes no body, or none like that.
     Body,
     /// 423: another session holds what would be read, changed or named so; that is the key that it holds.
     Locked(LockKey),
@@ -77,6 +79,14 @@ pub enum Parameter {
     Destination,
     Overwrite,
     Depth,
+    /// The number in the path.
+    Id,
+    Path,
+    ShareType,
+    ShareWith,
+    Permissions,
+    ExpireDate,
+    Password,
 }
 
 /// Why a target can't be acted upon.
