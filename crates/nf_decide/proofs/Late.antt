@@ -1,15 +1,20 @@
 -- The rules that take memory come behind the others.
-use Rattle.std.proofs.Common.{◌≡◌, List, [], ◌∷◌, ◌++◌, Option, None, Some, Ok, Err, option_map, refl, sym, ap, ◌∙◌}
+use Rattle.std.proofs.Common.{◌≡◌, List, [], ◌∷◌, ◌++◌, Option, None, Some, Ok, Err, option_map, option_and_then, refl, sym, ap, ◌∙◌}
 use Rattle.std.specs.Option.{option_or}
 use Rattle.nf_defs.specs.Access.{Access}
 use Rattle.nf_words.proofs.Passing.{no_limit}
-use Rattle.nf_words.specs.Prelude.{access_of, allowed_of, asked_by, Call, call_decision, earlier_rules, first_that_holds, later_rules, limit_rule, limited, locked_rule, places_of, refusal_of, Rule, unless_refused}
+use Rattle.nf_words.specs.Prelude.{access_of, allowed_of, asked_by, Call, call_decision, earlier_rules, first_that_holds, later_rules, limit_rule, limited, locked_rule, places_of, refusal_of, room_rule, Rule, unless_refused}
+use Rattle.nf_words.specs.Sharing.{limit_by, offer_limit}
 use Rattle.nf_words.specs.declared.answer.Allowed.{Allowed}
 use Rattle.nf_words.specs.declared.answer.Denial.{Denial}
 use Rattle.nf_words.specs.declared.answer.Denial.TheVariants as denial
 use Rattle.nf_words.specs.declared.answer.Limit.{Limit}
+use Rattle.nf_words.specs.declared.request.Offer.{Offer}
 use Rattle.nf_words.specs.declared.request.Places.{Places}
-use Rattle.nf_decide.specs.Deciding.{early_refusal, late_refusal, locked_at}
+use Rattle.nf_words.specs.declared.request.ShareAsk.TheVariants as ask
+use Rattle.nf_words.specs.declared.request.Wanted.{Wanted}
+use Rattle.nf_words.specs.declared.request.Wanted.TheVariants.{Get, Put, Mkcol, Delete, Move, Copy, Share}
+use Rattle.nf_decide.specs.Deciding.{early_refusal, late_refusal, locked_at, offer_in}
 
 first_of_both : (before behind : List Rule) (access : Access) (call : Call)
     → first_that_holds (before ++ behind) access call ≡ option_or (first_that_holds before access call) (first_that_holds behind access call)
@@ -41,35 +46,60 @@ pub allowed_late : (call : Call) (act : Allowed) → early_refusal (access_of ca
 allowed_late call act early is does =
     ap Ok does ∙ ap (λ (o : Option Denial). unless_refused o (allowed_of (access_of call.state) call)) (is ∙ sym (refused_as call early))
 
--- ---- the two of them
-
-or_none : (o : Option Denial) → option_or o None ≡ o
-or_none None = refl
-or_none (Some refusal) = refl
+-- ---- the three of them
 
 pub locked_late : (call : Call) (places : Places) (refusal : Denial) → places ≡ places_of call → Some refusal ≡ locked_at call places
     → Some refusal ≡ late_refusal (access_of call.state) call
 unfolding locked_rule
 locked_late call places refusal same is =
-    ap (λ (o : Option Denial). option_or o (first_that_holds (limit_rule ∷ []) (access_of call.state) call)) (is ∙ ap (locked_at call) same)
+    ap (λ (o : Option Denial). option_or o (first_that_holds (limit_rule ∷ room_rule ∷ []) (access_of call.state) call))
+    (is ∙ ap (locked_at call) same)
 
-pub limited_late : (call : Call) (places : Places) (passed : Option Limit) → places ≡ places_of call → None ≡ locked_at call places
-    → passed ≡ limited call.state.tables places (asked_by call).makes
+both_limits : (a b : Option Limit)
+    → option_map denial.Limit (option_or a b) ≡ option_or (option_map denial.Limit a) (option_or (option_map denial.Limit b) None)
+both_limits None None = refl
+both_limits None (Some limit) = refl
+both_limits (Some limit) b = refl
+
+-- the limits of shares and mounts are those of the share that is asked for
+room_of_offer : (call : Call) (wanted : Wanted) → option_and_then (offer_limit call.state.tables) (offer_in call wanted) ≡ limit_by call wanted
+room_of_offer call (Share (ask.New spot to perms)) = refl
+room_of_offer call (Share (ask.List spot with_me)) = refl
+room_of_offer call (Share (ask.Show share)) = refl
+room_of_offer call (Share (ask.Set share perms)) = refl
+room_of_offer call (Share (ask.End share)) = refl
+room_of_offer call (Get spot) = refl
+room_of_offer call (Put spot length) = refl
+room_of_offer call (Mkcol spot) = refl
+room_of_offer call (Delete spot) = refl
+room_of_offer call (Move source target overwrite) = refl
+room_of_offer call (Copy source target overwrite) = refl
+
+pub limited_late : (call : Call) (places : Places) (offer : Option Offer) (passed : Option Limit) → places ≡ places_of call
+    → offer ≡ offer_in call call.request.wanted → None ≡ locked_at call places
+    → passed ≡ option_or (limited call.state.tables places (asked_by call).makes) (option_and_then (offer_limit call.state.tables) offer)
     → option_map denial.Limit passed ≡ late_refusal (access_of call.state) call
-unfolding locked_rule limit_rule
-limited_late call places passed same free is =
+unfolding locked_rule limit_rule room_rule
+limited_late call places offer passed same offers free is =
+    let t = call.state.tables in
+    let makes = (asked_by call).makes in
+    let first = limited t (places_of call) makes in
     ap (λ (o : Option Limit). option_map denial.Limit o) is
-    ∙ ap (λ (places : Places). option_map denial.Limit (limited call.state.tables places (asked_by call).makes)) same
-    ∙ sym (or_none (limit_rule (access_of call.state) call))
-    ∙ ap (λ (o : Option Denial). option_or o (first_that_holds (limit_rule ∷ []) (access_of call.state) call)) (free ∙ ap (locked_at call) same)
+    ∙ ap (λ (places : Places). option_map denial.Limit (option_or (limited t places makes) (option_and_then (offer_limit t) offer))) same
+    ∙ ap (λ (offer : Option Offer). option_map denial.Limit (option_or first (option_and_then (offer_limit t) offer))) offers
+    ∙ ap (λ (o : Option Limit). option_map denial.Limit (option_or first o)) (room_of_offer call call.request.wanted)
+    ∙ both_limits first (limit_by call call.request.wanted)
+    ∙ ap (λ (o : Option Denial). option_or o (first_that_holds (limit_rule ∷ room_rule ∷ []) (access_of call.state) call))
+    (free ∙ ap (locked_at call) same)
 
--- a call that neither refuses passes no limit
+-- a call that none of them refuses passes no limit of nodes and pieces
 pub few : (call : Call) → None ≡ late_refusal (access_of call.state) call
     → limited call.state.tables (places_of call) (asked_by call).makes ≡ None
 unfolding limit_rule
-few call none = no_limit _ (here (locked_rule (access_of call.state) call) (limit_rule (access_of call.state) call) (sym none))
+few call none =
+    no_limit _ (here (locked_rule (access_of call.state) call) (limit_rule (access_of call.state) call) (room_rule (access_of call.state) call) (sym none))
   where
-    here : (a b : Option Denial) → option_or a (option_or b None) ≡ None → b ≡ None
-    here None None none = refl
-    here None (Some refusal) none = absurd (cc)
-    here (Some refusal) b none = absurd (cc)
+    here : (a b c : Option Denial) → option_or a (option_or b (option_or c None)) ≡ None → b ≡ None
+    here None None c none = refl
+    here None (Some refusal) c none = absurd (cc)
+    here (Some refusal) b c none = absurd (cc)

@@ -5,5 +5,6 @@ pub mod Late
 pub mod Lines
 pub mod Named
 pub mod Numbers
+pub mod Offered
 pub mod Openings
 pub mod Stamps

@@ -2,20 +2,27 @@
 use Rattle.std.specs.Prelude.{◌≡◌, ◌≢◌, true, List, [], ◌∷◌, Option, None, Some, IsSome, IfSome, option_map, Result, Ok, Err}
 use Rattle.nf_access.specs.Shares.{ground_of}
 use Rattle.nf_defs.specs.Access.{Access}
+use Rattle.nf_defs.specs.Prelude.{node_row, Tables}
 use Rattle.nf_reach.specs.Asking.{Asking}
-use Rattle.nf_words.specs.Prelude.{asked_by, asker_of, Call, earlier_rules, exists_rule, first_that_holds, is_mount_asked, key_in_way, later_rules, overwrite_rule, places_of, root_of, Rule, target_rule, touches, transfer_of, ways_of}
+use Rattle.nf_words.specs.Prelude.{asked_by, asker_of, Call, earlier_rules, exists_rule, first_that_holds, is_mount_asked, key_in_way, later_rules, overwrite_rule, places_of, root_of, Rule, sharing_rule, target_rule, touches, transfer_of, ways_of}
 use Rattle.nf_words.specs.declared.answer.Denial.{Denial}
 use Rattle.nf_words.specs.declared.answer.Denial.TheVariants as denial
+use Rattle.nf_words.specs.Sharing.{offered}
+use Rattle.nf_words.specs.declared.request.Offer.{Offer}
 use Rattle.nf_words.specs.declared.request.Places.{Places}
+use Rattle.nf_words.specs.declared.request.ShareAsk.{ShareAsk}
+use Rattle.nf_words.specs.declared.request.ShareAsk.TheVariants as ask
+use Rattle.nf_words.specs.declared.request.Wanted.{Wanted}
+use Rattle.nf_words.specs.declared.request.Wanted.TheVariants as wanted
 
 -- the test refuses as the rule does, and passes where the rule is silent
 abbrev pub Follows : {A : Type 0} → (Call → Option Denial) → Call → Result A Denial → Type 0
 Follows rule call (Ok _) = rule call ≡ None
 Follows rule call (Err refusal) = rule call ≡ Some refusal
 
--- the rules of what the paths lead to, once they are reached and allowed
+-- the rules of what the paths lead to, once they are reached and allowed, and of sharing
 abbrev pub place_rules : List Rule
-place_rules = exists_rule ∷ target_rule ∷ overwrite_rule ∷ []
+place_rules = exists_rule ∷ target_rule ∷ overwrite_rule ∷ sharing_rule ∷ []
 
 abbrev pub place_refusal : Access → Call → Option Denial
 place_refusal access call = first_that_holds place_rules access call
@@ -52,3 +59,18 @@ IsTargetNamed call = IfSome (asked_by call).target (λ spot. spot.path ≢ [])
 pub record IsNamed (call : Call) : Type 0 where
   pub moved : IsSome (transfer_of call.state.tables.nodes (places_of call)) → IsTargetNamed call
   pub renamed : is_mount_asked (asked_by call) (ways_of call).source ≡ true → IsTargetNamed call
+
+-- ---- shares
+
+-- the share that is asked for
+abbrev pub offer_by : Call → ShareAsk → Option Offer
+offer_by call (ask.New spot to perms) = offered call spot to perms
+offer_by call other = None
+
+abbrev pub offer_in : Call → Wanted → Option Offer
+offer_in call (wanted.Share ask) = offer_by call ask
+offer_in call other = None
+
+-- its node is there
+abbrev pub IsThere : Tables → Option Offer → Type 0
+IsThere t offer = IfSome offer (λ offer. IsSome (node_row t.nodes offer.node))

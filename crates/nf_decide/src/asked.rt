@@ -51,8 +51,9 @@ pub(crate) fn is_transfer(makes: &Making) -> bool
     ensures { result ≡ is_transfer makes.now }
 {
     match makes {
-        Making::Nothing | Making::File { .. } | Making::Folder => false,
         Making::Moved | Making::Copied => true,
+        Making::Nothing | Making::File { .. } | Making::Folder | Making::Shared | Making::Told =>
+            false,
     }
 }
 

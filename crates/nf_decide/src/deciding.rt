@@ -1,16 +1,17 @@
 //! The rules that refuse a request, and what a request that none of them refuses may do.
 
 ghost use Rattle.std.specs.Prelude.{◌≡◌, ◌≤◌, IfOk, IfSome, OnOk, None, Some, false, length, option_and_then, option_copied};
-ghost use Rattle.std.specs.Option.{option_map_or};
+ghost use Rattle.std.specs.Option.{option_map_or, option_or};
 ghost use Rattle.nf_base.specs.declared.limits.TheConstants.{MAX_DEPTH};
 ghost use Rattle.nf_defs.specs.Prelude.{found_from, is_folder, user_row};
 ghost use Rattle.nf_defs.specs.declared.Seeker.TheVariants.{User};
-ghost use Rattle.nf_words.specs.Prelude.{access_of, acts_rule, allowed_of, AreSound, asked_by, asker_of, call_decision, caller_row, exists_rule, forbidden_rule, is_there, limit_at, limited, not_you_rule, overwrite_rule, place_rule, places_of, root_of, served, target_rule, token_rule, user_of, ways_of};
-ghost use Rattle.nf_decide.specs.Deciding.{Follows, IsNamed, asking_of, early_refusal, late_refusal, locked_at, place_refusal};
+ghost use Rattle.nf_words.specs.Prelude.{access_of, acts_rule, allowed_of, AreSound, asked_by, asker_of, call_decision, caller_row, exists_rule, forbidden_rule, is_there, limit_at, limited, not_you_rule, overwrite_rule, place_rule, places_of, root_of, served, shared, target_rule, token_rule, user_of, ways_of};
+ghost use Rattle.nf_words.specs.Sharing.{offer_limit};
+ghost use Rattle.nf_decide.specs.Deciding.{Follows, IsNamed, IsThere, asking_of, early_refusal, late_refusal, locked_at, offer_by, offer_in, place_refusal};
 
 use crate::acting::{copied, deleted, made_folder, moved, stored};
 use crate::asked::{is_forbidden, is_kept, is_transfer, names_caller, node_at};
-use crate::limits::{carry_limit, copy_limit, limit_at, pieces_of};
+use crate::limits::{carry_limit, copy_limit, limit_at, offer_limit, pieces_of};
 use crate::locking::locked;
 use crate::mounting::mount_itself;
 use crate::nodes::is_folder;
@@ -20,7 +21,10 @@ use nf_base::{Moment, NodeId, UserId, UserRow};
 use nf_defs::{Found, Seeker};
 use nf_reach::{Asker, Way, Ways};
 use nf_tree::Tree;
-use nf_words::{Allowed, By, Caller, Denial, Limit, Making, Places, Request, Route, Wanted, Words};
+use nf_words::{
+    Allowed, By, Caller, Denial, Limit, Making, Offer, Places, Request, Route, ShareAsk, Wanted,
+    Words,
+};
 use std::alloc::{AllocError, Global};
 use std::marker::Model;
 
@@ -48,13 +52,14 @@ impl<'a> Model for Call<'a> {
     } };
 }
 
-/// What the rules found: who asks, with its root, and where the paths lead.
+/// What the rules found: who asks, with its root, where the paths lead, and the share that is asked for.
 #[derive(Clone, Copy)]
 struct Seen {
     user: UserId,
     root: NodeId,
     ways: Ways,
     places: Places,
+    offer: Option<Offer>,
 }
 
 impl<'a> Call<'a> {
@@ -67,24 +72,52 @@ impl<'a> Call<'a> {
             Ok(seen) => seen,
             Err(refusal) => return Ok(Err(refusal)),
         };
-        match self.late(alloc, &seen.places)? {
+        match self.late(alloc, &seen.places, seen.offer)? {
             Some(refusal) => Ok(Err(refusal)),
             None => Ok(Ok(self.allowed(alloc, &seen)?)),
         }
     }
 
-    /// The rules behind those that are judged: the locks, then the limits. They alone take memory.
-    fn late(&self, alloc: Global, places: &Places) -> Result<Option<Denial>, AllocError>
-        requires { places.now ≡ places_of self.now }
+    /// The rules behind those that are judged: the locks, then the limits. The first two of them alone take memory.
+    fn late(
+        &self,
+        alloc: Global,
+        places: &Places,
+        offer: Option<Offer>,
+    ) -> Result<Option<Denial>, AllocError>
+        requires places { places.now ≡ places_of self.now }
+        requires offer { offer ≡ offer_in self.now self.now.request.wanted }
         ensures { IfOk result (λ refusal. refusal ≡ late_refusal (access_of self.entry.now.state) self.entry.now) }
     {
         match self.locked(alloc, places)? {
             Some(refusal) => Ok(Some(refusal)),
-            None => match self.limit(alloc, places)? {
+            None => match self.passed(alloc, places, offer)? {
                 Some(limit) => Ok(Some(Denial::Limit(limit))),
                 None => Ok(None),
             },
         }
+    }
+
+    /// The limit that the step would pass, of nodes and pieces, or else of shares and mounts.
+    fn passed(
+        &self,
+        alloc: Global,
+        places: &Places,
+        offer: Option<Offer>,
+    ) -> Result<Option<Limit>, AllocError>
+        ensures { IfOk result (λ limit. limit ≡ option_or (limited self.entry.now.state.tables places.now (asked_by self.entry.now).makes) (option_and_then (offer_limit self.entry.now.state.tables) offer)) }
+    {
+        match self.limit(alloc, places)? {
+            Some(limit) => Ok(Some(limit)),
+            None => Ok(self.room(offer)),
+        }
+    }
+
+    /// The limit of shares or mounts that a new share would pass.
+    fn room(&self, offer: Option<Offer>) -> Option<Limit>
+        ensures { result ≡ option_and_then (offer_limit self.entry.now.state.tables) offer }
+    {
+        offer_limit(&self.view, &offer?)
     }
 
     fn locked(&self, alloc: Global, places: &Places) -> Result<Option<Denial>, AllocError>
@@ -102,52 +135,62 @@ impl<'a> Call<'a> {
         ensures root { IfOk result (λ seen. seen.root ≡ root_of self.entry.now) }
         ensures ways { IfOk result (λ seen. seen.ways ≡ ways_of self.entry.now) }
         ensures places { IfOk result (λ seen. seen.places ≡ places_of self.entry.now) }
+        ensures offer { IfOk result (λ seen. seen.offer ≡ offer_in self.entry.now self.entry.now.request.wanted) }
         ensures named { IfOk result (λ _. IsNamed self.entry.now) }
+        ensures there { IfOk result (λ seen. IsThere self.entry.now.state.tables seen.offer) }
     {
-        // No `?` here: the check finds no proof of one over a number beside a refusal.
-        let user = match self.token() {
-            Ok(user) => user,
-            Err(refusal) => return Err(refusal),
-        };
-        let caller = self.row(user);
+        let caller = self.caller();
+        self.token(caller)?;
         self.not_you(caller)?;
         self.forbidden()?;
         let asker = self.asker(caller);
         let ways = self.ways(&asker);
         self.reached(&asker, &ways)?;
+        self.named(&asker)?;
         self.allows(&asker, &ways)?;
         let places = self.places(&ways);
-        self.places_fit(asker.root(), &ways, &places)?;
+        let offer = self.offer(&ways);
+        self.places_fit(&asker, &ways, &places, offer)?;
         Ok(Seen {
             user: asker.user(),
             root: asker.root(),
             ways,
             places,
+            offer,
         })
     }
 
-    /// The rules of what the paths lead to, in their order.
-    fn places_fit(&self, root: NodeId, ways: &Ways, places: &Places) -> Result<(), Denial>
-        requires root { root ≡ root_of self.now }
+    /// The rules of what the paths lead to and of sharing, in their order.
+    fn places_fit(
+        &self,
+        asker: &Asker<'_>,
+        ways: &Ways,
+        places: &Places,
+        offer: Option<Offer>,
+    ) -> Result<(), Denial>
+        requires asker { asker.now ≡ asking_of self.now }
         requires ways { ways.now ≡ ways_of self.now }
         requires places { places.now ≡ places_of self.now }
+        requires offer { offer ≡ offer_in self.now self.now.request.wanted }
         ensures rules { Follows (place_refusal (access_of self.entry.now.state)) self.entry.now result }
         ensures target { OnOk result (target_rule (access_of self.entry.now.state) self.entry.now ≡ None) }
     {
         self.exists(places)?;
-        self.target(root, ways)?;
-        self.overwrite(places)
+        self.target(asker.root(), ways)?;
+        self.overwrite(places)?;
+        self.sharing(asker, offer)
     }
 
-    /// The user whose token the caller shows.
+    /// Somebody whose row is there asks.
     #[tactic(auto, unfolding(nf_words::specs::Callers::token_rule))]
-    fn token(&self) -> Result<UserId, Denial>
-        ensures rule { Follows (token_rule (access_of self.entry.now.state)) self.entry.now result }
-        ensures user { IfOk result (λ user. user_of self.entry.now ≡ Some user) }
+    fn token(&self, caller: Option<&UserRow>) -> Result<(), Denial>
+        requires { option_copied caller ≡ caller_row self.now }
+        ensures { Follows (token_rule (access_of self.entry.now.state)) self.entry.now result }
     {
-        match self.user() {
-            Some(user) => Ok(user),
-            None => Err(Denial::Token),
+        if caller.is_some() {
+            Ok(())
+        } else {
+            Err(Denial::Token)
         }
     }
 
@@ -210,7 +253,8 @@ impl<'a> Call<'a> {
         let is_taken = match self.request.wanted.asked().makes {
             Making::File { .. } => is_folder_at(self.tree(), places.target),
             Making::Folder => node_at(places.target).is_some(),
-            Making::Nothing | Making::Moved | Making::Copied => false,
+            Making::Nothing | Making::Moved | Making::Copied | Making::Shared | Making::Told =>
+                false,
         };
         if is_taken {
             Err(Denial::Exists(Route::Files))
@@ -251,7 +295,7 @@ impl<'a> Call<'a> {
     {
         let view = &self.view;
         match self.request.wanted.asked().makes {
-            Making::Nothing => Ok(None),
+            Making::Nothing | Making::Shared | Making::Told => Ok(None),
             Making::File { length } => Ok(limit_there(view, places.target, pieces_of(length))),
             Making::Folder => Ok(limit_there(view, places.target, 0)),
             Making::Moved => match transfer_of(view.tree(), places) {
@@ -272,7 +316,9 @@ impl<'a> Call<'a> {
         requires root { seen.now.root ≡ root_of self.now }
         requires ways { seen.now.ways ≡ ways_of self.now }
         requires places { seen.now.places ≡ places_of self.now }
+        requires offer { seen.now.offer ≡ offer_in self.now self.now.request.wanted }
         requires named { IsNamed self.now }
+        requires there { IsThere self.now.state.tables seen.now.offer }
         requires few { limited self.now.state.tables (places_of self.now) (asked_by self.now).makes ≡ None }
         ensures { IfOk result (λ allowed. allowed ≡ allowed_of (access_of self.entry.now.state) self.entry.now) }
     {
@@ -299,7 +345,26 @@ impl<'a> Call<'a> {
                 let transfer = transfer_of(view.tree(), &seen.places);
                 copied(alloc, view, self.now, spot, transfer)
             }
+            Wanted::Share(ask) => self.about_shares(alloc, seen, ask),
         }
+    }
+
+    /// What is done and told of what is asked about shares.
+    fn about_shares(
+        &self,
+        alloc: Global,
+        seen: &Seen,
+        ask: &ShareAsk,
+    ) -> Result<Allowed, AllocError>
+        requires sound { AreSound self.now.state.tables }
+        requires user { seen.now.user ≡ asker_of self.now }
+        requires root { seen.now.root ≡ root_of self.now }
+        requires offer { seen.now.offer ≡ offer_by self.now ask.now }
+        requires there { IsThere self.now.state.tables seen.now.offer }
+        ensures { IfOk result (λ allowed. allowed ≡ shared (access_of self.entry.now.state) self.entry.now seen.now.places ask.now) }
+    {
+        let asker = self.view.asker(seen.user, seen.root, self.now);
+        self.shared(alloc, &asker, seen.offer, &seen.places, ask)
     }
 
     /// GET of what is there, by the mount on its path.
@@ -313,6 +378,13 @@ impl<'a> Call<'a> {
         self.served(alloc, &asker, mount_of(&seen.ways.source), node)
     }
 
+    /// The row of the user whose token the caller shows.
+    fn caller(&self) -> Option<&UserRow>
+        ensures { option_copied result ≡ caller_row self.entry.now }
+    {
+        self.view.people().row(self.user()?)
+    }
+
     fn user(&self) -> Option<UserId>
         ensures { result ≡ user_of self.entry.now }
     {
@@ -320,12 +392,6 @@ impl<'a> Call<'a> {
             Caller::Absent => None,
             Caller::Token(digest) => self.view.people().caller(digest),
         }
-    }
-
-    fn row(&self, user: UserId) -> Option<&UserRow>
-        ensures { option_copied result ≡ user_row self.entry.now.state.tables.users user }
-    {
-        self.view.people().row(user)
     }
 
     fn tree(&self) -> &Tree

@@ -12,6 +12,8 @@ mod listing;
 mod locking;
 mod mounting;
 mod nodes;
+mod shared;
+mod sharing;
 mod state;
 mod tables;
 mod telling;

@@ -5,6 +5,7 @@ ghost use Rattle.nf_base.specs.declared.limits.TheConstants.{MAX_DEPTH, MAX_PIEC
 ghost use Rattle.nf_defs.specs.Tree.{content_of, walk_of};
 ghost use Rattle.nf_words.specs.Limits.{carry_limit, copy_limit, count_of, deepest, deepest_in, limit_at, limit_passed, move_limit, pieces_in, pieces_of};
 ghost use Rattle.nf_words.specs.Contents.{stored_pieces};
+ghost use Rattle.nf_words.specs.Sharing.{offer_limit};
 ghost use Rattle.nf_words.specs.declared.answer.Limit.TheVariants.{Pieces};
 
 use crate::transferring::crosses;
@@ -12,7 +13,7 @@ use crate::view::View;
 use nf_base::NodeId;
 use nf_defs::Found;
 use nf_tree::Tree;
-use nf_words::{Limit, Transfer};
+use nf_words::{Limit, Offer, Transfer};
 use std::alloc::{AllocError, Global};
 
 /// The limit that is passed where a content of so many pieces is put there.
@@ -69,6 +70,22 @@ pub(crate) fn copy_limit(
     let deep = deepest_in(view.tree(), &nodes, transfer);
     let pieces = pieces_in(view.tree(), &nodes);
     Ok(limit_passed(view, nodes.len() as u64, deep, pieces, 0))
+}
+
+/// The limit that is passed by a new share, and by the mount that it needs.
+pub(crate) fn offer_limit(view: &View<'_>, offer: &Offer) -> Option<Limit>
+    ensures { result ≡ offer_limit view.now.tables offer.now }
+{
+    let shares = view.shares().count() as u128 + 1;
+    if passes(shares, Limit::Shares) || view.meta().next_share.number() > u64::MAX - 1 {
+        return Some(Limit::Shares);
+    }
+    let mounts = view.mounts();
+    let count = mounts.count() as u128 + 1;
+    if mounts.row(offer.to, offer.node).is_none() && passes(count, Limit::Mounts) {
+        return Some(Limit::Mounts);
+    }
+    None
 }
 
 /// How deep the deepest of the nodes under a node would be, with that in the folder.

@@ -242,7 +242,7 @@ fn permissions_of(user: UserId, granted: Perms, row: &NodeRow) -> Perms
 }
 
 /// An owner may do everything: read, update, create, delete and share.
-fn all_permissions() -> Perms
+pub(crate) fn all_permissions() -> Perms
     ensures { result ≡ all_permissions }
 {
     Perms::read(31).unwrap()

@@ -62,6 +62,7 @@ fn touches<'a>(
             let transfer = transfer_of(tree, places);
             transfer_touches(alloc, Mode::Shared, target_name(asked), transfer)
         }
+        Making::Shared | Making::Told => Ok(Vec::new(alloc)),
     }
 }
 

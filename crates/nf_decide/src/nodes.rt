@@ -1,6 +1,7 @@
 //! What a node's row says of it.
 
 ghost use Rattle.std.specs.Prelude.{◌≡◌, IfOk};
+ghost use Rattle.nf_words.specs.Sharing.{kind_of};
 ghost use Rattle.nf_defs.specs.Tree.{node_row, is_folder, is_file, is_root, owner_of, content_of, parent_of};
 
 use nf_base::{Content, NodeId, NodeKind, Place, UserId};
@@ -22,6 +23,16 @@ pub(crate) fn is_file(tree: &Tree, node: NodeId) -> bool
     match tree.node(node) {
         Some(row) => row.kind == NodeKind::File,
         None => false,
+    }
+}
+
+/// Of a node that is there.
+pub(crate) fn kind_of(tree: &Tree, node: NodeId) -> NodeKind
+    ensures { result ≡ kind_of tree.now.rows node }
+{
+    match tree.node(node) {
+        Some(row) => row.kind,
+        None => NodeKind::File,
     }
 }
 

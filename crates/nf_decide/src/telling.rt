@@ -214,7 +214,7 @@ fn is_closing(tree: &Tree, top: NodeId, share: &ShareRow) -> bool
 }
 
 /// The row of a share that ended.
-fn ended(share: &ShareRow) -> Result<ShareRow, AllocError>
+pub(crate) fn ended(share: &ShareRow) -> Result<ShareRow, AllocError>
     ensures { IfOk result (λ row. row ≡ ended_row share.now) }
 {
     let mut row = share.clone()?;

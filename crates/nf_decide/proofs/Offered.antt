@@ -1,0 +1,52 @@
+-- A share is asked of what is there, where the rules of who asks and of where paths lead pass.
+use Rattle.std.proofs.Common.{ℕ, ◌≡◌, List, Option, None, Some, IsSome, IfSome, option_map, option_and_then, refl, subst, sym}
+use Rattle.nf_base.specs.declared.rows.NodeRow.{NodeRow}
+use Rattle.nf_base.specs.declared.rows.UserRow.{UserRow}
+use Rattle.nf_defs.specs.Prelude.{node_row, user_named}
+use Rattle.nf_defs.specs.declared.Found.{Found}
+use Rattle.nf_defs.specs.declared.Found.TheVariants.{At, Free, Missing}
+use Rattle.nf_words.proofs.Passing.{PlacePasses, place_passes}
+use Rattle.nf_words.proofs.Starts.{has_row}
+use Rattle.nf_words.proofs.Ways.{way_there}
+use Rattle.nf_words.specs.Prelude.{access_of, AreSound, asked_of, Call, caller_row, found, node_found, place_rule, token_rule, unreached, way_of}
+use Rattle.nf_words.specs.Sharing.{offer_of, offered}
+use Rattle.nf_words.specs.declared.request.Offer.{Offer}
+use Rattle.nf_words.specs.declared.request.ShareAsk.TheVariants as ask
+use Rattle.nf_words.specs.declared.request.Spot.{Spot}
+use Rattle.nf_words.specs.declared.request.Wanted.{Wanted}
+use Rattle.nf_words.specs.declared.request.Wanted.TheVariants.{Get, Put, Mkcol, Delete, Move, Copy, Share}
+use Rattle.nf_decide.specs.Deciding.{IsThere, offer_in}
+
+spot_there : (call : Call) (row : UserRow) (spot : Spot) (name : List ℕ) (perms : Option ℕ) → AreSound call.state.tables → caller_row call ≡ Some row
+    → unreached (access_of call.state) call (way_of call spot) ≡ None
+    → IsThere call.state.tables (offered call spot name perms)
+spot_there call row spot name perms sound is reached = here (found call spot) (user_named call.state.tables.users name) refl
+  where
+    here : (place : Found) (to : Option ℕ) → found call spot ≡ place
+        → IsThere call.state.tables (option_and_then (λ node. option_map (offer_of call.state.tables.nodes (way_of call spot).mount perms node) to) (node_found place))
+    here (At node) (Some to) leads =
+        let there = way_there call spot row sound is node reached leads in
+        subst (λ (o : Option NodeRow). IsSome o) (sym there.1) tt
+    here (At node) None leads = tt
+    here (Free folder) to leads = tt
+    here (Missing depth) to leads = tt
+
+wanted_there : (call : Call) (row : UserRow) (wanted : Wanted) → AreSound call.state.tables → caller_row call ≡ Some row
+    → PlacePasses (access_of call.state) call (asked_of wanted) → IsThere call.state.tables (offer_in call wanted)
+wanted_there call row (Share (ask.New spot to perms)) sound is passes = spot_there call row spot to perms sound is (passes.source refl)
+wanted_there call row (Share (ask.List spot with_me)) sound is passes = tt
+wanted_there call row (Share (ask.Show share)) sound is passes = tt
+wanted_there call row (Share (ask.Set share perms)) sound is passes = tt
+wanted_there call row (Share (ask.End share)) sound is passes = tt
+wanted_there call row (Get spot) sound is passes = tt
+wanted_there call row (Put spot length) sound is passes = tt
+wanted_there call row (Mkcol spot) sound is passes = tt
+wanted_there call row (Delete spot) sound is passes = tt
+wanted_there call row (Move source target overwrite) sound is passes = tt
+wanted_there call row (Copy source target overwrite) sound is passes = tt
+
+pub offer_there : (call : Call) → AreSound call.state.tables → token_rule (access_of call.state) call ≡ None
+    → place_rule (access_of call.state) call ≡ None → IsThere call.state.tables (offer_in call call.request.wanted)
+offer_there call sound token place =
+    let row = has_row call token in
+    wanted_there call row.0 call.request.wanted sound row.1 (place_passes (access_of call.state) call place)

@@ -1,0 +1,346 @@
+//! What is done and told of what is asked about shares.
+
+ghost use Rattle.std.specs.Prelude.{◌≡◌, ◌++◌, ◌∷◌, [], None, IfOk, IsSome, OnOk, filter, filter_map, option_copied, if◌then◌else◌};
+ghost use Rattle.std.specs.Option.{option_map_or};
+ghost use Rattle.nf_access.specs.Mounts.{ensured};
+ghost use Rattle.nf_base.specs.declared.changes.Change.TheVariants.{Put};
+ghost use Rattle.nf_base.specs.declared.rows.Row.TheVariants as kinds;
+ghost use Rattle.nf_defs.specs.Prelude.{node_row};
+ghost use Rattle.nf_words.specs.Prelude.{access_of, AreSound, mounting, nothing_done, share_ended, share_made, share_set, share_told, shared};
+ghost use Rattle.nf_words.specs.Sharing.{is_listed_for, is_on, perms_after, recipient_of, share_line, share_lines};
+ghost use Rattle.nf_words.specs.declared.answer.Allowed.TheVariants as allowed;
+ghost use Rattle.nf_words.specs.declared.answer.Report.TheVariants as report;
+ghost use Rattle.nf_decide.specs.Deciding.{IsThere, asking_of, offer_by};
+
+use crate::asked::node_at;
+use crate::deciding::Call;
+use crate::sharing::{is_steered_by, perms_after};
+use crate::telling::ended;
+use crate::view::View;
+use nf_base::{Change, Changes, MountRow, NodeId, Perms, Row, ShareId, ShareKind, ShareRow};
+use nf_reach::Asker;
+use nf_words::{Allowed, Offer, Places, Recipient, Report, ShareAsk, ShareLine, ShareLines};
+use std::alloc::{AllocError, Global};
+
+impl<'a> Call<'a> {
+    /// What is done and told of what is asked about shares.
+    pub(crate) fn shared(
+        &self,
+        alloc: Global,
+        asker: &Asker<'_>,
+        offer: Option<Offer>,
+        places: &Places,
+        ask: &ShareAsk,
+    ) -> Result<Allowed, AllocError>
+        requires sound { AreSound self.now.state.tables }
+        requires asker { asker.now ≡ asking_of self.now }
+        requires offer { offer ≡ offer_by self.now ask.now }
+        requires there { IsThere self.now.state.tables offer }
+        ensures { IfOk result (λ allowed. allowed ≡ shared (access_of self.entry.now.state) self.entry.now places.now ask.now) }
+    {
+        match ask {
+            ShareAsk::New { .. } => self.share_made(alloc, asker, offer),
+            ShareAsk::List { with_me, .. } => {
+                shares_told(alloc, &self.view, asker, node_at(places.source), *with_me)
+            }
+            ShareAsk::Show(share) => {
+                let row = self.share_shown(asker, *share);
+                shown(alloc, &self.view, row)
+            }
+            ShareAsk::Set { share, perms } => {
+                let row = self.share_steered(asker, *share);
+                set(alloc, &self.view, *perms, row)
+            }
+            ShareAsk::End(share) => {
+                let row = self.share_steered(asker, *share);
+                share_ended(alloc, row)
+            }
+        }
+    }
+
+    /// A share is made, and its user has a mount of the node.
+    fn share_made(
+        &self,
+        alloc: Global,
+        asker: &Asker<'_>,
+        offer: Option<Offer>,
+    ) -> Result<Allowed, AllocError>
+        requires sound { AreSound self.now.state.tables }
+        requires asker { asker.now ≡ asking_of self.now }
+        requires there { IsThere self.now.state.tables offer }
+        ensures { IfOk result (λ allowed. allowed ≡ option_map_or (share_made (access_of self.entry.now.state) self.entry.now) offer nothing_done) }
+    {
+        let Some(offer) = offer else {
+            return Ok(nothing_done(alloc));
+        };
+        let row = self.new_share(asker, &offer);
+        let mount = mount_for(alloc, &self.view, &offer)?;
+        let report = report_of(&self.view, &row)?;
+        Ok(Allowed::Change {
+            changes: made(alloc, row, mount)?,
+            blob: None,
+            report,
+        })
+    }
+}
+
+/// The row of the mount of what is shared, where its user has none yet.
+fn mount_for(alloc: Global, view: &View<'_>, offer: &Offer) -> Result<Option<MountRow>, AllocError>
+    requires sound { AreSound view.now.tables }
+    requires there { IsSome (node_row view.now.tables.nodes offer.now.node) }
+    ensures { IfOk result (λ row. row ≡ ensured view.now.tables.users view.now.tables.nodes view.now.tables.mounts offer.now.to offer.now.node) }
+{
+    let (people, tree) = (view.people(), view.tree());
+    view.mounts()
+        .ensured(alloc, people, tree, offer.to, offer.node)
+}
+
+/// The changes that put a share and, if there is one, a mount.
+fn made(alloc: Global, row: ShareRow, mount: Option<MountRow>) -> Result<Changes, AllocError>
+    ensures { IfOk result (λ changes. changes ≡ Put (kinds.Share row) ∷ mounting mount) }
+{
+    let mut changes = only(alloc, row)?;
+    if let Some(mount) = mount {
+        changes.push(Change::Put(Row::Mount(mount)))?;
+    }
+    Ok(changes)
+}
+
+/// The change that puts a share.
+fn only(alloc: Global, row: ShareRow) -> Result<Changes, AllocError>
+    ensures { IfOk result (λ changes. changes ≡ Put (kinds.Share row) ∷ []) }
+{
+    let mut changes = Changes::new(alloc);
+    changes.push(Change::Put(Row::Share(row)))?;
+    Ok(changes)
+}
+
+/// Nothing is done.
+fn nothing_done(alloc: Global) -> Allowed
+    ensures { result ≡ nothing_done }
+{
+    Allowed::Change {
+        changes: Changes::new(alloc),
+        blob: None,
+        report: Report::Plain,
+    }
+}
+
+/// A share is told, if there is one.
+fn shown(alloc: Global, view: &View<'_>, row: Option<&ShareRow>) -> Result<Allowed, AllocError>
+    ensures { IfOk result (λ allowed. allowed ≡ option_map_or (share_told view.now.tables []) (option_copied row.entry) nothing_done) }
+{
+    let Some(row) = row else {
+        return Ok(nothing_done(alloc));
+    };
+    Ok(Allowed::Change {
+        changes: Changes::new(alloc),
+        blob: None,
+        report: report_of(view, row)?,
+    })
+}
+
+/// A share, if there is one, has the permissions that are asked for.
+fn set(
+    alloc: Global,
+    view: &View<'_>,
+    perms: Option<Perms>,
+    row: Option<&ShareRow>,
+) -> Result<Allowed, AllocError>
+    ensures { IfOk result (λ allowed. allowed ≡ option_map_or (λ row. share_set view.now.tables (perms_after view.now.tables perms row) row) (option_copied row.entry) nothing_done) }
+{
+    match row {
+        Some(row) => share_set(alloc, view, perms_after(view, perms, row), row),
+        None => Ok(nothing_done(alloc)),
+    }
+}
+
+/// A share has those permissions.
+fn share_set(
+    alloc: Global,
+    view: &View<'_>,
+    perms: Perms,
+    row: &ShareRow,
+) -> Result<Allowed, AllocError>
+    ensures { IfOk result (λ allowed. allowed ≡ share_set view.now.tables perms row.now) }
+{
+    let is_same = perms == row.perms;
+    let row = with_perms(perms, row)?;
+    let report = report_of(view, &row)?;
+    Ok(Allowed::Change {
+        changes: unless_same(alloc, is_same, row)?,
+        blob: None,
+        report,
+    })
+}
+
+/// The row of a share with those permissions.
+fn with_perms(perms: Perms, row: &ShareRow) -> Result<ShareRow, AllocError>
+    ensures { IfOk result (λ other. other ≡ record row.now { perms = perms }) }
+{
+    let mut row = row.clone()?;
+    row.perms = perms;
+    Ok(row)
+}
+
+/// The change that puts a share, unless it is the same.
+fn unless_same(alloc: Global, is_same: bool, row: ShareRow) -> Result<Changes, AllocError>
+    ensures { IfOk result (λ changes. changes ≡ (if is_same then [] else Put (kinds.Share row) ∷ [])) }
+{
+    if is_same {
+        Ok(Changes::new(alloc))
+    } else {
+        only(alloc, row)
+    }
+}
+
+/// A share, if there is one, is ended.
+fn share_ended(alloc: Global, row: Option<&ShareRow>) -> Result<Allowed, AllocError>
+    ensures { IfOk result (λ allowed. allowed ≡ option_map_or share_ended (option_copied row.entry) nothing_done) }
+{
+    let Some(row) = row else {
+        return Ok(nothing_done(alloc));
+    };
+    Ok(Allowed::Change {
+        changes: only(alloc, ended(row)?)?,
+        blob: None,
+        report: Report::Plain,
+    })
+}
+
+// ---- what is told
+
+/// A share as it is then, where those whom it names are there.
+fn report_of(view: &View<'_>, row: &ShareRow) -> Result<Report, AllocError>
+    ensures { IfOk result (λ told. told ≡ option_map_or report.Share (share_line view.now.tables row.now) report.Plain) }
+{
+    match share_line(view, row)? {
+        Some(line) => Ok(Report::Share(line)),
+        None => Ok(Report::Plain),
+    }
+}
+
+/// Shares are told.
+fn shares_told(
+    alloc: Global,
+    view: &View<'_>,
+    asker: &Asker<'_>,
+    node: Option<NodeId>,
+    with_me: bool,
+) -> Result<Allowed, AllocError>
+    requires { asker.now.base.members ≡ view.now.tables.members }
+    ensures { IfOk result (λ told. told ≡ allowed.Change [] None (report.Shares (share_lines view.now.tables asker.now.user node with_me))) }
+{
+    let lines = share_lines(alloc, view, asker, node, with_me)?;
+    Ok(Allowed::Change {
+        changes: Changes::new(alloc),
+        blob: None,
+        report: Report::Shares(ShareLines::new(lines)),
+    })
+}
+
+/// The lines of the shares that are listed.
+fn share_lines(
+    alloc: Global,
+    view: &View<'_>,
+    asker: &Asker<'_>,
+    node: Option<NodeId>,
+    with_me: bool,
+) -> Result<Vec<ShareLine>, AllocError>
+    requires { asker.now.base.members ≡ view.now.tables.members }
+    ensures { IfOk result (λ lines. lines.items ≡ share_lines view.now.tables asker.now.user node with_me) }
+{
+    let mut lines = Vec::new(alloc);
+    for row in view.shares().rows() {
+        push_share(view, asker, node, with_me, row, &mut lines)?;
+    }
+    Ok(lines)
+}
+
+/// Puts the line of a share at the end, where it is listed and those whom it names are there.
+fn push_share(
+    view: &View<'_>,
+    asker: &Asker<'_>,
+    node: Option<NodeId>,
+    with_me: bool,
+    row: &ShareRow,
+    lines: &mut Vec<ShareLine>,
+) -> Result<(), AllocError>
+    ensures { OnOk result (lines.new.items ≡ lines.old.items ++ filter_map (share_line view.now.tables) (filter (is_listed_for asker.now.base.members asker.now.user node with_me) (row.now ∷ []))) }
+{
+    if !is_listed_for(asker, node, with_me, row) {
+        return Ok(());
+    }
+    match share_line(view, row)? {
+        Some(line) => lines.push(line),
+        None => Ok(()),
+    }
+}
+
+/// Whether a share is listed: one that isn't ended, of that node if one is named, and made or owned by who asks or received by it.
+fn is_listed_for(asker: &Asker<'_>, node: Option<NodeId>, with_me: bool, row: &ShareRow) -> bool
+    ensures { result ≡ is_listed_for asker.now.base.members asker.now.user node with_me row.now }
+{
+    if row.ended || !is_on(node, row) {
+        return false;
+    }
+    if with_me {
+        asker.receives(row)
+    } else if node.is_some() {
+        is_steered_by(asker.user(), row)
+    } else {
+        row.initiator == asker.user()
+    }
+}
+
+/// Whether a share is of that node, if one is named.
+fn is_on(node: Option<NodeId>, row: &ShareRow) -> bool
+    ensures { result ≡ is_on node row.now }
+{
+    match node {
+        Some(node) => row.node == node,
+        None => true,
+    }
+}
+
+/// What is told of a share, where the rows of those whom it names are there.
+fn share_line(view: &View<'_>, row: &ShareRow) -> Result<Option<ShareLine>, AllocError>
+    ensures { IfOk result (λ line. line ≡ share_line view.now.tables row.now) }
+{
+    let people = view.people();
+    let Some(to) = recipient_of(view, &row.kind)? else {
+        return Ok(None);
+    };
+    let Some(owner) = people.row(row.owner) else {
+        return Ok(None);
+    };
+    let Some(initiator) = people.row(row.initiator) else {
+        return Ok(None);
+    };
+    Ok(Some(ShareLine {
+        id: row.id,
+        node: row.node,
+        parent: row.parent,
+        permissions: row.perms,
+        until: row.until,
+        to,
+        owner: owner.name.copy()?,
+        initiator: initiator.name.copy()?,
+    }))
+}
+
+fn recipient_of(view: &View<'_>, kind: &ShareKind) -> Result<Option<Recipient>, AllocError>
+    ensures { IfOk result (λ to. to ≡ recipient_of view.now.tables kind.now) }
+{
+    match kind {
+        ShareKind::User(user) => match view.people().row(*user) {
+            Some(row) => Ok(Some(Recipient::User(row.name.copy()?))),
+            None => Ok(None),
+        },
+        ShareKind::Group(group) => match view.people().group_row(*group) {
+            Some(row) => Ok(Some(Recipient::Group(row.name.copy()?))),
+            None => Ok(None),
+        },
+        ShareKind::Link(token) => Ok(Some(Recipient::Link(token.copy()?))),
+    }
+}

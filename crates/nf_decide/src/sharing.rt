@@ -1,0 +1,323 @@
+//! What is asked about shares: what it names, and the rules of sharing.
+
+ghost use Rattle.std.specs.Prelude.{◌≡◌, option_and_then, option_copied};
+ghost use Rattle.nf_defs.specs.Prelude.{user_named};
+ghost use Rattle.nf_words.specs.Prelude.{access_of, ways_of};
+ghost use Rattle.nf_words.specs.Sharing.{fault_by, fault_of_ask, is_long, is_seen_by, is_steered_by, is_wider, is_widened, named_rule, new_share, offer_fault, offer_of, offered_by, parent_by, perms_after, set_fault, share_shown, share_steered, sharing_rule, unnamed, unnamed_by};
+ghost use Rattle.nf_decide.specs.Deciding.{Follows, asking_of, offer_by, offer_in};
+
+use crate::asked::node_found;
+use crate::deciding::Call;
+use crate::listing::all_permissions;
+use crate::nodes::{is_root, kind_of, owner_of};
+use crate::view::View;
+use nf_access::{is_part, perms_of_share};
+use nf_base::{MAX_CHAIN, Name, NodeId, Perms, ShareId, ShareKind, ShareRow, UserId};
+use nf_reach::{Asker, Way, Ways};
+use nf_shares::{Shares, is_self_share};
+use nf_tree::Tree;
+use nf_words::{Denial, Offer, ShareAsk, ShareRule, Wanted};
+
+// ---- the rules
+
+impl<'a> Call<'a> {
+    /// `not-found`: the user or the share that is named.
+    #[tactic(auto, unfolding(nf_words::specs::Sharing::named_rule))]
+    pub(crate) fn named(&self, asker: &Asker<'_>) -> Result<(), Denial>
+        requires { asker.now ≡ asking_of self.now }
+        ensures { Follows (named_rule (access_of self.entry.now.state)) self.entry.now result }
+    {
+        match self.unnamed_by(asker) {
+            Some(refusal) => Err(refusal),
+            None => Ok(()),
+        }
+    }
+
+    fn unnamed_by(&self, asker: &Asker<'_>) -> Option<Denial>
+        requires { asker.now ≡ asking_of self.now }
+        ensures { result ≡ unnamed_by self.entry.now self.entry.now.request.wanted }
+    {
+        match &self.request.wanted {
+            Wanted::Share(ask) => self.unnamed(asker, ask),
+            Wanted::Get(_)
+            | Wanted::Put { .. }
+            | Wanted::Mkcol(_)
+            | Wanted::Delete(_)
+            | Wanted::Move { .. }
+            | Wanted::Copy { .. } => None,
+        }
+    }
+
+    /// What isn't there of what is asked about shares.
+    fn unnamed(&self, asker: &Asker<'_>, ask: &ShareAsk) -> Option<Denial>
+        requires { asker.now ≡ asking_of self.now }
+        ensures { result ≡ unnamed self.entry.now ask.now }
+    {
+        let is_known = match ask {
+            ShareAsk::New { to, .. } => self.view.people().user(to).is_some(),
+            ShareAsk::List { .. } => true,
+            ShareAsk::Show(share) => self.share_shown(asker, *share).is_some(),
+            ShareAsk::Set { share, .. } => self.share_steered(asker, *share).is_some(),
+            ShareAsk::End(share) => self.share_steered(asker, *share).is_some(),
+        };
+        if is_known {
+            None
+        } else {
+            Some(Denial::NotFound)
+        }
+    }
+
+    /// `rule`: what is asked breaks a rule of sharing.
+    #[tactic(auto, unfolding(nf_words::specs::Sharing::sharing_rule))]
+    pub(crate) fn sharing(&self, asker: &Asker<'_>, offer: Option<Offer>) -> Result<(), Denial>
+        requires asker { asker.now ≡ asking_of self.now }
+        requires offer { offer ≡ offer_in self.now self.now.request.wanted }
+        ensures { Follows (sharing_rule (access_of self.entry.now.state)) self.entry.now result }
+    {
+        match self.fault_by(asker, offer) {
+            Some(rule) => Err(Denial::Rule(rule)),
+            None => Ok(()),
+        }
+    }
+
+    fn fault_by(&self, asker: &Asker<'_>, offer: Option<Offer>) -> Option<ShareRule>
+        requires asker { asker.now ≡ asking_of self.now }
+        requires offer { offer ≡ offer_in self.now self.now.request.wanted }
+        ensures { result ≡ fault_by (access_of self.entry.now.state) self.entry.now self.entry.now.request.wanted }
+    {
+        match &self.request.wanted {
+            Wanted::Share(ask) => self.fault_of_ask(asker, offer, ask),
+            Wanted::Get(_)
+            | Wanted::Put { .. }
+            | Wanted::Mkcol(_)
+            | Wanted::Delete(_)
+            | Wanted::Move { .. }
+            | Wanted::Copy { .. } => None,
+        }
+    }
+
+    fn fault_of_ask(
+        &self,
+        asker: &Asker<'_>,
+        offer: Option<Offer>,
+        ask: &ShareAsk,
+    ) -> Option<ShareRule>
+        requires asker { asker.now ≡ asking_of self.now }
+        requires offer { offer ≡ offer_by self.now ask.now }
+        ensures { result ≡ fault_of_ask (access_of self.entry.now.state) self.entry.now ask.now }
+    {
+        match ask {
+            ShareAsk::New { .. } => self.offer_fault(asker, &offer?),
+            ShareAsk::Set { share, perms } => {
+                let row = self.share_steered(asker, *share)?;
+                self.set_fault(asker, *perms, row)
+            }
+            ShareAsk::List { .. } | ShareAsk::Show(_) | ShareAsk::End(_) => None,
+        }
+    }
+
+    /// The first rule that a new share would break.
+    fn offer_fault(&self, asker: &Asker<'_>, offer: &Offer) -> Option<ShareRule>
+        requires { asker.now ≡ asking_of self.now }
+        ensures { result ≡ offer_fault (access_of self.entry.now.state) self.entry.now offer.now }
+    {
+        let row = self.new_share(asker, offer);
+        let shares = self.view.shares();
+        if is_root(self.view.tree(), offer.node) {
+            return Some(ShareRule::Root);
+        }
+        if is_self_share(&row) {
+            return Some(ShareRule::SelfShare);
+        }
+        if shares.again(&row, self.now).is_some() {
+            return Some(ShareRule::Already);
+        }
+        if self.is_widened(asker, offer, row.parent) {
+            return Some(ShareRule::Widened);
+        }
+        if is_long(shares, row.parent) {
+            return Some(ShareRule::Chain);
+        }
+        None
+    }
+
+    /// Whether what is another's isn't passed on by a share that allows that.
+    fn is_widened(&self, asker: &Asker<'_>, offer: &Offer, parent: Option<ShareId>) -> bool
+        requires asker { asker.now ≡ asking_of self.now }
+        requires parent { parent ≡ parent_by (access_of self.now.state) self.now offer.now }
+        ensures { result ≡ is_widened (access_of self.entry.now.state) self.entry.now offer.now }
+    {
+        !asker.owns(offer.node) && parent.is_none()
+    }
+
+    /// Why a share can't have the permissions that are asked for.
+    fn set_fault(
+        &self,
+        asker: &Asker<'_>,
+        perms: Option<Perms>,
+        row: &ShareRow,
+    ) -> Option<ShareRule>
+        requires { asker.now ≡ asking_of self.now }
+        ensures { result ≡ set_fault self.entry.now.state.tables perms row.now }
+    {
+        if perms.is_some() && is_wider(asker, row.parent, perms_after(&self.view, perms, row)) {
+            Some(ShareRule::Widened)
+        } else {
+            None
+        }
+    }
+}
+
+/// Whether a chain on such a share would be too long.
+fn is_long(shares: &Shares, parent: Option<ShareId>) -> bool
+    ensures { result ≡ is_long shares.now.rows parent }
+{
+    match parent {
+        Some(parent) => shares.depth(parent) >= MAX_CHAIN,
+        None => false,
+    }
+}
+
+/// Whether a share with those permissions would allow more than the chain that it stands on.
+fn is_wider(asker: &Asker<'_>, parent: Option<ShareId>, perms: Perms) -> bool
+    ensures { result ≡ is_wider asker.now.base.shares parent perms }
+{
+    match parent {
+        Some(parent) => !is_part(perms, asker.mask(parent)),
+        None => false,
+    }
+}
+
+// ---- what it names
+
+impl<'a> Call<'a> {
+    /// The share of that number, where the caller may change and end it and it isn't ended.
+    pub(crate) fn share_steered(&self, asker: &Asker<'_>, share: ShareId) -> Option<&ShareRow>
+        requires { asker.now ≡ asking_of self.now }
+        ensures { option_copied result ≡ share_steered self.entry.now share }
+    {
+        let row = self.view.shares().row(share)?;
+        if !row.ended && is_steered_by(asker.user(), row) {
+            Some(row)
+        } else {
+            None
+        }
+    }
+
+    /// The share of that number, where the caller may see it and it isn't ended.
+    pub(crate) fn share_shown(&self, asker: &Asker<'_>, share: ShareId) -> Option<&ShareRow>
+        requires { asker.now ≡ asking_of self.now }
+        ensures { option_copied result ≡ share_shown self.entry.now share }
+    {
+        let row = self.view.shares().row(share)?;
+        if !row.ended && is_seen_by(asker, row) {
+            Some(row)
+        } else {
+            None
+        }
+    }
+
+    /// The share that is asked for, where its path leads to what is there and its user is there.
+    pub(crate) fn offer(&self, ways: &Ways) -> Option<Offer>
+        requires { ways.now ≡ ways_of self.now }
+        ensures { result ≡ offer_in self.entry.now self.entry.now.request.wanted }
+    {
+        match &self.request.wanted {
+            Wanted::Share(ShareAsk::New { to, perms, .. }) => {
+                self.offered(&ways.source, to, *perms)
+            }
+            Wanted::Share(_)
+            | Wanted::Get(_)
+            | Wanted::Put { .. }
+            | Wanted::Mkcol(_)
+            | Wanted::Delete(_)
+            | Wanted::Move { .. }
+            | Wanted::Copy { .. } => None,
+        }
+    }
+
+    fn offered(&self, way: &Option<Way>, to: &Name, perms: Option<Perms>) -> Option<Offer>
+        ensures { result ≡ option_and_then (λ way. offered_by self.entry.now way perms (user_named self.entry.now.state.tables.users to.now)) way.now }
+    {
+        let Some(way) = way else {
+            return None;
+        };
+        let node = node_found(&way.place)?;
+        let user = self.view.people().user(to)?;
+        Some(offer_of(self.view.tree(), way.mount, perms, node, user))
+    }
+
+    /// The row of the new share.
+    pub(crate) fn new_share(&self, asker: &Asker<'_>, offer: &Offer) -> ShareRow
+        requires { asker.now ≡ asking_of self.now }
+        ensures { result ≡ new_share (access_of self.entry.now.state) self.entry.now offer.now }
+    {
+        ShareRow {
+            id: self.view.meta().next_share,
+            kind: ShareKind::User(offer.to),
+            node: offer.node,
+            owner: owner_of(self.view.tree(), offer.node),
+            initiator: asker.user(),
+            parent: self.parent_by(asker, offer),
+            perms: offer.perms,
+            until: None,
+            ended: false,
+            made: self.now,
+        }
+    }
+
+    /// The share that a new one stands on; what is the caller's own stands on none.
+    fn parent_by(&self, asker: &Asker<'_>, offer: &Offer) -> Option<ShareId>
+        requires { asker.now ≡ asking_of self.now }
+        ensures { result ≡ parent_by (access_of self.entry.now.state) self.entry.now offer.now }
+    {
+        if asker.owns(offer.node) {
+            None
+        } else {
+            asker.passes_on(offer.perms, offer.mount?)
+        }
+    }
+}
+
+/// A share of a node that is there, for a user.
+fn offer_of(
+    tree: &Tree,
+    mount: Option<NodeId>,
+    perms: Option<Perms>,
+    node: NodeId,
+    user: UserId,
+) -> Offer
+    ensures { result ≡ offer_of tree.now.rows mount perms node user }
+{
+    let wanted = perms.unwrap_or(all_permissions());
+    Offer {
+        node,
+        mount,
+        to: user,
+        perms: perms_of_share(kind_of(tree, node), &ShareKind::User(user), wanted),
+    }
+}
+
+/// The permissions that a share has once some are asked for.
+pub(crate) fn perms_after(view: &View<'_>, perms: Option<Perms>, row: &ShareRow) -> Perms
+    ensures { result ≡ perms_after view.now.tables perms row.now }
+{
+    match perms {
+        Some(perms) => perms_of_share(kind_of(view.tree(), row.node), &row.kind, perms),
+        None => row.perms,
+    }
+}
+
+/// Whether the user made the share or owned its node then, and so may change and end it.
+pub(crate) fn is_steered_by(user: UserId, row: &ShareRow) -> bool
+    ensures { result ≡ is_steered_by user row.now }
+{
+    row.initiator == user || row.owner == user
+}
+
+/// Whether who asks may see the share.
+fn is_seen_by(asker: &Asker<'_>, row: &ShareRow) -> bool
+    ensures { result ≡ is_seen_by asker.now.base.members asker.now.user row.now }
+{
+    is_steered_by(asker.user(), row) || asker.receives(row)
+}
