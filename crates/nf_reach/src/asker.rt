@@ -1,9 +1,11 @@
 //! Who asks.
 
-ghost use Rattle.std.specs.Prelude.{◌≡◌, ◌∷◌, []};
+ghost use Rattle.std.specs.Prelude.{◌≡◌, ◌∷◌, [], find, option_map};
 ghost use Rattle.std.specs.List.{list_any};
 ghost use Rattle.nf_access.specs.Access.{allows, by_chains, is_open};
 ghost use Rattle.nf_access.specs.Laws.{IsBounded, IsRefused};
+ghost use Rattle.nf_access.specs.Making.{passes_on};
+ghost use Rattle.nf_access.specs.Shares.{chain_of, mask_of, receives};
 ghost use Rattle.nf_defs.specs.declared.Seeker.TheVariants.{User};
 ghost use Rattle.nf_reach.specs.Asking.{refusal_for, way_for};
 ghost use Rattle.nf_words.specs.Calls.{mounted};
@@ -11,11 +13,11 @@ ghost use Rattle.nf_words.specs.Needed.{is_owner};
 ghost use Rattle.nf_words.specs.Reached.{broken_by, unreached_by};
 
 use crate::ways::{Way, is_one};
-use nf_base::{Act, Moment, Name, NodeId, UserId};
+use nf_base::{Act, Moment, Name, NodeId, Perms, ShareId, ShareRow, UserId};
 use nf_grants::{Broken, Ground};
 use nf_mounts::Mounts;
 use nf_people::People;
-use nf_shares::Shares;
+use nf_shares::{Shares, receives};
 use nf_tree::Tree;
 use nf_words::Denial;
 use std::marker::Model;
@@ -187,5 +189,27 @@ impl<'a> Asker<'a> {
             Some(mount) => Some(self.broken_by(Some(act), mount)),
             None => Some(Denial::NoShare),
         }
+    }
+    // ---- shares
+
+    /// The least share by which the user may share the node of a mount with those permissions.
+    pub fn passes_on(&self, perms: Perms, mount: NodeId) -> Option<ShareId>
+        ensures { result ≡ option_map (λ grant. grant.share) (find (passes_on self.now.moment perms) (by_chains self.now.base (User self.now.user) mount)) }
+    {
+        self.base.passes_on(self.user, mount, perms, self.moment)
+    }
+
+    /// What every share of the share's chain allows, whether or not the chain stands; nothing where there is none.
+    pub fn mask(&self, share: ShareId) -> Perms
+        ensures { result ≡ mask_of (chain_of self.now.base.shares share) }
+    {
+        self.base.mask(share)
+    }
+
+    /// Whether the share is for the user.
+    pub fn receives(&self, row: &ShareRow) -> bool
+        ensures { result ≡ receives self.now.base.members (User self.now.user) row.now }
+    {
+        receives(&self.base, self.user, row)
     }
 }

@@ -8,6 +8,7 @@ ghost use Rattle.nf_defs.specs.declared.Seeker.TheVariants.{User};
 ghost use Rattle.nf_words.specs.Listing.{bit_by, bits_by, granted_by};
 
 use crate::asker::Asker;
+use nf_access::nothing;
 use nf_base::{Act, MountRow, NodeId, Perms};
 
 impl<'a> Asker<'a> {
@@ -57,11 +58,4 @@ impl<'a> Asker<'a> {
     {
         !mount.left && self.is_reached(mount.node)
     }
-}
-
-/// The permissions to do nothing.
-fn nothing() -> Perms
-    ensures { result ≡ 0 }
-{
-    Perms::read(0).unwrap()
 }

@@ -5,7 +5,7 @@ ghost use Rattle.std.specs.Option.{option_map_or, option_or};
 ghost use Rattle.nf_base.specs.declared.perms.Act.TheVariants.{Delete};
 ghost use Rattle.nf_defs.specs.Tree.{parent_of};
 ghost use Rattle.nf_reach.specs.Asking.{refusal_for};
-ghost use Rattle.nf_words.specs.Needed.{folder_for, is_within, needs, needs_at, needs_between, needs_in, source_act, target_needs};
+ghost use Rattle.nf_words.specs.Needed.{folder_for, is_within, needs, needs_at, needs_between, needs_in, source_act, source_needs, target_needs};
 ghost use Rattle.nf_words.specs.Places.{node_found};
 
 use crate::asker::Asker;
@@ -39,10 +39,10 @@ fn folder_or_own(tree: &Tree, node: NodeId) -> NodeId
 }
 
 /// What is acted upon is read where it stays, and else deleted, or updated if it stays in its folder.
-fn source_act(asked: &Asked<'_>, within: bool) -> Act
-    ensures { result ≡ source_act asked.now within }
+fn source_act(removes: bool, within: bool) -> Act
+    ensures { result ≡ source_act removes within }
 {
-    if !asked.removes {
+    if !removes {
         Act::Read
     } else if within {
         Act::Update
@@ -127,6 +127,7 @@ impl<'a> Asker<'a> {
             Making::Folder => self.refused_in(way),
             Making::Moved if within => self.refused_found(Act::Delete, way),
             Making::Moved | Making::Copied => self.refused_over(way),
+            Making::Shared | Making::Told => None,
         }
     }
 
@@ -148,7 +149,7 @@ impl<'a> Asker<'a> {
         source: Option<&Way>,
         target: Option<&Way>,
     ) -> Option<Denial>
-        ensures { let within = is_within self.now.base.nodes self.now.root (option_copied source.entry) (option_copied target.entry) in result ≡ refusal_for self.now (option_map_or (needs_at (source_act asked.now within)) (option_copied source.entry) [] ++ option_map_or (target_needs asked.now.makes self.now.base.nodes self.now.root within) (option_copied target.entry) []) }
+        ensures { let within = is_within self.now.base.nodes self.now.root (option_copied source.entry) (option_copied target.entry) in result ≡ refusal_for self.now (option_map_or (source_needs asked.now.makes asked.now.removes within) (option_copied source.entry) [] ++ option_map_or (target_needs asked.now.makes self.now.base.nodes self.now.root within) (option_copied target.entry) []) }
     {
         let within = self.is_within(source, target);
         match self.source_refused(asked, within, source) {
@@ -163,8 +164,13 @@ impl<'a> Asker<'a> {
         within: bool,
         source: Option<&Way>,
     ) -> Option<Denial>
-        ensures { result ≡ refusal_for self.now (option_map_or (needs_at (source_act asked.now within)) (option_copied source.entry) []) }
+        ensures { result ≡ refusal_for self.now (option_map_or (source_needs asked.now.makes asked.now.removes within) (option_copied source.entry) []) }
     {
-        self.refused_found(source_act(asked, within), source?)
+        let way = source?;
+        match asked.makes {
+            Making::Shared => self.refused_found(Act::Share, way),
+            Making::Told => None,
+            _ => self.refused_found(source_act(asked.removes, within), way),
+        }
     }
 }
