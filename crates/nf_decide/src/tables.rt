@@ -417,7 +417,7 @@ pub(crate) fn raised(
 {
     let mut counted = *meta;
     for change in changes {
-        counted = above(&counted, change);
+        counted = above(counted, change);
     }
     MetaRow {
         next_blob: blob_after(meta.next_blob, blob),
@@ -427,20 +427,20 @@ pub(crate) fn raised(
 }
 
 /// The meta row with its counters above the number that is put.
-fn above(meta: &MetaRow, change: &Change) -> MetaRow
-    requires { IsCounted meta.now change.now }
-    ensures { result ≡ above meta.now change.now }
+fn above(meta: MetaRow, change: &Change) -> MetaRow
+    requires { IsCounted meta change.now }
+    ensures { result ≡ above meta change.now }
 {
     match change {
         Change::Put(Row::Node(row)) => MetaRow {
             next_node: meta.next_node.max(NodeId::new(row.id.number() + 1)),
-            ..*meta
+            ..meta
         },
         Change::Put(Row::Share(row)) => MetaRow {
             next_share: meta.next_share.max(ShareId::new(row.id.number() + 1)),
-            ..*meta
+            ..meta
         },
-        Change::Put(_) | Change::Drop(_) => *meta,
+        Change::Put(_) | Change::Drop(_) => meta,
     }
 }
 

@@ -272,10 +272,46 @@ fn added_of(next: NodeId, changes: &[Change]) -> RowCounts
     ensures { result ≡ added_of next changes.now }
 {
     RowCounts {
-        nodes: changes.iter().filter(|change| is_fresh(next, change)).count(),
-        shares: changes.iter().filter(|change| puts_share(change)).count(),
-        mounts: changes.iter().filter(|change| puts_mount(change)).count(),
+        nodes: fresh_count(next, changes),
+        shares: share_count(changes),
+        mounts: mount_count(changes),
     }
+}
+
+fn fresh_count(next: NodeId, changes: &[Change]) -> usize
+    ensures { result ≡ count_by (is_fresh next) changes.now }
+{
+    let mut count = 0;
+    for change in changes {
+        if is_fresh(next, change) {
+            count += 1;
+        }
+    }
+    count
+}
+
+fn share_count(changes: &[Change]) -> usize
+    ensures { result ≡ count_by puts_share changes.now }
+{
+    let mut count = 0;
+    for change in changes {
+        if puts_share(change) {
+            count += 1;
+        }
+    }
+    count
+}
+
+fn mount_count(changes: &[Change]) -> usize
+    ensures { result ≡ count_by puts_mount changes.now }
+{
+    let mut count = 0;
+    for change in changes {
+        if puts_mount(change) {
+            count += 1;
+        }
+    }
+    count
 }
 
 /// Whether a node is put whose number wasn't given yet.
