@@ -1,26 +1,26 @@
 -- What sound tables can bear, where no rule refuses it.
-use Rattle.std.proofs.Common.{inl, inr, count_by, max, nat_lt, ◌∷◌, length-append, ℕ, ◌+◌, ◌<◌, ◌≤◌, ◌==◌, ◌≡◌, Bool, true, false, not, List, [], length, find, filter, is_some, Option, None, Some, IsSome, IfSome, if◌then◌else◌, refl, sym, ap, ◌∙◌, subst, arith}
+use Rattle.std.proofs.Common.{inl, inr, ◌⊎◌, count_by, max, nat_lt, ◌∷◌, length-append, ℕ, ◌+◌, ◌<◌, ◌≤◌, ◌==◌, ◌≡◌, Bool, true, false, not, List, [], length, find, filter, is_some, Option, None, Some, IsSome, IfSome, if◌then◌else◌, refl, sym, ap, ◌∙◌, subst, arith}
 use Rattle.std.specs.List.{All}
 use Rattle.std.specs.Option.{option_map_or}
-use Rattle.std.proofs.lemmas.List.Elements.{All-cons, All-nil, All-weaker}
+use Rattle.std.proofs.lemmas.List.Elements.{All-cons, All-nil}
 use Rattle.nf_base.specs.declared.changes.Change.{Change}
 use Rattle.nf_base.specs.declared.changes.Change.TheVariants.{Put}
 use Rattle.nf_base.specs.declared.rows.MetaRow.{MetaRow}
-use Rattle.nf_base.specs.declared.rows.MountRow.{MountRow}
 use Rattle.nf_base.specs.declared.rows.Row.TheVariants as rows
-use Rattle.nf_defs.proofs.Puts.{all_put}
-use Rattle.nf_laws.proofs.Lists.{Rising, raised_higher, rising_row}
+use Rattle.nf_laws.proofs.Lists.{Rising, rising_row}
 use Rattle.nf_laws.proofs.OneRow.{length_with}
 use Rattle.nf_laws.proofs.Puts.{put_changed, put_new}
 use Rattle.std.proofs.lemmas.Bool.{eqb-true, le-ltb, lt-ltb}
 use Rattle.std.proofs.lemmas.Option.{same_Some}
 use Rattle.nf_base.specs.declared.limits.TheConstants.{MAX_NODES}
+use Rattle.nf_access.specs.Shares.{share_row}
 use Rattle.nf_base.specs.declared.rows.NodeRow.{NodeRow}
+use Rattle.nf_base.specs.declared.rows.ShareRow.{ShareRow}
 use Rattle.nf_defs.specs.Prelude.{filled, is_under, made, node_key, node_row, put, Tables}
-use Rattle.nf_words.specs.Prelude.{AreSound, cleared, copies_to, last_number, raised}
+use Rattle.nf_words.specs.Prelude.{AreSound, cleared, copies_to, IsNewShare, IsOtherShare, last_number, raised}
 use Rattle.nf_words.specs.declared.answer.Allowed.{Allowed}
 use Rattle.nf_words.specs.declared.answer.Allowed.TheVariants as allowed
-use Rattle.nf_words.proofs.Fits.{KnownChange, KnownRows}
+use Rattle.nf_words.proofs.Fits.{KnownChange, KnownRow, KnownRows}
 use Rattle.nf_words.proofs.Found.{found_has, found_passes}
 use Rattle.nf_words.proofs.Known.{Known, KnownCopies}
 use Rattle.nf_decide.specs.Current.{AreBorne, AreGiven, BearsAct, BearsChanges, HasNumbers, IsCounted, added_by, is_fresh}
@@ -29,6 +29,16 @@ use Rattle.nf_decide.proofs.Copies.{AreNumbered, copies_count, copies_next}
 
 pub sound_given : (t : Tables) → AreSound t → AreGiven t
 sound_given t sound = record { rising = sound.rising; given = λ k d within. (sound.nodes k d within).given }
+
+-- a share that is known stays on its node, where it was there
+share_stays : (first t : Tables) (row : ShareRow) → (IsNewShare t row × (first.meta.next_share ≤ row.id)) ⊎ (IsOtherShare t row × (row.id < first.meta.next_share))
+    → (old : ShareRow) → share_row t.shares row.id ≡ Some old → old.node ≡ row.node
+share_stays first t row (inl is) old there =
+    let below = subst (λ (o : Option ShareRow). IfSome o (λ (share : ShareRow). share.id < row.id)) there
+    (found_has (λ (share : ShareRow). share.id < row.id) (λ (share : ShareRow). share.id == row.id) t.shares is.0.newest) in
+    absurd (omega (arith, below, eqb-true old.id row.id (found_passes (λ (share : ShareRow). share.id == row.id) t.shares old there)))
+share_stays first t row (inr is) old there =
+    ap (λ (share : ShareRow). share.node) (same_Some old is.0.old (sym there ∙ is.0.there) ∙ sym is.0.same)
 
 -- what is known of changed rows, once the counters are raised, can be borne
 rows_borne : (t u : Tables) (blob : Option ℕ) (changes : List Change) (meta : MetaRow) → KnownRows t blob (record u { meta = meta }) changes
@@ -42,40 +52,46 @@ rows_borne t u blob (Put (rows.Node row) ∷ changes) meta known = (
   ],
   rows_borne t (made u (Put (rows.Node row))) blob changes meta known.1,
 )
-rows_borne t u blob (Put (rows.Mount row) ∷ changes) meta known =
-    (ap (λ (o : Option MountRow). is_some o) known.0.1.there, rows_borne t (made u (Put (rows.Mount row))) blob changes meta known.1)
+rows_borne t u blob (Put (rows.Share row) ∷ changes) meta known =
+    (share_stays t (record u { meta = meta }) row known.0.1, rows_borne t (made u (Put (rows.Share row))) blob changes meta known.1)
+rows_borne t u blob (Put (rows.Mount row) ∷ changes) meta known = (tt, rows_borne t (made u (Put (rows.Mount row))) blob changes meta known.1)
 rows_borne t u blob (change ∷ changes) meta known = absurd known.0
 
--- each number is below the raised counter
-rows_counted : (t u : Tables) (blob : Option ℕ) (changes : List Change) → u.meta.next_node ≤ max t.meta.next_node last_number
-    → All (λ (row : NodeRow). row.id < u.meta.next_node) u.nodes → KnownRows t blob u changes → All (IsCounted t.meta.next_node) changes
-rows_counted t u blob [] few below known = All-nil (IsCounted t.meta.next_node)
-rows_counted t u blob (Put (rows.Node row) ∷ changes) few below known =
-    let given : row.id < u.meta.next_node =
-    elim known.0 [
-      | inl it ↦ it.born.given
-      | inr it ↦
-          (let found = found_has (λ (row : NodeRow). row.id < u.meta.next_node) (λ (r : NodeRow). r.id == row.id) u.nodes below in
-          let old = subst (λ (o : Option NodeRow). IfSome o (λ (r : NodeRow). r.id < u.meta.next_node)) it.filled.there found in
-          let id = ap (λ (r : NodeRow). r.id) it.filled.same in omega (arith, id, old))
-    ] in
-    All-cons (IsCounted t.meta.next_node) (Put (rows.Node row)) changes (omega (arith, given, few))
-    (rows_counted t (made u (Put (rows.Node row))) blob changes few
-    (all_put node_key (λ (r : NodeRow). r.id < u.meta.next_node) row u.nodes given below) known.1)
-rows_counted t u blob (Put (rows.Mount row) ∷ changes) few below known =
-    All-cons (IsCounted t.meta.next_node) (Put (rows.Mount row)) changes tt
-    (rows_counted t (made u (Put (rows.Mount row))) blob changes few below known.1)
-rows_counted t u blob (change ∷ changes) few below known = absurd known.0
+-- the raised counters pass the last number no more than they did before
+record AreWithin (meta up : MetaRow) : Type 0 where
+  nodes : up.next_node ≤ max meta.next_node last_number
+  shares : up.next_share ≤ max meta.next_share last_number
 
-changes_bear : (t : Tables) (now : ℕ) (changes : List Change) (blob : Option ℕ) → AreSound t
+row_counted : (t u : Tables) (blob : Option ℕ) (change : Change) → AreWithin t.meta u.meta → KnownRow t blob u change → IsCounted t.meta change
+row_counted t u blob (Put (rows.Node row)) few known =
+    elim known [ | inl it ↦ omega (arith, it.born.given, few.nodes) | inr it ↦ omega (arith, it.given) ]
+row_counted t u blob (Put (rows.Share row)) few known =
+    elim known.1 [ | inl it ↦ omega (arith, it.0.given, few.shares) | inr it ↦ omega (arith, it.1) ]
+row_counted t u blob (Put (rows.Mount row)) few known = tt
+row_counted t u blob change few known = absurd known
+
+same_meta : (t u : Tables) (blob : Option ℕ) (change : Change) → KnownRow t blob u change → (made u change).meta ≡ u.meta
+same_meta t u blob (Put (rows.Node row)) known = refl
+same_meta t u blob (Put (rows.Share row)) known = refl
+same_meta t u blob (Put (rows.Mount row)) known = refl
+same_meta t u blob change known = absurd known
+
+-- each number is below the raised counter
+rows_counted : (t u : Tables) (blob : Option ℕ) (changes : List Change) → AreWithin t.meta u.meta → KnownRows t blob u changes
+    → All (IsCounted t.meta) changes
+rows_counted t u blob [] few known = All-nil (IsCounted t.meta)
+rows_counted t u blob (change ∷ changes) few known =
+    All-cons (IsCounted t.meta) change changes (row_counted t u blob change few known.0)
+    (rows_counted t (made u change) blob changes
+    (subst (λ (meta : MetaRow). AreWithin t.meta meta) (sym (same_meta t u blob change known.0)) few) known.1)
+
+changes_bear : (t : Tables) (now : ℕ) (changes : List Change) (blob : Option ℕ)
     → KnownChange t now changes blob → BearsChanges t changes blob
-changes_bear t now changes blob sound known =
+changes_bear t now changes blob known =
     let up = raised t now changes blob in
     record {
       rows = rows_borne t t blob changes up.meta known.rows;
-      numbers = rows_counted t up blob changes known.next_node
-          (All-weaker (λ (row : NodeRow). row.id < t.meta.next_node) (λ (row : NodeRow). row.id < up.meta.next_node)
-          (λ row given. omega (arith, given, (raised_higher t now changes blob).nodes)) t.nodes (λ k d within. (sound.nodes k d within).given)) known.rows;
+      numbers = rows_counted t up blob changes (record { nodes = known.next_node; shares = known.next_share }) known.rows;
       next_blob = known.next_blob;
     }
 
@@ -105,10 +121,12 @@ rows_few t u blob (Put (rows.Node row) ∷ changes) rising few known =
           let rest = rows_few t after blob changes rises (omega (arith, same, few)) known.1 in
           omega (arith, rest, same, count_by-cons (is_fresh next) (Put (rows.Node row)) changes, counts_none _ old))
     ]
+rows_few t u blob (Put (rows.Share row) ∷ changes) rising few known =
+    let rest = rows_few t (made u (Put (rows.Share row))) blob changes rising few known.1 in
+    omega (arith, rest, count_by-cons (is_fresh t.meta.next_node) (Put (rows.Share row)) changes)
 rows_few t u blob (Put (rows.Mount row) ∷ changes) rising few known =
-    let next = t.meta.next_node in
     let rest = rows_few t (made u (Put (rows.Mount row))) blob changes rising few known.1 in
-    omega (arith, rest, count_by-cons (is_fresh next) (Put (rows.Mount row)) changes, counts_none (is_fresh next (Put (rows.Mount row))) refl)
+    omega (arith, rest, count_by-cons (is_fresh t.meta.next_node) (Put (rows.Mount row)) changes)
 rows_few t u blob (change ∷ changes) rising few known = absurd known.0
 
 -- what is found stays so among those that are kept, where it is kept
@@ -151,7 +169,7 @@ pub known_bears : (t : Tables) (now : ℕ) (act : Allowed) → AreSound t → Kn
 known_bears t now (allowed.Get node content) sound known = tt
 known_bears t now (allowed.List listing) sound known = tt
 known_bears t now (allowed.Put by key length) sound known = tt
-known_bears t now (allowed.Change changes blob report) sound known = changes_bear t now changes blob sound known
+known_bears t now (allowed.Change changes blob report) sound known = changes_bear t now changes blob known
 known_bears t now (allowed.Delete node) sound known = tt
 known_bears t now (allowed.Move transfer name) sound known =
     cleared_there t.nodes transfer.node transfer.replaced (ap (λ (o : Option NodeRow). is_some o) known.known.source.1) known.known.apart
@@ -166,7 +184,7 @@ copies_fit t now rows replaced known =
     omega (arith, few, copies_count t now known.transfer known.name, known.nodes)
 
 -- so there may be the nodes that it adds
-pub known_few : (t : Tables) (now : ℕ) (act : Allowed) → AreSound t → Known t now act → length t.nodes + added_by t act ≤ MAX_NODES
+pub known_few : (t : Tables) (now : ℕ) (act : Allowed) → AreSound t → Known t now act → length t.nodes + (added_by t act).nodes ≤ MAX_NODES
 known_few t now (allowed.Get node content) sound known = omega (arith, sound.few_nodes)
 known_few t now (allowed.List listing) sound known = omega (arith, sound.few_nodes)
 known_few t now (allowed.Put by key length) sound known = omega (arith, sound.few_nodes)

@@ -11,13 +11,17 @@ use Rattle.nf_base.specs.declared.rows.Row.TheVariants as rows
 use Rattle.nf_base.specs.declared.changes.Change.{Change}
 use Rattle.nf_base.specs.declared.rows.MetaRow.{MetaRow}
 use Rattle.nf_base.specs.declared.rows.NodeRow.{NodeRow}
-use Rattle.nf_defs.specs.Prelude.{filled, is_file, is_folder_kind, made, node_key, node_row, put, Tables, with_node}
+use Rattle.nf_defs.specs.Prelude.{filled, is_file, is_folder_kind, made, mount_key, node_key, node_row, put, share_key, Tables, with_node}
+use Rattle.nf_defs.proofs.Puts.{put_length}
 use Rattle.nf_laws.proofs.Lists.{Rising}
 use Rattle.nf_laws.proofs.OneRow.{length_with, rising_with}
 use Rattle.nf_laws.proofs.Puts.{put_changed, put_new}
+use Rattle.nf_laws.specs.Numbers.{AreHigher}
 use Rattle.nf_words.proofs.Found.{found_has, found_passes}
 use Rattle.nf_words.specs.Prelude.{above, counted}
-use Rattle.nf_decide.specs.Current.{IsBorne, IsCounted, IsNew, IsRefilled, is_fresh}
+use Rattle.nf_decide.specs.Counts.{FitsRows, IsNoSmaller}
+use Rattle.nf_decide.specs.Current.{added_of, IsBorne, IsCounted, IsNew, IsRefilled, is_fresh, puts_mount, puts_share}
+use Rattle.nf_decide.specs.declared.counts.RowCounts.{RowCounts}
 
 -- what is new isn't there
 never_new : (old : List NodeRow) (row was : NodeRow) → IsNew old row → node_row old row.id ≡ Some was → ⊥
@@ -59,16 +63,18 @@ pub counted_more : (meta : MetaRow) (changes : List Change) (change : Change)
 counted_more meta [] change = refl
 counted_more meta (first ∷ changes) change = counted_more (above meta first) changes change
 
--- what has a number above it has one where the counter is higher
-pub counted_later : (next more : ℕ) (change : Change) → next ≤ more → IsCounted next change → IsCounted more change
-counted_later next more (Put (rows.Node row)) higher counted = omega (arith, higher, counted)
-counted_later next more (Put (rows.Mount row)) higher counted = tt
-counted_later next more change higher counted = absurd counted
+-- what has a number above it has one where the counters are higher
+pub counted_later : (meta more : MetaRow) (change : Change) → AreHigher meta more → IsCounted meta change → IsCounted more change
+counted_later meta more (Put (rows.Node row)) higher counted = omega (arith, higher.nodes, counted)
+counted_later meta more (Put (rows.Share row)) higher counted = omega (arith, higher.shares, counted)
+counted_later meta more (Put (rows.Mount row)) higher counted = tt
+counted_later meta more change higher counted = absurd counted
 
 -- ---- a change that can be borne
 
 pub borne_next : (next : ℕ) (t : Tables) (change : Change) → IsBorne next t change → (made t change).meta.next_node ≡ t.meta.next_node
 borne_next next t (Put (rows.Node row)) borne = refl
+borne_next next t (Put (rows.Share row)) borne = refl
 borne_next next t (Put (rows.Mount row)) borne = refl
 borne_next next t change borne = absurd borne
 
@@ -82,6 +88,7 @@ borne_has P next t (Put (rows.Node row)) rising borne new refilled same =
       | inl it ↦ subst P (sym (new_put t.nodes row it.1)) (new row refl it.0 it.1)
       | inr it ↦ subst P (sym (refilled_put t.nodes row rising it.1)) (refilled row refl it.0)
     ]
+borne_has P next t (Put (rows.Share row)) rising borne new refilled same = same
 borne_has P next t (Put (rows.Mount row)) rising borne new refilled same = same
 borne_has P next t change rising borne new refilled same = absurd borne
 
@@ -102,13 +109,22 @@ pub count_by-cons : {X : Type 0} (p : X → Bool) (x : X) (xs : List X) → coun
 count_by-cons p = sum_by-cons (λ x. cond (p x) 1 0)
 
 -- one counts no more than it does before others
-pub count_front : {X : Type 0} (p : X → Bool) (x : X) (xs : List X) → count_by p (x ∷ []) ≤ count_by p (x ∷ xs)
+count_front : {X : Type 0} (p : X → Bool) (x : X) (xs : List X) → count_by p (x ∷ []) ≤ count_by p (x ∷ xs)
 count_front p x xs = omega (arith, count_by-cons p x xs, count_by-cons p x [])
 
--- the others find the room that is left
-pub borne_room : (next : ℕ) (t : Tables) (change : Change) (rest : List Change) → Rising t.nodes → IsBorne next t change
+-- so it fits alone where it fits with others
+pub front_fits : (t : Tables) (room : RowCounts) (next : ℕ) (change : Change) (rest : List Change)
+    → FitsRows t room (added_of next (change ∷ rest)) → FitsRows t room (added_of next (change ∷ []))
+front_fits t room next change rest fits = record {
+  nodes = omega (arith, fits.nodes, count_front (is_fresh next) change rest);
+  shares = omega (arith, fits.shares, count_front puts_share change rest);
+  mounts = omega (arith, fits.mounts, count_front puts_mount change rest);
+}
+
+-- the others find the room for nodes that is left
+borne_nodes : (next : ℕ) (t : Tables) (change : Change) (rest : List Change) → Rising t.nodes → IsBorne next t change
     → length (made t change).nodes + count_by (is_fresh next) rest ≤ length t.nodes + count_by (is_fresh next) (change ∷ rest)
-borne_room next t change rest rising borne =
+borne_nodes next t change rest rising borne =
     let counts = count_by-cons (is_fresh next) change rest in
     borne_has (λ (nodes : List NodeRow). length nodes + count_by (is_fresh next) rest ≤ length t.nodes + count_by (is_fresh next) (change ∷ rest))
     next t change rising borne
@@ -117,3 +133,24 @@ borne_room next t change rest rising borne =
     omega (arith, counts, one, length-append t.nodes (row ∷ [])))
     (λ row is old. omega (arith, counts, length_with t.nodes row.id (filled row.content row.changed)))
     (omega (arith, counts))
+
+-- and that for shares and mounts
+borne_others : (next : ℕ) (t : Tables) (change : Change) → IsBorne next t change
+    → (length (made t change).shares ≤ length t.shares + cond (puts_share change) 1 0)
+    × (length (made t change).mounts ≤ length t.mounts + cond (puts_mount change) 1 0)
+borne_others next t (Put (rows.Node row)) borne = (omega arith, omega arith)
+borne_others next t (Put (rows.Share row)) borne = (put_length share_key row t.shares, omega arith)
+borne_others next t (Put (rows.Mount row)) borne = (omega arith, put_length mount_key row t.mounts)
+borne_others next t change borne = absurd borne
+
+-- so they fit
+pub borne_fits : (next : ℕ) (t : Tables) (change : Change) (rest : List Change) (room more : RowCounts) → Rising t.nodes
+    → IsBorne next t change → IsNoSmaller room more → FitsRows t room (added_of next (change ∷ rest))
+    → FitsRows (made t change) more (added_of next rest)
+borne_fits next t change rest room more rising borne higher fits =
+    let others = borne_others next t change borne in
+    record {
+      nodes = omega (arith, higher.nodes, fits.nodes, borne_nodes next t change rest rising borne);
+      shares = omega (arith, higher.shares, fits.shares, others.0, count_by-cons puts_share change rest);
+      mounts = omega (arith, higher.mounts, fits.mounts, others.1, count_by-cons puts_mount change rest);
+    }

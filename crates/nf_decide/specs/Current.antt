@@ -1,21 +1,24 @@
 -- The state of the site as the program holds it.
-use Rattle.std.specs.Prelude.{◌≡◌, ◌⊎◌, ℕ, ◌+◌, ◌<◌, ◌≤◌, nat_lt, All, AllPairs, Bool, false, not, List, [], ◌∷◌, count_by, length, max, slice_get, Option, Some, IsSome}
-use Rattle.nf_access.specs.Mounts.{mount_row}
+use Rattle.std.specs.Prelude.{◌≡◌, ◌⊎◌, ℕ, ◌+◌, ◌<◌, ◌≤◌, nat_lt, All, AllPairs, Bool, true, false, not, List, [], ◌∷◌, count_by, length, max, slice_get, Option, Some, IsSome}
+use Rattle.nf_access.specs.Shares.{share_row}
 use Rattle.nf_base.specs.declared.changes.Change.{Change}
 use Rattle.nf_base.specs.declared.changes.Change.TheVariants.{Put}
 use Rattle.nf_base.specs.declared.rows.Row.TheVariants as rows
+use Rattle.nf_base.specs.declared.rows.MetaRow.{MetaRow}
 use Rattle.nf_base.specs.declared.rows.NodeRow.{NodeRow}
+use Rattle.nf_base.specs.declared.rows.ShareRow.{ShareRow}
 use Rattle.nf_defs.specs.Prelude.{filled, is_folder_kind, made, node_row, Tables}
 use Rattle.nf_words.specs.Prelude.{blob_after, cleared, goal_of, last_number, State}
 use Rattle.nf_words.specs.declared.answer.Allowed.{Allowed}
 use Rattle.nf_words.specs.declared.answer.Allowed.TheVariants as allowed
 use Rattle.nf_words.specs.declared.request.Transfer.{Transfer}
-use Rattle.nf_decide.specs.Rows.{FitsNodes}
+use Rattle.nf_decide.specs.Counts.{FitsRows, only_nodes}
+use Rattle.nf_decide.specs.declared.counts.RowCounts.{RowCounts}
 
--- how many tickets and nodes fit without more memory
+-- how many tickets and rows fit without more memory
 pub record Room : Type 0 where
   pub tickets : ℕ
-  pub nodes : ℕ
+  pub rows : RowCounts
 
 pub record Current : Type 0 where
   pub state : State
@@ -30,21 +33,39 @@ abbrev pub is_fresh : ℕ → Change → Bool
 is_fresh next (Put (rows.Node row)) = not (nat_lt row.id next)
 is_fresh next other = false
 
--- how many nodes an act adds
-abbrev pub added_by : Tables → Allowed → ℕ
-added_by t (allowed.Get node content) = 0
-added_by t (allowed.List listing) = 0
-added_by t (allowed.Put by key length) = 0
-added_by t (allowed.Change changes blob report) = count_by (is_fresh t.meta.next_node) changes
-added_by t (allowed.Delete node) = 0
-added_by t (allowed.Move transfer name) = 0
-added_by t (allowed.Copy rows replaced) = length rows
-added_by t (allowed.Cross rows replaced node) = length rows
-added_by t allowed.Close = 0
+-- a share is put, new or not
+abbrev pub puts_share : Change → Bool
+puts_share (Put (rows.Share row)) = true
+puts_share other = false
+
+-- and a mount
+abbrev pub puts_mount : Change → Bool
+puts_mount (Put (rows.Mount row)) = true
+puts_mount other = false
+
+-- how many rows some changes add at most
+abbrev pub added_of : ℕ → List Change → RowCounts
+added_of next changes = record {
+  nodes = count_by (is_fresh next) changes;
+  shares = count_by puts_share changes;
+  mounts = count_by puts_mount changes;
+}
+
+-- how many rows an act adds at most
+abbrev pub added_by : Tables → Allowed → RowCounts
+added_by t (allowed.Get node content) = only_nodes 0
+added_by t (allowed.List listing) = only_nodes 0
+added_by t (allowed.Put by key length) = only_nodes 0
+added_by t (allowed.Change changes blob report) = added_of t.meta.next_node changes
+added_by t (allowed.Delete node) = only_nodes 0
+added_by t (allowed.Move transfer name) = only_nodes 0
+added_by t (allowed.Copy rows replaced) = only_nodes (length rows)
+added_by t (allowed.Cross rows replaced node) = only_nodes (length rows)
+added_by t allowed.Close = only_nodes 0
 
 -- what an act adds fits
 abbrev pub FitsAct : State → Room → Allowed → Type 0
-FitsAct s room act = FitsNodes s.tables room.nodes (added_by s.tables act) × (IsSome (goal_of act) → FitsTicket s room)
+FitsAct s room act = FitsRows s.tables room.rows (added_by s.tables act) × (IsSome (goal_of act) → FitsTicket s room)
 
 -- the numbers of nodes rise, and were given
 pub record AreGiven (t : Tables) : Type 0 where
@@ -69,10 +90,12 @@ pub record IsRefilled (old : List NodeRow) (row : NodeRow) : Type 0 where
   pub file : is_folder_kind was.kind ≡ false
   pub same : row ≡ filled row.content row.changed was
 
--- a change can be borne by the tables that it meets, where that was the next number of a node at first: a mount is there
+-- a change can be borne by the tables that it meets, where that was the next number of a node at first: a share that is there stays
+-- on its node
 abbrev pub IsBorne : ℕ → Tables → Change → Type 0
 IsBorne next t (Put (rows.Node row)) = ((next ≤ row.id) × IsNew t.nodes row) ⊎ ((row.id < next) × IsRefilled t.nodes row)
-IsBorne next t (Put (rows.Mount row)) = IsSome (mount_row t.mounts row.user row.node)
+IsBorne next t (Put (rows.Share row)) = (old : ShareRow) → share_row t.shares row.id ≡ Some old → old.node ≡ row.node
+IsBorne next t (Put (rows.Mount row)) = Unit {0}
 IsBorne next t other = ⊥
 
 abbrev pub AreBorne : ℕ → Tables → List Change → Type 0
@@ -80,14 +103,15 @@ AreBorne next t [] = Unit {0}
 AreBorne next t (change ∷ changes) = IsBorne next t change × AreBorne next (made t change) changes
 
 -- there is a number above the one that is put, where it isn't below the next one
-abbrev pub IsCounted : ℕ → Change → Type 0
-IsCounted next (Put (rows.Node row)) = row.id + 1 ≤ max next last_number
-IsCounted next (Put (rows.Mount row)) = Unit {0}
-IsCounted next other = ⊥
+abbrev pub IsCounted : MetaRow → Change → Type 0
+IsCounted meta (Put (rows.Node row)) = row.id + 1 ≤ max meta.next_node last_number
+IsCounted meta (Put (rows.Share row)) = row.id + 1 ≤ max meta.next_share last_number
+IsCounted meta (Put (rows.Mount row)) = Unit {0}
+IsCounted meta other = ⊥
 
 pub record BearsChanges (t : Tables) (changes : List Change) (blob : Option ℕ) : Type 0 where
   pub rows : AreBorne t.meta.next_node t changes
-  pub numbers : All (IsCounted t.meta.next_node) changes
+  pub numbers : All (IsCounted t.meta) changes
   pub next_blob : blob_after t.meta.next_blob blob ≤ max t.meta.next_blob last_number
 
 -- what is moved is there, also without what has to go

@@ -4,3 +4,4 @@ pub mod Asked
 pub mod Deciding
 pub mod Ending
 pub mod Listed
+pub mod Counts

@@ -1,10 +1,11 @@
 -- The tables as the program holds them.
-use Rattle.std.specs.Prelude.{ℕ, ◌+◌, ◌≤◌, List, length}
+use Rattle.std.specs.Prelude.{List}
 use Rattle.nf_base.specs.declared.rows.MetaRow.{MetaRow}
 use Rattle.nf_base.specs.declared.rows.MountRow.{MountRow}
 use Rattle.nf_base.specs.declared.rows.NodeRow.{NodeRow}
 use Rattle.nf_base.specs.declared.rows.ShareRow.{ShareRow}
 use Rattle.nf_defs.specs.Tables.{Tables, no_rows}
+use Rattle.nf_decide.specs.declared.counts.RowCounts.{RowCounts}
 use Rattle.nf_people.specs.People.{PeopleValue}
 
 -- the tables of the rows of each kind that is built; there are none of the others
@@ -20,11 +21,7 @@ tables_in meta people nodes shares mounts = record no_rows {
   mounts = mounts;
 }
 
--- the tables, and how many nodes fit without more memory
+-- the tables, and how many rows fit without more memory
 pub record Rows : Type 0 where
   pub tables : Tables
-  pub room : ℕ
-
--- so many nodes more fit where there is room for that many in all
-abbrev pub FitsNodes : Tables → ℕ → ℕ → Type 0
-FitsNodes t room count = length t.nodes + count ≤ room
+  pub room : RowCounts

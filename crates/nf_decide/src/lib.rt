@@ -4,6 +4,7 @@
 mod acting;
 mod asked;
 mod copying;
+mod counts;
 mod deciding;
 mod ending;
 mod limits;
@@ -19,6 +20,7 @@ mod telling;
 mod transferring;
 mod view;
 
+pub use counts::RowCounts;
 pub use deciding::Call;
 pub use ending::decide_end;
 pub use state::State;

@@ -7,8 +7,9 @@ ghost use Rattle.nf_words.specs.Changes.{applied};
 ghost use Rattle.nf_words.specs.Prelude.{failed, hold_of, stepped_by, ticket_for, ticket_of};
 ghost use Rattle.nf_decide.specs.Current.{AreGiven, BearsAct, FitsAct, FitsTicket};
 ghost use Rattle.nf_rules.specs.Ruled.{AreRuled};
-ghost use Rattle.nf_decide.specs.Rows.{FitsNodes};
+ghost use Rattle.nf_decide.specs.Counts.{FitsRows, only_nodes};
 
+use crate::counts::RowCounts;
 use crate::tables::Tables;
 use crate::view::View;
 use nf_base::{Moment, RowList};
@@ -33,7 +34,7 @@ impl Model for State {
 
     ghost view = { λ s. record {
       state = record { tables = s.tables.tables; tickets = s.tickets.items; seen = s.seen };
-      room = record { tickets = vec_capacity s.tickets; nodes = s.tables.room };
+      room = record { tickets = vec_capacity s.tickets; rows = s.tables.room };
     } };
 }
 
@@ -88,25 +89,25 @@ impl State {
     /// Makes room for one ticket more.
     pub fn reserve_ticket(&mut self) -> Result<(), AllocError>
         ensures ticket { OnOk result (FitsTicket self.new.state self.new.room) }
-        ensures nodes { self.new.room.nodes ≡ self.old.room.nodes }
+        ensures rows { self.new.room.rows ≡ self.old.room.rows }
         ensures same { self.new.state ≡ self.old.state }
     {
         self.tickets.reserve(1)
     }
 
-    /// Makes room for so many nodes more.
-    pub fn reserve_nodes(&mut self, count: usize) -> Result<(), AllocError>
-        requires few { length self.old.state.tables.nodes + count ≤ MAX_NODES }
-        ensures nodes { OnOk result (FitsNodes self.new.state.tables self.new.room.nodes count) }
+    /// Makes room for so many rows more.
+    pub fn reserve(&mut self, added: RowCounts) -> Result<(), AllocError>
+        requires few { length self.old.state.tables.nodes + added.nodes ≤ MAX_NODES }
+        ensures rows { OnOk result (FitsRows self.new.state.tables self.new.room.rows added) }
         ensures tickets { self.new.room.tickets ≡ self.old.room.tickets }
         ensures same { self.new.state ≡ self.old.state }
     {
-        self.tables.reserve(count)
+        self.tables.reserve(added)
     }
 
-    /// Tells callers that the nodes fit; it does nothing.
+    /// Tells callers that the rows fit; it does nothing.
     pub fn keeps_room(&self)
-        ensures { FitsNodes self.now.state.tables self.now.room.nodes 0 }
+        ensures { FitsRows self.now.state.tables self.now.room.rows (only_nodes 0) }
     {
         self.tables.keeps_room();
     }

@@ -10,14 +10,15 @@ ghost use Rattle.nf_defs.specs.Prelude.{made, node_key, node_row, put, put_all, 
 ghost use Rattle.nf_words.specs.Prelude.{above, blob_after, changed, cleared, counted, ended_for, goal_of, joined, last_number, removed};
 ghost use Rattle.nf_words.specs.declared.answer.Report.TheVariants.{Done};
 ghost use Rattle.nf_words.specs.declared.answer.Allowed.TheVariants as allowed;
-ghost use Rattle.nf_decide.specs.Current.{AreBorne, AreGiven, BearsAct, BearsChanges, HasNumbers, IsBorne, IsCounted, IsNew, IsRefilled, IsThere, added_by, is_fresh};
+ghost use Rattle.nf_decide.specs.Current.{AreBorne, AreGiven, BearsAct, BearsChanges, HasNumbers, IsBorne, IsCounted, IsNew, IsRefilled, IsThere, added_by, added_of};
 ghost use Rattle.nf_rules.specs.Ruled.{AreRuled};
-ghost use Rattle.nf_decide.specs.Rows.{FitsNodes};
+ghost use Rattle.nf_decide.specs.Counts.{FitsNodes, FitsRows, IsNoSmaller, only_nodes};
 
+use crate::counts::RowCounts;
 use crate::view::View;
 use nf_base::{
     BlobId, Change, Changes, MetaRow, Moment, MountRow, Name, NodeId, NodeRow, Row, RowList,
-    ShareRow,
+    ShareId, ShareRow,
 };
 use nf_mounts::Mounts;
 use nf_opening::Loaded;
@@ -45,7 +46,7 @@ impl Model for Tables {
 
     ghost view = { λ t. record {
       tables = tables_in t.meta t.people t.tree.rows t.shares.rows t.mounts.rows;
-      room = t.tree.room;
+      room = record { nodes = t.tree.room; shares = t.shares.room; mounts = t.mounts.room };
     } };
 }
 
@@ -90,29 +91,32 @@ impl Tables {
         }
     }
 
-    /// Tells callers that the nodes fit; it does nothing.
+    /// Tells callers that the rows fit; it does nothing.
     pub(crate) fn keeps_room(&self)
-        ensures { FitsNodes self.now.tables self.now.room 0 }
+        ensures { FitsRows self.now.tables self.now.room (only_nodes 0) }
     {
         self.tree.keeps();
+        self.shares.keeps();
+        self.mounts.keeps();
     }
 
-    /// Makes room for so many nodes more.
-    pub(crate) fn reserve(&mut self, count: usize) -> Result<(), AllocError>
-        requires few { length self.old.tables.nodes + count ≤ MAX_NODES }
-        ensures ok { OnOk result (FitsNodes self.new.tables self.new.room count) }
+    /// Makes room for so many rows more.
+    pub(crate) fn reserve(&mut self, added: RowCounts) -> Result<(), AllocError>
+        requires few { length self.old.tables.nodes + added.nodes ≤ MAX_NODES }
+        ensures ok { OnOk result (FitsRows self.new.tables self.new.room added) }
         ensures same { self.new.tables ≡ self.old.tables }
     {
         // There may be so many nodes, so it is memory that lacks.
-        match self.tree.reserve(count) {
-            Ok(()) => Ok(()),
-            Err(_) => Err(AllocError),
+        if self.tree.reserve(added.nodes).is_err() {
+            return Err(AllocError);
         }
+        self.shares.reserve(added.shares)?;
+        self.mounts.reserve(added.mounts)
     }
 
     /// Makes the changes of an act, and answers what it grants.
     pub(crate) fn alter(&mut self, moment: Moment, act: Allowed) -> Option<Goal>
-        requires room { FitsNodes self.old.tables self.old.room (added_by self.old.tables act) }
+        requires room { FitsRows self.old.tables self.old.room (added_by self.old.tables act) }
         requires bears { BearsAct self.old.tables act }
         requires given { AreGiven self.old.tables }
         ensures tables { self.new.tables ≡ changed self.old.tables moment act }
@@ -151,7 +155,7 @@ impl Tables {
 
     /// Puts rows, with the counters above their numbers and behind the blob. It takes no memory, and nor does any other change.
     fn change(&mut self, moment: Moment, changes: Changes, blob: Option<BlobId>)
-        requires room { FitsNodes self.old.tables self.old.room (count_by (is_fresh self.old.tables.meta.next_node) changes) }
+        requires room { FitsRows self.old.tables self.old.room (added_of self.old.tables.meta.next_node changes) }
         requires bears { BearsChanges self.old.tables changes blob }
         requires given { AreGiven self.old.tables }
         ensures { self.new.tables ≡ changed self.old.tables moment (allowed.Change changes blob Done) }
@@ -165,7 +169,7 @@ impl Tables {
     }
 
     fn put_all(&mut self, changes: Changes)
-        requires room { FitsNodes self.old.tables self.old.room (count_by (is_fresh self.old.tables.meta.next_node) changes) }
+        requires room { FitsRows self.old.tables self.old.room (added_of self.old.tables.meta.next_node changes) }
         requires borne { AreBorne self.old.tables.meta.next_node self.old.tables changes }
         requires rising { AllPairs (λ (a b : NodeRow). a.id < b.id) self.old.tables.nodes }
         ensures { self.new.tables ≡ put_all self.old.tables changes }
@@ -175,15 +179,16 @@ impl Tables {
         }
     }
 
-    /// Makes a change. Only rows of nodes and of mounts are changed yet.
+    /// Makes a change. Only rows of nodes, of shares and of mounts are changed yet.
     fn make(&mut self, change: Change)
-        requires room { FitsNodes self.old.tables self.old.room (count_by (is_fresh self.old.tables.meta.next_node) (change ∷ [])) }
+        requires room { FitsRows self.old.tables self.old.room (added_of self.old.tables.meta.next_node (change ∷ [])) }
         requires borne { IsBorne self.old.tables.meta.next_node self.old.tables change }
         ensures tables { self.new.tables ≡ made self.old.tables change }
-        ensures room { self.new.room ≡ self.old.room }
+        ensures room { IsNoSmaller self.old.room self.new.room }
     {
         match change {
             Change::Put(Row::Node(row)) => put_node(&mut self.tree, row),
+            Change::Put(Row::Share(row)) => self.shares.put(row),
             Change::Put(Row::Mount(row)) => self.mounts.put(row),
             Change::Put(_) | Change::Drop(_) => unreachable!(),
         }
@@ -209,7 +214,7 @@ impl Tables {
 
     /// Puts new nodes in, with the next numbers. What is to be replaced goes.
     fn join(&mut self, moment: Moment, rows: NodeRows, replaced: &Option<NodeId>)
-        requires room { FitsNodes self.old.tables self.old.room (length rows) }
+        requires room { FitsNodes self.old.tables self.old.room.nodes (length rows) }
         requires given { AreGiven self.old.tables }
         requires numbers { HasNumbers self.old.tables rows }
         ensures { self.new.tables ≡ changed self.old.tables moment (allowed.Copy rows replaced.now) }
@@ -223,7 +228,7 @@ impl Tables {
 
     /// Puts new nodes in as a copy does, and takes out the one that they are of.
     fn cross(&mut self, moment: Moment, rows: NodeRows, replaced: &Option<NodeId>, node: NodeId)
-        requires room { FitsNodes self.old.tables self.old.room (length rows) }
+        requires room { FitsNodes self.old.tables self.old.room.nodes (length rows) }
         requires given { AreGiven self.old.tables }
         requires numbers { HasNumbers self.old.tables rows }
         ensures { self.new.tables ≡ changed self.old.tables moment (allowed.Cross rows replaced.now node) }
@@ -235,7 +240,7 @@ impl Tables {
 
     /// Puts new nodes in; what is to be replaced goes.
     fn enter(&mut self, rows: NodeRows, replaced: &Option<NodeId>)
-        requires room { FitsNodes self.old.tables self.old.room (length rows) }
+        requires room { FitsNodes self.old.tables self.old.room.nodes (length rows) }
         requires given { AreGiven self.old.tables }
         requires numbers { HasNumbers self.old.tables rows }
         ensures { self.new.tables ≡ joined self.old.tables rows replaced.now }
@@ -406,30 +411,36 @@ pub(crate) fn raised(
     changes: &[Change],
     blob: Option<BlobId>,
 ) -> MetaRow
-    requires numbers { All (IsCounted meta.now.next_node) changes.now }
+    requires numbers { All (IsCounted meta.now) changes.now }
     requires blob { blob_after meta.now.next_blob blob ≤ max meta.now.next_blob last_number }
     ensures { result ≡ record (counted meta.now changes.now) { next_blob = blob_after meta.now.next_blob blob; last = moment } }
 {
-    let mut next_node = meta.next_node;
+    let mut counted = *meta;
     for change in changes {
-        next_node = above(next_node, change);
+        counted = above(counted, change);
     }
     MetaRow {
-        next_node,
         next_blob: blob_after(meta.next_blob, blob),
         last: moment,
-        ..*meta
+        ..counted
     }
 }
 
-/// The next number of a node, above the one that is put.
-fn above(next: NodeId, change: &Change) -> NodeId
-    requires { IsCounted next change.now }
-    ensures { (meta : MetaRow) → meta.next_node ≡ next → above meta change.now ≡ record meta { next_node = result } }
+/// The meta row with its counters above the number that is put.
+fn above(meta: MetaRow, change: &Change) -> MetaRow
+    requires { IsCounted meta change.now }
+    ensures { result ≡ above meta change.now }
 {
     match change {
-        Change::Put(Row::Node(row)) => next.max(NodeId::new(row.id.number() + 1)),
-        Change::Put(_) | Change::Drop(_) => next,
+        Change::Put(Row::Node(row)) => MetaRow {
+            next_node: meta.next_node.max(NodeId::new(row.id.number() + 1)),
+            ..meta
+        },
+        Change::Put(Row::Share(row)) => MetaRow {
+            next_share: meta.next_share.max(ShareId::new(row.id.number() + 1)),
+            ..meta
+        },
+        Change::Put(_) | Change::Drop(_) => meta,
     }
 }
 

@@ -8,8 +8,9 @@ ghost use Rattle.nf_defs.specs.Tree.{node_row, relinked};
 ghost use Rattle.nf_words.specs.Changes.{blob_of, changes_of, closed_under, ended_row, gone_for, gone_under, hold_of, is_closing, meta_after, told, transferred_row, with_meta};
 ghost use Rattle.nf_words.specs.declared.answer.LockKey.TheVariants as lock_keys;
 ghost use Rattle.nf_words.specs.declared.answer.Mode.TheVariants.{Exclusive, Shared};
-ghost use Rattle.nf_decide.specs.Current.{BearsAct, added_by, is_fresh};
+ghost use Rattle.nf_decide.specs.Current.{BearsAct, added_by, added_of, is_fresh, puts_mount, puts_share};
 
+use crate::counts::RowCounts;
 use crate::tables::{copy, raised};
 use crate::view::View;
 use nf_base::{
@@ -248,19 +249,32 @@ fn meta_after(view: &View<'_>, moment: Moment, act: &Allowed) -> MetaRow
     }
 }
 
-/// How many nodes an act adds: the rows with numbers that weren't given yet.
-pub fn added_by(view: &View<'_>, act: &Allowed) -> usize
+/// How many rows an act adds at most.
+pub fn added_by(view: &View<'_>, act: &Allowed) -> RowCounts
     ensures { result ≡ added_by view.now.tables act.now }
 {
     match act {
-        Allowed::Change { changes, .. } => fresh_count(view.meta().next_node, changes.as_slice()),
-        Allowed::Copy { rows, .. } | Allowed::Cross { rows, .. } => rows.rows().len(),
+        Allowed::Change { changes, .. } => added_of(view.meta().next_node, changes.as_slice()),
+        Allowed::Copy { rows, .. } | Allowed::Cross { rows, .. } => {
+            RowCounts::only_nodes(rows.rows().len())
+        }
         Allowed::Get { .. }
         | Allowed::List(_)
         | Allowed::Put { .. }
         | Allowed::Delete(_)
         | Allowed::Move { .. }
-        | Allowed::Close => 0,
+        | Allowed::Close => RowCounts::only_nodes(0),
+    }
+}
+
+/// How many rows some changes add at most: nodes of numbers that weren't given yet, shares and mounts.
+fn added_of(next: NodeId, changes: &[Change]) -> RowCounts
+    ensures { result ≡ added_of next changes.now }
+{
+    RowCounts {
+        nodes: fresh_count(next, changes),
+        shares: share_count(changes),
+        mounts: mount_count(changes),
     }
 }
 
@@ -276,6 +290,30 @@ fn fresh_count(next: NodeId, changes: &[Change]) -> usize
     count
 }
 
+fn share_count(changes: &[Change]) -> usize
+    ensures { result ≡ count_by puts_share changes.now }
+{
+    let mut count = 0;
+    for change in changes {
+        if puts_share(change) {
+            count += 1;
+        }
+    }
+    count
+}
+
+fn mount_count(changes: &[Change]) -> usize
+    ensures { result ≡ count_by puts_mount changes.now }
+{
+    let mut count = 0;
+    for change in changes {
+        if puts_mount(change) {
+            count += 1;
+        }
+    }
+    count
+}
+
 /// Whether a node is put whose number wasn't given yet.
 fn is_fresh(next: NodeId, change: &Change) -> bool
     ensures { result ≡ is_fresh next change.now }
@@ -284,6 +322,18 @@ fn is_fresh(next: NodeId, change: &Change) -> bool
         Change::Put(Row::Node(row)) => row.id >= next,
         Change::Put(_) | Change::Drop(_) => false,
     }
+}
+
+fn puts_share(change: &Change) -> bool
+    ensures { result ≡ puts_share change.now }
+{
+    matches!(change, Change::Put(Row::Share(_)))
+}
+
+fn puts_mount(change: &Change) -> bool
+    ensures { result ≡ puts_mount change.now }
+{
+    matches!(change, Change::Put(Row::Mount(_)))
 }
 
 /// The blob that an act stores.

@@ -71,15 +71,24 @@ impl Shares {
         self.rows.rows()
     }
 
-    /// Makes room for one share more.
-    pub fn reserve(&mut self) -> Result<(), AllocError>
-        ensures room { OnOk result (FitsShare self.new) }
-        ensures fits { FitsShare self.old → IsOk result }
+    /// Makes room for so many shares more.
+    pub fn reserve(&mut self, count: usize) -> Result<(), AllocError>
+        ensures room { OnOk result (length self.new.rows + count ≤ self.new.room) }
+        ensures fits { length self.old.rows + count ≤ self.old.room → IsOk result }
         ensures rows { self.new.rows ≡ self.old.rows }
         ensures kept { self.old.room ≤ self.new.room }
     {
-        self.rows.reserve(1)?;
-        self.by_node.reserve(1)
+        // That what is there fits has to be known for a count of 0.
+        let _ = (self.rows.count(), self.by_node.count());
+        self.rows.reserve(count)?;
+        self.by_node.reserve(count)
+    }
+
+    /// Tells callers that the rows fit; it does nothing.
+    pub fn keeps(&self)
+        ensures { length self.now.rows ≤ self.now.room }
+    {
+        let _ = self.rows.count();
     }
 
     pub fn row(&self, id: ShareId) -> Option<&ShareRow>
@@ -193,7 +202,7 @@ impl Shares {
         ensures room { FitsShare self.old → result ≢ Err fault.Memory }
     {
         self.check(&row, now)?;
-        self.reserve()?;
+        self.reserve(1)?;
         self.put(row);
         Ok(())
     }

@@ -177,7 +177,7 @@ bears_plan old site plan act is held ready decides =
 
 -- what is decided doesn't pass the limit of nodes
 decided_few : (s : State) (seat now : ℕ) (event : Event) (decision : Result Allowed Denial) → IsSound s → MayAsk s seat event
-    → decision_of s seat now event ≡ decision → length s.tables.nodes + added_in s.tables decision ≤ MAX_NODES
+    → decision_of s seat now event ≡ decision → length s.tables.nodes + (added_in s.tables decision).nodes ≤ MAX_NODES
 decided_few s seat now event (Ok act) sound asked is =
     known_few s.tables now act sound.rows (known_change s seat now event act sound asked is)
 decided_few s seat now event (Err refusal) sound asked is = omega (arith, sound.rows.few_nodes)
@@ -185,7 +185,7 @@ decided_few s seat now event (Err refusal) sound asked is = omega (arith, sound.
 -- what a plan adds
 pub plan_few : (site : Inside) (held : Held) (seat moment : ℕ) (event : Event) (plan : Planned) → held_of site ≡ held → IsHeld site
     → MayAsk held.kept.state seat event → plan ≡ plan_at held.kept.state seat moment event
-    → length held.kept.state.tables.nodes + added_in held.kept.state.tables plan.decision ≤ MAX_NODES
+    → length held.kept.state.tables.nodes + (added_in held.kept.state.tables plan.decision).nodes ≤ MAX_NODES
 plan_few site held seat moment event plan is inside asked planned =
     decided_few held.kept.state seat moment event plan.decision (subst (λ (x : Held). IsSound x.kept.state) is inside.sound) asked
     (sym (ap (λ (p : Planned). p.decision) planned))
@@ -205,7 +205,7 @@ fits_plan old site plan act is ready decides = here (held_of old) refl (subst (�
   where
     here : (x : Held) → held_of old ≡ x → IsReady x (planned_in plan) → FitsAct x.kept.state x.room act
     here x same ready = (
-      subst (FitsDecision x) decides ready.nodes,
+      subst (FitsDecision x) decides ready.rows,
       fits_ticket x plan.seat plan.moment plan.event act ready.room
           (sym (ap (λ (p : Planned). p.decision) ready.planned) ∙ decides),
     )

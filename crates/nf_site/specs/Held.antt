@@ -6,8 +6,9 @@ use Rattle.nf_words.specs.declared.answer.Allowed.{Allowed}
 use Rattle.nf_words.specs.declared.answer.Denial.{Denial}
 use Rattle.nf_words.specs.declared.history.Event.{Event}
 use Rattle.nf_words.specs.declared.history.Event.TheVariants.{Begin, End}
+use Rattle.nf_decide.specs.Counts.{FitsRows, only_nodes}
 use Rattle.nf_decide.specs.Current.{FitsTicket, Room, added_by}
-use Rattle.nf_decide.specs.Rows.{FitsNodes}
+use Rattle.nf_decide.specs.declared.counts.RowCounts.{RowCounts}
 use Rattle.nf_site.specs.Kept.{Kept}
 
 -- what is kept, how many entries fit without more memory, and the room of the state
@@ -31,11 +32,11 @@ abbrev pub HasEntryRoom : Held → Event → Type 0
 HasEntryRoom site (Begin words request) = HasRoom site
 HasEntryRoom site (End outcome) = Unit {0}
 
--- how many nodes a decision adds
-abbrev pub added_in : Tables → Result Allowed Denial → ℕ
+-- how many rows a decision adds at most
+abbrev pub added_in : Tables → Result Allowed Denial → RowCounts
 added_in t (Ok act) = added_by t act
-added_in t (Err refusal) = 0
+added_in t (Err refusal) = only_nodes 0
 
 -- they fit
 abbrev pub FitsDecision : Held → Result Allowed Denial → Type 0
-FitsDecision site decision = FitsNodes site.kept.state.tables site.room.nodes (added_in site.kept.state.tables decision)
+FitsDecision site decision = FitsRows site.kept.state.tables site.room.rows (added_in site.kept.state.tables decision)

@@ -38,7 +38,7 @@ pub record IsReady (site : Held) (plan : Planned) : Type 0 where
   pub not_before : site.kept.state.seen ≤ plan.moment
   pub asked : MayAsk site.kept.state plan.seat plan.event
   pub room : HasEntryRoom site plan.event
-  pub nodes : FitsDecision site plan.decision
+  pub rows : FitsDecision site plan.decision
 
 -- an End that brings no body is always planned
 abbrev pub IsPlannedAtEnd : {P E : Type 0} → Event → Result P E → Type 0

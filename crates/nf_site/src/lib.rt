@@ -1,6 +1,7 @@
 //! The site: its state, and the history that led there. A step is planned and then adopted.
 #![tactic(auto)]
 
+mod copies;
 mod demo;
 pub mod laws;
 mod plan;

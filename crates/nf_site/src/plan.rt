@@ -5,9 +5,10 @@ ghost use Rattle.nf_site.specs.Held.{added_in};
 ghost use Rattle.nf_words.specs.Prelude.{blob_by, hold_of, reply_by, reply_to, reported};
 ghost use Rattle.nf_words.specs.declared.answer.Allowed.TheVariants.{Close};
 
+use crate::copies::{copy_listing, copy_share, copy_shares};
 use nf_base::{BlobId, Changes, Moment, NodeId};
-use nf_decide::{View, added_by, blob_of, hold_of};
-use nf_words::{Allowed, Denial, Event, Goal, Hold, Listing, ListingLine, Reply, Report};
+use nf_decide::{RowCounts, View, added_by, blob_of, hold_of};
+use nf_words::{Allowed, Denial, Event, Goal, Hold, Reply, Report};
 use std::alloc::{AllocError, Global};
 use std::marker::Model;
 
@@ -91,13 +92,13 @@ impl Plan {
         }
     }
 
-    /// How many nodes the step adds.
-    pub(crate) fn added(&self, view: &View<'_>) -> usize
+    /// How many rows the step adds at most.
+    pub(crate) fn added(&self, view: &View<'_>) -> RowCounts
         ensures { result ≡ added_in view.now.tables self.now.decision }
     {
         match &self.decided {
             Ok(deed) => added_by(view, &deed.act),
-            Err(_) => 0,
+            Err(_) => RowCounts::only_nodes(0),
         }
     }
 
@@ -141,7 +142,7 @@ fn reply_to(alloc: Global, act: &Allowed) -> Result<Reply, AllocError>
             key: key.copy()?,
             length: *length,
         })),
-        Allowed::Change { report, .. } => Ok(reported(*report)),
+        Allowed::Change { report, .. } => reported(alloc, report),
         Allowed::Delete(_) => Ok(Reply::Done),
         Allowed::Move { transfer, name: _ } => Ok(reply_by(transfer.replaced)),
         Allowed::Copy { rows: _, replaced } => Ok(reply_by(*replaced)),
@@ -150,12 +151,15 @@ fn reply_to(alloc: Global, act: &Allowed) -> Result<Reply, AllocError>
     }
 }
 
-fn reported(report: Report) -> Reply
-    ensures { result ≡ reported report }
+fn reported(alloc: Global, report: &Report) -> Result<Reply, AllocError>
+    ensures { IfOk result (λ reply. reply ≡ reported report.now) }
 {
     match report {
-        Report::Made => Reply::Made,
-        Report::Done => Reply::Done,
+        Report::Made => Ok(Reply::Made),
+        Report::Done => Ok(Reply::Done),
+        Report::Share(line) => Ok(Reply::Share(copy_share(line)?)),
+        Report::Shares(shares) => Ok(Reply::Shares(copy_shares(alloc, shares)?)),
+        Report::Plain => Ok(Reply::Plain),
     }
 }
 
@@ -167,24 +171,4 @@ fn reply_by(replaced: Option<NodeId>) -> Reply
         Some(_) => Reply::Done,
         None => Reply::Made,
     }
-}
-
-fn copy_listing(alloc: Global, listing: &Listing) -> Result<Listing, AllocError>
-    ensures { IfOk result (λ copy. copy ≡ listing.now) }
-{
-    let mut lines = Vec::new(alloc);
-    for line in listing.lines() {
-        lines.push(copy_line(line)?)?;
-    }
-    Ok(Listing::new(lines))
-}
-
-fn copy_line(line: &ListingLine) -> Result<ListingLine, AllocError>
-    ensures { IfOk result (λ copy. copy ≡ line.now) }
-{
-    Ok(ListingLine {
-        name: line.name.copy()?,
-        owner: line.owner.copy()?,
-        ..*line
-    })
 }

@@ -90,7 +90,7 @@ impl Site {
         Ok(())
     }
 
-    /// The step that a seat's event would be, at a clock's reading. It makes room for the nodes that the step adds.
+    /// The step that a seat's event would be, at a clock's reading. It makes room for the rows that the step adds.
     pub fn plan(
         &mut self,
         alloc: Global,
@@ -115,7 +115,7 @@ impl Site {
         }
         let plan = self.plan_step(alloc, seat, moment, event)?;
         let added = plan.added(&self.current.view());
-        self.current.reserve_nodes(added)?;
+        self.current.reserve(added)?;
         Ok(plan)
     }
 

@@ -1,9 +1,10 @@
-use Rattle.std.proofs.Common.{◌++◌, ◌∷◌, [], take, ap, refl, subst, sym, ◌∙◌, ◌≤◌}
+use Rattle.std.proofs.Common.{◌++◌, ◌∷◌, [], take, ap, subst, sym, ◌∙◌}
 use Rattle.std.proofs.lemmas.List.{take_more}
 use Rattle.nf_base.specs.declared.changes.Change.{Change}
 use Rattle.nf_base.specs.declared.rows.MetaRow.{MetaRow}
 use Rattle.nf_words.specs.Prelude.{above, counted}
 use Rattle.nf_laws.proofs.Lists.{counted_higher}
+use Rattle.nf_laws.specs.Numbers.{AreHigher}
 use Rattle.nf_decide.proofs.Putting.{counted_later, counted_more}
 use Rattle.nf_decide.specs.Current.{IsCounted}
 use Rattle.nf_decide.proofs.tables.raised.Goals as goal
@@ -15,16 +16,14 @@ loop-change-preserved c =
     let so_far = take c.loop-change.change-index items in
     let change = c.change-item.result in
     let more = take_more items c.loop-change.change-index change c.loop-change-test.true ∙ ap (λ (x : Change). so_far ++ x ∷ []) (sym c.change-item.is) in
-    ap (counted meta) more ∙ counted_more meta so_far change
-    ∙ ap (λ (m : MetaRow). above m change) c.loop-change.invariant
-    ∙ c.above-next_node.ensures (record meta { next_node = c.loop-change.next_node }) refl
+    c.above-counted.ensures ∙ ap (λ (m : MetaRow). above m change) c.loop-change.invariant
+    ∙ sym (ap (counted meta) more ∙ counted_more meta so_far change)
 
-pub above-next_node-requires : goal.above-next_node-requires
-above-next_node-requires c =
+pub above-counted-requires : goal.above-counted-requires
+above-counted-requires c =
     let meta : MetaRow = c.args.meta.now in
-    let up : meta.next_node ≤ c.loop-change.next_node =
-    subst (λ (m : MetaRow). meta.next_node ≤ m.next_node) c.loop-change.invariant
-    (counted_higher meta (take c.loop-change.change-index c.args.changes.now)).nodes in
-    counted_later meta.next_node c.loop-change.next_node c.change-item.result up
-    (subst (IsCounted meta.next_node) (sym c.change-item.is)
+    let so_far = counted_higher meta (take c.loop-change.change-index c.args.changes.now) in
+    counted_later meta c.loop-change.counted c.change-item.result
+    (subst (λ (m : MetaRow). AreHigher meta m) (sym c.loop-change.invariant) so_far)
+    (subst (IsCounted meta) (sym c.change-item.is)
     (c.requires.numbers c.loop-change.change-index c.change-item.result c.loop-change-test.true))

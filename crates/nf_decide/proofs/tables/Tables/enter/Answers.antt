@@ -1,15 +1,16 @@
 use Rattle.std.proofs.Common.{◌+◌, ◌++◌, length, ap, ◌∙◌, arith}
 use Rattle.nf_defs.specs.Tables.{Tables}
 use Rattle.nf_decide.specs.Rows.{Rows}
+use Rattle.nf_decide.specs.declared.counts.RowCounts.{RowCounts}
 use Rattle.nf_decide.proofs.Numbers.{cleared_few, cleared_given}
 use Rattle.nf_decide.proofs.tables.Tables.enter.Goals as goal
 
 pub add_all-self-inside-requires-clause-room : goal.add_all-self-inside-requires-clause-room
 add_all-self-inside-requires-clause-room c =
     let nodes = ap (λ (held : Rows). length held.tables.nodes) c.self.view_is in
-    let room = ap (λ (held : Rows). held.room) c.self.view_is in
+    let room = ap (λ (held : Rows). held.room.nodes) c.self.view_is in
     let few = ap (λ (t : Tables). length t.nodes) c.clear.ensures.tables in
-    omega (arith, nodes, room, few, c.clear.ensures.room, c.requires.room, cleared_few c.args.self.now.tables.nodes c.args.replaced.now)
+    omega (arith, nodes, room, few, ap (λ (room : RowCounts). room.nodes) c.clear.ensures.room, c.requires.room, cleared_few c.args.self.now.tables.nodes c.args.replaced.now)
 
 pub add_all-self-inside-requires-clause-given : goal.add_all-self-inside-requires-clause-given
 add_all-self-inside-requires-clause-given c =

@@ -1,7 +1,8 @@
-use Rattle.std.proofs.Common.{◌≡◌, ◌+◌, ◌≤◌, ◌++◌, count_by, length}
+use Rattle.std.proofs.Common.{◌≡◌, ◌++◌}
 use Rattle.nf_defs.specs.Prelude.{put_all}
 use Rattle.nf_laws.proofs.Lists.{Rising}
-use Rattle.nf_decide.specs.Current.{AreBorne, is_fresh}
+use Rattle.nf_decide.specs.Counts.{FitsRows}
+use Rattle.nf_decide.specs.Current.{added_of, AreBorne}
 use Rattle.nf_decide.proofs.tables.Tables.put_all.Given as goal
 
 -- the changes so far are made, and the others can be borne and find room
@@ -12,5 +13,5 @@ invariant-loop-change l = record {
   next : l.self.tables.meta.next_node ≡ l.initial.self.tables.meta.next_node;
   rising : Rising l.self.tables.nodes;
   borne : AreBorne l.initial.self.tables.meta.next_node l.self.tables l.change-iterator.rest.items;
-  room : length l.self.tables.nodes + count_by (is_fresh l.initial.self.tables.meta.next_node) l.change-iterator.rest.items ≤ l.self.room;
+  room : FitsRows l.self.tables l.self.room (added_of l.initial.self.tables.meta.next_node l.change-iterator.rest.items);
 }

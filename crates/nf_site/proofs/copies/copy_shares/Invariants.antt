@@ -1,5 +1,5 @@
 use Rattle.std.proofs.Common.{◌≡◌, take}
-use Rattle.nf_site.proofs.plan.copy_listing.Given as goal
+use Rattle.nf_site.proofs.copies.copy_shares.Given as goal
 
 -- the lines so far
 abbrev pub invariant-loop-line : goal.invariant-loop-line
