@@ -9,10 +9,10 @@ pub returns : goal.returns
 returns c =
     let t = c.args.view.now.tables in
     let offer = c.args.offer.now in
-    let nodes = c.tree.result.now.rows in
+    let nodes = c.tree-tree.result.now.rows in
     let mounts = c.mounts.result.now.rows in
     let same =
-    ap (λ (users : List UserRow). ensured users nodes mounts offer.to offer.node) c.people.ensures.users
-    ∙ ap (λ (nodes : List NodeRow). ensured t.users nodes mounts offer.to offer.node) c.tree.ensures
+    ap (λ (users : List UserRow). ensured users nodes mounts offer.to offer.node) c.people-people.ensures.users
+    ∙ ap (λ (nodes : List NodeRow). ensured t.users nodes mounts offer.to offer.node) c.tree-tree.ensures
     ∙ ap (λ (mounts : List MountRow). ensured t.users t.nodes mounts offer.to offer.node) c.mounts.ensures in
     subst (λ (row : Option MountRow). IfOk c.ensured.result (λ other. other ≡ row)) same c.ensured.ensures
