@@ -38,7 +38,8 @@ share_stays first t row (inl is) old there =
     (found_has (λ (share : ShareRow). share.id < row.id) (λ (share : ShareRow). share.id == row.id) t.shares is.0.newest) in
     absurd (omega (arith, below, eqb-true old.id row.id (found_passes (λ (share : ShareRow). share.id == row.id) t.shares old there)))
 share_stays first t row (inr is) old there =
-    ap (λ (share : ShareRow). share.node) (same_Some old is.0.old (sym there ∙ is.0.there) ∙ sym is.0.same)
+    let node : (ShareRow → ℕ) = λ share. share.node in
+    ap node (same_Some old is.0.old (sym there ∙ is.0.there)) ∙ sym (ap node is.0.same)
 
 -- what is known of changed rows, once the counters are raised, can be borne
 rows_borne : (t u : Tables) (blob : Option ℕ) (changes : List Change) (meta : MetaRow) → KnownRows t blob (record u { meta = meta }) changes
@@ -64,9 +65,9 @@ record AreWithin (meta up : MetaRow) : Type 0 where
 
 row_counted : (t u : Tables) (blob : Option ℕ) (change : Change) → AreWithin t.meta u.meta → KnownRow t blob u change → IsCounted t.meta change
 row_counted t u blob (Put (rows.Node row)) few known =
-    elim known [ | inl it ↦ omega (arith, it.born.given, few.nodes) | inr it ↦ omega (arith, it.given) ]
+    elim known [ inl it ↦ omega (arith, it.born.given, few.nodes) | inr it ↦ omega (arith, it.given) ]
 row_counted t u blob (Put (rows.Share row)) few known =
-    elim known.1 [ | inl it ↦ omega (arith, it.0.given, few.shares) | inr it ↦ omega (arith, it.1) ]
+    elim known.1 [ inl it ↦ omega (arith, it.0.given, few.shares) | inr it ↦ omega (arith, it.1) ]
 row_counted t u blob (Put (rows.Mount row)) few known = tt
 row_counted t u blob change few known = absurd known
 
