@@ -8,7 +8,7 @@ use Rattle.std.proofs.lemmas.Option.{none-some, same_Some}
 use Rattle.httparse.specs.Grammar.{RequestHead, print_request, IsRequestHead}
 use Rattle.nf_base.specs.declared.limits.TheConstants.{MAX_MESSAGES}
 use Rattle.nf_base.specs.declared.content.Piece.{Piece}
-use Rattle.nf_dav.specs.Reply.{done_reply, file_head, listing_reply, made_reply, refusal_reply}
+use Rattle.nf_dav.specs.Reply.{done_reply, file_head, listing_reply, made_reply, plain_reply, refusal_reply, share_reply, shares_reply}
 use Rattle.nf_dav.specs.declared.replies.Manner.{Manner}
 use Rattle.nf_http.specs.Head.{Head, closes_session, head_of}
 use Rattle.nf_http.specs.Next.{IsNext}
@@ -21,12 +21,14 @@ use Rattle.nf_keeper.specs.Keeping.{AreTold}
 use Rattle.nf_promises.specs.Kept.{FailsStore, Gets, IsWritten, OnlyOwn, Prints, ShowsFile, get_of, plainly, waits}
 use Rattle.nf_promises.specs.Room.{IsAlone}
 use Rattle.nf_promises.proofs.Bytes.{head_is, turn_gets}
+use Rattle.nf_promises.proofs.Gets.{asked_not_early}
 use Rattle.nf_promises.proofs.Growing.{heads_same}
 use Rattle.nf_promises.proofs.Puts.{IsKept, Keeps}
 use Rattle.nf_promises.proofs.Returning.{appends_by, cut_not_written, front_shown, meets_shown, stop_not_written, told_shown}
 use Rattle.nf_rows.specs.Spelling.{Raw}
 use Rattle.nf_promises.proofs.Touches.{closes_only, input_of, judges_only, passes_only, says_only}
-use Rattle.nf_session.specs.Prelude.{Book, denial_of_piece, Heads, how_of, manner_of, Meets, next_blob_of, OnlyWrites, Responds, Scene, SendsFile, Session, state_of, stays_granted, Through, Turn, Way, way_of, Writes}
+use Rattle.nf_session.specs.Prelude.{Book, denial_of_piece, Heads, how_of, is_early, manner_of, Meets, MeetsWith, next_blob_of, OnlyWrites, Responds, Scene, SendsFile, Session, state_of, stays_granted, Through, Turn, Way, way_of, Writes}
+use Rattle.nf_session.proofs.Early.{meets_at_once}
 use Rattle.nf_session.proofs.Inviting.{invites_wrote, stops_sends}
 use Rattle.nf_session.specs.declared.ended.Ended.{Ended}
 use Rattle.nf_session.specs.declared.ended.Ended.TheVariants as ended
@@ -122,6 +124,9 @@ response_input manner (response.File content first) a b result sends = sends_inp
 response_input manner response.Made a b result says = writes_input a b (says_only a b (made_reply manner.close) result says)
 response_input manner response.Done a b result says = writes_input a b (says_only a b (done_reply manner.close) result says)
 response_input manner (response.Listing lines) a b result says = writes_input a b (says_only a b (listing_reply manner.close lines) result says)
+response_input manner (response.Share line) a b result says = writes_input a b (says_only a b (share_reply manner.close line) result says)
+response_input manner (response.Shares lines) a b result says = writes_input a b (says_only a b (shares_reply manner.close lines) result says)
+response_input manner response.Plain a b result says = writes_input a b (says_only a b (plain_reply manner.close) result says)
 
 responds_input : {C : Type 0} (last : Bool) (way : Way) (v : Response) (a b : Scene C) (result : Result (Option Ended) Ended)
     → Responds last way v a b result → b.input ≡ a.input
@@ -133,24 +138,29 @@ no_more None body c = absurd c
 no_more (Some rest) [] c = ap (λ z. Some z) (sym c)
 no_more (Some rest) (x ∷ body) c = cc
 
-meets_leave : {C : Type 0} (reads : C → ℕ → C → Type 0) (last : Bool) (head : Head) (k b : Scene C) (end : Option Ended)
-    → Meets reads last head k b end → IsWritten end → k.input ≡ Some [] → b.input ≡ Some []
-meets_leave reads last head k b end (m, begun, judges, inl stops) written none =
+with_leaves : {C : Type 0} (reads : C → ℕ → C → Type 0) (last : Bool) (head : Head) (k b : Scene C) (end : Option Ended)
+    → MeetsWith reads last head [] k b end → IsWritten end → k.input ≡ Some [] → b.input ≡ Some []
+with_leaves reads last head k b end (m, begun, judges, inl stops) written none =
     absurd (stop_not_written m stops.sent stops.by (stops_sends head begun m stops.sent (Unit {0}) stops.by stops.invites)
     (subst (λ (e : Option Ended). IsWritten e) stops.ends written))
-meets_leave {C} reads last head k b end (m, begun, judges, inr (n, invites, inl answers)) written none =
+with_leaves {C} reads last head k b end (m, begun, judges, inr (n, invites, inl answers)) written none =
     let v = answers.response in
     let x : Scene C = answers.takes.0 in
     let body = answers.takes.1 in
     let front : n.input ≡ Some [] = ap (λ (y : Scene C). y.input) (invites_wrote head begun m n (Unit {0}) tt invites).only
-    ∙ input_of k m (judges_only reads head k m begun judges) ∙ none in
+    ∙ input_of k m (judges_only reads head [] k m begun judges) ∙ none in
     let taken : x.input ≡ Some [] = no_more x.input body
     (subst (λ (o : Option (List ℕ)). Consumes o x.input body) front answers.takes.2.taken.1) in
     input_of answers.sent b (closes_only reads (how_of v answers.result) (stays_granted v) answers.sent b answers.closes)
     ∙ responds_input last (way_of head begun) v answers.taken answers.sent answers.result answers.responds
     ∙ input_of x answers.taken (passes_only reads body x answers.taken begun v answers.takes.3) ∙ taken
-meets_leave reads last head k b end (m, begun, judges, inr (n, invites, inr cuts)) written none =
+with_leaves reads last head k b end (m, begun, judges, inr (n, invites, inr cuts)) written none =
     absurd (cut_not_written cuts.fault cuts.cut cuts.sent cuts.by cuts.responds (subst (λ (e : Option Ended). IsWritten e) cuts.ends written))
+
+meets_leave : {C : Type 0} (reads : C → ℕ → C → Type 0) (last : Bool) (head : Head) (k b : Scene C) (end : Option Ended)
+    → is_early head ≡ false → Meets reads last head k b end → IsWritten end → k.input ≡ Some [] → b.input ≡ Some []
+meets_leave reads last head k b end none meets written left =
+    with_leaves reads last head k b end (meets_at_once reads last head k b end none meets) written left
 
 -- ---- the turn of the one message
 
@@ -167,7 +177,7 @@ one_left : {C : Type 0} (reads : C → ℕ → C → Type 0) (caller : Caller) (
     → Prints h (get_of caller spot) → a.input ≡ Some (print_request h) → IsWritten end → Turn reads false a b end → b.input ≡ Some []
 one_left reads caller spot h a b end prints input written turn =
     let get = gets_one reads caller spot h a b end prints input written turn in
-    meets_leave reads false get.0.head get.0.behind b end get.0.meets written get.2
+    meets_leave reads false get.0.head get.0.behind b end (asked_not_early get.0.head (get_of caller spot) get.0.asked refl) get.0.meets written get.2
 
 one_shown : {C : Type 0} (reads : C → ℕ → C → Type 0) (caller : Caller) (spot : Spot) (h : RequestHead) (body : List ℕ) (a b : Scene C)
     (end : Option Ended) → Prints h (get_of caller spot) → a.input ≡ Some (print_request h) → IsWritten end → Turn reads false a b end

@@ -3,18 +3,18 @@ use Rattle.std.proofs.Common.{◌≡◌, ℕ, List, [], ◌∷◌, refl, sym, �
 use Rattle.std.specs.Io.KnownBytes.{IsAtEnd}
 use Rattle.std.specs.declared.option.Option.{Option}
 use Rattle.std.specs.declared.option.Option.TheVariants.{None, Some}
-use Rattle.std.specs.Prelude.{Vec}
+use Rattle.std.specs.Prelude.{Bool, true, false, MatchBool, Vec}
 use Rattle.std.specs.declared.alloc.Global.{Global}
 use Rattle.nf_base.specs.declared.content.Piece.{Piece}
-use Rattle.nf_http.specs.Bodies.{CutsRead, TakesBody}
+use Rattle.nf_http.specs.Bodies.{CutsBody, CutsRead, TakesBody}
 use Rattle.nf_http.proofs.Wholes.{whole_or_cut}
-use Rattle.nf_http.specs.Head.{Head}
+use Rattle.nf_http.specs.Head.{Head, length_of}
 use Rattle.nf_http.specs.Next.{IsOfBytes}
 use Rattle.nf_http.specs.declared.wire.WireFault.{WireFault}
 use Rattle.nf_http.specs.declared.wire.WireFault.TheVariants as wire
 use Rattle.nf_words.specs.declared.answer.Goal.TheVariants as goal
 use Rattle.nf_words.specs.declared.answer.Reply.TheVariants as reply
-use Rattle.nf_session.specs.Prelude.{Answer, Bodies, Book, Cuts, cutting, EndsBody, event_of_body, IsResponse, OnlyReads, Passes, Scene, Starts, StartsFile, StoresBody, taken_length, TakesIn}
+use Rattle.nf_session.specs.Prelude.{Answer, Bodies, Book, Cuts, cutting, EndsBody, event_of_body, IsResponse, OnlyReads, Passes, Scene, Starts, StartsFile, StoresBody, taken_length, TakesEarly, TakesIn, is_early}
 use Rattle.nf_session.specs.declared.begun.Begun.{Begun}
 use Rattle.nf_session.specs.declared.begun.Begun.TheVariants as begun
 use Rattle.nf_session.specs.declared.response.Response.{Response}
@@ -101,6 +101,15 @@ bodies_same a b c d n p q s x y =
           (record { input = taken.1; output = s.output; book = s.book; clock = s.clock }) x.only y.only,
     )
 
+pub early_same : {C : Type 0} (head : Head) (a b c d : Scene C) (p q : List ℕ)
+    → AreSame a c → TakesEarly head a b (Ok p) → TakesEarly head c d (Ok q) → (p ≡ q) × AreSame b d
+early_same head a b c d p q same x y = here (is_early head) x y
+  where
+    here : (early : Bool) → MatchBool early (Bodies a b (length_of head) p) ((p ≡ []) × (b ≡ a))
+        → MatchBool early (Bodies c d (length_of head) q) ((q ≡ []) × (d ≡ c)) → (p ≡ q) × AreSame b d
+    here true x y = bodies_same a b c d (length_of head) p q same x y
+    here false x y = (x.0 ∙ sym y.0, same_self a b c d same x.1 y.1)
+
 pub takes_same : {C : Type 0} (reads : C → ℕ → C → Type 0) (head : Head) (a b c d : Scene C) (x : Begun) (v w : Response)
     → IsSteady reads → AreSame a c → TakesIn reads head a b x (Ok v) → TakesIn reads head c d x (Ok w)
     → IsCalmResponse v → IsCalmResponse w → IsAlone a.book b.book → IsAlone c.book d.book → Similar v w × AreSame b d
@@ -135,6 +144,17 @@ pub cut_of : {C : Type 0} (a b : Scene C) (x : Begun) (n : ℕ) (fault : WireFau
     → Cuts (cutting x) a b n fault → IsOfBytes (Err fault) → IsCut a b n fault
 cut_of a b x n fault cuts calm =
     let cut : (fault ≡ wire.Truncated) × CutsRead a.input b.input n wire.Truncated = cut_by x a.input b.input n fault cuts.cut calm in
+    record { fault_is = cut.0; only = cuts.only; cut = cut.1 }
+
+-- the same of a body that is taken before the request is looked for
+cut_early : (a b : Option (List ℕ)) (n : ℕ) (fault : WireFault) → CutsBody a b n fault → IsOfBytes (Err fault)
+    → (fault ≡ wire.Truncated) × CutsRead a b n wire.Truncated
+cut_early a b n wire.Memory cut calm = absurd calm
+cut_early a b n fault cut calm = cut_read a b n fault cut calm
+
+pub cut_early_of : {C : Type 0} (a b : Scene C) (n : ℕ) (fault : WireFault) → Cuts CutsBody a b n fault → IsOfBytes (Err fault) → IsCut a b n fault
+cut_early_of a b n fault cuts calm =
+    let cut : (fault ≡ wire.Truncated) × CutsRead a.input b.input n wire.Truncated = cut_early a.input b.input n fault cuts.cut calm in
     record { fault_is = cut.0; only = cuts.only; cut = cut.1 }
 
 -- nothing is left

@@ -89,25 +89,26 @@ pub asks_same : {C : Type 0} (a b c d : Scene C)
 asks_same a b c d s p q book clock = same_self (record a { book = b.book; clock = b.clock }) b (record c { book = d.book; clock = d.clock }) d
     (record { input = s.input; output = s.output; book = book; clock = sym clock }) p q
 
-unasked : (head : Head) (refusal : Denial) → IsUnasked head refusal → IsCalmDenial refusal → request_of head ≡ Err refusal
-unasked head refusal (inl is) calm = is
-unasked head refusal (inr is) calm = absurd (subst (λ z. IsCalmDenial z) is calm)
+unasked : (head : Head) (body : List ℕ) (refusal : Denial) → IsUnasked head body refusal → IsCalmDenial refusal
+    → request_of head body ≡ Err refusal
+unasked head body refusal (inl is) calm = is
+unasked head body refusal (inr is) calm = absurd (subst (λ z. IsCalmDenial z) is calm)
 
-pub judges_same : {C : Type 0} (reads : C → ℕ → C → Type 0) (head : Head) (a b c d : Scene C) (x y : Begun)
-    → IsSteady reads → AreSame a c → Judges reads head a b x → Judges reads head c d y → IsCalmBegun x → IsCalmBegun y
+pub judges_same : {C : Type 0} (reads : C → ℕ → C → Type 0) (head : Head) (body : List ℕ) (a b c d : Scene C) (x y : Begun)
+    → IsSteady reads → AreSame a c → Judges reads head body a b x → Judges reads head body c d y → IsCalmBegun x → IsCalmBegun y
     → IsAlone a.book b.book → IsAlone c.book d.book → (y ≡ x) × AreSame b d
-judges_same reads head a b c d (begun.Unasked r) (begun.Unasked s) steady same p q calm still alone also =
-    let one : request_of head ≡ Err r = unasked head r p.0 calm in
-    let other : request_of head ≡ Err s = unasked head s q.0 still in
+judges_same reads head body a b c d (begun.Unasked r) (begun.Unasked s) steady same p q calm still alone also =
+    let one : request_of head body ≡ Err r = unasked head body r p.0 calm in
+    let other : request_of head body ≡ Err s = unasked head body s q.0 still in
     let is : s ≡ r = cc in
     (ap (λ z. begun.Unasked z) is, same_self a b c d same p.1 q.1)
-judges_same reads head a b c d (begun.Unasked r) (begun.Asked y) steady same p (r2, now2, is2, read2, begins2, only2) calm still alone also =
-    let one : request_of head ≡ Err r = unasked head r p.0 calm in
+judges_same reads head body a b c d (begun.Unasked r) (begun.Asked y) steady same p (r2, now2, is2, read2, begins2, only2) calm still alone also =
+    let one : request_of head body ≡ Err r = unasked head body r p.0 calm in
     absurd (cc)
-judges_same reads head a b c d (begun.Asked x) (begun.Unasked s) steady same (r1, now1, is1, read1, begins1, only1) q calm still alone also =
-    let other : request_of head ≡ Err s = unasked head s q.0 still in
+judges_same reads head body a b c d (begun.Asked x) (begun.Unasked s) steady same (r1, now1, is1, read1, begins1, only1) q calm still alone also =
+    let other : request_of head body ≡ Err s = unasked head body s q.0 still in
     absurd (cc)
-judges_same reads head a b c d (begun.Asked x) (begun.Asked y) steady same
+judges_same reads head body a b c d (begun.Asked x) (begun.Asked y) steady same
     (r1, now1, is1, read1, begins1, only1) (r2, now2, is2, read2, begins2, only2) calm still alone also =
     let r : r2 ≡ r1 = cc in
     let read : (now1 ≡ now2) × (b.clock ≡ d.clock) = readings_same reads a b c d now1 now2 steady same read1 read2 in

@@ -1,23 +1,24 @@
 -- A turn in two scenes that are the same.
-use Rattle.std.proofs.Common.{◌≡◌, ◌⊎◌, ℕ, ◌||◌, Bool, refl, sym, ◌∙◌, ap, subst, inl, inr, Result, Ok, Err, is_some}
+use Rattle.std.proofs.Common.{◌≡◌, ◌⊎◌, ℕ, ◌||◌, Bool, true, List, refl, sym, ◌∙◌, ap, subst, inl, inr, Result, Ok, Err, is_some}
 use Rattle.std.specs.declared.option.Option.{Option}
 use Rattle.std.specs.declared.option.Option.TheVariants.{None, Some}
-use Rattle.nf_http.specs.Head.{Head}
+use Rattle.nf_http.specs.Head.{Head, length_of}
 use Rattle.nf_http.specs.Next.{IsOfBytes}
 use Rattle.nf_http.specs.declared.wire.WireFault.{WireFault}
 use Rattle.nf_words.specs.declared.answer.Denial.TheVariants as denial
 use Rattle.nf_dav.specs.Reply.{continue_reply, last_manner, refusal_reply}
 use Rattle.nf_dav.specs.declared.replies.Manner.{Manner}
-use Rattle.nf_session.specs.Prelude.{Answers, Closes, CutsShort, denial_of, end_of, Heads, how_of, Invites, is_granted, Judges, manner_of, Scene, stays_granted, taken_length, Turn, Way, way_of, Writes, Wrote}
+use Rattle.nf_session.specs.Prelude.{Answers, Closes, CutsEarly, CutsShort, denial_of, end_of, Heads, how_of, Invites, is_early, is_granted, Judges, manner_of, Scene, stays_granted, taken_length, TakesEarly, Turn, Way, way_of, Writes, Wrote}
 use Rattle.nf_session.specs.declared.backend.Ending.TheVariants as ending
 use Rattle.nf_session.specs.declared.begun.Begun.{Begun}
 use Rattle.nf_session.specs.declared.ended.Ended.{Ended}
 use Rattle.nf_session.specs.declared.ended.Ended.TheVariants as ended
 use Rattle.nf_session.proofs.Calm.{closes_go, judges_go, takes_go, writes_go, wrote_goes}
 use Rattle.nf_session.proofs.Causes.{answers_go, refused_goes, short_goes}
+use Rattle.nf_session.proofs.Early.{early_bodies, early_book}
 use Rattle.nf_session.proofs.Inviting.{invited_bytes, invites_wrote, stops_sends}
 use Rattle.nf_checks.specs.Alike.{AreSame, Clash, IsAlone, IsCalmBegun, IsCalmEnd, IsCalmResponse, IsCalmTurn, IsSteady}
-use Rattle.nf_checks.proofs.Bodies.{IsCut, Similar, cut_of, cuts_same, takes_same, never_cut}
+use Rattle.nf_checks.proofs.Bodies.{IsCut, Similar, cut_early_of, cut_of, cuts_same, early_same, takes_same, never_cut}
 use Rattle.nf_checks.proofs.Goes.{Goes, alone_first, alone_then, clash_on, goes_of, goes_on}
 use Rattle.nf_checks.proofs.Responses.{IsDenied, IsWritten, denied_of, ends_similar, how_similar, stays_similar, untold, writes_same, written_of}
 use Rattle.nf_checks.proofs.Scenes.{closes_same, heads_same, judges_same, same_back, same_self, wrote_same}
@@ -176,15 +177,36 @@ become_same reads last head begun a b c d end also steady same (inr p) (inl q) a
 
 -- ---- a turn
 
-record IsMet {C : Type 0} (reads : C → ℕ → C → Type 0) (last : Bool) (head : Head) (a b : Scene C) (end : Option Ended) : Type 0 where
+-- its request was judged
+record IsJudged {C : Type 0} (reads : C → ℕ → C → Type 0) (last : Bool) (head : Head) (body : List ℕ) (a b : Scene C)
+    (end : Option Ended) : Type 0 where
   pub asked : Scene C
   pub begun : Begun
-  pub judges : Judges reads head a asked begun
+  pub judges : Judges reads head body a asked begun
   pub calm : IsCalmBegun begun
   pub told : Scene C
   pub invites : Wrote asked told (invited_bytes head begun)
   pub becomes : Becomes reads last head begun told b end
   pub goes : Goes told b
+
+-- a body that is taken before the request is looked for was cut
+record IsCutEarly {C : Type 0} (head : Head) (a b : Scene C) (end : Option Ended) : Type 0 where
+  pub early : is_early head ≡ true
+  pub cut : Scene C
+  pub fault : WireFault
+  pub was_cut : IsCut a cut (length_of head) fault
+  pub wrote : Wrote cut b (refusal_reply last_manner denial.BadMessage)
+  pub end_is : end ≡ Some ended.BadMessage
+
+-- or taken
+record IsTaken {C : Type 0} (reads : C → ℕ → C → Type 0) (last : Bool) (head : Head) (a b : Scene C) (end : Option Ended) : Type 0 where
+  pub taken : Scene C
+  pub body : List ℕ
+  pub takes : TakesEarly head a taken (Ok body)
+  pub judged : IsJudged reads last head body taken b end
+
+abbrev IsMet : {C : Type 0} → (C → ℕ → C → Type 0) → Bool → Head → Scene C → Scene C → Option Ended → Type 0
+IsMet reads last head a b end = IsCutEarly head a b end ⊎ IsTaken reads last head a b end
 
 -- what follows what stood at the front of the input
 abbrev Follows : {C : Type 0} → (C → ℕ → C → Type 0) → Bool → Result (Option Head) WireFault → Scene C → Scene C → Option Ended → Type 0
@@ -199,25 +221,43 @@ record IsCalm {C : Type 0} (reads : C → ℕ → C → Type 0) (last : Bool) (a
   pub bytes : IsOfBytes found
   pub follows : Follows reads last found read b end
 
-calm_met : {C : Type 0} (reads : C → ℕ → C → Type 0) (last : Bool) (a m n told b : Scene C) (end : Option Ended) (head : Head) (begun : Begun)
-    → Heads a m (Ok (Some head)) → Judges reads head m n begun → Invites {T = Unit {0}} head begun n told (Ok tt) → IsCalmBegun begun
+calm_met : {C : Type 0} (reads : C → ℕ → C → Type 0) (last : Bool) (a m t n told b : Scene C) (end : Option Ended) (head : Head)
+    (body : List ℕ) (begun : Begun) → Heads a m (Ok (Some head)) → TakesEarly head m t (Ok body)
+    → Judges reads head body t n begun → Invites {T = Unit {0}} head begun n told (Ok tt) → IsCalmBegun begun
     → Becomes reads last head begun told b end → Goes told b → IsCalm reads last a b end
-calm_met reads last a m n told b end head begun heads judges invites calm becomes goes = record {
-  read = m;
-  found = Ok (Some head);
-  heads = heads;
-  bytes = tt;
-  follows = record {
-    asked = n;
-    begun = begun;
-    judges = judges;
-    calm = calm;
-    told = told;
-    invites = invites_wrote head begun n told (Unit {0}) tt invites;
-    becomes = becomes;
-    goes = goes;
-  };
-}
+calm_met reads last a m t n told b end head body begun heads takes judges invites calm becomes goes =
+    let judged : IsJudged reads last head body t b end = record {
+      asked = n;
+      begun = begun;
+      judges = judges;
+      calm = calm;
+      told = told;
+      invites = invites_wrote head begun n told (Unit {0}) tt invites;
+      becomes = becomes;
+      goes = goes;
+    } in
+    record {
+      read = m;
+      found = Ok (Some head);
+      heads = heads;
+      bytes = tt;
+      follows = inr (record { taken = t; body = body; takes = takes; judged = judged });
+    }
+
+calm_cut : {C : Type 0} (reads : C → ℕ → C → Type 0) (last : Bool) (a m b : Scene C) (end : Option Ended) (head : Head)
+    → Heads a m (Ok (Some head)) → CutsEarly head m b end → IsCalmEnd end → IsCalm reads last a b end
+calm_cut reads last a m b end head heads p well =
+    let d : IsDenied p.fault p.cut b p.by = denied_of p.fault p.cut b p.by p.responds (subst (λ z. IsCalmEnd z) p.ends well) in
+    let cut : IsCut m p.cut (length_of head) p.fault = cut_early_of m p.cut (length_of head) p.fault p.takes.1 d.bytes in
+    let is : IsCutEarly head m b end = record {
+      early = p.takes.0;
+      cut = p.cut;
+      fault = p.fault;
+      was_cut = cut;
+      wrote = subst (λ z. Wrote p.cut b (refusal_reply last_manner (denial_of z))) cut.fault_is d.wrote;
+      end_is = p.ends ∙ ap (λ z. Some z) d.end_is;
+    } in
+    record { read = m; found = Ok (Some head); heads = heads; bytes = tt; follows = inl is }
 
 calm_of : {C : Type 0} (reads : C → ℕ → C → Type 0) (last : Bool) (a b : Scene C) (end : Option Ended) (turn : Turn reads last a b end)
     → IsCalmTurn reads last a b end turn → IsCalmEnd end → IsCalm reads last a b end
@@ -225,36 +265,63 @@ calm_of reads last a b end (inl over) calm well = record { read = b; found = Ok 
 calm_of reads last a b end (inr (inl (m, fault, by, heads, ends, is))) calm well =
     let d : IsDenied fault m b by = denied_of fault m b by ends (subst (λ z. IsCalmEnd z) is well) in
     record { read = m; found = Err fault; heads = heads; bytes = d.bytes; follows = (d.wrote, is ∙ ap (λ z. Some z) d.end_is) }
-calm_of reads last a b end (inr (inr (m, head, heads, (n, begun, judges, inl stops)))) calm well =
+calm_of reads last a b end (inr (inr (m, head, heads, inl cut))) calm well = calm_cut reads last a m b end head heads cut well
+calm_of reads last a b end (inr (inr (m, head, heads, inr (t, body, takes, (n, begun, judges, inl stops))))) calm well =
     absurd (untold n stops.sent continue_reply stops.by (stops_sends head begun n stops.sent (Unit {0}) stops.by stops.invites)
     (subst (λ z. IsCalmEnd z) stops.ends well))
-calm_of reads last a b end (inr (inr (m, head, heads, (n, begun, judges, inr (told, invites, inl answers))))) calm well =
-    calm_met reads last a m n told b end head begun heads judges invites calm.0
+calm_of reads last a b end (inr (inr (m, head, heads, inr (t, body, takes, (n, begun, judges, inr (told, invites, inl answers)))))) calm well =
+    calm_met reads last a m t n told b end head body begun heads takes judges invites calm.0
     (inl (answered_of reads last head begun told b end answers calm.1 well)) (goes_of (answers_go reads last head begun told b end answers))
-calm_of reads last a b end (inr (inr (m, head, heads, (n, begun, judges, inr (told, invites, inr cut))))) calm well =
-    calm_met reads last a m n told b end head begun heads judges invites calm
+calm_of reads last a b end (inr (inr (m, head, heads, inr (t, body, takes, (n, begun, judges, inr (told, invites, inr cut)))))) calm well =
+    calm_met reads last a m t n told b end head body begun heads takes judges invites calm
     (inr (cut_short_of reads head begun told b end cut well)) (goes_of (short_goes reads head begun told b end cut))
 
-met_alone : {C : Type 0} (reads : C → ℕ → C → Type 0) (last : Bool) (head : Head) (a b : Scene C) (end : Option Ended)
-    (p : IsMet reads last head a b end) → IsAlone a.book b.book → IsAlone a.book p.asked.book × IsAlone p.told.book b.book
-met_alone reads last head a b end p alone =
-    let judge = goes_of (judges_go reads head a p.asked p.begun p.judges) in
+judged_alone : {C : Type 0} (reads : C → ℕ → C → Type 0) (last : Bool) (head : Head) (body : List ℕ) (a b : Scene C) (end : Option Ended)
+    (p : IsJudged reads last head body a b end) → IsAlone a.book b.book → IsAlone a.book p.asked.book × IsAlone p.told.book b.book
+judged_alone reads last head body a b end p alone =
+    let judge = goes_of (judges_go reads head body a p.asked p.begun p.judges) in
     let invite = goes_of (wrote_goes p.asked p.told (invited_bytes head p.begun) p.invites) in
     (alone_first judge (goes_on invite p.goes) alone, alone_then (goes_on judge invite) p.goes alone)
 
-mets_same : {C : Type 0} (reads : C → ℕ → C → Type 0) (last : Bool) (head : Head) (a b c d : Scene C) (end also : Option Ended)
-    → IsSteady reads → AreSame a c → IsMet reads last head a b end → IsMet reads last head c d also
+judged_same : {C : Type 0} (reads : C → ℕ → C → Type 0) (last : Bool) (head : Head) (body : List ℕ) (a b c d : Scene C) (end also : Option Ended)
+    → IsSteady reads → AreSame a c → IsJudged reads last head body a b end → IsJudged reads last head body c d also
     → IsAlone a.book b.book → IsAlone c.book d.book → Alike b d end also
-mets_same reads last head a b c d end also steady same p q alone lone =
-    let one = met_alone reads last head a b end p alone in
-    let other = met_alone reads last head c d also q lone in
+judged_same reads last head body a b c d end also steady same p q alone lone =
+    let one = judged_alone reads last head body a b end p alone in
+    let other = judged_alone reads last head body c d also q lone in
     let asked : (q.begun ≡ p.begun) × AreSame p.asked q.asked =
-    judges_same reads head a p.asked c q.asked p.begun q.begun steady same p.judges q.judges p.calm q.calm one.0 other.0 in
+    judges_same reads head body a p.asked c q.asked p.begun q.begun steady same p.judges q.judges p.calm q.calm one.0 other.0 in
     let told : AreSame p.told q.told =
     wrote_same p.asked p.told q.asked q.told (invited_bytes head p.begun) asked.1 p.invites
     (subst (λ z. Wrote q.asked q.told (invited_bytes head z)) asked.0 q.invites) in
     become_same reads last head p.begun p.told b q.told d end also steady told p.becomes
     (subst (λ z. Becomes reads last head z q.told d also) asked.0 q.becomes) one.1 other.1
+
+-- a body that one of them took whole isn't cut in the other
+never_early : {C : Type 0} (reads : C → ℕ → C → Type 0) (last : Bool) (head : Head) (a b c d : Scene C) (end also : Option Ended)
+    → AreSame a c → IsTaken reads last head a b end → IsCutEarly head c d also → ⊥
+never_early reads last head a b c d end also same p q =
+    never_cut a p.taken c q.cut (length_of head) p.body q.fault same (early_bodies head a p.taken p.body q.early p.takes) q.was_cut
+
+taken_alone : {C : Type 0} (reads : C → ℕ → C → Type 0) (last : Bool) (head : Head) (a b : Scene C) (end : Option Ended)
+    (p : IsTaken reads last head a b end) → IsAlone a.book b.book → IsAlone p.taken.book b.book
+taken_alone reads last head a b end p alone = subst (λ z. IsAlone z b.book) (sym (early_book head a p.taken p.body p.takes)) alone
+
+mets_same : {C : Type 0} (reads : C → ℕ → C → Type 0) (last : Bool) (head : Head) (a b c d : Scene C) (end also : Option Ended)
+    → IsSteady reads → AreSame a c → IsMet reads last head a b end → IsMet reads last head c d also
+    → IsAlone a.book b.book → IsAlone c.book d.book → Alike b d end also
+mets_same reads last head a b c d end also steady same (inl p) (inl q) alone lone =
+    let cut : AreSame p.cut q.cut = cuts_same a p.cut c q.cut (length_of head) p.fault q.fault same p.was_cut q.was_cut in
+    inl (q.end_is ∙ sym p.end_is, wrote_same p.cut b q.cut d (refusal_reply last_manner denial.BadMessage) cut p.wrote q.wrote)
+mets_same reads last head a b c d end also steady same (inr p) (inl q) alone lone =
+    absurd (never_early reads last head a b c d end also same p q)
+mets_same reads last head a b c d end also steady same (inl p) (inr q) alone lone =
+    absurd (never_early reads last head c d a b also end (same_back a c same) q p)
+mets_same reads last head a b c d end also steady same (inr p) (inr q) alone lone =
+    let taken : (p.body ≡ q.body) × AreSame p.taken q.taken = early_same head a p.taken c q.taken p.body q.body same p.takes q.takes in
+    judged_same reads last head p.body p.taken b q.taken d end also steady taken.1 p.judged
+    (subst (λ z. IsJudged reads last head z q.taken d also) (sym taken.0) q.judged)
+    (taken_alone reads last head a b end p alone) (taken_alone reads last head c d also q lone)
 
 follow_same : {C : Type 0} (reads : C → ℕ → C → Type 0) (last : Bool) (x : Result (Option Head) WireFault) (a b c d : Scene C) (end also : Option Ended)
     → IsSteady reads → AreSame a c → Follows reads last x a b end → Follows reads last x c d also

@@ -63,6 +63,9 @@ IsCalmResponse (response.File content first) = Unit {0}
 IsCalmResponse response.Made = Unit {0}
 IsCalmResponse response.Done = Unit {0}
 IsCalmResponse (response.Listing lines) = Unit {0}
+IsCalmResponse (response.Share line) = Unit {0}
+IsCalmResponse (response.Shares lines) = Unit {0}
+IsCalmResponse response.Plain = Unit {0}
 
 -- an end that comes of no fault of reading or writing, no piece that isn't given, and no want of memory
 abbrev pub IsCalmEnded : Ended → Type 0
@@ -85,10 +88,30 @@ abbrev pub IsCalmTurn : {C : Type 0} (reads : C → ℕ → C → Type 0) (last 
     → Turn reads last a b end → Type 0
 IsCalmTurn reads last a b end (inl ended) = Unit {0}
 IsCalmTurn reads last a b end (inr (inl refused)) = Unit {0}
-IsCalmTurn reads last a b end (inr (inr (m, head, heads, (n, begun, judges, inl stopped)))) = IsCalmBegun begun
-IsCalmTurn reads last a b end (inr (inr (m, head, heads, (n, begun, judges, inr (invited, invites, inl answers))))) =
-    IsCalmBegun begun × IsCalmResponse answers.response
-IsCalmTurn reads last a b end (inr (inr (m, head, heads, (n, begun, judges, inr (invited, invites, inr cut))))) = IsCalmBegun begun
+IsCalmTurn reads last a b end (inr (inr (m, head, heads, inl cut))) = Unit {0}
+IsCalmTurn reads last a b end (inr (inr (m, head, heads, inr (t, body, takes, (n, begun, judges, inl stopped))))) = IsCalmBegun begun
+IsCalmTurn reads last a b end (inr (inr (
+  m,
+  head,
+  heads,
+  inr (
+    t,
+    body,
+    takes,
+    (n, begun, judges, inr (invited, invites, inl answers)),
+  ),
+))) = IsCalmBegun begun × IsCalmResponse answers.response
+IsCalmTurn reads last a b end (inr (inr (
+  m,
+  head,
+  heads,
+  inr (
+    t,
+    body,
+    takes,
+    (n, begun, judges, inr (invited, invites, inr cut)),
+  ),
+))) = IsCalmBegun begun
 
 -- turns that all are
 abbrev pub AreCalmTurns : {C : Type 0} (reads : C → ℕ → C → Type 0) (a : Scene C) (scenes : List (Scene C))

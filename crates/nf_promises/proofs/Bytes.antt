@@ -17,13 +17,15 @@ use Rattle.nf_words.specs.declared.answer.Reply.TheVariants as reply
 use Rattle.nf_words.specs.declared.request.Caller.{Caller}
 use Rattle.nf_words.specs.declared.request.Request.{Request}
 use Rattle.nf_words.specs.declared.request.Spot.{Spot}
-use Rattle.nf_session.specs.Prelude.{Answers, Bodies, CutsShort, Heads, how_of, Invites, is_granted, is_invited, Judges, Scene, Sends, stays_granted, StopsShort, taken_length, Turn, way_of}
+use Rattle.nf_session.specs.Prelude.{Answers, Bodies, CutsShort, Heads, how_of, Invites, is_granted, is_invited, Judges, MeetsWith, Scene, Sends, stays_granted, StopsShort, taken_length, Turn, way_of}
 use Rattle.nf_session.specs.declared.backend.Ending.TheVariants as ending
 use Rattle.nf_session.specs.declared.begun.Begun.{Begun}
 use Rattle.nf_session.specs.declared.begun.Begun.TheVariants as begun
 use Rattle.nf_session.specs.declared.ended.Ended.{Ended}
 use Rattle.nf_session.specs.declared.ended.Ended.TheVariants as ended
 use Rattle.nf_session.proofs.Inviting.{invited_bytes, invites_wrote, stops_sends}
+use Rattle.nf_session.proofs.Early.{meets_at_once}
+use Rattle.nf_promises.proofs.Gets.{asked_not_early}
 use Rattle.nf_session.proofs.Calm.{goes_first, heads_go, invites_go, judges_go}
 use Rattle.nf_session.proofs.Causes.{answers_go, turn_goes}
 use Rattle.nf_session.proofs.Moving.{same_moves}
@@ -109,17 +111,17 @@ appends_rest (Some xs) (Some ys) (Some zs) front rest told first all =
 
 -- behind the invitation
 rest_written : {C : Type 0} (reads : C → ℕ → C → Type 0) (head : Head) (begun : Begun) (k m n : Scene C) (new : Option (List ℕ)) (answer : List ℕ)
-    (rest : Behind head begun answer) → Judges reads head k m begun → Invites {T = Unit {0}} head begun m n (Ok tt)
+    (rest : Behind head begun answer) → Judges reads head [] k m begun → Invites {T = Unit {0}} head begun m n (Ok tt)
     → IsSome k.output → Appends k.output new (invitation head ++ answer) → IsSome n.output × Appends n.output new rest.bytes
 rest_written {C} reads head begun k m n new answer rest judges invites told wrote =
-    let front : m.output ≡ k.output = output_of k m (judges_only reads head k m begun judges) in
+    let front : m.output ≡ k.output = output_of k m (judges_only reads head [] k m begun judges) in
     appends_rest k.output n.output new (invited_bytes head begun) rest.bytes told
     (appends_by k.output n.output m.output n.output (invited_bytes head begun) front refl (invites_wrote head begun m n (Unit {0}) tt invites).bytes_are)
     (subst (λ (bytes : List ℕ). Appends k.output new bytes) rest.are wrote)
 
 answers_put : {C : Type 0} (reads : C → ℕ → C → Type 0) (last : Bool) (caller : Caller) (spot : Spot) (body left : List ℕ) (head : Head) (begun : Begun)
-    (a k m n b : Scene C) (end : Option Ended) (answer : List ℕ) → Heads a k (Ok (Some head)) → request_of head ≡ Ok (put_of caller spot (length body))
-    → k.input ≡ Some (body ++ left) → Judges reads head k m begun → Invites {T = Unit {0}} head begun m n (Ok tt)
+    (a k m n b : Scene C) (end : Option Ended) (answer : List ℕ) → Heads a k (Ok (Some head)) → request_of head [] ≡ Ok (put_of caller spot (length body))
+    → k.input ≡ Some (body ++ left) → Judges reads head [] k m begun → Invites {T = Unit {0}} head begun m n (Ok tt)
     → Answers reads last head begun n b end
     → IsSome k.output → Appends k.output b.output (invitation head ++ answer) → is_done answer ≡ true → OnlyOwn k.book m.book
     → PutsAndLeaves reads last caller spot body left a b end
@@ -139,7 +141,7 @@ answers_put {C} reads last caller spot body left head begun a k m n b end answer
     let begins = put_begun reads head begun v k m x taken answers.takes.1 caller spot (length body) asked judges answers.takes.3 says one in
     let bodies = bodies_of n x head begun answers.takes.1 (length body) begins answers.takes.2 in
     let there : n.input ≡ Some (body ++ left) = ap (λ (y : Scene C). y.input) (invites_wrote head begun m n (Unit {0}) tt invites).only
-    ∙ input_of k m (judges_only reads head k m begun judges) ∙ input in
+    ∙ input_of k m (judges_only reads head [] k m begun judges) ∙ input in
     let whole = one_body (body ++ left) x.input (Some left) (length body) answers.takes.1 body
     (subst (λ (o : Option (List ℕ)). TakesBody o x.input (length body) answers.takes.1) there bodies.taken)
     (refl, refl) in (
@@ -190,9 +192,9 @@ less_written a b ended.WriteFault w part told wrote =
 less_written a b by w never told wrote = absurd never
 
 stops_not_done : {C : Type 0} (reads : C → ℕ → C → Type 0) (head : Head) (begun : Begun) (k m b : Scene C) (end : Option Ended) (answer : List ℕ)
-    → Judges reads head k m begun → StopsShort reads head begun m b end → IsSome k.output → Appends k.output b.output (invitation head ++ answer) → ⊥
+    → Judges reads head [] k m begun → StopsShort reads head begun m b end → IsSome k.output → Appends k.output b.output (invitation head ++ answer) → ⊥
 stops_not_done {C} reads head begun k m b end answer judges stops told wrote =
-    let front : m.output ≡ k.output = output_of k m (judges_only reads head k m begun judges) in
+    let front : m.output ≡ k.output = output_of k m (judges_only reads head [] k m begun judges) in
     let closed = output_of stops.sent b (closes_only reads ending.Gone (is_granted begun) stops.sent b stops.closes) in
     let less = less_written m stops.sent stops.by (invitation head ++ answer)
     (stops_sends head begun m stops.sent (Unit {0}) stops.by stops.invites)
@@ -212,8 +214,8 @@ turn_puts {C} reads last caller spot h body left a b end answer prints input tol
     let front : m.output ≡ a.output = ap (λ (y : Scene C). y.output) heads.only in
     absurd (other_not_done a.output b.output (invitation (head_of h) ++ answer)
     (subst (λ (o : Option (List ℕ)). Other o b.output) front (ends_other why m b by ends)) told wrote (told_done (head_of h) answer done))
-turn_puts {C} reads last caller spot h body left a b end answer prints input told wrote done only (inr (inr (k, head, heads, (m, begun, judges, meets)))) =
-    here meets
+turn_puts {C} reads last caller spot h body left a b end answer prints input told wrote done only (inr (inr (k, head, heads, meets))) =
+    here (meets_at_once reads last head k b end (asked_not_early head (put_of caller spot (length body)) asked refl) meets)
   where
     at : (head ≡ head_of h) × (k.input ≡ Some (body ++ left))
     at = head_is a k h (put_of caller spot (length body)) (body ++ left) head prints input heads
@@ -228,16 +230,17 @@ turn_puts {C} reads last caller spot h body left a b end answer prints input tol
     written = appends_by k.output b.output a.output b.output (invitation head ++ answer) (sym front) refl
         (subst (λ (z : Head). Appends a.output b.output (invitation z ++ answer)) (sym at.0) wrote)
 
-    here : StopsShort reads head begun m b end ⊎ ((n : Scene C) × Invites {T = Unit {0}} head begun m n (Ok tt)
-        × (Answers reads last head begun n b end ⊎ CutsShort reads head begun n b end))
-        → PutsAndLeaves reads last caller spot body left a b end
-    here (inl stops) = absurd (stops_not_done reads head begun k m b end answer judges stops tells written)
-    here (inr (n, invites, inl answers)) =
-        let one : OnlyOwn k.book m.book = only_within (heads_go a k 0 (Some head) heads).book (judges_go reads head k m begun judges).book
+    asked : request_of head [] ≡ Ok (put_of caller spot (length body))
+    asked = ap (λ (z : Head). request_of z []) at.0 ∙ prints.asks
+
+    here : MeetsWith reads last head [] k b end → PutsAndLeaves reads last caller spot body left a b end
+    here (m, begun, judges, inl stops) = absurd (stops_not_done reads head begun k m b end answer judges stops tells written)
+    here (m, begun, judges, inr (n, invites, inl answers)) =
+        let one : OnlyOwn k.book m.book = only_within (heads_go a k 0 (Some head) heads).book (judges_go reads head [] k m begun judges).book
         (goes_first (invites_go head begun m n invites) (answers_go reads last head begun n b end answers)).book only in
-        answers_put reads last caller spot body left head begun a k m n b end answer heads (ap request_of at.0 ∙ prints.asks) at.1 judges invites
+        answers_put reads last caller spot body left head begun a k m n b end answer heads asked at.1 judges invites
         answers tells written done one
-    here (inr (n, invites, inr cuts)) =
+    here (m, begun, judges, inr (n, invites, inr cuts)) =
         let rest = behind head begun answer done in
         let later = rest_written reads head begun k m n b.output answer rest judges invites tells written in
         absurd (cuts_not_done reads head begun n b end rest.bytes cuts later.0 later.1 rest.done)
@@ -253,7 +256,7 @@ turn_gets reads last caller spot h rest a b end prints input written (inr (inl (
     absurd (cut_not_written why m b by ends (subst (λ (e : Option Ended). IsWritten e) is written))
 turn_gets reads last caller spot h rest a b end prints input written (inr (inr (k, head, heads, meets))) =
     let at = head_is a k h (get_of caller spot) rest head prints input heads in
-    (record { head = head; behind = k; heads = heads; asked = ap request_of at.0 ∙ prints.asks; meets = meets }, at.0)
+    (record { head = head; behind = k; heads = heads; asked = ap (λ (z : Head). request_of z []) at.0 ∙ prints.asks; meets = meets }, at.0)
 
 -- ---- both
 

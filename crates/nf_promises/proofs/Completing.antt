@@ -6,7 +6,7 @@ use Rattle.std.specs.Io.KnownBytes.{Appends}
 use Rattle.nf_base.specs.Content.{size_of}
 use Rattle.nf_base.specs.declared.content.Piece.{Piece}
 use Rattle.nf_dav.specs.Asked.{request_of}
-use Rattle.nf_dav.specs.Reply.{file_head, refusal_reply, done_reply, listing_reply, made_reply}
+use Rattle.nf_dav.specs.Reply.{file_head, refusal_reply, done_reply, listing_reply, made_reply, plain_reply, share_reply, shares_reply}
 use Rattle.nf_dav.specs.declared.replies.Manner.{Manner}
 use Rattle.nf_http.specs.Bodies.{TakesBody}
 use Rattle.nf_http.specs.Head.{Head, closes_session}
@@ -18,7 +18,7 @@ use Rattle.nf_words.specs.declared.answer.LockKey.{LockKey}
 use Rattle.nf_words.specs.declared.answer.Reply.TheVariants as reply
 use Rattle.nf_words.specs.declared.history.Event.TheVariants.{Begin}
 use Rattle.nf_words.specs.declared.request.Request.{Request}
-use Rattle.nf_session.specs.Prelude.{Answer, Answers, AreGiven, Begins, Book, denial_of_piece, end_by, end_of, end_of_close, Enters, event_of_body, how_of, Invites, is_unmade, IsOfBody, IsResponse, Judges, manner_of, Meets, no_words, Passes, Scene, Starts, StartsFile, state_after, stays_granted, StoresBody, Strikes, taken_length, Way, way_of, Writes}
+use Rattle.nf_session.specs.Prelude.{Answer, Answers, AreGiven, Begins, Book, denial_of_piece, end_by, end_of, end_of_close, Enters, event_of_body, how_of, Invites, is_unmade, IsOfBody, IsResponse, Judges, manner_of, Meets, MeetsWith, no_words, Passes, Scene, Starts, StartsFile, state_after, stays_granted, StoresBody, Strikes, taken_length, Way, way_of, Writes}
 use Rattle.nf_session.specs.Book.{Passes as Unchanged}
 use Rattle.nf_session.specs.declared.backend.PieceFault.{PieceFault}
 use Rattle.nf_session.specs.declared.backend.PieceFault.TheVariants as fault
@@ -28,7 +28,8 @@ use Rattle.nf_session.specs.declared.ended.Ended.{Ended}
 use Rattle.nf_session.specs.declared.ended.Ended.TheVariants as ended
 use Rattle.nf_session.specs.declared.response.Response.{Response}
 use Rattle.nf_session.specs.declared.response.Response.TheVariants as response
-use Rattle.nf_session.proofs.Calm.{Calm, bodies_go, calm_of, calm_then, closes_go, goes_then, heads_go, invites_go, judges_go, passes_go, writes_go, same_goes}
+use Rattle.nf_session.proofs.Calm.{Calm, bodies_go, calm_of, calm_then, closes_go, early_goes, goes_then, heads_go, invites_go, judges_go, passes_go, writes_go, same_goes}
+use Rattle.nf_session.proofs.Early.{early_book}
 use Rattle.nf_session.proofs.Inviting.{invited_bytes, invites_wrote}
 use Rattle.nf_session.proofs.Lasting.{lasts_then}
 use Rattle.nf_session.proofs.Sendings.{given_within}
@@ -36,8 +37,8 @@ use Rattle.nf_promises.proofs.Full.{answers_full}
 use Rattle.nf_promises.proofs.Gets.{starts_file, unmade_is}
 use Rattle.nf_promises.proofs.Returning.{appends_by, takes_output}
 use Rattle.nf_promises.proofs.Touches.{closes_only, input_of, judges_only, output_of, passes_only, starts_other}
-use Rattle.nf_promises.proofs.Unfailing.{piece_wanting, responds_whole, short_whole, stop_whole, not_struck}
-use Rattle.nf_promises.specs.Complete.{Completes, IsAnswerOf, IsMet, IsUnrisen, IsWanting, NothingFails, Says, SaysEnd, SaysFile, SaysStored, StaysWhole}
+use Rattle.nf_promises.proofs.Unfailing.{early_whole, piece_wanting, responds_whole, short_whole, stop_whole, not_struck}
+use Rattle.nf_promises.specs.Complete.{Completes, IsAnswerOf, IsCutEarly, IsMet, IsMetBy, IsUnrisen, IsWanting, NothingFails, Says, SaysEnd, SaysFile, SaysStored, StaysWhole}
 use Rattle.nf_promises.specs.Kept.{invitation}
 use Rattle.nf_words.specs.declared.answer.Reply.{Reply}
 use Rattle.std.specs.Prelude.{MatchBool}
@@ -105,6 +106,9 @@ abbrev pub SaysWord : {C : Type 0} → List ℕ → Bool → Reply → Scene C �
 SaysWord front close reply.Made a b = Appends a.output b.output (front ++ made_reply close)
 SaysWord front close reply.Done a b = Appends a.output b.output (front ++ done_reply close)
 SaysWord front close (reply.Listing lines) a b = Appends a.output b.output (front ++ listing_reply close lines)
+SaysWord front close (reply.Share line) a b = Appends a.output b.output (front ++ share_reply close line)
+SaysWord front close (reply.Shares lines) a b = Appends a.output b.output (front ++ shares_reply close lines)
+SaysWord front close reply.Plain a b = Appends a.output b.output (front ++ plain_reply close)
 SaysWord front close reply.Closed a b = ⊥
 SaysWord front close (reply.Granted goal) a b = ⊥
 
@@ -125,6 +129,11 @@ word_written {C} front close last way answered v a x y b closes fronts is writes
     here reply.Done is = subst (λ (c : Bool). Appends a.output b.output (front ++ done_reply c)) closes (fronts _ (so response.Done is).bytes_are)
     here (reply.Listing lines) is =
         subst (λ (c : Bool). Appends a.output b.output (front ++ listing_reply c lines)) closes (fronts _ (so (response.Listing lines) is).bytes_are)
+    here (reply.Share line) is =
+        subst (λ (c : Bool). Appends a.output b.output (front ++ share_reply c line)) closes (fronts _ (so (response.Share line) is).bytes_are)
+    here (reply.Shares lines) is =
+        subst (λ (c : Bool). Appends a.output b.output (front ++ shares_reply c lines)) closes (fronts _ (so (response.Shares lines) is).bytes_are)
+    here reply.Plain is = subst (λ (c : Bool). Appends a.output b.output (front ++ plain_reply c)) closes (fronts _ (so response.Plain is).bytes_are)
     here reply.Closed never = absurd never
     here (reply.Granted goal) never = absurd never
 
@@ -141,7 +150,7 @@ pub writes_input : {C : Type 0} (manner : Manner) (v : Response) (a b : Scene C)
 writes_input {C} manner (response.File content first) a b (given, writes, all, unstruck) = ap (λ (x : Scene C). x.input) writes.pieces.only
 writes_input {C} manner other a b wrote = ap (λ (x : Scene C). x.input) wrote.only
 
-module _ {C : Type 0} (reads : C → ℕ → C → Type 0) (last : Bool) (head : Head) (a b : Scene C) (nothing : NothingFails a b)
+module _ {C : Type 0} (reads : C → ℕ → C → Type 0) (last : Bool) (head : Head) (early : List ℕ) (a b : Scene C) (nothing : NothingFails a b)
     (whole : StaysWhole a.book) where
   -- ---- what was granted
 
@@ -194,6 +203,9 @@ module _ {C : Type 0} (reads : C → ℕ → C → Type 0) (last : Bool) (head :
       says (Ok reply.Closed) never is = absurd never
       says (Ok (reply.Granted goal)) never is = absurd never
       says (Ok (reply.Listing lines)) never is = absurd never
+      says (Ok (reply.Share line)) never is = absurd never
+      says (Ok (reply.Shares lines)) never is = absurd never
+      says (Ok reply.Plain) never is = absurd never
       says (Ok word) of is =
           word_written (invitation head) (last || closes_session head) last way word v a k s b (close_is last (closes_session head)) fronts is writes
 
@@ -223,8 +235,8 @@ module _ {C : Type 0} (reads : C → ℕ → C → Type 0) (last : Bool) (head :
       (close_is last (closes_session head)) fronts passes.0 writes)
 
   -- it found the run full, or was met
-  begun_met : (r : Request) (u : Begun) (v : Response) (end : Option Ended) (n x k s : Scene C) (body : List ℕ) → request_of head ≡ Ok r
-      → Judges reads head a n u → Calm a x → Calm n b → Calm k b → Calm s b → Fronts (invited_bytes head u) k s a b
+  begun_met : (r : Request) (u : Begun) (v : Response) (end : Option Ended) (n x k s : Scene C) (body : List ℕ) → request_of head early ≡ Ok r
+      → Judges reads head early a n u → Calm a x → Calm n b → Calm k b → Calm s b → Fronts (invited_bytes head u) k s a b
       → TakesBody a.input b.input (taken_length head u) body → Passes reads body x k u v → Writes {T = Unit {0}} (manner_of last (way_of head u) v) v k s (Ok tt)
       → (v ≡ response.Denied denial.RunFull) ⊎ IsMet last head r a b end
   begun_met r (begun.Unasked refusal) v end n x k s body asked (inl refused, same) before judged taken sent fronts takes passes writes = absurd (cc)
@@ -253,7 +265,7 @@ module _ {C : Type 0} (reads : C → ℕ → C → Type 0) (last : Bool) (head :
 
   -- ---- the message
 
-  answers_met : (r : Request) (u : Begun) (n t : Scene C) (end : Option Ended) → request_of head ≡ Ok r → Judges reads head a n u
+  answers_met : (r : Request) (u : Begun) (n t : Scene C) (end : Option Ended) → request_of head early ≡ Ok r → Judges reads head early a n u
       → Invites {T = Unit {0}} head u n t (Ok tt) → Answers reads last head u t b end → IsMet last head r a b end
   answers_met r u n t end asked judges invites answers =
       here (responds_whole a b nothing whole last (way_of head u) v k s answers.result (calm_then a x k before passed) sent answers.responds)
@@ -274,7 +286,7 @@ module _ {C : Type 0} (reads : C → ℕ → C → Type 0) (last : Bool) (head :
       told = calm_of (goes_then (invites_go head u n t invites) (bodies_go t x (taken_length head u) answers.takes.1 answers.takes.2))
 
       before : Calm a x
-      before = calm_then a n x (calm_of (judges_go reads head a n u judges)) told
+      before = calm_then a n x (calm_of (judges_go reads head early a n u judges)) told
 
       passed : Calm x k
       passed = calm_of (passes_go reads answers.takes.1 x k u v answers.takes.3)
@@ -285,7 +297,7 @@ module _ {C : Type 0} (reads : C → ℕ → C → Type 0) (last : Bool) (head :
       fronts : Fronts (invited_bytes head u) k s a b
       fronts bytes is =
           Appends-trans a.output t.output b.output (invited_bytes head u) bytes
-          (appends_by a.output t.output n.output t.output (invited_bytes head u) (output_of a n (judges_only reads head a n u judges)) refl
+          (appends_by a.output t.output n.output t.output (invited_bytes head u) (output_of a n (judges_only reads head early a n u judges)) refl
           (invites_wrote head u n t (Unit {0}) tt invites).bytes_are)
           (appends_by t.output b.output k.output s.output bytes (takes_output reads head t k u v answers.takes)
           (sym (output_of s b (closes_only reads (how_of v answers.result) (stays_granted v) s b answers.closes))) is)
@@ -294,7 +306,7 @@ module _ {C : Type 0} (reads : C → ℕ → C → Type 0) (last : Bool) (head :
       takes : s.input ≡ k.input → TakesBody a.input b.input (taken_length head u) answers.takes.1
       takes kept =
           let came : t.input ≡ a.input =
-          ap (λ (y : Scene C). y.input) (invites_wrote head u n t (Unit {0}) tt invites).only ∙ input_of a n (judges_only reads head a n u judges) in
+          ap (λ (y : Scene C). y.input) (invites_wrote head u n t (Unit {0}) tt invites).only ∙ input_of a n (judges_only reads head early a n u judges) in
           let went : b.input ≡ x.input =
           input_of s b (closes_only reads (how_of v answers.result) (stays_granted v) s b answers.closes) ∙ kept
           ∙ input_of x k (passes_only reads answers.takes.1 x k u v answers.takes.3) in
@@ -304,7 +316,7 @@ module _ {C : Type 0} (reads : C → ℕ → C → Type 0) (last : Bool) (head :
       met : (end ≡ end_of (way_of head u).closes v) → (v ≡ response.Denied denial.RunFull) ⊎ IsMet last head r a b end → IsMet last head r a b end
       met ends (inl full) =
           let is : end ≡ Some ended.RunFull = ends ∙ ap (end_of (way_of head u).closes) full in
-          inr (inl (is, answers_full reads last head u a n t b judges invites (subst (λ (e : Option Ended). Answers reads last head u t b e) is answers)))
+          inr (inl (is, answers_full reads last head early u a n t b judges invites (subst (λ (e : Option Ended). Answers reads last head u t b e) is answers)))
       met ends (inr so) = so
 
       here : (end_by answers.result ≡ Some ended.Memory)
@@ -316,26 +328,47 @@ module _ {C : Type 0} (reads : C → ℕ → C → Type 0) (last : Bool) (head :
           met (answers.ends ∙ is) (begun_met r u v end n x k s answers.takes.1 asked judges before (calm_then n x b told (calm_then x k b passed taken)) taken sent
           fronts (takes (writes_input (manner_of last (way_of head u) v) v k s writes)) answers.takes.3 writes)
 
-  meets_met : (r : Request) (end : Option Ended) → request_of head ≡ Ok r → Meets reads last head a b end → IsMet last head r a b end
+  meets_met : (r : Request) (end : Option Ended) → request_of head early ≡ Ok r → MeetsWith reads last head early a b end → IsMet last head r a b end
   meets_met r end asked (n, u, judges, inl stops) =
-      inl (inl (stop_whole a b nothing whole reads head u n end (calm_of (judges_go reads head a n u judges)) stops))
+      inl (inl (stop_whole a b nothing whole reads head u n end (calm_of (judges_go reads head early a n u judges)) stops))
   meets_met r end asked (n, u, judges, inr (t, invites, inl answers)) = answers_met r u n t end asked judges invites answers
   meets_met r end asked (n, u, judges, inr (t, invites, inr cuts)) =
       here (short_whole a b nothing whole reads head u t end
-      (calm_of (goes_then (judges_go reads head a n u judges) (invites_go head u n t invites))) cuts)
+      (calm_of (goes_then (judges_go reads head early a n u judges) (invites_go head u n t invites))) cuts)
     where
       here : (end ≡ Some ended.Memory) ⊎ (end ≡ Some ended.BadMessage) → IsMet last head r a b end
       here (inl memory) = inl (inl memory)
       here (inr cut) = inr (inr (inl cut))
 
+-- nothing fails from a later scene on either
+later_nothing : {C : Type 0} (a m b : Scene C) → Calm a m → m.book ≡ a.book → NothingFails a b → NothingFails m b
+later_nothing a m b calm book nothing = record {
+  store = subst (λ (x : Book). IsUnrisen x.strikes b.book.strikes) (sym book) nothing.store;
+  read = subst (λ (n : ℕ). IsUnrisen n b.read_faults) (sym calm.read) nothing.read;
+  write = subst (λ (n : ℕ). IsUnrisen n b.write_faults) (sym calm.write) nothing.write;
+}
+
 pub completes : {C : Type 0} (reads : C → ℕ → C → Type 0) → Completes reads
-completes {C} reads last a m b head r end heads asked meets nothing whole =
-    let book : m.book ≡ a.book = ap (λ (x : Scene C). x.book) heads.only in
-    let calm = calm_of (heads_go a m 0 (Some head) heads) in
-    meets_met reads last head m b
-    (record {
-      store = subst (λ (x : Book). IsUnrisen x.strikes b.book.strikes) (sym book) nothing.store;
-      read = subst (λ (n : ℕ). IsUnrisen n b.read_faults) (sym calm.read) nothing.read;
-      write = subst (λ (n : ℕ). IsUnrisen n b.write_faults) (sym calm.write) nothing.write;
-    })
-    (subst (λ (x : Book). StaysWhole x) (sym book) whole) r end asked meets
+completes {C} reads last a m b head end heads meets nothing whole = here meets
+  where
+    book : m.book ≡ a.book
+    book = ap (λ (x : Scene C). x.book) heads.only
+
+    calm : Calm a m
+    calm = calm_of (heads_go a m 0 (Some head) heads)
+
+    still : NothingFails m b
+    still = later_nothing a m b calm book nothing
+
+    here : Meets reads last head m b end → IsMetBy last head m b end ⊎ IsCutEarly head end
+    here (inl cut) = inr (cut.takes.0, early_whole a b nothing whole head m end calm cut)
+    here (inr (t, body, takes, meets)) =
+        let same : t.book ≡ m.book = early_book head m t body takes in
+        inl (record {
+          body = body;
+          taken = t;
+          takes = takes;
+          met = λ r asked.
+              meets_met reads last head body t b (later_nothing m t b (calm_of (early_goes head m t body takes)) same still)
+              (subst (λ (x : Book). StaysWhole x) (sym (same ∙ book)) whole) r end asked meets;
+        })

@@ -80,12 +80,12 @@ passes_full reads body a b (begun.Asked (Ok (reply.Granted (goal.Store by key le
     absurd (end_not_full (state_after a.book enters.others) enters.entry _ enters.event_is (sym enters.answer_is ∙ answer_full answer is))
 passes_full reads body a b (begun.Asked answer) passes = answer_full answer passes.0
 
-judges_full : {C : Type 0} (reads : C → ℕ → C → Type 0) (head : Head) (a b : Scene C) (begun : Begun)
-    → Judges reads head a b begun → IsFound begun → MAX_ENTRIES < entries_wanted b.book
-judges_full reads head a b (begun.Unasked refusal) (inl asked, same) is =
-    absurd (request_not_full head (asked ∙ ap Err is))
-judges_full reads head a b (begun.Unasked refusal) (inr memory, same) is = absurd (cc)
-judges_full reads head a b (begun.Asked answer) (r, now, asked, read, begins, only) is = begins.full is
+judges_full : {C : Type 0} (reads : C → ℕ → C → Type 0) (head : Head) (early : List ℕ) (a b : Scene C) (begun : Begun)
+    → Judges reads head early a b begun → IsFound begun → MAX_ENTRIES < entries_wanted b.book
+judges_full reads head early a b (begun.Unasked refusal) (inl asked, same) is =
+    absurd (request_not_full head early (asked ∙ ap Err is))
+judges_full reads head early a b (begun.Unasked refusal) (inr memory, same) is = absurd (cc)
+judges_full reads head early a b (begun.Asked answer) (r, now, asked, read, begins, only) is = begins.full is
 
 -- nothing is done then
 found_same : {C : Type 0} (reads : C → ℕ → C → Type 0) (body : List ℕ) (a b : Scene C) (begun : Begun) (v : Response)
@@ -101,10 +101,10 @@ refusal_same last way refusal a b (Err by) says = book_of a b (says_only {T = Un
 
 -- ---- a turn
 
-pub answers_full : {C : Type 0} (reads : C → ℕ → C → Type 0) (last : Bool) (head : Head) (begun : Begun) (a m n b : Scene C)
-    → Judges reads head a m begun → Invites {T = Unit {0}} head begun m n (Ok tt) → Answers reads last head begun n b (Some ended.RunFull)
+pub answers_full : {C : Type 0} (reads : C → ℕ → C → Type 0) (last : Bool) (head : Head) (early : List ℕ) (begun : Begun)
+    (a m n b : Scene C) → Judges reads head early a m begun → Invites {T = Unit {0}} head begun m n (Ok tt) → Answers reads last head begun n b (Some ended.RunFull)
     → MAX_ENTRIES < entries_wanted b.book
-answers_full {C} reads last head begun a m n b judges invites answers =
+answers_full {C} reads last head early begun a m n b judges invites answers =
     let v : answers.response ≡ response.Denied denial.RunFull =
     responds_full last (way_of head begun) answers.response answers.taken answers.sent answers.result answers.responds (sym answers.ends) in
     let takes : TakesIn reads head n answers.taken begun (Ok (response.Denied denial.RunFull)) =
@@ -118,7 +118,7 @@ answers_full {C} reads last head begun a m n b judges invites answers =
     ap (λ (x : Scene C). x.book) closes ∙ refusal_same last (way_of head begun) denial.RunFull answers.taken answers.sent answers.result responds
     ∙ ap (λ (x : Scene C). x.book) (found_same reads takes.1 takes.0 answers.taken begun _ found takes.3)
     ∙ ap (λ (x : Scene C). x.book) takes.2.only ∙ ap (λ (x : Scene C). x.book) (invites_wrote head begun m n (Unit {0}) tt invites).only in
-    subst (λ (k : Book). MAX_ENTRIES < entries_wanted k) (sym same) (judges_full reads head a m begun judges found)
+    subst (λ (k : Book). MAX_ENTRIES < entries_wanted k) (sym same) (judges_full reads head early a m begun judges found)
 
 cuts_not_full : {C : Type 0} (reads : C → ℕ → C → Type 0) (head : Head) (begun : Begun) (a b : Scene C)
     → CutsShort reads head begun a b (Some ended.RunFull) → ⊥
@@ -139,10 +139,13 @@ turn_full reads last a b (inl (heads, is)) = absurd (cc)
 turn_full {C} reads last a b (inr (inl (m, fault, by, heads, ends, is))) =
     let same : by ≡ ended.RunFull = cc in
     absurd (ends_not_full fault m b (subst (λ (e : Ended). EndsBy fault m b e) same ends))
-turn_full reads last a b (inr (inr (m, head, heads, (n, begun, judges, inl stops)))) = absurd (stops_not_full reads head begun n b stops)
-turn_full reads last a b (inr (inr (m, head, heads, (n, begun, judges, inr (told, invites, inl answers))))) =
-    answers_full reads last head begun m n told b judges invites answers
-turn_full reads last a b (inr (inr (m, head, heads, (n, begun, judges, inr (told, invites, inr cuts))))) =
+turn_full {C} reads last a b (inr (inr (m, head, heads, inl cut))) =
+    let same : cut.by ≡ ended.RunFull = cc in
+    absurd (ends_not_full cut.fault cut.cut b (subst (λ (e : Ended). EndsBy cut.fault cut.cut b e) same cut.responds))
+turn_full reads last a b (inr (inr (m, head, heads, inr (t, early, takes, (n, begun, judges, inl stops))))) = absurd (stops_not_full reads head begun n b stops)
+turn_full reads last a b (inr (inr (m, head, heads, inr (t, early, takes, (n, begun, judges, inr (told, invites, inl answers)))))) =
+    answers_full reads last head early begun t n told b judges invites answers
+turn_full reads last a b (inr (inr (m, head, heads, inr (t, early, takes, (n, begun, judges, inr (told, invites, inr cuts)))))) =
     absurd (cuts_not_full reads head begun told b cuts)
 
 -- ---- a session

@@ -1,9 +1,11 @@
 -- What a turn that took a GET writes, where the body of a PUT is kept.
 use Rattle.std.proofs.Common.{ℕ, ◌+◌, ◌==◌, ◌≡◌, ◌⊎◌, ◌&&◌, ◌||◌, Bool, true, false, List, [], ◌∷◌, ◌++◌, length, Option, None, Some, Result, Ok, Err, is_some, if◌then◌else◌, inl, inr, refl, sym, ap, subst, ◌∙◌, arith}
-use Rattle.std.specs.Prelude.{IfSome, MatchBool, Vec, nat_lt}
+use Rattle.std.specs.Prelude.{IfSome, MatchBool, Vec, nat_le, nat_lt}
 use Rattle.std.specs.Io.KnownBytes.{Appends}
 use Rattle.std.specs.declared.alloc.Global.{Global}
 use Rattle.std.proofs.lemmas.Bool.{eqb-true}
+use Rattle.std.proofs.lemmas.Bool.Decides.{nat_tests}
+use Rattle.nf_words.specs.Asked.{is_about_shares}
 use Rattle.std.proofs.lemmas.List.{append-nil}
 use Rattle.sha2.specs.Sha256.{sha256}
 use Rattle.nf_base.specs.declared.limits.TheConstants.{MAX_OCS_BODY}
@@ -33,7 +35,7 @@ use Rattle.nf_words.specs.declared.request.Request.{Request}
 use Rattle.nf_words.specs.declared.request.Spot.{Spot}
 use Rattle.nf_words.specs.declared.request.Words.{Words}
 use Rattle.nf_defs.specs.Prelude.{blob_at, Blobs, Tables}
-use Rattle.nf_session.specs.Prelude.{Answer, Begins, Book, end_of, end_of_close, Enters, FailsPiece, file_front, HaveBytes, is_invited, is_unmade, is_unsent, IsPiece, Judges, Lasts, manner_of, next_blob_of, no_words, OthersCame, Scene, SendsFile, Starts, StartsFile, state_of, TakesIn, TellsDamage, TellsPiece, TellsStill, Way, way_of, Writes}
+use Rattle.nf_session.specs.Prelude.{Answer, Begins, Book, end_of, end_of_close, Enters, FailsPiece, file_front, HaveBytes, is_early, is_invited, is_unmade, is_unsent, IsPiece, Judges, Lasts, manner_of, next_blob_of, no_words, OthersCame, Scene, SendsFile, Starts, StartsFile, state_of, TakesIn, TellsDamage, TellsPiece, TellsStill, Way, way_of, Writes}
 use Rattle.nf_session.specs.Book.{Differs, Passes as Unchanged}
 use Rattle.nf_session.specs.Steps.{holds_back}
 use Rattle.nf_session.specs.Turn.{says_close}
@@ -58,8 +60,21 @@ pub record IsPlain (way : Way) : Type 0 where
   pub ocs : way.ocs ≡ false
   pub head_only : way.head_only ≡ false
 
-pub asked_plain : (head : Head) (begun : Begun) (request : Request) → request_of head ≡ Ok request → IsPlain (way_of head begun)
-asked_plain head begun request asked = record { ocs = asked_no_ocs head request asked; head_only = asked_no_head head request asked }
+pub asked_plain : (head : Head) (begun : Begun) (request : Request) → request_of head [] ≡ Ok request → is_about_shares request.wanted ≡ false
+    → IsPlain (way_of head begun)
+asked_plain head begun request asked other = record {
+  ocs = asked_no_ocs head [] request asked other;
+  head_only = asked_no_head head [] request asked;
+}
+
+never_early : (n : ℕ) → (nat_lt 0 n && nat_le n 0) ≡ false
+never_early n = grind (arith, nat_tests)
+
+pub asked_not_early : (head : Head) (request : Request) → request_of head [] ≡ Ok request → is_about_shares request.wanted ≡ false
+    → is_early head ≡ false
+asked_not_early head request asked other =
+    ap (λ (ocs : Bool). nat_lt 0 (length_of head) && nat_le (length_of head) (if ocs then MAX_OCS_BODY else 0)) (asked_no_ocs head [] request asked other)
+    ∙ never_early (length_of head)
 
 -- no body is taken before what is plain is looked for
 held_back : (head : Head) (begun : Begun) → IsPlain (way_of head begun) → holds_back head ≡ waits head
@@ -365,7 +380,7 @@ answered_shown {C} reads last head caller spot body k m a b v answer kept plain 
 
 -- nobody is invited by a GET
 pub get_not_invited : {C : Type 0} (reads : C → ℕ → C → Type 0) (head : Head) (caller : Caller) (spot : Spot) (body : List ℕ) (begun : Begun) (k m : Scene C)
-    → request_of head ≡ Ok (get_of caller spot) → Judges reads head k m begun → IsKept k.book caller spot body → OnlyOwn k.book m.book
+    → request_of head [] ≡ Ok (get_of caller spot) → Judges reads head [] k m begun → IsKept k.book caller spot body → OnlyOwn k.book m.book
     → is_invited head begun ≡ false
 get_not_invited reads head caller spot body (begun.Unasked refusal) k m asked judges kept alone = refl
 get_not_invited {C} reads head caller spot body (begun.Asked answer) k m asked (r, now, is, read, begins, only) kept alone =
@@ -381,7 +396,7 @@ get_not_invited {C} reads head caller spot body (begun.Asked answer) k m asked (
     here (inr (inr is)) = ap (λ (w : Answer). is_invited head (begun.Asked w)) is
 
 pub begun_shown : {C : Type 0} (reads : C → ℕ → C → Type 0) (last : Bool) (head : Head) (caller : Caller) (spot : Spot) (body : List ℕ)
-    (begun : Begun) (k m a b : Scene C) (v : Response) → request_of head ≡ Ok (get_of caller spot) → Judges reads head k m begun
+    (begun : Begun) (k m a b : Scene C) (v : Response) → request_of head [] ≡ Ok (get_of caller spot) → Judges reads head [] k m begun
     → IsKept k.book caller spot body → OnlyOwn k.book m.book → OnlyOwn k.book b.book
     → TakesIn reads head m a begun (Ok v) → IsWritten (end_of (way_of head begun).closes v)
     → Writes {T = Unit {0}} (manner_of last (way_of head begun) v) v a b (Ok tt) → Shown (last || closes_session head) (waits head) body k.book a b
@@ -389,7 +404,7 @@ begun_shown reads last head caller spot body (begun.Unasked refusal) k m a b v a
     absurd (cc)
 begun_shown reads last head caller spot body (begun.Unasked refusal) k m a b v asked (inr memory, same) kept one only
     (x, other, bodies, passes) written writes =
-    let plain = asked_plain head (begun.Unasked refusal) _ asked in
+    let plain = asked_plain head (begun.Unasked refusal) (get_of caller spot) asked refl in
     denied_shown last (closes_session head) (waits head) (way_of head (begun.Unasked refusal)) plain body k.book a b v
     (ap (λ (unsent : Bool). closes_session head || unsent) (held_back head (begun.Unasked refusal) plain)) (passes.0 ∙ ap response.Denied memory) writes
 begun_shown {C} reads last head caller spot body (begun.Asked answer) k m a b v asked (r, now, is, read, begins, judged) kept one only takes
@@ -397,6 +412,6 @@ begun_shown {C} reads last head caller spot body (begun.Asked answer) k m a b v 
     let same : r ≡ get_of caller spot = cc in
     let get : Begins k.book m.book now no_words (get_of caller spot) answer =
     subst (λ (q : Request). Begins k.book m.book now no_words q answer) same begins in
-    answered_shown reads last head caller spot body k.book m a b v answer kept (asked_plain head (begun.Asked answer) _ asked)
+    answered_shown reads last head caller spot body k.book m a b v answer kept (asked_plain head (begun.Asked answer) (get_of caller spot) asked refl)
     (get_answered k.book m.book now caller spot body answer kept one get)
     (begins_move k.book m.book now no_words (get_of caller spot) answer get).onward.lasts only takes written writes

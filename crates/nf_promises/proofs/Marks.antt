@@ -10,13 +10,14 @@ use Rattle.std.proofs.lemmas.List.{append_cancel_left, get_or-take, length-take}
 use Rattle.std.proofs.Math.ListN.{get_or-eq_default}
 use Rattle.nf_base.specs.Content.{size_of}
 use Rattle.nf_base.specs.declared.content.Piece.{Piece}
-use Rattle.nf_dav.specs.Reply.{continue_reply, done_reply, file_head, head_bytes, last_manner, listing_reply, made_reply, own_line, refusal_body, refusal_reply, status_of}
+use Rattle.nf_dav.specs.Reply.{continue_reply, done_reply, file_head, head_bytes, last_manner, listing_reply, made_reply, own_line, refusal_body, refusal_reply, status_of, plain_reply, share_reply, shares_reply}
 use Rattle.nf_dav.specs.declared.replies.Manner.{Manner}
 use Rattle.nf_http.specs.declared.wire.WireFault.{WireFault}
 use Rattle.nf_http.specs.declared.wire.WireFault.TheVariants as wire
 use Rattle.nf_words.specs.declared.answer.Denial.{Denial}
 use Rattle.nf_words.specs.declared.answer.Denial.TheVariants as denial
 use Rattle.nf_words.specs.declared.listing.ListingLine.{ListingLine}
+use Rattle.nf_words.specs.declared.sharing.ShareLine.{ShareLine}
 use Rattle.nf_session.specs.Prelude.{denial_of, denial_of_piece, EndsBy, EndsSo, file_front, manner_of, Responds, Says, Scene, SendsFile, Way, Writes}
 use Rattle.nf_session.specs.declared.ended.Ended.{Ended}
 use Rattle.nf_session.specs.declared.ended.Ended.TheVariants as ended
@@ -54,6 +55,15 @@ file_mark close size more = refl
 
 listing_mark : (close : Bool) (lines : List ListingLine) → is_done (listing_reply close lines) ≡ false
 listing_mark close lines = refl
+
+share_mark : (close : Bool) (line : ShareLine) → is_done (share_reply close line) ≡ false
+share_mark close line = refl
+
+shares_mark : (close : Bool) (lines : List ShareLine) → is_done (shares_reply close lines) ≡ false
+shares_mark close lines = refl
+
+plain_mark : (close : Bool) → is_done (plain_reply close) ≡ false
+plain_mark close = refl
 
 -- nor do other fronts
 take_mark : (n : ℕ) (bytes : List ℕ) → is_done bytes ≡ false → is_done (take n bytes) ≡ false
@@ -135,6 +145,9 @@ writes_said : {C : Type 0} (manner : Manner) (v : Response) (a b : Scene C) (res
 writes_said manner response.Made a b result writes = inl tt
 writes_said manner response.Done a b result writes = inl tt
 writes_said manner (response.Listing lines) a b result says = inr (says_other a b _ result (listing_mark manner.close lines) says)
+writes_said manner (response.Share line) a b result says = inr (says_other a b _ result (share_mark manner.close line) says)
+writes_said manner (response.Shares lines) a b result says = inr (says_other a b _ result (shares_mark manner.close lines) says)
+writes_said manner response.Plain a b result says = inr (says_other a b _ result (plain_mark manner.close) says)
 writes_said manner (response.Denied refusal) a b result says = inr (says_other a b _ result (refusal_mark manner refusal) says)
 writes_said manner (response.Lost why) a b result says = inr (says_other a b _ result (refusal_mark manner (denial_of_piece why)) says)
 writes_said manner (response.File content first) a b result sends = inr (sends_other manner.close content first a b result sends)

@@ -1,5 +1,5 @@
 -- What a turn that took a PUT, and said that it stored it, leaves in the seat's book.
-use Rattle.std.proofs.Common.{ℕ, ◌<◌, ◌≡◌, Bool, List, length, Option, None, Some, Result, Ok, Err, refl, sym, ap, subst, ◌∙◌}
+use Rattle.std.proofs.Common.{ℕ, ◌<◌, ◌≡◌, Bool, List, [], length, Option, None, Some, Result, Ok, Err, refl, sym, ap, subst, ◌∙◌}
 use Rattle.std.specs.Prelude.{IfSome, IsOk, OnOk}
 use Rattle.nf_base.specs.declared.content.Piece.{Piece}
 use Rattle.nf_dav.specs.Asked.{request_of}
@@ -115,7 +115,7 @@ begins_put a m now caller spot n answered one enters =
     (ok_answer (state_of a) e (Begin no_words (put_of caller spot n)) answered begin.event_is begin.answer_is).1
 
 asked_enters : (a m : Book) (now : ℕ) (head : Head) (caller : Caller) (spot : Spot) (n : ℕ) (r : Request) (answer : Answer)
-    → request_of head ≡ Ok (put_of caller spot n) → request_of head ≡ Ok r
+    → request_of head [] ≡ Ok (put_of caller spot n) → request_of head [] ≡ Ok r
     → Enters a m now (Begin no_words r) answer → Enters a m now (Begin no_words (put_of caller spot n)) answer
 asked_enters a m now head caller spot n r answer asked is enters =
     let same : r ≡ put_of caller spot n = cc in
@@ -128,8 +128,8 @@ pub record BeginsPut (b : Begun) (n : ℕ) : Type 0 where
   pub is : b ≡ begun.Asked (Ok (reply.Granted (goal.Store by key n)))
 
 pub put_begun : {C : Type 0} (reads : C → ℕ → C → Type 0) (head : Head) (begun : Begun) (v : Response) (a m x b : Scene C) (body : List ℕ)
-    (caller : Caller) (spot : Spot) (n : ℕ) → request_of head ≡ Ok (put_of caller spot n)
-    → Judges reads head a m begun → Passes reads body x b begun v → SaysStored v → OnlyOwn a.book m.book → BeginsPut begun n
+    (caller : Caller) (spot : Spot) (n : ℕ) → request_of head [] ≡ Ok (put_of caller spot n)
+    → Judges reads head [] a m begun → Passes reads body x b begun v → SaysStored v → OnlyOwn a.book m.book → BeginsPut begun n
 put_begun reads head (begun.Unasked refusal) v a m x b body caller spot n asked judges passes says one =
     absurd (not_stored v refusal passes.0 says)
 put_begun reads head (begun.Asked (Ok (reply.Granted (goal.Serve content)))) v a m x b body caller spot n asked judges starts says one =
@@ -146,6 +146,12 @@ put_begun reads head (begun.Asked (Ok (reply.Granted (goal.Store by key size))))
 put_begun reads head (begun.Asked (Ok reply.Closed)) v a m x b body caller spot n asked judges passes says one = absurd passes.0
 put_begun reads head (begun.Asked (Ok (reply.Listing lines))) v a m x b body caller spot n asked judges passes says one =
     absurd (subst (λ (w : Response). SaysStored w) passes.0 says)
+put_begun reads head (begun.Asked (Ok (reply.Share line))) v a m x b body caller spot n asked judges passes says one =
+    absurd (subst (λ (w : Response). SaysStored w) passes.0 says)
+put_begun reads head (begun.Asked (Ok (reply.Shares lines))) v a m x b body caller spot n asked judges passes says one =
+    absurd (subst (λ (w : Response). SaysStored w) passes.0 says)
+put_begun reads head (begun.Asked (Ok reply.Plain)) v a m x b body caller spot n asked judges passes says one =
+    absurd (subst (λ (w : Response). SaysStored w) passes.0 says)
 put_begun reads head (begun.Asked (Err refusal)) v a m x b body caller spot n asked judges passes says one =
     absurd (not_stored v refusal passes.0 says)
 put_begun reads head (begun.Asked (Ok word)) v a m x b body caller spot n asked (r, now, is, read, begins, only) passes says one =
@@ -153,8 +159,8 @@ put_begun reads head (begun.Asked (Ok word)) v a m x b body caller spot n asked 
     (asked_enters a.book m.book now head caller spot n r (Ok word) asked is begins.entry))
 
 kept_stored : {C : Type 0} (reads : C → ℕ → C → Type 0) (head : Head) (by : By) (key : LockKey) (v : Response) (a m n x b : Scene C) (body : List ℕ)
-    (caller : Caller) (spot : Spot) (size : ℕ) → request_of head ≡ Ok (put_of caller spot size)
-    → Judges reads head a m (begun.Asked (Ok (reply.Granted (goal.Store by key size)))) → n.book ≡ m.book
+    (caller : Caller) (spot : Spot) (size : ℕ) → request_of head [] ≡ Ok (put_of caller spot size)
+    → Judges reads head [] a m (begun.Asked (Ok (reply.Granted (goal.Store by key size)))) → n.book ≡ m.book
     → Bodies n x size body → StoresBody reads body x b v → SaysStored v
     → IsSound (state_of a.book) → GoesByNoMount (state_of a.book) caller spot → OnlyOwn a.book m.book → OnlyOwn m.book b.book → IsKept b.book caller spot body
 kept_stored {C} reads head by key v a m n x b body caller spot size asked (r, now, is, read, begins, only) told bodies
@@ -165,13 +171,13 @@ kept_stored {C} reads head by key v a m n x b body caller spot size asked (r, no
     (subst (λ (k : Book). EndsBody k b.book moment body answer) book ends) (stored_ok answer v answers says) bodies.taken.0
 
 kept_taken : {C : Type 0} (reads : C → ℕ → C → Type 0) (head : Head) (begun : Begun) (v : Response) (a m n x b : Scene C) (body : List ℕ)
-    (caller : Caller) (spot : Spot) (size : ℕ) → request_of head ≡ Ok (put_of caller spot size)
-    → Judges reads head a m begun → n.book ≡ m.book → Bodies n x (taken_length head begun) body → Passes reads body x b begun v → SaysStored v
+    (caller : Caller) (spot : Spot) (size : ℕ) → request_of head [] ≡ Ok (put_of caller spot size)
+    → Judges reads head [] a m begun → n.book ≡ m.book → Bodies n x (taken_length head begun) body → Passes reads body x b begun v → SaysStored v
     → IsSound (state_of a.book) → GoesByNoMount (state_of a.book) caller spot → OnlyOwn a.book m.book → OnlyOwn m.book b.book → IsKept b.book caller spot body
 kept_taken {C} reads head begun v a m n x b body caller spot size asked judges told bodies passes says sound own one two =
     let begins = put_begun reads head begun v a m x b body caller spot size asked judges passes says one in
     kept_stored reads head begins.by begins.key v a m n x b body caller spot size asked
-    (subst (λ (w : Begun). Judges reads head a m w) begins.is judges) told
+    (subst (λ (w : Begun). Judges reads head [] a m w) begins.is judges) told
     (subst (λ (w : Begun). Bodies n x (taken_length head w) body) begins.is bodies)
     (subst (λ (w : Begun). Passes reads body x b w v) begins.is passes) says sound own one two
 
@@ -191,7 +197,7 @@ put_is_kept reads last caller spot body a b end put sound own only =
     let v = answers.response in
     let same : put.behind.book ≡ a.book = heads_same a put.behind (Ok (Some put.head)) put.heads in
     let heads = heads_go a put.behind 0 (Some put.head) put.heads in
-    let first = judges_go reads put.head put.behind put.judged put.begun put.judges in
+    let first = judges_go reads put.head [] put.behind put.judged put.begun put.judges in
     let told : put.invited.book ≡ put.judged.book = ap (λ (x : Scene _). x.book)
     (invites_wrote put.head put.begun put.judged put.invited (Unit {0}) tt put.invites).only in
     let second = goes_first (invites_go put.head put.begun put.judged put.invited put.invites)

@@ -30,7 +30,7 @@ use Rattle.nf_words.specs.declared.answer.Goal.TheVariants.{Serve, Store}
 use Rattle.nf_words.specs.declared.answer.LockKey.{LockKey}
 use Rattle.nf_words.specs.declared.answer.LockKey.TheVariants.{Node, Slot}
 use Rattle.nf_words.specs.declared.answer.Reply.{Reply}
-use Rattle.nf_words.specs.declared.answer.Reply.TheVariants.{Made, Done, Closed, Granted, Listing}
+use Rattle.nf_words.specs.declared.answer.Reply.TheVariants.{Made, Done, Closed, Granted, Listing, Share, Shares, Plain}
 use Rattle.nf_words.specs.declared.history.Entry.{Entry}
 use Rattle.nf_words.specs.declared.history.Event.{Event}
 use Rattle.nf_words.specs.declared.history.Event.TheVariants.{Begin}
@@ -79,6 +79,9 @@ IsOfPut Closed = Unit {0}
 IsOfPut Made = ⊥
 IsOfPut Done = ⊥
 IsOfPut (Listing lines) = ⊥
+IsOfPut (Share line) = ⊥
+IsOfPut (Shares lines) = ⊥
+IsOfPut Plain = ⊥
 
 stored_replies : (by : By) (name : List ℕ) (n : ℕ) (place : Found) → IsOfPut (reply_to (stored by name n (Some place)))
 stored_replies by name n (At node) = tt
@@ -196,7 +199,7 @@ get_reads a b seat now words caller spot n later moment others users tokens pass
     let before = call_of a seat now words (put_of caller spot n) in
     let behind = call_of b later moment others (get_of caller spot) in
     let token : token_rule (access_of b) behind ≡ token_rule (access_of a) before =
-    ap (λ (o : Option ℕ). if is_some o then None else Some denial.Token) who in
+    ap (λ (o : Option UserRow). if is_some o then None else Some denial.Token) row in
     let not_you : not_you_rule (access_of b) behind ≡ not_you_rule (access_of a) before =
     ap (λ (names : List (List ℕ)). if list_all (is_caller behind) names then None else Some denial.NotYou) (append-nil (named_in spot.user))
     ∙ ap (λ (o : Option UserRow).

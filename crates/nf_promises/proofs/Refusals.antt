@@ -1,5 +1,5 @@
 -- What refuses for want of room: a Begin alone.
-use Rattle.std.proofs.Common.{◌≡◌, Err, refl}
+use Rattle.std.proofs.Common.{◌≡◌, ℕ, List, Err, refl}
 use Rattle.std.proofs.lemmas.Bool.{false≢true}
 use Rattle.nf_dav.specs.Asked.{request_of}
 use Rattle.nf_dav.proofs.NotAsked.{unasked_refusal}
@@ -15,8 +15,8 @@ use Rattle.nf_words.specs.declared.history.Outcome.{Outcome}
 
 -- ---- a request
 
-pub request_not_full : (head : Head) → request_of head ≡ Err denial.RunFull → ⊥
-request_not_full head is = false≢true (unasked_refusal head denial.RunFull is)
+pub request_not_full : (head : Head) (early : List ℕ) → request_of head early ≡ Err denial.RunFull → ⊥
+request_not_full head early is = false≢true (unasked_refusal head early denial.RunFull is)
 
 -- ---- an End
 

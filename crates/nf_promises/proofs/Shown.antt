@@ -4,6 +4,7 @@ use Rattle.std.specs.Prelude.{Bool, true, false, Option, Some, IfSome}
 use Rattle.std.specs.Io.KnownBytes.{Appends}
 use Rattle.nf_dav.specs.Reply.{continue_reply, last_manner, refusal_reply}
 use Rattle.nf_http.specs.Bodies.{CutsBody, CutsRead}
+use Rattle.nf_http.specs.Head.{length_of}
 use Rattle.nf_http.specs.Next.{Shows}
 use Rattle.nf_http.specs.declared.wire.WireFault.{WireFault}
 use Rattle.nf_http.specs.declared.wire.WireFault.TheVariants as wire
@@ -20,7 +21,7 @@ use Rattle.nf_session.specs.declared.ended.Ended.{Ended}
 use Rattle.nf_session.specs.declared.ended.Ended.TheVariants as ended
 use Rattle.nf_session.proofs.Causes.{is_whole, whole_by}
 use Rattle.nf_session.proofs.Inviting.{stops_sends}
-use Rattle.nf_promises.specs.Faults.{EndsInBody, FaultsAreShown, IsShown}
+use Rattle.nf_promises.specs.Faults.{EndsEarly, EndsInBody, FaultsAreShown, IsShown}
 
 bad_by : (by : Ended) → ◌≡◌ {A = Option Ended} (Some ended.BadMessage) (Some by) → by ≡ ended.BadMessage
 bad_by by e = cc
@@ -85,22 +86,34 @@ shown_by a m b fault heads ends =
 -- ---- a turn
 
 turn_shown : {C : Type 0} (reads : C → ℕ → C → Type 0) (last : Bool) (a b : Scene C) → Turn reads last a b (Some ended.BadMessage)
-    → ((fault : WireFault) × IsShown a b fault) ⊎ EndsInBody reads a b
+    → ((fault : WireFault) × IsShown a b fault) ⊎ EndsInBody reads a b ⊎ EndsEarly a b
 turn_shown reads last a b (inl ends) =
     let never : ◌≡◌ {A = Option Ended} (Some ended.BadMessage) (Some ended.Closed) = ends.1 in absurd (cc)
 turn_shown reads last a b (inr (inl (m, fault, by, heads, ends, is))) =
     inl (fault, shown_by a m b fault heads (subst (λ (z : Ended). EndsBy fault m b z) (bad_by by is) ends))
-turn_shown reads last a b (inr (inr (m, head, heads, (judged, begun, judges, inl stops)))) =
-    absurd (subst (λ (z : Ended). Sends {T = Unit {0}} judged stops.sent continue_reply (Err z)) (bad_by stops.by stops.ends)
-    (stops_sends head begun judged stops.sent (Unit {0}) stops.by stops.invites))
-turn_shown reads last a b (inr (inr (m, head, heads, (judged, begun, judges, inr (invited, invites, inl answers))))) =
-    absurd (answered_not_bad last (way_of head begun) answers.response answers.taken answers.sent answers.result answers.responds
-    answers.ends)
-turn_shown reads last a b (inr (inr (m, head, heads, (judged, begun, judges, inr (invited, invites, inr cut))))) =
-    inr (record {
+turn_shown reads last a b (inr (inr (m, head, heads, inl cut))) =
+    inr (inr (record {
       head = head;
       behind = m;
       heads = heads;
+      cut = cut;
+      truncated = body_truncated m.input cut.cut.input (length_of head) cut.fault cut.cut b cut.takes.1.cut
+          (subst (λ (z : Ended). EndsBy cut.fault cut.cut b z) (bad_by cut.by cut.ends) cut.responds);
+    }))
+turn_shown reads last a b (inr (inr (m, head, heads, inr (taken, early, takes, (judged, begun, judges, inl stops))))) =
+    absurd (subst (λ (z : Ended). Sends {T = Unit {0}} judged stops.sent continue_reply (Err z)) (bad_by stops.by stops.ends)
+    (stops_sends head begun judged stops.sent (Unit {0}) stops.by stops.invites))
+turn_shown reads last a b (inr (inr (m, head, heads, inr (taken, early, takes, (judged, begun, judges, inr (invited, invites, inl answers)))))) =
+    absurd (answered_not_bad last (way_of head begun) answers.response answers.taken answers.sent answers.result answers.responds
+    answers.ends)
+turn_shown reads last a b (inr (inr (m, head, heads, inr (taken, early, takes, (judged, begun, judges, inr (invited, invites, inr cut)))))) =
+    inr (inl (record {
+      head = head;
+      behind = m;
+      heads = heads;
+      taken = taken;
+      early = early;
+      takes = takes;
       judged = judged;
       begun = begun;
       judges = judges;
@@ -109,7 +122,7 @@ turn_shown reads last a b (inr (inr (m, head, heads, (judged, begun, judges, inr
       cut = cut;
       truncated = cut_truncated begun invited.input cut.cut.input _ cut.fault cut.cut cut.sent cut.takes.cut
           (subst (λ (z : Ended). EndsBy cut.fault cut.cut cut.sent z) (bad_by cut.by cut.ends) cut.responds);
-    })
+    }))
 
 pub faults_shown : {C : Type 0} (reads : C → ℕ → C → Type 0) → FaultsAreShown reads
 faults_shown reads a b session = turn_shown reads _ session.before b session.turn

@@ -29,9 +29,10 @@ writes_all {C} a b only =
 
 -- ---- the book and the clock alone
 
-pub judges_only : {C : Type 0} (reads : C → ℕ → C → Type 0) (head : Head) (a b : Scene C) (v : Begun) → Judges reads head a b v → OnlyAsks a b
-judges_only reads head a b (begun.Unasked refusal) (is, same) = asks_none a b same
-judges_only reads head a b (begun.Asked answer) (r, now, asked, read, begins, only) = only
+pub judges_only : {C : Type 0} (reads : C → ℕ → C → Type 0) (head : Head) (early : List ℕ) (a b : Scene C) (v : Begun)
+    → Judges reads head early a b v → OnlyAsks a b
+judges_only reads head early a b (begun.Unasked refusal) (is, same) = asks_none a b same
+judges_only reads head early a b (begun.Asked answer) (r, now, asked, read, begins, only) = only
 
 pub passes_only : {C : Type 0} (reads : C → ℕ → C → Type 0) (body : List ℕ) (a b : Scene C) (begun : Begun) (v : Response)
     → Passes reads body a b begun v → OnlyAsks a b

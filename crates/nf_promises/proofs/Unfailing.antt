@@ -17,7 +17,7 @@ use Rattle.nf_outside.specs.Causes.{Rose}
 use Rattle.nf_words.specs.declared.answer.Damage.{Damage}
 use Rattle.nf_words.specs.declared.answer.Denial.{Denial}
 use Rattle.nf_words.specs.declared.answer.Denial.TheVariants as denial
-use Rattle.nf_session.specs.Prelude.{Answers, Book, CutsShort, denial_of, end_by, end_of, end_of_close, end_of_denial, EndsBy, EndsSo, FailsPiece, how_of, Lasts, manner_of, Meets, next_blob_of, OnlyReads, OthersCame, Responds, Says, Scene, SendsFile, stays_granted, StopsShort, Struck, TellsDamage, TellsStill, Turn, Way, way_of, Writes}
+use Rattle.nf_session.specs.Prelude.{Answers, Book, CutsEarly, CutsShort, denial_of, end_by, end_of, end_of_close, end_of_denial, EndsBy, EndsSo, FailsPiece, how_of, Lasts, manner_of, Meets, MeetsWith, next_blob_of, OnlyReads, OthersCame, Responds, Says, Scene, SendsFile, stays_granted, StopsShort, Struck, TellsDamage, TellsStill, Turn, Way, way_of, Writes}
 use Rattle.nf_session.specs.declared.backend.Ending.TheVariants as ending
 use Rattle.nf_session.specs.declared.backend.PieceFault.{PieceFault}
 use Rattle.nf_session.specs.declared.backend.PieceFault.TheVariants as fault
@@ -26,7 +26,7 @@ use Rattle.nf_session.specs.declared.ended.Ended.{Ended}
 use Rattle.nf_session.specs.declared.ended.Ended.TheVariants as ended
 use Rattle.nf_session.specs.declared.response.Response.{Response}
 use Rattle.nf_session.specs.declared.response.Response.TheVariants as response
-use Rattle.nf_session.proofs.Calm.{Calm, calm_of, calm_then, closes_go, goes_then, heads_go, invites_go, judges_go, same_goes, takes_go}
+use Rattle.nf_session.proofs.Calm.{Calm, calm_of, calm_then, closes_go, early_goes, goes_then, heads_go, invites_go, judges_go, same_goes, takes_go}
 use Rattle.nf_session.proofs.Causes.{through_goes}
 use Rattle.nf_session.proofs.Inviting.{stops_sends}
 use Rattle.nf_session.proofs.Lasting.{lasts_then}
@@ -134,6 +134,11 @@ module _ {C : Type 0} (a b : Scene C) (nothing : NothingFails a b) (whole : Stay
       (cut_whole ℕ x cuts.cut cuts.sent cuts.fault cuts.by before (calm_of (closes_go reads ending.Gone _ cuts.sent b cuts.closes))
       cuts.takes.only cuts.takes.cause cuts.responds)
 
+  pub early_whole : (head : Head) (x : Scene C) (end : Option Ended) → Calm a x → CutsEarly head x b end → IsRefused end
+  early_whole head x end before cuts =
+      subst (λ (e : Option Ended). IsRefused e) (sym cuts.ends)
+      (cut_whole ℕ x cuts.cut b cuts.fault cuts.by before (calm_of (same_goes b b 0 refl)) cuts.takes.1.only cuts.takes.1.cause cuts.responds)
+
 -- ---- how a session ends
 
 close_well : (closes : Bool) → IsWell (end_of_close closes)
@@ -170,14 +175,19 @@ module _ {C : Type 0} (reads : C → ℕ → C → Type 0) (a b : Scene C) (noth
   refused_well end (inr is) = well_by end _ is tt
 
   meets_well : (last : Bool) (head : Head) (x : Scene C) (end : Option Ended) → Calm a x → Meets reads last head x b end → IsWell end
-  meets_well last head x end before (n, u, judges, inl stops) =
-      well_by end _ (stop_whole a b nothing whole reads head u n end (calm_then a x n before (calm_of (judges_go reads head x n u judges))) stops) tt
-  meets_well last head x end before (n, u, judges, inr (t, invites, inl answers)) =
-      answers_well last head u t end
-      (calm_then a x t before (calm_of (goes_then (judges_go reads head x n u judges) (invites_go head u n t invites)))) answers
-  meets_well last head x end before (n, u, judges, inr (t, invites, inr cuts)) =
-      refused_well end (short_whole a b nothing whole reads head u t end
-      (calm_then a x t before (calm_of (goes_then (judges_go reads head x n u judges) (invites_go head u n t invites)))) cuts)
+  meets_well last head x end before (inl cut) = refused_well end (early_whole a b nothing whole head x end before cut)
+  meets_well last head x end before (inr (m, early, takes, meets)) =
+      here (calm_then a x m before (calm_of (early_goes head x m early takes))) meets
+    where
+      here : Calm a m → MeetsWith reads last head early m b end → IsWell end
+      here before (n, u, judges, inl stops) =
+          well_by end _ (stop_whole a b nothing whole reads head u n end (calm_then a m n before (calm_of (judges_go reads head early m n u judges))) stops) tt
+      here before (n, u, judges, inr (t, invites, inl answers)) =
+          answers_well last head u t end
+          (calm_then a m t before (calm_of (goes_then (judges_go reads head early m n u judges) (invites_go head u n t invites)))) answers
+      here before (n, u, judges, inr (t, invites, inr cuts)) =
+          refused_well end (short_whole a b nothing whole reads head u t end
+          (calm_then a m t before (calm_of (goes_then (judges_go reads head early m n u judges) (invites_go head u n t invites)))) cuts)
 
   turn_well : (last : Bool) (x : Scene C) (end : Option Ended) → Calm a x → Turn reads last x b end → IsWell end
   turn_well last x end before (inl (heads, is)) = well_by end _ is tt

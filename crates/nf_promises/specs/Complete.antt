@@ -1,5 +1,5 @@
 -- What a message gets while nothing fails: the bytes of its step's answer, or that there was no memory.
-use Rattle.std.specs.Prelude.{◌≡◌, ◌⊎◌, ℕ, ◌-◌, ◌^◌, ◌<◌, Bool, ◌||◌, List, ◌∷◌, ◌++◌, length, Option, None, Some, IsSome, Ok, Err}
+use Rattle.std.specs.Prelude.{◌≡◌, ◌⊎◌, ℕ, ◌-◌, ◌^◌, ◌<◌, Bool, true, ◌||◌, List, ◌∷◌, ◌++◌, length, Option, None, Some, IsSome, Ok, Err}
 use Rattle.std.specs.List.{concat}
 use Rattle.std.specs.Io.KnownBytes.{Appends}
 use Rattle.sha2.specs.Sha256.{sha256}
@@ -7,11 +7,11 @@ use Rattle.nf_base.specs.declared.limits.TheConstants.{MAX_ENTRIES}
 use Rattle.nf_base.specs.Content.{size_of}
 use Rattle.nf_base.specs.declared.content.Piece.{Piece}
 use Rattle.nf_dav.specs.Asked.{request_of}
-use Rattle.nf_dav.specs.Reply.{done_reply, file_head, listing_reply, made_reply, refusal_reply}
+use Rattle.nf_dav.specs.Reply.{done_reply, file_head, listing_reply, made_reply, plain_reply, refusal_reply, share_reply, shares_reply}
 use Rattle.nf_dav.specs.declared.replies.Manner.{Manner}
 use Rattle.nf_http.specs.Bodies.{TakesBody}
 use Rattle.nf_http.specs.Head.{Head, closes_session}
-use Rattle.nf_session.specs.Prelude.{Answer, AreGiven, Book, entries_wanted, Heads, Meets, no_words, Scene, Session, state_after, WasDamaged}
+use Rattle.nf_session.specs.Prelude.{Answer, AreGiven, Book, entries_wanted, Heads, is_early, Meets, no_words, Scene, Session, state_after, TakesEarly, WasDamaged}
 use Rattle.nf_session.specs.declared.ended.Ended.{Ended}
 use Rattle.nf_session.specs.declared.ended.Ended.TheVariants as ended
 use Rattle.nf_words.specs.Prelude.{answer_to}
@@ -82,6 +82,9 @@ abbrev pub Says : {C : Type 0} → Head → Bool → Answer → Scene C → Scen
 Says head close (Ok reply.Made) a b = Appends a.output b.output (made_reply close)
 Says head close (Ok reply.Done) a b = Appends a.output b.output (done_reply close)
 Says head close (Ok (reply.Listing lines)) a b = Appends a.output b.output (listing_reply close lines)
+Says head close (Ok (reply.Share line)) a b = Appends a.output b.output (share_reply close line)
+Says head close (Ok (reply.Shares lines)) a b = Appends a.output b.output (shares_reply close lines)
+Says head close (Ok reply.Plain) a b = Appends a.output b.output (plain_reply close)
 Says head close (Ok (reply.Granted (Serve content))) a b = SaysFile close content a b
 Says head close (Ok (reply.Granted (Store by key size))) a b = SaysStored head close size a b
 Says head close (Ok reply.Closed) a b = ⊥
@@ -103,12 +106,23 @@ IsMet last head r a b end =
     IsWanting head a b end ⊎ ((end ≡ Some ended.RunFull) × (MAX_ENTRIES < entries_wanted b.book)) ⊎ (end ≡ Some ended.BadMessage)
     ⊎ ((answer : Answer) × IsAnswerOf a.book b.book (Begin no_words r) answer × Says head (last || closes_session head) answer a b)
 
+-- the body that its request may go by was taken, if it has one, and by that its request is met
+pub record IsMetBy {C : Type 0} (last : Bool) (head : Head) (a b : Scene C) (end : Option Ended) : Type 0 where
+  pub body : List ℕ
+  pub taken : Scene C
+  pub takes : TakesEarly head a taken (Ok body)
+  pub met : (r : Request) → request_of head body ≡ Ok r → IsMet last head r taken b end
+
+-- or such a body was cut, or there was no memory for it: then the session ended so
+abbrev pub IsCutEarly : Head → Option Ended → Type 0
+IsCutEarly head end = (is_early head ≡ true) × ((end ≡ Some ended.Memory) ⊎ (end ≡ Some ended.BadMessage))
+
 -- each message with a request is, at which nothing fails
 abbrev pub Completes : {C : Type 0} → (C → ℕ → C → Type 0) → Type 0
 Completes {C} reads =
-    (last : Bool) (a m b : Scene C) (head : Head) (r : Request) (end : Option Ended)
-    → Heads a m (Ok (Some head)) → request_of head ≡ Ok r → Meets reads last head m b end → NothingFails a b → StaysWhole a.book
-    → IsMet last head r m b end
+    (last : Bool) (a m b : Scene C) (head : Head) (end : Option Ended)
+    → Heads a m (Ok (Some head)) → Meets reads last head m b end → NothingFails a b → StaysWhole a.book
+    → IsMetBy last head m b end ⊎ IsCutEarly head end
 
 -- how a session may end in which nothing fails
 abbrev pub IsWell : Option Ended → Type 0

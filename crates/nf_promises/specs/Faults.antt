@@ -1,12 +1,12 @@
 -- Why bytes are refused that are no message.
-use Rattle.std.specs.Prelude.{◌≡◌, ◌⊎◌, ℕ, Some, Ok, Err, IfSome}
+use Rattle.std.specs.Prelude.{◌≡◌, ◌⊎◌, ℕ, List, Some, Ok, Err, IfSome}
 use Rattle.std.specs.Io.KnownBytes.{Appends}
 use Rattle.nf_dav.specs.Reply.{last_manner, refusal_reply}
 use Rattle.nf_http.specs.Head.{Head}
 use Rattle.nf_http.specs.Next.{IsOfBytes, Shows}
 use Rattle.nf_http.specs.declared.wire.WireFault.{WireFault}
 use Rattle.nf_http.specs.declared.wire.WireFault.TheVariants.{Truncated}
-use Rattle.nf_session.specs.Prelude.{CutsShort, Heads, Invites, IsFront, Judges, Scene, Session, denial_of}
+use Rattle.nf_session.specs.Prelude.{CutsEarly, CutsShort, Heads, Invites, IsFront, Judges, Scene, Session, TakesEarly, denial_of}
 use Rattle.nf_session.specs.declared.begun.Begun.{Begun}
 use Rattle.nf_session.specs.declared.ended.Ended.TheVariants.{BadMessage}
 
@@ -23,12 +23,23 @@ pub record EndsInBody {C : Type 0} (reads : C → ℕ → C → Type 0) (a b : S
   pub head : Head
   pub behind : Scene C
   pub heads : Heads a behind (Ok (Some head))
+  pub taken : Scene C
+  pub early : List ℕ
+  pub takes : TakesEarly head behind taken (Ok early)
   pub judged : Scene C
   pub begun : Begun
-  pub judges : Judges reads head behind judged begun
+  pub judges : Judges reads head early taken judged begun
   pub invited : Scene C
   pub invites : Invites {T = Unit {0}} head begun judged invited (Ok tt)
   pub cut : CutsShort reads head begun invited b (Some BadMessage)
+  pub truncated : cut.fault ≡ Truncated
+
+-- the same of a body that is taken before the request is looked for: then nothing was asked
+pub record EndsEarly {C : Type 0} (a b : Scene C) : Type 0 where
+  pub head : Head
+  pub behind : Scene C
+  pub heads : Heads a behind (Ok (Some head))
+  pub cut : CutsEarly head behind b (Some BadMessage)
   pub truncated : cut.fault ≡ Truncated
 
 -- a session that is ended by bytes that are no message shows their fault, also where neither end tells anything, or its input ended inside
@@ -36,4 +47,4 @@ pub record EndsInBody {C : Type 0} (reads : C → ℕ → C → Type 0) (a b : S
 abbrev pub FaultsAreShown : {C : Type 0} → (C → ℕ → C → Type 0) → Type 0
 FaultsAreShown {C} reads =
     (a b : Scene C) (session : Session reads a b (Some BadMessage))
-    → ((fault : WireFault) × IsShown session.before b fault) ⊎ EndsInBody reads session.before b
+    → ((fault : WireFault) × IsShown session.before b fault) ⊎ EndsInBody reads session.before b ⊎ EndsEarly session.before b

@@ -36,20 +36,23 @@ abbrev pub SaysStored : Response → Type 0
 SaysStored response.Made = Unit {0}
 SaysStored response.Done = Unit {0}
 SaysStored (response.Listing lines) = ⊥
+SaysStored (response.Share line) = ⊥
+SaysStored (response.Shares lines) = ⊥
+SaysStored response.Plain = ⊥
 SaysStored (response.Denied refusal) = ⊥
 SaysStored (response.Lost fault) = ⊥
 SaysStored (response.File content first) = ⊥
 
--- a turn took a head that asks for a PUT, and this body from the input, and answered that it was made or done
+-- a turn took a head that asks for a PUT, by no body that is taken before it is looked for, and this body from the input, and answered that it was made or done
 pub record Puts {C : Type 0} (reads : C → ℕ → C → Type 0) (last : Bool) (caller : Caller) (spot : Spot) (body : List ℕ)
     (a b : Scene C) (end : Option Ended) : Type 0 where
   pub head : Head
   pub behind : Scene C
   pub heads : Heads a behind (Ok (Some head))
-  pub asked : request_of head ≡ Ok (put_of caller spot (length body))
+  pub asked : request_of head [] ≡ Ok (put_of caller spot (length body))
   pub judged : Scene C
   pub begun : Begun
-  pub judges : Judges reads head behind judged begun
+  pub judges : Judges reads head [] behind judged begun
   pub invited : Scene C
   pub invites : Invites {T = Unit {0}} head begun judged invited (Ok tt)
   pub answers : Answers reads last head begun invited b end
@@ -62,7 +65,7 @@ pub record Gets {C : Type 0} (reads : C → ℕ → C → Type 0) (last : Bool) 
   pub head : Head
   pub behind : Scene C
   pub heads : Heads a behind (Ok (Some head))
-  pub asked : request_of head ≡ Ok (get_of caller spot)
+  pub asked : request_of head [] ≡ Ok (get_of caller spot)
   pub meets : Meets reads last head behind b end
 
 -- the answer was written whole, and is none that ends the session by itself
@@ -131,7 +134,7 @@ pub record Prints (h : RequestHead) (request : Request) : Type 0 where
   pub is_head : IsRequestHead h
   pub short : length (print_request h) ≤ MAX_HEAD
   pub sound : head_fault (head_of h) ≡ None
-  pub asks : request_of (head_of h) ≡ Ok request
+  pub asks : request_of (head_of h) [] ≡ Ok request
 
 -- what whoever waits for it is told first
 abbrev pub invitation : Head → List ℕ

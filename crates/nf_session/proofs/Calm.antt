@@ -3,14 +3,14 @@
 use Rattle.std.proofs.Common.{◌≡◌, ℕ, ◌+◌, List, [], ◌++◌, sym, ◌∙◌, ap, subst, inl, refl, arith, Ok, Err}
 use Rattle.std.proofs.KnownBytes.{Appends-nil, Appends-trans}
 use Rattle.std.specs.Io.KnownBytes.{Appends}
-use Rattle.std.specs.Prelude.{Bool, true, false, Option, None, Vec}
+use Rattle.std.specs.Prelude.{Bool, true, false, MatchBool, Option, None, Vec}
 use Rattle.std.specs.declared.alloc.Global.{Global}
 use Rattle.nf_base.specs.declared.content.Piece.{Piece}
 use Rattle.nf_dav.specs.declared.replies.Manner.{Manner}
-use Rattle.nf_http.specs.Head.{Head}
+use Rattle.nf_http.specs.Head.{Head, length_of}
 use Rattle.nf_words.specs.declared.answer.Goal.TheVariants as goal
 use Rattle.nf_words.specs.declared.answer.Reply.TheVariants as reply
-use Rattle.nf_session.specs.Prelude.{Answer, Bodies, Closes, CountsFault, failed_first, file_front, Heads, Invites, IsResponse, Judges, OnlyAsks, OnlyReads, Passes, Scene, taken_length, TakesIn, Writes, WritesPieces, Wrote}
+use Rattle.nf_session.specs.Prelude.{Answer, Bodies, Closes, CountsFault, failed_first, file_front, Heads, Invites, IsResponse, is_early, Judges, OnlyAsks, OnlyReads, Passes, Scene, taken_length, TakesEarly, TakesIn, Writes, WritesPieces, Wrote}
 use Rattle.nf_session.specs.declared.backend.Ending.{Ending}
 use Rattle.nf_session.specs.declared.begun.Begun.{Begun}
 use Rattle.nf_session.specs.declared.begun.Begun.TheVariants as begun
@@ -99,9 +99,10 @@ wrote_goes {C} a b bytes wrote = record {
 pub heads_go : {C : Type 0} (a b : Scene C) (most : ℕ) (found : Option Head) → Heads a b (Ok found) → Goes a b most 0 None
 heads_go {C} a b most found heads = reads_go a b most None heads.only (heads.cause, ap (λ (x : Scene C). x.write_faults) heads.only)
 
-pub judges_go : {C : Type 0} (reads : C → ℕ → C → Type 0) (head : Head) (a b : Scene C) (v : Begun) → Judges reads head a b v → Goes a b 1 0 None
-judges_go reads head a b (begun.Unasked refusal) (is, same) = same_goes a b 1 same
-judges_go reads head a b (begun.Asked answer) (r, now, asked, read, begins, only) =
+pub judges_go : {C : Type 0} (reads : C → ℕ → C → Type 0) (head : Head) (body : List ℕ) (a b : Scene C) (v : Begun)
+    → Judges reads head body a b v → Goes a b 1 0 None
+judges_go reads head body a b (begun.Unasked refusal) (is, same) = same_goes a b 1 same
+judges_go reads head body a b (begun.Asked answer) (r, now, asked, read, begins, only) =
     asks_go a b 1 0 only (begins_move a.book b.book now _ r answer begins)
 
 -- nobody waited to be told, or was told
@@ -110,6 +111,14 @@ invites_go head v a b invites = wrote_goes a b _ (invites_wrote head v a b (Unit
 
 pub bodies_go : {C : Type 0} (a b : Scene C) (n : ℕ) (body : List ℕ) → Bodies a b n body → Goes a b 0 0 None
 bodies_go {C} a b n body bodies = quiet a b _ 0 0 bodies.only refl refl refl (same_moves a.book b.book 0 (ap (λ (x : Scene C). x.book) bodies.only))
+
+-- a body that was taken before the request was looked for, or none
+pub early_goes : {C : Type 0} (head : Head) (a b : Scene C) (body : List ℕ) → TakesEarly head a b (Ok body) → Goes a b 0 0 None
+early_goes {C} head a b body takes = here (is_early head) takes
+  where
+    here : (early : Bool) → MatchBool early (Bodies a b (length_of head) body) ((body ≡ []) × (b ≡ a)) → Goes a b 0 0 None
+    here true bodies = bodies_go a b (length_of head) body bodies
+    here false none = same_goes a b 0 none.1
 
 -- an answer that isn't of a file has no piece
 plain_response : (answer : Answer) (v : Response) → IsResponse answer v → failed_first v ≡ 0

@@ -11,7 +11,7 @@ use Rattle.nf_words.specs.declared.answer.Denial.{Denial}
 use Rattle.nf_words.specs.declared.answer.Denial.TheVariants as denial
 use Rattle.nf_dav.specs.Reply.{continue_reply}
 use Rattle.nf_dav.specs.declared.replies.Manner.{Manner}
-use Rattle.nf_session.specs.Prelude.{Answers, CountsFault, CutsShort, denial_of, end_by, end_of, end_of_close, end_of_denial, EndsBy, EndsSo, failed_by, failed_first, failed_in, file_front, manner_of, OnlyReads, Responds, Says, Scene, SendsFile, Session, StopsShort, Through, Turn, Way, way_of, Writes, WrotePart}
+use Rattle.nf_session.specs.Prelude.{Answers, CountsFault, CutsEarly, CutsShort, denial_of, end_by, end_of, end_of_close, end_of_denial, EndsBy, EndsSo, failed_by, failed_first, failed_in, file_front, manner_of, OnlyReads, Responds, Says, Scene, SendsFile, Session, StopsShort, Through, Turn, Way, way_of, Writes, WrotePart}
 use Rattle.nf_session.specs.Laws.{SessionsFollow, failed_behind, failed_pieces, failed_through}
 use Rattle.nf_session.specs.declared.backend.Ending.TheVariants as ending
 use Rattle.nf_session.specs.declared.begun.Begun.{Begun}
@@ -19,7 +19,7 @@ use Rattle.nf_session.specs.declared.ended.Ended.{Ended}
 use Rattle.nf_session.specs.declared.ended.Ended.TheVariants as ended
 use Rattle.nf_session.specs.declared.response.Response.{Response}
 use Rattle.nf_session.specs.declared.response.Response.TheVariants as response
-use Rattle.nf_session.proofs.Calm.{Goes, closes_go, goes_first, goes_last, goes_then, heads_go, invites_go, judges_go, pieces_go, reads_go, same_goes, takes_go, writes_go, wrote_goes}
+use Rattle.nf_session.proofs.Calm.{Goes, closes_go, early_goes, goes_first, goes_last, goes_then, heads_go, invites_go, judges_go, pieces_go, reads_go, same_goes, takes_go, writes_go, wrote_goes}
 use Rattle.nf_session.proofs.Inviting.{stops_sends}
 use Rattle.nf_session.proofs.Moving.{fails_rise, same_moves, waits_move}
 use Rattle.nf_session.proofs.Turns.{sends_failed}
@@ -167,6 +167,11 @@ short_goes reads head u a b end cut =
     (goes_last (refused_goes ℕ a cut.cut cut.sent cut.fault cut.by cut.takes.only cut.takes.cause cut.responds)
     (closes_go reads ending.Gone _ cut.sent b cut.closes))
 
+pub early_short_goes : {C : Type 0} (head : Head) (a b : Scene C) (end : Option Ended) → CutsEarly head a b end → Goes a b 0 0 end
+early_short_goes head a b end cut =
+    ends_as end (Some cut.by) cut.ends
+    (refused_goes ℕ a cut.cut b cut.fault cut.by cut.takes.1.only cut.takes.1.cause cut.responds)
+
 stops_go : {C : Type 0} (reads : C → ℕ → C → Type 0) (head : Head) (u : Begun) (a b : Scene C) (end : Option Ended)
     → StopsShort reads head u a b end → Goes a b 1 0 end
 stops_go reads head u a b end stops =
@@ -181,17 +186,22 @@ turn_goes {C} reads last a b end (inl (heads, is)) =
 turn_goes reads last a b end (inr (inl (m, fault, by, heads, ends, is))) =
     ends_as end (Some by) is
     (goes_last (refused_goes (Option Head) a m b fault by heads.only heads.cause ends) (same_goes b b 3 refl))
-turn_goes reads last a b end (inr (inr (m, head, heads, (opened, u, judged, inl stops)))) =
+turn_goes reads last a b end (inr (inr (m, head, heads, inl cut))) =
+    goes_first (heads_go a m 3 (Some head) heads) (early_short_goes head m b end cut)
+turn_goes reads last a b end (inr (inr (m, head, heads, inr (n, body, takes, (opened, u, judged, inl stops))))) =
     goes_first (heads_go a m 1 (Some head) heads)
-    (goes_first (judges_go reads head m opened u judged) (stops_go reads head u opened b end stops))
-turn_goes reads last a b end (inr (inr (m, head, heads, (opened, u, judged, inr (told, invites, inl answers))))) =
+    (goes_first (early_goes head m n body takes)
+    (goes_first (judges_go reads head body n opened u judged) (stops_go reads head u opened b end stops)))
+turn_goes reads last a b end (inr (inr (m, head, heads, inr (n, body, takes, (opened, u, judged, inr (told, invites, inl answers)))))) =
     goes_first (heads_go a m 0 (Some head) heads)
-    (goes_first (judges_go reads head m opened u judged)
-    (goes_first (invites_go head u opened told invites) (answers_go reads last head u told b end answers)))
-turn_goes reads last a b end (inr (inr (m, head, heads, (opened, u, judged, inr (told, invites, inr cut))))) =
+    (goes_first (early_goes head m n body takes)
+    (goes_first (judges_go reads head body n opened u judged)
+    (goes_first (invites_go head u opened told invites) (answers_go reads last head u told b end answers))))
+turn_goes reads last a b end (inr (inr (m, head, heads, inr (n, body, takes, (opened, u, judged, inr (told, invites, inr cut)))))) =
     goes_first (heads_go a m 1 (Some head) heads)
-    (goes_first (judges_go reads head m opened u judged)
-    (goes_first (invites_go head u opened told invites) (short_goes reads head u told b end cut)))
+    (goes_first (early_goes head m n body takes)
+    (goes_first (judges_go reads head body n opened u judged)
+    (goes_first (invites_go head u opened told invites) (short_goes reads head u told b end cut))))
 
 -- ---- a session
 

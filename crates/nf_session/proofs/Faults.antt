@@ -5,7 +5,7 @@ use Rattle.nf_http.specs.declared.wire.WireFault.{WireFault}
 use Rattle.nf_http.specs.declared.wire.WireFault.TheVariants as wire
 use Rattle.nf_dav.specs.Reply.{continue_reply}
 use Rattle.nf_session.specs.Laws.{ReadFaultsStoreNothing}
-use Rattle.nf_session.specs.Prelude.{Closes, Cuts, cutting, end_by, end_of, EndsBy, Heads, is_granted, Responds, Scene, Sends, taken_length, Way, way_of}
+use Rattle.nf_session.specs.Prelude.{Closes, Cuts, cutting, end_by, end_of, EndsBy, Heads, is_granted, Responds, Scene, Sends, taken_length, TakesEarly, Way, way_of}
 use Rattle.nf_session.specs.declared.backend.Ending.TheVariants as ending
 use Rattle.nf_session.specs.declared.response.Response.{Response}
 use Rattle.nf_session.specs.declared.ended.Ended.{Ended}
@@ -35,23 +35,35 @@ read_fault reads last a b (inl ends) = let never : ◌≡◌ {A = Option Ended} 
 read_fault reads last a b (inr (inl (m, fault, by, heads, ends, is))) =
     let by_read = ends_read m b fault (subst (λ (z : Ended). EndsBy fault m b z) (read_by by is) ends) in
     inl (subst (λ (z : Scene _). Heads a z (Err wire.ReadFault)) (sym by_read.1) (subst (λ (z : WireFault). Heads a m (Err z)) by_read.0 heads))
-read_fault reads last a b (inr (inr (m, head, heads, (opened, begun, judged, inl stops)))) =
-    absurd (subst (λ (z : Ended). Sends {T = Unit {0}} opened stops.sent continue_reply (Err z)) (read_by stops.by stops.ends)
-    (stops_sends head begun opened stops.sent (Unit {0}) stops.by stops.invites))
-read_fault reads last a b (inr (inr (m, head, heads, (opened, begun, judged, inr (told, invites, inl answers))))) =
-    absurd (answered_no_read last (way_of head begun) answers.response answers.taken answers.sent answers.result answers.responds answers.ends)
-read_fault reads last a b (inr (inr (m, head, heads, (opened, begun, judged, inr (told, invites, inr cut))))) =
-    let by_read = ends_read cut.cut cut.sent cut.fault (subst (λ (z : Ended). EndsBy cut.fault cut.cut cut.sent z) (read_by cut.by cut.ends) cut.responds) in
-    inr (record {
+read_fault reads last a b (inr (inr (m, head, heads, inl cut))) =
+    let by_read = ends_read cut.cut b cut.fault (subst (λ (z : Ended). EndsBy cut.fault cut.cut b z) (read_by cut.by cut.ends) cut.responds) in
+    inr (inl (record {
       headed = m;
       head = head;
+      heads = heads;
+      cuts = subst (λ (z : Scene _). TakesEarly head m z (Err wire.ReadFault)) (sym by_read.1)
+          (subst (λ (z : WireFault). TakesEarly head m cut.cut (Err z)) by_read.0 cut.takes);
+    }))
+read_fault reads last a b (inr (inr (m, head, heads, inr (n, body, takes, (opened, begun, judged, inl stops))))) =
+    absurd (subst (λ (z : Ended). Sends {T = Unit {0}} opened stops.sent continue_reply (Err z)) (read_by stops.by stops.ends)
+    (stops_sends head begun opened stops.sent (Unit {0}) stops.by stops.invites))
+read_fault reads last a b (inr (inr (m, head, heads, inr (n, body, takes, (opened, begun, judged, inr (told, invites, inl answers)))))) =
+    absurd (answered_no_read last (way_of head begun) answers.response answers.taken answers.sent answers.result answers.responds answers.ends)
+read_fault reads last a b (inr (inr (m, head, heads, inr (n, body, takes, (opened, begun, judged, inr (told, invites, inr cut)))))) =
+    let by_read = ends_read cut.cut cut.sent cut.fault (subst (λ (z : Ended). EndsBy cut.fault cut.cut cut.sent z) (read_by cut.by cut.ends) cut.responds) in
+    inr (inr (record {
+      headed = m;
+      head = head;
+      taken = n;
+      early = body;
       asked = opened;
       begun = begun;
       invited = told;
       cut = cut.cut;
       heads = heads;
+      takes = takes;
       judged = judged;
       invites = invites;
       cuts = subst (λ (z : WireFault). Cuts (cutting begun) told cut.cut (taken_length head begun) z) by_read.0 cut.takes;
       closed = subst (λ (z : Scene _). Closes reads ending.Gone (is_granted begun) z b) by_read.1 cut.closes;
-    })
+    }))

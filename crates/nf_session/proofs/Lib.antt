@@ -8,6 +8,7 @@ pub mod Turns
 pub mod Sendings
 pub mod Moving
 pub mod Calm
+pub mod Early
 pub mod Causes
 pub mod Faults
 pub mod Books

@@ -5,7 +5,7 @@ use Rattle.std.specs.Prelude.{Bool, true, false, ◌||◌, ◌==◌, Option, Non
 use Rattle.nf_base.specs.declared.limits.TheConstants.{MAX_MESSAGES}
 use Rattle.nf_http.specs.Head.{Head, closes_session}
 use Rattle.nf_http.specs.declared.wire.WireFault.{WireFault}
-use Rattle.nf_session.specs.Prelude.{Answers, Closes, CutsShort, end_by, EndsBy, Heads, how_of, Invites, is_granted, is_unsent, Judges, Meets, Responds, Says, Scene, Sends, Session, stays_granted, StopsShort, TakesIn, Through, Turn, WrotePart}
+use Rattle.nf_session.specs.Prelude.{Answers, Closes, CutsEarly, CutsShort, end_by, EndsBy, Heads, how_of, Invites, is_granted, is_unsent, Judges, Meets, MeetsWith, Responds, Says, Scene, Sends, Session, stays_granted, StopsShort, TakesEarly, TakesIn, Through, Turn, WrotePart}
 use Rattle.nf_session.specs.Turn.{way_by}
 use Rattle.nf_session.specs.declared.backend.Ending.{Ending}
 use Rattle.nf_session.specs.declared.backend.Ending.TheVariants as ending
@@ -38,10 +38,10 @@ says_so {C} {T} a b items want (Err e) result is sends none =
 -- ---- a message
 
 -- its sender couldn't be told
-pub meets_stopped : {C : Type 0} (reads : C → ℕ → C → Type 0) (last : Bool) (head : Head) (a m n b : Scene C) (begun : Begun)
-    (by : Ended) (granted : Bool) → Judges reads head a m begun → Invites {T = Unit {0}} head begun m n (Err by)
-    → granted ≡ is_granted begun → Closes reads ending.Gone granted n b → Meets reads last head a b (Some by)
-meets_stopped reads last head a m n b begun by granted judged invites granted_is closed =
+pub meets_stopped : {C : Type 0} (reads : C → ℕ → C → Type 0) (last : Bool) (head : Head) (body : List ℕ) (a m n b : Scene C) (begun : Begun)
+    (by : Ended) (granted : Bool) → Judges reads head body a m begun → Invites {T = Unit {0}} head begun m n (Err by)
+    → granted ≡ is_granted begun → Closes reads ending.Gone granted n b → MeetsWith reads last head body a b (Some by)
+meets_stopped reads last head body a m n b begun by granted judged invites granted_is closed =
     let stops : StopsShort reads head begun m b (Some by) = record {
       sent = n;
       by = by;
@@ -51,12 +51,12 @@ meets_stopped reads last head a m n b begun by granted judged invites granted_is
     } in
     (m, begun, judged, inl stops)
 
-module _ {C : Type 0} (reads : C → ℕ → C → Type 0) (last : Bool) (head : Head) (a m n t s b : Scene C) (begun : Begun)
-    (judged : Judges reads head a m begun) (invites : Invites {T = Unit {0}} head begun m n (Ok tt)) where
+module _ {C : Type 0} (reads : C → ℕ → C → Type 0) (last : Bool) (head : Head) (body : List ℕ) (a m n t s b : Scene C) (begun : Begun)
+    (judged : Judges reads head body a m begun) (invites : Invites {T = Unit {0}} head begun m n (Ok tt)) where
   pub meets_answered : (closes : Bool) (v : Response) (written : Result (Option Ended) Ended) (granted : Bool) (how : Ending)
       (end : Option Ended) → TakesIn reads head n t begun (Ok v) → closes ≡ (closes_session head || is_unsent head begun)
       → Responds last (way_by closes head) v t s written → how ≡ how_of v written → granted ≡ stays_granted v → Closes reads how granted s b
-      → end ≡ end_by written → Meets reads last head a b end
+      → end ≡ end_by written → MeetsWith reads last head body a b end
   meets_answered closes v written granted how end takes closes_is responds how_is granted_is closed end_is =
       let answers : Answers reads last head begun n b end = record {
         taken = t;
@@ -72,7 +72,7 @@ module _ {C : Type 0} (reads : C → ℕ → C → Type 0) (last : Bool) (head :
       (m, begun, judged, inr (n, invites, inl answers))
 
   pub meets_cut : (fault : WireFault) (by : Ended) (granted : Bool) → TakesIn reads head n t begun (Err fault) → EndsBy fault t s by
-      → granted ≡ is_granted begun → Closes reads ending.Gone granted s b → Meets reads last head a b (Some by)
+      → granted ≡ is_granted begun → Closes reads ending.Gone granted s b → MeetsWith reads last head body a b (Some by)
   meets_cut fault by granted takes responds granted_is closed =
       let cuts : CutsShort reads head begun n b (Some by) = record {
         cut = t;
@@ -85,6 +85,25 @@ module _ {C : Type 0} (reads : C → ℕ → C → Type 0) (last : Bool) (head :
         ends = refl;
       } in
       (m, begun, judged, inr (n, invites, inr cuts))
+
+-- its early body was cut
+pub meets_early : {C : Type 0} (reads : C → ℕ → C → Type 0) (last : Bool) (head : Head) (a m b : Scene C) (fault : WireFault) (by : Ended)
+    → TakesEarly head a m (Err fault) → EndsBy fault m b by → Meets reads last head a b (Some by)
+meets_early reads last head a m b fault by takes responds =
+    let cuts : CutsEarly head a b (Some by) = record {
+      cut = m;
+      fault = fault;
+      by = by;
+      takes = takes;
+      responds = responds;
+      ends = refl;
+    } in
+    inl cuts
+
+-- or taken
+pub meets_with : {C : Type 0} (reads : C → ℕ → C → Type 0) (last : Bool) (head : Head) (body : List ℕ) (a m b : Scene C) (end : Option Ended)
+    → TakesEarly head a m (Ok body) → MeetsWith reads last head body m b end → Meets reads last head a b end
+meets_with reads last head body a m b end takes meets = inr (m, body, takes, meets)
 
 pub turn_met : {C : Type 0} (reads : C → ℕ → C → Type 0) (last : Bool) (a m t b : Scene C) (head : Head) (found : Option Head)
     (end : Option Ended) → found ≡ Some head → Heads a m (Ok found) → Meets reads last head m t end → b ≡ t → Turn reads last a b end

@@ -76,6 +76,9 @@ granted (Ok reply.Made) = None
 granted (Ok reply.Done) = None
 granted (Ok reply.Closed) = None
 granted (Ok (reply.Listing lines)) = None
+granted (Ok (reply.Share line)) = None
+granted (Ok (reply.Shares lines)) = None
+granted (Ok reply.Plain) = None
 granted (Err refusal) = None
 
 abbrev pub held_after : Option Goal → List (Entry × Answer) → Option Goal
@@ -177,6 +180,9 @@ IsOfBegin (Ok (reply.Granted (Serve content))) = Unit {0}
 IsOfBegin (Ok reply.Made) = Unit {0}
 IsOfBegin (Ok reply.Done) = Unit {0}
 IsOfBegin (Ok (reply.Listing lines)) = Unit {0}
+IsOfBegin (Ok (reply.Share line)) = Unit {0}
+IsOfBegin (Ok (reply.Shares lines)) = Unit {0}
+IsOfBegin (Ok reply.Plain) = Unit {0}
 IsOfBegin (Ok reply.Closed) = ⊥
 IsOfBegin (Err refusal) = Unit {0}
 
@@ -279,6 +285,9 @@ IsOfBody (Ok reply.Done) = Unit {0}
 IsOfBody (Ok reply.Closed) = ⊥
 IsOfBody (Ok (reply.Granted goal)) = ⊥
 IsOfBody (Ok (reply.Listing lines)) = ⊥
+IsOfBody (Ok (reply.Share line)) = ⊥
+IsOfBody (Ok (reply.Shares lines)) = ⊥
+IsOfBody (Ok reply.Plain) = ⊥
 IsOfBody (Err refusal) = Unit {0}
 
 -- where the entry's step stores a blob, the body is told under its number, which is given then

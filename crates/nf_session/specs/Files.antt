@@ -50,6 +50,9 @@ IsResponding b (response.Denied refusal) = held b ≡ None
 IsResponding b response.Made = held b ≡ None
 IsResponding b response.Done = held b ≡ None
 IsResponding b (response.Listing lines) = held b ≡ None
+IsResponding b (response.Share line) = held b ≡ None
+IsResponding b (response.Shares lines) = held b ≡ None
+IsResponding b response.Plain = held b ≡ None
 
 -- what is written of a file once some of its pieces were given
 abbrev pub file_front : Bool → List Piece → List (List ℕ) → List ℕ

@@ -10,7 +10,7 @@ use Rattle.nf_words.specs.declared.answer.Denial.TheVariants as denial
 use Rattle.nf_words.specs.declared.history.Entry.{Entry}
 use Rattle.nf_outside.specs.Causes.{Rose}
 use Rattle.nf_session.specs.Book.{Answer, Book, IsBook, Lasts, held, own_from, state_of}
-use Rattle.nf_session.specs.Steps.{Scene, Heads, Cuts, Invites, Judges, Closes, cutting, is_granted, taken_length}
+use Rattle.nf_session.specs.Steps.{Scene, Heads, Cuts, Invites, Judges, Closes, TakesEarly, cutting, is_granted, taken_length}
 use Rattle.nf_session.specs.Session.{Session, Through}
 use Rattle.nf_session.specs.Turn.{Turn}
 use Rattle.nf_session.specs.declared.backend.Ending.TheVariants as ending
@@ -21,16 +21,26 @@ use Rattle.nf_session.specs.declared.ended.Ended.TheVariants as ended
 use Rattle.nf_session.specs.declared.response.Response.{Response}
 use Rattle.nf_session.specs.declared.response.Response.TheVariants as response
 
+-- a head was taken, and less than the body that its request may go by: nothing was granted
+pub record LosesEarly {C : Type 0} (a b : Scene C) (fault : WireFault) : Type 0 where
+  pub headed : Scene C
+  pub head : Head
+  pub heads : Heads a headed (Ok (Some head))
+  pub cuts : TakesEarly head headed b (Err fault)
+
 -- a head was taken and less than its body, and what was granted is gone
 pub record LosesBody {C : Type 0} (reads : C → ℕ → C → Type 0) (a b : Scene C) (fault : WireFault) : Type 0 where
   pub headed : Scene C
   pub head : Head
+  pub taken : Scene C
+  pub early : List ℕ
   pub asked : Scene C
   pub begun : Begun
   pub invited : Scene C
   pub cut : Scene C
   pub heads : Heads a headed (Ok (Some head))
-  pub judged : Judges reads head headed asked begun
+  pub takes : TakesEarly head headed taken (Ok early)
+  pub judged : Judges reads head early taken asked begun
   pub invites : Invites {T = Unit {0}} head begun asked invited (Ok tt)
   pub cuts : Cuts (cutting begun) invited cut (taken_length head begun) fault
   pub closed : Closes reads ending.Gone (is_granted begun) cut b
@@ -39,7 +49,7 @@ pub record LosesBody {C : Type 0} (reads : C → ℕ → C → Type 0) (a b : Sc
 abbrev pub ReadFaultsStoreNothing : {C : Type 0} → (C → ℕ → C → Type 0) → Type 0
 ReadFaultsStoreNothing {C} reads =
     (last : Bool) (a b : Scene C) → Turn reads last a b (Some ended.ReadFault)
-    → Heads a b (Err wire.ReadFault) ⊎ LosesBody reads a b wire.ReadFault
+    → Heads a b (Err wire.ReadFault) ⊎ LosesEarly a b wire.ReadFault ⊎ LosesBody reads a b wire.ReadFault
 
 -- how often an input and an output failed, before and after: that by whose fault it ended once more, and none else
 abbrev pub CountsFault : Option Ended → ℕ → ℕ → ℕ → ℕ → Type 0
@@ -86,10 +96,30 @@ abbrev pub failed_pieces : {C : Type 0} (reads : C → ℕ → C → Type 0) (la
     → Turn reads last a b end → ℕ
 failed_pieces reads last a b end (inl ended) = 0
 failed_pieces reads last a b end (inr (inl refused)) = 0
-failed_pieces reads last a b end (inr (inr (m, head, heads, (asked, begun, judged, inl stopped)))) = 0
-failed_pieces reads last a b end (inr (inr (m, head, heads, (asked, begun, judged, inr (invited, invites, inl answers))))) =
-    failed_first answers.response + failed_behind answers.result
-failed_pieces reads last a b end (inr (inr (m, head, heads, (asked, begun, judged, inr (invited, invites, inr cut))))) = 0
+failed_pieces reads last a b end (inr (inr (m, head, heads, inl cut))) = 0
+failed_pieces reads last a b end (inr (inr (m, head, heads, inr (n, body, takes, (asked, begun, judged, inl stopped))))) = 0
+failed_pieces reads last a b end (inr (inr (
+  m,
+  head,
+  heads,
+  inr (
+    n,
+    body,
+    takes,
+    (asked, begun, judged, inr (invited, invites, inl answers)),
+  ),
+))) = failed_first answers.response + failed_behind answers.result
+failed_pieces reads last a b end (inr (inr (
+  m,
+  head,
+  heads,
+  inr (
+    n,
+    body,
+    takes,
+    (asked, begun, judged, inr (invited, invites, inr cut)),
+  ),
+))) = 0
 
 -- in some turns
 abbrev pub failed_through : {C : Type 0} (reads : C → ℕ → C → Type 0) (a : Scene C) (scenes : List (Scene C))

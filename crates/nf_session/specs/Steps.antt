@@ -1,5 +1,5 @@
 -- Scenes, and the steps of a turn, each from one scene to the next.
-use Rattle.std.specs.Prelude.{◌≡◌, ◌⊎◌, ℕ, ◌<◌, Bool, true, false, ◌&&◌, MatchBool, nat_lt, List, [], ◌∷◌, ◌++◌, length, take, if◌then◌else◌, Option, None, Some, Result, Ok, Err, IfSome, IsOk}
+use Rattle.std.specs.Prelude.{◌≡◌, ◌⊎◌, ℕ, ◌<◌, Bool, true, false, ◌&&◌, MatchBool, nat_le, nat_lt, List, [], ◌∷◌, ◌++◌, length, take, if◌then◌else◌, Option, None, Some, Result, Ok, Err, IfSome, IsOk}
 use Rattle.std.specs.Io.KnownBytes.{Appends}
 use Rattle.nf_outside.specs.Begun.{with_answer}
 use Rattle.nf_outside.specs.Causes.{Rose}
@@ -114,6 +114,21 @@ abbrev pub Says : {C T : Type 0} → Scene C → Scene C → List ℕ → Result
 Says a b bytes (Err ended.Memory) = b ≡ a
 Says a b bytes result = Sends a b bytes result
 
+-- ---- a body that is taken before the request is looked for
+
+-- there is one, and it is short enough
+abbrev pub is_early : Head → Bool
+is_early head = nat_lt 0 (length_of head) && nat_le (length_of head) (wants_body head)
+
+-- how much of a body isn't taken then
+abbrev pub left_length : Head → ℕ
+left_length head = if is_early head then 0 else length_of head
+
+-- it was taken whole, or cut, also by want of memory; and where none is taken so, nothing was done
+abbrev pub TakesEarly : {C : Type 0} → Head → Scene C → Scene C → Result (List ℕ) WireFault → Type 0
+TakesEarly head a b (Ok body) = MatchBool (is_early head) (Bodies a b (length_of head) body) ((body ≡ []) × (b ≡ a))
+TakesEarly head a b (Err fault) = (is_early head ≡ true) × Cuts CutsBody a b (length_of head) fault
+
 -- ---- the Begin
 
 -- the words of chance of a Begin: none are drawn yet
@@ -121,13 +136,14 @@ abbrev pub no_words : Words
 no_words = record { first = 0; second = 0 }
 
 -- the denial of a message without a request, or for which there is no memory
-abbrev pub IsUnasked : Head → Denial → Type 0
-IsUnasked head refusal = (request_of head ≡ Err refusal) ⊎ (refusal ≡ denial.Memory)
+abbrev pub IsUnasked : Head → List ℕ → Denial → Type 0
+IsUnasked head body refusal = (request_of head body ≡ Err refusal) ⊎ (refusal ≡ denial.Memory)
 
-abbrev pub Judges : {C : Type 0} → (C → ℕ → C → Type 0) → Head → Scene C → Scene C → Begun → Type 0
-Judges reads head a b (begun.Unasked refusal) = IsUnasked head refusal × (b ≡ a)
-Judges reads head a b (begun.Asked answer) =
-    (r : Request) × (now : ℕ) × (request_of head ≡ Ok r) × reads a.clock now b.clock
+-- a message is judged by its head, and the body that was taken before
+abbrev pub Judges : {C : Type 0} → (C → ℕ → C → Type 0) → Head → List ℕ → Scene C → Scene C → Begun → Type 0
+Judges reads head body a b (begun.Unasked refusal) = IsUnasked head body refusal × (b ≡ a)
+Judges reads head body a b (begun.Asked answer) =
+    (r : Request) × (now : ℕ) × (request_of head body ≡ Ok r) × reads a.clock now b.clock
     × Begins a.book b.book now no_words r answer × OnlyAsks a b
 
 -- something is granted, until it is ended
@@ -138,6 +154,9 @@ is_granted (begun.Asked (Ok reply.Made)) = false
 is_granted (begun.Asked (Ok reply.Done)) = false
 is_granted (begun.Asked (Ok reply.Closed)) = false
 is_granted (begun.Asked (Ok (reply.Listing lines))) = false
+is_granted (begun.Asked (Ok (reply.Share line))) = false
+is_granted (begun.Asked (Ok (reply.Shares lines))) = false
+is_granted (begun.Asked (Ok reply.Plain)) = false
 is_granted (begun.Asked (Err refusal)) = false
 
 -- what the seat holds after that
@@ -179,14 +198,14 @@ abbrev pub is_unsent : Head → Begun → Bool
 is_unsent head begun = is_refused begun && holds_back head
 
 abbrev pub skipped_length : Head → Begun → ℕ
-skipped_length head begun = if is_unsent head begun then 0 else length_of head
+skipped_length head begun = if is_unsent head begun then 0 else left_length head
 
 -- how long the body is that is to be stored
 abbrev pub stored_length : Begun → Option ℕ
 stored_length (begun.Asked (Ok (reply.Granted (goal.Store by key length)))) = Some length
 stored_length other = None
 
--- the bytes of the body that are taken: a granted body whole, and any other is skipped, where it was sent
+-- the bytes of the body that are taken then: a granted body whole, and of any other what is left is skipped, where it was sent
 abbrev pub taken_length : Head → Begun → ℕ
 taken_length head (begun.Asked (Ok (reply.Granted (goal.Store by key length)))) = length
 taken_length head other = skipped_length head other
@@ -203,6 +222,9 @@ IsResponse (Ok reply.Done) v = v ≡ response.Done
 IsResponse (Ok reply.Closed) v = ⊥
 IsResponse (Ok (reply.Granted goal)) v = ⊥
 IsResponse (Ok (reply.Listing lines)) v = v ≡ response.Listing lines
+IsResponse (Ok (reply.Share line)) v = v ≡ response.Share line
+IsResponse (Ok (reply.Shares lines)) v = v ≡ response.Shares lines
+IsResponse (Ok reply.Plain) v = v ≡ response.Plain
 IsResponse (Err refusal) v = v ≡ response.Denied refusal
 
 -- the first piece of a content is taken before anything is written

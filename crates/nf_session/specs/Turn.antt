@@ -1,15 +1,15 @@
 -- One turn of a session: a message, and its answer.
-use Rattle.std.specs.Prelude.{◌≡◌, ◌⊎◌, ℕ, Bool, true, false, ◌||◌, bytes_eq, codes, Option, None, Some, is_some, Result, Ok, Err, if◌then◌else◌}
+use Rattle.std.specs.Prelude.{◌≡◌, ◌⊎◌, ℕ, Bool, true, false, ◌||◌, bytes_eq, codes, List, Option, None, Some, is_some, Result, Ok, Err, if◌then◌else◌}
 use Rattle.nf_http.specs.Head.{Head, closes_session}
 use Rattle.nf_http.specs.declared.wire.WireFault.{WireFault}
 use Rattle.nf_words.specs.declared.answer.Denial.{Denial}
 use Rattle.nf_words.specs.declared.answer.Denial.TheVariants as denial
-use Rattle.nf_dav.specs.Reply.{refusal_reply, listing_reply, made_reply, done_reply}
+use Rattle.nf_dav.specs.Reply.{refusal_reply, listing_reply, made_reply, done_reply, share_reply, shares_reply, plain_reply}
 use Rattle.nf_dav.specs.declared.replies.Manner.{Manner}
 use Rattle.nf_routes.specs.Targets.{is_ocs}
 use Rattle.nf_session.specs.Book.{denial_of_piece}
 use Rattle.nf_session.specs.Files.{SendsFile}
-use Rattle.nf_session.specs.Steps.{Scene, Heads, Invites, Judges, TakesIn, Says, Closes, EndsBy, is_granted, is_unsent}
+use Rattle.nf_session.specs.Steps.{Scene, Heads, Invites, Judges, TakesEarly, TakesIn, Says, Closes, EndsBy, is_granted, is_unsent}
 use Rattle.nf_session.specs.declared.backend.Ending.{Ending}
 use Rattle.nf_session.specs.declared.backend.Ending.TheVariants as ending
 use Rattle.nf_session.specs.declared.begun.Begun.{Begun}
@@ -37,6 +37,9 @@ end_of closes (response.File content first) = end_of_close closes
 end_of closes response.Made = end_of_close closes
 end_of closes response.Done = end_of_close closes
 end_of closes (response.Listing lines) = end_of_close closes
+end_of closes (response.Share line) = end_of_close closes
+end_of closes (response.Shares lines) = end_of_close closes
+end_of closes response.Plain = end_of_close closes
 
 -- ---- the response
 
@@ -67,6 +70,9 @@ Writes manner (response.File content first) a b result = SendsFile manner.close 
 Writes manner response.Made a b result = Says a b (made_reply manner.close) result
 Writes manner response.Done a b result = Says a b (done_reply manner.close) result
 Writes manner (response.Listing lines) a b result = Says a b (listing_reply manner.close lines) result
+Writes manner (response.Share line) a b result = Says a b (share_reply manner.close line) result
+Writes manner (response.Shares lines) a b result = Says a b (shares_reply manner.close lines) result
+Writes manner response.Plain a b result = Says a b (plain_reply manner.close) result
 
 -- the response is written, and how it ends the session; or what kept it from being written
 abbrev pub Responds : {C : Type 0} → Bool → Way → Response → Scene C → Scene C → Result (Option Ended) Ended → Type 0
@@ -81,6 +87,9 @@ stays_granted (response.Denied refusal) = false
 stays_granted response.Made = false
 stays_granted response.Done = false
 stays_granted (response.Listing lines) = false
+stays_granted (response.Share line) = false
+stays_granted (response.Shares lines) = false
+stays_granted response.Plain = false
 
 -- a file that was written whole is sent
 abbrev pub how_of : {T : Type 0} → Response → Result T Ended → Ending
@@ -91,6 +100,9 @@ how_of (response.Denied refusal) result = ending.Gone
 how_of response.Made result = ending.Gone
 how_of response.Done result = ending.Gone
 how_of (response.Listing lines) result = ending.Gone
+how_of (response.Share line) result = ending.Gone
+how_of (response.Shares lines) result = ending.Gone
+how_of response.Plain result = ending.Gone
 
 -- how the message ends the session: by what kept its response from being written, or as the response says
 abbrev pub end_by : Result (Option Ended) Ended → Option Ended
@@ -132,13 +144,28 @@ pub record StopsShort {C : Type 0} (reads : C → ℕ → C → Type 0) (head : 
   pub closes : Closes reads ending.Gone (is_granted begun) sent b
   pub ends : end ≡ Some by
 
--- what becomes of a head that was taken: its request is judged, and whoever waits for it is told to send the body
-abbrev pub Meets : {C : Type 0} → (C → ℕ → C → Type 0) → Bool → Head → Scene C → Scene C → Option Ended → Type 0
-Meets {C} reads last head a b end =
-    (m : Scene C) × (begun : Begun) × Judges reads head a m begun
+-- a body that is taken before the request is looked for was cut: nothing was asked
+pub record CutsEarly {C : Type 0} (head : Head) (a b : Scene C) (end : Option Ended) : Type 0 where
+  pub cut : Scene C
+  pub fault : WireFault
+  pub by : Ended
+  pub takes : TakesEarly head a cut (Err fault)
+  pub responds : EndsBy fault cut b by
+  pub ends : end ≡ Some by
+
+-- the request is judged, and whoever waits for it is told to send the body
+abbrev pub MeetsWith : {C : Type 0} → (C → ℕ → C → Type 0) → Bool → Head → List ℕ → Scene C → Scene C → Option Ended → Type 0
+MeetsWith {C} reads last head body a b end =
+    (m : Scene C) × (begun : Begun) × Judges reads head body a m begun
     × (StopsShort reads head begun m b end
     ⊎ ((n : Scene C) × Invites {T = Unit {0}} head begun m n (Ok tt)
     × (Answers reads last head begun n b end ⊎ CutsShort reads head begun n b end)))
+
+-- what becomes of a head that was taken: the body that its request may go by is taken, or cut; and the request is met
+abbrev pub Meets : {C : Type 0} → (C → ℕ → C → Type 0) → Bool → Head → Scene C → Scene C → Option Ended → Type 0
+Meets {C} reads last head a b end =
+    CutsEarly head a b end
+    ⊎ ((m : Scene C) × (body : List ℕ) × TakesEarly head a m (Ok body) × MeetsWith reads last head body m b end)
 
 -- one turn: the input ended; or no message stands at its front; or one was taken
 abbrev pub Turn : {C : Type 0} → (C → ℕ → C → Type 0) → Bool → Scene C → Scene C → Option Ended → Type 0

@@ -1,8 +1,8 @@
 //! What a message's head led to, before its body was taken.
 
-ghost use Rattle.std.specs.Prelude.{◌≡◌, ◌&&◌};
+ghost use Rattle.std.specs.Prelude.{◌≡◌};
 ghost use Rattle.nf_http.specs.Head.{Head, expects_continue};
-ghost use Rattle.nf_session.specs.Steps.{holds_back as waits, is_granted as granted, is_invited as invited, is_refused as refused, is_unsent as unsent, skipped_length as skipped, stored_length as stored};
+ghost use Rattle.nf_session.specs.Steps.{holds_back as waits, is_early as early, is_granted as granted, is_invited as invited, is_refused as refused, is_unsent as unsent, left_length as left, skipped_length as skipped, stored_length as stored};
 
 use nf_dav::wants_body;
 use nf_http::Message;
@@ -56,15 +56,33 @@ impl Begun {
         self.is_refused() && holds_back(message)
     }
 
-    /// How much of a body that isn't granted is skipped.
+    /// How much of a body that isn't granted is skipped: what wasn't taken before the request was looked for.
     pub fn skipped_length(&self, message: &Message) -> usize
         ensures { result ≡ skipped message.now self.now }
     {
         if self.is_unsent(message) {
             0
         } else {
-            message.length()
+            left_length(message)
         }
+    }
+}
+
+/// There is a body, and it is taken before the request is looked for.
+pub fn is_early(message: &Message) -> bool
+    ensures { result ≡ early message.now }
+{
+    message.length() > 0 && message.length() <= wants_body(message)
+}
+
+// How much of a body isn't.
+fn left_length(message: &Message) -> usize
+    ensures { result ≡ left message.now }
+{
+    if is_early(message) {
+        0
+    } else {
+        message.length()
     }
 }
 

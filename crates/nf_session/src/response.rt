@@ -8,7 +8,7 @@ ghost use Rattle.nf_session.specs.Turn.{how_of, stays_granted as stays};
 use crate::backend::{Ending, PieceFault};
 use crate::ended::Ended;
 use nf_base::Content;
-use nf_words::{Answer, Denial, Listing, Reply};
+use nf_words::{Answer, Denial, Listing, Reply, ShareLine, ShareLines};
 
 /// What a message is answered.
 #[derive(Drop)]
@@ -21,6 +21,11 @@ pub enum Response {
     Done,
     /// What is in the folder is told.
     Listing(Listing),
+    /// What there is to tell of a share.
+    Share(ShareLine),
+    Shares(ShareLines),
+    /// What was asked of a share was done.
+    Plain,
     /// The first piece of the file isn't given.
     Lost(PieceFault),
     /// The file is sent, whose first piece was taken, if it has one.

@@ -9,18 +9,21 @@ ghost use Rattle.nf_routes.specs.Targets.{is_ocs as begins_with_ocs};
 ghost use Rattle.nf_session.specs.Book.{MayEnd, held};
 ghost use Rattle.nf_session.specs.Connections.{between, scene, IsSame};
 ghost use Rattle.nf_session.specs.Files.{IsResponding, IsStarted, SendsFile, SendsPiece, TakesPiece, file_front, taken_first};
-ghost use Rattle.nf_session.specs.Steps.{IsClosing, Heads, Bodies, Cuts, Skips, Judges, IsBegun, Invites, Passes, TakesIn, StoresBody, StartsFile, Says, Sends, Closes, EndsBy, EndsSo, skipped_length, stored_length};
-ghost use Rattle.nf_session.specs.Turn.{Meets, Responds, Turn, Writes, way_by};
+ghost use Rattle.nf_session.specs.Steps.{IsClosing, Heads, Bodies, Cuts, Skips, TakesEarly, Judges, IsBegun, Invites, Passes, TakesIn, StoresBody, StartsFile, Says, Sends, Closes, EndsBy, EndsSo, skipped_length, stored_length};
+ghost use Rattle.nf_session.specs.Turn.{Meets, MeetsWith, Responds, Turn, Writes, way_by};
 ghost use Rattle.nf_session.specs.Session.{Session};
 ghost use Rattle.nf_session.specs.declared.backend.Ending.TheVariants as ending;
 ghost use Rattle.nf_session.specs.declared.ended.Ended.TheVariants as ended;
 
 use crate::backend::{Backend, Ending, PieceFault};
-use crate::begun::Begun;
+use crate::begun::{Begun, is_early};
 use crate::ended::{Ended, closes, end_by, end_of, says_close};
 use crate::response::Response;
 use nf_base::{Content, MAX_MESSAGES, Moment};
-use nf_dav::{Manner, Unasked, continue_answer, done, file_head, listing, made, refusal, request};
+use nf_dav::{
+    Manner, Unasked, continue_answer, done, file_head, listing, made, plain, refusal, request,
+    share, shares,
+};
 use nf_http::{Buffer, Message, WireFault, next_message, read_body, send, skip_body};
 use nf_outside::{Clock, Sink, Source};
 use nf_routes::{Routes, is_ocs};
@@ -126,15 +129,31 @@ where
         }
     }
 
-    // The Begin of a message's request. Where there is no memory for that, it is refused so.
-    fn begin(&mut self, message: &Message) -> Begun
+    // Takes the body that a message's request may go by.
+    fn early(&mut self, message: &Message) -> Result<Vec<u8>, WireFault>
+        ensures same { IsSame B.Backend self.old self.new }
+        ensures ok { IfOk result (λ body. TakesEarly message.now (scene S.Ends O.Ends B.Backend self.old)
+            (scene S.Ends O.Ends B.Backend self.new) (Ok body.items)) }
+        ensures err { IfErr result (λ fault. TakesEarly message.now (scene S.Ends O.Ends B.Backend self.old)
+            (scene S.Ends O.Ends B.Backend self.new) (Err fault)) }
+        ensures book { B.book self.new.backend.now ≡ B.book self.old.backend.now }
+    {
+        if is_early(message) {
+            self.read(message.length())
+        } else {
+            Ok(Vec::new(self.alloc))
+        }
+    }
+
+    // The Begin of a message's request, which may go by the body that was taken. Where there is no memory for that, it is refused so.
+    fn begin(&mut self, message: &Message, body: &[u8]) -> Begun
         requires { held (B.book self.old.backend.now) ≡ None }
         ensures same { IsSame B.Backend self.old self.new }
-        ensures judges { Judges C.reads message.now (scene S.Ends O.Ends B.Backend self.old)
+        ensures judges { Judges C.reads message.now body.now (scene S.Ends O.Ends B.Backend self.old)
             (scene S.Ends O.Ends B.Backend self.new) result }
         ensures begun { IsBegun (B.book self.new.backend.now) result }
     {
-        match request(self.routes, self.alloc, message) {
+        match request(self.routes, self.alloc, message, body) {
             Ok(request) => {
                 let now = Moment::new(self.clock.now());
                 Begun::Asked(self.backend.begin(now, NO_WORDS, request))
@@ -201,6 +220,9 @@ where
             Begun::Asked(Ok(Reply::Made)) => Response::Made,
             Begun::Asked(Ok(Reply::Done)) => Response::Done,
             Begun::Asked(Ok(Reply::Listing(lines))) => Response::Listing(lines),
+            Begun::Asked(Ok(Reply::Share(line))) => Response::Share(line),
+            Begun::Asked(Ok(Reply::Shares(lines))) => Response::Shares(lines),
+            Begun::Asked(Ok(Reply::Plain)) => Response::Plain,
             Begun::Asked(Ok(Reply::Granted(Goal::Store { .. }) | Reply::Closed)) => unreachable!(),
             Begun::Asked(Err(denial)) | Begun::Unasked(denial) => Response::Denied(denial),
         }
@@ -272,6 +294,9 @@ where
             Response::Made => self.say(made(self.alloc, manner.close)),
             Response::Done => self.say(done(self.alloc, manner.close)),
             Response::Listing(lines) => self.say(listing(self.alloc, lines, manner.close)),
+            Response::Share(line) => self.say(share(self.alloc, line, manner.close)),
+            Response::Shares(lines) => self.say(shares(self.alloc, lines, manner.close)),
+            Response::Plain => self.say(plain(self.alloc, manner.close)),
             Response::Lost(fault) => self.say(refusal(self.alloc, &fault.denial(), manner)),
             Response::File { content, first } => self.send_file(content, first, manner.close),
         }
@@ -396,7 +421,21 @@ where
             (scene S.Ends O.Ends B.Backend self.new) result }
         ensures idle { held (B.book self.new.backend.now) ≡ None }
     {
-        let begun = self.begin(message);
+        match self.early(message) {
+            Ok(body) => self.answer_with(message, &body, last),
+            Err(fault) => Some(self.refuse(fault)),
+        }
+    }
+
+    // The same, once the body was taken that its request may go by.
+    fn answer_with(&mut self, message: &Message, body: &[u8], last: bool) -> Option<Ended>
+        requires { held (B.book self.old.backend.now) ≡ None }
+        ensures same { IsSame B.Backend self.old self.new }
+        ensures meets { MeetsWith C.reads last message.now body.now (scene S.Ends O.Ends B.Backend self.old)
+            (scene S.Ends O.Ends B.Backend self.new) result }
+        ensures idle { held (B.book self.new.backend.now) ≡ None }
+    {
+        let begun = self.begin(message, body);
         let granted = begun.is_granted();
         if let Err(ended) = self.invite(message, &begun) {
             drop(begun);

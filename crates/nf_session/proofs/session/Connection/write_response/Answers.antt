@@ -23,3 +23,18 @@ returns-in-Lost-clause-writes g c = rw c.in-Lost.is
     (says_so (scene g.S.Ends g.O.Ends g.B.Backend c.args.self.now) (scene g.S.Ends g.O.Ends g.B.Backend c.say-in-Lost.new.self)
     (λ v. v.items) _ c.refusal-in-Lost.result c.say-in-Lost.result
     (rw (sym c.denial.ensures) c.refusal-in-Lost.ensures) c.say-in-Lost.ensures.ok c.say-in-Lost.ensures.err)
+
+pub returns-in-Share-clause-writes : goal.returns-in-Share-clause-writes
+returns-in-Share-clause-writes g c = rw c.in-Share.is
+    (says_so (scene g.S.Ends g.O.Ends g.B.Backend c.args.self.now) (scene g.S.Ends g.O.Ends g.B.Backend c.say-in-Share.new.self)
+    (λ v. v.items) _ c.share.result c.say-in-Share.result c.share.ensures c.say-in-Share.ensures.ok c.say-in-Share.ensures.err)
+
+pub returns-in-Shares-clause-writes : goal.returns-in-Shares-clause-writes
+returns-in-Shares-clause-writes g c = rw c.in-Shares.is
+    (says_so (scene g.S.Ends g.O.Ends g.B.Backend c.args.self.now) (scene g.S.Ends g.O.Ends g.B.Backend c.say-in-Shares.new.self)
+    (λ v. v.items) _ c.shares.result c.say-in-Shares.result c.shares.ensures c.say-in-Shares.ensures.ok c.say-in-Shares.ensures.err)
+
+pub returns-in-Plain-clause-writes : goal.returns-in-Plain-clause-writes
+returns-in-Plain-clause-writes g c = rw c.in-Plain.is
+    (says_so (scene g.S.Ends g.O.Ends g.B.Backend c.args.self.now) (scene g.S.Ends g.O.Ends g.B.Backend c.say-in-Plain.new.self)
+    (λ v. v.items) _ c.plain.result c.say-in-Plain.result c.plain.ensures c.say-in-Plain.ensures.ok c.say-in-Plain.ensures.err)
