@@ -1,11 +1,9 @@
 -- What is told of shares has no float, so its text is known.
-use Rattle.std.proofs.Common.{◌≡◌, List, ℕ, [], ◌∷◌, Option, None, Some, refl, ap, map}
-use Rattle.std.specs.Prelude.{Bool, false, ◌||◌, decimal, option_and_then, option_map}
+use Rattle.std.proofs.Common.{◌≡◌, List, ℕ, [], ◌∷◌, Option, None, Some, refl, map}
+use Rattle.std.specs.Prelude.{false, decimal, option_and_then, option_map}
 use Rattle.serde_json.specs.Data.{Data}
 use Rattle.serde_json.specs.View.{items_of}
 use Rattle.serde_json.specs.Written.{has_float, items_have_float}
-use Rattle.nf_words.specs.declared.sharing.Recipient.{Recipient}
-use Rattle.nf_words.specs.declared.sharing.Recipient.TheVariants.{User, Group, Link}
 use Rattle.nf_words.specs.declared.sharing.ShareLine.{ShareLine}
 use Rattle.nf_dates.specs.Dates.{end_date}
 use Rattle.nf_ocs.specs.Told.{envelope, name_in, share_object, shares_array, text_or_null, token_in}
@@ -26,7 +24,7 @@ in_envelope : (inner : Data) → has_float inner ≡ false → has_float (envelo
 in_envelope inner none = rw none refl
 
 pub share_has_no_float : (share : ShareLine) → has_float (envelope (share_object share)) ≡ false
-share_has_no_float share = in_envelope _ (share_has_none share)
+share_has_no_float share = in_envelope (share_object share) (share_has_none share)
 
 pub shares_have_no_float : (shares : List ShareLine) → has_float (envelope (shares_array shares)) ≡ false
-shares_have_no_float shares = in_envelope _ (shares_have_none shares)
+shares_have_no_float shares = in_envelope (shares_array shares) (shares_have_none shares)

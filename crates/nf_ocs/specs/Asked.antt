@@ -1,5 +1,5 @@
 -- What is asked about shares (Nextcloud developer manual, OCS Share API).
-use Rattle.std.specs.Prelude.{ℕ, Bool, true, false, ◌||◌, not, List, bytes_eq, codes, Option, None, Some, Result, Ok, Err, if◌then◌else◌}
+use Rattle.std.specs.Prelude.{ℕ, Bool, true, false, not, List, bytes_eq, codes, Option, Some, Result, Ok, Err, if◌then◌else◌}
 use Rattle.nf_http.specs.Head.{Head}
 use Rattle.nf_routes.specs.Targets.{query_of}
 use Rattle.nf_routes.specs.declared.methods.Method.{Method}
@@ -9,7 +9,6 @@ use Rattle.nf_words.specs.declared.answer.Denial.TheVariants as denial
 use Rattle.nf_words.specs.declared.answer.Parameter.TheVariants as parameter
 use Rattle.nf_words.specs.declared.request.ShareAsk.{ShareAsk}
 use Rattle.nf_words.specs.declared.request.ShareAsk.TheVariants as ask
-use Rattle.nf_words.specs.declared.request.Spot.{Spot}
 use Rattle.nf_words.specs.declared.route.Route.{Route}
 use Rattle.nf_words.specs.declared.route.Route.TheVariants as route
 use Rattle.nf_ocs.specs.Bodies.{body_of, says_ocs}
@@ -19,7 +18,7 @@ use Rattle.nf_ocs.specs.Sent.{given_in}
 use Rattle.nf_ocs.specs.declared.asked.Topic.{Topic}
 use Rattle.nf_ocs.specs.declared.asked.Topic.TheVariants as topic
 use Rattle.nf_ocs.specs.declared.parameters.ShareType.{ShareType}
-use Rattle.nf_ocs.specs.declared.parameters.ShareType.TheVariants.{User, Group, Link}
+use Rattle.nf_ocs.specs.declared.parameters.ShareType.TheVariants.{User}
 use Rattle.nf_ocs.specs.declared.sent.Given.{Given}
 use Rattle.nf_ocs.specs.declared.sent.Given.TheVariants.{Text}
 

@@ -1,5 +1,5 @@
 -- The parameters of what is asked about shares, each of them by what is given for it (Nextcloud developer manual, OCS Share API).
-use Rattle.std.specs.Prelude.{ℕ, Bool, true, false, ◌&&◌, ◌==◌, not, nat_le, nat_lt, List, [], length, take, drop, codes, bytes_eq, Option, None, Some, is_some, option_and_then, Result, Ok, Err, if◌then◌else◌, ⊤}
+use Rattle.std.specs.Prelude.{ℕ, Bool, true, ◌&&◌, ◌==◌, not, nat_le, nat_lt, List, [], length, take, drop, codes, bytes_eq, Option, None, Some, is_some, option_and_then, Result, Ok, Err, if◌then◌else◌}
 use Rattle.std.specs.List.{slice_split}
 use Rattle.std.specs.Option.{option_map_or}
 use Rattle.nf_base.specs.Naming.{name_fault, path_fault}

@@ -1,5 +1,5 @@
 -- The parameters that are sent: in a form (URL Standard, section 5.1) or in a JSON object (RFC 8259, section 4).
-use Rattle.std.specs.Prelude.{ℕ, Bool, true, List, [], ◌∷◌, bytes_eq, Option, None, Some, option_map, option_and_then, is_some, if◌then◌else◌}
+use Rattle.std.specs.Prelude.{ℕ, List, bytes_eq, Option, None, Some, option_and_then, is_some, if◌then◌else◌}
 use Rattle.std.specs.List.{find}
 use Rattle.std.specs.Option.{option_map_or}
 use Rattle.std.specs.Str.{is_utf8}

@@ -1,5 +1,5 @@
 -- The JSON of what is told of shares (Nextcloud developer manual, OCS Share API; RFC 8259).
-use Rattle.std.specs.Prelude.{ℕ, List, [], map, codes, decimal, Option, None, Some, option_map, option_and_then}
+use Rattle.std.specs.Prelude.{ℕ, List, map, codes, decimal, Option, None, Some, option_map, option_and_then}
 use Rattle.std.specs.Option.{option_map_or}
 use Rattle.serde_json.specs.Data.{Data, null, number, string, array, object, member, no_members, no_items, unsigned}
 use Rattle.serde_json.specs.View.{items_of}

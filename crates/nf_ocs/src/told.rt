@@ -27,8 +27,7 @@ pub fn share_text(alloc: Global, share: &ShareLine) -> Result<String, AllocError
 pub fn shares_text(alloc: Global, shares: &ShareLines) -> Result<String, AllocError>
     ensures { IfOk result (λ text. string_bytes text ≡ shares_body shares.now) }
 {
-    let values = Value::Array(share_values(alloc, shares.lines())?);
-    envelope(alloc, values)?.to_string(alloc)
+    envelope(alloc, shares_value(alloc, shares)?)?.to_string(alloc)
 }
 
 /// And that of nothing.
@@ -62,6 +61,12 @@ fn meta(alloc: Global) -> Result<Value, AllocError>
     )
 }
 
+fn shares_value(alloc: Global, shares: &ShareLines) -> Result<Value, AllocError>
+    ensures { IfOk result (λ value. view value ≡ shares_array shares.now) }
+{
+    Ok(Value::Array(share_values(alloc, shares.lines())?))
+}
+
 fn share_values(alloc: Global, shares: &[ShareLine]) -> Result<Vec<Value>, AllocError>
     ensures { IfOk result (λ values. map view values.items ≡ map share_object shares.now) }
 {
@@ -78,14 +83,33 @@ fn share_value(alloc: Global, share: &ShareLine) -> Result<Value, AllocError>
     let expiration = expiration(alloc, share.until)?;
     let id = number_text(alloc, share.id)?;
     let parent = parent_text(alloc, share.parent)?;
+    value_with(alloc, share, &expiration, &id, &parent)
+}
+
+// The object of a share, with the texts of its dates and numbers.
+fn value_with<'a>(
+    alloc: Global,
+    share: &'a ShareLine,
+    expiration: &'a Option<String>,
+    id: &'a String,
+    parent: &'a Option<String>,
+) -> Result<Value, AllocError>
+    requires expiration { option_map string_bytes expiration.now ≡ option_and_then date_of_end share.now.until }
+    requires id { string_bytes id.now ≡ decimal share.now.id }
+    requires parent { option_map string_bytes parent.now ≡ option_map decimal share.now.parent }
+    ensures { IfOk result (λ value. view value ≡ share_object share.entry.now) }
+{
     object_of(
         alloc,
         &[
-            ("expiration", said(&expiration)),
+            ("expiration", said(expiration)),
             ("file_source", Said::Number(share.node.number())),
-            ("id", Said::Text(&id)),
-            ("parent", said(&parent)),
-            ("permissions", Said::Number(u64::from(share.permissions.bits()))),
+            ("id", Said::Text(id)),
+            ("parent", said(parent)),
+            (
+                "permissions",
+                Said::Number(u64::from(share.permissions.bits())),
+            ),
             ("share_type", Said::Number(type_number(&share.to))),
             ("share_with", name(&share.to)),
             ("token", token(&share.to)),

@@ -1,11 +1,11 @@
-use Rattle.std.proofs.Common.{◌≡◌, ℕ, List, Bool, true, false, refl}
+use Rattle.std.proofs.Common.{◌≡◌, Bool, true, false, refl}
 use Rattle.std.specs.Str.{is_utf8}
 use Rattle.std.proofs.lemmas.Str.{IsUtf8-from_is_utf8, is_utf8-from_IsUtf8}
 use Rattle.nf_ocs.proofs.sent.object_in.Goals as goal
 
 no_text : (test : Bool) → (test ≡ true → ⊥) → test ≡ false
-no_text true no = absurd (no refl)
-no_text false no = refl
+no_text true never = absurd (never refl)
+no_text false never = refl
 
 pub returns-in-Ok : goal.returns-in-Ok
 returns-in-Ok c =
