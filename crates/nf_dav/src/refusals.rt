@@ -5,7 +5,9 @@ ghost use Rattle.std.specs.String.{string_bytes};
 ghost use Rattle.serde_json.specs.View.{view};
 ghost use Rattle.nf_dav.specs.Reply.{envelope as envelope_of, locked_object, meta_object, refusal_body, refusal_object};
 
-use crate::words::{cause_word, code, fault_word, field_word, limit_word, link_word, reason, rule_word};
+use crate::words::{
+    cause_word, code, fault_word, field_word, limit_word, link_word, reason, rule_word,
+};
 use nf_json::{Said, object_of, text_of};
 use nf_words::{Denial, LockKey};
 use serde_json::{Map, Value, put};

@@ -7,8 +7,8 @@ ghost use Rattle.nf_dav.specs.Reply.{own_line as own, allow_line as allowing, cl
 use crate::listings::listing_text;
 use crate::refusals::refusal_text;
 use crate::words::status;
-use nf_routes::allow;
 use nf_ocs::{plain_text, share_text, shares_text};
+use nf_routes::allow;
 use nf_words::{Denial, Listing, Route, ShareLine, ShareLines};
 use std::alloc::{AllocError, Global};
 

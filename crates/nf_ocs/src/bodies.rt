@@ -23,7 +23,11 @@ pub(crate) fn says_ocs(message: &Message) -> bool
 }
 
 /// The body of a message, as far as it was handed over.
-pub(crate) fn body<'a>(alloc: Global, message: &Message, bytes: &'a [u8]) -> Result<Body<'a>, Unread>
+pub(crate) fn body<'a>(
+    alloc: Global,
+    message: &Message,
+    bytes: &'a [u8],
+) -> Result<Body<'a>, Unread>
     ensures { GivesBody (body_of message.now bytes.entry.now) result }
 {
     if message.length() > MAX_OCS_BODY {

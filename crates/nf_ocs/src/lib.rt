@@ -7,14 +7,12 @@ mod parameters;
 mod sent;
 mod told;
 
-pub use asked::{is_ocs_route, read};
-pub use told::{plain_text, share_text, shares_text};
-
-
 ghost use Rattle.std.specs.Prelude.{◌≡◌};
 
+pub use asked::{is_ocs_route, read};
 use nf_words::Denial;
 use std::alloc::AllocError;
+pub use told::{plain_text, share_text, shares_text};
 
 /// Why nothing is asked.
 #[derive(Drop)]

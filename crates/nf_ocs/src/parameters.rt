@@ -170,7 +170,11 @@ fn type_in(text: &[u8]) -> Result<ShareType, Unread>
 }
 
 /// The name of the user or the group that a share is for; none of a link.
-pub(crate) fn recipient(alloc: Global, kind: ShareType, given: Given) -> Result<Option<Name>, Unread>
+pub(crate) fn recipient(
+    alloc: Global,
+    kind: ShareType,
+    given: Given,
+) -> Result<Option<Name>, Unread>
     ensures { Gives (recipient_of kind given) result }
 {
     match kind {
