@@ -1,8 +1,9 @@
--- What is asked is asked of the files route, by one of its methods, in the files of some user.
-use Rattle.std.proofs.Common.{◌≡◌, ◌∙◌, ℕ, ◌+◌, ◌-◌, ◌≤◌, List, [], ◌∷◌, length, map, take, drop, Bool, true, false, ◌&&◌, not, if◌then◌else◌, Option, None, Some, Result, Ok, Err, codes, bytes_eq, option_map, refl, sym, ap, subst, arith, lit≤}
+-- What is asked is asked of the files route, by one of its methods, in the files of some user; or about shares.
+use Rattle.std.proofs.Common.{◌≡◌, ◌∙◌, ◌⊎◌, inl, inr, ℕ, ◌+◌, ◌-◌, ◌≤◌, List, [], ◌∷◌, length, map, take, drop, Bool, true, false, ◌&&◌, not, if◌then◌else◌, Option, None, Some, Result, Ok, Err, codes, bytes_eq, option_map, refl, sym, ap, subst, arith, lit≤}
 use Rattle.std.specs.Prelude.{IsSome, IfOk, is_some, option_and_then}
 use Rattle.std.specs.List.{slice_split}
 use Rattle.std.specs.Option.{option_map_or, option_or}
+use Rattle.std.proofs.lemmas.Bool.{false≢true}
 use Rattle.std.proofs.lemmas.List.{length-take, take-take}
 use Rattle.std.proofs.lemmas.List.Splits.{length-slice_split}
 use Rattle.std.proofs.lemmas.Option.{none-some, option_and_then_some, same_Some}
@@ -16,6 +17,7 @@ use Rattle.nf_routes.specs.declared.methods.Method.{Method}
 use Rattle.nf_routes.specs.declared.methods.Method.TheVariants as method
 use Rattle.nf_routes.specs.declared.mounts.Mount.{Mount}
 use Rattle.nf_routes.specs.declared.mounts.Mount.TheVariants as mount
+use Rattle.nf_words.specs.Asked.{is_about_shares}
 use Rattle.nf_words.specs.History.{MayWant, NamesUser}
 use Rattle.nf_words.specs.declared.answer.Denial.{Denial}
 use Rattle.nf_words.specs.declared.answer.Denial.TheVariants as denial
@@ -23,10 +25,17 @@ use Rattle.nf_words.specs.declared.answer.Parameter.TheVariants as parameter
 use Rattle.nf_words.specs.declared.request.Caller.{Caller}
 use Rattle.nf_words.specs.declared.request.Caller.TheVariants.{Absent, Token}
 use Rattle.nf_words.specs.declared.request.Request.{Request}
+use Rattle.nf_words.specs.declared.request.ShareAsk.{ShareAsk}
+use Rattle.nf_words.specs.declared.request.ShareAsk.TheVariants as ask
 use Rattle.nf_words.specs.declared.request.Spot.{Spot}
+use Rattle.nf_words.specs.declared.request.Wanted.{Wanted}
+use Rattle.nf_words.specs.declared.request.Wanted.TheVariants as wanted
 use Rattle.nf_words.specs.declared.route.Route.{Route}
 use Rattle.nf_words.specs.declared.route.Route.TheVariants as route
-use Rattle.nf_dav.specs.Asked.{Gives, caller_of, destination_of, field, files_refusal, files_request, is_destination, is_files, is_stray, on_route, request_of, routed, second_segments, spot_at, target_spot, transfer_refusal, unless_refused, wanted_of}
+use Rattle.nf_ocs.specs.Asked.{is_ocs_route, ocs_request_of}
+use Rattle.nf_ocs.specs.Read.{and_then}
+use Rattle.nf_ocs.proofs.Asks.{AsksOwn, IsFine, NamesNobody, fine_request}
+use Rattle.nf_dav.specs.Asked.{Gives, caller_of, destination_of, field, files_refusal, files_request, is_destination, is_files, is_stray, on_route, request_of, routed, second_segments, shares_request, spot_at, target_spot, transfer_refusal, unless_refused, wanted_of}
 use Rattle.nf_dav.specs.declared.requests.Unasked.{Unasked}
 
 -- ---- the route and the method
@@ -52,19 +61,37 @@ pub files_only : (r : Route) → is_files r ≡ true → r ≡ route.Files
 files_only route.Files is = refl
 files_only other is = absurd (cc)
 
-pub asked_there : (head : Head) (request : Request) → request_of head ≡ Ok request → IsAskedThere head request
+-- what is asked about shares by a method of a route
+pub record IsAskedOfShares (head : Head) (body : List ℕ) (request : Request) : Type 0 where
+  pub route : Route
+  pub method : Method
+  pub named : method_of head.method ≡ Some method
+  pub asked : shares_request route method head body ≡ Ok request
+
+pub asked_there : (head : Head) (body : List ℕ) (request : Request) → request_of head body ≡ Ok request
+    → IsAskedThere head request ⊎ IsAskedOfShares head body request
 unfolding request_of
-asked_there head request is = on (route_of head.target) refl is
+asked_there head body request is = on (route_of head.target) refl is
   where
+    which : (r : Route) (m : Method) → route_of head.target ≡ Some r → method_of head.method ≡ Some m → (test : Bool) → is_files r ≡ test
+        → (if test then files_request m head else if is_ocs_route r then shares_request r m head body else Err denial.NotBuilt) ≡ Ok request
+        → IsAskedThere head request ⊎ IsAskedOfShares head body request
+    which r m at named true files is =
+        inl (record { place = at ∙ ap Some (files_only r files); method = m; named = named; asked = is })
+    which r m at named false other is =
+        let built = granted (is_ocs_route r) denial.NotBuilt (shares_request r m head body) request is in
+        inr (record { route = r; method = m; named = named; asked = built.1 })
+
     by : (r : Route) → route_of head.target ≡ Some r → (m : Option Method) → method_of head.method ≡ m
-        → option_map_or (λ m. routed r m head) m (Err (denial.Method r)) ≡ Ok request → IsAskedThere head request
+        → option_map_or (λ m. routed r m head body) m (Err (denial.Method r)) ≡ Ok request
+        → IsAskedThere head request ⊎ IsAskedOfShares head body request
     by r at None named is = absurd (cc)
     by r at (Some m) named is =
-        let built = granted (is_files r) denial.NotBuilt (files_request m head) request (unrefused (not (takes r m)) (denial.Method r) _ request is).1 in
-        record { place = at ∙ ap Some (files_only r built.0); method = m; named = named; asked = built.1 }
+        which r m at named (is_files r) refl (unrefused (not (takes r m)) (denial.Method r) _ request is).1
 
     on : (r : Option Route) → route_of head.target ≡ r
-        → option_map_or (λ r. on_route r (method_of head.method) head) r (Err denial.NotFound) ≡ Ok request → IsAskedThere head request
+        → option_map_or (λ r. on_route r (method_of head.method) head body) r (Err denial.NotFound) ≡ Ok request
+        → IsAskedThere head request ⊎ IsAskedOfShares head body request
     on None at is = absurd (cc)
     on (Some r) at is =
         by r at (method_of head.method) refl (unrefused (is_stray r (method_of head.method)) denial.NotFound _ request is).1
@@ -144,11 +171,12 @@ front_kept n path front is long = here (bytes_eq (drop (length path - 1) path) (
         sym (take-take n (length path - 1) path shorter) ∙ is
     here false is = is
 
-pub asked_no_ocs : (head : Head) (request : Request) → request_of head ≡ Ok request → is_ocs head.target ≡ false
-asked_no_ocs head request is = here (whole_path head.target) refl
+-- a target on the files route is of no OCS request
+files_no_ocs : (head : Head) → route_of head.target ≡ Some route.Files → is_ocs head.target ≡ false
+files_no_ocs head place = here (whole_path head.target) refl
   where
     there : IsInFiles head.target
-    there = in_files head.target (asked_there head request is).place
+    there = in_files head.target place
 
     front : take 12 there.path ≡ codes "/remote.php/"
     front =
@@ -162,16 +190,33 @@ asked_no_ocs head request is = here (whole_path head.target) refl
         rw e (ap (λ bytes. is_some (if bytes_eq bytes (codes "/ocs/v2.php/") then Some (drop 12 path) else None))
         (front_kept 12 path (codes "/remote.php/") (ap (take 12) same ∙ front) refl))
 
-pub asked_no_head : (head : Head) (request : Request) → request_of head ≡ Ok request → bytes_eq head.method (codes "HEAD") ≡ false
-asked_no_head head request is = here (bytes_eq head.method (codes "HEAD")) refl
-  where
-    there : IsAskedThere head request
-    there = asked_there head request is
+-- what is asked about shares isn't anything else
+shares_only : (asked : Result ShareAsk Denial) (caller : Caller) (request : Request)
+    → and_then asked (λ ask. Ok (record { caller = caller; wanted = wanted.Share ask })) ≡ Ok request → is_about_shares request.wanted ≡ true
+shares_only (Ok ask) caller request is =
+    let same : record { caller = caller; wanted = wanted.Share ask } ≡ request = cc in
+    ap (λ (request : Request). is_about_shares request.wanted) (sym same)
+shares_only (Err refusal) caller request is = absurd (cc)
 
-    here : (test : Bool) → bytes_eq head.method (codes "HEAD") ≡ test → test ≡ false
-    here true e =
-        absurd (none-some there.method (sym (ap method_of ((bytes_eq-Decides head.method (codes "HEAD")).0 e)) ∙ there.named))
-    here false e = refl
+pub asked_no_ocs : (head : Head) (body : List ℕ) (request : Request) → request_of head body ≡ Ok request → is_about_shares request.wanted ≡ false
+    → is_ocs head.target ≡ false
+asked_no_ocs head body request is other = here (asked_there head body request is)
+  where
+    here : IsAskedThere head request ⊎ IsAskedOfShares head body request → is_ocs head.target ≡ false
+    here (inl there) = files_no_ocs head there.place
+    here (inr there) =
+        absurd (false≢true (sym other ∙ shares_only (ocs_request_of there.route there.method head body) (caller_of head) request there.asked))
+
+pub asked_no_head : (head : Head) (body : List ℕ) (request : Request) → request_of head body ≡ Ok request → bytes_eq head.method (codes "HEAD") ≡ false
+asked_no_head head body request is = by (asked_there head body request is)
+  where
+    here : (m : Method) → method_of head.method ≡ Some m → (test : Bool) → bytes_eq head.method (codes "HEAD") ≡ test → test ≡ false
+    here m named true e = absurd (none-some m (sym (ap method_of ((bytes_eq-Decides head.method (codes "HEAD")).0 e)) ∙ named))
+    here m named false e = refl
+
+    by : IsAskedThere head request ⊎ IsAskedOfShares head body request → bytes_eq head.method (codes "HEAD") ≡ false
+    by (inl there) = here there.method there.named (bytes_eq head.method (codes "HEAD")) refl
+    by (inr there) = here there.method there.named (bytes_eq head.method (codes "HEAD")) refl
 
 -- ---- what may be asked
 
@@ -217,9 +262,10 @@ second_user head none = here (field (codes "Destination") head) (first_none _ _ 
     here (Some value) is = there value (is_destination value) refl is
 
 -- nobody asks by a link there
-no_link : (caller : Caller) (spot : Spot) → IsSome spot.user → NamesUser caller spot
-no_link Absent spot user = user
-no_link (Token digest) spot user = user
+no_link : (caller : Caller) (wanted : Wanted) (spot : Spot) → is_about_shares wanted ≡ false → IsSome spot.user
+    → NamesUser (record { caller = caller; wanted = wanted }) spot
+no_link Absent wanted spot other user = user ∙ sym (ap not other)
+no_link (Token digest) wanted spot other user = user ∙ sym (ap not other)
 
 unrefused_request : (refusal : Option Denial) (given request : Request) → unless_refused refusal given ≡ Ok request → (refusal ≡ None) × (given ≡ request)
 unrefused_request None given request is = (refl, cc)
@@ -229,20 +275,51 @@ may_want_there : (head : Head) (m : Method) → length_of head ≤ MAX_BODY → 
     → MayWant (record { caller = caller_of head; wanted = wanted_of m head })
 may_want_there head m short at none = here m none
   where
-    source : NamesUser (caller_of head) (target_spot head)
-    source = no_link (caller_of head) (target_spot head) (names_user head.target at)
+    asks : Wanted → Request
+    asks wanted = record { caller = caller_of head; wanted = wanted }
 
-    target : transfer_refusal head ≡ None → NamesUser (caller_of head) (spot_at (second_segments method.Move head))
-    target none = no_link (caller_of head) (spot_at (second_segments method.Move head)) (second_user head none)
+    source : (wanted : Wanted) → is_about_shares wanted ≡ false → NamesUser (asks wanted) (target_spot head)
+    source wanted other = no_link (caller_of head) wanted (target_spot head) other (names_user head.target at)
+
+    target : (wanted : Wanted) → is_about_shares wanted ≡ false → transfer_refusal head ≡ None
+        → NamesUser (asks wanted) (spot_at (second_segments method.Move head))
+    target wanted other none =
+        no_link (caller_of head) wanted (spot_at (second_segments method.Move head)) other (second_user head none)
 
     here : (m : Method) → files_refusal m head ≡ None → MayWant (record { caller = caller_of head; wanted = wanted_of m head })
-    here method.Get none = record { short = tt; source = source; target = tt }
-    here method.Put none = record { short = short; source = tt; target = source }
-    here method.Mkcol none = record { short = tt; source = tt; target = source }
-    here method.Delete none = record { short = tt; source = source; target = tt }
-    here method.Move none = record { short = tt; source = source; target = target (first_none _ _ none) }
-    here method.Copy none = record { short = tt; source = source; target = target (first_none _ _ none) }
-    here method.Post none = record { short = tt; source = source; target = tt }
+    here method.Get none = record { short = tt; source = source (wanted_of method.Get head) refl; target = tt }
+    here method.Put none = record { short = short; source = tt; target = source (wanted_of method.Put head) refl }
+    here method.Mkcol none = record { short = tt; source = tt; target = source (wanted_of method.Mkcol head) refl }
+    here method.Delete none = record { short = tt; source = source (wanted_of method.Delete head) refl; target = tt }
+    here method.Move none = record {
+      short = tt;
+      source = source (wanted_of method.Move head) refl;
+      target = target (wanted_of method.Move head) refl (first_none _ _ none);
+    }
+    here method.Copy none = record {
+      short = tt;
+      source = source (wanted_of method.Copy head) refl;
+      target = target (wanted_of method.Copy head) refl (first_none _ _ none);
+    }
+    here method.Post none = record { short = tt; source = source (wanted_of method.Post head) refl; target = tt }
+
+-- what is asked about shares names nobody
+nobody : (caller : Caller) (ask : ShareAsk) (spot : Spot) → NamesNobody spot → NamesUser (record { caller = caller; wanted = wanted.Share ask }) spot
+nobody Absent ask spot none = ap is_some none
+nobody (Token digest) ask spot none = ap is_some none
+
+may_ask : (caller : Caller) (ask : ShareAsk) → AsksOwn ask → MayWant (record { caller = caller; wanted = wanted.Share ask })
+may_ask caller (ask.New spot to perms) own = record { short = tt; source = nobody caller (ask.New spot to perms) spot own; target = tt }
+may_ask caller (ask.List (Some spot) with_me) own =
+    record { short = tt; source = nobody caller (ask.List (Some spot) with_me) spot own; target = tt }
+may_ask caller (ask.List None with_me) own = record { short = tt; source = tt; target = tt }
+may_ask caller (ask.Show share) own = record { short = tt; source = tt; target = tt }
+may_ask caller (ask.Set share perms) own = record { short = tt; source = tt; target = tt }
+may_ask caller (ask.End share) own = record { short = tt; source = tt; target = tt }
+
+pub may_ask_so : (r : Route) (m : Method) (head : Head) (body : List ℕ) (caller : Caller) (ask : ShareAsk)
+    → ocs_request_of r m head body ≡ Ok ask → MayWant (record { caller = caller; wanted = wanted.Share ask })
+may_ask_so r m head body caller ask is = may_ask caller ask (subst (IsFine AsksOwn) is (fine_request r m head body))
 
 pub may_want : (head : Head) (m : Method) (result : Result Request Unasked) → length_of head ≤ MAX_BODY → route_of head.target ≡ Some route.Files
     → Gives (files_refusal m head) (λ request. files_request m head ≡ Ok request) result → IfOk result MayWant

@@ -13,7 +13,12 @@ use Rattle.nf_words.specs.declared.answer.Denial.TheVariants as denial
 use Rattle.nf_words.specs.declared.answer.Parameter.{Parameter}
 use Rattle.nf_words.specs.declared.answer.Parameter.TheVariants as parameter
 use Rattle.nf_words.specs.declared.request.Request.{Request}
+use Rattle.nf_words.specs.declared.request.ShareAsk.{ShareAsk}
+use Rattle.nf_words.specs.declared.request.Wanted.TheVariants as wanted
 use Rattle.nf_words.specs.declared.route.Route.{Route}
+use Rattle.nf_ocs.specs.Asked.{is_ocs_route, ocs_request_of}
+use Rattle.nf_ocs.specs.Read.{and_then}
+use Rattle.nf_ocs.proofs.Asks.{AsksOwn, IsFine, fine_request, is_of_ocs}
 use Rattle.nf_dav.specs.Asked as dav
 use Rattle.nf_dav.specs.Asked.{request_of}
 
@@ -22,6 +27,7 @@ abbrev pub is_of_request : Denial → Bool
 is_of_request denial.NotFound = true
 is_of_request (denial.Method r) = true
 is_of_request denial.NotBuilt = true
+is_of_request denial.OcsHeader = true
 is_of_request denial.Body = true
 is_of_request (denial.BadParameter p) = true
 is_of_request (denial.BadName fault) = true
@@ -90,16 +96,35 @@ on_files : (m : Method) (head : Head) → IsOfRequest (dav.files_request m head)
 on_files m head =
     unless_any (dav.files_refusal m head) _ (or_else _ _ (body m (length_of head)) (or_else _ _ (parameters m head) (names _)))
 
-by : (r : Route) (m : Option Method) (head : Head)
-    → IsOfRequest (option_map_or (λ m. dav.routed r m head) m (Err (denial.Method r)))
-by r None head = refl
-by r (Some m) head = checked (not (takes r m)) _ _ refl (checked (dav.is_files r) _ _ (on_files m head) refl)
+-- the refusals of a request about shares are among them
+ocs_too : (refusal : Denial) → is_of_ocs refusal ≡ true → is_of_request refusal ≡ true
+ocs_too denial.OcsHeader is = refl
+ocs_too denial.Body is = refl
+ocs_too (denial.BadParameter p) is = refl
+ocs_too (denial.BadName fault) is = refl
+ocs_too denial.NotBuilt is = refl
+ocs_too other is = absurd (cc)
+
+on_shares : (r : Route) (m : Method) (head : Head) (body : List ℕ) → IsOfRequest (dav.shares_request r m head body)
+on_shares r m head body = here (ocs_request_of r m head body) (fine_request r m head body)
+  where
+    here : (asked : Result ShareAsk Denial) → IsFine AsksOwn asked
+        → IsOfRequest (and_then asked (λ ask. Ok (record { caller = dav.caller_of head; wanted = wanted.Share ask })))
+    here (Ok ask) own = tt
+    here (Err refusal) is = ocs_too refusal is
+
+by : (r : Route) (m : Option Method) (head : Head) (body : List ℕ)
+    → IsOfRequest (option_map_or (λ m. dav.routed r m head body) m (Err (denial.Method r)))
+by r None head body = refl
+by r (Some m) head body =
+    checked (not (takes r m)) _ _ refl
+    (checked (dav.is_files r) _ _ (on_files m head) (checked (is_ocs_route r) _ _ (on_shares r m head body) refl))
 
 -- no other refusal comes before the site is asked
-pub unasked_refusal : (head : Head) (refusal : Denial) → request_of head ≡ Err refusal → is_of_request refusal ≡ true
+pub unasked_refusal : (head : Head) (body : List ℕ) (refusal : Denial) → request_of head body ≡ Err refusal → is_of_request refusal ≡ true
 unfolding request_of
-unasked_refusal head refusal is = subst IsOfRequest is (on (route_of head.target))
+unasked_refusal head body refusal is = subst IsOfRequest is (on (route_of head.target))
   where
-    on : (r : Option Route) → IsOfRequest (option_map_or (λ r. dav.on_route r (method_of head.method) head) r (Err denial.NotFound))
+    on : (r : Option Route) → IsOfRequest (option_map_or (λ r. dav.on_route r (method_of head.method) head body) r (Err denial.NotFound))
     on None = refl
-    on (Some r) = checked (dav.is_stray r (method_of head.method)) _ _ refl (by r (method_of head.method) head)
+    on (Some r) = checked (dav.is_stray r (method_of head.method)) _ _ refl (by r (method_of head.method) head body)

@@ -1,5 +1,6 @@
 -- The request of a message: GET, PUT and DELETE (RFC 9110, section 9.3), MKCOL, COPY and MOVE (RFC 4918, sections 9.3, 9.8 and 9.9) in
--- a user's files, by the holder of a token (RFC 6750, section 2.1).
+-- a user's files, and what is asked about shares (Nextcloud developer manual, OCS Share API), by the holder of a token (RFC 6750,
+-- section 2.1).
 use Rattle.std.specs.Prelude.{◌≡◌, ⊤, ℕ, Bool, true, false, ◌||◌, ◌&&◌, ◌==◌, nat_le, not, if◌then◌else◌, List, [], ◌∷◌, length, take, drop, codes, bytes_eq, Option, None, Some, is_some, Result, Ok, Err, option_map, option_and_then}
 use Rattle.std.specs.List.{list_any}
 use Rattle.std.specs.Option.{option_map_or, option_or}
@@ -26,6 +27,8 @@ use Rattle.nf_words.specs.declared.request.Request.{Request}
 use Rattle.nf_words.specs.declared.request.Spot.{Spot}
 use Rattle.nf_words.specs.declared.request.Wanted.{Wanted}
 use Rattle.nf_words.specs.declared.request.Wanted.TheVariants as wanted
+use Rattle.nf_ocs.specs.Asked.{is_ocs_route, ocs_request_of}
+use Rattle.nf_ocs.specs.Read.{and_then}
 use Rattle.nf_dav.specs.declared.requests.Unasked.{Unasked}
 use Rattle.nf_dav.specs.declared.requests.Unasked.TheVariants.{Refused, Memory}
 
@@ -61,7 +64,7 @@ target_spot head = spot_at (segments_of head.target)
 abbrev pub field : List ℕ → Head → Option (List ℕ)
 field name head = first_value name head.fields
 
--- only the files route is built yet
+-- the route of a user's files
 abbrev pub is_files : Route → Bool
 is_files route.Files = true
 is_files other = false
@@ -151,10 +154,17 @@ files_refusal m head = option_or (body_refusal m (length_of head)) (option_or (p
 abbrev pub files_request : Method → Head → Result Request Denial
 files_request m head = unless_refused (files_refusal m head) (record { caller = caller_of head; wanted = wanted_of m head })
 
-abbrev pub routed : Route → Method → Head → Result Request Denial
-routed route m head =
+-- a request about shares
+abbrev pub shares_request : Route → Method → Head → List ℕ → Result Request Denial
+shares_request route m head body =
+    and_then (ocs_request_of route m head body) (λ ask. Ok (record { caller = caller_of head; wanted = wanted.Share ask }))
+
+-- no other route is built yet
+abbrev pub routed : Route → Method → Head → List ℕ → Result Request Denial
+routed route m head body =
     if not (takes route m) then Err (denial.Method route)
     else if is_files route then files_request m head
+    else if is_ocs_route route then shares_request route m head body
     else Err denial.NotBuilt
 
 -- the only chunk that is moved is all of them
@@ -162,20 +172,25 @@ abbrev pub is_stray : Route → Option Method → Bool
 is_stray route.Chunk (Some method.Move) = true
 is_stray route other = false
 
-abbrev pub on_route : Route → Option Method → Head → Result Request Denial
-on_route route m head =
+abbrev pub on_route : Route → Option Method → Head → List ℕ → Result Request Denial
+on_route route m head body =
     if is_stray route m then Err denial.NotFound
-    else option_map_or (λ m. routed route m head) m (Err (denial.Method route))
+    else option_map_or (λ m. routed route m head body) m (Err (denial.Method route))
 
--- the request of a head, or its first refusal: `not-found`, `method`, `not-built`, `body`, `bad-parameter`, `bad-name`
-unfoldable pub request_of : Head → Result Request Denial
-request_of head = option_map_or (λ route. on_route route (method_of head.method) head) (route_of head.target) (Err denial.NotFound)
+-- the request of a head and of a body, as far as that is taken; or its first refusal: `not-found`, `method`, `not-built`, `ocs-header`,
+-- `body`, `bad-parameter`, `bad-name`
+unfoldable pub request_of : Head → List ℕ → Result Request Denial
+request_of head body =
+    option_map_or (λ route. on_route route (method_of head.method) head body) (route_of head.target) (Err denial.NotFound)
 
 -- what reading a request gives: it, or its refusal; want of memory is free
-abbrev pub GivesRequest : Head → Result Request Unasked → Type 0
-GivesRequest head (Ok request) = request_of head ≡ Ok request
-GivesRequest head (Err (Refused denial)) = request_of head ≡ Err denial
-GivesRequest head (Err Memory) = ⊤
+abbrev pub IsGiven : Result Request Denial → Result Request Unasked → Type 0
+IsGiven due (Ok request) = due ≡ Ok request
+IsGiven due (Err (Refused denial)) = due ≡ Err denial
+IsGiven due (Err Memory) = ⊤
+
+abbrev pub GivesRequest : Head → List ℕ → Result Request Unasked → Type 0
+GivesRequest head body result = IsGiven (request_of head body) result
 
 -- a refusal is told; want of memory is free
 abbrev pub Tells : Option Denial → Unasked → Type 0

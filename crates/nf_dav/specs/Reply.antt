@@ -19,11 +19,15 @@ use Rattle.nf_words.specs.declared.answer.LockKey.{LockKey}
 use Rattle.nf_words.specs.declared.answer.LockKey.TheVariants.{Node, Slot}
 use Rattle.nf_words.specs.declared.answer.Parameter.{Parameter}
 use Rattle.nf_words.specs.declared.answer.Parameter.TheVariants as parameter
+use Rattle.nf_words.specs.declared.answer.ShareRule.{ShareRule}
+use Rattle.nf_words.specs.declared.answer.ShareRule.TheVariants as rule
 use Rattle.nf_words.specs.declared.answer.TargetFault.{TargetFault}
 use Rattle.nf_words.specs.declared.answer.TargetFault.TheVariants as target
 use Rattle.nf_words.specs.declared.route.Route.{Route}
 use Rattle.nf_dav.specs.declared.replies.Manner.{Manner}
 use Rattle.nf_words.specs.declared.listing.ListingLine.{ListingLine}
+use Rattle.nf_words.specs.declared.sharing.ShareLine.{ShareLine}
+use Rattle.nf_ocs.specs.Told.{plain_body, share_body, shares_body}
 
 -- the status of a denial and its phrase
 abbrev pub status_of : Denial → List ℕ
@@ -36,11 +40,13 @@ status_of denial.ForbiddenName = codes "403 Forbidden"
 status_of (denial.BrokenLink share cause) = codes "403 Forbidden"
 status_of denial.NoShare = codes "403 Forbidden"
 status_of (denial.BadTarget cause) = codes "403 Forbidden"
+status_of (denial.Rule rule) = codes "403 Forbidden"
 status_of denial.NotFound = codes "404 Not Found"
 status_of (denial.Method route) = codes "405 Method Not Allowed"
 status_of (denial.Exists route) = codes "405 Method Not Allowed"
 status_of denial.NoParent = codes "409 Conflict"
 status_of denial.Overwrite = codes "412 Precondition Failed"
+status_of denial.OcsHeader = codes "412 Precondition Failed"
 status_of denial.TooLarge = codes "413 Payload Too Large"
 status_of denial.Body = codes "415 Unsupported Media Type"
 status_of (denial.Locked key) = codes "423 Locked"
@@ -64,11 +70,13 @@ reason_of denial.ForbiddenName = codes "forbidden-name"
 reason_of (denial.BrokenLink share cause) = codes "broken-link"
 reason_of denial.NoShare = codes "no-share"
 reason_of (denial.BadTarget cause) = codes "bad-target"
+reason_of (denial.Rule rule) = codes "rule"
 reason_of denial.NotFound = codes "not-found"
 reason_of (denial.Method route) = codes "method"
 reason_of (denial.Exists route) = codes "exists"
 reason_of denial.NoParent = codes "no-parent"
 reason_of denial.Overwrite = codes "overwrite"
+reason_of denial.OcsHeader = codes "ocs-header"
 reason_of denial.TooLarge = codes "too-large"
 reason_of denial.Body = codes "body"
 reason_of (denial.Locked key) = codes "locked"
@@ -112,6 +120,8 @@ link_word cause.Narrowed = codes "narrowed"
 abbrev pub limit_word : Limit → List ℕ
 limit_word limit.Nodes = codes "nodes"
 limit_word limit.Depth = codes "depth"
+limit_word limit.Shares = codes "shares"
+limit_word limit.Mounts = codes "mounts"
 limit_word limit.Pieces = codes "pieces"
 
 -- the word of a field
@@ -119,6 +129,21 @@ abbrev pub field_word : Parameter → List ℕ
 field_word parameter.Destination = codes "destination"
 field_word parameter.Overwrite = codes "overwrite"
 field_word parameter.Depth = codes "depth"
+field_word parameter.Id = codes "id"
+field_word parameter.Path = codes "path"
+field_word parameter.ShareType = codes "shareType"
+field_word parameter.ShareWith = codes "shareWith"
+field_word parameter.Permissions = codes "permissions"
+field_word parameter.ExpireDate = codes "expireDate"
+field_word parameter.Password = codes "password"
+
+-- the word of a rule of sharing
+abbrev pub rule_word : ShareRule → List ℕ
+rule_word rule.Root = codes "root"
+rule_word rule.SelfShare = codes "self"
+rule_word rule.Already = codes "already"
+rule_word rule.Widened = codes "widened"
+rule_word rule.Chain = codes "chain"
 
 -- the line of a route's methods (RFC 9110, section 10.2.1)
 abbrev pub allow_line : Route → List ℕ
@@ -151,6 +176,9 @@ field_object field = object (member (codes "field") (string field) (member (code
 abbrev pub target_object : List ℕ → Data
 target_object cause = object (member (codes "cause") (string cause) (member (codes "reason") (string (codes "bad-target")) no_members))
 
+abbrev pub rule_object : List ℕ → Data
+rule_object rule = object (member (codes "reason") (string (codes "rule")) (member (codes "rule") (string rule) no_members))
+
 abbrev pub link_object : ℕ → List ℕ → Data
 link_object share cause =
     object
@@ -182,6 +210,7 @@ refusal_object (denial.BadName f) = name_object (fault_word f)
 refusal_object (denial.BadParameter field) = field_object (field_word field)
 refusal_object (denial.BadTarget cause) = target_object (cause_word cause)
 refusal_object (denial.BrokenLink share cause) = link_object share (link_word cause)
+refusal_object (denial.Rule rule) = rule_object (rule_word rule)
 refusal_object (denial.Damaged damage) = damage_object damage.blob
 refusal_object (denial.Locked key) = locked_object key
 refusal_object (denial.Limit l) = limit_object (count_of l) (limit_word l)
@@ -198,11 +227,13 @@ code_of denial.ForbiddenName = 403
 code_of (denial.BrokenLink share cause) = 403
 code_of denial.NoShare = 403
 code_of (denial.BadTarget cause) = 403
+code_of (denial.Rule rule) = 403
 code_of denial.NotFound = 404
 code_of (denial.Method route) = 405
 code_of (denial.Exists route) = 405
 code_of denial.NoParent = 409
 code_of denial.Overwrite = 412
+code_of denial.OcsHeader = 412
 code_of denial.TooLarge = 413
 code_of denial.Body = 415
 code_of (denial.Locked key) = 423
@@ -269,10 +300,23 @@ listing_object listing = object (member (codes "entries") (array (items_of (map 
 abbrev pub listing_body : List ListingLine → List ℕ
 listing_body listing = compact_text (listing_object listing)
 
+-- an answer whose body is that JSON
+abbrev pub json_reply : Bool → List ℕ → List ℕ
+json_reply close body = head_bytes (codes "200 OK") close [] (codes "application/json") (length body) ++ body
+
 -- the answer to what is listed
 abbrev pub listing_reply : Bool → List ListingLine → List ℕ
-listing_reply close listing =
-    head_bytes (codes "200 OK") close [] (codes "application/json") (length (listing_body listing)) ++ listing_body listing
+listing_reply close listing = json_reply close (listing_body listing)
+
+-- that to what is asked about shares: a share, some shares, or nothing more
+abbrev pub share_reply : Bool → ShareLine → List ℕ
+share_reply close share = json_reply close (share_body share)
+
+abbrev pub shares_reply : Bool → List ShareLine → List ℕ
+shares_reply close shares = json_reply close (shares_body shares)
+
+abbrev pub plain_reply : Bool → List ℕ
+plain_reply close = json_reply close plain_body
 
 -- the head of an answer with a file of that size
 abbrev pub file_head : Bool → ℕ → List ℕ

@@ -3,12 +3,13 @@
 
 mod fields;
 mod listings;
-mod objects;
 mod refusals;
 mod replies;
 mod requests;
 mod spots;
 mod words;
 
-pub use replies::{Manner, continue_answer, done, file_head, listing, made, refusal};
+pub use replies::{
+    Manner, continue_answer, done, file_head, listing, made, plain, refusal, share, shares,
+};
 pub use requests::{Unasked, request, wants_body};

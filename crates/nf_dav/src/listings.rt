@@ -5,8 +5,8 @@ ghost use Rattle.std.specs.String.{string_bytes};
 ghost use Rattle.serde_json.specs.View.{view};
 ghost use Rattle.nf_dav.specs.Reply.{kind_word as word_of_kind, line_object, listing_body, listing_object};
 
-use crate::objects::{Said, object_of, text_of};
 use nf_base::NodeKind;
+use nf_json::{Said, object_of, text_of};
 use nf_words::{Listing, ListingLine};
 use serde_json::{Value, json};
 use std::alloc::{AllocError, Global};

@@ -5,8 +5,10 @@ ghost use Rattle.std.specs.String.{string_bytes};
 ghost use Rattle.serde_json.specs.View.{view};
 ghost use Rattle.nf_dav.specs.Reply.{envelope as envelope_of, locked_object, meta_object, refusal_body, refusal_object};
 
-use crate::objects::{Said, object_of, text_of};
-use crate::words::{cause_word, code, fault_word, field_word, limit_word, link_word, reason};
+use crate::words::{
+    cause_word, code, fault_word, field_word, limit_word, link_word, reason, rule_word,
+};
+use nf_json::{Said, object_of, text_of};
 use nf_words::{Denial, LockKey};
 use serde_json::{Map, Value, put};
 use std::alloc::{AllocError, Global};
@@ -74,6 +76,10 @@ fn refusal_value(alloc: Global, denial: &Denial) -> Result<Value, AllocError>
             let share = Said::Number(u64::from(share.number()));
             let cause = Said::Text(link_word(*cause));
             object_of(alloc, &[("cause", cause), reason, ("share", share)])
+        }
+        Denial::Rule(rule) => {
+            let rule = Said::Text(rule_word(*rule));
+            object_of(alloc, &[reason, ("rule", rule)])
         }
         Denial::Damaged(damage) => {
             let blob = Said::Number(damage.blob.number());

@@ -2,13 +2,14 @@
 
 ghost use Rattle.std.specs.Prelude.{◌≡◌, ◌++◌, IfOk, codes, length};
 ghost use Rattle.std.specs.String.{string_bytes};
-ghost use Rattle.nf_dav.specs.Reply.{own_line as own, allow_line as allowing, close_line as closing, continue_reply, head_bytes, refusal_reply, listing_reply, made_reply, done_reply, file_head as head_of_file};
+ghost use Rattle.nf_dav.specs.Reply.{own_line as own, allow_line as allowing, close_line as closing, continue_reply, head_bytes, json_reply, plain_reply, refusal_reply, listing_reply, made_reply, share_reply, shares_reply, done_reply, file_head as head_of_file};
 
 use crate::listings::listing_text;
 use crate::refusals::refusal_text;
 use crate::words::status;
+use nf_ocs::{plain_text, share_text, shares_text};
 use nf_routes::allow;
-use nf_words::{Denial, Listing, Route};
+use nf_words::{Denial, Listing, Route, ShareLine, ShareLines};
 use std::alloc::{AllocError, Global};
 
 /// How a refusal is written.
@@ -47,8 +48,35 @@ pub fn continue_answer() -> &'static [u8]
 pub fn listing(alloc: Global, listing: &Listing, close: bool) -> Result<Vec<u8>, AllocError>
     ensures { IfOk result (λ reply. reply.items ≡ listing_reply close listing.now) }
 {
-    let body = listing_text(alloc, listing)?;
-    let head = json_head(alloc, "200 OK", close, "", &body)?;
+    json(alloc, &listing_text(alloc, listing)?, close)
+}
+
+/// The answer to what is asked about one share.
+pub fn share(alloc: Global, share: &ShareLine, close: bool) -> Result<Vec<u8>, AllocError>
+    ensures { IfOk result (λ reply. reply.items ≡ share_reply close share.now) }
+{
+    json(alloc, &share_text(alloc, share)?, close)
+}
+
+/// That about some shares.
+pub fn shares(alloc: Global, shares: &ShareLines, close: bool) -> Result<Vec<u8>, AllocError>
+    ensures { IfOk result (λ reply. reply.items ≡ shares_reply close shares.now) }
+{
+    json(alloc, &shares_text(alloc, shares)?, close)
+}
+
+/// And that where there is nothing more to tell.
+pub fn plain(alloc: Global, close: bool) -> Result<Vec<u8>, AllocError>
+    ensures { IfOk result (λ reply. reply.items ≡ plain_reply close) }
+{
+    json(alloc, &plain_text(alloc)?, close)
+}
+
+// An answer whose body is that JSON.
+fn json(alloc: Global, body: &String, close: bool) -> Result<Vec<u8>, AllocError>
+    ensures { IfOk result (λ reply. reply.items ≡ json_reply close (string_bytes body.now)) }
+{
+    let head = json_head(alloc, "200 OK", close, "", body)?;
     joined(&head, body.as_bytes())
 }
 

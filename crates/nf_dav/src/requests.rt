@@ -6,12 +6,13 @@ ghost use Rattle.nf_base.specs.Naming.{same_ignoring_case};
 ghost use Rattle.nf_http.specs.Head.{length_of};
 ghost use Rattle.nf_words.specs.History.{MayWant};
 ghost use Rattle.nf_words.specs.declared.answer.Denial.TheVariants.{Body};
-ghost use Rattle.nf_dav.specs.Asked.{Gives, GivesRequest, body_refusal, caller_of_value, files_refusal, files_request as request_there, is_files as are_files, is_stray as strays, second_segments as second, spot_at, target_spot, wanted_of, wants_body as longest_wanted};
+ghost use Rattle.nf_dav.specs.Asked.{Gives, GivesRequest, IsGiven, body_refusal, caller_of_value, files_refusal, files_request as request_there, is_files as are_files, is_stray as strays, second_segments as second, shares_request, spot_at, target_spot, wanted_of, wants_body as longest_wanted};
 
 use crate::fields::{overwrites, second_segments};
 use crate::spots::spot;
 use nf_base::{Digest, MAX_OCS_BODY};
 use nf_http::Message;
+use nf_ocs::{Unread, is_ocs_route};
 use nf_routes::{Method, Routes, is_ocs, method_of, segments, takes};
 use nf_words::{Caller, Denial, Request, Route, Spot, Wanted};
 use std::alloc::{AllocError, Global};
@@ -47,11 +48,17 @@ pub fn wants_body(message: &Message) -> usize
     }
 }
 
-/// The request of a message; or why it has none, the first that holds of no such route, a method that the route doesn't have, not built, a
-/// body that isn't taken, a field that can't be read, and a bad name.
+/// The request of a message; or why it has none, the first that holds of no such route, a method that the route doesn't have, not built, no
+/// word that it is an OCS request, a body that isn't taken, a field that can't be read, and a bad name. Of a body that is longer than
+/// `wants_body` no byte is handed over.
 #[tactic(auto, unfolding(crate::specs::Asked::request_of))]
-pub fn request(routes: &Routes, alloc: Global, message: &Message) -> Result<Request, Unasked>
-    ensures gives { GivesRequest message.now result }
+pub fn request(
+    routes: &Routes,
+    alloc: Global,
+    message: &Message,
+    body: &[u8],
+) -> Result<Request, Unasked>
+    ensures gives { GivesRequest message.now body.now result }
     ensures may_want { IfOk result MayWant }
 {
     let Some(route) = routes.find(alloc, message.target())? else {
@@ -67,10 +74,13 @@ pub fn request(routes: &Routes, alloc: Global, message: &Message) -> Result<Requ
     if !takes(route, method) {
         return Err(Unasked::Refused(Denial::Method(route)));
     }
-    if !is_files(route) {
-        return Err(Unasked::Refused(Denial::NotBuilt));
+    if is_files(route) {
+        files_request(routes, alloc, method, message)
+    } else if is_ocs_route(route) {
+        ocs_request(alloc, route, method, message, body)
+    } else {
+        Err(Unasked::Refused(Denial::NotBuilt))
     }
-    files_request(routes, alloc, method, message)
 }
 
 // The only chunk that is moved is all of them.
@@ -80,7 +90,7 @@ fn is_stray(route: Route, method: Option<Method>) -> bool
     matches!((route, method), (Route::Chunk, Some(Method::Move)))
 }
 
-/// Only the files route is built yet.
+/// Whether the route leads to a user's files.
 pub fn is_files(route: Route) -> bool
     ensures { result ≡ are_files route }
 {
@@ -107,6 +117,27 @@ fn files_request(
         caller: caller(message.field(b"Authorization")),
         wanted: wanted(method, message, source, target),
     })
+}
+
+// A request about shares.
+fn ocs_request(
+    alloc: Global,
+    route: Route,
+    method: Method,
+    message: &Message,
+    body: &[u8],
+) -> Result<Request, Unasked>
+    ensures gives { IsGiven (shares_request route method message.now body.now) result }
+    ensures may_want { IfOk result MayWant }
+{
+    match nf_ocs::read(alloc, route, method, message, body) {
+        Ok(ask) => Ok(Request {
+            caller: caller(message.field(b"Authorization")),
+            wanted: Wanted::Share(ask),
+        }),
+        Err(Unread::Refused(denial)) => Err(Unasked::Refused(denial)),
+        Err(Unread::Memory) => Err(Unasked::Memory),
+    }
 }
 
 // Whether the method is refused for its body.

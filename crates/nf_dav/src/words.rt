@@ -1,11 +1,11 @@
 //! The words of denials, and the numbers of their status.
 
 ghost use Rattle.std.specs.Prelude.{◌≡◌};
-ghost use Rattle.nf_dav.specs.Reply.{status_of, code_of, reason_of, fault_word, cause_word, link_word, limit_word, field_word};
+ghost use Rattle.nf_dav.specs.Reply.{status_of, code_of, reason_of, fault_word, cause_word, link_word, limit_word, field_word, rule_word};
 
 use nf_access::Cause;
 use nf_base::NameFault;
-use nf_words::{Denial, Limit, Parameter, TargetFault};
+use nf_words::{Denial, Limit, Parameter, ShareRule, TargetFault};
 
 /// The status of a denial and its phrase.
 pub fn status(denial: &Denial) -> &'static str
@@ -18,11 +18,12 @@ pub fn status(denial: &Denial) -> &'static str
         | Denial::ForbiddenName
         | Denial::BrokenLink { .. }
         | Denial::NoShare
-        | Denial::BadTarget(_) => "403 Forbidden",
+        | Denial::BadTarget(_)
+        | Denial::Rule(_) => "403 Forbidden",
         Denial::NotFound => "404 Not Found",
         Denial::Method(_) | Denial::Exists(_) => "405 Method Not Allowed",
         Denial::NoParent => "409 Conflict",
-        Denial::Overwrite => "412 Precondition Failed",
+        Denial::Overwrite | Denial::OcsHeader => "412 Precondition Failed",
         Denial::TooLarge => "413 Payload Too Large",
         Denial::Body => "415 Unsupported Media Type",
         Denial::Locked(_) => "423 Locked",
@@ -45,11 +46,12 @@ pub fn code(denial: &Denial) -> u16
         | Denial::ForbiddenName
         | Denial::BrokenLink { .. }
         | Denial::NoShare
-        | Denial::BadTarget(_) => 403,
+        | Denial::BadTarget(_)
+        | Denial::Rule(_) => 403,
         Denial::NotFound => 404,
         Denial::Method(_) | Denial::Exists(_) => 405,
         Denial::NoParent => 409,
-        Denial::Overwrite => 412,
+        Denial::Overwrite | Denial::OcsHeader => 412,
         Denial::TooLarge => 413,
         Denial::Body => 415,
         Denial::Locked(_) => 423,
@@ -75,11 +77,13 @@ pub fn reason(denial: &Denial) -> &'static str
         Denial::BrokenLink { .. } => "broken-link",
         Denial::NoShare => "no-share",
         Denial::BadTarget(_) => "bad-target",
+        Denial::Rule(_) => "rule",
         Denial::NotFound => "not-found",
         Denial::Method(_) => "method",
         Denial::Exists(_) => "exists",
         Denial::NoParent => "no-parent",
         Denial::Overwrite => "overwrite",
+        Denial::OcsHeader => "ocs-header",
         Denial::TooLarge => "too-large",
         Denial::Body => "body",
         Denial::Locked(_) => "locked",
@@ -132,6 +136,13 @@ pub fn field_word(field: Parameter) -> &'static str
         Parameter::Destination => "destination",
         Parameter::Overwrite => "overwrite",
         Parameter::Depth => "depth",
+        Parameter::Id => "id",
+        Parameter::Path => "path",
+        Parameter::ShareType => "shareType",
+        Parameter::ShareWith => "shareWith",
+        Parameter::Permissions => "permissions",
+        Parameter::ExpireDate => "expireDate",
+        Parameter::Password => "password",
     }
 }
 
@@ -147,6 +158,19 @@ pub fn cause_word(cause: TargetFault) -> &'static str
     }
 }
 
+/// The word of a rule of sharing.
+pub fn rule_word(rule: ShareRule) -> &'static str
+    ensures { result.now ≡ rule_word rule }
+{
+    match rule {
+        ShareRule::Root => "root",
+        ShareRule::SelfShare => "self",
+        ShareRule::Already => "already",
+        ShareRule::Widened => "widened",
+        ShareRule::Chain => "chain",
+    }
+}
+
 /// The word of a limit.
 pub fn limit_word(limit: Limit) -> &'static str
     ensures { result.now ≡ limit_word limit }
@@ -154,6 +178,8 @@ pub fn limit_word(limit: Limit) -> &'static str
     match limit {
         Limit::Nodes => "nodes",
         Limit::Depth => "depth",
+        Limit::Shares => "shares",
+        Limit::Mounts => "mounts",
         Limit::Pieces => "pieces",
     }
 }

@@ -1,5 +1,5 @@
 -- The path of a target and its segments (RFC 3986, sections 2.1, 3.3 and 3.4; RFC 9112, section 3.2).
-use Rattle.std.specs.Prelude.{ℕ, ◌-◌, Bool, ◌==◌, if◌then◌else◌, List, [], length, map, take, drop, codes, bytes_eq, position, Option, None, Some, is_some, option_map, option_and_then}
+use Rattle.std.specs.Prelude.{ℕ, ◌+◌, ◌-◌, Bool, ◌==◌, if◌then◌else◌, List, [], length, map, take, drop, codes, bytes_eq, position, Option, None, Some, is_some, option_map, option_and_then}
 use Rattle.std.specs.List.{before_first, slice_split}
 use Rattle.std.specs.Option.{option_map_or, option_or}
 use Rattle.percent_encoding.specs.Percent.{percent_decode}
@@ -47,3 +47,13 @@ segments_of target =
 -- whether the path of a target, as it was sent, is in the part of the site that speaks of shares and people
 abbrev pub is_ocs : List ℕ → Bool
 is_ocs target = is_some (option_and_then (behind (codes "/ocs/v2.php/")) (whole_path target))
+
+-- what stands for the number of a share, decoded: what is behind the words of the mount of shares; nothing in any other target
+abbrev pub share_segment : List ℕ → List ℕ
+share_segment target =
+    option_map_or percent_decode
+    (option_and_then (behind (codes "/ocs/v2.php/apps/files_sharing/api/v1/shares/")) (target_path target)) []
+
+-- the query: what is behind the first `?` (RFC 3986, section 3.4)
+abbrev pub query_of : List ℕ → List ℕ
+query_of target = option_map_or (λ at. drop (at + 1) target) (position is_question target) []

@@ -3,11 +3,13 @@
 ghost use Rattle.std.specs.Prelude.{◌≡◌, ◌<◌, IfOk, IfSome, codes, length, map, option_and_then, option_copied, position};
 ghost use Rattle.std.specs.List.{before_first, slice_split};
 ghost use Rattle.percent_encoding.specs.Percent.{percent_decode};
-ghost use Rattle.nf_routes.specs.Targets.{behind, from_slash, is_ocs as begins_with_ocs, is_question, is_slash, path_in, segments_of, target_path, whole_path, without_slash};
+ghost use Rattle.nf_routes.specs.Targets.{behind, from_slash, is_ocs as begins_with_ocs, is_question, is_slash, path_in, query_of, segments_of, share_segment as segment_of_share, target_path, whole_path, without_slash};
 
 use std::alloc::{AllocError, Global};
 
 const FILES: &[u8] = b"/remote.php/dav/files/";
+
+const SHARES: &[u8] = b"/ocs/v2.php/apps/files_sharing/api/v1/shares/";
 
 const OCS: &[u8] = b"/ocs/v2.php/";
 
@@ -27,6 +29,26 @@ pub fn segments(alloc: Global, target: &[u8]) -> Result<Vec<Vec<u8>>, AllocError
     Ok(segments)
 }
 
+/// What stands for the number of a share in the path of a target, decoded; nothing where no share is named.
+pub fn share_segment(alloc: Global, target: &[u8]) -> Result<Vec<u8>, AllocError>
+    ensures { IfOk result (λ segment. segment.items ≡ segment_of_share target.now) }
+{
+    match behind_shares(target) {
+        Some(segment) => decoded(alloc, segment),
+        None => Ok(Vec::new(alloc)),
+    }
+}
+
+/// The query of a target.
+pub fn query(target: &[u8]) -> &[u8]
+    ensures { result.now ≡ query_of target.now }
+{
+    match first_question(target) {
+        Some(at) => &target[at + 1..],
+        None => &[],
+    }
+}
+
 /// Whether the path of a target, as it was sent, is in the part of the site that speaks of shares and people.
 pub fn is_ocs(target: &[u8]) -> bool
     ensures { result ≡ begins_with_ocs target.now }
@@ -44,6 +66,13 @@ fn behind_files(target: &[u8]) -> Option<&[u8]>
     target_path(target)?.strip_prefix(FILES)
 }
 
+// What is behind the words of the mount of shares.
+fn behind_shares(target: &[u8]) -> Option<&[u8]>
+    ensures { option_copied result ≡ option_and_then (behind (codes "/ocs/v2.php/apps/files_sharing/api/v1/shares/")) (target_path target.now) }
+{
+    target_path(target)?.strip_prefix(SHARES)
+}
+
 /// A segment without its escapes; a `%` without two hexadecimal digits stays.
 pub(crate) fn decoded(alloc: Global, segment: &[u8]) -> Result<Vec<u8>, AllocError>
     ensures { IfOk result (λ bytes. bytes.items ≡ percent_decode segment.now) }
@@ -54,7 +83,7 @@ pub(crate) fn decoded(alloc: Global, segment: &[u8]) -> Result<Vec<u8>, AllocErr
 }
 
 /// The pieces between the slashes, as they were sent.
-pub(crate) fn pieces<'a>(alloc: Global, bytes: &'a [u8]) -> Result<Vec<&'a [u8]>, AllocError>
+pub fn pieces<'a>(alloc: Global, bytes: &'a [u8]) -> Result<Vec<&'a [u8]>, AllocError>
     ensures { IfOk result (λ pieces. map (λ piece. piece.now) pieces.items ≡ slice_split is_slash bytes.entry.now) }
 {
     bytes.split(|byte| *byte == b'/').collect(alloc)

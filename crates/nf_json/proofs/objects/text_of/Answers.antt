@@ -1,7 +1,7 @@
 use Rattle.std.proofs.Common.{sym, subst}
 use Rattle.std.specs.Prelude.{IsUtf8}
 use Rattle.nf_base.proofs.Naming.{IsPlainName-from_IsName}
-use Rattle.nf_dav.proofs.objects.text_of.Goals as goal
+use Rattle.nf_json.proofs.objects.text_of.Goals as goal
 
 pub unreachable-requires : goal.unreachable-requires
 unreachable-requires c =

@@ -2,14 +2,15 @@
 use Rattle.std.specs.Prelude.{ℕ, List}
 use Rattle.std.specs.List.{fold}
 use Rattle.std.specs.Borrow.{Bor}
-use Rattle.serde_json.specs.Data.{Data, number, string, object, Members, no_members, put, unsigned}
-use Rattle.nf_dav.specs.declared.objects.Said.{Said}
-use Rattle.nf_dav.specs.declared.objects.Said.TheVariants as said
+use Rattle.serde_json.specs.Data.{Data, null, number, string, object, Members, no_members, put, unsigned}
+use Rattle.nf_json.specs.declared.objects.Said.{Said}
+use Rattle.nf_json.specs.declared.objects.Said.TheVariants as said
 
 -- what a member says
 abbrev pub data_of : Said → Data
 data_of (said.Text text) = string text.now
 data_of (said.Number n) = number (unsigned n)
+data_of said.Null = null
 
 -- with one more member
 abbrev pub with_member : Members → Bor (List ℕ) × Said → Members

@@ -1,0 +1,6 @@
+pub mod Asked
+pub mod Bodies
+pub mod Parameters
+pub mod Read
+pub mod Sent
+pub mod Told
