@@ -1,12 +1,13 @@
 //! What is sent and listed.
 
-ghost use Rattle.std.specs.Prelude.{◌≡◌, ◌∷◌, ◌++◌, [], not, ◌==◌, ◌≤◌, if◌then◌else◌, min, sum_by, filter, filter_map, length, IfOk, OnOk};
-ghost use Rattle.std.specs.List.{position, position_or_len};
+ghost use Rattle.std.specs.Prelude.{◌≡◌, ◌∷◌, ◌++◌, [], ◌==◌, if◌then◌else◌, min, sum_by, filter, filter_map, IfOk, OnOk};
+ghost use Rattle.std.specs.Cmp.Lexicographic.{slice_cmp};
+ghost use Rattle.std.specs.Ordering.{nat_cmp};
 ghost use Rattle.nf_access.specs.Access.{by_chains};
-ghost use Rattle.nf_words.specs.Prelude.{access_of, bytes_of, child_line, child_lines, is_line_before, last_number, line_of, listing_of, mount_line, mount_lines, put_line, put_lines, served, shown};
+ghost use Rattle.nf_words.specs.Prelude.{access_of, AreSound, bytes_of, child_line, child_lines, last_number, line_of, listing_of, mount_line, mount_lines, put_lines, served, shown};
 ghost use Rattle.nf_words.specs.Listing.{all_permissions, size_of};
 ghost use Rattle.nf_decide.specs.Deciding.{asking_of};
-ghost use Rattle.nf_decide.specs.Listed.{is_listed};
+ghost use Rattle.nf_decide.specs.Listed.{AreByName, is_listed};
 
 use crate::deciding::Call;
 use crate::nodes::{content_of, is_folder};
@@ -16,6 +17,7 @@ use nf_reach::Asker;
 use nf_tree::Tree;
 use nf_words::{Allowed, Listing, ListingLine};
 use std::alloc::{AllocError, Global};
+use std::cmp::Ordering;
 
 impl<'a> Call<'a> {
     /// GET lists the folder that is there, or sends the content of the file.
@@ -26,7 +28,8 @@ impl<'a> Call<'a> {
         mount: Option<NodeId>,
         node: Option<NodeId>,
     ) -> Result<Allowed, AllocError>
-        requires { asker.now ≡ asking_of self.now }
+        requires asker { asker.now ≡ asking_of self.now }
+        requires sound { AreSound self.now.state.tables }
         ensures { IfOk result (λ allowed. allowed ≡ served (access_of self.entry.now.state) self.entry.now mount node) }
     {
         match node {
@@ -42,7 +45,8 @@ impl<'a> Call<'a> {
         mount: Option<NodeId>,
         node: NodeId,
     ) -> Result<Allowed, AllocError>
-        requires { asker.now ≡ asking_of self.now }
+        requires asker { asker.now ≡ asking_of self.now }
+        requires sound { AreSound self.now.state.tables }
         ensures { IfOk result (λ allowed. allowed ≡ shown (access_of self.entry.now.state) self.entry.now mount node) }
     {
         let tree = self.view.tree();
@@ -64,15 +68,17 @@ impl<'a> Call<'a> {
         mount: Option<NodeId>,
         folder: NodeId,
     ) -> Result<Listing, AllocError>
-        requires { asker.now ≡ asking_of self.now }
+        requires asker { asker.now ≡ asking_of self.now }
+        requires sound { AreSound self.now.state.tables }
         ensures { IfOk result (λ listing. listing ≡ listing_of (access_of self.entry.now.state) self.entry.now mount folder) }
     {
         let granted = asker.granted_by(mount);
-        let mut lines = child_lines(alloc, &self.view, asker.user(), granted, folder)?;
-        if folder == asker.root() {
-            put_mounts(alloc, &self.view, asker, &mut lines)?;
+        let children = child_lines(alloc, &self.view, asker.user(), granted, folder)?;
+        if folder != asker.root() {
+            return Ok(Listing::new(children));
         }
-        Ok(Listing::new(lines))
+        let mounts = mount_lines(alloc, &self.view, asker)?;
+        Ok(Listing::new(put_lines(mounts, children)?))
     }
 }
 
@@ -118,24 +124,24 @@ fn push_child(
 
 // ---- mounts
 
-/// Puts the lines of the user's mounts that are listed at their places.
-fn put_mounts(
+/// The lines of the user's mounts that are listed.
+fn mount_lines(
     alloc: Global,
     view: &View<'_>,
     asker: &Asker<'_>,
-    lines: &mut Vec<ListingLine>,
-) -> Result<(), AllocError>
+) -> Result<Vec<ListingLine>, AllocError>
     requires { asker.now.mounts ≡ view.now.tables.mounts }
-    ensures { OnOk result (lines.new.items ≡ put_lines (mount_lines (by_chains asker.now.base) view.now.tables asker.now.moment asker.now.user) lines.old.items) }
+    ensures { IfOk result (λ lines. lines.items ≡ mount_lines (by_chains asker.now.base) view.now.tables asker.now.moment asker.now.user) }
 {
+    let mut lines = Vec::new(alloc);
     for mount in asker.mounts() {
-        put_mount(alloc, view, asker, mount, lines)?;
+        push_mount(alloc, view, asker, mount, &mut lines)?;
     }
-    Ok(())
+    Ok(lines)
 }
 
-/// Puts the line of a mount of the user's at its place, where it is listed.
-fn put_mount(
+/// Puts the line of a mount of the user's at the end, where it is listed.
+fn push_mount(
     alloc: Global,
     view: &View<'_>,
     asker: &Asker<'_>,
@@ -143,15 +149,15 @@ fn put_mount(
     lines: &mut Vec<ListingLine>,
 ) -> Result<(), AllocError>
     requires { mount.now.user ≡ asker.now.user }
-    ensures { OnOk result (lines.new.items ≡ put_lines (filter_map (mount_line (by_chains asker.now.base) view.now.tables asker.now.moment) (filter (is_listed asker.now) (mount.now ∷ []))) lines.old.items) }
+    ensures { OnOk result (lines.new.items ≡ lines.old.items ++ filter_map (mount_line (by_chains asker.now.base) view.now.tables asker.now.moment) (filter (is_listed asker.now) (mount.now ∷ []))) }
 {
     if !asker.lists(mount) {
         return Ok(());
     }
-    match mount_line(alloc, view, asker, mount)? {
-        Some(line) => put_line(lines, line),
-        None => Ok(()),
+    if let Some(line) = mount_line(alloc, view, asker, mount)? {
+        lines.push(line)?;
     }
+    Ok(())
 }
 
 /// The line of a mount of the user's, under the name of the mount.
@@ -171,36 +177,25 @@ fn mount_line(
     line_of(alloc, view, asker.user(), granted, &mount.name, row)
 }
 
-/// Puts a line at its place among others by name.
-fn put_line(lines: &mut Vec<ListingLine>, line: ListingLine) -> Result<(), AllocError>
-    ensures { OnOk result (lines.new.items ≡ put_line line lines.old.items) }
+/// Puts lines, one after the other, at their places among others by name.
+fn put_lines(
+    mut lines: Vec<ListingLine>,
+    mut others: Vec<ListingLine>,
+) -> Result<Vec<ListingLine>, AllocError>
+    requires { AreByName others.items }
+    ensures { IfOk result (λ all. all.items ≡ put_lines lines.items others.items) }
 {
-    let place = place_for(lines, &line);
-    lines.insert(place, line)?;
-    Ok(())
+    // Of those with one name the one that is put last comes first, and the sort leaves them so.
+    lines.reverse();
+    lines.append(&mut others)?;
+    lines.sort_by(compare_names)?;
+    Ok(lines)
 }
 
-/// The place behind the lines that come before it by their names.
-fn place_for(lines: &[ListingLine], line: &ListingLine) -> usize
-    ensures place { result ≡ position_or_len (λ other. not (is_line_before other line.now)) lines.now }
-    ensures within { result ≤ length lines.now }
+fn compare_names(a: &ListingLine, b: &ListingLine) -> Ordering
+    ensures { result ≡ slice_cmp nat_cmp a.now.name b.now.name }
 {
-    match first_behind(lines, line) {
-        Some(place) => place,
-        None => lines.len(),
-    }
-}
-
-fn first_behind(lines: &[ListingLine], line: &ListingLine) -> Option<usize>
-    ensures { result ≡ position (λ other. not (is_line_before other line.now)) lines.now }
-{
-    lines.iter().position(|other| !is_line_before(other, line))
-}
-
-fn is_line_before(a: &ListingLine, b: &ListingLine) -> bool
-    ensures { result ≡ is_line_before a.now b.now }
-{
-    a.name.as_bytes().cmp(b.name.as_bytes()).is_lt()
+    a.name.as_bytes().cmp(b.name.as_bytes())
 }
 
 // ---- lines

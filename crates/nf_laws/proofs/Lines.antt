@@ -270,6 +270,14 @@ of_pairs R f xs pairs i j d before within =
     (subst (R (get_or (map f xs) i (f d))) (get_or-map f xs j d (f d) within)
     (pairs i j (f d) before (omega (arith, within, length-map xs f))))
 
+-- the lines of a folder's children are by name
+pub children_rise : (t : Tables) (user granted folder : ℕ) → AreSound t → AllPairs Before (child_lines t user granted folder)
+children_rise t user granted folder sound i j d before within =
+    ap is_lt (of_pairs (λ (a b : List ℕ). slice_cmp nat_cmp a b ≡ Less) (λ (line : ListingLine). line.name) (child_lines t user granted folder)
+    (subst (AllPairs (λ (a b : List ℕ). slice_cmp nat_cmp a b ≡ Less)) (sym (child_names t user granted folder sound))
+    (pairs_of (λ (a b : List ℕ). slice_cmp nat_cmp a b ≡ Less) (name_of t.nodes) (children_of t.nodes folder) (children_by_name.sorted t folder sound)))
+    i j d before within)
+
 -- a line whose name is that of no other is put at its place
 put_rises : (line : ListingLine) (lines : List ListingLine) → AllPairs Before lines
     → All (λ (other : ListingLine). line.name ≢ other.name) lines → AllPairs Before (put_line line lines)
@@ -379,13 +387,6 @@ module _ (call : Call) (sound : IsSound call.state) where
         reached_mount call.state call.now (asker_of call) sound (get_or rows k d)
         (filter_passes (is_listed call.state call.now (asker_of call) sound) all.mounts k d within)
 
-    children_rise : AllPairs Before children
-    children_rise i j d before within =
-        ap is_lt (of_pairs (λ (a b : List ℕ). slice_cmp nat_cmp a b ≡ Less) (λ (line : ListingLine). line.name) children
-        (subst (AllPairs (λ (a b : List ℕ). slice_cmp nat_cmp a b ≡ Less)) (sym (child_names all (asker_of call) granted folder sound.rows))
-        (pairs_of (λ (a b : List ℕ). slice_cmp nat_cmp a b ≡ Less) (name_of all.nodes) (children_of all.nodes folder) (children_by_name.sorted all folder sound.rows)))
-        i j d before within)
-
     mounts_differ : AllPairs Differ mounts
     mounts_differ =
         of_pairs (λ (a b : List ℕ). a ≢ b) (λ (line : ListingLine). line.name) mounts
@@ -419,11 +420,11 @@ module _ (call : Call) (sound : IsSound call.state) where
 
     rises : (b : Bool) → (folder == root_of call) ≡ b → AllPairs Before (put_lines (if b then mounts else []) children)
     rises true e =
-        puts_rise mounts children children_rise mounts_differ
+        puts_rise mounts children (children_rise all (asker_of call) granted folder sound.rows) mounts_differ
         (λ a b mount child.
         All-contains (λ (line : ListingLine). a.name ≢ line.name) children b
         (All-contains (λ (line : ListingLine). IsApart line.name) mounts a (mounts_apart (eqb-true folder (root_of call) e)) mount) child)
-    rises false e = children_rise
+    rises false e = children_rise all (asker_of call) granted folder sound.rows
 
 pub lines_by_name : LinesAreByName
 lines_by_name call mount folder sound i j d before within =
