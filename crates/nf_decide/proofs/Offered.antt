@@ -26,7 +26,7 @@ spot_there call row spot name perms sound is reached = here (found call spot) (u
         → IsThere call.state.tables (option_and_then (λ node. option_map (offer_of call.state.tables.nodes (way_of call spot).mount perms node) to) (node_found place))
     here (At node) (Some to) leads =
         let there = way_there call spot row sound is node reached leads in
-        subst (λ (o : Option NodeRow). IsSome o) (sym there.1) tt
+        subst (λ (o : Option NodeRow). IsSome o) (sym there.1) refl
     here (At node) None leads = tt
     here (Free folder) to leads = tt
     here (Missing depth) to leads = tt

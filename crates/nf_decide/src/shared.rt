@@ -58,7 +58,7 @@ impl<'a> Call<'a> {
         }
     }
 
-    /// A share is made, and its user has a mount of the node.
+    /// A share is made, where one is asked for that can be made.
     fn share_made(
         &self,
         alloc: Global,
@@ -70,18 +70,45 @@ impl<'a> Call<'a> {
         requires there { IsThere self.now.state.tables offer.now }
         ensures { IfOk result (λ allowed. allowed ≡ option_map_or (share_made (access_of self.entry.now.state) self.entry.now) offer.now nothing_done) }
     {
-        let Some(offer) = offer else {
-            return Ok(nothing_done(alloc));
-        };
+        match offer {
+            Some(offer) => self.share_of(alloc, asker, offer),
+            None => Ok(nothing_done(alloc)),
+        }
+    }
+
+    /// A share is made, and its user has a mount of the node.
+    fn share_of(
+        &self,
+        alloc: Global,
+        asker: &Asker<'_>,
+        offer: &Offer,
+    ) -> Result<Allowed, AllocError>
+        requires sound { AreSound self.now.state.tables }
+        requires asker { asker.now ≡ asking_of self.now }
+        requires there { IsSome (node_row self.now.state.tables.nodes offer.now.node) }
+        ensures { IfOk result (λ allowed. allowed ≡ share_made (access_of self.entry.now.state) self.entry.now offer.now) }
+    {
         let row = self.new_share(asker, offer);
         let mount = mount_for(alloc, &self.view, offer)?;
-        let report = report_of(&self.view, &row)?;
-        Ok(Allowed::Change {
-            changes: made(alloc, row, mount)?,
-            blob: None,
-            report,
-        })
+        put(alloc, &self.view, row, mount)
     }
+}
+
+/// A share is put with a mount, if there is one, and told.
+fn put(
+    alloc: Global,
+    view: &View<'_>,
+    row: ShareRow,
+    mount: Option<MountRow>,
+) -> Result<Allowed, AllocError>
+    ensures { IfOk result (λ allowed. allowed ≡ share_told view.now.tables (Put (kinds.Share row) ∷ mounting mount) row) }
+{
+    let report = report_of(view, &row)?;
+    Ok(Allowed::Change {
+        changes: made(alloc, row, mount)?,
+        blob: None,
+        report,
+    })
 }
 
 /// The row of the mount of what is shared, where its user has none yet.

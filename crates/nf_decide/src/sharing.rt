@@ -160,9 +160,22 @@ impl<'a> Call<'a> {
         requires { asker.now ≡ asking_of self.now }
         ensures { result ≡ set_fault self.entry.now.state.tables perms row.now }
     {
-        let is_asked = perms.is_some();
-        let wider = self.is_wider(asker, row.parent, perms_after(&self.view, perms, row));
-        if is_asked && wider {
+        match perms {
+            Some(_) => self.widened(asker, row.parent, perms_after(&self.view, perms, row)),
+            None => None,
+        }
+    }
+
+    fn widened(
+        &self,
+        asker: &Asker<'_>,
+        parent: Option<ShareId>,
+        perms: Perms,
+    ) -> Option<ShareRule>
+        requires { asker.now ≡ asking_of self.now }
+        ensures { result ≡ (if is_wider self.entry.now.state.tables.shares parent perms then Some rule.Widened else None) }
+    {
+        if self.is_wider(asker, parent, perms) {
             Some(ShareRule::Widened)
         } else {
             None

@@ -10,5 +10,5 @@ returns-clause-named c = named c.args.self.now c.requires c.in_ok-places_fit.ens
 
 pub returns-clause-there : goal.returns-clause-there
 returns-clause-there c =
-    subst (λ (o : Option Offer). IsThere c.args.self.now.state.tables o) (sym c.offer.ensures)
+    subst (λ (o : Option Offer). IsThere c.args.self.now.state.tables o) (sym c.offer-offer.ensures)
     (offer_there c.args.self.now c.requires c.in_ok-token.ensures c.in_ok-reached.ensures)
