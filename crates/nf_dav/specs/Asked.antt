@@ -177,8 +177,7 @@ on_route route m head body =
     if is_stray route m then Err denial.NotFound
     else option_map_or (λ m. routed route m head body) m (Err (denial.Method route))
 
--- the request of a head and of a body, as far as that is taken; or its first refusal: `not-found`, `method`, `not-built`, `ocs-header`,
--- `body`, `bad-parameter`, `bad-name`
+-- the request of a head and of a body, as far as that is taken; or its first refusal: `not-found`, `method`, then those of its route
 unfoldable pub request_of : Head → List ℕ → Result Request Denial
 request_of head body =
     option_map_or (λ route. on_route route (method_of head.method) head body) (route_of head.target) (Err denial.NotFound)

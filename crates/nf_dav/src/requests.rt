@@ -48,9 +48,9 @@ pub fn wants_body(message: &Message) -> usize
     }
 }
 
-/// The request of a message; or why it has none, the first that holds of no such route, a method that the route doesn't have, not built, no
-/// word that it is an OCS request, a body that isn't taken, a field that can't be read, and a bad name. Of a body that is longer than
-/// `wants_body` no byte is handed over.
+/// The request of a message; or why it has none, the first that holds: there is no such route, the route doesn't have the method or isn't
+/// built, an OCS request doesn't say that it is one, the body isn't taken, a field or a parameter can't be read, a name is bad. Of a body that
+/// is longer than `wants_body` no byte is handed over.
 #[tactic(auto, unfolding(crate::specs::Asked::request_of))]
 pub fn request(
     routes: &Routes,
