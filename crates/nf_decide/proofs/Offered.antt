@@ -1,6 +1,8 @@
 -- A share is asked of what is there, where the rules of who asks and of where paths lead pass.
-use Rattle.std.proofs.Common.{ℕ, ◌≡◌, List, Option, None, Some, IsSome, IfSome, option_map, option_and_then, refl, subst, sym}
+use Rattle.std.proofs.Common.{ℕ, ◌≡◌, ◌||◌, Bool, true, false, is_some, find, if◌then◌else◌, List, [], ◌∷◌, Option, None, Some, IsSome, IfSome, option_map, option_and_then, refl, subst, sym}
+use Rattle.std.specs.List.{list_any}
 use Rattle.nf_base.specs.declared.rows.NodeRow.{NodeRow}
+use Rattle.nf_base.specs.declared.rows.ShareRow.{ShareRow}
 use Rattle.nf_base.specs.declared.rows.UserRow.{UserRow}
 use Rattle.nf_defs.specs.Prelude.{node_row, user_named}
 use Rattle.nf_defs.specs.declared.Found.{Found}
@@ -50,3 +52,13 @@ pub offer_there : (call : Call) → AreSound call.state.tables → token_rule (a
 offer_there call sound token place =
     let row = has_row call token in
     wanted_there call row.0 call.request.wanted sound row.1 (place_passes (access_of call.state) call place)
+
+-- one is found where any passes the test
+pub any_found : (test : ShareRow → Bool) (rows : List ShareRow) → is_some (option_map (λ row. row.id) (find test rows)) ≡ list_any test rows
+any_found test [] = refl
+any_found test (row ∷ rows) = here (test row) (any_found test rows)
+  where
+    here : (b : Bool) → is_some (option_map (λ row. row.id) (find test rows)) ≡ list_any test rows
+        → is_some (option_map (λ row. row.id) (if b then Some row else find test rows)) ≡ (b || list_any test rows)
+    here true rest = refl
+    here false rest = rest

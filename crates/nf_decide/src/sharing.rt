@@ -1,10 +1,13 @@
 //! What is asked about shares: what it names, and the rules of sharing.
 
-ghost use Rattle.std.specs.Prelude.{◌≡◌, option_and_then, option_copied};
+ghost use Rattle.std.specs.Prelude.{◌≡◌, if◌then◌else◌, option_and_then, option_copied, option_map};
+ghost use Rattle.std.specs.List.{list_any};
+ghost use Rattle.nf_access.specs.Making.{is_again};
 ghost use Rattle.nf_defs.specs.Prelude.{user_named};
-ghost use Rattle.nf_words.specs.Prelude.{access_of, ways_of};
+ghost use Rattle.nf_words.specs.Prelude.{access_of, asked_about, way_of, ways_of};
 ghost use Rattle.nf_words.specs.Sharing.{fault_by, fault_of_ask, is_long, is_seen_by, is_steered_by, is_wider, is_widened, named_rule, new_share, offer_fault, offer_of, offered_by, parent_by, perms_after, set_fault, share_shown, share_steered, sharing_rule, unnamed, unnamed_by};
-ghost use Rattle.nf_decide.specs.Deciding.{Follows, asking_of, offer_by, offer_in};
+ghost use Rattle.nf_words.specs.declared.answer.ShareRule.TheVariants as rule;
+ghost use Rattle.nf_decide.specs.Deciding.{Follows, asking_of, first_rule, offer_by, offer_in};
 
 use crate::asked::node_found;
 use crate::deciding::Call;
@@ -12,7 +15,7 @@ use crate::listing::all_permissions;
 use crate::nodes::{is_root, kind_of, owner_of};
 use crate::view::View;
 use nf_access::{is_part, perms_of_share};
-use nf_base::{MAX_CHAIN, Name, NodeId, Perms, ShareId, ShareKind, ShareRow, UserId};
+use nf_base::{MAX_CHAIN, Moment, Name, NodeId, Perms, ShareId, ShareKind, ShareRow, UserId};
 use nf_reach::{Asker, Way, Ways};
 use nf_shares::{Shares, is_self_share};
 use nf_tree::Tree;
@@ -123,22 +126,13 @@ impl<'a> Call<'a> {
     {
         let row = self.new_share(asker, offer);
         let shares = self.view.shares();
-        if is_root(self.view.tree(), offer.node) {
-            return Some(ShareRule::Root);
-        }
-        if is_self_share(&row) {
-            return Some(ShareRule::SelfShare);
-        }
-        if shares.again(&row, self.now).is_some() {
-            return Some(ShareRule::Already);
-        }
-        if self.is_widened(asker, offer, row.parent) {
-            return Some(ShareRule::Widened);
-        }
-        if is_long(shares, row.parent) {
-            return Some(ShareRule::Chain);
-        }
-        None
+        first_rule(
+            is_root(self.view.tree(), offer.node),
+            is_self_share(&row),
+            is_there_again(shares, &row, self.now),
+            self.is_widened(asker, offer, row.parent),
+            is_long(shares, row.parent),
+        )
     }
 
     /// Whether what is another's isn't passed on by a share that allows that.
@@ -239,11 +233,8 @@ impl<'a> Call<'a> {
         ensures { result ≡ offer_in self.entry.now self.entry.now.request.wanted }
     {
         match &self.request.wanted {
-            Wanted::Share(ShareAsk::New { to, perms, .. }) => {
-                self.offered(&ways.source, to, *perms)
-            }
-            Wanted::Share(_)
-            | Wanted::Get(_)
+            Wanted::Share(ask) => self.offer_by(&ways.source, ask),
+            Wanted::Get(_)
             | Wanted::Put { .. }
             | Wanted::Mkcol(_)
             | Wanted::Delete(_)
@@ -252,15 +243,40 @@ impl<'a> Call<'a> {
         }
     }
 
+    fn offer_by(&self, source: &Option<Way>, ask: &ShareAsk) -> Option<Offer>
+        requires { source.now ≡ option_map (way_of self.now) (asked_about ask.now).source }
+        ensures { result ≡ offer_by self.entry.now ask.now }
+    {
+        match ask {
+            ShareAsk::New { to, perms, .. } => self.offered(source, to, *perms),
+            ShareAsk::List { .. }
+            | ShareAsk::Show(_)
+            | ShareAsk::Set { .. }
+            | ShareAsk::End(_) => None,
+        }
+    }
+
     fn offered(&self, way: &Option<Way>, to: &Name, perms: Option<Perms>) -> Option<Offer>
         ensures { result ≡ option_and_then (λ way. offered_by self.entry.now way perms (user_named self.entry.now.state.tables.users to.now)) way.now }
     {
-        let Some(way) = way else {
-            return None;
-        };
+        match way {
+            Some(way) => self.offered_by(way, self.user_named(to), perms),
+            None => None,
+        }
+    }
+
+    /// The user of that name.
+    fn user_named(&self, name: &Name) -> Option<UserId>
+        ensures { result ≡ user_named self.entry.now.state.tables.users name.now }
+    {
+        self.view.people().user(name)
+    }
+
+    fn offered_by(&self, way: &Way, to: Option<UserId>, perms: Option<Perms>) -> Option<Offer>
+        ensures { result ≡ offered_by self.entry.now way.now perms to }
+    {
         let node = node_found(&way.place)?;
-        let user = self.view.people().user(to)?;
-        Some(offer_of(self.view.tree(), way.mount, perms, node, user))
+        Some(offer_of(self.view.tree(), way.mount, perms, node, to?))
     }
 
     /// The row of the new share.
@@ -336,4 +352,36 @@ fn is_seen_by(asker: &Asker<'_>, row: &ShareRow) -> bool
     ensures { result ≡ is_seen_by asker.now.base.members asker.now.user row.now }
 {
     is_steered_by(asker.user(), row) || asker.receives(row)
+}
+
+/// The first rule that is broken: that of roots, of oneself, of what is there again, of more than may be passed on, or of chains.
+fn first_rule(
+    root: bool,
+    own: bool,
+    again: bool,
+    widened: bool,
+    long: bool,
+) -> Option<ShareRule>
+    ensures { result ≡ first_rule root own again widened long }
+{
+    if root {
+        Some(ShareRule::Root)
+    } else if own {
+        Some(ShareRule::SelfShare)
+    } else if again {
+        Some(ShareRule::Already)
+    } else if widened {
+        Some(ShareRule::Widened)
+    } else if long {
+        Some(ShareRule::Chain)
+    } else {
+        None
+    }
+}
+
+/// Whether a share gives the same already.
+fn is_there_again(shares: &Shares, row: &ShareRow, now: Moment) -> bool
+    ensures { result ≡ list_any (is_again row.now now) shares.now.rows }
+{
+    shares.again(row, now).is_some()
 }
