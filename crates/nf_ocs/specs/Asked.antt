@@ -47,7 +47,7 @@ new_of given =
 -- `shared_with_me`: the text `true`
 abbrev pub is_true : Given → Bool
 is_true (Text text) = bytes_eq text (codes "true")
-is_true other = false
+is_true unlike = false
 
 abbrev pub list_of : Giving → Result ShareAsk Denial
 list_of given =

@@ -52,7 +52,7 @@ given_by (number n) = given_number n
 given_by null = Other
 given_by (boolean b) = Other
 given_by (array items) = Other
-given_by (object members) = Other
+given_by (object inside) = Other
 
 abbrev pub in_object : List ℕ → Data → Given
 in_object name value = option_map_or given_by (get name value) Absent
