@@ -160,12 +160,7 @@ impl<'a> Call<'a> {
         }
     }
 
-    fn widened(
-        &self,
-        asker: &Asker<'_>,
-        parent: Option<ShareId>,
-        perms: Perms,
-    ) -> Option<ShareRule>
+    fn widened(&self, asker: &Asker<'_>, parent: Option<ShareId>, perms: Perms) -> Option<ShareRule>
         requires { asker.now ≡ asking_of self.now }
         ensures { result ≡ (if is_wider self.entry.now.state.tables.shares parent perms then Some rule.Widened else None) }
     {
@@ -249,10 +244,8 @@ impl<'a> Call<'a> {
     {
         match ask {
             ShareAsk::New { to, perms, .. } => self.offered(source, to, *perms),
-            ShareAsk::List { .. }
-            | ShareAsk::Show(_)
-            | ShareAsk::Set { .. }
-            | ShareAsk::End(_) => None,
+            ShareAsk::List { .. } | ShareAsk::Show(_) | ShareAsk::Set { .. } | ShareAsk::End(_) =>
+                None,
         }
     }
 
@@ -355,13 +348,7 @@ fn is_seen_by(asker: &Asker<'_>, row: &ShareRow) -> bool
 }
 
 /// The first rule that is broken: that of roots, of oneself, of what is there again, of more than may be passed on, or of chains.
-fn first_rule(
-    root: bool,
-    own: bool,
-    again: bool,
-    widened: bool,
-    long: bool,
-) -> Option<ShareRule>
+fn first_rule(root: bool, own: bool, again: bool, widened: bool, long: bool) -> Option<ShareRule>
     ensures { result ≡ first_rule root own again widened long }
 {
     if root {
