@@ -4,6 +4,7 @@ import os
 import re
 import subprocess
 import sys
+import threading
 
 ROOT = os.path.dirname(os.path.dirname(os.path.realpath(__file__)))
 PROGRAM = sys.argv[1] if len(sys.argv) > 1 else os.path.join(ROOT, "release/filesd")
@@ -17,9 +18,10 @@ counts = {}
 class Server:
     """A server over the demonstration rows, on a port of loopback that the system chose."""
 
-    def __init__(self, folder, workers=4, timeout=5, words=("--connections", "1000000")):
-        env = {**os.environ, "FILESD_STORE": os.path.join(folder, "club.db"), "FILESD_LISTEN": "127.0.0.1:0",
-               "FILESD_WORKERS": str(workers), "FILESD_TIMEOUT": str(timeout)}
+    def __init__(self, folder, workers=4, timeout=5, words=("--connections", "1000000"), **more):
+        self.store = os.path.join(folder, "club.db")
+        env = {**os.environ, "FILESD_STORE": self.store, "FILESD_LISTEN": "127.0.0.1:0", "FILESD_WORKERS": str(workers),
+               "FILESD_TIMEOUT": str(timeout), "FILESD_MESSAGE_TIME": str(2 * timeout), **more}
         subprocess.run([PROGRAM, "batch"], stdin=subprocess.DEVNULL, env=env, check=True)
         self.process = subprocess.Popen([PROGRAM, "serve", *words], stderr=subprocess.PIPE, env=env, text=True)
         line = self.process.stderr.readline()
@@ -27,6 +29,9 @@ class Server:
         if not found:
             sys.exit(f"the server said: {line}{self.process.stderr.read()}")
         self.port = int(found[1])
+        # What it says from then on.
+        self.said = []
+        threading.Thread(target=lambda: self.said.extend(self.process.stderr), daemon=True).start()
 
     def ask(self, method, name, body=None, timeout=20):
         client = http.client.HTTPConnection("127.0.0.1", self.port, timeout=timeout)
@@ -42,7 +47,6 @@ class Server:
     def kill(self):
         self.process.kill()
         self.process.wait()
-        self.process.stderr.close()
 
 
 def say(word, what):

@@ -88,6 +88,12 @@ impl<D: Door + Drop> Door for LoggedDoor<D> {
             sink: inner,
         });
     }
+
+    fn close(&mut self)
+        ensures faults { D.faults self.new.inner ≡ D.faults self.old.inner }
+    {
+        self.inner.close();
+    }
 }
 
 // A log by that runtime, if there is one.

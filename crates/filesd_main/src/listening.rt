@@ -4,23 +4,41 @@ use crate::access_log::{Greeting, LoggedDoor};
 use crate::settings::Serving;
 use filesd::Status;
 use nf_outside::RealClock;
-use nf_server::{TcpDoor, Worker};
-use std::net::TcpListener;
+use nf_server::{Closing, TcpDoor, Terms, Worker};
+use std::io;
+use std::net::{TcpListener, TcpStream};
+use std::os::fd::OwnedFd;
+use std::time::Duration;
+
+/// How many milliseconds a thread waits for a connection before it looks again whether the run is to end. The next run of a server that is full begins
+/// after so long, if nobody else has to be waited for; and so often an idle thread looks.
+const LOOK: u64 = 20;
 
 /// A thread that serves connections of the one socket.
-pub type SocketWorker = Worker<LoggedDoor<TcpDoor<TcpListener>>, RealClock<HostRuntime>>;
+pub type SocketWorker = Worker<
+    LoggedDoor<TcpDoor<TcpListener, HostRuntime>>,
+    RealClock<HostRuntime>,
+>;
 
 /// The workers of a `serve`, which share one socket. Other commands have none.
-pub fn workers(rt: &HostRuntime, serving: &Option<Serving>) -> Result<Vec<SocketWorker>, Status> {
+pub fn workers(
+    rt: &HostRuntime,
+    serving: &Option<Serving>,
+    closing: &Closing,
+) -> Result<Vec<SocketWorker>, Status> {
     match serving {
-        Some(serving) => listen(rt, serving),
+        Some(serving) => listen(rt, serving, closing),
         None => Ok(Vec::new(rt.alloc())),
     }
 }
 
-fn listen(rt: &HostRuntime, serving: &Serving) -> Result<Vec<SocketWorker>, Status> {
+fn listen(
+    rt: &HostRuntime,
+    serving: &Serving,
+    closing: &Closing,
+) -> Result<Vec<SocketWorker>, Status> {
     let address = serving.address.as_str();
-    let listener = match TcpListener::bind(rt, address) {
+    let listener = match bind(rt, address) {
         Ok(listener) => listener,
         Err(error) => {
             let _ = eprintln!(rt; "filesd: can't listen on {address}: {error}");
@@ -31,11 +49,14 @@ fn listen(rt: &HostRuntime, serving: &Serving) -> Result<Vec<SocketWorker>, Stat
     let mut greeting = greeting_of(rt, &listener);
     let mut workers = Vec::new(rt.alloc());
     for _ in 0..serving.workers {
-        let clock: Result<_, _> = rt.clone();
-        let (Ok(listener), Ok(clock)) = (listener.try_clone(), clock) else {
+        let (Ok(listener), Some(terms), Some(clock)) = (
+            listener.try_clone(),
+            terms(rt, serving, closing),
+            same(rt),
+        ) else {
             return Err(Status::DoorFault);
         };
-        let door = TcpDoor::new(listener, serving.limit);
+        let door = TcpDoor::new(rt.alloc(), listener, terms, serving.connections);
         let worker = Worker {
             door: LoggedDoor::new(door, log(rt, serving), greeting.take()),
             clock: RealClock::new(clock),
@@ -47,21 +68,38 @@ fn listen(rt: &HostRuntime, serving: &Serving) -> Result<Vec<SocketWorker>, Stat
     Ok(workers)
 }
 
+// A socket whose `accept` waits for a moment at most: its timeout is that of a read, which the library sets of a stream alone.
+fn bind(rt: &HostRuntime, address: &str) -> io::Result<TcpListener> {
+    let listener = TcpListener::bind(rt, address)?;
+    let socket = OwnedFd::from(listener.try_clone()?);
+    TcpStream::from(socket).set_read_timeout(Some(Duration::from_millis(LOOK)))?;
+    Ok(listener)
+}
+
+fn terms(rt: &HostRuntime, serving: &Serving, closing: &Closing) -> Option<Terms<HostRuntime>> {
+    Some(Terms {
+        pace: serving.pace,
+        closing: closing.share().ok()?,
+        clock: same(rt)?,
+    })
+}
+
 // That the socket listens, and where.
 fn greeting_of(rt: &HostRuntime, listener: &TcpListener) -> Option<Greeting> {
     let address = listener.local_addr().ok()?;
-    let rt: Result<_, _> = rt.clone();
     Some(Greeting {
-        rt: rt.ok()?,
+        rt: same(rt)?,
         address,
     })
 }
 
 // The runtime to log by, where answers are logged.
 fn log(rt: &HostRuntime, serving: &Serving) -> Option<HostRuntime> {
-    if !serving.is_logged {
-        return None;
-    }
+    if serving.is_logged { same(rt) } else { None }
+}
+
+/// The same runtime, to be kept.
+pub fn same(rt: &HostRuntime) -> Option<HostRuntime> {
     let rt: Result<_, _> = rt.clone();
     rt.ok()
 }

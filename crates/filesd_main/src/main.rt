@@ -1,26 +1,31 @@
 //! The file server's program.
 #![tactic(auto)]
 
-use crate::listening::workers;
+use crate::listening::{SocketWorker, same, workers};
 use crate::settings::{MOST_WORKERS, Serving, read_serving, store};
 use crate::telling::{tell_rows, tell_usage};
+use crate::watching::{close_store, open_again, open_store};
 use filesd::{Finished, Status, run};
 use nf_command::{Command, command_of};
 use nf_keeper::{Keeper, MemKeeper};
-use nf_keeper_file::FileKeeper;
 use nf_outside::{Input, Output, RealClock};
-use sqlite::{Connection, Error, ErrorCode};
+use nf_server::{Cause, Closing};
 use std::env;
 use std::io::ErrorKind;
 use std::process::ExitCode;
 use std::sync::Wait;
-use std::thread::Threads;
+use std::thread::{Threads, sleep};
+use std::time::{Duration, Instant};
 
 mod access_log;
 mod listening;
 mod settings;
 mod telling;
 mod version;
+mod watching;
+
+/// How many seconds it takes at least until a store that refuses everything is opened anew.
+const REST: u64 = 10;
 
 /// What the program was started with.
 #[derive(Drop)]
@@ -50,7 +55,7 @@ fn main(rt: HostRuntime) -> ExitCode {
 fn read_order(rt: &HostRuntime) -> Result<Order, Status> {
     let words = words(rt)?;
     let serving = match command_of(rt.alloc(), &words) {
-        Ok(Some(Command::Serve { .. })) => Some(read_serving(rt)?),
+        Ok(Some(Command::Serve { connections })) => Some(read_serving(rt, connections)?),
         Ok(Some(_)) => None,
         Ok(None) => {
             tell_usage(rt);
@@ -88,60 +93,115 @@ fn words(rt: &HostRuntime) -> Result<Vec<String>, Status> {
 /// What is asked for, over the file that is the store, or else over a keeper in memory. `turns` is the same runtime, as what may wait for
 /// turns and start threads.
 fn obey<W: Threads + Wait + Sync>(rt: &HostRuntime, turns: &W, order: &Order) -> Status {
-    let Some(path) = &order.store else {
-        return match MemKeeper::new(rt.alloc(), &[]) {
-            Ok(keeper) => serve(rt, turns, order, keeper).status,
-            Err(_) => Status::Memory,
-        };
+    let Ok(closing) = Closing::new(rt.alloc()) else {
+        return Status::Memory;
     };
-    match Connection::open(rt, path.as_str()) {
-        Ok(connection) => match FileKeeper::over(rt.alloc(), connection) {
-            Ok(keeper) => serve_file(rt, turns, order, keeper),
+    match &order.store {
+        Some(path) => obey_over_file(rt, turns, order, path.as_str(), &closing),
+        None => match MemKeeper::new(rt.alloc(), &[]) {
+            Ok(keeper) => obey_over(rt, turns, order, keeper, &closing),
             Err(_) => Status::Memory,
         },
-        Err(error) => status_of(rt, error),
     }
 }
 
-/// The same over a file, whose log is copied back at the end.
-fn serve_file<W: Threads + Wait + Sync>(
+fn obey_over<W: Threads + Wait + Sync>(
     rt: &HostRuntime,
     turns: &W,
     order: &Order,
-    keeper: FileKeeper,
+    keeper: MemKeeper,
+    closing: &Closing,
 ) -> Status {
-    let finished = serve(rt, turns, order, keeper);
-    // Whatever was answered is in the log already, from which the next opening takes it.
-    if let Err(error) = finished.keeper.close() {
-        let _ = eprintln!(rt; "filesd: the store's log can't be copied back: {error}");
+    match workers(rt, &order.serving, closing) {
+        Ok(mut workers) => run_on(rt, turns, order, keeper, closing, &mut workers).0,
+        Err(status) => status,
     }
-    finished.status
 }
 
-fn status_of(rt: &HostRuntime, error: Error) -> Status {
-    match error {
-        Error::SqliteFailure(ErrorCode::OutOfMemory) => Status::Memory,
-        error => {
-            let _ = eprintln!(rt; "filesd: the store can't be opened: {error}");
-            Status::StoreFault
+/// The same over a file. A server whose store refuses everything opens it anew, once in ten seconds at most.
+fn obey_over_file<W: Threads + Wait + Sync>(
+    rt: &HostRuntime,
+    turns: &W,
+    order: &Order,
+    path: &str,
+    closing: &Closing,
+) -> Status {
+    let mut workers = match workers(rt, &order.serving, closing) {
+        Ok(workers) => workers,
+        Err(status) => return status,
+    };
+    let mut opening = open_store(rt, path, closing);
+    for _ in turns.forever() {
+        let store = match opening {
+            Ok(store) => store,
+            Err(status) => return status,
+        };
+        let opened = Instant::now(rt).ok();
+        let (status, store) = run_on(rt, turns, order, store, closing, &mut workers);
+        close_store(rt, store);
+        match closing.cause() {
+            None | Some(Cause::Full) => return status,
+            Some(Cause::Store | Cause::Memory) => {}
         }
+        rest(rt, opened);
+        closing.reset();
+        opening = open_again(rt, path, closing);
+    }
+    unreachable!()
+}
+
+// Waits until so long has passed since then.
+fn rest(rt: &HostRuntime, since: Option<Instant>) {
+    if let Some(since) = since
+        && let Ok(passed) = since.elapsed(rt)
+    {
+        sleep(rt, Duration::from_secs(REST).saturating_sub(passed));
     }
 }
 
-/// The same over any keeper.
-fn serve<W: Threads + Wait + Sync, K: Keeper + Drop + Send>(
+/// The same over any keeper, in run after run: one that is full is followed by the next, over the same doors and the rows that it left.
+fn run_on<W: Threads + Wait + Sync, K: Keeper + Drop + Send>(
     rt: &HostRuntime,
     turns: &W,
     order: &Order,
     keeper: K,
+    closing: &Closing,
+    workers: &mut [SocketWorker],
+) -> (Status, K) {
+    let mut keeper = keeper;
+    for _ in turns.forever() {
+        let Finished {
+            status,
+            keeper: left,
+            site,
+        } = run_once(rt, turns, order, keeper, workers);
+        // With it goes the history.
+        drop(site);
+        keeper = left;
+        if !matches!(status, Status::RunFull | Status::Done)
+            || closing.cause() != Some(Cause::Full)
+        {
+            return (status, keeper);
+        }
+        let _ = eprintln!(rt; "filesd: the run's history is full, and the next run begins");
+        closing.reset();
+    }
+    unreachable!()
+}
+
+fn run_once<W: Threads + Wait + Sync, K: Keeper + Drop + Send>(
+    rt: &HostRuntime,
+    turns: &W,
+    order: &Order,
+    keeper: K,
+    workers: &mut [SocketWorker],
 ) -> Finished<K> {
-    let clock: Result<_, _> = rt.clone();
-    let Ok(clock) = clock else {
-        return unopened(Status::Memory, keeper);
-    };
-    let mut workers = match workers(rt, &order.serving) {
-        Ok(workers) => workers,
-        Err(status) => return unopened(status, keeper),
+    let Some(clock) = same(rt) else {
+        return Finished {
+            status: Status::Memory,
+            keeper,
+            site: None,
+        };
     };
     let count = workers.len().min(MOST_WORKERS as usize);
     run(
@@ -154,12 +214,4 @@ fn serve<W: Threads + Wait + Sync, K: Keeper + Drop + Send>(
         &mut RealClock::new(clock),
         &mut workers[..count],
     )
-}
-
-fn unopened<K: Keeper + Drop>(status: Status, keeper: K) -> Finished<K> {
-    Finished {
-        status,
-        keeper,
-        site: None,
-    }
 }

@@ -2,6 +2,7 @@
 
 use filesd::Status;
 use nf_base::MAX_SEATS;
+use nf_server::Pace;
 use std::env::{self, VarError};
 use std::time::Duration;
 
@@ -11,19 +12,29 @@ pub const MOST_WORKERS: u64 = MAX_SEATS as u64 - 1;
 /// How many threads serve, where nothing is said.
 const WORKERS: u64 = 4;
 
-/// The longest that a read or a write may wait, in seconds.
+/// The longest that may be waited, in seconds.
 const MOST_TIMEOUT: u64 = 3_600;
 
-/// How long it may where nothing is said.
+/// How long a read or a write may wait where nothing is said.
 const TIMEOUT: u64 = 30;
+
+/// How long a whole message or answer may take where nothing is said, in seconds, and how many of its bytes are a second more.
+const MESSAGE_TIME: u64 = 30;
+
+const PACE: u64 = 16_384;
+
+/// The most bytes that may be.
+const MOST_PACE: u64 = 1_000_000_000;
 
 /// How `serve` works.
 #[derive(Drop)]
 pub struct Serving {
     pub address: String,
     pub workers: u64,
-    pub limit: Duration,
+    pub pace: Pace,
     pub is_logged: bool,
+    /// How many connections each thread serves.
+    pub connections: u64,
 }
 
 /// The path of the store, where one is named.
@@ -39,13 +50,24 @@ pub fn store(rt: &HostRuntime) -> Result<Option<String>, Status> {
     }
 }
 
-/// What `serve` is told.
-pub fn read_serving(rt: &HostRuntime) -> Result<Serving, Status> {
+/// What `serve` is told, whose words say how many connections each thread serves.
+pub fn read_serving(rt: &HostRuntime, connections: u64) -> Result<Serving, Status> {
     Ok(Serving {
         address: address(rt)?,
         workers: number(rt, "FILESD_WORKERS", 1, MOST_WORKERS, WORKERS)?,
-        limit: Duration::from_secs(number(rt, "FILESD_TIMEOUT", 1, MOST_TIMEOUT, TIMEOUT)?),
+        pace: pace(rt)?,
         is_logged: number(rt, "FILESD_LOG", 0, 1, 0)? == 1,
+        connections,
+    })
+}
+
+fn pace(rt: &HostRuntime) -> Result<Pace, Status> {
+    let wait = number(rt, "FILESD_TIMEOUT", 1, MOST_TIMEOUT, TIMEOUT)?;
+    let whole = number(rt, "FILESD_MESSAGE_TIME", 1, MOST_TIMEOUT, MESSAGE_TIME)?;
+    Ok(Pace {
+        wait: Duration::from_secs(wait),
+        whole: Duration::from_secs(whole),
+        bytes: number(rt, "FILESD_PACE", 1, MOST_PACE, PACE)?,
     })
 }
 

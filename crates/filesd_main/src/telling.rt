@@ -15,6 +15,9 @@ What the environment says:
   FILESD_LISTEN    where serve listens, as 127.0.0.1:8080
   FILESD_WORKERS   how many threads serve, 1 to 63 (4)
   FILESD_TIMEOUT   how many seconds a read or a write may wait, 1 to 3600 (30)
+  FILESD_MESSAGE_TIME, FILESD_PACE
+                   how many seconds a whole message or answer may take, 1 to 3600 (30), and how many of its bytes
+                   are a second more, 1 to 1000000000 (16384)
   FILESD_LOG       1: a line on standard error for each answer (0)";
 
 /// How the program is used.
@@ -59,6 +62,7 @@ fn why_broken(rule: u8) -> &'static str {
         3 => "a user, group or node that it names isn't there",
         4 => "its name comes twice",
         5 => "it leads to no root of its owner",
+        6 => "it is no share or mount that may be made",
         7 => "there are too many of its kind",
         8 => "its quota is too large",
         _ => "there is no such rule",

@@ -3,7 +3,7 @@
 
 use bstr::ByteSlice;
 use jiff::Timestamp;
-use percent_encoding::{AsciiSet, CONTROLS, ascii_set, percent_encode};
+use percent_encoding::{AsciiSet, CONTROLS, ascii_set, percent_decode, percent_encode};
 use std::alloc::{AllocError, Global};
 use std::fmt::Write as WriteText;
 use std::time::Duration;
@@ -31,7 +31,7 @@ pub fn line(
     let mut line = format!(in alloc; "{moment:.0} ")?;
     push_field(&mut line, method)?;
     line.push(' ')?;
-    push_path(&mut line, target)?;
+    push_path(&mut line, alloc, target)?;
     line.push(' ')?;
     push_field(&mut line, status)?;
     match took {
@@ -53,15 +53,20 @@ fn push_field(line: &mut String, bytes: &[u8]) -> Result<(), AllocError> {
     percent_encode(front(bytes), ESCAPED).append_to(line)
 }
 
-// The target without its query, and with a `*` for the token of a public link, wherever one may stand in it.
-fn push_path(line: &mut String, target: &[u8]) -> Result<(), AllocError> {
+// The target without its query, and with a `*` for the token of a public link; or a `*` alone where one may stand anywhere in it.
+fn push_path(line: &mut String, alloc: Global, target: &[u8]) -> Result<(), AllocError> {
     let path = match target.split_once_str(b"?") {
         Some((path, _)) => path,
         None => target,
     };
-    let Some((before, behind)) = front(path).split_once_str(BEFORE_TOKEN) else {
-        return push_field(line, path);
-    };
+    match front(path).split_once_str(BEFORE_TOKEN) {
+        Some((before, behind)) if !behind.starts_with(b"/") => { push_link(line, before, behind) }
+        _ if is_nearly_public(alloc, path)? => line.push('*'),
+        _ => push_field(line, path),
+    }
+}
+
+fn push_link(line: &mut String, before: &[u8], behind: &[u8]) -> Result<(), AllocError> {
     percent_encode(before, ESCAPED).append_to(line)?;
     percent_encode(BEFORE_TOKEN, ESCAPED).append_to(line)?;
     line.push('*')?;
@@ -70,6 +75,14 @@ fn push_path(line: &mut String, target: &[u8]) -> Result<(), AllocError> {
         percent_encode(rest, ESCAPED).append_to(line)?;
     }
     Ok(())
+}
+
+// Whether it is a public path that is spelt in another way: with more slashes, other letters or escapes.
+fn is_nearly_public(alloc: Global, path: &[u8]) -> Result<bool, AllocError> {
+    let mut bytes = Vec::new(alloc);
+    percent_decode(path).append_to(&mut bytes)?;
+    bytes.make_ascii_lowercase();
+    Ok(bytes.as_slice().contains_str(b"public.php"))
 }
 
 fn front(bytes: &[u8]) -> &[u8] {

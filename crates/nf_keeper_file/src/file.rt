@@ -3,6 +3,7 @@
 use nf_base::{BlobId, Changes};
 use nf_keeper::{KeepFault, Keeper, NewBlob, RawRows};
 use nf_keeper_sql::SqlKeeper;
+use nf_watch::Explains;
 use sqlite::{Connection, Error, File, FileStore};
 use std::alloc::{AllocError, Global};
 
@@ -26,6 +27,15 @@ impl FileKeeper {
     pub fn close(self) -> Result<(), Error> {
         let FileKeeper { inner } = self;
         Box::into_inner(inner).into_connection().close()
+    }
+}
+
+impl Explains for FileKeeper {
+    fn explain(&self, alloc: Global) -> Result<String, AllocError> {
+        match self.inner.why() {
+            Some(error) => format!(in alloc; "{error}"),
+            None => Ok(String::new(alloc)),
+        }
     }
 }
 

@@ -22,6 +22,8 @@ const TABLES: &str =
 pub struct SqlKeeper<S: Alter> {
     connection: Connection<S>,
     faults: u64,
+    /// Why the last call failed, of those that did.
+    why: Option<Error>,
     alloc: Global,
 }
 
@@ -33,6 +35,7 @@ impl<S: Alter> SqlKeeper<S> {
         SqlKeeper {
             connection,
             faults: 0,
+            why: None,
             alloc,
         }
     }
@@ -51,6 +54,11 @@ impl<S: Alter> SqlKeeper<S> {
         self.faults
     }
 
+    /// Why the last call failed, of those that did.
+    pub fn why(&self) -> Option<&Error> {
+        self.why.as_ref()
+    }
+
     /// What a call answers by what the database answered it, where a failure is counted.
     fn counted<T>(&mut self, answer: Result<T, Error>) -> Result<T, KeepFault>
         ensures value { result ≡ answered answer }
@@ -59,8 +67,9 @@ impl<S: Alter> SqlKeeper<S> {
         match answer {
             Ok(value) => Ok(value),
             Err(Error::SqliteFailure(ErrorCode::OutOfMemory)) => Err(KeepFault::Memory),
-            Err(_) => {
+            Err(error) => {
                 self.faults = self.faults.saturating_add(1);
+                self.why = Some(error);
                 Err(KeepFault::Failed)
             }
         }

@@ -10,7 +10,7 @@ use Rattle.nf_outside.specs.declared.traits.Ends.{Ghosts as EndsOf}
 use Rattle.nf_session.specs.declared.ended.Ended.{Ended}
 use Rattle.nf_session.specs.declared.ended.Ended.TheVariants.{RunFull as EndedFull}
 use Rattle.nf_turn.specs.declared.view.Memory.{Memory}
-use Rattle.nf_server.specs.Doors.{GivesLink, behind}
+use Rattle.nf_server.specs.Doors.{GivesLink, behind, closed}
 use Rattle.nf_server.specs.Work.{GaveAndTook, HasNone, InTurn, NoneFull, ServesEnds, ServesNext, Visited, Works}
 use Rattle.nf_server.specs.declared.door.Door.{Ghosts as DoorOf}
 use Rattle.nf_server.specs.declared.link.Link.{Link}
@@ -63,7 +63,7 @@ module _ {K S O C : Type 0} (k : KeeperOf K) (s : EndsOf S) (o : EndsOf O) (read
       pub visits : List (Visited K S O C)
       pub so_many : length visits ≡ count
       pub in_turn : InTurn k s o reads m a.clock visits n b.clock
-      pub gave : GaveAndTook k s o reads door a.door b.door visits
+      pub gave : GaveAndTook k s o reads door a.door b.door (door.coming b.door) visits
       pub none_full : NoneFull k s o reads visits
       pub same : door.faults b.door ≡ door.faults a.door
 
@@ -96,7 +96,7 @@ module _ {K S O C : Type 0} (k : KeeperOf K) (s : EndsOf S) (o : EndsOf O) (read
           in_turn_more m a.clock so_far.visits n b.clock visit so_far.in_turn
           (subst (λ (z : C). ServesEnds k s o reads n p z e.clock link next.after ended) clock next.serves)
 
-      gave : GaveAndTook k s o reads door a.door e.door visits
+      gave : GaveAndTook k s o reads door a.door e.door (door.coming e.door) visits
       gave = record {
         came =
             so_far.gave.came
@@ -123,13 +123,18 @@ module _ {K S O C : Type 0} (k : KeeperOf K) (s : EndsOf S) (o : EndsOf O) (read
         same = faults;
       }
 
-      pub full_work : (connections : ℕ) → count < connections → ended ≡ Some EndedFull → Works k s o reads door connections m p a e worked.RunFull
-      full_work connections less full = record {
+      -- it found the run full, and its door was closed
+      pub full_work : (f : Worker D C) (connections : ℕ) → count < connections → ended ≡ Some EndedFull → f.clock ≡ e.clock
+          → door.coming f.door ≡ closed (door.coming e.door) → door.served f.door ≡ door.served e.door → door.faults f.door ≡ door.faults e.door
+          → Works k s o reads door connections m p a f worked.RunFull
+      full_work f connections less full its_clock shut kept_still unfailed_still = record {
         visits = visits;
         few = omega (arith, so_many);
-        in_turn = in_turn;
-        gave = gave;
-        ends = (so_far.visits, visit, refl, so_far.none_full, full, faults);
+        in_turn = subst (λ (z : C). InTurn k s o reads m a.clock visits p z) (sym its_clock) in_turn;
+        rest = door.coming e.door;
+        gave = record { came = gave.came; left = kept_still ∙ gave.left };
+        coming = shut;
+        ends = (so_far.visits, visit, refl, so_far.none_full, full, unfailed_still ∙ faults);
       }
 
     pub no_work : (m : Memory (Served K)) (a : Worker D C) (connections : ℕ) → Works k s o reads door connections m m a a worked.Memory
@@ -137,7 +142,9 @@ module _ {K S O C : Type 0} (k : KeeperOf K) (s : EndsOf S) (o : EndsOf O) (read
       visits = [];
       few = omega arith;
       in_turn = (refl, refl);
+      rest = door.coming a.door;
       gave = record { came = nothing_came (door.coming a.door); left = nothing_left (door.served a.door) };
+      coming = refl;
       ends = (refl, refl);
     }
 
@@ -147,7 +154,9 @@ module _ {K S O C : Type 0} (k : KeeperOf K) (s : EndsOf S) (o : EndsOf O) (read
       visits = so_far.visits;
       few = omega (arith, so_far.so_many);
       in_turn = so_far.in_turn;
+      rest = door.coming b.door;
       gave = so_far.gave;
+      coming = refl;
       ends = (so_far.none_full, so_far.same, inr so_far.so_many);
     }
 
@@ -157,7 +166,7 @@ module _ {K S O C : Type 0} (k : KeeperOf K) (s : EndsOf S) (o : EndsOf O) (read
       in_turn_still : InTurn k s o reads m a.clock so_far.visits n e.clock
       in_turn_still = subst (λ (z : C). InTurn k s o reads m a.clock so_far.visits n z) (sym clock) so_far.in_turn
 
-      gave_still : door.coming e.door ≡ door.coming b.door → GaveAndTook k s o reads door a.door e.door so_far.visits
+      gave_still : door.coming e.door ≡ door.coming b.door → GaveAndTook k s o reads door a.door e.door (door.coming e.door) so_far.visits
       gave_still same = record {
         came =
             so_far.gave.came
@@ -173,7 +182,9 @@ module _ {K S O C : Type 0} (k : KeeperOf K) (s : EndsOf S) (o : EndsOf O) (read
             visits = so_far.visits;
             few = omega (arith, so_far.so_many);
             in_turn = in_turn_still;
+            rest = door.coming e.door;
             gave = gave_still shut.0;
+            coming = refl;
             ends = (so_far.none_full, unfailed ∙ so_far.same, inl shut.1);
           }
         where
@@ -189,6 +200,8 @@ module _ {K S O C : Type 0} (k : KeeperOf K) (s : EndsOf S) (o : EndsOf O) (read
         visits = so_far.visits;
         few = omega (arith, so_far.so_many);
         in_turn = in_turn_still;
+        rest = door.coming e.door;
         gave = gave_still same;
+        coming = refl;
         ends = (so_far.none_full, subst (λ (z : ℕ). Rose z (door.faults e.door)) so_far.same rose, omega (arith, so_far.so_many));
       }

@@ -1,5 +1,5 @@
 -- What a door gives, and what is given back to it.
-use Rattle.std.specs.Prelude.{◌≡◌, List, [], ◌∷◌, ◌++◌, Option, None, Some, Result, Ok, Err, option_map}
+use Rattle.std.specs.Prelude.{◌≡◌, Bool, if◌then◌else◌, List, [], ◌∷◌, ◌++◌, Option, None, Some, Result, Ok, Err, option_map}
 use Rattle.nf_outside.specs.declared.traits.Failed.{Failed}
 use Rattle.nf_server.specs.declared.link.Link.{Link}
 
@@ -20,3 +20,10 @@ module _ {S O : Type 0} where
   GivesLink None (Some left) result = ⊥
   GivesLink (Some links) None result = ⊥
   GivesLink (Some links) (Some left) result = GivesFirst links left result
+
+  -- no link comes any more, where they are told
+  abbrev pub closed : Option (List (Link S O)) → Option (List (Link S O))
+  closed coming = option_map (λ (links : List (Link S O)). []) coming
+
+  abbrev pub unless_closed : Bool → List (Link S O) → List (Link S O)
+  unless_closed is_closed links = if is_closed then [] else links

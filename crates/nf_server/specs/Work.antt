@@ -11,6 +11,7 @@ use Rattle.nf_session.specs.declared.ended.Ended.{Ended}
 use Rattle.nf_session.specs.declared.ended.Ended.TheVariants.{RunFull as EndedFull}
 use Rattle.nf_turn.specs.Prelude.{HasHeard, having_joined, having_split, split_from}
 use Rattle.nf_turn.specs.declared.view.Memory.{Memory}
+use Rattle.nf_server.specs.Doors.{closed}
 use Rattle.nf_server.specs.Links.{scene_at}
 use Rattle.nf_server.specs.declared.door.Door.{Ghosts as DoorOf}
 use Rattle.nf_server.specs.declared.link.Link.{Link}
@@ -47,9 +48,9 @@ module _ {K S O C : Type 0} (k : KeeperOf K) (s : EndsOf S) (o : EndsOf O) (read
   NoneFull visits = All (λ (v : Visited K S O C). v.ended ≢ Some EndedFull) visits
 
   module _ {D : Type 0} (door : DoorOf D S O) where
-    -- what the door had to give was the links that came, and then what it has; and they were given back to it, in that order
-    pub record GaveAndTook (a b : D) (visits : List (Visited K S O C)) : Type 0 where
-      pub came : door.coming a ≡ option_map (λ (links : List (Link S O)). map (λ (v : Visited K S O C). v.came) visits ++ links) (door.coming b)
+    -- what the door had to give was the links that came, and then the rest; and they were given back to it, in that order
+    pub record GaveAndTook (a b : D) (rest : Option (List (Link S O))) (visits : List (Visited K S O C)) : Type 0 where
+      pub came : door.coming a ≡ option_map (λ (links : List (Link S O)). map (λ (v : Visited K S O C). v.came) visits ++ links) rest
       pub left : door.served b ≡ option_map (λ (links : List (Link S O)). links ++ map (λ (v : Visited K S O C). v.left) visits) (door.served a)
 
     -- it has no link left, as far as it tells
@@ -68,12 +69,21 @@ module _ {K S O C : Type 0} (k : KeeperOf K) (s : EndsOf S) (o : EndsOf O) (read
         × (last.ended ≡ Some EndedFull) × (door.faults b ≡ door.faults a)
     EndsWork connections a b visits worked.Memory = (visits ≡ []) × (door.faults b ≡ door.faults a)
 
+    -- who finds the run full closes the door to the rest
+    abbrev pub coming_after : Worked → Option (List (Link S O)) → Option (List (Link S O))
+    coming_after worked.All rest = rest
+    coming_after worked.DoorFault rest = rest
+    coming_after worked.RunFull rest = closed rest
+    coming_after worked.Memory rest = rest
+
     -- one worker
     pub record Works (connections : ℕ) (m n : Memory (Served K)) (a b : Worker D C) (result : Worked) : Type 0 where
       pub visits : List (Visited K S O C)
       pub few : length visits ≤ connections
       pub in_turn : InTurn m a.clock visits n b.clock
-      pub gave : GaveAndTook a.door b.door visits
+      pub rest : Option (List (Link S O))
+      pub gave : GaveAndTook a.door b.door rest visits
+      pub coming : door.coming b.door ≡ coming_after result rest
       pub ends : EndsWork connections a.door b.door visits result
 
     -- one connection was served and given back

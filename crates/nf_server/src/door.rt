@@ -3,7 +3,7 @@
 ghost use Rattle.std.specs.Prelude.{◌≡◌, ℕ, List, IfOk, IfSome};
 ghost use Rattle.std.specs.declared.option.Option.{Option};
 ghost use Rattle.nf_outside.specs.Causes.{HasCause};
-ghost use Rattle.nf_server.specs.Doors.{GivesLink, behind};
+ghost use Rattle.nf_server.specs.Doors.{GivesLink, behind, closed};
 
 use crate::link::Link;
 use nf_outside::{Failed, Sink, Source};
@@ -42,5 +42,11 @@ pub trait Door {
         requires room { Self.has_room self.old }
         ensures served { Self.served self.new ≡ behind (Self.served self.old) link }
         ensures coming { Self.coming self.new ≡ Self.coming self.old }
+        ensures faults { Self.faults self.new ≡ Self.faults self.old };
+
+    /// Says to it that it is closed: no connection comes any more. It takes no memory and never fails.
+    fn close(&mut self)
+        ensures coming { Self.coming self.new ≡ closed (Self.coming self.old) }
+        ensures served { Self.served self.new ≡ Self.served self.old }
         ensures faults { Self.faults self.new ≡ Self.faults self.old };
 }

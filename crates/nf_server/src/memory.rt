@@ -1,10 +1,10 @@
 //! A door in memory.
 
-ghost use Rattle.std.specs.Prelude.{◌≡◌, ◌+◌, ◌≤◌, ◌<◌, [], vec_capacity, vec_len, IfOk, IfSome, Some, is_ok, not};
+ghost use Rattle.std.specs.Prelude.{◌≡◌, ◌+◌, ◌≤◌, ◌<◌, [], vec_capacity, vec_len, IfOk, IfSome, Some, is_ok, not, false};
 ghost use Rattle.std.specs.Vec.Iter.{into_iter_items, into_iter_len};
 ghost use Rattle.nf_outside.specs.Calls.{IsNextCall, first_calls, is_failing};
 ghost use Rattle.nf_outside.specs.Causes.{HasCause};
-ghost use Rattle.nf_server.specs.Doors.{GivesLink, behind};
+ghost use Rattle.nf_server.specs.Doors.{GivesLink, behind, closed, unless_closed};
 
 use crate::door::Door;
 use crate::link::Link;
@@ -18,6 +18,7 @@ pub struct MemDoor<S: Drop, O: Drop> {
     coming: IntoIter<Link<S, O>, Global>,
     served: Vec<Link<S, O>>,
     calls: CallCount,
+    is_closed: bool,
     ghost room: { vec_len served + into_iter_len coming ≤ vec_capacity served },
 }
 
@@ -31,6 +32,7 @@ impl<S: Drop, O: Drop> MemDoor<S, O> {
         ensures coming { IfOk result (λ door. into_iter_items door.coming ≡ links.items) }
         ensures served { IfOk result (λ door. door.served.items ≡ []) }
         ensures calls { IfOk result (λ door. door.calls ≡ first_calls failing.items) }
+        ensures opened { IfOk result (λ door. door.is_closed ≡ false) }
     {
         let mut served = Vec::new(alloc);
         served.reserve(links.len())?;
@@ -38,6 +40,7 @@ impl<S: Drop, O: Drop> MemDoor<S, O> {
             coming: links.into_iter(),
             served,
             calls: CallCount::new(failing),
+            is_closed: false,
         })
     }
 
@@ -54,7 +57,7 @@ impl<S: Source + Drop, O: Sink + Drop> Door for MemDoor<S, O> {
 
     type Sink = O;
 
-    ghost coming = { λ door. Some (into_iter_items door.coming) };
+    ghost coming = { λ door. Some (unless_closed door.is_closed (into_iter_items door.coming)) };
 
     ghost served = { λ door. Some door.served.items };
 
@@ -72,6 +75,9 @@ impl<S: Source + Drop, O: Sink + Drop> Door for MemDoor<S, O> {
         ensures fails { is_ok result ≡ not (is_failing self.new.calls) }
     {
         self.calls.next()?;
+        if self.is_closed {
+            return Ok(None);
+        }
         Ok(self.coming.next())
     }
 
@@ -82,5 +88,9 @@ impl<S: Source + Drop, O: Sink + Drop> Door for MemDoor<S, O> {
         ensures faults { ⟦<MemDoor<S, O> as Door>⟧.faults self.new ≡ ⟦<MemDoor<S, O> as Door>⟧.faults self.old }
     {
         self.served.push_reserved(link);
+    }
+
+    fn close(&mut self) {
+        self.is_closed = true;
     }
 }

@@ -311,6 +311,7 @@ where
                 let served = serve_next(rt, alloc, routes, hub, seat, worker, link);
                 seat = served.seat;
                 if is_full(served.ended) {
+                    worker.door.close();
                     return (Worked::RunFull, seat);
                 }
             }

@@ -7,14 +7,15 @@ use crate::words::words_of;
 use filesd::{Finished, RowsFault, Status, run};
 use nf_keeper::MemKeeper;
 use nf_outside::{Ends, Failed, ListClock, MemSink, MemSource, Sink, Source};
-use nf_server::{Door, Link, MemDoor, MemLink, TcpDoor, Worker};
+use nf_server::{Cause, Closing, Door, Link, MemDoor, MemLink, Pace, TcpDoor, Terms, Worker};
 use std::alloc::{AllocError, Global};
 use std::io::{self, Read, Write};
 use std::net::{Ipv4Addr, Shutdown, SocketAddr, TcpListener, TcpStream};
+use std::os::fd::OwnedFd;
 use std::sync::Wait;
 use std::sync::atomic::{AtomicBool, Ordering};
 use std::test::Fail;
-use std::thread::{Threads, join};
+use std::thread::{Threads, join, sleep};
 use std::time::Duration;
 
 const GET_HELLO: &str =
@@ -154,12 +155,13 @@ fn lists(alloc: Global) -> Result<Vec<u8>, AllocError> {
     Ok(bytes)
 }
 
-/// 27 connections with so many requests each.
+/// 27 connections with so many requests each, and one with none.
 fn links_of_lists(alloc: Global) -> Result<Vec<MemLink>, AllocError> {
     let mut links = Vec::new(alloc);
     for _ in 0..27u32 {
         links.push(link(alloc, lists(alloc)?))?;
     }
+    links.push(link(alloc, Vec::new(alloc)))?;
     Ok(links)
 }
 
@@ -168,7 +170,9 @@ fn a_run_becomes_full(rt: HostRuntime) -> Result<(), Fail> {
     let alloc = rt.alloc();
     let mut workers = [mem_worker(alloc, links_of_lists(alloc)?, Vec::new(alloc))?];
     assert!(rt; status_of(&rt, alloc, &["serve"], &mut workers)? == Status::RunFull);
-    let door = &workers[0].door;
+    let door = &mut workers[0].door;
+    // It was closed to the last one.
+    assert!(rt; matches!(door.next(), Ok(None)));
     let served = door.served();
     assert!(rt; served.len() == 27);
     // The last answer of a link that had all `MAX_MESSAGES` says that it is the last.
@@ -340,6 +344,19 @@ fn ask(rt: &HostRuntime, address: SocketAddr, bytes: &[u8], ends: bool) -> io::R
     Ok(answer)
 }
 
+/// What doors are told whose reads wait no longer than the limit, nor for a whole message.
+pub fn terms(rt: &HostRuntime, limit: Duration) -> Result<Terms<HostRuntime>, AllocError> {
+    Ok(Terms {
+        pace: Pace {
+            wait: limit,
+            whole: limit,
+            bytes: 16_384,
+        },
+        closing: Closing::new(rt.alloc())?,
+        clock: rt.clone()?,
+    })
+}
+
 /// The answer of a server that serves one connection, whose reads wait no longer than the limit; and its status. `threads` is the same
 /// runtime, as what may start them.
 fn asked<R: Threads + Wait + Sync>(
@@ -353,7 +370,7 @@ fn asked<R: Threads + Wait + Sync>(
     let listener = TcpListener::bind(rt, SocketAddr::from((Ipv4Addr::LOCALHOST, 0)))?;
     let address = listener.local_addr()?;
     let mut workers = [Worker {
-        door: TcpDoor::new(listener, limit),
+        door: TcpDoor::new(alloc, listener, terms(rt, limit)?, 1),
         clock: ListClock::new(Vec::new(alloc)),
     }];
     let workers = &mut workers;
@@ -401,13 +418,73 @@ fn an_answer_reaches_who_still_sends(rt: HostRuntime) -> Result<(), Fail> {
 #[test]
 fn a_listener_that_fails_is_told(rt: HostRuntime) -> Result<(), Fail> {
     let alloc = rt.alloc();
+    let limit = Duration::from_secs(5);
     let listener = TcpListener::bind(&rt, SocketAddr::from((Ipv4Addr::LOCALHOST, 0)))?;
-    // Nobody connects, and it doesn't wait.
-    listener.set_nonblocking(true)?;
+    let stream = TcpStream::connect(&rt, listener.local_addr()?)?;
+    // A connection is no listener.
+    let listener = TcpListener::from(OwnedFd::from(stream));
     let mut workers = [Worker {
-        door: TcpDoor::new(listener, Duration::from_secs(5)),
+        door: TcpDoor::new(alloc, listener, terms(&rt, limit)?, 1),
         clock: ListClock::new(Vec::new(alloc)),
     }];
     assert!(rt; status_of(&rt, alloc, &["serve"], &mut workers)? == Status::DoorFault);
+    Ok(())
+}
+
+#[test]
+fn a_door_that_was_told_gives_nothing(rt: HostRuntime) -> Result<(), Fail> {
+    let alloc = rt.alloc();
+    let listener = TcpListener::bind(&rt, SocketAddr::from((Ipv4Addr::LOCALHOST, 0)))?;
+    // Somebody waits already.
+    let _stream = TcpStream::connect(&rt, listener.local_addr()?)?;
+    let terms = terms(&rt, Duration::from_secs(5))?;
+    terms.closing.tell(Cause::Store);
+    let mut door = TcpDoor::new(alloc, listener, terms, 1);
+    assert!(rt; matches!(door.next(), Ok(None)));
+    Ok(())
+}
+
+/// What comes of sending a byte of a request again and again.
+fn drip(rt: &HostRuntime, address: SocketAddr) -> io::Result<usize> {
+    let mut stream = TcpStream::connect(rt, address)?;
+    for count in 0..100usize {
+        if stream.write_all(b"G").is_err() {
+            return Ok(count);
+        }
+        sleep(rt, Duration::from_millis(50));
+    }
+    Ok(100)
+}
+
+/// How many bytes come through so, and the status of the server, whose messages may take 0.3 s.
+fn dripped<R: Threads + Wait + Sync>(
+    rt: &HostRuntime,
+    threads: &R,
+) -> Result<(usize, Status), Fail> {
+    let alloc = rt.alloc();
+    let listener = TcpListener::bind(rt, SocketAddr::from((Ipv4Addr::LOCALHOST, 0)))?;
+    let address = listener.local_addr()?;
+    let terms = terms(rt, Duration::from_millis(300))?;
+    let mut workers = [Worker {
+        door: TcpDoor::new(alloc, listener, terms, 1),
+        clock: ListClock::new(Vec::new(alloc)),
+    }];
+    let workers = &mut workers;
+    let (count, status) = join(
+        threads,
+        move || drip(rt, address),
+        move || status_of(threads, alloc, &["serve", "--connections", "1"], workers),
+    );
+    let status = status?;
+    Ok((count?, status))
+}
+
+#[test]
+fn a_dripping_connection_is_given_up(rt: HostRuntime) -> Result<(), Fail> {
+    let (count, status) = dripped(&rt, &rt)?;
+    // No read waited long, but the message took too long.
+    assert!(rt; 3 < count);
+    assert!(rt; count < 60);
+    assert!(rt; status == Status::Done);
     Ok(())
 }

@@ -1,10 +1,10 @@
 //! What a request holds, seen over sockets: a PUT whose body waits, and amid it another connection.
 
-use crate::doors::status_of;
+use crate::doors::{status_of, terms};
 use filesd::Status;
 use nf_outside::ListClock;
 use nf_server::{TcpDoor, Worker};
-use std::alloc::Global;
+use std::alloc::{AllocError, Global};
 use std::io::{self, Read, Write};
 use std::net::{Ipv4Addr, SocketAddr, TcpListener, TcpStream};
 use std::sync::Wait;
@@ -62,11 +62,14 @@ fn talk(rt: &HostRuntime, address: SocketAddr) -> io::Result<usize> {
     Ok(TALK.len())
 }
 
-fn worker(alloc: Global, listener: TcpListener) -> Worker<TcpDoor<TcpListener>, ListClock> {
-    Worker {
-        door: TcpDoor::new(listener, Duration::from_secs(5)),
+type TcpWorker = Worker<TcpDoor<TcpListener, HostRuntime>, ListClock>;
+
+fn worker(rt: &HostRuntime, listener: TcpListener) -> Result<TcpWorker, AllocError> {
+    let alloc = rt.alloc();
+    Ok(Worker {
+        door: TcpDoor::new(alloc, listener, terms(rt, Duration::from_secs(5))?, 1),
         clock: ListClock::new(Vec::new(alloc)),
-    }
+    })
 }
 
 /// How much of the talk two workers answer as they should, and their status. `threads` is the same runtime, as what may start them.
@@ -77,10 +80,7 @@ fn talked<R: Threads + Wait + Sync>(
     let alloc = rt.alloc();
     let listener = TcpListener::bind(rt, SocketAddr::from((Ipv4Addr::LOCALHOST, 0)))?;
     let address = listener.local_addr()?;
-    let mut workers = [
-        worker(alloc, listener.try_clone()?),
-        worker(alloc, listener),
-    ];
+    let mut workers = [worker(rt, listener.try_clone()?)?, worker(rt, listener)?];
     let workers = &mut workers;
     let (answered, status) = join(
         threads,

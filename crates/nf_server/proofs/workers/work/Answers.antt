@@ -18,7 +18,9 @@ returns-then-is_full-clause-works g c =
     (record c.loop.worker { door = c.next.new.self }) c.serve_next-served.new.worker c.loop.counter c.loop.invariant.so_far c.in-Ok-Some.link
     c.serve_next-served.result.ended refl
     (subst (λ (given : Option (Link g.row.D-Source.Denot g.row.D-Sink.Denot)). GivesLink (g.D.Door.coming c.loop.worker.door) (g.D.Door.coming c.next.new.self) (Ok given))
-    c.in-Ok-Some.field-0-is c.in-Ok-Some.ensures.gives) c.in-Ok-Some.ensures.served c.in-Ok-Some.ensures.cause.same c.serve_next-served.ensures.serves c.args.connections (search) (c.is_full.ensures.0 c.if-is_full.true)
+    c.in-Ok-Some.field-0-is c.in-Ok-Some.ensures.gives) c.in-Ok-Some.ensures.served c.in-Ok-Some.ensures.cause.same c.serve_next-served.ensures.serves
+    (record c.serve_next-served.new.worker { door = c.close.new.self }) c.args.connections (search) (c.is_full.ensures.0 c.if-is_full.true) refl
+    c.close.ensures.coming c.close.ensures.served c.close.ensures.faults
 
 pub loop-preserved : goal.loop-preserved
 loop-preserved g c = record {
