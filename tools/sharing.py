@@ -248,7 +248,8 @@ class Scene:
         if not explains(told, eras):
             lines = [f"{shown(told.ask)}: {told.status} {str(told.what)[:500]}, which none of {len(eras)} worlds explains"]
             for era in eras[-3:]:
-                lines.append(f" from {era.begun - told.sent:.6f} to {era.over - told.sent:.6f} after it was sent: {self.said(told.ask, era.world)}")
+                begun, over = era.begun - told.sent, era.over - told.sent
+                lines.append(f" from {begun:.6f} to {over:.6f} after it was sent: {self.said(told.ask, era.world)}")
             self.wrong("\n".join(lines + [self.story()]))
 
     @staticmethod
@@ -340,16 +341,16 @@ class Scene:
         if names != sorted(set(names), key=str.encode) or not set(lines) <= set(names):
             return False
         for entry in entries:
-            told, number = (entry["kind"], entry["owner"], entry["permissions"]), None
-            if entry["name"] in lines:
-                *wanted, number = lines[entry["name"]]
-            elif place.at == user and not entry["name"].startswith(f"s{self.number}-"):
+            name, told = entry["name"], (entry["kind"], entry["owner"], entry["permissions"])
+            if name in lines:
+                *wanted, number = lines[name]
+                body = world.nodes[number].body
+                is_it = self.numbers.get(number, entry["id"]) == entry["id"] and (body is None or entry["size"] == len(body))
+            elif place.at == user and not name.startswith(f"s{self.number}-"):
                 continue
             else:
-                wanted = "file", world.owner(place.at), world.permissions(user, place.mount)
-            if told != tuple(wanted) or self.numbers.get(number, entry["id"]) != entry["id"]:
-                return False
-            if number is None and entry["name"] not in COMING or number and entry["size"] != len(world.nodes[number].body or "") and told[0] == "file":
+                wanted, is_it = ("file", world.owner(place.at), world.permissions(user, place.mount)), name in COMING
+            if told != tuple(wanted) or not is_it:
                 return False
         return True
 
@@ -487,7 +488,8 @@ class Member:
         if method in ("NEW", "END") and not self.scene.can_share():
             method = "SET"
         if method in ("SET", "END"):
-            shares = [share.number for share in world.shares.values() if not share.ended and world.is_of(share, user) or chance.random() < 0.05]
+            shares = [share.number for share in world.shares.values()
+                      if not share.ended and world.is_of(share, user) or chance.random() < 0.05]
             some = chance.choice(SOME) if chance.random() < 0.8 else chance.randrange(1, ALL + 1)
             return Ask(user, method, share=chance.choice(shares), permissions=some if method == "SET" else None) if shares else None
         mounts = [path for path, at in paths if len(path) == 1 and (user, path[0]) in world.called]
@@ -497,7 +499,8 @@ class Member:
             found = Ask(user, "MOVE", None, target) if method == "rename" else Ask(user, "DELETE")
             return found._replace(path=chance.choice(mounts)) if mounts else None
         if method == "NEW":
-            return Ask(user, "NEW", chance.choice(paths)[0], receiver=chance.choice(USERS), permissions=chance.choice(SOME)) if paths else None
+            ask = Ask(user, "NEW", receiver=chance.choice(USERS), permissions=chance.choice(SOME))
+            return ask._replace(path=chance.choice(paths)[0]) if paths else None
         return self.kept_by_chance(world, method, paths)
 
     def kept_by_chance(self, world, method, paths):
@@ -539,7 +542,7 @@ class Member:
                 self.restore(share, revocation)
 
     def plan(self, world, method):
-        """A request by a mount that is granted, the place that it is granted for and the act, and a change after which it isn't; or None."""
+        """A request by a mount that is granted, the place and the act that it is granted for, and a change after which it isn't."""
         chance, scene = self.chance, self.scene
         for _ in range(20):
             user = chance.choice(USERS)
@@ -572,7 +575,8 @@ class Member:
                 by = chance.choice([link.giver, link.owner])
                 if chance.random() < 0.1 and self.scene.can_share():
                     asks.append(Ask(by, "END", share=link.number))
-                asks += [Ask(by, "SET", share=link.number, permissions=READ | link.permissions & ~lost) for lost in (act, SHARE, act | SHARE)]
+                asks += [Ask(by, "SET", share=link.number, permissions=READ | link.permissions & ~lost)
+                         for lost in (act, SHARE, act | SHARE)]
         chance.shuffle(asks)
         return asks
 
@@ -645,11 +649,13 @@ class Member:
 
 def members(soak):
     """The clients, with their scenes laid out."""
-    scenes = [Scene(soak, number, USERS[number % len(USERS)]) for number in range(scenes_for(soak.options.clients))]
+    clients = range(soak.options.clients)
+    scenes = [Scene(soak, number, USERS[number % len(USERS)]) for number in range(scenes_for(len(clients)))]
     for scene in scenes:
         scene.renew()
-    return [Member(scenes[number % len(scenes)], number, USERS[number // len(scenes) % len(USERS)]) for number in range(soak.options.clients)]
+    return [Member(scenes[number % len(scenes)], number, USERS[number // len(scenes) % len(USERS)]) for number in clients]
 
 
 def scenes_for(clients):
+    """How many scenes so many clients have."""
     return -(-clients // IN_A_SCENE)
