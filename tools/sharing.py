@@ -114,7 +114,8 @@ def told_share(share):
 
 
 def is_locked(status, what):
-    return status == 423 and isinstance(what, dict) and what.get("reason") == "locked"
+    """Whether a request is told that something is held. Whether it was isn't known here."""
+    return status == 423 and what.get("reason") == "locked" and set(what) in ({"node", "reason"}, {"folder", "name", "reason"})
 
 
 class Scene:
@@ -129,7 +130,7 @@ class Scene:
         self.eras, self.pending, self.unjudged = [Era(0, float("inf"), self.world)], None, []
         # The server's numbers of nodes; what was stored by folder and name, and where else it may come from; what isn't found there.
         self.numbers, self.stored, self.sources, self.unfound = {}, {}, {}, []
-        self.changes, self.late, self.went_on, self.shares, self.locked = 0, 0, 0, 0, 0
+        self.changes, self.late, self.went_on, self.locked = 0, 0, 0, 0
         self.long = random.Random(f"{soak.options.seed} long").randbytes(LONG_LENGTH)
 
     def wrong(self, what):
@@ -188,7 +189,6 @@ class Scene:
                 self.wrong(f"{shown(ask)}: {what}\n{self.story()}")
             if ask.method == "NEW":
                 self.soak.shares_made += 1
-                self.shares += 1
         self.end(world if is_made else None, pairs)
         return is_made
 
