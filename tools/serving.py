@@ -51,6 +51,9 @@ class Answer:
 
 
 def target(user, path):
+    """The target of a path, which is a list of names; a text is a target already."""
+    if isinstance(path, str):
+        return path
     return f"/remote.php/dav/files/{user}/" + "/".join(quote(name, safe="") for name in path)
 
 
@@ -72,7 +75,7 @@ class Client:
 
     def ask(self, method, path, body=None, token=None, user=None, expect=False, amid=None, **fields):
         """Sends a request and reads its whole answer. With `expect` the body is sent once the server wants it. `amid` is called before a
-        body is sent, or else between the head and the body of the answer."""
+        body is sent; where there is none, between the head and the body of the answer."""
         try:
             if not self.stream:
                 connection = self.connect()
@@ -90,7 +93,7 @@ class Client:
             waits = body is not None and (expect or amid)
             self.stream.write(head.encode() + (b"" if waits else body or b""))
             self.stream.flush()
-            answer = self.read(amid) if expect or not waits else None
+            answer = self.read(None if waits else amid) if expect or not waits else None
             if waits and (not answer or answer.status == 100):
                 if amid:
                     amid()
