@@ -77,12 +77,12 @@ fn push_link(line: &mut String, before: &[u8], behind: &[u8]) -> Result<(), Allo
     Ok(())
 }
 
-// Whether it is a public path that is spelt in another way: with more slashes, other letters or escapes.
+// Whether it is a public path that is spelt in another way, with more slashes, other letters or escapes, or a link as browsers have it.
 fn is_nearly_public(alloc: Global, path: &[u8]) -> Result<bool, AllocError> {
     let mut bytes = Vec::new(alloc);
     percent_decode(path).append_to(&mut bytes)?;
     bytes.make_ascii_lowercase();
-    Ok(bytes.as_slice().contains_str(b"public.php"))
+    Ok(bytes.starts_with(b"/s/") || bytes.as_slice().contains_str(b"public.php"))
 }
 
 fn front(bytes: &[u8]) -> &[u8] {

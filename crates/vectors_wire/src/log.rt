@@ -9,7 +9,7 @@ use std::time::Duration;
 fn a_line_shows_no_token_and_is_one(rt: HostRuntime) -> Result<(), Fail> {
     let moment = Timestamp::from_second(1_795_827_723)?;
     let took = Some(Duration::from_micros(12_890));
-    let cases: [(&[u8], &str); 7] = [
+    let cases: [(&[u8], &str); 8] = [
         (
             b"/remote.php/dav/files/alice/hello.txt",
             "2026-11-28T01:02:03Z GET /remote.php/dav/files/alice/hello.txt 200 172 12.8\n",
@@ -30,6 +30,7 @@ fn a_line_shows_no_token_and_is_one(rt: HostRuntime) -> Result<(), Fail> {
             b"/public.php/dav/files//s3cret/a.txt",
             "2026-11-28T01:02:03Z GET * 200 172 12.8\n",
         ),
+        (b"/s/s3cret", "2026-11-28T01:02:03Z GET * 200 172 12.8\n"),
         (
             b"/Publ%69c.php/dav/files/s3cret",
             "2026-11-28T01:02:03Z GET * 200 172 12.8\n",
