@@ -14,6 +14,8 @@ use Rattle.nf_words.specs.declared.answer.Allowed.TheVariants as allowed
 use Rattle.nf_words.specs.declared.request.Transfer.{Transfer}
 use Rattle.nf_decide.specs.Counts.{FitsRows, only_nodes}
 use Rattle.nf_decide.specs.declared.counts.RowCounts.{RowCounts}
+use Rattle.nf_decide.specs.declared.telling.Counted.{Counted}
+use Rattle.nf_decide.specs.declared.telling.Counted.TheVariants as counted
 
 -- how many tickets and rows fit without more memory
 pub record Room : Type 0 where
@@ -42,6 +44,12 @@ puts_share other = false
 abbrev pub puts_mount : Change → Bool
 puts_mount (Put (rows.Mount row)) = true
 puts_mount other = false
+
+-- a row is put that is counted
+abbrev pub is_counted : Counted → Change → Bool
+is_counted (counted.Fresh next) = is_fresh next
+is_counted counted.Share = puts_share
+is_counted counted.Mount = puts_mount
 
 -- how many rows some changes add at most
 abbrev pub added_of : ℕ → List Change → RowCounts

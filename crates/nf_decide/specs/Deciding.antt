@@ -1,5 +1,5 @@
 -- Tests that answer exactly as rules do.
-use Rattle.std.specs.Prelude.{◌≡◌, ◌≢◌, if◌then◌else◌, Bool, true, List, [], ◌∷◌, Option, None, Some, IsSome, IfSome, option_map, Result, Ok, Err}
+use Rattle.std.specs.Prelude.{◌≡◌, ◌≢◌, true, List, [], ◌∷◌, Option, None, Some, IsSome, IfSome, option_map, Result, Ok, Err}
 use Rattle.nf_access.specs.Shares.{ground_of}
 use Rattle.nf_defs.specs.Access.{Access}
 use Rattle.nf_defs.specs.Prelude.{node_row, Tables}
@@ -7,8 +7,6 @@ use Rattle.nf_reach.specs.Asking.{Asking}
 use Rattle.nf_words.specs.Prelude.{asked_by, asker_of, Call, earlier_rules, exists_rule, first_that_holds, is_mount_asked, key_in_way, later_rules, overwrite_rule, places_of, root_of, Rule, sharing_rule, target_rule, touches, transfer_of, ways_of}
 use Rattle.nf_words.specs.declared.answer.Denial.{Denial}
 use Rattle.nf_words.specs.declared.answer.Denial.TheVariants as denial
-use Rattle.nf_words.specs.declared.answer.ShareRule.{ShareRule}
-use Rattle.nf_words.specs.declared.answer.ShareRule.TheVariants as rule
 use Rattle.nf_words.specs.Sharing.{offered}
 use Rattle.nf_words.specs.declared.request.Offer.{Offer}
 use Rattle.nf_words.specs.declared.request.Places.{Places}
@@ -76,9 +74,3 @@ offer_in call other = None
 -- its node is there
 abbrev pub IsThere : Tables → Option Offer → Type 0
 IsThere t offer = IfSome offer (λ offer. IsSome (node_row t.nodes offer.node))
-
--- the first of the rules of a new share that is broken
-abbrev pub first_rule : Bool → Bool → Bool → Bool → Bool → Option ShareRule
-first_rule root own again widened long =
-    if root then Some rule.Root else if own then Some rule.SelfShare else if again then Some rule.Already
-    else if widened then Some rule.Widened else if long then Some rule.Chain else None

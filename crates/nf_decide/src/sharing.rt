@@ -7,7 +7,7 @@ ghost use Rattle.nf_defs.specs.Prelude.{user_named};
 ghost use Rattle.nf_words.specs.Prelude.{access_of, asked_about, way_of, ways_of};
 ghost use Rattle.nf_words.specs.Sharing.{fault_by, fault_of_ask, is_long, is_seen_by, is_steered_by, is_wider, is_widened, named_rule, new_share, offer_fault, offer_of, offered_by, parent_by, perms_after, set_fault, share_shown, share_steered, sharing_rule, unnamed, unnamed_by};
 ghost use Rattle.nf_words.specs.declared.answer.ShareRule.TheVariants as rule;
-ghost use Rattle.nf_decide.specs.Deciding.{Follows, asking_of, first_rule, offer_by, offer_in};
+ghost use Rattle.nf_decide.specs.Deciding.{Follows, asking_of, offer_by, offer_in};
 
 use crate::asked::node_found;
 use crate::deciding::Call;
@@ -125,14 +125,29 @@ impl<'a> Call<'a> {
         ensures { result ≡ offer_fault (access_of self.entry.now.state) self.entry.now offer.now }
     {
         let row = self.new_share(asker, offer);
+        self.row_fault(asker, offer, &row)
+    }
+
+    /// The same, by the row of the new share.
+    fn row_fault(&self, asker: &Asker<'_>, offer: &Offer, row: &ShareRow) -> Option<ShareRule>
+        requires asker { asker.now ≡ asking_of self.now }
+        requires row { row.now ≡ new_share (access_of self.now.state) self.now offer.now }
+        ensures { result ≡ offer_fault (access_of self.entry.now.state) self.entry.now offer.now }
+    {
         let shares = self.view.shares();
-        first_rule(
-            is_root(self.view.tree(), offer.node),
-            is_self_share(&row),
-            is_there_again(shares, &row, self.now),
-            self.is_widened(asker, offer, row.parent),
-            is_long(shares, row.parent),
-        )
+        if is_root(self.view.tree(), offer.node) {
+            Some(ShareRule::Root)
+        } else if is_self_share(row) {
+            Some(ShareRule::SelfShare)
+        } else if is_there_again(shares, row, self.now) {
+            Some(ShareRule::Already)
+        } else if self.is_widened(asker, offer, row.parent) {
+            Some(ShareRule::Widened)
+        } else if is_long(shares, row.parent) {
+            Some(ShareRule::Chain)
+        } else {
+            None
+        }
     }
 
     /// Whether what is another's isn't passed on by a share that allows that.
@@ -333,7 +348,7 @@ pub(crate) fn perms_after(view: &View<'_>, perms: Option<Perms>, row: &ShareRow)
     }
 }
 
-/// Whether the user made the share or owned its node then, and so may change and end it.
+/// Whether the user made the share, or owned its node when it was made, and so may change and end it.
 pub(crate) fn is_steered_by(user: UserId, row: &ShareRow) -> bool
     ensures { result ≡ is_steered_by user row.now }
 {
@@ -345,25 +360,6 @@ fn is_seen_by(asker: &Asker<'_>, row: &ShareRow) -> bool
     ensures { result ≡ is_seen_by asker.now.base.members asker.now.user row.now }
 {
     is_steered_by(asker.user(), row) || asker.receives(row)
-}
-
-/// The first rule that is broken: that of roots, of oneself, of what is there again, of more than may be passed on, or of chains.
-fn first_rule(root: bool, own: bool, again: bool, widened: bool, long: bool) -> Option<ShareRule>
-    ensures { result ≡ first_rule root own again widened long }
-{
-    if root {
-        Some(ShareRule::Root)
-    } else if own {
-        Some(ShareRule::SelfShare)
-    } else if again {
-        Some(ShareRule::Already)
-    } else if widened {
-        Some(ShareRule::Widened)
-    } else if long {
-        Some(ShareRule::Chain)
-    } else {
-        None
-    }
 }
 
 /// Whether a share gives the same already.

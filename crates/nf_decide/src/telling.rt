@@ -8,7 +8,7 @@ ghost use Rattle.nf_defs.specs.Tree.{node_row, relinked};
 ghost use Rattle.nf_words.specs.Changes.{blob_of, changes_of, closed_under, ended_row, gone_for, gone_under, hold_of, is_closing, meta_after, told, transferred_row, with_meta};
 ghost use Rattle.nf_words.specs.declared.answer.LockKey.TheVariants as lock_keys;
 ghost use Rattle.nf_words.specs.declared.answer.Mode.TheVariants.{Exclusive, Shared};
-ghost use Rattle.nf_decide.specs.Current.{BearsAct, added_by, added_of, is_fresh, puts_mount, puts_share};
+ghost use Rattle.nf_decide.specs.Current.{BearsAct, added_by, added_of, is_counted, is_fresh, puts_mount, puts_share};
 
 use crate::counts::RowCounts;
 use crate::tables::{copy, raised};
@@ -19,6 +19,15 @@ use nf_base::{
 use nf_tree::Tree;
 use nf_words::{Allowed, Hold, LockKey, Mode, Transfer};
 use std::alloc::{AllocError, Global};
+
+/// What is counted of some changes.
+#[derive(Clone, Copy)]
+enum Counted {
+    /// Nodes whose numbers weren't given yet, where this is the next one.
+    Fresh(NodeId),
+    Share,
+    Mount,
+}
 
 /// The rows that an act changes, and no other.
 pub fn changes(
@@ -272,46 +281,34 @@ fn added_of(next: NodeId, changes: &[Change]) -> RowCounts
     ensures { result ≡ added_of next changes.now }
 {
     RowCounts {
-        nodes: fresh_count(next, changes),
-        shares: share_count(changes),
-        mounts: mount_count(changes),
+        nodes: change_count(&Counted::Fresh(next), changes),
+        shares: change_count(&Counted::Share, changes),
+        mounts: change_count(&Counted::Mount, changes),
     }
 }
 
-fn fresh_count(next: NodeId, changes: &[Change]) -> usize
-    ensures { result ≡ count_by (is_fresh next) changes.now }
+/// How many of the changes are counted.
+fn change_count(counted: &Counted, changes: &[Change]) -> usize
+    ensures { result ≡ count_by (is_counted counted.now) changes.now }
 {
     let mut count = 0;
     for change in changes {
-        if is_fresh(next, change) {
+        if is_counted(counted, change) {
             count += 1;
         }
     }
     count
 }
 
-fn share_count(changes: &[Change]) -> usize
-    ensures { result ≡ count_by puts_share changes.now }
+/// Whether the change puts a row that is counted.
+fn is_counted(counted: &Counted, change: &Change) -> bool
+    ensures { result ≡ is_counted counted.now change.now }
 {
-    let mut count = 0;
-    for change in changes {
-        if puts_share(change) {
-            count += 1;
-        }
+    match counted {
+        Counted::Fresh(next) => is_fresh(*next, change),
+        Counted::Share => puts_share(change),
+        Counted::Mount => puts_mount(change),
     }
-    count
-}
-
-fn mount_count(changes: &[Change]) -> usize
-    ensures { result ≡ count_by puts_mount changes.now }
-{
-    let mut count = 0;
-    for change in changes {
-        if puts_mount(change) {
-            count += 1;
-        }
-    }
-    count
 }
 
 /// Whether a node is put whose number wasn't given yet.

@@ -1,7 +1,8 @@
 -- What links grant, and what is told of a refusal.
 use Rattle.std.specs.Prelude.{◌≡◌, ℕ, Bool, true, false, Option, Some, None, option_and_then, if◌then◌else◌}
-use Rattle.nf_access.specs.Access.{grant_by}
+use Rattle.nf_access.specs.Access.{allows, grant_by}
 use Rattle.nf_access.specs.Broken.{broken_in}
+use Rattle.nf_access.specs.Making.{passes_on}
 use Rattle.nf_access.specs.Shares.{Ground, chain_of, receives, share_row}
 use Rattle.nf_base.specs.declared.perms.Act.{Act}
 use Rattle.nf_base.specs.declared.rows.ShareKind.{ShareKind}
@@ -11,6 +12,8 @@ use Rattle.nf_defs.specs.declared.Grant.{Grant}
 use Rattle.nf_defs.specs.declared.Seeker.{Seeker}
 use Rattle.nf_grants.specs.declared.breaking.Broken.{Broken}
 use Rattle.nf_grants.specs.declared.breaking.Broken.TheVariants.{NoShare, Link}
+use Rattle.nf_grants.specs.declared.grants.Purpose.{Purpose}
+use Rattle.nf_grants.specs.declared.grants.Purpose.TheVariants.{Allow, PassOn}
 
 abbrev pub is_link_kind : ShareKind → Bool
 is_link_kind (kind.User user) = false
@@ -29,6 +32,11 @@ grant_to g who id = grant_where (receives g.members who) g id
 -- what a link gives whoever holds it: what its chain gives, where the share is there and is a link
 abbrev pub link_grant : Ground → ℕ → Option Grant
 link_grant g id = grant_where (λ share. is_link_kind share.kind) g id
+
+-- a grant serves a purpose
+abbrev pub serves : ℕ → Purpose → Grant → Bool
+serves now (Allow act) = allows now act
+serves now (PassOn perms) = passes_on now perms
 
 -- what is told of a refusal, from the first share that is received: that there is none, or the first broken link of its chain
 abbrev pub Tells : Ground → ℕ → Option Act → Option ShareRow → Broken → Type 0

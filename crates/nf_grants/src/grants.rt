@@ -6,7 +6,7 @@ ghost use Rattle.std.specs.Option.{option_map_or};
 ghost use Rattle.nf_access.specs.Access.{allows, by_chains, is_open};
 ghost use Rattle.nf_access.specs.Making.{passes_on};
 ghost use Rattle.nf_defs.specs.declared.Seeker.TheVariants as seeker;
-ghost use Rattle.nf_grants.specs.Grants.{link_grant};
+ghost use Rattle.nf_grants.specs.Grants.{link_grant, serves};
 
 use crate::chains::is_link;
 use crate::ground::Ground;
@@ -15,6 +15,15 @@ use nf_base::{Act, Moment, NodeId, Perms, ShareId, UserId};
 use nf_defs::{Grant, Seeker};
 use nf_shares::is_before;
 use std::alloc::{AllocError, Global};
+
+/// What a grant is wanted for.
+#[derive(Clone, Copy)]
+enum Purpose {
+    /// To do an act.
+    Allow(Act),
+    /// To share with those permissions what it is on.
+    PassOn(Perms),
+}
 
 /// Whether the grant hasn't ended.
 fn is_open(grant: &Grant, now: Moment) -> bool
@@ -37,6 +46,16 @@ fn passes_on(grant: &Grant, perms: Perms, now: Moment) -> bool
     allows(grant, Act::Share, now) && is_part(perms, grant.mask)
 }
 
+/// Whether the grant serves the purpose.
+fn serves(grant: &Grant, purpose: Purpose, now: Moment) -> bool
+    ensures { result ≡ serves now purpose grant.now }
+{
+    match purpose {
+        Purpose::Allow(act) => allows(grant, act, now),
+        Purpose::PassOn(perms) => passes_on(grant, perms, now),
+    }
+}
+
 impl<'a> Ground<'a> {
     /// What the seeker is granted on the node, by each share that it receives there and whose chain stands, in the order of the shares.
     pub fn grants(
@@ -57,11 +76,7 @@ impl<'a> Ground<'a> {
     pub fn allows(&self, user: UserId, node: NodeId, act: Act, now: Moment) -> Option<ShareId>
         ensures { result ≡ option_map (λ grant. grant.share) (find (allows now act) (by_chains self.now (seeker.User user) node)) }
     {
-        self.entries(node)
-            .iter()
-            .filter_map(|entry| self.grant_to(Seeker::User(user), entry.share))
-            .find(|grant| allows(grant, act, now))
-            .map(|grant| grant.share)
+        self.first_grant(user, node, Purpose::Allow(act), now)
     }
 
     /// The least share by which the user may share the node with those permissions.
@@ -74,10 +89,23 @@ impl<'a> Ground<'a> {
     ) -> Option<ShareId>
         ensures { result ≡ option_map (λ grant. grant.share) (find (passes_on now perms) (by_chains self.now (seeker.User user) node)) }
     {
+        self.first_grant(user, node, Purpose::PassOn(perms), now)
+    }
+
+    /// The least share that the user receives on the node and whose grant serves the purpose.
+    fn first_grant(
+        &self,
+        user: UserId,
+        node: NodeId,
+        purpose: Purpose,
+        now: Moment,
+    ) -> Option<ShareId>
+        ensures { result ≡ option_map (λ grant. grant.share) (find (serves now purpose) (by_chains self.now (seeker.User user) node)) }
+    {
         self.entries(node)
             .iter()
             .filter_map(|entry| self.grant_to(Seeker::User(user), entry.share))
-            .find(|grant| passes_on(grant, perms, now))
+            .find(|grant| serves(grant, purpose, now))
             .map(|grant| grant.share)
     }
 

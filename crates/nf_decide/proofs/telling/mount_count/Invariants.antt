@@ -1,7 +1,0 @@
-use Rattle.std.proofs.Common.{◌≡◌, ◌≤◌, count_by, take}
-use Rattle.nf_decide.specs.Current.{puts_mount}
-use Rattle.nf_decide.proofs.telling.mount_count.Given as goal
-
--- those of the changes so far
-abbrev pub invariant-loop-change : goal.invariant-loop-change
-invariant-loop-change l = (l.count ≡ count_by puts_mount (take l.change-index l.changes)) × (l.count ≤ l.change-index)
