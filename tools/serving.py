@@ -3,6 +3,7 @@ import os
 import re
 import socket
 import subprocess
+import threading
 from urllib.parse import quote
 
 ROOT = os.path.dirname(os.path.dirname(os.path.realpath(__file__)))
@@ -29,12 +30,16 @@ class Server:
         found = re.search(r"listening on 127\.0\.0\.1:(\d+)", line)
         if not found:
             raise SystemExit(f"the server said: {line}{self.process.stderr.read()}, and ended with status {self.process.wait()}")
-        self.port = int(found[1])
+        self.port, self.said = int(found[1]), []
+        threading.Thread(target=lambda: self.said.extend(self.process.stderr), daemon=True).start()
+
+    def runs(self):
+        """How often a run was followed by the next."""
+        return sum("the next run begins" in line for line in self.said)
 
     def kill(self):
         self.process.kill()
         self.process.wait()
-        self.process.stderr.close()
 
     def memory(self):
         """The bytes of memory that it has in use now."""
