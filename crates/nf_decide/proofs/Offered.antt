@@ -1,10 +1,10 @@
 -- A share is asked of what is there, where the rules of who asks and of where paths lead pass.
-use Rattle.std.proofs.Common.{ℕ, ◌≡◌, ◌||◌, Bool, true, false, is_some, find, if◌then◌else◌, List, [], ◌∷◌, Option, None, Some, IsSome, IfSome, option_map, option_and_then, refl, subst, sym}
+use Rattle.std.proofs.Common.{ℕ, ◌≡◌, ◌||◌, Bool, true, false, is_some, find, if◌then◌else◌, List, [], ◌∷◌, Option, None, Some, IsSome, option_map, option_and_then, refl, subst, sym}
 use Rattle.std.specs.List.{list_any}
 use Rattle.nf_base.specs.declared.rows.NodeRow.{NodeRow}
 use Rattle.nf_base.specs.declared.rows.ShareRow.{ShareRow}
 use Rattle.nf_base.specs.declared.rows.UserRow.{UserRow}
-use Rattle.nf_defs.specs.Prelude.{node_row, user_named}
+use Rattle.nf_defs.specs.Prelude.{user_named}
 use Rattle.nf_defs.specs.declared.Found.{Found}
 use Rattle.nf_defs.specs.declared.Found.TheVariants.{At, Free, Missing}
 use Rattle.nf_words.proofs.Passing.{PlacePasses, place_passes}
@@ -12,7 +12,6 @@ use Rattle.nf_words.proofs.Starts.{has_row}
 use Rattle.nf_words.proofs.Ways.{way_there}
 use Rattle.nf_words.specs.Prelude.{access_of, AreSound, asked_of, Call, caller_row, found, node_found, place_rule, token_rule, unreached, way_of}
 use Rattle.nf_words.specs.Sharing.{offer_of, offered}
-use Rattle.nf_words.specs.declared.request.Offer.{Offer}
 use Rattle.nf_words.specs.declared.request.ShareAsk.TheVariants as ask
 use Rattle.nf_words.specs.declared.request.Spot.{Spot}
 use Rattle.nf_words.specs.declared.request.Wanted.{Wanted}

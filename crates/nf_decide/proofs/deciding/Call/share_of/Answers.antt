@@ -1,4 +1,4 @@
-use Rattle.std.proofs.Common.{List, ◌∷◌, Option, IfOk, ap, subst, ◌≡◌}
+use Rattle.std.proofs.Common.{◌∷◌, Option, IfOk, ap, subst, ◌≡◌}
 use Rattle.nf_access.specs.Mounts.{ensured}
 use Rattle.nf_base.specs.declared.changes.Change.TheVariants.{Put}
 use Rattle.nf_base.specs.declared.rows.MountRow.{MountRow}
