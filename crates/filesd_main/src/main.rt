@@ -137,7 +137,8 @@ fn obey_over_file<W: Threads + Wait + Sync>(
             Err(status) => return status,
         };
         let opened = Instant::now(rt).ok();
-        let (status, store) = run_on(rt, turns, order, store, closing, &mut workers);
+        let finished = run_on(rt, turns, order, store, closing, &mut workers);
+        let (status, store) = finished;
         close_store(rt, store);
         match closing.cause() {
             None | Some(Cause::Full) => return status,

@@ -82,10 +82,18 @@ impl StoreWatch {
             return 0;
         };
         let now = RealClock::new(&self.rt).now();
-        match read_raw(self.rt.alloc(), first) {
+        let row = read_raw(self.rt.alloc(), first);
+        match &row {
             Ok(Row::Meta(meta)) => meta.last.seconds().saturating_sub(now) / DAY,
             _ => 0,
         }
+    }
+
+    fn tell_gone(&self) {
+        let path = self.files[0].path.as_str();
+        let _ = eprintln!(self.rt;
+            "filesd: {path}, or its log, isn't the file any more that was opened"
+        );
     }
 }
 
@@ -96,10 +104,7 @@ impl Watch for StoreWatch {
 
     fn is_gone(&mut self) {
         if !self.is_told {
-            let path = self.files[0].path.as_str();
-            let _ = eprintln!(self.rt;
-                "filesd: {path}, or its log, isn't the file any more that was opened"
-            );
+            self.tell_gone();
         }
         self.is_told = true;
         self.closing.tell(Cause::Store);
