@@ -139,14 +139,10 @@ class Scene:
     @contextmanager
     def changing(self, client):
         """While it lasts no other client changes the scene."""
-        if not self.lock.acquire(blocking=False):
-            # One that waits holds a worker, and so the end of a server that is full.
-            client.close()
-            self.lock.acquire()
-        try:
+        # A connection on which nothing is asked holds a worker, and so the end of a server that is full.
+        client.close()
+        with self.lock:
             yield
-        finally:
-            self.lock.release()
 
     def can_share(self):
         return self.soak.shares_made < MOST_SHARES * min(1, self.soak.passed() + 0.05)
@@ -456,7 +452,7 @@ class Member:
         [method] = chance.choices(list(USES), USES.values())
         if method == "SHOW" and world.shares:
             return Ask(user, "SHOW", share=chance.choice(list(world.shares)))
-        if not paths or method == "listing" and chance.random() < 0.2:
+        if not paths or method == "SHOW" or method == "listing" and chance.random() < 0.2:
             return Ask(user, "GET", ())
         path, at = chance.choice(paths)
         is_file = at in world.nodes and not world.is_folder(at)
