@@ -139,7 +139,7 @@ class Scene:
     @contextmanager
     def changing(self, client):
         """While it lasts no other client changes the scene."""
-        # A connection on which nothing is asked holds a worker, and so the end of a server that is full.
+        # A connection on which nothing is asked holds a worker.
         client.close()
         with self.lock:
             yield
