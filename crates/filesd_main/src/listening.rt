@@ -10,9 +10,9 @@ use std::net::{TcpListener, TcpStream};
 use std::os::fd::OwnedFd;
 use std::time::Duration;
 
-/// How many milliseconds a thread waits for a connection before it looks again whether the run is to end. The next run of a server that is full begins
-/// after so long, if nobody else has to be waited for; and so often an idle thread looks.
-const LOOK: u64 = 20;
+/// How many milliseconds a thread waits for a connection, for each thread, before it looks again whether the run is to end. The next run of
+/// a server that is full begins after so long, if nobody else has to be waited for; and all idle threads look 200 times a second together.
+const LOOK: u64 = 5;
 
 /// A thread that serves connections of the one socket.
 pub type SocketWorker = Worker<
@@ -38,7 +38,7 @@ fn listen(
     closing: &Closing,
 ) -> Result<Vec<SocketWorker>, Status> {
     let address = serving.address.as_str();
-    let listener = match bind(rt, address) {
+    let listener = match bind(rt, serving) {
         Ok(listener) => listener,
         Err(error) => {
             let _ = eprintln!(rt; "filesd: can't listen on {address}: {error}");
@@ -69,10 +69,11 @@ fn listen(
 }
 
 // A socket whose `accept` waits for a moment at most: its timeout is that of a read, which the library sets of a stream alone.
-fn bind(rt: &HostRuntime, address: &str) -> io::Result<TcpListener> {
-    let listener = TcpListener::bind(rt, address)?;
+fn bind(rt: &HostRuntime, serving: &Serving) -> io::Result<TcpListener> {
+    let listener = TcpListener::bind(rt, serving.address.as_str())?;
     let socket = OwnedFd::from(listener.try_clone()?);
-    TcpStream::from(socket).set_read_timeout(Some(Duration::from_millis(LOOK)))?;
+    let look = Duration::from_millis(serving.workers.saturating_mul(LOOK));
+    TcpStream::from(socket).set_read_timeout(Some(look))?;
     Ok(listener)
 }
 
