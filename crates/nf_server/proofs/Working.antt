@@ -137,15 +137,17 @@ module _ {K S O C : Type 0} (k : KeeperOf K) (s : EndsOf S) (o : EndsOf O) (read
         ends = (so_far.visits, visit, refl, so_far.none_full, full, unfailed_still ∙ faults);
       }
 
-    pub no_work : (m : Memory (Served K)) (a : Worker D C) (connections : ℕ) → Works k s o reads door connections m m a a worked.Memory
-    no_work m a connections = record {
+    -- there was no memory to begin with, and the door was closed
+    pub no_work : (m : Memory (Served K)) (a b : Worker D C) (connections : ℕ) → b.clock ≡ a.clock → door.coming b.door ≡ closed (door.coming a.door)
+        → door.served b.door ≡ door.served a.door → door.faults b.door ≡ door.faults a.door → Works k s o reads door connections m m a b worked.Memory
+    no_work m a b connections clock shut kept unfailed = record {
       visits = [];
       few = omega arith;
-      in_turn = (refl, refl);
+      in_turn = (refl, clock);
       rest = door.coming a.door;
-      gave = record { came = nothing_came (door.coming a.door); left = nothing_left (door.served a.door) };
-      coming = refl;
-      ends = (refl, refl);
+      gave = record { came = nothing_came (door.coming a.door); left = kept ∙ nothing_left (door.served a.door) };
+      coming = shut;
+      ends = (refl, unfailed);
     }
 
     pub all_work : (m n : Memory (Served K)) (a b : Worker D C) (connections : ℕ) → SoFar m n a b connections

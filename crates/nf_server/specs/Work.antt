@@ -69,12 +69,12 @@ module _ {K S O C : Type 0} (k : KeeperOf K) (s : EndsOf S) (o : EndsOf O) (read
         × (last.ended ≡ Some EndedFull) × (door.faults b ≡ door.faults a)
     EndsWork connections a b visits worked.Memory = (visits ≡ []) × (door.faults b ≡ door.faults a)
 
-    -- who finds the run full closes the door to the rest
+    -- who finds the run full, or no memory to begin with, closes the door to the rest
     abbrev pub coming_after : Worked → Option (List (Link S O)) → Option (List (Link S O))
     coming_after worked.All rest = rest
     coming_after worked.DoorFault rest = rest
     coming_after worked.RunFull rest = closed rest
-    coming_after worked.Memory rest = rest
+    coming_after worked.Memory rest = closed rest
 
     -- one worker
     pub record Works (connections : ℕ) (m n : Memory (Served K)) (a b : Worker D C) (result : Worked) : Type 0 where

@@ -13,12 +13,13 @@ use std::sync::Arc;
 use std::sync::atomic::{AtomicU64, Ordering};
 use std::time::Clock;
 
-/// What two entries take without their paths, what a name takes beside its bytes, and the most that a path may take: the bytes of a head, and
-/// 64 names.
+/// The most memory that two entries take without their paths.
 const ENTRIES: u64 = 1_000;
 
+/// What a name takes beside its bytes.
 const NAME: u64 = 56;
 
+/// The most that a path takes: the bytes of a head, and 64 names.
 const PATH: u64 = 8_192 + 64 * NAME;
 
 /// How many answers of a connection ended. Both of its ends know it: the next message begins behind an answer.

@@ -248,6 +248,8 @@ impl<'t, R: Wait, K: Keeper + Drop, D: Door + Drop, C: Clock + Drop> Workplace<W
     fn work(&mut self, worker: &mut Worker<D, C>) -> Worked {
         // Routes can't be shared by threads, so each has its own.
         let Ok(routes) = Routes::new(self.alloc) else {
+            // Else the others would serve on, and nobody would learn that one is missing.
+            worker.door.close();
             return Worked::Memory;
         };
         let Some(seat) = self.seat.take() else {

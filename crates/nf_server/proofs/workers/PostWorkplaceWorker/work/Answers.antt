@@ -1,4 +1,4 @@
-use Rattle.std.proofs.Common.{ℕ, ap, subst, sym, ◌∙◌}
+use Rattle.std.proofs.Common.{ℕ, ap, refl, subst, sym, ◌∙◌}
 use Rattle.nf_desk.specs.Desk.{Served}
 use Rattle.nf_server.specs.Posts.{Posted, WorksThrough}
 use Rattle.nf_server.specs.Work.{Works}
@@ -11,10 +11,12 @@ use Rattle.nf_server.proofs.workers.PostWorkplaceWorker.work.Goals as goal
 pub returns-in_default-clause-works : goal.returns-in_default-clause-works
 returns-in_default-clause-works g c =
     let worker = c.args.worker.now in
-    let works : ℕ → Memory (Served g.row.K.Denot) → Memory (Served g.row.K.Denot) → Type 0 = λ connections m n. Works g.K.Keeper g.D.Source.Ends g.D.Sink.Ends g.C.Clock.reads g.D.Door connections m n worker worker worked.Memory in
+    let after = record worker { door = c.close.new.self } in
+    let works : ℕ → Memory (Served g.row.K.Denot) → Memory (Served g.row.K.Denot) → Type 0 = λ connections m n. Works g.K.Keeper g.D.Source.Ends g.D.Sink.Ends g.C.Clock.reads g.D.Door connections m n worker after worked.Memory in
     subst (λ (p : Posted g.row.K.Denot). WorksThrough g.K.Keeper works p p) c.self.view_is
     (nothing_through g.K.Keeper works c.self.inside.hub c.self.inside.connections c.self.inside.seat c.self.invariant
-    (λ m. no_work g.K.Keeper g.D.Source.Ends g.D.Sink.Ends g.C.Clock.reads g.D.Door m worker c.self.inside.connections))
+    (λ m. no_work g.K.Keeper g.D.Source.Ends g.D.Sink.Ends g.C.Clock.reads g.D.Door m worker after c.self.inside.connections refl
+    c.close.ensures.coming c.close.ensures.served c.close.ensures.faults))
 
 pub returns-clause-works : goal.returns-clause-works
 returns-clause-works g c =
