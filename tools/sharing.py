@@ -578,7 +578,7 @@ class Member:
 
     def put_ends_late(self, ask, place, act, revocation):
         """Sends the head of a PUT, has it granted and then revoked, and sends the body. Whether it was revoked."""
-        scene, revoked, client = self.scene, [], Client(self.soak.server.port, ask.user)
+        scene, revoked, client, runs = self.scene, [], Client(self.soak.server.port, ask.user), self.soak.server.runs()
         granted = wanted_of(scene.world, ask)
 
         def amid():
@@ -588,7 +588,8 @@ class Member:
         answer = self.soak.ask_once(client, "PUT", list(ask.path), ask.body, expect=True, amid=amid)
         client.close()
         if answer is None:
-            assert not revoked, f"{shown(ask)}: it broke off behind its Begin"
+            # A run that ends waits five seconds for what was granted.
+            assert not revoked or self.soak.has_ended(runs), f"{shown(ask)}: it broke off behind its Begin"
             return False
         if not revoked:
             scene.begin()
