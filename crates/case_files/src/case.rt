@@ -15,6 +15,8 @@ pub struct Run {
     pub words: Vec<String>,
     /// The readings of the clock; the last is repeated.
     pub clock: Vec<u64>,
+    /// The words of the dice; the last is repeated.
+    pub dice: Vec<u64>,
     /// The new keeper that the run is over. Where there is none it is over what the run before it left; a first run has one.
     pub start: Option<Start>,
     /// What is put into the keeper before the run.

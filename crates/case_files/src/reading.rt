@@ -90,6 +90,7 @@ fn run_of(alloc: Global, run: &Value, start: Option<Start>) -> Result<Run, Unrea
     Ok(Run {
         words: words(alloc, list(run, "words")?)?,
         clock: numbers(alloc, list(run, "clock")?)?,
+        dice: dice(alloc, run)?,
         start,
         damage: blobs_in(alloc, run, "damage")?,
         exchanges,
@@ -98,6 +99,14 @@ fn run_of(alloc: Global, run: &Value, start: Option<Start>) -> Result<Run, Unrea
         fault: fault_in(run)?,
         leaves: kept_in(alloc, run, "leaves")?,
     })
+}
+
+// The words of the dice, where they are said.
+fn dice(alloc: Global, run: &Value) -> Result<Vec<u64>, Unread> {
+    match run.get("dice") {
+        Some(listed) => numbers(alloc, items(listed)?),
+        None => Ok(Vec::new(alloc)),
+    }
 }
 
 // The events, each as an exchange, or what one session exchanges.

@@ -3,7 +3,7 @@
 ghost use Rattle.std.specs.Prelude.{None};
 
 use crate::stage::Stage;
-use nf_outside::{Clock, Ends, Failed, MemSink, MemSource, Sink, Source};
+use nf_outside::{Clock, Dice, Ends, Failed, MemSink, MemSource, Sink, Source};
 use nf_server::Link;
 
 /// A connection with one message.
@@ -134,5 +134,19 @@ impl<'s> Clock for SeatClock<'s> {
             None => self.begun = Some(self.stage.step()),
         }
         self.stage.now()
+    }
+}
+
+/// The dice of a seat, which all seats share: words are drawn in the order of the steps.
+#[derive(Drop)]
+pub struct SeatDice<'s> {
+    pub stage: &'s Stage,
+}
+
+impl<'s> Dice for SeatDice<'s> {
+    ghost draws = { λ _ _ _. Unit {0} };
+
+    fn draw(&mut self) -> u64 {
+        self.stage.draw()
     }
 }

@@ -5,7 +5,7 @@ ghost use Rattle.std.specs.Prelude.{◌≡◌, None};
 ghost use Rattle.nf_hub.specs.Seats.{IsSeat, book};
 ghost use Rattle.nf_session.specs.Book.{held};
 
-use crate::connection::{Answered, Message, SeatClock, Sent};
+use crate::connection::{Answered, Message, SeatClock, SeatDice, Sent};
 use crate::keeping::left_in;
 use crate::stage::Stage;
 use crate::transcript::output_of;
@@ -22,7 +22,7 @@ use std::sync::Wait;
 use std::thread::Threads;
 
 /// A seat with its messages.
-pub type SeatWorker<'s> = Worker<MemDoor<Sent<'s>, Answered<'s>>, SeatClock<'s>>;
+pub type SeatWorker<'s> = Worker<MemDoor<Sent<'s>, Answered<'s>>, SeatClock<'s>, SeatDice<'s>>;
 
 /// The status of a case that was served to its end.
 const DONE: u8 = 0;
@@ -35,6 +35,9 @@ const WAITS: &str = "Expect: 100-continue\r\n";
 
 /// The session skips this one byte behind a granted GET before it reads the file, which so waits for the step that ends it.
 const SKIPPED: (&str, &str) = ("Content-Length: 1\r\n", "-");
+
+/// What announces a body.
+const LENGTH: &str = "Content-Length:";
 
 /// What the steps came to, and the keeper that is left. Heads are read in such pieces.
 pub fn serve_events<R: Threads + Wait + Sync>(
@@ -95,6 +98,7 @@ fn workers_of<'s>(
         workers.push(Worker {
             door: MemDoor::new(alloc, messages, Vec::new(alloc))?,
             clock: SeatClock { stage, begun: None },
+            dice: SeatDice { stage },
         })?;
     }
     Ok(workers)
@@ -164,11 +168,7 @@ fn bytes_of(
         return Ok((head.to_vec(alloc)?, Vec::new(alloc)));
     };
     if head.starts_with(b"GET ") {
-        let (field, skipped) = SKIPPED;
-        return Ok((
-            with_field(alloc, head, field)?,
-            skipped.as_bytes().to_vec(alloc)?,
-        ));
+        return bytes_of_get(alloc, head);
     }
     let field = if goes_away(case, stage, step) {
         WAITS
@@ -179,6 +179,27 @@ fn bytes_of(
         with_field(alloc, head, field)?,
         sent_at(case, end).to_vec(alloc)?,
     ))
+}
+
+// A GET's head and the bytes that the session skips behind it: its own, where it announces some.
+fn bytes_of_get(alloc: Global, head: &[u8]) -> Result<(Vec<u8>, Vec<u8>), AllocError> {
+    let (field, skipped) = SKIPPED;
+    match announced(head) {
+        Some(length) => Ok((
+            head.to_vec(alloc)?,
+            skipped.repeat(alloc, length)?.into_bytes(),
+        )),
+        None => Ok((
+            with_field(alloc, head, field)?,
+            skipped.as_bytes().to_vec(alloc)?,
+        )),
+    }
+}
+
+// The length of the body that a head announces.
+fn announced(head: &[u8]) -> Option<usize> {
+    let (_, value) = std::str::from_utf8(head).ok()?.split_once(LENGTH)?;
+    value.lines().next()?.trim().parse().ok()
 }
 
 fn sent_at(case: &Run, step: usize) -> &[u8] {

@@ -8,7 +8,7 @@ use case_files::{Blob, Kept, Outcome, Run, Start, Written};
 use filesd::{Finished, run};
 use nf_base::{BlobId, MAX_MESSAGES};
 use nf_keeper::MemKeeper;
-use nf_outside::{ListClock, MemSink, MemSource};
+use nf_outside::{ListClock, ListDice, MemSink, MemSource};
 use nf_server::{MemDoor, Worker};
 use std::alloc::{AllocError, Global};
 use std::sync::Wait;
@@ -134,6 +134,7 @@ struct RunEnds {
     input: MemSource,
     output: MemSink,
     clock: ListClock,
+    dice: ListDice,
 }
 
 // Whole, where there are no pieces.
@@ -142,10 +143,12 @@ fn ends_of(alloc: Global, case: &Run, pieces: &[usize]) -> Result<RunEnds, Alloc
     let input = MemSource::new(input, pieces.to_vec(alloc)?, Vec::new(alloc));
     let output = MemSink::in_pieces(alloc, pieces.to_vec(alloc)?, Vec::new(alloc));
     let clock = ListClock::new(case.clock.as_slice().to_vec(alloc)?);
+    let dice = ListDice::new(case.dice.as_slice().to_vec(alloc)?);
     Ok(RunEnds {
         input,
         output,
         clock,
+        dice,
     })
 }
 
@@ -156,7 +159,7 @@ fn run_between<R: Threads + Wait + Sync>(
     keeper: MemKeeper,
     ends: &mut RunEnds,
 ) -> Finished<MemKeeper> {
-    let mut nobody: [Worker<MemDoor<MemSource, MemSink>, ListClock>; 0] = [];
+    let mut nobody: [Worker<MemDoor<MemSource, MemSink>, ListClock, ListDice>; 0] = [];
     run(
         rt,
         alloc,
@@ -165,6 +168,7 @@ fn run_between<R: Threads + Wait + Sync>(
         &mut ends.output,
         keeper,
         &mut ends.clock,
+        &mut ends.dice,
         &mut nobody,
     )
 }

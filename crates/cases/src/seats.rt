@@ -9,7 +9,7 @@ use filesd::demonstration;
 use nf_desk::{Opening, Unopened};
 use nf_hub::{Hub, Seat};
 use nf_keeper::{Keeper, MemKeeper};
-use nf_outside::{ListClock, MemSink, MemSource};
+use nf_outside::{ListClock, ListDice, MemSink, MemSource};
 use nf_routes::Routes;
 use nf_server::{MemLink, serve_link};
 use std::alloc::{AllocError, Global};
@@ -59,6 +59,7 @@ fn take_turns<R: Wait, K: Keeper + Drop>(
 {
     let (mut next, mut last) = seats;
     let mut clock = ListClock::new(case.clock.as_slice().to_vec(alloc)?);
+    let mut dice = ListDice::new(case.dice.as_slice().to_vec(alloc)?);
     for exchange in &case.exchanges {
         if exchange.answer.is_empty() {
             break;
@@ -67,7 +68,9 @@ fn take_turns<R: Wait, K: Keeper + Drop>(
             source: MemSource::new(exchange.send.clone()?, Vec::new(alloc), Vec::new(alloc)),
             sink: MemSink::new(alloc, Vec::new(alloc)),
         };
-        let served = serve_link(rt, alloc, routes, hub, next, &mut link, &mut clock);
+        let served = serve_link(
+            rt, alloc, routes, hub, next, &mut link, &mut clock, &mut dice,
+        );
         output.extend_from_slice(link.sink.bytes())?;
         next = last;
         last = served.seat;

@@ -8,12 +8,14 @@ use std::thread::yield_now;
 /// How often a thread looks whether it is its turn before it gives up.
 const MOST_LOOKS: u32 = 100_000_000;
 
-/// What all seats share: the number of the step that is made, the clock, and what the steps came to.
+/// What all seats share: the number of the step that is made, the clock, the dice, and what the steps came to.
 #[derive(Drop)]
 pub struct Stage {
     step: AtomicUsize,
     reading: AtomicUsize,
     clock: Vec<u64>,
+    drawn: AtomicUsize,
+    dice: Vec<u64>,
     turns: Vec<Turn>,
 }
 
@@ -37,6 +39,8 @@ impl Stage {
             step: AtomicUsize::new(0),
             reading: AtomicUsize::new(0),
             clock: case.clock.as_slice().to_vec(alloc)?,
+            drawn: AtomicUsize::new(0),
+            dice: case.dice.as_slice().to_vec(alloc)?,
             turns,
         })
     }
@@ -58,11 +62,12 @@ impl Stage {
 
     /// The next reading of the clock; the last is repeated.
     pub fn now(&self) -> u64 {
-        let made = self.reading.fetch_add(1, Ordering::SeqCst);
-        match self.clock.get(made).or(self.clock.last()) {
-            Some(moment) => *moment,
-            None => 0,
-        }
+        next_of(&self.clock, &self.reading)
+    }
+
+    /// The next word of the dice; the last is repeated.
+    pub fn draw(&self) -> u64 {
+        next_of(&self.dice, &self.drawn)
     }
 
     /// Waits until the steps before this one were made. It may never come: then false.
@@ -103,6 +108,15 @@ impl Stage {
             Some(turn) => turn.granted.load(Ordering::SeqCst),
             None => false,
         }
+    }
+}
+
+// The number behind those that were taken, and it is taken. The last is repeated, and without any it is 0.
+fn next_of(numbers: &[u64], taken: &AtomicUsize) -> u64 {
+    let taken = taken.fetch_add(1, Ordering::SeqCst);
+    match numbers.get(taken).or(numbers.last()) {
+        Some(number) => *number,
+        None => 0,
     }
 }
 

@@ -31,39 +31,39 @@ init_first rows name digest quota is named fits (token, of_token) = subst AreFir
 
 -- the output and the keeper alone, as `init` uses them, beside the other ends
 abbrev pub beside : {C : Type 0} → Option (List ℕ) → ℕ → C → Outside (Unit {0}) → Outside C
-beside left faults clock a = record {
+beside left faults lent a = record {
   left = left;
   written = a.written;
   begun = a.begun;
   read_faults = faults;
   write_faults = a.write_faults;
-  clock = clock;
+  lent = lent;
   told = a.told;
   faults = a.faults;
 }
 
-writes_beside : {C : Type 0} (left : Option (List ℕ)) (faults : ℕ) (clock : C) (a b : Outside (Unit {0})) (status : Status)
-    → Writes a b status → Writes (beside left faults clock a) (beside left faults clock b) status
-writes_beside left faults clock a b exit.Done writes = writes
-writes_beside left faults clock a b exit.WriteFault writes = writes
-writes_beside left faults clock a b other writes = absurd writes
+writes_beside : {C : Type 0} (left : Option (List ℕ)) (faults : ℕ) (lent : C) (a b : Outside (Unit {0})) (status : Status)
+    → Writes a b status → Writes (beside left faults lent a) (beside left faults lent b) status
+writes_beside left faults lent a b exit.Done writes = writes
+writes_beside left faults lent a b exit.WriteFault writes = writes
+writes_beside left faults lent a b other writes = absurd writes
 
 -- what `init` does with them it does with all
-pub inits_beside : {C : Type 0} (left : Option (List ℕ)) (faults : ℕ) (clock : C) (rows : List Row) (a b : Outside (Unit {0}))
+pub inits_beside : {C : Type 0} (left : Option (List ℕ)) (faults : ℕ) (lent : C) (rows : List Row) (a b : Outside (Unit {0}))
     (status : Status) (site : Option Held)
-    → Inits rows a b status site → Inits rows (beside left faults clock a) (beside left faults clock b) status site
-inits_beside left faults clock rows a b status None unopened =
-    record { untouched = ap (λ (o : Outside (Unit {0})). beside left faults clock o) unopened.untouched; why = unopened.why }
-inits_beside left faults clock rows a b status (Some site) begins = record {
+    → Inits rows a b status site → Inits rows (beside left faults lent a) (beside left faults lent b) status site
+inits_beside left faults lent rows a b status None unopened =
+    record { untouched = ap (λ (o : Outside (Unit {0})). beside left faults lent o) unopened.untouched; why = unopened.why }
+inits_beside left faults lent rows a b status (Some site) begins = record {
   loaded = begins.loaded;
   told = begins.told;
   faults = begins.faults;
   site = begins.site;
-  writes = writes_beside left faults clock a b status begins.writes;
+  writes = writes_beside left faults lent a b status begins.writes;
   left = refl;
   begun = begins.begun;
   read_faults = refl;
-  clock = refl;
+  lent = refl;
 }
 
 -- the rows are those of the name, the token and the quota

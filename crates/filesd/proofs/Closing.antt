@@ -14,6 +14,7 @@ use Rattle.nf_hub.specs.Seats.{book_in, memory_of, steady}
 use Rattle.nf_hub.specs.declared.hub.HubOf.{HubOf}
 use Rattle.nf_hub.specs.declared.seat.SeatOf.{SeatOf}
 use Rattle.nf_keeper.specs.declared.keeper.Keeper.{Ghosts as KeeperOf}
+use Rattle.nf_outside.specs.Lent.{Taken}
 use Rattle.nf_session.proofs.Fronts.{stream_front}
 use Rattle.nf_session.specs.Prelude.{Book, Session}
 use Rattle.nf_session.specs.declared.ended.Ended.{Ended}
@@ -103,7 +104,7 @@ closing_pays {K} k m first site keeper same start closes =
     (subst (λ (z : K). Pays desk.site.kept (k.faults first.keeper) (k.faults z)) (sym closes.keeper_is) pays)
 
 -- a session between two scenes, by what its seat knew there
-pub session_between : {C : Type 0} (reads : C → ℕ → C → Type 0) (a b : Outside C) (kept : List ℕ) (end : Option Ended) (p q r s : Book)
+pub session_between : {C : Type 0} (reads : C → Taken → C → Type 0) (a b : Outside C) (kept : List ℕ) (end : Option Ended) (p q r s : Book)
     → p ≡ q → r ≡ s → Session reads (scene_of a [] p) (scene_of b kept r) end → Session reads (scene_of a [] q) (scene_of b kept s) end
 session_between reads a b kept end p q r s first last session =
     subst (λ (book : Book). Session reads (scene_of a [] q) (scene_of b kept book) end) last
@@ -112,7 +113,7 @@ session_between reads a b kept end p q r s first last session =
 -- ---- without a hub
 
 -- where there is no memory, a session ends at once, and nothing was touched
-none_served : {C : Type 0} (reads : C → ℕ → C → Type 0) (a : Outside C) (book : Book)
+none_served : {C : Type 0} (reads : C → Taken → C → Type 0) (a : Outside C) (book : Book)
     → Session reads (scene_of a [] book) (scene_of a [] book) (Some ended.Memory)
 none_served reads a book = record {
   scenes = [];
@@ -131,7 +132,7 @@ none_served reads a book = record {
 }
 
 -- what was handed out is the desk as it was opened
-pub serves_none : {C K : Type 0} (reads : C → ℕ → C → Type 0) (k : KeeperOf K) (a : Outside C) (desk left : Served K) (status : Status)
+pub serves_none : {C K : Type 0} (reads : C → Taken → C → Type 0) (k : KeeperOf K) (a : Outside C) (desk left : Served K) (status : Status)
     (site : Option Held) (keeper : K) → desk.start.value ≡ desk.keeper → left ≡ desk → status ≡ exit.Memory → site ≡ Some left.site
     → keeper ≡ left.keeper → Leaves left.site.kept (k.told left.keeper)
     → ServesDesk reads (shown k desk) a (record a { told = k.told keeper; faults = k.faults keeper }) status site

@@ -10,6 +10,7 @@ use Rattle.nf_desk.specs.declared.first.OpenFault.TheVariants as fault
 use Rattle.nf_desk.specs.declared.first.Opening.TheVariants.{Kept}
 use Rattle.nf_keeper.specs.declared.keeper.Keeper.{Ghosts as KeeperOf}
 use Rattle.nf_outside.specs.Causes.{Rose}
+use Rattle.nf_outside.specs.Lent.{Lent, Taken}
 use Rattle.nf_outside.specs.declared.traits.Ends.{Ghosts as EndsOf}
 use Rattle.nf_promises.proofs.Unfailing.{ends_well}
 use Rattle.nf_promises.specs.Complete.{IsUnrisen}
@@ -86,7 +87,7 @@ end_well (Some ended.RunFull) is room = absurd (room refl)
 end_well (Some ended.Memory) is room = tt
 end_well (Some other) is room = absurd is
 
-pub batch_well : {C : Type 0} (reads : C → ℕ → C → Type 0) (a b : Outside C) (status : Status) (site : Option Held)
+pub batch_well : {C : Type 0} (reads : C → Taken → C → Type 0) (a b : Outside C) (status : Status) (site : Option Held)
     → Runs reads a b status site → status ≢ exit.RunFull → BatchEndsWell a b status
 batch_well reads a b status None unopened room = λ fits nothing. unopened_well a b status fits nothing.keeper unopened.why
 batch_well {C} reads a b status (Some site) serves room = λ fits nothing.
@@ -118,8 +119,8 @@ init_well rows a b status (Some site) begins = λ empty nothing. here status beg
     here exit.WriteFault (rose, part) nothing = absurd (unrisen a.write_faults b.write_faults nothing.write rose)
     here other never nothing = absurd never
 
-module _ {K I A C D : Type 0} (k : KeeperOf K) (i : EndsOf I) (a : EndsOf A) (reads : C → ℕ → C → Type 0) (door : DoorOf D I A) where
-  serve_status : (keeper left : K) (before after : List (Worker D C)) (status : Status) (site : Option Held) (connections : ℕ)
+module _ {K I A C Q D : Type 0} (k : KeeperOf K) (i : EndsOf I) (a : EndsOf A) (reads : Lent C Q → Taken → Lent C Q → Type 0) (door : DoorOf D I A) where
+  serve_status : (keeper left : K) (before after : List (Worker D C Q)) (status : Status) (site : Option Held) (connections : ℕ)
       → RunsDoors k i a reads door connections keeper left before after status site
       → Says k i a reads door keeper left before after status → ServeEndsWell door (k.told keeper) (k.faults keeper) (k.faults left) before after status
   serve_status keeper left before after status None connections shut says = λ good unrose quiet.
@@ -151,7 +152,7 @@ module _ {K I A C D : Type 0} (k : KeeperOf K) (i : EndsOf I) (a : EndsOf A) (re
           of worked.RunFull is = inr (inl is)
           of worked.Memory is = inr (inr is)
 
-  pub serve_well : (keeper left : K) (before after : List (Worker D C)) (status : Status) (site : Option Held) (connections : ℕ)
+  pub serve_well : (keeper left : K) (before after : List (Worker D C Q)) (status : Status) (site : Option Held) (connections : ℕ)
       → RunsDoors k i a reads door connections keeper left before after status site
       → ServeEndsWell door (k.told keeper) (k.faults keeper) (k.faults left) before after status
   serve_well keeper left before after status site connections runs =

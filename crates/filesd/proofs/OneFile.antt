@@ -18,6 +18,7 @@ use Rattle.nf_defs.specs.Blobs.{Blobs, blob_at, put_blob}
 use Rattle.nf_base.specs.declared.rows.Row.{Row}
 use Rattle.nf_desk.specs.Opening.{IsLoaded, OpensTo}
 use Rattle.nf_keeper.specs.Keeping.{AreTold}
+use Rattle.nf_outside.specs.Lent.{Taken}
 use Rattle.nf_promises.specs.Kept.{FailsStore, Gets, IsWritten, OnlyOwn, Prints, ShowsFile, get_of, plainly, waits}
 use Rattle.nf_promises.specs.Room.{IsAlone}
 use Rattle.nf_promises.proofs.Bytes.{head_is, turn_gets}
@@ -87,7 +88,7 @@ no_next None head (h, is, takes) = takes.3
 no_next (Some rest) head (h, is, takes) = never_empty h rest takes.0 takes.3
 
 -- a turn over no bytes finds the end of the input
-turn_silent : {C : Type 0} (reads : C → ℕ → C → Type 0) (last : Bool) (m b : Scene C) (end : Option Ended) → m.input ≡ Some []
+turn_silent : {C : Type 0} (reads : C → Taken → C → Type 0) (last : Bool) (m b : Scene C) (end : Option Ended) → m.input ≡ Some []
     → Turn reads last m b end → IsWritten end → Heads m b (Ok None) × (end ≡ Some ended.Closed)
 turn_silent reads last m b end none (inl (heads, ends)) written = (heads, ends)
 turn_silent reads last m b end none (inr (inl (k, why, by, heads, ends, is))) written =
@@ -96,7 +97,7 @@ turn_silent reads last m b end none (inr (inr (k, head, heads, meets))) written 
     absurd (no_next k.input head (subst (λ (o : Option (List ℕ)). IsNext o k.input (Ok (Some head))) none heads.next))
 
 -- so a session over no bytes that is closed has no other turn
-rest_silent : {C : Type 0} (reads : C → ℕ → C → Type 0) (m : Scene C) (scenes : List (Scene C)) (p b : Scene C) (last : Bool)
+rest_silent : {C : Type 0} (reads : C → Taken → C → Type 0) (m : Scene C) (scenes : List (Scene C)) (p b : Scene C) (last : Bool)
     → m.input ≡ Some [] → Through reads m scenes p → Turn reads last p b (Some ended.Closed) → Heads m b (Ok None)
 rest_silent {C} reads m [] p b last none through turn =
     (turn_silent reads last m b (Some ended.Closed) none
@@ -138,7 +139,7 @@ no_more None body c = absurd c
 no_more (Some rest) [] c = ap (λ z. Some z) (sym c)
 no_more (Some rest) (x ∷ body) c = cc
 
-with_leaves : {C : Type 0} (reads : C → ℕ → C → Type 0) (last : Bool) (head : Head) (k b : Scene C) (end : Option Ended)
+with_leaves : {C : Type 0} (reads : C → Taken → C → Type 0) (last : Bool) (head : Head) (k b : Scene C) (end : Option Ended)
     → MeetsWith reads last head [] k b end → IsWritten end → k.input ≡ Some [] → b.input ≡ Some []
 with_leaves reads last head k b end (m, begun, judges, inl stops) written none =
     absurd (stop_not_written m stops.sent stops.by (stops_sends head begun m stops.sent (Unit {0}) stops.by stops.invites)
@@ -157,7 +158,7 @@ with_leaves {C} reads last head k b end (m, begun, judges, inr (n, invites, inl 
 with_leaves reads last head k b end (m, begun, judges, inr (n, invites, inr cuts)) written none =
     absurd (cut_not_written cuts.fault cuts.cut cuts.sent cuts.by cuts.responds (subst (λ (e : Option Ended). IsWritten e) cuts.ends written))
 
-meets_leave : {C : Type 0} (reads : C → ℕ → C → Type 0) (last : Bool) (head : Head) (k b : Scene C) (end : Option Ended)
+meets_leave : {C : Type 0} (reads : C → Taken → C → Type 0) (last : Bool) (head : Head) (k b : Scene C) (end : Option Ended)
     → is_early head ≡ false → Meets reads last head k b end → IsWritten end → k.input ≡ Some [] → b.input ≡ Some []
 meets_leave reads last head k b end none meets written left =
     with_leaves reads last head k b end (meets_at_once reads last head k b end none meets) written left
@@ -165,7 +166,7 @@ meets_leave reads last head k b end none meets written left =
 -- ---- the turn of the one message
 
 -- the turn takes that message, and leaves no byte behind its head
-gets_one : {C : Type 0} (reads : C → ℕ → C → Type 0) (caller : Caller) (spot : Spot) (h : RequestHead) (a b : Scene C) (end : Option Ended)
+gets_one : {C : Type 0} (reads : C → Taken → C → Type 0) (caller : Caller) (spot : Spot) (h : RequestHead) (a b : Scene C) (end : Option Ended)
     → Prints h (get_of caller spot) → a.input ≡ Some (print_request h) → IsWritten end → Turn reads false a b end
     → (get : Gets reads false caller spot a b end) × (get.head ≡ head_of h) × (get.behind.input ≡ Some [])
 gets_one reads caller spot h a b end prints input written turn =
@@ -173,13 +174,13 @@ gets_one reads caller spot h a b end prints input written turn =
     let get = turn_gets reads false caller spot h [] a b end prints whole written turn in
     (get.0, get.1, (head_is a get.0.behind h (get_of caller spot) [] get.0.head prints whole get.0.heads).1)
 
-one_left : {C : Type 0} (reads : C → ℕ → C → Type 0) (caller : Caller) (spot : Spot) (h : RequestHead) (a b : Scene C) (end : Option Ended)
+one_left : {C : Type 0} (reads : C → Taken → C → Type 0) (caller : Caller) (spot : Spot) (h : RequestHead) (a b : Scene C) (end : Option Ended)
     → Prints h (get_of caller spot) → a.input ≡ Some (print_request h) → IsWritten end → Turn reads false a b end → b.input ≡ Some []
 one_left reads caller spot h a b end prints input written turn =
     let get = gets_one reads caller spot h a b end prints input written turn in
     meets_leave reads false get.0.head get.0.behind b end (asked_not_early get.0.head (get_of caller spot) get.0.asked refl) get.0.meets written get.2
 
-one_shown : {C : Type 0} (reads : C → ℕ → C → Type 0) (caller : Caller) (spot : Spot) (h : RequestHead) (body : List ℕ) (a b : Scene C)
+one_shown : {C : Type 0} (reads : C → Taken → C → Type 0) (caller : Caller) (spot : Spot) (h : RequestHead) (body : List ℕ) (a b : Scene C)
     (end : Option Ended) → Prints h (get_of caller spot) → a.input ≡ Some (print_request h) → IsWritten end → Turn reads false a b end
     → IsKept a.book caller spot body → OnlyOwn a.book b.book → ShowsFile (closes_session (head_of h)) (waits (head_of h)) body a b
 one_shown {C} reads caller spot h body a b end prints input written turn kept only =
@@ -213,7 +214,7 @@ back_shown close unsent body a m b out book (inr (inr (inr (is, fails)))) =
       subst (λ (x : Book). FailsStore a.book x) (sym book) fails,
     )))
 
-through_shown : {C : Type 0} (reads : C → ℕ → C → Type 0) (caller : Caller) (spot : Spot) (h : RequestHead) (body : List ℕ) (shelf : Blobs)
+through_shown : {C : Type 0} (reads : C → Taken → C → Type 0) (caller : Caller) (spot : Spot) (h : RequestHead) (body : List ℕ) (shelf : Blobs)
     (a : Scene C) (scenes : List (Scene C)) (p b : Scene C) → Prints h (get_of caller spot) → a.input ≡ Some (print_request h)
     → a.book.told ≡ Some shelf → IsKept a.book caller spot body → OnlyOwn a.book b.book
     → Through reads a scenes p → Turn reads (length scenes == MAX_MESSAGES - 1) p b (Some ended.Closed) → Shows (closes_session (head_of h)) (waits (head_of h)) body a b
@@ -269,7 +270,7 @@ fresh_is told before [] rows faults is none opens =
 fresh_is told before (raw ∷ raws) rows faults is none opens = cc
 
 -- a session from there
-closed_one : {C : Type 0} (reads : C → ℕ → C → Type 0) (told : Told) (faults : ℕ) (a b : Scene C) (input before output : List ℕ)
+closed_one : {C : Type 0} (reads : C → Taken → C → Type 0) (told : Told) (faults : ℕ) (a b : Scene C) (input before output : List ℕ)
     → Session reads a b (Some ended.Closed) → a.input ≡ Some input → a.output ≡ Some before → b.output ≡ Some output
     → a.book ≡ fresh_book told faults → IsAlone b.book
     → (h : RequestHead) (caller : Caller) (spot : Spot) (body : List ℕ)
@@ -293,7 +294,7 @@ unopened_not_done : {C : Type 0} (a b : Outside C) (status : Status) → IsUnope
 unopened_not_done a b status unopened is = subst (λ (z : Status). WhyUnopened over_any a.told a.faults b.faults z) is unopened.why
 
 -- a run over such an input
-pub serves_one : {C : Type 0} (reads : C → ℕ → C → Type 0) (a b : Outside C) (status : Status) (site : Option Held)
+pub serves_one : {C : Type 0} (reads : C → Taken → C → Type 0) (a b : Outside C) (status : Status) (site : Option Held)
     → Runs reads a b status site → IfSome site (λ site. AreOwn site.kept.history) → ServesOneFile a b status
 serves_one reads a b status None runs own =
     λ told input before output h caller spot body tells none left first last done prints file is.

@@ -1,8 +1,9 @@
 -- What follows for a run from its session.
-use Rattle.std.proofs.Common.{◌≡◌, ℕ, refl, sym, ◌∙◌, ap, subst}
+use Rattle.std.proofs.Common.{◌≡◌, refl, sym, ◌∙◌, ap, subst}
 use Rattle.std.specs.Prelude.{Option, None, Some}
 use Rattle.std.proofs.lemmas.Option.{none-some, same_Some}
 use Rattle.nf_outside.specs.Causes.{Rose}
+use Rattle.nf_outside.specs.Lent.{Taken}
 use Rattle.nf_promises.specs.Room.{IsAlone, IsFresh}
 use Rattle.nf_promises.proofs.Full.{never_full}
 use Rattle.nf_session.specs.Prelude.{CountsFault, Scene, Session}
@@ -48,19 +49,19 @@ by_status end named status wanted by is names = named_is end named (ap end_named
 
 -- ---- what the run says
 
-pub has_room : {C : Type 0} (reads : C → ℕ → C → Type 0) (a b : Scene C) (end : Option Ended) (status : Status)
+pub has_room : {C : Type 0} (reads : C → Taken → C → Type 0) (a b : Scene C) (end : Option Ended) (status : Status)
     → Session reads a b end → status ≡ status_of end → IsFresh a.book → IsAlone b.book → status ≡ exit.RunFull → ⊥
 has_room reads a b end status session by fresh alone full = never_full reads a b end session fresh alone
     (by_status end (Some ended.RunFull) status exit.RunFull by full refl)
 
-pub read_rose : {C : Type 0} (reads : C → ℕ → C → Type 0) (a b : Scene C) (end : Option Ended) (status : Status)
+pub read_rose : {C : Type 0} (reads : C → Taken → C → Type 0) (a b : Scene C) (end : Option Ended) (status : Status)
     → Session reads a b end → status ≡ status_of end → status ≡ exit.ReadFault → Rose a.read_faults b.read_faults
 read_rose reads a b end status session by fault =
     (subst (λ (z : Option Ended). CountsFault z a.read_faults b.read_faults a.write_faults b.write_faults)
     (by_status end (Some ended.ReadFault) status exit.ReadFault by fault refl)
     (session_follows reads a b end session).counts).0
 
-pub write_rose : {C : Type 0} (reads : C → ℕ → C → Type 0) (a b : Scene C) (end : Option Ended) (status : Status)
+pub write_rose : {C : Type 0} (reads : C → Taken → C → Type 0) (a b : Scene C) (end : Option Ended) (status : Status)
     → Session reads a b end → status ≡ status_of end → status ≡ exit.WriteFault → Rose a.write_faults b.write_faults
 write_rose reads a b end status session by fault =
     (subst (λ (z : Option Ended). CountsFault z a.read_faults b.read_faults a.write_faults b.write_faults)

@@ -16,10 +16,11 @@ use Rattle.nf_desk.specs.declared.first.Opening.TheVariants.{Kept as OverKept}
 use Rattle.nf_hub.specs.Seats.{book_in}
 use Rattle.nf_keeper.specs.declared.keeper.Keeper.{Ghosts as KeeperOf}
 use Rattle.nf_laws.specs.Wholes.{IsDamaged, IsNamed, IsSafe, IsThere}
+use Rattle.nf_outside.specs.Lent.{Lent, Taken}
 use Rattle.nf_outside.specs.declared.traits.Ends.{Ghosts as EndsOf}
 use Rattle.nf_rows.specs.Spelling.{Raw}
 use Rattle.nf_server.proofs.Spanning.{work_begins}
-use Rattle.nf_server.specs.Work.{InTurn, Visited, WorkBeside, Works}
+use Rattle.nf_server.specs.Work.{InTurn, Visited, WorkBeside, Works, lent_of}
 use Rattle.nf_server.specs.declared.door.Door.{Ghosts as DoorOf}
 use Rattle.nf_server.specs.declared.workers.Worked.{Worked}
 use Rattle.nf_server.specs.declared.workers.Worker.{Worker}
@@ -67,7 +68,7 @@ undamaged_safe k start told leaves site some are = leaves_safe k start told leav
 
 -- ---- `batch`
 
-pub batch_begins : {C : Type 0} (reads : C → ℕ → C → Type 0) → BatchBeginsWhole reads
+pub batch_begins : {C : Type 0} (reads : C → Taken → C → Type 0) → BatchBeginsWhole reads
 batch_begins reads a b status site serves good =
     let begun : (shelf : Blobs) × ((blobs_in (told_opened serves.raws a.told) ≡ Some shelf) × IsSafe serves.rows shelf) =
     opened_safe a.told serves.raws serves.rows good serves.loaded serves.opens in
@@ -76,7 +77,7 @@ batch_begins reads a b status site serves good =
       start = undamaged serves.rows (blobs_in (told_opened serves.raws a.told)) begun.0 serves.unbroken begun.1.0 begun.1.1;
     }
 
-pub batch_keeps : {C : Type 0} (reads : C → ℕ → C → Type 0) (a b : Outside C) (status : Status) (site : Option Held)
+pub batch_keeps : {C : Type 0} (reads : C → Taken → C → Type 0) (a b : Outside C) (status : Status) (site : Option Held)
     → Runs reads a b status site → IfSome site (λ site. Leaves site.kept b.told) → KeepsSafe a.told b.told
 batch_keeps {C} reads a b status None unopened leaves = same_keeps a.told b.told (ap (λ (o : Outside C). o.told) unopened.untouched)
 batch_keeps reads a b status (Some site) serves leaves = record {
@@ -119,13 +120,13 @@ init_keeps name digest quota a b status (Some site) begins leaves = record {
 
 -- ---- `serve`
 
-module _ {K I A C D : Type 0} (k : KeeperOf K) (i : EndsOf I) (a : EndsOf A) (reads : C → ℕ → C → Type 0) (door : DoorOf D I A) where
+module _ {K I A C Q D : Type 0} (k : KeeperOf K) (i : EndsOf I) (a : EndsOf A) (reads : Lent C Q → Taken → Lent C Q → Type 0) (door : DoorOf D I A) where
   -- what a desk is opened over is what the keeper tells
   told_kept : (raws : List Raw) (first : First) (told : Option Told) → raws ≢ [] → told_first first raws told ≡ told
   told_kept [] first told some = absurd (some refl)
   told_kept (raw ∷ raws) first told some = refl
 
-  module _ (connections : ℕ) (keeper left : K) (before after : List (Worker D C)) (status : Status) (site : Held)
+  module _ (connections : ℕ) (keeper left : K) (before after : List (Worker D C Q)) (status : Status) (site : Held)
       (runs : ServesDoors k i a reads door connections keeper left before after status site) where
     opened_told : k.told runs.desk.keeper ≡ k.told keeper
     opened_told = runs.opens.told ∙ told_kept runs.opens.raws (first_of OverKept) (k.told keeper) (runs.opens.kept tt)
@@ -169,7 +170,7 @@ module _ {K I A C D : Type 0} (k : KeeperOf K) (i : EndsOf I) (a : EndsOf A) (re
         subst (λ (told : Option Told). IsSafeStore told) (sym (ap (λ (z : K). k.told z) none.keeper_is ∙ opened_told)) good
     desk_keeps good leaves (inr served) = site_safe served good leaves
 
-  pub serve_keeps : (connections : ℕ) (keeper left : K) (before after : List (Worker D C)) (status : Status) (site : Option Held)
+  pub serve_keeps : (connections : ℕ) (keeper left : K) (before after : List (Worker D C Q)) (status : Status) (site : Option Held)
       → RunsDoors k i a reads door connections keeper left before after status site → IfSome site (λ site. Leaves site.kept (k.told left))
       → KeepsSafe (k.told keeper) (k.told left)
   serve_keeps connections keeper left before after status None shut leaves = same_keeps (k.told keeper) (k.told left) shut.told
@@ -180,12 +181,12 @@ module _ {K I A C D : Type 0} (k : KeeperOf K) (i : EndsOf I) (a : EndsOf A) (re
 
   -- ---- at each of its sessions
 
-  visits_whole : (m : Memory (Served K)) (c : C) (visits : List (Visited K I A C)) (n : Memory (Served K)) (d : C)
+  visits_whole : (m : Memory (Served K)) (c : Lent C Q) (visits : List (Visited K I A C Q)) (n : Memory (Served K)) (d : Lent C Q)
       → InTurn k i a reads m c visits n d → IsUndamaged (book_in k m) → VisitsBeginWhole k i a reads door (book_in k m) visits
   visits_whole m c [] n d so are = tt
   visits_whole m c (v ∷ visits) n d so are = (
     are,
-    visits_whole v.memory v.clock visits n d so.1 ((stay_whole reads).1 _ _ v.ended so.0.session are),
+    visits_whole v.memory v.lent visits n d so.1 ((stay_whole reads).1 _ _ v.ended so.0.session are),
   )
 
   -- a desk that was just opened
@@ -200,14 +201,14 @@ module _ {K I A C D : Type 0} (k : KeeperOf K) (i : EndsOf I) (a : EndsOf A) (re
 
   work_whole : (connections : ℕ) (first : Served K) → first.start.value ≡ first.keeper
       → AreUndamaged first.site.kept.opening (blobs_in (k.told first.keeper))
-      → (m n : Memory (Served K)) (before after : List (Worker D C)) (result : Worked)
+      → (m n : Memory (Served K)) (before after : List (Worker D C Q)) (result : Worked)
       (work : WorkBeside (longer (meanings k)) (Works k i a reads door connections) m n before after result) → m.known ≡ first
       → WorkBeginsWhole k i a reads door connections m n before after result work
   work_whole connections first start are m n [] [] result work known = tt
   work_whole connections first start are m n [] (w ∷ after) result work known = work
   work_whole connections first start are m n (v ∷ before) [] result work known = work
   work_whole connections first start are m n (v ∷ before) (w ∷ after) result (mine, others, one, rest, works, beside, knows, ends) known = (
-    visits_whole (split_from m) v.clock works.visits mine w.clock works.in_turn (begun_whole first (split_from m) start are known),
+    visits_whole (split_from m) (lent_of v) works.visits mine (lent_of w) works.in_turn (begun_whole first (split_from m) start are known),
     work_whole connections first start are (having_split m) others before after rest beside known,
   )
 

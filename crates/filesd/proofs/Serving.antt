@@ -10,6 +10,7 @@ use Rattle.nf_desk.specs.declared.first.First.{First}
 use Rattle.nf_desk.specs.declared.first.Opening.TheVariants.{Either}
 use Rattle.nf_keeper.specs.Keeping.{Stored}
 use Rattle.nf_outside.specs.Causes.{Rose}
+use Rattle.nf_outside.specs.Lent.{Taken}
 use Rattle.nf_rows.specs.Spelling.{Raw}
 use Rattle.nf_rules.specs.Rules.{AreUnbroken}
 use Rattle.nf_session.proofs.Causes.{session_follows}
@@ -52,7 +53,7 @@ book_is k rows start told now before faults begun first tells same =
     ap (λ (z : Kept). book_of z start told faults) begun ∙ ap (λ (o : Option Told). book_of (opened_over rows) o told faults) first
     ∙ ap (λ (o : Option Told). book_of (opened_over rows) o o faults) tells ∙ ap (λ (n : ℕ). book_of (opened_over rows) now now n) same
 
-module _ {C : Type 0} (reads : C → ℕ → C → Type 0) (a b : Outside C) (status : Status) (desk : Shown) where
+module _ {C : Type 0} (reads : C → Taken → C → Type 0) (a b : Outside C) (status : Status) (desk : Shown) where
   -- a session over a desk that was opened so
   pub serves : (site : Option Held) (first : First)
       → Opens (Either first) a.told desk.told desk.site → first.rows ≡ demo_rows → first_blob first ≡ demo_blob
@@ -91,12 +92,12 @@ unopened_by : {C : Type 0} (a b : Outside C) (status wanted : Status) → IsUnop
     → WhyUnopened over_any a.told a.faults b.faults wanted
 unopened_by a b status wanted unopened is = subst (λ (z : Status). WhyUnopened over_any a.told a.faults b.faults z) is unopened.why
 
-pub runs_read : {C : Type 0} (reads : C → ℕ → C → Type 0) (a b : Outside C) (status : Status) (site : Option Held) → Runs reads a b status site
+pub runs_read : {C : Type 0} (reads : C → Taken → C → Type 0) (a b : Outside C) (status : Status) (site : Option Held) → Runs reads a b status site
     → status ≡ exit.ReadFault → Rose a.read_faults b.read_faults
 runs_read reads a b status None unopened is = absurd (unopened_by a b status exit.ReadFault unopened is)
 runs_read reads a b status (Some site) serves is = read_rose reads _ _ serves.end status serves.session serves.ended is
 
-pub runs_write : {C : Type 0} (reads : C → ℕ → C → Type 0) (a b : Outside C) (status : Status) (site : Option Held) → Runs reads a b status site
+pub runs_write : {C : Type 0} (reads : C → Taken → C → Type 0) (a b : Outside C) (status : Status) (site : Option Held) → Runs reads a b status site
     → status ≡ exit.WriteFault → Rose a.write_faults b.write_faults
 runs_write reads a b status None unopened is = absurd (unopened_by a b status exit.WriteFault unopened is)
 runs_write reads a b status (Some site) serves is = write_rose reads _ _ serves.end status serves.session serves.ended is
@@ -114,7 +115,7 @@ no_store (Some ended.ReadFault) is = cc
 no_store (Some ended.WriteFault) is = cc
 no_store (Some ended.Memory) is = cc
 
-pub runs_store : {C : Type 0} (reads : C → ℕ → C → Type 0) (a b : Outside C) (status : Status) (site : Option Held) → Runs reads a b status site
+pub runs_store : {C : Type 0} (reads : C → Taken → C → Type 0) (a b : Outside C) (status : Status) (site : Option Held) → Runs reads a b status site
     → status ≡ exit.StoreFault → Rose a.faults b.faults
 runs_store reads a b status None unopened is = unopened_by a b status exit.StoreFault unopened is
 runs_store reads a b status (Some site) serves is = absurd (no_store serves.end (sym serves.ended ∙ is))

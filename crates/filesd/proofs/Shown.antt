@@ -1,5 +1,5 @@
 -- The file of the demonstration rows is one that a run serves.
-use Rattle.std.proofs.Common.{◌≡◌, ◌∙◌, ap, refl, arith, true, List, [], ◌∷◌, codes, Some, None, ℕ, Ok, is_some, if◌then◌else◌, Bool, find, false}
+use Rattle.std.proofs.Common.{◌≡◌, ◌∙◌, ◌&&◌, ap, refl, arith, true, List, [], ◌∷◌, codes, Some, None, ℕ, Ok, is_some, if◌then◌else◌, Bool, find, false}
 use Rattle.std.specs.Prelude.{bytes_eq, Option, option_map}
 use Rattle.std.specs.List.{list_all}
 use Rattle.std.specs.Option.{option_and_then, option_map_or, option_or}
@@ -70,7 +70,7 @@ hello_granted seat now words =
     ap (λ (way : Way). places_by (asked_of (Get spot)) (record { source = Some way; target = None })) way in
     let token : token_rule access call ≡ None = ap (λ (o : Option UserRow). if is_some o then None else Some denial.Token) row in
     let not_you : not_you_rule access call ≡ None =
-    ap (λ (o : Option UserRow). if list_all (λ name. option_map_or (λ row. bytes_eq row.name name) o false) (codes "alice" ∷ []) then None else Some denial.NotYou) row in
+    ap (λ (o : Option UserRow). if list_all (λ name. option_map_or (λ row. bytes_eq row.name name) o false) (codes "alice" ∷ []) && true then None else Some denial.NotYou) row in
     let led : place_rule access call ≡ None = ap (λ (way : Way). option_or (source_refused access call way) None) way in
     let may : acts_rule access call ≡ None =
     ap (λ (way : Way). first_refused access (ground_of s.tables) (seeker_of call) now

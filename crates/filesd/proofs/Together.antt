@@ -8,6 +8,7 @@ use Rattle.nf_base.specs.declared.limits.TheConstants.{MAX_SEATS}
 use Rattle.nf_base.specs.declared.rows.Row.{Row}
 use Rattle.nf_desk.specs.Desk.{Served, entries_by, meanings}
 use Rattle.nf_keeper.specs.declared.keeper.Keeper.{Ghosts as KeeperOf}
+use Rattle.nf_outside.specs.Lent.{Lent, Taken}
 use Rattle.nf_outside.specs.declared.traits.Ends.{Ghosts as EndsOf}
 use Rattle.nf_server.proofs.Spanning.{Numbered, work_numbers, work_spans}
 use Rattle.nf_server.proofs.Together.{all_stand, full_long}
@@ -84,7 +85,7 @@ was_full worked.All is = absurd (cc)
 was_full worked.DoorFault is = absurd (cc)
 was_full worked.Memory is = absurd (cc)
 
-module _ {K I A C D : Type 0} (k : KeeperOf K) (i : EndsOf I) (a : EndsOf A) (reads : C → ℕ → C → Type 0) (door : DoorOf D I A) where
+module _ {K I A C Q D : Type 0} (k : KeeperOf K) (i : EndsOf I) (a : EndsOf A) (reads : Lent C Q → Taken → Lent C Q → Type 0) (door : DoorOf D I A) where
   pub share_one : ShareOneHistory k i a reads door
   share_one connections keeper left before after status site runs served few =
       let desk = served.closes.desk in

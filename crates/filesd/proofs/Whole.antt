@@ -4,6 +4,7 @@ use Rattle.std.specs.Prelude.{Option, None, Some, IsSome}
 use Rattle.std.specs.List.{All, AllByRecursion}
 use Rattle.std.proofs.lemmas.List.Elements.{All-append, All-cons, All-contains, All-map, All-nil}
 use Rattle.std.proofs.lemmas.Option.{same_Some}
+use Rattle.nf_outside.specs.Lent.{Taken}
 use Rattle.sha2.specs.Sha256.{sha256}
 use Rattle.nf_base.specs.declared.content.Piece.{Piece}
 use Rattle.nf_base.specs.declared.rows.Row.{Row}
@@ -114,7 +115,7 @@ stays_whole b are = record {
       was.damaged);
 }
 
-pub stay_whole : {C : Type 0} (reads : C → ℕ → C → Type 0) → StayWhole reads
+pub stay_whole : {C : Type 0} (reads : C → Taken → C → Type 0) → StayWhole reads
 stay_whole {C} reads = (messages, sessions)
   where
     messages : (a x : Scene C) (front : List (Scene C)) → Through reads a front x → IsUndamaged a.book → StaysWhole x.book

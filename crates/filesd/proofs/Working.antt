@@ -14,6 +14,7 @@ use Rattle.nf_hub.specs.declared.hub.HubOf.{HubOf}
 use Rattle.nf_hub.specs.declared.seat.SeatOf.{SeatOf}
 use Rattle.nf_keeper.specs.declared.keeper.Keeper.{Ghosts as KeeperOf}
 use Rattle.nf_outside.specs.Causes.{Rose}
+use Rattle.nf_outside.specs.Lent.{Lent, Taken}
 use Rattle.nf_outside.specs.declared.traits.Ends.{Ghosts as EndsOf}
 use Rattle.nf_rules.specs.Rules.{AreUnbroken}
 use Rattle.nf_server.specs.Work.{EndsWork, WorkBeside, Works, both}
@@ -43,9 +44,9 @@ both_door worked.Memory worked.All is = absurd (cc)
 both_door worked.Memory worked.Memory is = absurd (cc)
 both_door worked.All other is = inr is
 
-module _ {K I A C D : Type 0} (k : KeeperOf K) (i : EndsOf I) (a : EndsOf A) (reads : C → ℕ → C → Type 0) (door : DoorOf D I A) where
+module _ {K I A C Q D : Type 0} (k : KeeperOf K) (i : EndsOf I) (a : EndsOf A) (reads : Lent C Q → Taken → Lent C Q → Type 0) (door : DoorOf D I A) where
   -- a site was opened over the rows that are kept, and what was done over its desk
-  pub opened_runs : (connections : ℕ) (keeper left : K) (before after : List (Worker D C)) (status : Status) (site : Option Held)
+  pub opened_runs : (connections : ℕ) (keeper left : K) (before after : List (Worker D C Q)) (status : Status) (site : Option Held)
       (desk : Served K) → Opens Kept (k.told keeper) (k.told desk.keeper) desk.site.kept → AreUnbroken desk.site.kept.opening
       → k.faults desk.keeper ≡ k.faults keeper → IsFresh (meanings k) desk → desk.start.value ≡ desk.keeper
       → ServesDesk k i a reads door connections desk left before after status site
@@ -61,7 +62,7 @@ module _ {K I A C D : Type 0} (k : KeeperOf K) (i : EndsOf I) (a : EndsOf A) (re
     serves = serves;
   }
 
-  module _ (keeper left : K) (before after : List (Worker D C)) where
+  module _ (keeper left : K) (before after : List (Worker D C Q)) where
     -- what a status says of the keeper and the doors; no run of `serve` has the others
     abbrev pub Says : Status → Type 0
     Says exit.StoreFault = Rose (k.faults keeper) (k.faults left)
@@ -85,7 +86,7 @@ module _ {K I A C D : Type 0} (k : KeeperOf K) (i : EndsOf I) (a : EndsOf A) (re
     work_says worked.RunFull rose = tt
     work_says worked.Memory rose = tt
 
-  work_rose : (connections : ℕ) (m n : Memory (Served K)) (before after : List (Worker D C)) (result : Worked)
+  work_rose : (connections : ℕ) (m n : Memory (Served K)) (before after : List (Worker D C Q)) (result : Worked)
       → WorkBeside (longer (meanings k)) (Works k i a reads door connections) m n before after result → result ≡ worked.DoorFault
       → OneRose door before after
   work_rose connections m n [] [] result so is = let all = so.1 in absurd (cc)
@@ -98,7 +99,7 @@ module _ {K I A C D : Type 0} (k : KeeperOf K) (i : EndsOf I) (a : EndsOf A) (re
       (λ (theirs : rest ≡ worked.DoorFault). inr (work_rose connections (having_split m) others before after rest beside theirs))
       (both_door one rest (sym ends ∙ is))
 
-  pub runs_say : (connections : ℕ) (keeper left : K) (before after : List (Worker D C)) (status : Status) (site : Option Held)
+  pub runs_say : (connections : ℕ) (keeper left : K) (before after : List (Worker D C Q)) (status : Status) (site : Option Held)
       → RunsDoors k i a reads door connections keeper left before after status site → Says keeper left before after status
   runs_say connections keeper left before after status None shut =
       subst (λ (s : Status). Says keeper left before after s) (sym shut.status_is)
@@ -113,7 +114,7 @@ module _ {K I A C D : Type 0} (k : KeeperOf K) (i : EndsOf I) (a : EndsOf A) (re
           (work_rose connections (of_the_first MAX_SEATS runs.desk) served.memory before after served.result served.work))
 
   -- the work that began with the first seat
-  pub work_of : (connections : ℕ) (m n : Memory (Served K)) (desk : Served K) (before after : List (Worker D C)) (result : Worked)
+  pub work_of : (connections : ℕ) (m n : Memory (Served K)) (desk : Served K) (before after : List (Worker D C Q)) (result : Worked)
       → m ≡ of_the_first MAX_SEATS desk → WorkBeside (longer (meanings k)) (Works k i a reads door connections) m n before after result
       → WorkBeside (longer (meanings k)) (Works k i a reads door connections) (of_the_first MAX_SEATS desk) n before after result
   work_of connections m n desk before after result first work =

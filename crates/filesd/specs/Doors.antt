@@ -8,6 +8,7 @@ use Rattle.nf_desk.specs.declared.first.Opening.TheVariants.{Kept}
 use Rattle.nf_hub.specs.Closing.{Closes}
 use Rattle.nf_keeper.specs.declared.keeper.Keeper.{Ghosts as KeeperOf}
 use Rattle.nf_outside.specs.Causes.{Rose}
+use Rattle.nf_outside.specs.Lent.{Lent, Taken}
 use Rattle.nf_outside.specs.declared.traits.Ends.{Ghosts as EndsOf}
 use Rattle.nf_rules.specs.Rules.{AreUnbroken}
 use Rattle.nf_server.specs.Work.{WorkBeside, Works}
@@ -29,9 +30,9 @@ status_of_work worked.DoorFault = exit.DoorFault
 status_of_work worked.RunFull = exit.RunFull
 status_of_work worked.Memory = exit.Memory
 
-module _ {K I A C D : Type 0} (k : KeeperOf K) (i : EndsOf I) (a : EndsOf A) (reads : C → ℕ → C → Type 0) (door : DoorOf D I A) where
+module _ {K I A C Q D : Type 0} (k : KeeperOf K) (i : EndsOf I) (a : EndsOf A) (reads : Lent C Q → Taken → Lent C Q → Type 0) (door : DoorOf D I A) where
   -- no site was opened, and no worker did anything
-  pub record IsShut (keeper left : K) (before after : List (Worker D C)) (status : Status) : Type 0 where
+  pub record IsShut (keeper left : K) (before after : List (Worker D C Q)) (status : Status) : Type 0 where
     pub workers : after ≡ before
     pub told : k.told left ≡ k.told keeper
     pub fault : OpenFault
@@ -40,14 +41,14 @@ module _ {K I A C D : Type 0} (k : KeeperOf K) (i : EndsOf I) (a : EndsOf A) (re
     pub counted : CountsFault (k.faults keeper) (k.faults left) fault
 
   -- there was no memory to serve a desk
-  pub record IsUnserved (desk : Served K) (left : K) (before after : List (Worker D C)) (status : Status) (site : Held) : Type 0 where
+  pub record IsUnserved (desk : Served K) (left : K) (before after : List (Worker D C Q)) (status : Status) (site : Held) : Type 0 where
     pub workers : after ≡ before
     pub site_is : site ≡ desk.site
     pub keeper_is : left ≡ desk.keeper
     pub status_is : status ≡ exit.Memory
 
   -- it was served by the workers, whose seats were split from the first of `MAX_SEATS`, and joined into it again
-  pub record IsServed (connections : ℕ) (desk : Served K) (left : K) (before after : List (Worker D C)) (status : Status) (site : Held) : Type 0 where
+  pub record IsServed (connections : ℕ) (desk : Served K) (left : K) (before after : List (Worker D C Q)) (status : Status) (site : Held) : Type 0 where
     pub memory : Memory (Served K)
     pub result : Worked
     pub work : WorkBeside (longer (meanings k)) (Works k i a reads door connections) (of_the_first MAX_SEATS desk)
@@ -57,13 +58,13 @@ module _ {K I A C D : Type 0} (k : KeeperOf K) (i : EndsOf I) (a : EndsOf A) (re
     pub closes : Closes k memory site left
     pub status_is : status ≡ status_of_work result
 
-  abbrev pub ServesDesk : ℕ → Served K → K → List (Worker D C) → List (Worker D C) → Status → Option Held → Type 0
+  abbrev pub ServesDesk : ℕ → Served K → K → List (Worker D C Q) → List (Worker D C Q) → Status → Option Held → Type 0
   ServesDesk connections desk left before after status None = ⊥
   ServesDesk connections desk left before after status (Some site) =
       IsUnserved desk left before after status site ⊎ IsServed connections desk left before after status site
 
   -- a desk was opened over the rows that were loaded, of which there are some
-  pub record ServesDoors (connections : ℕ) (keeper left : K) (before after : List (Worker D C)) (status : Status) (site : Held) : Type 0 where
+  pub record ServesDoors (connections : ℕ) (keeper left : K) (before after : List (Worker D C Q)) (status : Status) (site : Held) : Type 0 where
     pub desk : Served K
     pub opens : Opens Kept (k.told keeper) (k.told desk.keeper) desk.site.kept
     pub unbroken : AreUnbroken desk.site.kept.opening
@@ -72,12 +73,12 @@ module _ {K I A C D : Type 0} (k : KeeperOf K) (i : EndsOf I) (a : EndsOf A) (re
     pub start : desk.start.value ≡ desk.keeper
     pub serves : ServesDesk connections desk left before after status (Some site)
 
-  abbrev pub RunsDoors : ℕ → K → K → List (Worker D C) → List (Worker D C) → Status → Option Held → Type 0
+  abbrev pub RunsDoors : ℕ → K → K → List (Worker D C Q) → List (Worker D C Q) → Status → Option Held → Type 0
   RunsDoors connections keeper left before after status None = IsShut keeper left before after status
   RunsDoors connections keeper left before after status (Some site) = ServesDoors connections keeper left before after status site
 
 -- one of the doors counted a fault
-abbrev pub OneRose : {I A C D : Type 0} → DoorOf D I A → List (Worker D C) → List (Worker D C) → Type 0
+abbrev pub OneRose : {I A C Q D : Type 0} → DoorOf D I A → List (Worker D C Q) → List (Worker D C Q) → Type 0
 OneRose door [] after = ⊥
 OneRose door (a ∷ before) [] = ⊥
 OneRose door (a ∷ before) (b ∷ after) = Rose (door.faults a.door) (door.faults b.door) ⊎ OneRose door before after

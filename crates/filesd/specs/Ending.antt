@@ -50,7 +50,7 @@ abbrev pub InitEndsWell : {C : Type 0} → Outside C → Outside C → Status �
 InitEndsWell a b status = IsEmptyStore a.told → NothingFails a b → (status ≡ exit.Done) ⊎ (status ≡ exit.Memory)
 
 -- a run of `serve`, where there are some: of a keeper that told that and failed so often before and after, and of the workers
-abbrev pub ServeEndsWell : {I A C D : Type 0} → DoorOf D I A → Option Told → ℕ → ℕ → List (Worker D C) → List (Worker D C) → Status → Type 0
+abbrev pub ServeEndsWell : {I A C Q D : Type 0} → DoorOf D I A → Option Told → ℕ → ℕ → List (Worker D C Q) → List (Worker D C Q) → Status → Type 0
 ServeEndsWell door told faults now before after status =
     IsSafeStore told → IsUnrisen faults now → (OneRose door before after → ⊥)
     → (status ≡ exit.Done) ⊎ (status ≡ exit.RunFull) ⊎ (status ≡ exit.Memory)

@@ -37,7 +37,7 @@ pub record Begins {C : Type 0} (rows : List Row) (a b : Outside C) (status : Sta
   pub left : b.left ≡ a.left
   pub begun : b.begun ≡ a.begun
   pub read_faults : b.read_faults ≡ a.read_faults
-  pub clock : b.clock ≡ a.clock
+  pub lent : b.lent ≡ a.lent
 
 abbrev pub Inits : {C : Type 0} → List Row → Outside C → Outside C → Status → Option Held → Type 0
 Inits rows a b status None = IsUnopened over_none a b status

@@ -11,6 +11,7 @@ use Rattle.nf_desk.specs.declared.first.Opening.{Opening}
 use Rattle.nf_hub.specs.Seats.{book_in}
 use Rattle.nf_keeper.specs.declared.keeper.Keeper.{Ghosts as KeeperOf}
 use Rattle.nf_laws.specs.Wholes.{IsDamaged, IsNamed, IsThere}
+use Rattle.nf_outside.specs.Lent.{Lent, Taken}
 use Rattle.nf_outside.specs.declared.traits.Ends.{Ghosts as EndsOf}
 use Rattle.nf_promises.specs.Complete.{StaysWhole}
 use Rattle.nf_rows.specs.Spelling.{Fits}
@@ -76,7 +77,7 @@ pub record IsUndamaged (b : Book) : Type 0 where
   pub start : AreUndamaged b.opening b.start
 
 -- where a session begins so, nothing that is named is damaged at any message of it, however many were answered before; and it ends so
-abbrev pub StayWhole : {C : Type 0} → (C → ℕ → C → Type 0) → Type 0
+abbrev pub StayWhole : {C : Type 0} → (C → Taken → C → Type 0) → Type 0
 StayWhole {C} reads =
     ((a x : Scene C) (front : List (Scene C)) → Through reads a front x → IsUndamaged a.book → StaysWhole x.book)
     × ((a b : Scene C) (end : Option Ended) → Session reads a b end → IsUndamaged a.book → IsUndamaged b.book)
@@ -108,19 +109,19 @@ LeftIsThere =
 -- ---- what a run begins with
 
 -- a session of `batch` over such a store
-abbrev pub BatchBeginsWhole : {C : Type 0} → (C → ℕ → C → Type 0) → Type 0
+abbrev pub BatchBeginsWhole : {C : Type 0} → (C → Taken → C → Type 0) → Type 0
 BatchBeginsWhole {C} reads =
     (a b : Outside C) (status : Status) (site : Held) (serves : Serves reads a b status site) → IsGoodStore a.told
     → IsUndamaged (first_book serves.rows (told_opened serves.raws a.told) a.faults)
 
-module _ {K I A C D : Type 0} (k : KeeperOf K) (i : EndsOf I) (a : EndsOf A) (reads : C → ℕ → C → Type 0) (door : DoorOf D I A) where
+module _ {K I A C Q D : Type 0} (k : KeeperOf K) (i : EndsOf I) (a : EndsOf A) (reads : Lent C Q → Taken → Lent C Q → Type 0) (door : DoorOf D I A) where
   -- a worker's sessions, of which the first finds this
-  abbrev pub VisitsBeginWhole : Book → List (Visited K I A C) → Type 0
+  abbrev pub VisitsBeginWhole : Book → List (Visited K I A C Q) → Type 0
   VisitsBeginWhole book [] = Unit {0}
   VisitsBeginWhole book (v ∷ visits) = IsUndamaged book × VisitsBeginWhole (book_in k v.memory) visits
 
   -- those of all workers
-  abbrev pub WorkBeginsWhole : (connections : ℕ) (m n : Memory (Served K)) (before after : List (Worker D C)) (result : Worked)
+  abbrev pub WorkBeginsWhole : (connections : ℕ) (m n : Memory (Served K)) (before after : List (Worker D C Q)) (result : Worked)
       → WorkBeside (longer (meanings k)) (Works k i a reads door connections) m n before after result → Type 0
   WorkBeginsWhole connections m n [] [] result work = Unit {0}
   WorkBeginsWhole connections m n [] (b ∷ after) result work = ⊥
@@ -131,7 +132,7 @@ module _ {K I A C D : Type 0} (k : KeeperOf K) (i : EndsOf I) (a : EndsOf A) (re
   -- in a run of `serve` over such a store
   abbrev pub ServeBeginsWhole : Type 0
   ServeBeginsWhole =
-      (connections : ℕ) (keeper left : K) (before after : List (Worker D C)) (status : Status) (site : Held)
+      (connections : ℕ) (keeper left : K) (before after : List (Worker D C Q)) (status : Status) (site : Held)
       (runs : ServesDoors k i a reads door connections keeper left before after status site)
       (served : IsServed k i a reads door connections runs.desk left before after status site) → IsSafeStore (k.told keeper)
       → WorkBeginsWhole connections (of_the_first MAX_SEATS runs.desk) served.memory before after served.result served.work

@@ -6,6 +6,7 @@ use Rattle.nf_base.specs.declared.rows.Row.{Row}
 use Rattle.nf_desk.specs.Desk.{Shown, TellsSite, blobs_in}
 use Rattle.nf_desk.specs.Opening.{IsLoaded, OpensTo}
 use Rattle.nf_http.specs.Told.{stream}
+use Rattle.nf_outside.specs.Lent.{Taken}
 use Rattle.nf_rows.specs.Spelling.{Raw}
 use Rattle.nf_rules.specs.Rules.{AreUnbroken}
 use Rattle.nf_session.specs.Prelude.{Book, Scene, Session}
@@ -29,7 +30,7 @@ scene_of outside kept book = record {
   output = outside.written;
   answers = outside.begun;
   book = book;
-  clock = outside.clock;
+  lent = outside.lent;
   read_faults = outside.read_faults;
   write_faults = outside.write_faults;
 }
@@ -51,7 +52,7 @@ status_of (Some ended.WriteFault) = exit.WriteFault
 status_of (Some ended.Memory) = exit.Memory
 
 -- a session over the rows that were loaded, or over the demonstration rows where there were none
-pub record Serves {C : Type 0} (reads : C → ℕ → C → Type 0) (a b : Outside C) (status : Status) (site : Held) : Type 0 where
+pub record Serves {C : Type 0} (reads : C → Taken → C → Type 0) (a b : Outside C) (status : Status) (site : Held) : Type 0 where
   pub raws : List Raw
   pub loaded : IsLoaded a.told raws
   pub rows : List Row
@@ -68,7 +69,7 @@ pub record Serves {C : Type 0} (reads : C → ℕ → C → Type 0) (a b : Outsi
   pub told : IfSome b.told (TellsSite (blobs_in (told_opened raws a.told)) site.kept)
 
 -- a whole run
-abbrev pub Runs : {C : Type 0} → (C → ℕ → C → Type 0) → Outside C → Outside C → Status → Option Held → Type 0
+abbrev pub Runs : {C : Type 0} → (C → Taken → C → Type 0) → Outside C → Outside C → Status → Option Held → Type 0
 Runs reads a b status None = IsUnopened over_any a b status
 Runs reads a b status (Some site) = Serves reads a b status site
 
@@ -77,7 +78,7 @@ abbrev pub DoesNothing : {C : Type 0} → Outside C → Outside C → Option Hel
 DoesNothing a b site = (site ≡ None) × (b ≡ a)
 
 -- a session over a desk that was just opened, through the one seat of a run
-abbrev pub ServesDesk : {C : Type 0} → (C → ℕ → C → Type 0) → Shown → Outside C → Outside C → Status → Option Held → Type 0
+abbrev pub ServesDesk : {C : Type 0} → (C → Taken → C → Type 0) → Shown → Outside C → Outside C → Status → Option Held → Type 0
 ServesDesk reads desk a b status None = ⊥
 ServesDesk reads desk a b status (Some site) =
     (end : Option Ended) × (kept : List ℕ) × (status ≡ status_of end) × (length kept ≤ MAX_HEAD)

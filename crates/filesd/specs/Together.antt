@@ -2,6 +2,7 @@
 use Rattle.std.specs.Prelude.{◌≡◌, ℕ, ◌+◌, ◌<◌, ◌≤◌, All, List, length}
 use Rattle.nf_base.specs.declared.limits.TheConstants.{MAX_ENTRIES, MAX_SEATS}
 use Rattle.nf_keeper.specs.declared.keeper.Keeper.{Ghosts as KeeperOf}
+use Rattle.nf_outside.specs.Lent.{Lent, Taken}
 use Rattle.nf_outside.specs.declared.traits.Ends.{Ghosts as EndsOf}
 use Rattle.nf_server.specs.Together.{AllStand}
 use Rattle.nf_server.specs.declared.door.Door.{Ghosts as DoorOf}
@@ -17,10 +18,10 @@ use Rattle.filesd.specs.declared.status.Status.TheVariants as exit
 abbrev pub IsOfSeats : ℕ → ℕ → Entry → Type 0
 IsOfSeats first count e = (first ≤ e.seat) × (e.seat < first + count)
 
-module _ {K I A C D : Type 0} (k : KeeperOf K) (i : EndsOf I) (a : EndsOf A) (reads : C → ℕ → C → Type 0) (door : DoorOf D I A) where
+module _ {K I A C Q D : Type 0} (k : KeeperOf K) (i : EndsOf I) (a : EndsOf A) (reads : Lent C Q → Taken → Lent C Q → Type 0) (door : DoorOf D I A) where
   -- the sessions of all workers stand in the history of the site, with the answers that they were given; the workers' seats have the
   -- numbers from 2 on, and no other seat has an entry there. Where the run was full, that history has 262,143 entries at least
-  pub record StandTogether (connections : ℕ) (keeper left : K) (before after : List (Worker D C)) (status : Status) (site : Held)
+  pub record StandTogether (connections : ℕ) (keeper left : K) (before after : List (Worker D C Q)) (status : Status) (site : Held)
       (runs : ServesDoors k i a reads door connections keeper left before after status site)
       (served : IsServed k i a reads door connections runs.desk left before after status site) : Type 0 where
     pub stand : AllStand k i a reads door connections site.kept.opening site.kept.history 2 (of_the_first MAX_SEATS runs.desk) served.memory
@@ -31,7 +32,7 @@ module _ {K I A C D : Type 0} (k : KeeperOf K) (i : EndsOf I) (a : EndsOf A) (re
   -- so it is of each run of `serve` that was served
   abbrev pub ShareOneHistory : Type 0
   ShareOneHistory =
-      (connections : ℕ) (keeper left : K) (before after : List (Worker D C)) (status : Status) (site : Held)
+      (connections : ℕ) (keeper left : K) (before after : List (Worker D C Q)) (status : Status) (site : Held)
       (runs : ServesDoors k i a reads door connections keeper left before after status site)
       (served : IsServed k i a reads door connections runs.desk left before after status site)
       → length before < MAX_SEATS → StandTogether connections keeper left before after status site runs served

@@ -2,6 +2,7 @@
 
 ghost use Rattle.std.specs.Prelude.{◌≡◌, ◌<◌, length, [], IfSome};
 ghost use Rattle.nf_desk.specs.Desk.{meanings};
+ghost use Rattle.nf_outside.specs.Lent.{takes};
 ghost use Rattle.nf_turn.specs.Book.{IsFresh};
 ghost use Rattle.filesd.specs.Doors.{RunsDoors, ServesDesk};
 ghost use Rattle.filesd.specs.Reopening.{Leaves, Pays};
@@ -13,18 +14,18 @@ use nf_base::MAX_SEATS;
 use nf_desk::{Desk, Opening, Unopened};
 use nf_hub::Hub;
 use nf_keeper::Keeper;
-use nf_outside::Clock;
+use nf_outside::{Clock, Dice};
 use nf_server::{Door, Worker, serve};
 use std::alloc::Global;
 use std::sync::Wait;
 use std::thread::Threads;
 
 /// Serves the workers' doors over the rows that the keeper has, at most so many connections of each.
-pub(crate) fn serve_doors<R, K, D, W>(
+pub(crate) fn serve_doors<R, K, D, W, V>(
     rt: &R,
     alloc: Global,
     keeper: K,
-    workers: &mut [Worker<D, W>],
+    workers: &mut [Worker<D, W, V>],
     connections: u64,
 ) -> Finished<K>
 where
@@ -32,10 +33,11 @@ where
     K: Keeper + Drop + Send,
     D: Door + Drop + Send,
     W: Clock + Drop + Send,
+    V: Dice + Drop + Send,
     D::Source: Send,
     D::Sink: Send,
     requires workers { length workers.old < MAX_SEATS }
-    ensures runs { RunsDoors K.Keeper D.Source.Ends D.Sink.Ends W.reads D.Door connections keeper result.keeper workers.old workers.new result.status result.site }
+    ensures runs { RunsDoors K.Keeper D.Source.Ends D.Sink.Ends (takes W.reads V.draws) D.Door connections keeper result.keeper workers.old workers.new result.status result.site }
     ensures leaves { IfSome result.site (λ site. Leaves site.kept (K.told result.keeper)) }
     ensures paid { IfSome result.site (λ site. Pays site.kept (K.faults keeper) (K.faults result.keeper)) }
 {
@@ -46,11 +48,11 @@ where
 }
 
 /// The same over a desk that was just opened.
-fn serve_over<R, K, D, W>(
+fn serve_over<R, K, D, W, V>(
     rt: &R,
     alloc: Global,
     desk: Desk<K>,
-    workers: &mut [Worker<D, W>],
+    workers: &mut [Worker<D, W, V>],
     connections: u64,
 ) -> Finished<K>
 where
@@ -58,13 +60,14 @@ where
     K: Keeper + Drop + Send,
     D: Door + Drop + Send,
     W: Clock + Drop + Send,
+    V: Dice + Drop + Send,
     D::Source: Send,
     D::Sink: Send,
     requires workers { length workers.old < MAX_SEATS }
     requires fresh { IsFresh (meanings K.Keeper) desk }
     requires history { desk.site.kept.history ≡ [] }
     requires start { desk.start.value ≡ desk.keeper }
-    ensures serves { ServesDesk K.Keeper D.Source.Ends D.Sink.Ends W.reads D.Door connections desk result.keeper workers.old workers.new result.status result.site }
+    ensures serves { ServesDesk K.Keeper D.Source.Ends D.Sink.Ends (takes W.reads V.draws) D.Door connections desk result.keeper workers.old workers.new result.status result.site }
     ensures leaves { IfSome result.site (λ site. Leaves site.kept (K.told result.keeper)) }
     ensures paid { IfSome result.site (λ site. Pays site.kept (K.faults desk.keeper) (K.faults result.keeper)) }
 {

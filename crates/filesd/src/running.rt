@@ -9,6 +9,7 @@ ghost use Rattle.nf_command.specs.First.{first_rows, init_rows};
 ghost use Rattle.nf_command.specs.Reading.{IsNearlyInit};
 ghost use Rattle.nf_desk.specs.Desk.{meanings, shown};
 ghost use Rattle.nf_outside.specs.Causes.{Rose};
+ghost use Rattle.nf_outside.specs.Lent.{lent, takes};
 ghost use Rattle.nf_turn.specs.Book.{IsFresh};
 ghost use Rattle.filesd.specs.Doors.{OneRose, RunsDoors};
 ghost use Rattle.filesd.specs.Ending.{BatchEndsWell, InitEndsWell, ServeEndsWell};
@@ -30,7 +31,7 @@ use nf_desk::{Desk, First, Opening, Unopened};
 use nf_http::send;
 use nf_hub::Hub;
 use nf_keeper::Keeper;
-use nf_outside::{Clock, Sink, Source};
+use nf_outside::{Clock, Dice, Sink, Source};
 use nf_routes::Routes;
 use nf_server::{Door, Served, Worker, serve_ends};
 use nf_site::Site;
@@ -51,7 +52,7 @@ pub struct Finished<K: Drop> {
 /// the connections of the workers' doors over the rows that the keeper has.
 ///
 /// The site after the run is handed out with its history, but where none was opened.
-pub fn run<R, S, O, K, C, D, W>(
+pub fn run<R, S, O, K, C, Q, D, W, V>(
     rt: &R,
     alloc: Global,
     words: &[String],
@@ -59,7 +60,8 @@ pub fn run<R, S, O, K, C, D, W>(
     output: &mut O,
     keeper: K,
     clock: &mut C,
-    workers: &mut [Worker<D, W>],
+    dice: &mut Q,
+    workers: &mut [Worker<D, W, V>],
 ) -> Finished<K>
 where
     R: Threads + Wait + Sync,
@@ -67,8 +69,10 @@ where
     O: Sink,
     K: Keeper + Drop + Send,
     C: Clock,
+    Q: Dice,
     D: Door + Drop + Send,
     W: Clock + Drop + Send,
+    V: Dice + Drop + Send,
     D::Source: Send,
     D::Sink: Send,
     requires workers { length workers.old < MAX_SEATS }
@@ -76,22 +80,22 @@ where
     // Memory can be wanting for the name of an `init` that is right but for its name.
     ensures no_command { (IsCommand (map string_bytes words.now) → ⊥)
         → (result.status ≡ exit.Words) ⊎ ((result.status ≡ exit.Memory) × IsNearlyInit (map string_bytes words.now)) }
-    ensures batch { IsBatch (map string_bytes words.now) → Runs C.reads
-        (outside S.Ends O.Ends K.Keeper input.old output.old keeper clock.old)
-        (outside S.Ends O.Ends K.Keeper input.new output.new result.keeper clock.new) result.status result.site }
+    ensures batch { IsBatch (map string_bytes words.now) → Runs (takes C.reads Q.draws)
+        (outside S.Ends O.Ends K.Keeper input.old output.old keeper (lent clock.old dice.old))
+        (outside S.Ends O.Ends K.Keeper input.new output.new result.keeper (lent clock.new dice.new)) result.status result.site }
     ensures init { (name token : List ℕ) (quota : ℕ) → IsInit (map string_bytes words.now) name token quota → Inits (init_rows name token quota)
-        (outside S.Ends O.Ends K.Keeper input.old output.old keeper clock.old)
-        (outside S.Ends O.Ends K.Keeper input.new output.new result.keeper clock.new) result.status result.site }
+        (outside S.Ends O.Ends K.Keeper input.old output.old keeper (lent clock.old dice.old))
+        (outside S.Ends O.Ends K.Keeper input.new output.new result.keeper (lent clock.new dice.new)) result.status result.site }
     ensures serve { (n : ℕ) → IsServe (map string_bytes words.now) n
-        → RunsDoors K.Keeper D.Source.Ends D.Sink.Ends W.reads D.Door n keeper result.keeper workers.old workers.new result.status result.site }
-    // A `serve` uses neither the input, nor the output, nor the clock; and no other command uses the workers.
+        → RunsDoors K.Keeper D.Source.Ends D.Sink.Ends (takes W.reads V.draws) D.Door n keeper result.keeper workers.old workers.new result.status result.site }
+    // A `serve` uses neither the input, nor the output, nor the clock, nor the dice; and no other command uses the workers.
     ensures apart { IsSomeServe (map string_bytes words.now)
-        → outside S.Ends O.Ends K.Keeper input.new output.new result.keeper clock.new
-        ≡ record (outside S.Ends O.Ends K.Keeper input.old output.old keeper clock.old) { told = K.told result.keeper; faults = K.faults result.keeper } }
+        → outside S.Ends O.Ends K.Keeper input.new output.new result.keeper (lent clock.new dice.new)
+        ≡ record (outside S.Ends O.Ends K.Keeper input.old output.old keeper (lent clock.old dice.old)) { told = K.told result.keeper; faults = K.faults result.keeper } }
     ensures workers { (IsSomeServe (map string_bytes words.now) → ⊥) → workers.new ≡ workers.old }
     ensures nothing { (IsCommand (map string_bytes words.now) → ⊥) → DoesNothing
-        (outside S.Ends O.Ends K.Keeper input.old output.old keeper clock.old)
-        (outside S.Ends O.Ends K.Keeper input.new output.new result.keeper clock.new) result.site }
+        (outside S.Ends O.Ends K.Keeper input.old output.old keeper (lent clock.old dice.old))
+        (outside S.Ends O.Ends K.Keeper input.new output.new result.keeper (lent clock.new dice.new)) result.site }
 
     // The site at the end, and what the keeper tells then: its rows, and blobs that are whole for it.
     ensures leaves { IfSome result.site (λ site. Leaves site.kept (K.told result.keeper)) }
@@ -104,18 +108,18 @@ where
 
     // Where nothing of the outside fails, over a store that is as the words ask.
     ensures batch_well { IsBatch (map string_bytes words.now) → BatchEndsWell
-        (outside S.Ends O.Ends K.Keeper input.old output.old keeper clock.old)
-        (outside S.Ends O.Ends K.Keeper input.new output.new result.keeper clock.new) result.status }
+        (outside S.Ends O.Ends K.Keeper input.old output.old keeper (lent clock.old dice.old))
+        (outside S.Ends O.Ends K.Keeper input.new output.new result.keeper (lent clock.new dice.new)) result.status }
     ensures init_well { (name token : List ℕ) (quota : ℕ) → IsInit (map string_bytes words.now) name token quota → InitEndsWell
-        (outside S.Ends O.Ends K.Keeper input.old output.old keeper clock.old)
-        (outside S.Ends O.Ends K.Keeper input.new output.new result.keeper clock.new) result.status }
+        (outside S.Ends O.Ends K.Keeper input.old output.old keeper (lent clock.old dice.old))
+        (outside S.Ends O.Ends K.Keeper input.new output.new result.keeper (lent clock.new dice.new)) result.status }
     ensures serve_well { IsSomeServe (map string_bytes words.now)
         → ServeEndsWell D.Door (K.told keeper) (K.faults keeper) (K.faults result.keeper) workers.old workers.new result.status }
 
     // One GET of a file, said without the session.
     ensures one_file { IsBatch (map string_bytes words.now) → ServesOneFile
-        (outside S.Ends O.Ends K.Keeper input.old output.old keeper clock.old)
-        (outside S.Ends O.Ends K.Keeper input.new output.new result.keeper clock.new) result.status }
+        (outside S.Ends O.Ends K.Keeper input.old output.old keeper (lent clock.old dice.old))
+        (outside S.Ends O.Ends K.Keeper input.new output.new result.keeper (lent clock.new dice.new)) result.status }
 
     ensures read { result.status ≡ exit.ReadFault → Rose (S.read_faults input.old) (S.read_faults input.new) }
     ensures write { result.status ≡ exit.WriteFault → Rose (O.write_faults output.old) (O.write_faults output.new) }
@@ -123,7 +127,7 @@ where
     ensures door { result.status ≡ exit.DoorFault → OneRose D.Door workers.old workers.new }
 {
     match command_of(alloc, words) {
-        Ok(Some(Command::Batch)) => batch(rt, alloc, input, output, keeper, clock),
+        Ok(Some(Command::Batch)) => batch(rt, alloc, input, output, keeper, clock, dice),
         Ok(Some(Command::Init(init))) => initialize(alloc, &init, output, keeper),
         Ok(Some(Command::Serve { connections })) => serve_doors(
             rt,
@@ -138,17 +142,18 @@ where
 }
 
 /// One session over what the keeper has.
-fn batch<R: Wait, S: Source, O: Sink, K: Keeper + Drop, C: Clock>(
+fn batch<R: Wait, S: Source, O: Sink, K: Keeper + Drop, C: Clock, Q: Dice>(
     rt: &R,
     alloc: Global,
     input: &mut S,
     output: &mut O,
     keeper: K,
     clock: &mut C,
+    dice: &mut Q,
 ) -> Finished<K>
-    ensures runs { Runs C.reads
-        (outside S.Ends O.Ends K.Keeper input.old output.old keeper clock.old)
-        (outside S.Ends O.Ends K.Keeper input.new output.new result.keeper clock.new) result.status result.site }
+    ensures runs { Runs (takes C.reads Q.draws)
+        (outside S.Ends O.Ends K.Keeper input.old output.old keeper (lent clock.old dice.old))
+        (outside S.Ends O.Ends K.Keeper input.new output.new result.keeper (lent clock.new dice.new)) result.status result.site }
     ensures leaves { IfSome result.site (λ site. Leaves site.kept (K.told result.keeper)) }
     ensures paid { IfSome result.site (λ site. Pays site.kept (K.faults keeper) (K.faults result.keeper)) }
     ensures alone { IfSome result.site (λ site. AreOwn site.kept.history) }
@@ -163,13 +168,13 @@ fn batch<R: Wait, S: Source, O: Sink, K: Keeper + Drop, C: Clock>(
         Err(_) => return unopened(Status::Memory, keeper),
     };
     match Desk::open(alloc, keeper, Opening::Either(first)) {
-        Ok(desk) => serve_desk(rt, alloc, &routes, input, output, desk, clock),
+        Ok(desk) => serve_desk(rt, alloc, &routes, input, output, desk, clock, dice),
         Err(Unopened { fault, keeper }) => unopened(status_of_fault(fault), keeper),
     }
 }
 
 /// One session over a desk that was just opened, through the first seat of its hub.
-fn serve_desk<R: Wait, S: Source, O: Sink, K: Keeper + Drop, C: Clock>(
+fn serve_desk<R: Wait, S: Source, O: Sink, K: Keeper + Drop, C: Clock, Q: Dice>(
     rt: &R,
     alloc: Global,
     routes: &Routes,
@@ -177,13 +182,14 @@ fn serve_desk<R: Wait, S: Source, O: Sink, K: Keeper + Drop, C: Clock>(
     output: &mut O,
     desk: Desk<K>,
     clock: &mut C,
+    dice: &mut Q,
 ) -> Finished<K>
     requires fresh { IsFresh (meanings K.Keeper) desk }
     requires history { desk.site.kept.history ≡ [] }
     requires start { desk.start.value ≡ desk.keeper }
-    ensures session { ServesDesk C.reads (shown K.Keeper desk)
-        (outside S.Ends O.Ends K.Keeper input.old output.old desk.keeper clock.old)
-        (outside S.Ends O.Ends K.Keeper input.new output.new result.keeper clock.new) result.status result.site }
+    ensures session { ServesDesk (takes C.reads Q.draws) (shown K.Keeper desk)
+        (outside S.Ends O.Ends K.Keeper input.old output.old desk.keeper (lent clock.old dice.old))
+        (outside S.Ends O.Ends K.Keeper input.new output.new result.keeper (lent clock.new dice.new)) result.status result.site }
     ensures leaves { IfSome result.site (λ site. Leaves site.kept (K.told result.keeper)) }
     ensures paid { IfSome result.site (λ site. Pays site.kept (K.faults desk.keeper) (K.faults result.keeper)) }
     ensures alone { IfSome result.site (λ site. AreOwn site.kept.history) }
@@ -191,7 +197,7 @@ fn serve_desk<R: Wait, S: Source, O: Sink, K: Keeper + Drop, C: Clock>(
     match Hub::over(alloc, desk, MAX_SEATS) {
         Ok((hub, seat)) => {
             let Served { ended, seat } = serve_ends(
-                rt, alloc, routes, &hub, seat, input, output, clock,
+                rt, alloc, routes, &hub, seat, input, output, clock, dice,
             );
             let (site, keeper) = hub.close(seat);
             Finished {

@@ -3,6 +3,7 @@
 use crate::access_log::{Greeting, LoggedDoor};
 use crate::settings::Serving;
 use filesd::Status;
+use nf_dice::RealDice;
 use nf_outside::RealClock;
 use nf_server::{Closing, TcpDoor, Terms, Worker};
 use std::io;
@@ -18,6 +19,7 @@ const LOOK: u64 = 5;
 pub type SocketWorker = Worker<
     LoggedDoor<TcpDoor<TcpListener, HostRuntime>>,
     RealClock<HostRuntime>,
+    RealDice,
 >;
 
 /// The workers of a `serve`, which share one socket. Other commands have none.
@@ -60,6 +62,7 @@ fn listen(
         let worker = Worker {
             door: LoggedDoor::new(door, log(rt, serving), greeting.take()),
             clock: RealClock::new(clock),
+            dice: dice(rt)?,
         };
         if workers.push(worker).is_err() {
             return Err(Status::Memory);
@@ -97,6 +100,14 @@ fn greeting_of(rt: &HostRuntime, listener: &TcpListener) -> Option<Greeting> {
 // The runtime to log by, where answers are logged.
 fn log(rt: &HostRuntime, serving: &Serving) -> Option<HostRuntime> {
     if serving.is_logged { same(rt) } else { None }
+}
+
+/// Dice with a key of their own.
+pub fn dice(rt: &HostRuntime) -> Result<RealDice, Status> {
+    RealDice::new(rt).map_err(|error| {
+        let _ = eprintln!(rt; "filesd: the system gives no random bytes: {error}");
+        Status::ReadFault
+    })
 }
 
 /// The same runtime, to be kept.

@@ -1,12 +1,13 @@
 //! The file server's program.
 #![tactic(auto)]
 
-use crate::listening::{SocketWorker, same, workers};
+use crate::listening::{SocketWorker, dice, same, workers};
 use crate::settings::{MOST_WORKERS, Serving, read_serving, store};
 use crate::telling::{tell_rows, tell_usage};
 use crate::watching::{close_store, open_again, open_store};
 use filesd::{Finished, Status, run};
 use nf_command::{Command, command_of};
+use nf_dice::RealDice;
 use nf_keeper::{Keeper, MemKeeper};
 use nf_outside::{Input, Output, RealClock};
 use nf_server::{Cause, Closing};
@@ -96,10 +97,14 @@ fn obey<W: Threads + Wait + Sync>(rt: &HostRuntime, turns: &W, order: &Order) ->
     let Ok(closing) = Closing::new(rt.alloc()) else {
         return Status::Memory;
     };
+    let mut dice = match dice(rt) {
+        Ok(dice) => dice,
+        Err(status) => return status,
+    };
     match &order.store {
-        Some(path) => obey_over_file(rt, turns, order, path.as_str(), &closing),
+        Some(path) => obey_over_file(rt, turns, order, path.as_str(), &closing, &mut dice),
         None => match MemKeeper::new(rt.alloc(), &[]) {
-            Ok(keeper) => obey_over(rt, turns, order, keeper, &closing),
+            Ok(keeper) => obey_over(rt, turns, order, keeper, &closing, &mut dice),
             Err(_) => Status::Memory,
         },
     }
@@ -111,9 +116,10 @@ fn obey_over<W: Threads + Wait + Sync>(
     order: &Order,
     keeper: MemKeeper,
     closing: &Closing,
+    dice: &mut RealDice,
 ) -> Status {
     match workers(rt, &order.serving, closing) {
-        Ok(mut workers) => run_on(rt, turns, order, keeper, closing, &mut workers).0,
+        Ok(mut workers) => run_on(rt, turns, order, keeper, closing, dice, &mut workers).0,
         Err(status) => status,
     }
 }
@@ -125,6 +131,7 @@ fn obey_over_file<W: Threads + Wait + Sync>(
     order: &Order,
     path: &str,
     closing: &Closing,
+    dice: &mut RealDice,
 ) -> Status {
     let mut workers = match workers(rt, &order.serving, closing) {
         Ok(workers) => workers,
@@ -137,7 +144,7 @@ fn obey_over_file<W: Threads + Wait + Sync>(
             Err(status) => return status,
         };
         let opened = Instant::now(rt).ok();
-        let finished = run_on(rt, turns, order, store, closing, &mut workers);
+        let finished = run_on(rt, turns, order, store, closing, dice, &mut workers);
         let (status, store) = finished;
         close_store(rt, store);
         match closing.cause() {
@@ -167,6 +174,7 @@ fn run_on<W: Threads + Wait + Sync, K: Keeper + Drop + Send>(
     order: &Order,
     keeper: K,
     closing: &Closing,
+    dice: &mut RealDice,
     workers: &mut [SocketWorker],
 ) -> (Status, K) {
     let mut keeper = keeper;
@@ -175,7 +183,7 @@ fn run_on<W: Threads + Wait + Sync, K: Keeper + Drop + Send>(
             status,
             keeper: left,
             site,
-        } = run_once(rt, turns, order, keeper, workers);
+        } = run_once(rt, turns, order, keeper, dice, workers);
         // With it goes the history.
         drop(site);
         keeper = left;
@@ -195,6 +203,7 @@ fn run_once<W: Threads + Wait + Sync, K: Keeper + Drop + Send>(
     turns: &W,
     order: &Order,
     keeper: K,
+    dice: &mut RealDice,
     workers: &mut [SocketWorker],
 ) -> Finished<K> {
     let Some(clock) = same(rt) else {
@@ -213,6 +222,7 @@ fn run_once<W: Threads + Wait + Sync, K: Keeper + Drop + Send>(
         &mut Output::new(rt.stdout()),
         keeper,
         &mut RealClock::new(clock),
+        dice,
         &mut workers[..count],
     )
 }

@@ -1,5 +1,5 @@
 -- Mounts: shared nodes under names in the roots of those who receive them.
-use Rattle.std.specs.Prelude.{ℕ, Bool, false, not, ◌&&◌, ◌==◌, bytes_eq, zero, suc, ◌+◌, List, [], ◌++◌, map, filter, find, length, Option, Some, None, option_map, if◌then◌else◌}
+use Rattle.std.specs.Prelude.{ℕ, Bool, false, not, ◌&&◌, ◌==◌, bytes_eq, zero, suc, ◌+◌, List, [], ◌∷◌, ◌++◌, map, filter, find, length, Option, Some, None, option_map, if◌then◌else◌}
 use Rattle.std.specs.List.{list_any}
 use Rattle.std.specs.Option.{option_map_or}
 use Rattle.nf_access.specs.Access.{is_open}
@@ -70,3 +70,16 @@ ensured users nodes mounts user node =
 -- the mounts with that row, if there is one
 abbrev pub with_mount : List MountRow → Option MountRow → List MountRow
 with_mount mounts row = option_map_or (λ row. put mount_key row mounts) row mounts
+
+-- ---- several mounts
+
+-- the row that an ensured mount writes, if it writes one, and what the rest writes behind it
+abbrev pub then_ensured : Option MountRow → (List MountRow → List MountRow) → List MountRow → List MountRow
+then_ensured None rest mounts = rest mounts
+then_ensured (Some row) rest mounts = row ∷ rest (put mount_key row mounts)
+
+-- what ensuring mounts writes, one after the other, each of a user and a node
+abbrev pub ensured_all : List UserRow → List NodeRow → List (ℕ × ℕ) → List MountRow → List MountRow
+ensured_all users nodes [] mounts = []
+ensured_all users nodes (of ∷ others) mounts =
+    then_ensured (ensured users nodes mounts of.0 of.1) (ensured_all users nodes others) mounts

@@ -12,6 +12,7 @@ use Rattle.nf_http.specs.Head.{Head, length_of}
 use Rattle.nf_http.specs.Next.{IsOfBytes}
 use Rattle.nf_http.specs.declared.wire.WireFault.{WireFault}
 use Rattle.nf_http.specs.declared.wire.WireFault.TheVariants as wire
+use Rattle.nf_outside.specs.Lent.{Taken}
 use Rattle.nf_words.specs.declared.answer.Goal.TheVariants as goal
 use Rattle.nf_words.specs.declared.answer.Reply.TheVariants as reply
 use Rattle.nf_session.specs.Prelude.{Answer, Bodies, Book, Cuts, cutting, EndsBody, event_of_body, IsResponse, OnlyReads, Passes, Scene, Starts, StartsFile, StoresBody, taken_length, TakesEarly, TakesIn, is_early}
@@ -60,16 +61,16 @@ starts_same a b c d content v w same p q calm still alone also =
     let book : KnowSame b.book d.book = know_next a.book b.book c.book d.book same.book one.0 other.0 in (
       files content one.1 other.1 one.2 other.2,
       same_self (record a { book = b.book }) b (record c { book = d.book }) d
-          (record { input = same.input; output = same.output; book = book; clock = same.clock }) p.only q.only,
+          (record { input = same.input; output = same.output; book = book; lent = same.lent }) p.only q.only,
     )
 
 -- ---- the body that is stored
 
-stores_same : {C : Type 0} (reads : C → ℕ → C → Type 0) (body : List ℕ) (a b c d : Scene C) (v w : Response)
+stores_same : {C : Type 0} (reads : C → Taken → C → Type 0) (body : List ℕ) (a b c d : Scene C) (v w : Response)
     → IsSteady reads → AreSame a c → StoresBody reads body a b v → StoresBody reads body c d w → IsCalmResponse v → IsCalmResponse w
     → IsAlone a.book b.book → IsAlone c.book d.book → Similar v w × AreSame b d
 stores_same reads body a b c d v w steady same (now1, x, read1, ends1, is1, only1) (now2, y, read2, ends2, is2, only2) calm still alone also =
-    let read : (now1 ≡ now2) × (b.clock ≡ d.clock) = readings_same reads a b c d now1 now2 steady same read1 read2 in
+    let read : (now1 ≡ now2) × (b.lent ≡ d.lent) = readings_same reads a b c d now1 now2 steady same read1 read2 in
     let ends : EndsBody c.book d.book now1 body y = subst (λ z. EndsBody c.book d.book z body y) (sym read.0) ends2 in
     let made : (y ≡ x) × KnowSame b.book d.book =
     enters_same a.book b.book c.book d.book now1 (event_of_body body) x y same.book ends1.enters ends.enters alone also
@@ -78,7 +79,7 @@ stores_same reads body a b c d v w steady same (now1, x, read1, ends1, is1, only
 
 -- ---- what the body makes of what was begun
 
-pub passes_same : {C : Type 0} (reads : C → ℕ → C → Type 0) (body : List ℕ) (a b c d : Scene C) (x : Begun) (v w : Response)
+pub passes_same : {C : Type 0} (reads : C → Taken → C → Type 0) (body : List ℕ) (a b c d : Scene C) (x : Begun) (v w : Response)
     → IsSteady reads → AreSame a c → Passes reads body a b x v → Passes reads body c d x w → IsCalmResponse v → IsCalmResponse w
     → IsAlone a.book b.book → IsAlone c.book d.book → Similar v w × AreSame b d
 passes_same reads body a b c d (begun.Unasked refusal) v w steady same p q calm still alone also =
@@ -98,7 +99,7 @@ bodies_same a b c d n p q s x y =
     let taken : (p ≡ q) × TellSame b.input d.input = told_taken a.input b.input c.input d.input n p q s.input x.taken y.taken in (
       taken.0,
       same_self (record a { input = b.input; kept = b.kept }) b (record c { input = d.input; kept = d.kept }) d
-          (record { input = taken.1; output = s.output; book = s.book; clock = s.clock }) x.only y.only,
+          (record { input = taken.1; output = s.output; book = s.book; lent = s.lent }) x.only y.only,
     )
 
 pub early_same : {C : Type 0} (head : Head) (a b c d : Scene C) (p q : List ℕ)
@@ -110,7 +111,7 @@ early_same head a b c d p q same x y = here (is_early head) x y
     here true x y = bodies_same a b c d (length_of head) p q same x y
     here false x y = (x.0 ∙ sym y.0, same_self a b c d same x.1 y.1)
 
-pub takes_same : {C : Type 0} (reads : C → ℕ → C → Type 0) (head : Head) (a b c d : Scene C) (x : Begun) (v w : Response)
+pub takes_same : {C : Type 0} (reads : C → Taken → C → Type 0) (head : Head) (a b c d : Scene C) (x : Begun) (v w : Response)
     → IsSteady reads → AreSame a c → TakesIn reads head a b x (Ok v) → TakesIn reads head c d x (Ok w)
     → IsCalmResponse v → IsCalmResponse w → IsAlone a.book b.book → IsAlone c.book d.book → Similar v w × AreSame b d
 takes_same {C = C} reads head a b c d x v w steady same (m, p, bodies1, passes1) (n, q, bodies2, passes2) calm still alone also =

@@ -86,7 +86,7 @@ pieces_same a b c d close content first other xs ys s p q e alone also =
       output = told_appended a.output b.output c.output d.output (file_front close content xs) s.output p.bytes_are bytes;
       book = know_next a.book b.book c.book d.book s.book
           (lone_waits a.book b.book p.pieces.waits alone) (lone_waits c.book d.book q.pieces.waits also);
-      clock = s.clock;
+      lent = s.lent;
     }) p.pieces.only q.pieces.only
 
 -- a file that is sent whole

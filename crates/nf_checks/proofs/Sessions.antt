@@ -4,6 +4,7 @@ use Rattle.std.specs.declared.option.Option.{Option}
 use Rattle.std.specs.declared.option.Option.TheVariants.{None}
 use Rattle.std.proofs.lemmas.Bool.{ne_eqb}
 use Rattle.nf_base.specs.declared.limits.TheConstants.{MAX_MESSAGES}
+use Rattle.nf_outside.specs.Lent.{Taken}
 use Rattle.nf_session.specs.Prelude.{Scene, Session, Through, Turn}
 use Rattle.nf_session.specs.declared.ended.Ended.{Ended}
 use Rattle.nf_session.proofs.Calm.{goes_then, same_goes}
@@ -14,13 +15,13 @@ use Rattle.nf_checks.proofs.Scenes.{same_back}
 use Rattle.nf_checks.proofs.Turns.{Alike, turns_same}
 
 -- a turn that is the session's last
-record Last {C : Type 0} (reads : C → ℕ → C → Type 0) (last : Bool) (a b : Scene C) (end : Option Ended) : Type 0 where
+record Last {C : Type 0} (reads : C → Taken → C → Type 0) (last : Bool) (a b : Scene C) (end : Option Ended) : Type 0 where
   pub turn : Turn reads last a b end
   pub calm : IsCalmTurn reads last a b end turn
   pub well : IsCalmEnd end
 
 -- the last turn of a session of n messages, and those before it
-record Rest {C : Type 0} (reads : C → ℕ → C → Type 0) (n : ℕ) (a : Scene C) (scenes : List (Scene C)) (m b : Scene C) (end : Option Ended) : Type 0 where
+record Rest {C : Type 0} (reads : C → Taken → C → Type 0) (n : ℕ) (a : Scene C) (scenes : List (Scene C)) (m b : Scene C) (end : Option Ended) : Type 0 where
   pub through : Through reads a scenes m
   pub turns : AreCalmTurns reads a scenes m through
   pub last : Last reads (n == MAX_MESSAGES - 1) m b end
@@ -28,13 +29,13 @@ record Rest {C : Type 0} (reads : C → ℕ → C → Type 0) (n : ℕ) (a : Sce
   pub full : end ≡ None → n ≡ MAX_MESSAGES - 1
   pub alone : IsAlone a.book b.book
 
-next_goes : {C : Type 0} (reads : C → ℕ → C → Type 0) (n : ℕ) (a next : Scene C) (scenes : List (Scene C))
+next_goes : {C : Type 0} (reads : C → Taken → C → Type 0) (n : ℕ) (a next : Scene C) (scenes : List (Scene C))
     (m b : Scene C) (end : Option Ended) → Rest reads n a (next ∷ scenes) m b end → Goes next b
 next_goes reads n a next scenes m b end p =
     goes_of (goes_then (through_goes reads next scenes m p.through.1) (turn_goes reads (n == MAX_MESSAGES - 1) m b end p.last.turn))
 
 -- what follows the first turn
-next_of : {C : Type 0} (reads : C → ℕ → C → Type 0) (n : ℕ) (a next : Scene C) (scenes : List (Scene C)) (m b : Scene C)
+next_of : {C : Type 0} (reads : C → Taken → C → Type 0) (n : ℕ) (a next : Scene C) (scenes : List (Scene C)) (m b : Scene C)
     (end : Option Ended) → Rest reads n a (next ∷ scenes) m b end → Rest reads n next scenes m b end
 next_of reads n a next scenes m b end p = record {
   through = p.through.1;
@@ -45,23 +46,23 @@ next_of reads n a next scenes m b end p = record {
   alone = alone_then (goes_of (turn_goes reads false a next None p.through.0)) (next_goes reads n a next scenes m b end p) p.alone;
 }
 
-first_alone : {C : Type 0} (reads : C → ℕ → C → Type 0) (n : ℕ) (a next : Scene C) (scenes : List (Scene C))
+first_alone : {C : Type 0} (reads : C → Taken → C → Type 0) (n : ℕ) (a next : Scene C) (scenes : List (Scene C))
     (m b : Scene C) (end : Option Ended) → Rest reads n a (next ∷ scenes) m b end → IsAlone a.book next.book
 first_alone reads n a next scenes m b end p =
     alone_first (goes_of (turn_goes reads false a next None p.through.0)) (next_goes reads n a next scenes m b end p) p.alone
 
-last_of : {C : Type 0} (reads : C → ℕ → C → Type 0) (n : ℕ) (a m b : Scene C) (end : Option Ended)
+last_of : {C : Type 0} (reads : C → Taken → C → Type 0) (n : ℕ) (a m b : Scene C) (end : Option Ended)
     → Rest reads n a [] m b end → Last reads (n == MAX_MESSAGES - 1) a b end
 last_of reads n a m b end p = subst (λ z. Last reads (n == MAX_MESSAGES - 1) z b end) (sym p.through) p.last
 
-lasts_same : {C : Type 0} (reads : C → ℕ → C → Type 0) (last : Bool) (a b c d : Scene C) (end also : Option Ended)
+lasts_same : {C : Type 0} (reads : C → Taken → C → Type 0) (last : Bool) (a b c d : Scene C) (end also : Option Ended)
     → IsSteady reads → AreSame a c → Last reads last a b end → Last reads last c d also
     → IsAlone a.book b.book → IsAlone c.book d.book → Alike b d end also
 lasts_same reads last a b c d end also steady same p q alone lone =
     turns_same reads last a b c d end also p.turn q.turn steady same p.calm q.calm p.well q.well alone lone
 
 -- no session goes on where the other ended
-longer : {C : Type 0} (reads : C → ℕ → C → Type 0) (n : ℕ) (a m b : Scene C) (c next d : Scene C) (end : Option Ended)
+longer : {C : Type 0} (reads : C → Taken → C → Type 0) (n : ℕ) (a m b : Scene C) (c next d : Scene C) (end : Option Ended)
     (turn : Turn reads false c next None) → IsSteady reads → AreSame a c → Rest reads n a [] m b end → n < MAX_MESSAGES - 1
     → IsCalmTurn reads false c next None turn → IsAlone c.book next.book → Clash b next
 longer reads n a m b c next d end turn steady same p less calm lone =
@@ -85,7 +86,7 @@ after_turns a c b d end also g h alone lone (inl ends) then = then ends.1
 after_turns a c b d end also g h alone lone (inr clash) then = inr (clash_on a b c d g h alone lone clash)
 
 -- after k turns
-rests_same : {C : Type 0} (reads : C → ℕ → C → Type 0) (k n also_n : ℕ) (a c : Scene C) (scenes others : List (Scene C)) (m b l d : Scene C)
+rests_same : {C : Type 0} (reads : C → Taken → C → Type 0) (k n also_n : ℕ) (a c : Scene C) (scenes others : List (Scene C)) (m b l d : Scene C)
     (end also : Option Ended) → IsSteady reads → AreSame a c → Rest reads n a scenes m b end → Rest reads also_n c others l d also
     → n ≡ k + length scenes → also_n ≡ k + length others → Alike b d end also
 rests_same reads k n also_n a c [] [] m b l d end also steady same p q e f =
@@ -111,7 +112,7 @@ rests_same reads k n also_n a c (next ∷ scenes) (other ∷ others) m b l d end
     (λ same_next. rests_same reads (k + 1) n also_n next other scenes others m b l d end also steady same_next
     (next_of reads n a next scenes m b end p) (next_of reads also_n c other others l d also q) (omega arith) (omega arith))
 
-rest_of : {C : Type 0} (reads : C → ℕ → C → Type 0) (a b : Scene C) (end : Option Ended) (session : Session reads a b end)
+rest_of : {C : Type 0} (reads : C → Taken → C → Type 0) (a b : Scene C) (end : Option Ended) (session : Session reads a b end)
     → IsUndisturbed reads a b end session → Rest reads (length session.scenes) a session.scenes session.before b end
 rest_of reads a b end session calm = record {
   through = session.through;
@@ -122,7 +123,7 @@ rest_of reads a b end session calm = record {
   alone = calm.alone;
 }
 
-pub sessions_same : {C : Type 0} (reads : C → ℕ → C → Type 0) → SessionsEndAlike reads
+pub sessions_same : {C : Type 0} (reads : C → Taken → C → Type 0) → SessionsEndAlike reads
 sessions_same reads a b c d end also one other steady same calm still =
     rests_same reads 0 (length one.scenes) (length other.scenes) a c one.scenes other.scenes one.before b other.before d end also steady same
     (rest_of reads a b end one calm) (rest_of reads c d also other still) (omega arith) (omega arith)
@@ -132,6 +133,6 @@ unless_clash : {C : Type 0} (b d : Scene C) (end also : Option Ended) → Stores
 unless_clash b d end also agree (inl same) = same
 unless_clash b d end also agree (inr clash) = absurd (no_clash b d agree clash)
 
-pub told_sessions_same : {C : Type 0} (reads : C → ℕ → C → Type 0) → ToldSessionsEndAlike reads
+pub told_sessions_same : {C : Type 0} (reads : C → Taken → C → Type 0) → ToldSessionsEndAlike reads
 told_sessions_same reads a b c d end also one other steady same calm still agree =
     unless_clash b d end also agree (sessions_same reads a b c d end also one other steady same calm still)

@@ -5,6 +5,7 @@ use Rattle.std.specs.declared.option.Option.TheVariants.{None, Some}
 use Rattle.nf_http.specs.Head.{Head, length_of}
 use Rattle.nf_http.specs.Next.{IsOfBytes}
 use Rattle.nf_http.specs.declared.wire.WireFault.{WireFault}
+use Rattle.nf_outside.specs.Lent.{Taken}
 use Rattle.nf_words.specs.declared.answer.Denial.TheVariants as denial
 use Rattle.nf_dav.specs.Reply.{continue_reply, last_manner, refusal_reply}
 use Rattle.nf_dav.specs.declared.replies.Manner.{Manner}
@@ -26,25 +27,25 @@ use Rattle.nf_checks.proofs.Scenes.{closes_same, heads_same, judges_same, same_b
 -- ---- what a calm turn is
 
 -- the message was answered
-record IsAnswered {C : Type 0} (reads : C → ℕ → C → Type 0) (last : Bool) (head : Head) (begun : Begun) (a b : Scene C)
+record IsAnswered {C : Type 0} (reads : C → Taken → C → Type 0) (last : Bool) (head : Head) (begun : Begun) (a b : Scene C)
     (end : Option Ended) : Type 0 where
   pub made : Answers reads last head begun a b end
   pub calm : IsCalmResponse made.response
   pub whole : IsWritten last (way_of head begun) made.response made.taken made.sent made.result end
 
 -- or its body was cut
-record IsCutShort {C : Type 0} (reads : C → ℕ → C → Type 0) (head : Head) (begun : Begun) (a b : Scene C)
+record IsCutShort {C : Type 0} (reads : C → Taken → C → Type 0) (head : Head) (begun : Begun) (a b : Scene C)
     (end : Option Ended) : Type 0 where
   pub made : CutsShort reads head begun a b end
   pub cut : IsCut a made.cut (taken_length head begun) made.fault
   pub wrote : Wrote made.cut made.sent (refusal_reply last_manner denial.BadMessage)
   pub end_is : end ≡ Some ended.BadMessage
 
-abbrev Becomes : {C : Type 0} (reads : C → ℕ → C → Type 0) (last : Bool) (head : Head) (begun : Begun) (a b : Scene C)
+abbrev Becomes : {C : Type 0} (reads : C → Taken → C → Type 0) (last : Bool) (head : Head) (begun : Begun) (a b : Scene C)
     (end : Option Ended) → Type 0
 Becomes reads last head begun a b end = IsAnswered reads last head begun a b end ⊎ IsCutShort reads head begun a b end
 
-answered_of : {C : Type 0} (reads : C → ℕ → C → Type 0) (last : Bool) (head : Head) (begun : Begun) (a b : Scene C) (end : Option Ended)
+answered_of : {C : Type 0} (reads : C → Taken → C → Type 0) (last : Bool) (head : Head) (begun : Begun) (a b : Scene C) (end : Option Ended)
     (p : Answers reads last head begun a b end) → IsCalmResponse p.response → IsCalmEnd end → IsAnswered reads last head begun a b end
 answered_of reads last head begun a b end p calm well = record {
   made = p;
@@ -52,7 +53,7 @@ answered_of reads last head begun a b end p calm well = record {
   whole = written_of last (way_of head begun) p.response p.taken p.sent p.result end p.responds p.ends well;
 }
 
-cut_short_of : {C : Type 0} (reads : C → ℕ → C → Type 0) (head : Head) (begun : Begun) (a b : Scene C) (end : Option Ended)
+cut_short_of : {C : Type 0} (reads : C → Taken → C → Type 0) (head : Head) (begun : Begun) (a b : Scene C) (end : Option Ended)
     → CutsShort reads head begun a b end → IsCalmEnd end → IsCutShort reads head begun a b end
 cut_short_of reads head begun a b end p well =
     let d : IsDenied p.fault p.cut p.sent p.by = denied_of p.fault p.cut p.sent p.by p.responds (subst (λ z. IsCalmEnd z) p.ends well) in
@@ -77,7 +78,7 @@ record AnswersAlone {C : Type 0} (a m n b : Scene C) : Type 0 where
   pub closed : IsAlone n.book b.book
   pub goes : Goes n b
 
-answers_alone : {C : Type 0} (reads : C → ℕ → C → Type 0) (last : Bool) (head : Head) (begun : Begun) (a b : Scene C) (end : Option Ended)
+answers_alone : {C : Type 0} (reads : C → Taken → C → Type 0) (last : Bool) (head : Head) (begun : Begun) (a b : Scene C) (end : Option Ended)
     (p : IsAnswered reads last head begun a b end) → IsAlone a.book b.book → AnswersAlone a p.made.taken p.made.sent b
 answers_alone reads last head begun a b end p alone =
     let take = goes_of (takes_go reads head a p.made.taken begun p.made.response p.made.takes) in
@@ -90,7 +91,7 @@ answers_alone reads last head begun a b end p alone =
       goes = close;
     }
 
-answers_same : {C : Type 0} (reads : C → ℕ → C → Type 0) (last : Bool) (head : Head) (begun : Begun) (a b c d : Scene C)
+answers_same : {C : Type 0} (reads : C → Taken → C → Type 0) (last : Bool) (head : Head) (begun : Begun) (a b c d : Scene C)
     (end also : Option Ended) → IsSteady reads → AreSame a c → IsAnswered reads last head begun a b end
     → IsAnswered reads last head begun c d also → IsAlone a.book b.book → IsAlone c.book d.book → Alike b d end also
 answers_same reads last head begun a b c d end also steady same p q alone lone =
@@ -137,13 +138,13 @@ answers_same reads last head begun a b c d end also steady same p q alone lone =
           one.closed other.closed,
     )
 
-cut_alone : {C : Type 0} (reads : C → ℕ → C → Type 0) (head : Head) (begun : Begun) (a b : Scene C) (end : Option Ended)
+cut_alone : {C : Type 0} (reads : C → Taken → C → Type 0) (head : Head) (begun : Begun) (a b : Scene C) (end : Option Ended)
     (p : CutsShort reads head begun a b end) → IsAlone a.book b.book → IsAlone p.sent.book b.book
 cut_alone reads head begun a b end p alone =
     alone_then (goes_of (refused_goes ℕ a p.cut p.sent p.fault p.by p.takes.only p.takes.cause p.responds))
     (goes_of (closes_go reads ending.Gone (is_granted begun) p.sent b p.closes)) alone
 
-cut_shorts_same : {C : Type 0} (reads : C → ℕ → C → Type 0) (head : Head) (begun : Begun) (a b c d : Scene C) (end also : Option Ended)
+cut_shorts_same : {C : Type 0} (reads : C → Taken → C → Type 0) (head : Head) (begun : Begun) (a b c d : Scene C) (end also : Option Ended)
     → IsSteady reads → AreSame a c → IsCutShort reads head begun a b end → IsCutShort reads head begun c d also
     → IsAlone a.book b.book → IsAlone c.book d.book → (also ≡ end) × AreSame b d
 cut_shorts_same reads head begun a b c d end also steady same p q alone lone =
@@ -157,12 +158,12 @@ cut_shorts_same reads head begun a b c d end also steady same p q alone lone =
     )
 
 -- a body that one of them took whole isn't cut in the other
-never_both : {C : Type 0} (reads : C → ℕ → C → Type 0) (last : Bool) (head : Head) (begun : Begun) (a b c d : Scene C)
+never_both : {C : Type 0} (reads : C → Taken → C → Type 0) (last : Bool) (head : Head) (begun : Begun) (a b c d : Scene C)
     (end also : Option Ended) → AreSame a c → IsAnswered reads last head begun a b end → IsCutShort reads head begun c d also → ⊥
 never_both reads last head begun a b c d end also same p q =
     never_cut a p.made.takes.0 c q.made.cut (taken_length head begun) p.made.takes.1 q.made.fault same p.made.takes.2 q.cut
 
-become_same : {C : Type 0} (reads : C → ℕ → C → Type 0) (last : Bool) (head : Head) (begun : Begun) (a b c d : Scene C)
+become_same : {C : Type 0} (reads : C → Taken → C → Type 0) (last : Bool) (head : Head) (begun : Begun) (a b c d : Scene C)
     (end also : Option Ended)
     → IsSteady reads → AreSame a c → Becomes reads last head begun a b end → Becomes reads last head begun c d also
     → IsAlone a.book b.book → IsAlone c.book d.book → Alike b d end also
@@ -178,7 +179,7 @@ become_same reads last head begun a b c d end also steady same (inr p) (inl q) a
 -- ---- a turn
 
 -- its request was judged
-record IsJudged {C : Type 0} (reads : C → ℕ → C → Type 0) (last : Bool) (head : Head) (body : List ℕ) (a b : Scene C)
+record IsJudged {C : Type 0} (reads : C → Taken → C → Type 0) (last : Bool) (head : Head) (body : List ℕ) (a b : Scene C)
     (end : Option Ended) : Type 0 where
   pub asked : Scene C
   pub begun : Begun
@@ -199,29 +200,29 @@ record IsCutEarly {C : Type 0} (head : Head) (a b : Scene C) (end : Option Ended
   pub end_is : end ≡ Some ended.BadMessage
 
 -- or taken
-record IsTaken {C : Type 0} (reads : C → ℕ → C → Type 0) (last : Bool) (head : Head) (a b : Scene C) (end : Option Ended) : Type 0 where
+record IsTaken {C : Type 0} (reads : C → Taken → C → Type 0) (last : Bool) (head : Head) (a b : Scene C) (end : Option Ended) : Type 0 where
   pub taken : Scene C
   pub body : List ℕ
   pub takes : TakesEarly head a taken (Ok body)
   pub judged : IsJudged reads last head body taken b end
 
-abbrev IsMet : {C : Type 0} → (C → ℕ → C → Type 0) → Bool → Head → Scene C → Scene C → Option Ended → Type 0
+abbrev IsMet : {C : Type 0} → (C → Taken → C → Type 0) → Bool → Head → Scene C → Scene C → Option Ended → Type 0
 IsMet reads last head a b end = IsCutEarly head a b end ⊎ IsTaken reads last head a b end
 
 -- what follows what stood at the front of the input
-abbrev Follows : {C : Type 0} → (C → ℕ → C → Type 0) → Bool → Result (Option Head) WireFault → Scene C → Scene C → Option Ended → Type 0
+abbrev Follows : {C : Type 0} → (C → Taken → C → Type 0) → Bool → Result (Option Head) WireFault → Scene C → Scene C → Option Ended → Type 0
 Follows reads last (Ok None) a b end = (b ≡ a) × (end ≡ Some ended.Closed)
 Follows reads last (Ok (Some head)) a b end = IsMet reads last head a b end
 Follows reads last (Err fault) a b end = Wrote a b (refusal_reply last_manner (denial_of fault)) × (end ≡ Some ended.BadMessage)
 
-record IsCalm {C : Type 0} (reads : C → ℕ → C → Type 0) (last : Bool) (a b : Scene C) (end : Option Ended) : Type 0 where
+record IsCalm {C : Type 0} (reads : C → Taken → C → Type 0) (last : Bool) (a b : Scene C) (end : Option Ended) : Type 0 where
   pub read : Scene C
   pub found : Result (Option Head) WireFault
   pub heads : Heads a read found
   pub bytes : IsOfBytes found
   pub follows : Follows reads last found read b end
 
-calm_met : {C : Type 0} (reads : C → ℕ → C → Type 0) (last : Bool) (a m t n told b : Scene C) (end : Option Ended) (head : Head)
+calm_met : {C : Type 0} (reads : C → Taken → C → Type 0) (last : Bool) (a m t n told b : Scene C) (end : Option Ended) (head : Head)
     (body : List ℕ) (begun : Begun) → Heads a m (Ok (Some head)) → TakesEarly head m t (Ok body)
     → Judges reads head body t n begun → Invites {T = Unit {0}} head begun n told (Ok tt) → IsCalmBegun begun
     → Becomes reads last head begun told b end → Goes told b → IsCalm reads last a b end
@@ -244,7 +245,7 @@ calm_met reads last a m t n told b end head body begun heads takes judges invite
       follows = inr (record { taken = t; body = body; takes = takes; judged = judged });
     }
 
-calm_cut : {C : Type 0} (reads : C → ℕ → C → Type 0) (last : Bool) (a m b : Scene C) (end : Option Ended) (head : Head)
+calm_cut : {C : Type 0} (reads : C → Taken → C → Type 0) (last : Bool) (a m b : Scene C) (end : Option Ended) (head : Head)
     → Heads a m (Ok (Some head)) → CutsEarly head m b end → IsCalmEnd end → IsCalm reads last a b end
 calm_cut reads last a m b end head heads p well =
     let d : IsDenied p.fault p.cut b p.by = denied_of p.fault p.cut b p.by p.responds (subst (λ z. IsCalmEnd z) p.ends well) in
@@ -259,7 +260,7 @@ calm_cut reads last a m b end head heads p well =
     } in
     record { read = m; found = Ok (Some head); heads = heads; bytes = tt; follows = inl is }
 
-calm_of : {C : Type 0} (reads : C → ℕ → C → Type 0) (last : Bool) (a b : Scene C) (end : Option Ended) (turn : Turn reads last a b end)
+calm_of : {C : Type 0} (reads : C → Taken → C → Type 0) (last : Bool) (a b : Scene C) (end : Option Ended) (turn : Turn reads last a b end)
     → IsCalmTurn reads last a b end turn → IsCalmEnd end → IsCalm reads last a b end
 calm_of reads last a b end (inl over) calm well = record { read = b; found = Ok None; heads = over.0; bytes = tt; follows = (refl, over.1) }
 calm_of reads last a b end (inr (inl (m, fault, by, heads, ends, is))) calm well =
@@ -276,14 +277,14 @@ calm_of reads last a b end (inr (inr (m, head, heads, inr (t, body, takes, (n, b
     calm_met reads last a m t n told b end head body begun heads takes judges invites calm
     (inr (cut_short_of reads head begun told b end cut well)) (goes_of (short_goes reads head begun told b end cut))
 
-judged_alone : {C : Type 0} (reads : C → ℕ → C → Type 0) (last : Bool) (head : Head) (body : List ℕ) (a b : Scene C) (end : Option Ended)
+judged_alone : {C : Type 0} (reads : C → Taken → C → Type 0) (last : Bool) (head : Head) (body : List ℕ) (a b : Scene C) (end : Option Ended)
     (p : IsJudged reads last head body a b end) → IsAlone a.book b.book → IsAlone a.book p.asked.book × IsAlone p.told.book b.book
 judged_alone reads last head body a b end p alone =
     let judge = goes_of (judges_go reads head body a p.asked p.begun p.judges) in
     let invite = goes_of (wrote_goes p.asked p.told (invited_bytes head p.begun) p.invites) in
     (alone_first judge (goes_on invite p.goes) alone, alone_then (goes_on judge invite) p.goes alone)
 
-judged_same : {C : Type 0} (reads : C → ℕ → C → Type 0) (last : Bool) (head : Head) (body : List ℕ) (a b c d : Scene C) (end also : Option Ended)
+judged_same : {C : Type 0} (reads : C → Taken → C → Type 0) (last : Bool) (head : Head) (body : List ℕ) (a b c d : Scene C) (end also : Option Ended)
     → IsSteady reads → AreSame a c → IsJudged reads last head body a b end → IsJudged reads last head body c d also
     → IsAlone a.book b.book → IsAlone c.book d.book → Alike b d end also
 judged_same reads last head body a b c d end also steady same p q alone lone =
@@ -298,16 +299,16 @@ judged_same reads last head body a b c d end also steady same p q alone lone =
     (subst (λ z. Becomes reads last head z q.told d also) asked.0 q.becomes) one.1 other.1
 
 -- a body that one of them took whole isn't cut in the other
-never_early : {C : Type 0} (reads : C → ℕ → C → Type 0) (last : Bool) (head : Head) (a b c d : Scene C) (end also : Option Ended)
+never_early : {C : Type 0} (reads : C → Taken → C → Type 0) (last : Bool) (head : Head) (a b c d : Scene C) (end also : Option Ended)
     → AreSame a c → IsTaken reads last head a b end → IsCutEarly head c d also → ⊥
 never_early reads last head a b c d end also same p q =
     never_cut a p.taken c q.cut (length_of head) p.body q.fault same (early_bodies head a p.taken p.body q.early p.takes) q.was_cut
 
-taken_alone : {C : Type 0} (reads : C → ℕ → C → Type 0) (last : Bool) (head : Head) (a b : Scene C) (end : Option Ended)
+taken_alone : {C : Type 0} (reads : C → Taken → C → Type 0) (last : Bool) (head : Head) (a b : Scene C) (end : Option Ended)
     (p : IsTaken reads last head a b end) → IsAlone a.book b.book → IsAlone p.taken.book b.book
 taken_alone reads last head a b end p alone = subst (λ z. IsAlone z b.book) (sym (early_book head a p.taken p.body p.takes)) alone
 
-mets_same : {C : Type 0} (reads : C → ℕ → C → Type 0) (last : Bool) (head : Head) (a b c d : Scene C) (end also : Option Ended)
+mets_same : {C : Type 0} (reads : C → Taken → C → Type 0) (last : Bool) (head : Head) (a b c d : Scene C) (end also : Option Ended)
     → IsSteady reads → AreSame a c → IsMet reads last head a b end → IsMet reads last head c d also
     → IsAlone a.book b.book → IsAlone c.book d.book → Alike b d end also
 mets_same reads last head a b c d end also steady same (inl p) (inl q) alone lone =
@@ -323,7 +324,7 @@ mets_same reads last head a b c d end also steady same (inr p) (inr q) alone lon
     (subst (λ z. IsJudged reads last head z q.taken d also) (sym taken.0) q.judged)
     (taken_alone reads last head a b end p alone) (taken_alone reads last head c d also q lone)
 
-follow_same : {C : Type 0} (reads : C → ℕ → C → Type 0) (last : Bool) (x : Result (Option Head) WireFault) (a b c d : Scene C) (end also : Option Ended)
+follow_same : {C : Type 0} (reads : C → Taken → C → Type 0) (last : Bool) (x : Result (Option Head) WireFault) (a b c d : Scene C) (end also : Option Ended)
     → IsSteady reads → AreSame a c → Follows reads last x a b end → Follows reads last x c d also
     → IsAlone a.book b.book → IsAlone c.book d.book → Alike b d end also
 follow_same reads last (Ok None) a b c d end also steady same p q alone lone =
@@ -335,7 +336,7 @@ follow_same reads last (Err fault) a b c d end also steady same p q alone lone =
 
 -- ---- for sessions
 
-pub turns_same : {C : Type 0} (reads : C → ℕ → C → Type 0) (last : Bool) (a b c d : Scene C) (end also : Option Ended)
+pub turns_same : {C : Type 0} (reads : C → Taken → C → Type 0) (last : Bool) (a b c d : Scene C) (end also : Option Ended)
     (one : Turn reads last a b end) (other : Turn reads last c d also) → IsSteady reads → AreSame a c
     → IsCalmTurn reads last a b end one → IsCalmTurn reads last c d also other → IsCalmEnd end → IsCalmEnd also
     → IsAlone a.book b.book → IsAlone c.book d.book → Alike b d end also

@@ -5,6 +5,7 @@ use mathlib.Core.Logic.{inl, inr}
 use Rattle.nf_base.specs.declared.limits.TheConstants.{MAX_MESSAGES}
 use Rattle.nf_base.specs.declared.content.Piece.{Piece}
 use Rattle.nf_defs.specs.Blobs.{Blobs, blob_at}
+use Rattle.nf_outside.specs.Lent.{Taken, a_reading, two_words}
 use Rattle.nf_words.specs.declared.answer.Denial.{Denial}
 use Rattle.nf_words.specs.declared.answer.Denial.TheVariants as denial
 use Rattle.nf_session.specs.Prelude.{Answer, Book, IsPiece, Scene, Session, Through, Turn}
@@ -28,18 +29,19 @@ pub record KnowSame (a b : Book) : Type 0 where
   pub known : b.known ≡ a.known
   pub own : b.own ≡ a.own
 
--- the same is left to read, was written, is known, and will be read of the clock
+-- the same is left to read, was written, is known, and will be taken of the clock and the dice
 pub record AreSame {C : Type 0} (a b : Scene C) : Type 0 where
   pub input : TellSame a.input b.input
   pub output : TellSame a.output b.output
   pub book : KnowSame a.book b.book
-  pub clock : b.clock ≡ a.clock
+  pub lent : b.lent ≡ a.lent
 
 -- ---- sessions in which nothing failed
 
--- a clock has one reading, and is one clock after it
-abbrev pub IsSteady : {C : Type 0} → (C → ℕ → C → Type 0) → Type 0
-IsSteady {C} reads = (c : C) (n m : ℕ) (d e : C) → reads c n d → reads c m e → (n ≡ m) × (d ≡ e)
+-- a clock has one reading, and dice have two words, and they are one clock and one pair of dice after it
+pub record IsSteady {C : Type 0} (reads : C → Taken → C → Type 0) : Type 0 where
+  pub readings : (c : C) (n m : ℕ) (d e : C) → reads c (a_reading n) d → reads c (a_reading m) e → (n ≡ m) × (d ≡ e)
+  pub words : (c : C) (n m i j : ℕ) (d e : C) → reads c (two_words n m) d → reads c (two_words i j) e → (n ≡ i) × (m ≡ j) × (d ≡ e)
 
 -- a denial that tells of no failure of the store, no damage and no want of memory
 abbrev pub IsCalmDenial : Denial → Type 0
@@ -83,7 +85,7 @@ IsCalmEnd None = Unit {0}
 IsCalmEnd (Some by) = IsCalmEnded by
 
 -- a turn in which neither the Begin of a message nor its response tells of one
-abbrev pub IsCalmTurn : {C : Type 0} (reads : C → ℕ → C → Type 0) (last : Bool) (a b : Scene C)
+abbrev pub IsCalmTurn : {C : Type 0} (reads : C → Taken → C → Type 0) (last : Bool) (a b : Scene C)
     (end : Option Ended)
     → Turn reads last a b end → Type 0
 IsCalmTurn reads last a b end (inl ended) = Unit {0}
@@ -114,7 +116,7 @@ IsCalmTurn reads last a b end (inr (inr (
 ))) = IsCalmBegun begun
 
 -- turns that all are
-abbrev pub AreCalmTurns : {C : Type 0} (reads : C → ℕ → C → Type 0) (a : Scene C) (scenes : List (Scene C))
+abbrev pub AreCalmTurns : {C : Type 0} (reads : C → Taken → C → Type 0) (a : Scene C) (scenes : List (Scene C))
     (b : Scene C)
     → Through reads a scenes b → Type 0
 AreCalmTurns reads a [] b through = Unit {0}
@@ -126,7 +128,7 @@ abbrev pub IsAlone : Book → Book → Type 0
 IsAlone a b = length b.known + length a.own ≡ length a.known + length b.own
 
 -- nothing of the outside failed, memory didn't want, and no other seat made an entry
-pub record IsUndisturbed {C : Type 0} (reads : C → ℕ → C → Type 0) (a b : Scene C) (end : Option Ended)
+pub record IsUndisturbed {C : Type 0} (reads : C → Taken → C → Type 0) (a b : Scene C) (end : Option Ended)
     (session : Session reads a b end) : Type 0 where
   pub turns : AreCalmTurns reads a session.scenes session.before session.through
   pub turn : IsCalmTurn reads (length session.scenes == MAX_MESSAGES - 1) session.before b end session.turn
@@ -152,7 +154,7 @@ pub record Clash {C : Type 0} (b d : Scene C) : Type 0 where
 
 -- two such sessions, begun in scenes that are the same, end so too, and in the same way; or pieces of one digest are
 -- shown in what they wrote
-abbrev pub SessionsEndAlike : {C : Type 0} → (C → ℕ → C → Type 0) → Type 0
+abbrev pub SessionsEndAlike : {C : Type 0} → (C → Taken → C → Type 0) → Type 0
 SessionsEndAlike {C} reads =
     (a b c d : Scene C) (end also : Option Ended) (one : Session reads a b end) (other : Session reads c d also)
     → IsSteady reads → AreSame a c → IsUndisturbed reads a b end one → IsUndisturbed reads c d also other
@@ -165,7 +167,7 @@ StoresAgree b d =
     × ((id : ℕ) (x y : List ℕ) → blob_at one id ≡ Some x → blob_at other id ≡ Some y → x ≡ y)
 
 -- no piece clashes where the stores agree at the end
-abbrev pub ToldSessionsEndAlike : {C : Type 0} → (C → ℕ → C → Type 0) → Type 0
+abbrev pub ToldSessionsEndAlike : {C : Type 0} → (C → Taken → C → Type 0) → Type 0
 ToldSessionsEndAlike {C} reads =
     (a b c d : Scene C) (end also : Option Ended) (one : Session reads a b end) (other : Session reads c d also)
     → IsSteady reads → AreSame a c → IsUndisturbed reads a b end one → IsUndisturbed reads c d also other

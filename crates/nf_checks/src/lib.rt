@@ -3,4 +3,4 @@
 
 mod alike;
 
-pub use alike::{listed_moments_are_steady, sessions_end_alike, told_sessions_end_alike};
+pub use alike::{listed_ones_are_steady, sessions_end_alike, told_sessions_end_alike};

@@ -11,13 +11,13 @@ use Rattle.jiff_fmt.specs.Text.{pad2, year_text}
 use Rattle.nf_dates.specs.Dates.{Civil, date_at, date_text, next_day}
 
 -- the date is of the calendar, and has that day number
-record IsDay (n : ℕ) (date : Civil) : Type 0 where
-  early : date.year ≤ 9999
-  month_from : 1 ≤ date.month
-  month_to : date.month ≤ 12
-  day_from : 1 ≤ date.day
-  day_to : date.day ≤ days_in_month (pos date.year) date.month
-  number : days_from_civil (pos date.year) date.month date.day ≡ pos n
+pub record IsDay (n : ℕ) (date : Civil) : Type 0 where
+  pub early : date.year ≤ 9999
+  pub month_from : 1 ≤ date.month
+  pub month_to : date.month ≤ 12
+  pub day_from : 1 ≤ date.day
+  pub day_to : date.day ≤ days_in_month (pos date.year) date.month
+  pub number : days_from_civil (pos date.year) date.month date.day ≡ pos n
 
 -- ---- the day after
 
@@ -99,7 +99,7 @@ later n date few day = here (nat_lt date.day (days_in_month (pos date.year) date
 
 -- ---- each day
 
-is_day : (n : ℕ) → n ≤ 2932896 → IsDay n (date_at n)
+pub is_day : (n : ℕ) → n ≤ 2932896 → IsDay n (date_at n)
 unfolding date_at
 is_day zero few = record {
   early = omega arith;

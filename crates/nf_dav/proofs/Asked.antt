@@ -1,4 +1,4 @@
--- What is asked is asked of the files route, by one of its methods, in the files of some user; or about shares.
+-- What is asked is asked of the files route, by one of its methods, in the files of some user; or about shares, users and groups.
 use Rattle.std.proofs.Common.{◌≡◌, ◌∙◌, ◌⊎◌, inl, inr, ℕ, ◌+◌, ◌-◌, ◌≤◌, List, [], ◌∷◌, length, map, take, drop, Bool, true, false, ◌&&◌, not, if◌then◌else◌, Option, None, Some, Result, Ok, Err, codes, bytes_eq, option_map, refl, sym, ap, subst, arith, lit≤}
 use Rattle.std.specs.Prelude.{IsSome, IfOk, is_some, option_and_then}
 use Rattle.std.specs.List.{slice_split}
@@ -34,8 +34,8 @@ use Rattle.nf_words.specs.declared.route.Route.{Route}
 use Rattle.nf_words.specs.declared.route.Route.TheVariants as route
 use Rattle.nf_ocs.specs.Asked.{is_ocs_route, ocs_request_of}
 use Rattle.nf_ocs.specs.Read.{and_then}
-use Rattle.nf_ocs.proofs.Asks.{AsksOwn, IsFine, NamesNobody, fine_request}
-use Rattle.nf_dav.specs.Asked.{Gives, caller_of, destination_of, field, files_refusal, files_request, is_destination, is_files, is_stray, on_route, request_of, routed, second_segments, shares_request, spot_at, target_spot, transfer_refusal, unless_refused, wanted_of}
+use Rattle.nf_ocs.proofs.Asks.{AsksOwn, AsksWell, IsFine, NamesNobody, fine_request}
+use Rattle.nf_dav.specs.Asked.{Gives, caller_of, destination_of, field, files_refusal, files_request, is_destination, is_files, is_stray, on_route, request_of, routed, second_segments, ocs_request, spot_at, target_spot, transfer_refusal, unless_refused, wanted_of}
 use Rattle.nf_dav.specs.declared.requests.Unasked.{Unasked}
 
 -- ---- the route and the method
@@ -61,37 +61,37 @@ pub files_only : (r : Route) → is_files r ≡ true → r ≡ route.Files
 files_only route.Files is = refl
 files_only other is = absurd (cc)
 
--- what is asked about shares by a method of a route
-pub record IsAskedOfShares (head : Head) (body : List ℕ) (request : Request) : Type 0 where
+-- what is asked about shares, users and groups by a method of a route
+pub record IsAskedOfOcs (head : Head) (body : List ℕ) (request : Request) : Type 0 where
   pub route : Route
   pub method : Method
   pub named : method_of head.method ≡ Some method
-  pub asked : shares_request route method head body ≡ Ok request
+  pub asked : ocs_request route method head body ≡ Ok request
 
 pub asked_there : (head : Head) (body : List ℕ) (request : Request) → request_of head body ≡ Ok request
-    → IsAskedThere head request ⊎ IsAskedOfShares head body request
+    → IsAskedThere head request ⊎ IsAskedOfOcs head body request
 unfolding request_of
 asked_there head body request is = on (route_of head.target) refl is
   where
     which : (r : Route) (m : Method) → route_of head.target ≡ Some r → method_of head.method ≡ Some m → (test : Bool) → is_files r ≡ test
-        → (if test then files_request m head else if is_ocs_route r then shares_request r m head body else Err denial.NotBuilt) ≡ Ok request
-        → IsAskedThere head request ⊎ IsAskedOfShares head body request
+        → (if test then files_request m head else if is_ocs_route r then ocs_request r m head body else Err denial.NotBuilt) ≡ Ok request
+        → IsAskedThere head request ⊎ IsAskedOfOcs head body request
     which r m at named true files is =
         inl (record { place = at ∙ ap Some (files_only r files); method = m; named = named; asked = is })
     which r m at named false other is =
-        let built = granted (is_ocs_route r) denial.NotBuilt (shares_request r m head body) request is in
+        let built = granted (is_ocs_route r) denial.NotBuilt (ocs_request r m head body) request is in
         inr (record { route = r; method = m; named = named; asked = built.1 })
 
     by : (r : Route) → route_of head.target ≡ Some r → (m : Option Method) → method_of head.method ≡ m
         → option_map_or (λ m. routed r m head body) m (Err (denial.Method r)) ≡ Ok request
-        → IsAskedThere head request ⊎ IsAskedOfShares head body request
+        → IsAskedThere head request ⊎ IsAskedOfOcs head body request
     by r at None named is = absurd (cc)
     by r at (Some m) named is =
         which r m at named (is_files r) refl (unrefused (not (takes r m)) (denial.Method r) _ request is).1
 
     on : (r : Option Route) → route_of head.target ≡ r
         → option_map_or (λ r. on_route r (method_of head.method) head body) r (Err denial.NotFound) ≡ Ok request
-        → IsAskedThere head request ⊎ IsAskedOfShares head body request
+        → IsAskedThere head request ⊎ IsAskedOfOcs head body request
     on None at is = absurd (cc)
     on (Some r) at is =
         by r at (method_of head.method) refl (unrefused (is_stray r (method_of head.method)) denial.NotFound _ request is).1
@@ -190,22 +190,34 @@ files_no_ocs head place = here (whole_path head.target) refl
         rw e (ap (λ bytes. is_some (if bytes_eq bytes (codes "/ocs/v2.php/") then Some (drop 12 path) else None))
         (front_kept 12 path (codes "/remote.php/") (ap (take 12) same ∙ front) refl))
 
--- what is asked about shares isn't anything else
-shares_only : (asked : Result ShareAsk Denial) (caller : Caller) (request : Request)
-    → and_then asked (λ ask. Ok (record { caller = caller; wanted = wanted.Share ask })) ≡ Ok request → is_about_shares request.wanted ≡ true
-shares_only (Ok ask) caller request is =
-    let same : record { caller = caller; wanted = wanted.Share ask } ≡ request = cc in
-    ap (λ (request : Request). is_about_shares request.wanted) (sym same)
-shares_only (Err refusal) caller request is = absurd (cc)
+-- whether it is asked about shares, or about users and groups
+abbrev pub is_of_ocs_api : Wanted → Bool
+is_of_ocs_api (wanted.Share asked) = true
+is_of_ocs_api (wanted.People asked) = true
+is_of_ocs_api other = false
 
-pub asked_no_ocs : (head : Head) (body : List ℕ) (request : Request) → request_of head body ≡ Ok request → is_about_shares request.wanted ≡ false
+well_of_ocs : (asked : Wanted) → AsksWell asked → is_of_ocs_api asked ≡ true
+well_of_ocs (wanted.Share asked) well = refl
+well_of_ocs (wanted.People asked) well = refl
+well_of_ocs other well = absurd well
+
+-- what is asked of an OCS route isn't anything else
+ocs_only : (asked : Result Wanted Denial) (caller : Caller) (request : Request) → IsFine AsksWell asked
+    → and_then asked (λ wanted. Ok (record { caller = caller; wanted = wanted })) ≡ Ok request → is_of_ocs_api request.wanted ≡ true
+ocs_only (Ok asked) caller request well is =
+    let same : record { caller = caller; wanted = asked } ≡ request = cc in
+    ap (λ (request : Request). is_of_ocs_api request.wanted) (sym same) ∙ well_of_ocs asked well
+ocs_only (Err refusal) caller request well is = absurd (cc)
+
+pub asked_no_ocs : (head : Head) (body : List ℕ) (request : Request) → request_of head body ≡ Ok request → is_of_ocs_api request.wanted ≡ false
     → is_ocs head.target ≡ false
 asked_no_ocs head body request is other = here (asked_there head body request is)
   where
-    here : IsAskedThere head request ⊎ IsAskedOfShares head body request → is_ocs head.target ≡ false
+    here : IsAskedThere head request ⊎ IsAskedOfOcs head body request → is_ocs head.target ≡ false
     here (inl there) = files_no_ocs head there.place
     here (inr there) =
-        absurd (false≢true (sym other ∙ shares_only (ocs_request_of there.route there.method head body) (caller_of head) request there.asked))
+        absurd (false≢true (sym other ∙ ocs_only (ocs_request_of there.route there.method head body) (caller_of head) request
+        (fine_request there.route there.method head body) there.asked))
 
 pub asked_no_head : (head : Head) (body : List ℕ) (request : Request) → request_of head body ≡ Ok request → bytes_eq head.method (codes "HEAD") ≡ false
 asked_no_head head body request is = by (asked_there head body request is)
@@ -214,7 +226,7 @@ asked_no_head head body request is = by (asked_there head body request is)
     here m named true e = absurd (none-some m (sym (ap method_of ((bytes_eq-Decides head.method (codes "HEAD")).0 e)) ∙ named))
     here m named false e = refl
 
-    by : IsAskedThere head request ⊎ IsAskedOfShares head body request → bytes_eq head.method (codes "HEAD") ≡ false
+    by : IsAskedThere head request ⊎ IsAskedOfOcs head body request → bytes_eq head.method (codes "HEAD") ≡ false
     by (inl there) = here there.method there.named (bytes_eq head.method (codes "HEAD")) refl
     by (inr there) = here there.method there.named (bytes_eq head.method (codes "HEAD")) refl
 
@@ -287,21 +299,23 @@ may_want_there head m short at none = here m none
         no_link (caller_of head) wanted (spot_at (second_segments method.Move head)) other (second_user head none)
 
     here : (m : Method) → files_refusal m head ≡ None → MayWant (record { caller = caller_of head; wanted = wanted_of m head })
-    here method.Get none = record { short = tt; source = source (wanted_of method.Get head) refl; target = tt }
-    here method.Put none = record { short = short; source = tt; target = source (wanted_of method.Put head) refl }
-    here method.Mkcol none = record { short = tt; source = tt; target = source (wanted_of method.Mkcol head) refl }
-    here method.Delete none = record { short = tt; source = source (wanted_of method.Delete head) refl; target = tt }
+    here method.Get none = record { bounds = tt; short = tt; source = source (wanted_of method.Get head) refl; target = tt }
+    here method.Put none = record { bounds = tt; short = short; source = tt; target = source (wanted_of method.Put head) refl }
+    here method.Mkcol none = record { bounds = tt; short = tt; source = tt; target = source (wanted_of method.Mkcol head) refl }
+    here method.Delete none = record { bounds = tt; short = tt; source = source (wanted_of method.Delete head) refl; target = tt }
     here method.Move none = record {
+      bounds = tt;
       short = tt;
       source = source (wanted_of method.Move head) refl;
       target = target (wanted_of method.Move head) refl (first_none _ _ none);
     }
     here method.Copy none = record {
+      bounds = tt;
       short = tt;
       source = source (wanted_of method.Copy head) refl;
       target = target (wanted_of method.Copy head) refl (first_none _ _ none);
     }
-    here method.Post none = record { short = tt; source = source (wanted_of method.Post head) refl; target = tt }
+    here method.Post none = record { bounds = tt; short = tt; source = source (wanted_of method.Post head) refl; target = tt }
 
 -- what is asked about shares names nobody
 nobody : (caller : Caller) (ask : ShareAsk) (spot : Spot) → NamesNobody spot → NamesUser (record { caller = caller; wanted = wanted.Share ask }) spot
@@ -309,17 +323,23 @@ nobody Absent ask spot none = ap is_some none
 nobody (Token digest) ask spot none = ap is_some none
 
 may_ask : (caller : Caller) (ask : ShareAsk) → AsksOwn ask → MayWant (record { caller = caller; wanted = wanted.Share ask })
-may_ask caller (ask.New spot to perms) own = record { short = tt; source = nobody caller (ask.New spot to perms) spot own; target = tt }
+may_ask caller (ask.New spot to perms until) own =
+    record { bounds = own.0; short = tt; source = nobody caller (ask.New spot to perms until) spot own.1; target = tt }
 may_ask caller (ask.List (Some spot) with_me) own =
-    record { short = tt; source = nobody caller (ask.List (Some spot) with_me) spot own; target = tt }
-may_ask caller (ask.List None with_me) own = record { short = tt; source = tt; target = tt }
-may_ask caller (ask.Show share) own = record { short = tt; source = tt; target = tt }
-may_ask caller (ask.Set share perms) own = record { short = tt; source = tt; target = tt }
-may_ask caller (ask.End share) own = record { short = tt; source = tt; target = tt }
+    record { bounds = tt; short = tt; source = nobody caller (ask.List (Some spot) with_me) spot own.1; target = tt }
+may_ask caller (ask.List None with_me) own = record { bounds = tt; short = tt; source = tt; target = tt }
+may_ask caller (ask.Show share) own = record { bounds = tt; short = tt; source = tt; target = tt }
+may_ask caller (ask.Set share perms until) own = record { bounds = own.0; short = tt; source = tt; target = tt }
+may_ask caller (ask.End share) own = record { bounds = tt; short = tt; source = tt; target = tt }
 
-pub may_ask_so : (r : Route) (m : Method) (head : Head) (body : List ℕ) (caller : Caller) (ask : ShareAsk)
-    → ocs_request_of r m head body ≡ Ok ask → MayWant (record { caller = caller; wanted = wanted.Share ask })
-may_ask_so r m head body caller ask is = may_ask caller ask (subst (IsFine AsksOwn) is (fine_request r m head body))
+may_ask_well : (caller : Caller) (asked : Wanted) → AsksWell asked → MayWant (record { caller = caller; wanted = asked })
+may_ask_well caller (wanted.Share asked) well = may_ask caller asked well
+may_ask_well caller (wanted.People asked) well = record { bounds = well; short = tt; source = tt; target = tt }
+may_ask_well caller other well = absurd well
+
+pub may_ask_so : (r : Route) (m : Method) (head : Head) (body : List ℕ) (caller : Caller) (asked : Wanted)
+    → ocs_request_of r m head body ≡ Ok asked → MayWant (record { caller = caller; wanted = asked })
+may_ask_so r m head body caller asked is = may_ask_well caller asked (subst (IsFine AsksWell) is (fine_request r m head body))
 
 pub may_want : (head : Head) (m : Method) (result : Result Request Unasked) → length_of head ≤ MAX_BODY → route_of head.target ≡ Some route.Files
     → Gives (files_refusal m head) (λ request. files_request m head ≡ Ok request) result → IfOk result MayWant

@@ -13,12 +13,11 @@ use Rattle.nf_words.specs.declared.answer.Denial.TheVariants as denial
 use Rattle.nf_words.specs.declared.answer.Parameter.{Parameter}
 use Rattle.nf_words.specs.declared.answer.Parameter.TheVariants as parameter
 use Rattle.nf_words.specs.declared.request.Request.{Request}
-use Rattle.nf_words.specs.declared.request.ShareAsk.{ShareAsk}
-use Rattle.nf_words.specs.declared.request.Wanted.TheVariants as wanted
+use Rattle.nf_words.specs.declared.request.Wanted.{Wanted}
 use Rattle.nf_words.specs.declared.route.Route.{Route}
 use Rattle.nf_ocs.specs.Asked.{is_ocs_route, ocs_request_of}
 use Rattle.nf_ocs.specs.Read.{and_then}
-use Rattle.nf_ocs.proofs.Asks.{AsksOwn, IsFine, fine_request, is_of_ocs}
+use Rattle.nf_ocs.proofs.Asks.{AsksWell, IsFine, fine_request, is_of_ocs}
 use Rattle.nf_dav.specs.Asked as dav
 use Rattle.nf_dav.specs.Asked.{request_of}
 
@@ -96,7 +95,7 @@ on_files : (m : Method) (head : Head) → IsOfRequest (dav.files_request m head)
 on_files m head =
     unless_any (dav.files_refusal m head) _ (or_else _ _ (body m (length_of head)) (or_else _ _ (parameters m head) (names _)))
 
--- the refusals of a request about shares are among them
+-- the refusals of a request about shares, users and groups are among them
 ocs_too : (refusal : Denial) → is_of_ocs refusal ≡ true → is_of_request refusal ≡ true
 ocs_too denial.OcsHeader is = refl
 ocs_too denial.Body is = refl
@@ -105,12 +104,12 @@ ocs_too (denial.BadName fault) is = refl
 ocs_too denial.NotBuilt is = refl
 ocs_too other is = absurd (cc)
 
-on_shares : (r : Route) (m : Method) (head : Head) (body : List ℕ) → IsOfRequest (dav.shares_request r m head body)
-on_shares r m head body = here (ocs_request_of r m head body) (fine_request r m head body)
+on_ocs : (r : Route) (m : Method) (head : Head) (body : List ℕ) → IsOfRequest (dav.ocs_request r m head body)
+on_ocs r m head body = here (ocs_request_of r m head body) (fine_request r m head body)
   where
-    here : (asked : Result ShareAsk Denial) → IsFine AsksOwn asked
-        → IsOfRequest (and_then asked (λ ask. Ok (record { caller = dav.caller_of head; wanted = wanted.Share ask })))
-    here (Ok ask) own = tt
+    here : (asked : Result Wanted Denial) → IsFine AsksWell asked
+        → IsOfRequest (and_then asked (λ wanted. Ok (record { caller = dav.caller_of head; wanted = wanted })))
+    here (Ok wanted) well = tt
     here (Err refusal) is = ocs_too refusal is
 
 by : (r : Route) (m : Option Method) (head : Head) (body : List ℕ)
@@ -118,7 +117,7 @@ by : (r : Route) (m : Option Method) (head : Head) (body : List ℕ)
 by r None head body = refl
 by r (Some m) head body =
     checked (not (takes r m)) _ _ refl
-    (checked (dav.is_files r) _ _ (on_files m head) (checked (is_ocs_route r) _ _ (on_shares r m head body) refl))
+    (checked (dav.is_files r) _ _ (on_files m head) (checked (is_ocs_route r) _ _ (on_ocs r m head body) refl))
 
 -- no other refusal comes before the site is asked
 pub unasked_refusal : (head : Head) (body : List ℕ) (refusal : Denial) → request_of head body ≡ Err refusal → is_of_request refusal ≡ true

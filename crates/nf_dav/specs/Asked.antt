@@ -1,6 +1,6 @@
 -- The request of a message: GET, PUT and DELETE (RFC 9110, section 9.3), MKCOL, COPY and MOVE (RFC 4918, sections 9.3, 9.8 and 9.9) in
--- a user's files, and what is asked about shares (Nextcloud developer manual, OCS Share API), by the holder of a token (RFC 6750,
--- section 2.1).
+-- a user's files, and what is asked about shares, users and groups (Nextcloud developer manual, OCS Share API and User provisioning API), by
+-- the holder of a token (RFC 6750, section 2.1).
 use Rattle.std.specs.Prelude.{◌≡◌, ⊤, ℕ, Bool, true, false, ◌||◌, ◌&&◌, ◌==◌, nat_le, not, if◌then◌else◌, List, [], ◌∷◌, length, take, drop, codes, bytes_eq, Option, None, Some, is_some, Result, Ok, Err, option_map, option_and_then}
 use Rattle.std.specs.List.{list_any}
 use Rattle.std.specs.Option.{option_map_or, option_or}
@@ -154,17 +154,17 @@ files_refusal m head = option_or (body_refusal m (length_of head)) (option_or (p
 abbrev pub files_request : Method → Head → Result Request Denial
 files_request m head = unless_refused (files_refusal m head) (record { caller = caller_of head; wanted = wanted_of m head })
 
--- a request about shares
-abbrev pub shares_request : Route → Method → Head → List ℕ → Result Request Denial
-shares_request route m head body =
-    and_then (ocs_request_of route m head body) (λ ask. Ok (record { caller = caller_of head; wanted = wanted.Share ask }))
+-- a request about shares, users and groups
+abbrev pub ocs_request : Route → Method → Head → List ℕ → Result Request Denial
+ocs_request route m head body =
+    and_then (ocs_request_of route m head body) (λ wanted. Ok (record { caller = caller_of head; wanted = wanted }))
 
 -- no other route is built yet
 abbrev pub routed : Route → Method → Head → List ℕ → Result Request Denial
 routed route m head body =
     if not (takes route m) then Err (denial.Method route)
     else if is_files route then files_request m head
-    else if is_ocs_route route then shares_request route m head body
+    else if is_ocs_route route then ocs_request route m head body
     else Err denial.NotBuilt
 
 -- the only chunk that is moved is all of them

@@ -19,8 +19,8 @@ use Rattle.nf_words.specs.declared.answer.LockKey.{LockKey}
 use Rattle.nf_words.specs.declared.answer.LockKey.TheVariants.{Node, Slot}
 use Rattle.nf_words.specs.declared.answer.Parameter.{Parameter}
 use Rattle.nf_words.specs.declared.answer.Parameter.TheVariants as parameter
-use Rattle.nf_words.specs.declared.answer.ShareRule.{ShareRule}
-use Rattle.nf_words.specs.declared.answer.ShareRule.TheVariants as rule
+use Rattle.nf_words.specs.declared.answer.Breach.{Breach}
+use Rattle.nf_words.specs.declared.answer.Breach.TheVariants as rule
 use Rattle.nf_words.specs.declared.answer.TargetFault.{TargetFault}
 use Rattle.nf_words.specs.declared.answer.TargetFault.TheVariants as target
 use Rattle.nf_words.specs.declared.route.Route.{Route}
@@ -118,6 +118,10 @@ link_word cause.Narrowed = codes "narrowed"
 
 -- the word of a limit
 abbrev pub limit_word : Limit → List ℕ
+limit_word limit.Users = codes "users"
+limit_word limit.Groups = codes "groups"
+limit_word limit.Tokens = codes "tokens"
+limit_word limit.Members = codes "members"
 limit_word limit.Nodes = codes "nodes"
 limit_word limit.Depth = codes "depth"
 limit_word limit.Shares = codes "shares"
@@ -136,14 +140,22 @@ field_word parameter.ShareWith = codes "shareWith"
 field_word parameter.Permissions = codes "permissions"
 field_word parameter.ExpireDate = codes "expireDate"
 field_word parameter.Password = codes "password"
+field_word parameter.UserId = codes "userid"
+field_word parameter.Token = codes "token"
+field_word parameter.Quota = codes "quota"
+field_word parameter.GroupId = codes "groupid"
+field_word parameter.Key = codes "key"
+field_word parameter.Value = codes "value"
 
--- the word of a rule of sharing
-abbrev pub rule_word : ShareRule → List ℕ
+-- the word of a rule of sharing, or of new names and tokens
+abbrev pub rule_word : Breach → List ℕ
 rule_word rule.Root = codes "root"
 rule_word rule.SelfShare = codes "self"
+rule_word rule.Past = codes "past"
 rule_word rule.Already = codes "already"
 rule_word rule.Widened = codes "widened"
 rule_word rule.Chain = codes "chain"
+rule_word rule.Taken = codes "taken"
 
 -- the line of a route's methods (RFC 9110, section 10.2.1)
 abbrev pub allow_line : Route → List ℕ

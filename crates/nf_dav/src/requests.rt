@@ -6,7 +6,7 @@ ghost use Rattle.nf_base.specs.Naming.{same_ignoring_case};
 ghost use Rattle.nf_http.specs.Head.{length_of};
 ghost use Rattle.nf_words.specs.History.{MayWant};
 ghost use Rattle.nf_words.specs.declared.answer.Denial.TheVariants.{Body};
-ghost use Rattle.nf_dav.specs.Asked.{Gives, GivesRequest, IsGiven, body_refusal, caller_of_value, files_refusal, files_request as request_there, is_files as are_files, is_stray as strays, second_segments as second, shares_request, spot_at, target_spot, wanted_of, wants_body as longest_wanted};
+ghost use Rattle.nf_dav.specs.Asked.{Gives, GivesRequest, IsGiven, body_refusal, caller_of_value, files_refusal, files_request as request_there, is_files as are_files, is_stray as strays, ocs_request as request_of_ocs, second_segments as second, spot_at, target_spot, wanted_of, wants_body as longest_wanted};
 
 use crate::fields::{overwrites, second_segments};
 use crate::spots::spot;
@@ -119,7 +119,7 @@ fn files_request(
     })
 }
 
-// A request about shares.
+// A request about shares, users and groups.
 fn ocs_request(
     alloc: Global,
     route: Route,
@@ -127,13 +127,13 @@ fn ocs_request(
     message: &Message,
     body: &[u8],
 ) -> Result<Request, Unasked>
-    ensures gives { IsGiven (shares_request route method message.now body.now) result }
+    ensures gives { IsGiven (request_of_ocs route method message.now body.now) result }
     ensures may_want { IfOk result MayWant }
 {
     match nf_ocs::read(alloc, route, method, message, body) {
-        Ok(ask) => Ok(Request {
+        Ok(wanted) => Ok(Request {
             caller: caller(message.field(b"Authorization")),
-            wanted: Wanted::Share(ask),
+            wanted,
         }),
         Err(Unread::Refused(denial)) => Err(Unasked::Refused(denial)),
         Err(Unread::Memory) => Err(Unasked::Memory),

@@ -5,7 +5,7 @@ ghost use Rattle.nf_dav.specs.Reply.{status_of, code_of, reason_of, fault_word, 
 
 use nf_access::Cause;
 use nf_base::NameFault;
-use nf_words::{Denial, Limit, Parameter, ShareRule, TargetFault};
+use nf_words::{Breach, Denial, Limit, Parameter, TargetFault};
 
 /// The status of a denial and its phrase.
 pub fn status(denial: &Denial) -> &'static str
@@ -143,6 +143,12 @@ pub fn field_word(field: Parameter) -> &'static str
         Parameter::Permissions => "permissions",
         Parameter::ExpireDate => "expireDate",
         Parameter::Password => "password",
+        Parameter::UserId => "userid",
+        Parameter::Token => "token",
+        Parameter::Quota => "quota",
+        Parameter::GroupId => "groupid",
+        Parameter::Key => "key",
+        Parameter::Value => "value",
     }
 }
 
@@ -158,16 +164,18 @@ pub fn cause_word(cause: TargetFault) -> &'static str
     }
 }
 
-/// The word of a rule of sharing.
-pub fn rule_word(rule: ShareRule) -> &'static str
+/// The word of a rule of sharing, or of new names and tokens.
+pub fn rule_word(rule: Breach) -> &'static str
     ensures { result.now ≡ rule_word rule }
 {
     match rule {
-        ShareRule::Root => "root",
-        ShareRule::SelfShare => "self",
-        ShareRule::Already => "already",
-        ShareRule::Widened => "widened",
-        ShareRule::Chain => "chain",
+        Breach::Root => "root",
+        Breach::SelfShare => "self",
+        Breach::Past => "past",
+        Breach::Already => "already",
+        Breach::Widened => "widened",
+        Breach::Chain => "chain",
+        Breach::Taken => "taken",
     }
 }
 
@@ -176,6 +184,10 @@ pub fn limit_word(limit: Limit) -> &'static str
     ensures { result.now ≡ limit_word limit }
 {
     match limit {
+        Limit::Users => "users",
+        Limit::Groups => "groups",
+        Limit::Tokens => "tokens",
+        Limit::Members => "members",
         Limit::Nodes => "nodes",
         Limit::Depth => "depth",
         Limit::Shares => "shares",

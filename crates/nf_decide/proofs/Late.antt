@@ -4,17 +4,15 @@ use Rattle.std.specs.Option.{option_or}
 use Rattle.nf_defs.specs.Access.{Access}
 use Rattle.nf_words.proofs.Passing.{no_limit}
 use Rattle.nf_words.specs.Prelude.{access_of, allowed_of, asked_by, Call, call_decision, earlier_rules, first_that_holds, later_rules, limit_rule, limited, locked_rule, places_of, refusal_of, room_rule, Rule, unless_refused}
-use Rattle.nf_words.specs.Sharing.{limit_by, offer_limit}
+use Rattle.nf_words.specs.Sharing.{limit_by, limit_of_ask, offer_limit}
 use Rattle.nf_words.specs.declared.answer.Allowed.{Allowed}
 use Rattle.nf_words.specs.declared.answer.Denial.{Denial}
 use Rattle.nf_words.specs.declared.answer.Denial.TheVariants as denial
 use Rattle.nf_words.specs.declared.answer.Limit.{Limit}
-use Rattle.nf_words.specs.declared.request.Offer.{Offer}
 use Rattle.nf_words.specs.declared.request.Places.{Places}
+use Rattle.nf_words.specs.declared.request.ShareAsk.{ShareAsk}
 use Rattle.nf_words.specs.declared.request.ShareAsk.TheVariants as ask
-use Rattle.nf_words.specs.declared.request.Wanted.{Wanted}
-use Rattle.nf_words.specs.declared.request.Wanted.TheVariants.{Get, Put, Mkcol, Delete, Move, Copy, Share}
-use Rattle.nf_decide.specs.Deciding.{early_refusal, late_refusal, locked_at, offer_in}
+use Rattle.nf_decide.specs.Deciding.{early_refusal, late_refusal, locked_at, offer_by}
 
 first_of_both : (before behind : List Rule) (access : Access) (call : Call)
     → first_that_holds (before ++ behind) access call ≡ option_or (first_that_holds before access call) (first_that_holds behind access call)
@@ -62,32 +60,23 @@ both_limits None (Some limit) = refl
 both_limits (Some limit) b = refl
 
 -- the limits of shares and mounts are those of the share that is asked for
-room_of_offer : (call : Call) (wanted : Wanted) → option_and_then (offer_limit call.state.tables) (offer_in call wanted) ≡ limit_by call wanted
-room_of_offer call (Share (ask.New spot to perms)) = refl
-room_of_offer call (Share (ask.List spot with_me)) = refl
-room_of_offer call (Share (ask.Show share)) = refl
-room_of_offer call (Share (ask.Set share perms)) = refl
-room_of_offer call (Share (ask.End share)) = refl
-room_of_offer call (Get spot) = refl
-room_of_offer call (Put spot length) = refl
-room_of_offer call (Mkcol spot) = refl
-room_of_offer call (Delete spot) = refl
-room_of_offer call (Move source target overwrite) = refl
-room_of_offer call (Copy source target overwrite) = refl
+pub room_of_offer : (call : Call) (ask : ShareAsk) → option_and_then (offer_limit call.state.tables) (offer_by call ask) ≡ limit_of_ask call ask
+room_of_offer call (ask.New spot to perms until) = refl
+room_of_offer call (ask.List spot with_me) = refl
+room_of_offer call (ask.Show share) = refl
+room_of_offer call (ask.Set share perms until) = refl
+room_of_offer call (ask.End share) = refl
 
-pub limited_late : (call : Call) (places : Places) (offer : Option Offer) (passed : Option Limit) → places ≡ places_of call
-    → offer ≡ offer_in call call.request.wanted → None ≡ locked_at call places
-    → passed ≡ option_or (limited call.state.tables places (asked_by call).makes) (option_and_then (offer_limit call.state.tables) offer)
+pub limited_late : (call : Call) (places : Places) (passed : Option Limit) → places ≡ places_of call → None ≡ locked_at call places
+    → passed ≡ option_or (limited call.state.tables places (asked_by call).makes) (limit_by call call.request.wanted)
     → option_map denial.Limit passed ≡ late_refusal (access_of call.state) call
 unfolding locked_rule limit_rule room_rule
-limited_late call places offer passed same offers free is =
+limited_late call places passed same free is =
     let t = call.state.tables in
     let makes = (asked_by call).makes in
     let first = limited t (places_of call) makes in
     ap (λ (o : Option Limit). option_map denial.Limit o) is
-    ∙ ap (λ (places : Places). option_map denial.Limit (option_or (limited t places makes) (option_and_then (offer_limit t) offer))) same
-    ∙ ap (λ (offer : Option Offer). option_map denial.Limit (option_or first (option_and_then (offer_limit t) offer))) offers
-    ∙ ap (λ (o : Option Limit). option_map denial.Limit (option_or first o)) (room_of_offer call call.request.wanted)
+    ∙ ap (λ (places : Places). option_map denial.Limit (option_or (limited t places makes) (limit_by call call.request.wanted))) same
     ∙ both_limits first (limit_by call call.request.wanted)
     ∙ ap (λ (o : Option Denial). option_or o (first_that_holds (limit_rule ∷ room_rule ∷ []) (access_of call.state) call))
     (free ∙ ap (locked_at call) same)

@@ -8,3 +8,4 @@ pub mod Numbers
 pub mod Offered
 pub mod Openings
 pub mod Stamps
+pub mod Joining

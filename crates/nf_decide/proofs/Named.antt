@@ -16,7 +16,7 @@ use Rattle.nf_words.specs.declared.request.ShareAsk.TheVariants as ask
 use Rattle.nf_words.specs.declared.request.Spot.{Spot}
 use Rattle.nf_words.specs.declared.request.Transfer.{Transfer}
 use Rattle.nf_words.specs.declared.request.Wanted.{Wanted}
-use Rattle.nf_words.specs.declared.request.Wanted.TheVariants.{Get, Put, Mkcol, Delete, Move, Copy, Share}
+use Rattle.nf_words.specs.declared.request.Wanted.TheVariants.{Get, Put, Mkcol, Delete, Move, Copy, Share, People}
 use Rattle.nf_words.proofs.Found.{found_has, found_passes}
 use Rattle.nf_words.proofs.Passing.{no_fault}
 use Rattle.nf_words.proofs.Starts.{root_known}
@@ -76,11 +76,12 @@ moved_named call sound (Get spot) some = tt
 moved_named call sound (Put spot length) some = absurd (cc some)
 moved_named call sound (Mkcol spot) some = absurd (cc some)
 moved_named call sound (Delete spot) some = tt
-moved_named call sound (Share (ask.New spot to perms)) some = tt
+moved_named call sound (Share (ask.New spot to perms until)) some = tt
 moved_named call sound (Share (ask.List spot with_me)) some = tt
 moved_named call sound (Share (ask.Show share)) some = tt
-moved_named call sound (Share (ask.Set share perms)) some = tt
+moved_named call sound (Share (ask.Set share perms until)) some = tt
 moved_named call sound (Share (ask.End share)) some = tt
+moved_named call sound (People ask) some = tt
 moved_named call sound (Copy source target overwrite) some = named_between call source target sound some
 moved_named call sound (Move source target overwrite) some = here (way_of call source).itself some
   where
@@ -124,11 +125,12 @@ renamed_named call (Get spot) fits asked = tt
 renamed_named call (Put spot length) fits asked = absurd (cc asked)
 renamed_named call (Mkcol spot) fits asked = absurd (cc asked)
 renamed_named call (Delete spot) fits asked = tt
-renamed_named call (Share (ask.New spot to perms)) fits asked = tt
+renamed_named call (Share (ask.New spot to perms until)) fits asked = tt
 renamed_named call (Share (ask.List spot with_me)) fits asked = tt
 renamed_named call (Share (ask.Show share)) fits asked = tt
-renamed_named call (Share (ask.Set share perms)) fits asked = tt
+renamed_named call (Share (ask.Set share perms until)) fits asked = tt
 renamed_named call (Share (ask.End share)) fits asked = tt
+renamed_named call (People ask) fits asked = tt
 renamed_named call (Copy source target overwrite) fits asked = absurd (cc asked)
 renamed_named call (Move source target overwrite) fits asked =
     renamed_between call source target

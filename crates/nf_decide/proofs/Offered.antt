@@ -4,27 +4,28 @@ use Rattle.std.specs.List.{list_any}
 use Rattle.nf_base.specs.declared.rows.NodeRow.{NodeRow}
 use Rattle.nf_base.specs.declared.rows.ShareRow.{ShareRow}
 use Rattle.nf_base.specs.declared.rows.UserRow.{UserRow}
-use Rattle.nf_defs.specs.Prelude.{user_named}
 use Rattle.nf_defs.specs.declared.Found.{Found}
 use Rattle.nf_defs.specs.declared.Found.TheVariants.{At, Free, Missing}
 use Rattle.nf_words.proofs.Passing.{PlacePasses, place_passes}
 use Rattle.nf_words.proofs.Starts.{has_row}
 use Rattle.nf_words.proofs.Ways.{way_there}
 use Rattle.nf_words.specs.Prelude.{access_of, AreSound, asked_of, Call, caller_row, found, node_found, place_rule, token_rule, unreached, way_of}
-use Rattle.nf_words.specs.Sharing.{offer_of, offered}
+use Rattle.nf_words.specs.Sharing.{offer_of, offered, receiver_named}
+use Rattle.nf_words.specs.declared.request.Receiver.{Receiver}
+use Rattle.nf_words.specs.declared.request.Sharee.{Sharee}
 use Rattle.nf_words.specs.declared.request.ShareAsk.TheVariants as ask
 use Rattle.nf_words.specs.declared.request.Spot.{Spot}
 use Rattle.nf_words.specs.declared.request.Wanted.{Wanted}
-use Rattle.nf_words.specs.declared.request.Wanted.TheVariants.{Get, Put, Mkcol, Delete, Move, Copy, Share}
+use Rattle.nf_words.specs.declared.request.Wanted.TheVariants.{Get, Put, Mkcol, Delete, Move, Copy, Share, People}
 use Rattle.nf_decide.specs.Deciding.{IsThere, offer_in}
 
-spot_there : (call : Call) (row : UserRow) (spot : Spot) (name : List ℕ) (perms : Option ℕ) → AreSound call.state.tables → caller_row call ≡ Some row
+spot_there : (call : Call) (row : UserRow) (spot : Spot) (to : Sharee) (perms until : Option ℕ) → AreSound call.state.tables → caller_row call ≡ Some row
     → unreached (access_of call.state) call (way_of call spot) ≡ None
-    → IsThere call.state.tables (offered call spot name perms)
-spot_there call row spot name perms sound is reached = here (found call spot) (user_named call.state.tables.users name) refl
+    → IsThere call.state.tables (offered call spot to perms until)
+spot_there call row spot to perms until sound is reached = here (found call spot) (receiver_named call.state.tables to) refl
   where
-    here : (place : Found) (to : Option ℕ) → found call spot ≡ place
-        → IsThere call.state.tables (option_and_then (λ node. option_map (offer_of call.state.tables.nodes (way_of call spot).mount perms node) to) (node_found place))
+    here : (place : Found) (to : Option Receiver) → found call spot ≡ place
+        → IsThere call.state.tables (option_and_then (λ node. option_map (offer_of call.state.tables.nodes (way_of call spot).mount perms until node) to) (node_found place))
     here (At node) (Some to) leads =
         let there = way_there call spot row sound is node reached leads in
         subst (λ (o : Option NodeRow). IsSome o) (sym there.1) refl
@@ -34,11 +35,12 @@ spot_there call row spot name perms sound is reached = here (found call spot) (u
 
 wanted_there : (call : Call) (row : UserRow) (wanted : Wanted) → AreSound call.state.tables → caller_row call ≡ Some row
     → PlacePasses (access_of call.state) call (asked_of wanted) → IsThere call.state.tables (offer_in call wanted)
-wanted_there call row (Share (ask.New spot to perms)) sound is passes = spot_there call row spot to perms sound is (passes.source refl)
+wanted_there call row (Share (ask.New spot to perms until)) sound is passes = spot_there call row spot to perms until sound is (passes.source refl)
 wanted_there call row (Share (ask.List spot with_me)) sound is passes = tt
 wanted_there call row (Share (ask.Show share)) sound is passes = tt
-wanted_there call row (Share (ask.Set share perms)) sound is passes = tt
+wanted_there call row (Share (ask.Set share perms until)) sound is passes = tt
 wanted_there call row (Share (ask.End share)) sound is passes = tt
+wanted_there call row (People ask) sound is passes = tt
 wanted_there call row (Get spot) sound is passes = tt
 wanted_there call row (Put spot length) sound is passes = tt
 wanted_there call row (Mkcol spot) sound is passes = tt

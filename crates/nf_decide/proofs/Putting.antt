@@ -1,17 +1,20 @@
 -- Rows of nodes that are put among others.
-use Rattle.std.proofs.Common.{cond, count_by, length, length-append, ◌≡◌, ◌⊎◌, ℕ, ◌+◌, ◌<◌, ◌≤◌, ◌==◌, inl, inr, Bool, true, false, not, List, [], ◌∷◌, ◌++◌, Option, None, Some, refl, sym, ap, subst, ◌∙◌, arith}
+use Rattle.std.proofs.Common.{bytes_eq, cond, count_by, length, length-append, ◌≡◌, ◌⊎◌, ℕ, ◌+◌, ◌<◌, ◌≤◌, ◌==◌, inl, inr, Bool, true, false, not, List, [], ◌∷◌, ◌++◌, Option, None, Some, refl, sym, ap, subst, ◌∙◌, arith}
 use Rattle.std.specs.Prelude.{is_some}
 use Rattle.std.specs.List.{AllPairs}
 use Rattle.std.specs.Option.{IfSome, option_map_or}
 use Rattle.std.proofs.lemmas.Bool.{both_ways, eqb-true, le-ltb}
 use Rattle.std.proofs.lemmas.List.Quantifiers.{all_pairs_push}
+use Rattle.std.proofs.lemmas.List.Filters.{length-filter_both}
 use Rattle.std.proofs.lemmas.List.Sums.{sum_by-cons}
-use Rattle.nf_base.specs.declared.changes.Change.TheVariants.{Put}
+use Rattle.nf_base.specs.declared.changes.Change.TheVariants.{Drop, Put}
+use Rattle.nf_base.specs.declared.changes.RowKey.TheVariants as keys
+use Rattle.nf_base.specs.declared.rows.MemberRow.{MemberRow}
 use Rattle.nf_base.specs.declared.rows.Row.TheVariants as rows
 use Rattle.nf_base.specs.declared.changes.Change.{Change}
 use Rattle.nf_base.specs.declared.rows.MetaRow.{MetaRow}
 use Rattle.nf_base.specs.declared.rows.NodeRow.{NodeRow}
-use Rattle.nf_defs.specs.Prelude.{filled, is_file, is_folder_kind, made, mount_key, node_key, node_row, put, share_key, Tables, with_node}
+use Rattle.nf_defs.specs.Prelude.{dropped, filled, group_key, is_file, is_folder_kind, made, member_key, mount_key, node_key, node_row, put, share_key, Tables, token_key, user_key, with_node}
 use Rattle.nf_defs.proofs.Puts.{put_length}
 use Rattle.nf_laws.proofs.Lists.{Rising}
 use Rattle.nf_laws.proofs.OneRow.{length_with, rising_with}
@@ -20,7 +23,7 @@ use Rattle.nf_laws.specs.Numbers.{AreHigher}
 use Rattle.nf_words.proofs.Found.{found_has, found_passes}
 use Rattle.nf_words.specs.Prelude.{above, counted}
 use Rattle.nf_decide.specs.Counts.{FitsRows, IsNoSmaller}
-use Rattle.nf_decide.specs.Current.{added_of, IsBorne, IsCounted, IsNew, IsRefilled, is_fresh, puts_mount, puts_share}
+use Rattle.nf_decide.specs.Current.{added_of, IsBorne, IsCounted, IsNew, IsRefilled, is_fresh, puts_group, puts_member, puts_mount, puts_share, puts_token, puts_user}
 use Rattle.nf_decide.specs.declared.counts.RowCounts.{RowCounts}
 
 -- what is new isn't there
@@ -65,6 +68,11 @@ counted_more meta (first ∷ changes) change = counted_more (above meta first) c
 
 -- what has a number above it has one where the counters are higher
 pub counted_later : (meta more : MetaRow) (change : Change) → AreHigher meta more → IsCounted meta change → IsCounted more change
+counted_later meta more (Put (rows.User row)) higher counted = omega (arith, higher.users, counted)
+counted_later meta more (Put (rows.Token row)) higher counted = tt
+counted_later meta more (Put (rows.Group row)) higher counted = omega (arith, higher.groups, counted)
+counted_later meta more (Put (rows.Member row)) higher counted = tt
+counted_later meta more (Drop (keys.Member group user)) higher counted = tt
 counted_later meta more (Put (rows.Node row)) higher counted = omega (arith, higher.nodes, counted)
 counted_later meta more (Put (rows.Share row)) higher counted = omega (arith, higher.shares, counted)
 counted_later meta more (Put (rows.Mount row)) higher counted = tt
@@ -73,6 +81,11 @@ counted_later meta more change higher counted = absurd counted
 -- ---- a change that can be borne
 
 pub borne_next : (next : ℕ) (t : Tables) (change : Change) → IsBorne next t change → (made t change).meta.next_node ≡ t.meta.next_node
+borne_next next t (Put (rows.User row)) borne = refl
+borne_next next t (Put (rows.Token row)) borne = refl
+borne_next next t (Put (rows.Group row)) borne = refl
+borne_next next t (Put (rows.Member row)) borne = refl
+borne_next next t (Drop (keys.Member group user)) borne = refl
 borne_next next t (Put (rows.Node row)) borne = refl
 borne_next next t (Put (rows.Share row)) borne = refl
 borne_next next t (Put (rows.Mount row)) borne = refl
@@ -88,6 +101,11 @@ borne_has P next t (Put (rows.Node row)) rising borne new refilled same =
       | inl it ↦ subst P (sym (new_put t.nodes row it.1)) (new row refl it.0 it.1)
       | inr it ↦ subst P (sym (refilled_put t.nodes row rising it.1)) (refilled row refl it.0)
     ]
+borne_has P next t (Put (rows.User row)) rising borne new refilled same = same
+borne_has P next t (Put (rows.Token row)) rising borne new refilled same = same
+borne_has P next t (Put (rows.Group row)) rising borne new refilled same = same
+borne_has P next t (Put (rows.Member row)) rising borne new refilled same = same
+borne_has P next t (Drop (keys.Member group user)) rising borne new refilled same = same
 borne_has P next t (Put (rows.Share row)) rising borne new refilled same = same
 borne_has P next t (Put (rows.Mount row)) rising borne new refilled same = same
 borne_has P next t change rising borne new refilled same = absurd borne
@@ -116,6 +134,10 @@ count_front p x xs = omega (arith, count_by-cons p x xs, count_by-cons p x [])
 pub front_fits : (t : Tables) (room : RowCounts) (next : ℕ) (change : Change) (rest : List Change)
     → FitsRows t room (added_of next (change ∷ rest)) → FitsRows t room (added_of next (change ∷ []))
 front_fits t room next change rest fits = record {
+  users = omega (arith, fits.users, count_front puts_user change rest);
+  tokens = omega (arith, fits.tokens, count_front puts_token change rest);
+  groups = omega (arith, fits.groups, count_front puts_group change rest);
+  members = omega (arith, fits.members, count_front puts_member change rest);
   nodes = omega (arith, fits.nodes, count_front (is_fresh next) change rest);
   shares = omega (arith, fits.shares, count_front puts_share change rest);
   mounts = omega (arith, fits.mounts, count_front puts_mount change rest);
@@ -134,13 +156,32 @@ borne_nodes next t change rest rising borne =
     (λ row is old. omega (arith, counts, length_with t.nodes row.id (filled row.content row.changed)))
     (omega (arith, counts))
 
--- and that for shares and mounts
-borne_others : (next : ℕ) (t : Tables) (change : Change) → IsBorne next t change
-    → (length (made t change).shares ≤ length t.shares + cond (puts_share change) 1 0)
-    × (length (made t change).mounts ≤ length t.mounts + cond (puts_mount change) 1 0)
-borne_others next t (Put (rows.Node row)) borne = (omega arith, omega arith)
-borne_others next t (Put (rows.Share row)) borne = (put_length share_key row t.shares, omega arith)
-borne_others next t (Put (rows.Mount row)) borne = (omega arith, put_length mount_key row t.mounts)
+-- and that for the rows of other kinds: users, tokens, groups, members, shares and mounts, in this order
+abbrev OthersGrow : Tables → Tables → Change → Type 0
+OthersGrow t u change =
+    (length u.users ≤ length t.users + cond (puts_user change) 1 0)
+    × (length u.tokens ≤ length t.tokens + cond (puts_token change) 1 0)
+    × (length u.groups ≤ length t.groups + cond (puts_group change) 1 0)
+    × (length u.members ≤ length t.members + cond (puts_member change) 1 0)
+    × (length u.shares ≤ length t.shares + cond (puts_share change) 1 0)
+    × (length u.mounts ≤ length t.mounts + cond (puts_mount change) 1 0)
+
+-- fewer members are left
+fewer_left : (key : List ℕ) (rows : List MemberRow) → length (dropped member_key key rows) ≤ length rows
+fewer_left key rows =
+    let all = length-filter_both (λ (row : MemberRow). not (bytes_eq key (member_key row))) (λ (row : MemberRow). not (not (bytes_eq key (member_key row)))) (λ _. refl) rows in
+    omega arith
+
+borne_others : (next : ℕ) (t : Tables) (change : Change) → IsBorne next t change → OthersGrow t (made t change) change
+borne_others next t (Put (rows.User row)) borne = (put_length user_key row t.users, omega arith, omega arith, omega arith, omega arith, omega arith)
+borne_others next t (Put (rows.Token row)) borne = (omega arith, put_length token_key row t.tokens, omega arith, omega arith, omega arith, omega arith)
+borne_others next t (Put (rows.Group row)) borne = (omega arith, omega arith, put_length group_key row t.groups, omega arith, omega arith, omega arith)
+borne_others next t (Put (rows.Member row)) borne = (omega arith, omega arith, omega arith, put_length member_key row t.members, omega arith, omega arith)
+borne_others next t (Put (rows.Share row)) borne = (omega arith, omega arith, omega arith, omega arith, put_length share_key row t.shares, omega arith)
+borne_others next t (Put (rows.Mount row)) borne = (omega arith, omega arith, omega arith, omega arith, omega arith, put_length mount_key row t.mounts)
+borne_others next t (Put (rows.Node row)) borne = (omega arith, omega arith, omega arith, omega arith, omega arith, omega arith)
+borne_others next t (Drop (keys.Member group user)) borne =
+    let few = fewer_left (group ∷ user ∷ []) t.members in (omega arith, omega arith, omega arith, omega arith, omega arith, omega arith)
 borne_others next t change borne = absurd borne
 
 -- so they fit
@@ -151,6 +192,10 @@ borne_fits next t change rest room more rising borne higher fits =
     let others = borne_others next t change borne in
     record {
       nodes = omega (arith, higher.nodes, fits.nodes, borne_nodes next t change rest rising borne);
-      shares = omega (arith, higher.shares, fits.shares, others.0, count_by-cons puts_share change rest);
-      mounts = omega (arith, higher.mounts, fits.mounts, others.1, count_by-cons puts_mount change rest);
+      users = omega (arith, higher.users, fits.users, others.0, count_by-cons puts_user change rest);
+      tokens = omega (arith, higher.tokens, fits.tokens, others.1, count_by-cons puts_token change rest);
+      groups = omega (arith, higher.groups, fits.groups, others.2, count_by-cons puts_group change rest);
+      members = omega (arith, higher.members, fits.members, others.3, count_by-cons puts_member change rest);
+      shares = omega (arith, higher.shares, fits.shares, others.4, count_by-cons puts_share change rest);
+      mounts = omega (arith, higher.mounts, fits.mounts, others.5, count_by-cons puts_mount change rest);
     }

@@ -1,14 +1,19 @@
 -- The state of the site as the program holds it.
-use Rattle.std.specs.Prelude.{◌≡◌, ◌⊎◌, ℕ, ◌+◌, ◌<◌, ◌≤◌, nat_lt, All, AllPairs, Bool, true, false, not, List, [], ◌∷◌, count_by, length, max, slice_get, Option, Some, IsSome}
+use Rattle.std.specs.Prelude.{◌≡◌, ◌⊎◌, ℕ, ◌+◌, ◌<◌, ◌≤◌, nat_lt, All, AllPairs, Bool, true, false, not, List, [], ◌∷◌, count_by, length, max, slice_get, Option, None, Some, IsSome}
 use Rattle.nf_access.specs.Shares.{share_row}
 use Rattle.nf_base.specs.declared.changes.Change.{Change}
-use Rattle.nf_base.specs.declared.changes.Change.TheVariants.{Put}
+use Rattle.nf_base.specs.declared.changes.Change.TheVariants.{Put, Drop}
+use Rattle.nf_base.specs.declared.changes.RowKey.{RowKey}
+use Rattle.nf_base.specs.declared.changes.RowKey.TheVariants as keys
+use Rattle.nf_base.specs.declared.limits.TheConstants.{MAX_GROUPS, MAX_USERS}
 use Rattle.nf_base.specs.declared.rows.Row.TheVariants as rows
+use Rattle.nf_base.specs.declared.rows.GroupRow.{GroupRow}
 use Rattle.nf_base.specs.declared.rows.MetaRow.{MetaRow}
 use Rattle.nf_base.specs.declared.rows.NodeRow.{NodeRow}
 use Rattle.nf_base.specs.declared.rows.ShareRow.{ShareRow}
-use Rattle.nf_defs.specs.Prelude.{filled, is_folder_kind, made, node_row, Tables}
-use Rattle.nf_words.specs.Prelude.{blob_after, cleared, goal_of, last_number, State}
+use Rattle.nf_base.specs.declared.rows.UserRow.{UserRow}
+use Rattle.nf_defs.specs.Prelude.{filled, group_named, is_folder_kind, made, node_row, Tables, user_named, user_row}
+use Rattle.nf_words.specs.Prelude.{blob_after, cleared, goal_of, IsNewMember, IsNewToken, last_number, last_short, State}
 use Rattle.nf_words.specs.declared.answer.Allowed.{Allowed}
 use Rattle.nf_words.specs.declared.answer.Allowed.TheVariants as allowed
 use Rattle.nf_words.specs.declared.request.Transfer.{Transfer}
@@ -45,15 +50,41 @@ abbrev pub puts_mount : Change → Bool
 puts_mount (Put (rows.Mount row)) = true
 puts_mount other = false
 
+-- a user, new or not
+abbrev pub puts_user : Change → Bool
+puts_user (Put (rows.User row)) = true
+puts_user other = false
+
+-- a token, a group, or a member
+abbrev pub puts_token : Change → Bool
+puts_token (Put (rows.Token row)) = true
+puts_token other = false
+
+abbrev pub puts_group : Change → Bool
+puts_group (Put (rows.Group row)) = true
+puts_group other = false
+
+abbrev pub puts_member : Change → Bool
+puts_member (Put (rows.Member row)) = true
+puts_member other = false
+
 -- a row is put that is counted
 abbrev pub is_counted : Counted → Change → Bool
 is_counted (counted.Fresh next) = is_fresh next
 is_counted counted.Share = puts_share
 is_counted counted.Mount = puts_mount
+is_counted counted.User = puts_user
+is_counted counted.Token = puts_token
+is_counted counted.Group = puts_group
+is_counted counted.Member = puts_member
 
 -- how many rows some changes add at most
 abbrev pub added_of : ℕ → List Change → RowCounts
 added_of next changes = record {
+  users = count_by puts_user changes;
+  tokens = count_by puts_token changes;
+  groups = count_by puts_group changes;
+  members = count_by puts_member changes;
   nodes = count_by (is_fresh next) changes;
   shares = count_by puts_share changes;
   mounts = count_by puts_mount changes;
@@ -98,9 +129,36 @@ pub record IsRefilled (old : List NodeRow) (row : NodeRow) : Type 0 where
   pub file : is_folder_kind was.kind ≡ false
   pub same : row ≡ filled row.content row.changed was
 
+-- a user is new, of a number above all others and a name that is nobody's, or is there and has another quota
+pub record IsAdded (old : List UserRow) (row : UserRow) : Type 0 where
+  pub newest : All (λ (other : UserRow). other.id < row.id) old
+  pub unnamed : user_named old row.name ≡ None
+  pub few : length old + 1 ≤ MAX_USERS
+
+pub record IsRequoted (old : List UserRow) (row : UserRow) : Type 0 where
+  pub was : UserRow
+  pub there : user_row old row.id ≡ Some was
+  pub same : row ≡ record was { quota = row.quota }
+
+-- a group is new
+pub record IsFounded (old : List GroupRow) (row : GroupRow) : Type 0 where
+  pub newest : All (λ (other : GroupRow). other.id < row.id) old
+  pub unnamed : group_named old row.name ≡ None
+  pub few : length old + 1 ≤ MAX_GROUPS
+
+-- the key is that of a member
+abbrev pub IsOfMember : RowKey → Type 0
+IsOfMember (keys.Member group user) = Unit {0}
+IsOfMember key = ⊥
+
 -- a change can be borne by the tables that it meets, where that was the next number of a node at first: a share that is there stays
--- on its node
+-- on its node, and a new token or member is no other's
 abbrev pub IsBorne : ℕ → Tables → Change → Type 0
+IsBorne next t (Put (rows.User row)) = IsAdded t.users row ⊎ IsRequoted t.users row
+IsBorne next t (Put (rows.Token row)) = IsNewToken t row
+IsBorne next t (Put (rows.Group row)) = IsFounded t.groups row
+IsBorne next t (Put (rows.Member row)) = IsNewMember t row
+IsBorne next t (Drop key) = IsOfMember key
 IsBorne next t (Put (rows.Node row)) = ((next ≤ row.id) × IsNew t.nodes row) ⊎ ((row.id < next) × IsRefilled t.nodes row)
 IsBorne next t (Put (rows.Share row)) = (old : ShareRow) → share_row t.shares row.id ≡ Some old → old.node ≡ row.node
 IsBorne next t (Put (rows.Mount row)) = Unit {0}
@@ -112,6 +170,11 @@ AreBorne next t (change ∷ changes) = IsBorne next t change × AreBorne next (m
 
 -- there is a number above the one that is put, where it isn't below the next one
 abbrev pub IsCounted : MetaRow → Change → Type 0
+IsCounted meta (Put (rows.User row)) = row.id + 1 ≤ max meta.next_user last_short
+IsCounted meta (Put (rows.Token row)) = Unit {0}
+IsCounted meta (Put (rows.Group row)) = row.id + 1 ≤ max meta.next_group last_short
+IsCounted meta (Put (rows.Member row)) = Unit {0}
+IsCounted meta (Drop key) = IsOfMember key
 IsCounted meta (Put (rows.Node row)) = row.id + 1 ≤ max meta.next_node last_number
 IsCounted meta (Put (rows.Share row)) = row.id + 1 ≤ max meta.next_share last_number
 IsCounted meta (Put (rows.Mount row)) = Unit {0}

@@ -64,7 +64,7 @@ pub record IsNamed (call : Call) : Type 0 where
 
 -- the share that is asked for
 abbrev pub offer_by : Call → ShareAsk → Option Offer
-offer_by call (ask.New spot to perms) = offered call spot to perms
+offer_by call (ask.New spot to perms until) = offered call spot to perms until
 offer_by call other = None
 
 abbrev pub offer_in : Call → Wanted → Option Offer

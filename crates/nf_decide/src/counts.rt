@@ -1,11 +1,17 @@
 //! How many rows there are of the kinds that grow.
 
 ghost use Rattle.std.specs.Prelude.{◌≡◌};
-ghost use Rattle.nf_decide.specs.Counts.{only_nodes};
+ghost use Rattle.nf_decide.specs.Counts.{only_nodes, people_of};
 
-/// How many nodes, shares and mounts.
+use nf_people::PeopleCounts;
+
+/// How many users, tokens, groups, members, nodes, shares and mounts.
 #[derive(Clone, Copy, PartialEq, Eq)]
 pub struct RowCounts {
+    pub users: usize,
+    pub tokens: usize,
+    pub groups: usize,
+    pub members: usize,
     pub nodes: usize,
     pub shares: usize,
     pub mounts: usize,
@@ -17,9 +23,25 @@ impl RowCounts {
         ensures { result ≡ only_nodes nodes }
     {
         RowCounts {
+            users: 0,
+            tokens: 0,
+            groups: 0,
+            members: 0,
             nodes,
             shares: 0,
             mounts: 0,
+        }
+    }
+
+    /// Those of people alone.
+    pub(crate) fn people(&self) -> PeopleCounts
+        ensures { result ≡ people_of self.now }
+    {
+        PeopleCounts {
+            users: self.users,
+            tokens: self.tokens,
+            groups: self.groups,
+            members: self.members,
         }
     }
 }

@@ -6,7 +6,11 @@ ghost use Rattle.nf_base.specs.declared.limits.TheConstants.{MAX_DEPTH};
 ghost use Rattle.nf_defs.specs.Prelude.{found_from, is_folder, user_row};
 ghost use Rattle.nf_defs.specs.declared.Seeker.TheVariants.{User};
 ghost use Rattle.nf_words.specs.Prelude.{access_of, acts_rule, allowed_of, AreSound, asked_by, asker_of, call_decision, caller_row, exists_rule, forbidden_rule, is_there, limit_at, limited, not_you_rule, overwrite_rule, place_rule, places_of, root_of, served, shared, target_rule, token_rule, user_of, ways_of};
-ghost use Rattle.nf_words.specs.Sharing.{offer_limit};
+ghost use Rattle.nf_words.specs.Callers.{may_ask};
+ghost use Rattle.nf_words.specs.People.{people_changed};
+ghost use Rattle.nf_words.specs.Sharing.{limit_by, offer_limit};
+ghost use Rattle.nf_words.specs.declared.answer.Allowed.TheVariants as allowed;
+ghost use Rattle.nf_words.specs.declared.answer.Report.TheVariants as report;
 ghost use Rattle.nf_decide.specs.Deciding.{Follows, IsNamed, IsThere, asking_of, early_refusal, late_refusal, locked_at, offer_by, offer_in, place_refusal};
 
 use crate::acting::{copied, deleted, made_folder, moved, stored};
@@ -15,6 +19,7 @@ use crate::limits::{carry_limit, copy_limit, limit_at, offer_limit, pieces_of};
 use crate::locking::locked;
 use crate::mounting::mount_itself;
 use crate::nodes::is_folder;
+use crate::people::{people_changed, people_limit};
 use crate::transferring::{transfer_of, unfit};
 use crate::view::View;
 use nf_base::{Moment, NodeId, UserId, UserRow};
@@ -22,8 +27,8 @@ use nf_defs::{Found, Seeker};
 use nf_reach::{Asker, Way, Ways};
 use nf_tree::Tree;
 use nf_words::{
-    Allowed, By, Caller, Denial, Limit, Making, Offer, Places, Request, Route, ShareAsk, Wanted,
-    Words,
+    Allowed, By, Caller, Denial, Limit, Making, Offer, PeopleAsk, Places, Report, Request, Route,
+    ShareAsk, Wanted, Words,
 };
 use std::alloc::{AllocError, Global};
 use std::marker::Model;
@@ -78,15 +83,17 @@ impl<'a> Call<'a> {
         }
     }
 
-    /// The rules behind those that are judged: the locks, then the limits. The first two of them alone take memory.
+    /// The rules behind those that are judged: the locks, then the limits. These alone take memory.
     fn late(
         &self,
         alloc: Global,
         places: &Places,
         offer: &Option<Offer>,
     ) -> Result<Option<Denial>, AllocError>
+        requires sound { AreSound self.now.state.tables }
         requires places { places.now ≡ places_of self.now }
         requires offer { offer.now ≡ offer_in self.now self.now.request.wanted }
+        requires there { IsThere self.now.state.tables offer.now }
         ensures { IfOk result (λ refusal. refusal ≡ late_refusal (access_of self.entry.now.state) self.entry.now) }
     {
         match self.locked(alloc, places)? {
@@ -98,28 +105,52 @@ impl<'a> Call<'a> {
         }
     }
 
-    /// The limit that the step would pass, of nodes and pieces, or else of shares and mounts.
+    /// The limit that the step would pass, of nodes and pieces, or else of shares, mounts and people.
     fn passed(
         &self,
         alloc: Global,
         places: &Places,
         offer: &Option<Offer>,
     ) -> Result<Option<Limit>, AllocError>
-        ensures { IfOk result (λ limit. limit ≡ option_or (limited self.entry.now.state.tables places.now (asked_by self.entry.now).makes) (option_and_then (offer_limit self.entry.now.state.tables) offer.now)) }
+        requires sound { AreSound self.now.state.tables }
+        requires offer { offer.now ≡ offer_in self.now self.now.request.wanted }
+        requires there { IsThere self.now.state.tables offer.now }
+        ensures { IfOk result (λ limit. limit ≡ option_or (limited self.entry.now.state.tables places.now (asked_by self.entry.now).makes) (limit_by self.entry.now self.entry.now.request.wanted)) }
     {
         match self.limit(alloc, places)? {
             Some(limit) => Ok(Some(limit)),
-            None => Ok(self.room(offer)),
+            None => self.room(alloc, offer),
         }
     }
 
-    /// The limit of shares or mounts that a new share would pass.
-    fn room(&self, offer: &Option<Offer>) -> Option<Limit>
-        ensures { result ≡ option_and_then (offer_limit self.entry.now.state.tables) offer.now }
+    /// The limit of shares, mounts or people that what is asked would pass.
+    fn room(&self, alloc: Global, offer: &Option<Offer>) -> Result<Option<Limit>, AllocError>
+        requires sound { AreSound self.now.state.tables }
+        requires offer { offer.now ≡ offer_in self.now self.now.request.wanted }
+        requires there { IsThere self.now.state.tables offer.now }
+        ensures { IfOk result (λ limit. limit ≡ limit_by self.entry.now self.entry.now.request.wanted) }
+    {
+        match &self.request.wanted {
+            Wanted::Share(_) => self.offer_room(alloc, offer),
+            Wanted::People(ask) => people_limit(alloc, &self.view, ask),
+            Wanted::Get(_)
+            | Wanted::Put { .. }
+            | Wanted::Mkcol(_)
+            | Wanted::Delete(_)
+            | Wanted::Move { .. }
+            | Wanted::Copy { .. } => Ok(None),
+        }
+    }
+
+    /// The limit that a new share would pass, where one is asked for.
+    fn offer_room(&self, alloc: Global, offer: &Option<Offer>) -> Result<Option<Limit>, AllocError>
+        requires sound { AreSound self.now.state.tables }
+        requires there { IsThere self.now.state.tables offer.now }
+        ensures { IfOk result (λ limit. limit ≡ option_and_then (offer_limit self.entry.now.state.tables) offer.now) }
     {
         match offer {
-            Some(offer) => offer_limit(&self.view, offer),
-            None => None,
+            Some(offer) => offer_limit(alloc, &self.view, offer),
+            None => Ok(None),
         }
     }
 
@@ -203,10 +234,28 @@ impl<'a> Call<'a> {
         ensures { Follows (not_you_rule (access_of self.entry.now.state)) self.entry.now result }
     {
         let asked = self.request.wanted.asked();
-        if names_caller(caller, asked.source) && names_caller(caller, asked.target) {
+        let are_callers = names_caller(caller, asked.source) && names_caller(caller, asked.target);
+        if are_callers && self.may_ask(caller) {
             Ok(())
         } else {
             Err(Denial::NotYou)
+        }
+    }
+
+    /// Whether the caller may ask that: users and groups are asked about by members of the group `admin` alone.
+    fn may_ask(&self, caller: Option<&UserRow>) -> bool
+        requires { option_copied caller ≡ caller_row self.now }
+        ensures { result ≡ may_ask self.entry.now }
+    {
+        match &self.request.wanted {
+            Wanted::People(_) => self.view.people().is_admin(asker_of(caller)),
+            Wanted::Share(_)
+            | Wanted::Get(_)
+            | Wanted::Put { .. }
+            | Wanted::Mkcol(_)
+            | Wanted::Delete(_)
+            | Wanted::Move { .. }
+            | Wanted::Copy { .. } => true,
         }
     }
 
@@ -349,7 +398,20 @@ impl<'a> Call<'a> {
                 copied(alloc, view, self.now, spot, transfer)
             }
             Wanted::Share(ask) => self.about_shares(alloc, seen, ask),
+            Wanted::People(ask) => self.about_people(alloc, ask),
         }
+    }
+
+    /// What is done of what is asked about users and groups.
+    fn about_people(&self, alloc: Global, ask: &PeopleAsk) -> Result<Allowed, AllocError>
+        requires { AreSound self.now.state.tables }
+        ensures { IfOk result (λ act. act ≡ allowed.Change (people_changed self.entry.now.state.tables self.entry.now.now ask.now) None report.Plain) }
+    {
+        Ok(Allowed::Change {
+            changes: people_changed(alloc, &self.view, self.now, ask)?,
+            blob: None,
+            report: Report::Plain,
+        })
     }
 
     /// What is done and told of what is asked about shares.

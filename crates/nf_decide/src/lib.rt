@@ -12,6 +12,8 @@ mod listing;
 mod locking;
 mod mounting;
 mod nodes;
+mod people;
+mod people_put;
 mod shared;
 mod sharing;
 mod state;

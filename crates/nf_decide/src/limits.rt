@@ -1,17 +1,22 @@
 //! The limits of the site.
 
-ghost use Rattle.std.specs.Prelude.{◌≡◌, ◌+◌, ◌≤◌, length, nat_lt, IfOk};
+ghost use Rattle.std.specs.Prelude.{◌≡◌, ◌+◌, ◌≤◌, ◌||◌, filter, is_none, length, nat_lt, IfOk, IsSome};
 ghost use Rattle.nf_base.specs.declared.limits.TheConstants.{MAX_DEPTH, MAX_PIECES};
-ghost use Rattle.nf_defs.specs.Tree.{content_of, walk_of};
-ghost use Rattle.nf_words.specs.Limits.{carry_limit, copy_limit, count_of, deepest, deepest_in, limit_at, limit_passed, move_limit, pieces_in, pieces_of};
+ghost use Rattle.nf_access.specs.Mounts.{mount_row};
+ghost use Rattle.nf_defs.specs.Tree.{content_of, node_row, walk_of};
+ghost use Rattle.nf_words.specs.Limits.{carry_limit, copy_limit, count_of, deepest, deepest_in, last_number, limit_at, limit_passed, mount_limit, move_limit, pieces_in, pieces_of};
 ghost use Rattle.nf_words.specs.Contents.{stored_pieces};
+ghost use Rattle.nf_words.specs.People.{are_many_groups, are_many_nodes, are_many_tokens, are_many_users, new_user_limit};
 ghost use Rattle.nf_words.specs.Sharing.{offer_limit};
-ghost use Rattle.nf_words.specs.declared.answer.Limit.TheVariants.{Pieces};
+ghost use Rattle.nf_words.specs.Sound.{AreSound};
+ghost use Rattle.nf_words.specs.declared.answer.Limit.TheVariants.{Members, Pieces, Shares};
 
+use crate::shared::mounts_for;
 use crate::transferring::crosses;
 use crate::view::View;
-use nf_base::NodeId;
+use nf_base::{MountRow, NodeId};
 use nf_defs::Found;
+use nf_mounts::Mounts;
 use nf_tree::Tree;
 use nf_words::{Limit, Offer, Transfer};
 use std::alloc::{AllocError, Global};
@@ -72,21 +77,106 @@ pub(crate) fn copy_limit(
     Ok(limit_passed(view, nodes.len() as u64, deep, pieces, 0))
 }
 
-/// The limit that is passed by a new share, and by the mount that it needs.
-pub(crate) fn offer_limit(view: &View<'_>, offer: &Offer) -> Option<Limit>
-    ensures { result ≡ offer_limit view.now.tables offer.now }
+/// The limit that is passed by a new share, and by the mounts that it needs.
+pub(crate) fn offer_limit(
+    alloc: Global,
+    view: &View<'_>,
+    offer: &Offer,
+) -> Result<Option<Limit>, AllocError>
+    requires sound { AreSound view.now.tables }
+    requires there { IsSome (node_row view.now.tables.nodes offer.now.node) }
+    ensures { IfOk result (λ limit. limit ≡ offer_limit view.now.tables offer.now) }
+{
+    if are_many_shares(view) {
+        return Ok(Some(Limit::Shares));
+    }
+    Ok(mount_limit(view, &mounts_for(alloc, view, offer)?))
+}
+
+fn are_many_shares(view: &View<'_>) -> bool
+    ensures { result ≡ (nat_lt (count_of Shares) (length view.now.tables.shares + 1) || nat_lt last_number (view.now.tables.meta.next_share + 1)) }
 {
     let shares = view.shares().count() as u128 + 1;
-    if passes(shares, Limit::Shares) || view.meta().next_share.number() > u64::MAX - 1 {
-        return Some(Limit::Shares);
-    }
-    let mounts = view.mounts();
-    let count = mounts.count() as u128 + 1;
-    if mounts.row(offer.to, offer.node).is_none() && passes(count, Limit::Mounts) {
-        return Some(Limit::Mounts);
-    }
-    None
+    passes(shares, Limit::Shares) || view.meta().next_share.number() > u64::MAX - 1
 }
+
+/// The limit that is passed by some rows of mounts; one that was left has its row already.
+pub(crate) fn mount_limit(view: &View<'_>, rows: &[MountRow]) -> Option<Limit>
+    ensures { result ≡ mount_limit view.now.tables.mounts rows.now }
+{
+    let count = view.mounts().count() as u128 + new_mounts(view.mounts(), rows) as u128;
+    if passes(count, Limit::Mounts) {
+        Some(Limit::Mounts)
+    } else {
+        None
+    }
+}
+
+/// How many of the rows are of mounts that have none.
+fn new_mounts(mounts: &Mounts, rows: &[MountRow]) -> usize
+    ensures { result ≡ length (filter (λ row. is_none (mount_row mounts.now.rows row.user row.node)) rows.now) }
+{
+    rows.iter()
+        .filter(|row| mounts.row(row.user, row.node).is_none())
+        .count()
+}
+
+// ---- the limits of people
+
+/// The limit that is passed by a new user, with its token and its root.
+pub(crate) fn new_user_limit(view: &View<'_>) -> Option<Limit>
+    ensures { result ≡ new_user_limit view.now.tables }
+{
+    if are_many_users(view) {
+        Some(Limit::Users)
+    } else if are_many_tokens(view) {
+        Some(Limit::Tokens)
+    } else if are_many_nodes(view) {
+        Some(Limit::Nodes)
+    } else {
+        None
+    }
+}
+
+fn are_many_users(view: &View<'_>) -> bool
+    ensures { result ≡ are_many_users view.now.tables }
+{
+    let users = view.people().counts().users as u128 + 1;
+    passes(users, Limit::Users) || view.meta().next_user.number() > u32::MAX - 1
+}
+
+/// Whether one group more is too many.
+pub(crate) fn are_many_groups(view: &View<'_>) -> bool
+    ensures { result ≡ are_many_groups view.now.tables }
+{
+    let groups = view.people().counts().groups as u128 + 1;
+    passes(groups, Limit::Groups) || view.meta().next_group.number() > u32::MAX - 1
+}
+
+/// Whether one token more is.
+pub(crate) fn are_many_tokens(view: &View<'_>) -> bool
+    ensures { result ≡ are_many_tokens view.now.tables }
+{
+    let tokens = view.people().counts().tokens as u128 + 1;
+    passes(tokens, Limit::Tokens)
+}
+
+/// Whether one member more is.
+pub(crate) fn are_many_members(view: &View<'_>) -> bool
+    ensures { result ≡ nat_lt (count_of Members) (length view.now.tables.members + 1) }
+{
+    let members = view.people().counts().members as u128 + 1;
+    passes(members, Limit::Members)
+}
+
+fn are_many_nodes(view: &View<'_>) -> bool
+    ensures { result ≡ are_many_nodes view.now.tables }
+{
+    let nodes = view.tree().count() as u128 + 1;
+    passes(nodes, Limit::Nodes) || view.meta().next_node.number() > u64::MAX - 1
+}
+
+// ---- how much is moved and copied
 
 /// How deep the deepest of the nodes under a node would be, with that in the folder.
 fn deepest_in(tree: &Tree, nodes: &[NodeId], transfer: &Transfer) -> u32

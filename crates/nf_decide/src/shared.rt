@@ -1,25 +1,34 @@
 //! What is done and told of what is asked about shares.
 
-ghost use Rattle.std.specs.Prelude.{◌≡◌, ◌++◌, ◌∷◌, [], None, IfOk, IsSome, OnOk, filter, filter_map, option_copied, if◌then◌else◌};
+ghost use Rattle.std.specs.Prelude.{◌≡◌, ◌==◌, not, ◌++◌, ◌∷◌, [], None, IfOk, IsSome, OnOk, filter, filter_map, option_copied, if◌then◌else◌};
 ghost use Rattle.std.specs.Option.{option_map_or};
-ghost use Rattle.nf_access.specs.Mounts.{ensured};
+ghost use Rattle.std.specs.List.Sorted.{IsStrictlyIncreasing};
 ghost use Rattle.nf_base.specs.declared.changes.Change.TheVariants.{Put};
 ghost use Rattle.nf_base.specs.declared.rows.Row.TheVariants as kinds;
-ghost use Rattle.nf_defs.specs.Prelude.{node_row};
-ghost use Rattle.nf_words.specs.Prelude.{access_of, AreSound, mounting, nothing_done, share_ended, share_made, share_set, share_told, shared};
-ghost use Rattle.nf_words.specs.Sharing.{is_listed_for, is_on, perms_after, recipient_of, share_line, share_lines};
+ghost use Rattle.nf_defs.specs.Prelude.{members_of, node_row};
+ghost use Rattle.nf_words.specs.Prelude.{access_of, AreSound, nothing_done, share_ended, share_made, share_set, share_told, shared};
+ghost use Rattle.nf_words.specs.Sharing.{is_listed_for, is_on, mounts_for, perms_after, recipient_of, share_line, share_lines, until_after, users_for};
+ghost use Rattle.nf_words.specs.Changes.{same_end, set_row};
+ghost use Rattle.nf_words.specs.People.{put_mounts};
 ghost use Rattle.nf_words.specs.declared.answer.Allowed.TheVariants as allowed;
 ghost use Rattle.nf_words.specs.declared.answer.Report.TheVariants as report;
 ghost use Rattle.nf_decide.specs.Deciding.{IsThere, asking_of, offer_by};
 
 use crate::asked::node_at;
 use crate::deciding::Call;
+use crate::nodes::owner_of;
+use crate::people::push_mounts;
 use crate::sharing::{is_steered_by, perms_after};
 use crate::telling::ended;
 use crate::view::View;
-use nf_base::{Change, Changes, MountRow, NodeId, Perms, Row, ShareId, ShareKind, ShareRow};
+use nf_base::{
+    Change, Changes, GroupId, Moment, MountRow, NodeId, Perms, Row, ShareKind, ShareRow, UserId,
+};
+use nf_people::People;
 use nf_reach::Asker;
-use nf_words::{Allowed, Offer, Places, Recipient, Report, ShareAsk, ShareLine, ShareLines};
+use nf_words::{
+    Allowed, Offer, Places, Receiver, Recipient, Report, ShareAsk, ShareLine, ShareLines, Until,
+};
 use std::alloc::{AllocError, Global};
 
 impl<'a> Call<'a> {
@@ -47,9 +56,13 @@ impl<'a> Call<'a> {
                 let row = self.share_shown(asker, *share);
                 shown(alloc, &self.view, row)
             }
-            ShareAsk::Set { share, perms } => {
+            ShareAsk::Set {
+                share,
+                perms,
+                until,
+            } => {
                 let row = self.share_steered(asker, *share);
-                set(alloc, &self.view, *perms, row)
+                set(alloc, &self.view, *perms, *until, row)
             }
             ShareAsk::End(share) => {
                 let row = self.share_steered(asker, *share);
@@ -76,7 +89,7 @@ impl<'a> Call<'a> {
         }
     }
 
-    /// A share is made, and its user has a mount of the node.
+    /// A share is made, and those whom it names have mounts of the node.
     fn share_of(
         &self,
         alloc: Global,
@@ -89,47 +102,96 @@ impl<'a> Call<'a> {
         ensures { IfOk result (λ allowed. allowed ≡ share_made (access_of self.entry.now.state) self.entry.now offer.now) }
     {
         let row = self.new_share(asker, offer);
-        let mount = mount_for(alloc, &self.view, offer)?;
-        put(alloc, &self.view, row, mount)
+        let mounts = mounts_for(alloc, &self.view, offer)?;
+        put(alloc, &self.view, row, mounts)
     }
 }
 
-/// A share is put with a mount, if there is one, and told.
+/// A share is put with some mounts, and told.
 fn put(
     alloc: Global,
     view: &View<'_>,
     row: ShareRow,
-    mount: Option<MountRow>,
+    mounts: Vec<MountRow>,
 ) -> Result<Allowed, AllocError>
-    ensures { IfOk result (λ allowed. allowed ≡ share_told view.now.tables (Put (kinds.Share row) ∷ mounting mount) row) }
+    ensures { IfOk result (λ allowed. allowed ≡ share_told view.now.tables (Put (kinds.Share row) ∷ put_mounts mounts.items) row) }
 {
     let report = report_of(view, &row)?;
     Ok(Allowed::Change {
-        changes: made(alloc, row, mount)?,
+        changes: made(alloc, row, mounts)?,
         blob: None,
         report,
     })
 }
 
-/// The row of the mount of what is shared, where its user has none yet.
-fn mount_for(alloc: Global, view: &View<'_>, offer: &Offer) -> Result<Option<MountRow>, AllocError>
+/// The rows of the mounts of what is shared, where those whom it is for have none yet.
+pub(crate) fn mounts_for(
+    alloc: Global,
+    view: &View<'_>,
+    offer: &Offer,
+) -> Result<Vec<MountRow>, AllocError>
     requires sound { AreSound view.now.tables }
     requires there { IsSome (node_row view.now.tables.nodes offer.now.node) }
-    ensures { IfOk result (λ row. row ≡ ensured view.now.tables.users view.now.tables.nodes view.now.tables.mounts offer.now.to offer.now.node) }
+    ensures { IfOk result (λ rows. rows.items ≡ mounts_for view.now.tables offer.now) }
 {
     let (people, tree) = (view.people(), view.tree());
+    let users = users_for(alloc, people, owner_of(tree, offer.node), &offer.to)?;
     view.mounts()
-        .ensured(alloc, people, tree, offer.to, offer.node)
+        .ensured_for(alloc, people, tree, offer.node, &users)
 }
 
-/// The changes that put a share and, if there is one, a mount.
-fn made(alloc: Global, row: ShareRow, mount: Option<MountRow>) -> Result<Changes, AllocError>
-    ensures { IfOk result (λ changes. changes ≡ Put (kinds.Share row) ∷ mounting mount) }
+/// The users who are to have a mount by a share: the one that it names, or the members of the group but for the owner.
+fn users_for(
+    alloc: Global,
+    people: &People,
+    owner: UserId,
+    to: &Receiver,
+) -> Result<Vec<UserId>, AllocError>
+    ensures users { IfOk result (λ users. users.items ≡ users_for people.now.members owner to.now) }
+    ensures rising { IfOk result (λ users. IsStrictlyIncreasing users.items) }
+{
+    match to {
+        Receiver::User(user) => one(alloc, *user),
+        Receiver::Group(group) => members_but(alloc, people, owner, *group),
+    }
+}
+
+/// The members of a group but for a user.
+fn members_but(
+    alloc: Global,
+    people: &People,
+    but: UserId,
+    group: GroupId,
+) -> Result<Vec<UserId>, AllocError>
+    ensures users { IfOk result (λ users. users.items ≡ filter (λ user. not (user == but)) (members_of people.now.members group)) }
+    ensures rising { IfOk result (λ users. IsStrictlyIncreasing users.items) }
+{
+    let mut users = people.members(alloc, group)?;
+    leave_out(&mut users, but);
+    Ok(users)
+}
+
+/// Leaves a user out.
+fn leave_out(users: &mut Vec<UserId>, but: UserId)
+    ensures { users.new.items ≡ filter (λ user. not (user == but)) users.old.items }
+{
+    users.retain(|user| *user != but)
+}
+
+fn one(alloc: Global, user: UserId) -> Result<Vec<UserId>, AllocError>
+    ensures { IfOk result (λ users. users.items ≡ user ∷ []) }
+{
+    let mut users = Vec::new(alloc);
+    users.push(user)?;
+    Ok(users)
+}
+
+/// The changes that put a share and some mounts.
+fn made(alloc: Global, row: ShareRow, mounts: Vec<MountRow>) -> Result<Changes, AllocError>
+    ensures { IfOk result (λ changes. changes ≡ Put (kinds.Share row) ∷ put_mounts mounts.items) }
 {
     let mut changes = only(alloc, row)?;
-    if let Some(mount) = mount {
-        changes.push(Change::Put(Row::Mount(mount)))?;
-    }
+    push_mounts(&mut changes, mounts)?;
     Ok(changes)
 }
 
@@ -167,32 +229,59 @@ fn shown(alloc: Global, view: &View<'_>, row: Option<&ShareRow>) -> Result<Allow
     })
 }
 
-/// A share, if there is one, has the permissions that are asked for.
+/// A share, if there is one, has the permissions and the end that are asked for.
 fn set(
     alloc: Global,
     view: &View<'_>,
     perms: Option<Perms>,
+    until: Until,
     row: Option<&ShareRow>,
 ) -> Result<Allowed, AllocError>
-    ensures { IfOk result (λ allowed. allowed ≡ option_map_or (λ row. share_set view.now.tables (perms_after view.now.tables perms row) row) (option_copied row.entry) nothing_done) }
+    ensures { IfOk result (λ allowed. allowed ≡ option_map_or (λ row. share_set view.now.tables (perms_after view.now.tables perms row) (until_after until row.until) row) (option_copied row.entry) nothing_done) }
 {
     match row {
-        Some(row) => share_set(alloc, view, perms_after(view, perms, row), row),
+        Some(row) => {
+            let end = until_after(until, row.until);
+            share_set(alloc, view, perms_after(view, perms, row), end, row)
+        }
         None => Ok(nothing_done(alloc)),
     }
 }
 
-/// A share has those permissions.
+/// The end that a share has once one is asked for.
+fn until_after(until: Until, old: Option<Moment>) -> Option<Moment>
+    ensures { result ≡ until_after until old }
+{
+    match until {
+        Until::Keep => old,
+        Until::Never => None,
+        Until::At(moment) => Some(moment),
+    }
+}
+
+/// Whether two ends are the same.
+fn same_end(end: Option<Moment>, other: Option<Moment>) -> bool
+    ensures { result ≡ same_end end other }
+{
+    match (end, other) {
+        (Some(moment), Some(old)) => old == moment,
+        (None, None) => true,
+        (Some(_), None) | (None, Some(_)) => false,
+    }
+}
+
+/// A share has those permissions and that end.
 fn share_set(
     alloc: Global,
     view: &View<'_>,
     perms: Perms,
+    until: Option<Moment>,
     row: &ShareRow,
 ) -> Result<Allowed, AllocError>
-    ensures { IfOk result (λ allowed. allowed ≡ share_set view.now.tables perms row.now) }
+    ensures { IfOk result (λ allowed. allowed ≡ share_set view.now.tables perms until row.now) }
 {
-    let is_same = perms == row.perms;
-    let row = with_perms(perms, row)?;
+    let is_same = perms == row.perms && same_end(until, row.until);
+    let row = set_row(perms, until, row)?;
     let report = report_of(view, &row)?;
     Ok(Allowed::Change {
         changes: unless_same(alloc, is_same, row)?,
@@ -201,12 +290,13 @@ fn share_set(
     })
 }
 
-/// The row of a share with those permissions.
-fn with_perms(perms: Perms, row: &ShareRow) -> Result<ShareRow, AllocError>
-    ensures { IfOk result (λ other. other ≡ record row.now { perms = perms }) }
+/// The row of a share with those permissions and that end.
+fn set_row(perms: Perms, until: Option<Moment>, row: &ShareRow) -> Result<ShareRow, AllocError>
+    ensures { IfOk result (λ other. other ≡ set_row perms until row.now) }
 {
     let mut row = row.clone()?;
     row.perms = perms;
+    row.until = until;
     Ok(row)
 }
 

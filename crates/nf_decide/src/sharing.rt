@@ -1,25 +1,29 @@
 //! What is asked about shares: what it names, and the rules of sharing.
 
-ghost use Rattle.std.specs.Prelude.{◌≡◌, if◌then◌else◌, option_and_then, option_copied, option_map};
+ghost use Rattle.std.specs.Prelude.{◌≡◌, ◌&&◌, if◌then◌else◌, is_some, None, option_and_then, option_copied, option_map, Some, unwrap_or};
 ghost use Rattle.std.specs.List.{list_any};
 ghost use Rattle.nf_access.specs.Making.{is_again};
-ghost use Rattle.nf_defs.specs.Prelude.{user_named};
+ghost use Rattle.nf_access.specs.Shares.{perms_of_share};
+ghost use Rattle.nf_words.specs.Listing.{all_permissions};
 ghost use Rattle.nf_words.specs.Prelude.{access_of, asked_about, way_of, ways_of};
-ghost use Rattle.nf_words.specs.Sharing.{fault_by, fault_of_ask, is_long, is_seen_by, is_steered_by, is_wider, is_widened, named_rule, new_share, offer_fault, offer_of, offered_by, parent_by, perms_after, set_fault, share_shown, share_steered, sharing_rule, unnamed, unnamed_by};
-ghost use Rattle.nf_words.specs.declared.answer.ShareRule.TheVariants as rule;
+ghost use Rattle.nf_words.specs.Sharing.{fault_by, fault_of_ask, is_long, kind_of, is_past, is_seen_by, is_set_past, is_steered_by, is_wider, is_widened, named_rule, new_share, offer_fault, offer_of, offered_by, parent_by, perms_after, receiver_named, set_fault, share_shown, share_steered, sharing_rule, unnamed, unnamed_by};
+ghost use Rattle.nf_words.specs.People.{are_named, is_taken};
+ghost use Rattle.nf_words.specs.declared.answer.Breach.TheVariants as rule;
+ghost use Rattle.nf_words.specs.declared.answer.Denial.TheVariants as denial;
 ghost use Rattle.nf_decide.specs.Deciding.{Follows, asking_of, offer_by, offer_in};
 
 use crate::asked::node_found;
 use crate::deciding::Call;
 use crate::listing::all_permissions;
 use crate::nodes::{is_root, kind_of, owner_of};
+use crate::people::{are_named, is_taken};
 use crate::view::View;
 use nf_access::{is_part, perms_of_share};
-use nf_base::{MAX_CHAIN, Moment, Name, NodeId, Perms, ShareId, ShareKind, ShareRow, UserId};
+use nf_base::{MAX_CHAIN, Moment, NodeId, Perms, ShareId, ShareKind, ShareRow, UserId};
 use nf_reach::{Asker, Way, Ways};
-use nf_shares::{Shares, is_self_share};
+use nf_shares::{Shares, is_before, is_self_share};
 use nf_tree::Tree;
-use nf_words::{Denial, Offer, ShareAsk, ShareRule, Wanted};
+use nf_words::{Breach, Denial, Offer, PeopleAsk, Receiver, ShareAsk, Sharee, Until, Wanted};
 
 // ---- the rules
 
@@ -42,6 +46,7 @@ impl<'a> Call<'a> {
     {
         match &self.request.wanted {
             Wanted::Share(ask) => self.unnamed(asker, ask),
+            Wanted::People(ask) => self.people_unnamed(ask),
             Wanted::Get(_)
             | Wanted::Put { .. }
             | Wanted::Mkcol(_)
@@ -51,13 +56,24 @@ impl<'a> Call<'a> {
         }
     }
 
+    /// What isn't there of what is asked about users and groups.
+    fn people_unnamed(&self, ask: &PeopleAsk) -> Option<Denial>
+        ensures { result ≡ (if are_named self.entry.now.state.tables ask.now then None else Some denial.NotFound) }
+    {
+        if are_named(&self.view, ask) {
+            None
+        } else {
+            Some(Denial::NotFound)
+        }
+    }
+
     /// What isn't there of what is asked about shares.
     fn unnamed(&self, asker: &Asker<'_>, ask: &ShareAsk) -> Option<Denial>
         requires { asker.now ≡ asking_of self.now }
         ensures { result ≡ unnamed self.entry.now ask.now }
     {
         let is_known = match ask {
-            ShareAsk::New { to, .. } => self.view.people().user(to).is_some(),
+            ShareAsk::New { to, .. } => receiver_named(&self.view, to).is_some(),
             ShareAsk::List { .. } => true,
             ShareAsk::Show(share) => self.share_shown(asker, *share).is_some(),
             ShareAsk::Set { share, .. } => self.share_steered(asker, *share).is_some(),
@@ -70,7 +86,7 @@ impl<'a> Call<'a> {
         }
     }
 
-    /// `rule`: what is asked breaks a rule of sharing.
+    /// `rule`: what is asked breaks a rule of sharing, or a name or a token is taken.
     #[tactic(auto, unfolding(nf_words::specs::Sharing::sharing_rule))]
     pub(crate) fn sharing(&self, asker: &Asker<'_>, offer: &Option<Offer>) -> Result<(), Denial>
         requires asker { asker.now ≡ asking_of self.now }
@@ -83,13 +99,14 @@ impl<'a> Call<'a> {
         }
     }
 
-    fn fault_by(&self, asker: &Asker<'_>, offer: &Option<Offer>) -> Option<ShareRule>
+    fn fault_by(&self, asker: &Asker<'_>, offer: &Option<Offer>) -> Option<Breach>
         requires asker { asker.now ≡ asking_of self.now }
         requires offer { offer.now ≡ offer_in self.now self.now.request.wanted }
         ensures { result ≡ fault_by (access_of self.entry.now.state) self.entry.now self.entry.now.request.wanted }
     {
         match &self.request.wanted {
             Wanted::Share(ask) => self.fault_of_ask(asker, offer, ask),
+            Wanted::People(ask) => self.people_fault(ask),
             Wanted::Get(_)
             | Wanted::Put { .. }
             | Wanted::Mkcol(_)
@@ -99,28 +116,42 @@ impl<'a> Call<'a> {
         }
     }
 
+    fn people_fault(&self, ask: &PeopleAsk) -> Option<Breach>
+        ensures { result ≡ (if is_taken self.entry.now.state.tables ask.now then Some rule.Taken else None) }
+    {
+        if is_taken(&self.view, ask) {
+            Some(Breach::Taken)
+        } else {
+            None
+        }
+    }
+
     fn fault_of_ask(
         &self,
         asker: &Asker<'_>,
         offer: &Option<Offer>,
         ask: &ShareAsk,
-    ) -> Option<ShareRule>
+    ) -> Option<Breach>
         requires asker { asker.now ≡ asking_of self.now }
         requires offer { offer.now ≡ offer_by self.now ask.now }
         ensures { result ≡ fault_of_ask (access_of self.entry.now.state) self.entry.now ask.now }
     {
         match ask {
             ShareAsk::New { .. } => self.offer_fault(asker, offer.as_ref()?),
-            ShareAsk::Set { share, perms } => {
+            ShareAsk::Set {
+                share,
+                perms,
+                until,
+            } => {
                 let row = self.share_steered(asker, *share)?;
-                self.set_fault(asker, *perms, row)
+                self.set_fault(asker, *perms, *until, row)
             }
             ShareAsk::List { .. } | ShareAsk::Show(_) | ShareAsk::End(_) => None,
         }
     }
 
     /// The first rule that a new share would break.
-    fn offer_fault(&self, asker: &Asker<'_>, offer: &Offer) -> Option<ShareRule>
+    fn offer_fault(&self, asker: &Asker<'_>, offer: &Offer) -> Option<Breach>
         requires { asker.now ≡ asking_of self.now }
         ensures { result ≡ offer_fault (access_of self.entry.now.state) self.entry.now offer.now }
     {
@@ -129,22 +160,24 @@ impl<'a> Call<'a> {
     }
 
     /// The same, by the row of the new share.
-    fn row_fault(&self, asker: &Asker<'_>, offer: &Offer, row: &ShareRow) -> Option<ShareRule>
+    fn row_fault(&self, asker: &Asker<'_>, offer: &Offer, row: &ShareRow) -> Option<Breach>
         requires asker { asker.now ≡ asking_of self.now }
         requires row { row.now ≡ new_share (access_of self.now.state) self.now offer.now }
         ensures { result ≡ offer_fault (access_of self.entry.now.state) self.entry.now offer.now }
     {
         let shares = self.view.shares();
         if is_root(self.view.tree(), offer.node) {
-            Some(ShareRule::Root)
+            Some(Breach::Root)
         } else if is_self_share(row) {
-            Some(ShareRule::SelfShare)
+            Some(Breach::SelfShare)
+        } else if is_past(self.now, offer.until) {
+            Some(Breach::Past)
         } else if is_there_again(shares, row, self.now) {
-            Some(ShareRule::Already)
+            Some(Breach::Already)
         } else if self.is_widened(asker, offer, row.parent) {
-            Some(ShareRule::Widened)
+            Some(Breach::Widened)
         } else if is_long(shares, row.parent) {
-            Some(ShareRule::Chain)
+            Some(Breach::Chain)
         } else {
             None
         }
@@ -159,15 +192,27 @@ impl<'a> Call<'a> {
         !asker.owns(offer.node) && parent.is_none()
     }
 
-    /// Why a share can't have the permissions that are asked for.
+    /// Why a share can't have the end and the permissions that are asked for.
     fn set_fault(
         &self,
         asker: &Asker<'_>,
         perms: Option<Perms>,
+        until: Until,
         row: &ShareRow,
-    ) -> Option<ShareRule>
+    ) -> Option<Breach>
         requires { asker.now ≡ asking_of self.now }
-        ensures { result ≡ set_fault self.entry.now.state.tables perms row.now }
+        ensures { result ≡ set_fault self.entry.now.state.tables self.entry.now.now perms until row.now }
+    {
+        if is_set_past(self.now, until) {
+            return Some(Breach::Past);
+        }
+        self.perms_fault(asker, perms, row)
+    }
+
+    /// Why it can't have the permissions.
+    fn perms_fault(&self, asker: &Asker<'_>, perms: Option<Perms>, row: &ShareRow) -> Option<Breach>
+        requires { asker.now ≡ asking_of self.now }
+        ensures { result ≡ (if is_some perms && is_wider self.entry.now.state.tables.shares row.now.parent (perms_after self.entry.now.state.tables perms row.now) then Some rule.Widened else None) }
     {
         match perms {
             Some(_) => self.widened(asker, row.parent, perms_after(&self.view, perms, row)),
@@ -175,12 +220,12 @@ impl<'a> Call<'a> {
         }
     }
 
-    fn widened(&self, asker: &Asker<'_>, parent: Option<ShareId>, perms: Perms) -> Option<ShareRule>
+    fn widened(&self, asker: &Asker<'_>, parent: Option<ShareId>, perms: Perms) -> Option<Breach>
         requires { asker.now ≡ asking_of self.now }
         ensures { result ≡ (if is_wider self.entry.now.state.tables.shares parent perms then Some rule.Widened else None) }
     {
         if self.is_wider(asker, parent, perms) {
-            Some(ShareRule::Widened)
+            Some(Breach::Widened)
         } else {
             None
         }
@@ -205,6 +250,23 @@ fn is_long(shares: &Shares, parent: Option<ShareId>) -> bool
     match parent {
         Some(parent) => shares.depth(parent) >= MAX_CHAIN,
         None => false,
+    }
+}
+
+/// Whether what ends then would have ended by now.
+fn is_past(now: Moment, until: Option<Moment>) -> bool
+    ensures { result ≡ is_past now until }
+{
+    !is_before(now, until)
+}
+
+/// The same of an end that is asked for.
+fn is_set_past(now: Moment, until: Until) -> bool
+    ensures { result ≡ is_set_past now until }
+{
+    match until {
+        Until::Keep | Until::Never => false,
+        Until::At(moment) => is_past(now, Some(moment)),
     }
 }
 
@@ -237,14 +299,15 @@ impl<'a> Call<'a> {
         }
     }
 
-    /// The share that is asked for, where its path leads to what is there and its user is there.
+    /// The share that is asked for, where its path leads to what is there and whom it names is there.
     pub(crate) fn offer(&self, ways: &Ways) -> Option<Offer>
         requires { ways.now ≡ ways_of self.now }
         ensures { result ≡ offer_in self.entry.now self.entry.now.request.wanted }
     {
         match &self.request.wanted {
             Wanted::Share(ask) => self.offer_by(&ways.source, ask),
-            Wanted::Get(_)
+            Wanted::People(_)
+            | Wanted::Get(_)
             | Wanted::Put { .. }
             | Wanted::Mkcol(_)
             | Wanted::Delete(_)
@@ -258,33 +321,43 @@ impl<'a> Call<'a> {
         ensures { result ≡ offer_by self.entry.now ask.now }
     {
         match ask {
-            ShareAsk::New { to, perms, .. } => self.offered(source, to, *perms),
+            ShareAsk::New {
+                to,
+                perms,
+                until,
+                ..
+            } => self.offered(source, to, *perms, *until),
             ShareAsk::List { .. } | ShareAsk::Show(_) | ShareAsk::Set { .. } | ShareAsk::End(_) =>
                 None,
         }
     }
 
-    fn offered(&self, way: &Option<Way>, to: &Name, perms: Option<Perms>) -> Option<Offer>
-        ensures { result ≡ option_and_then (λ way. offered_by self.entry.now way perms (user_named self.entry.now.state.tables.users to.now)) way.now }
+    fn offered(
+        &self,
+        way: &Option<Way>,
+        to: &Sharee,
+        perms: Option<Perms>,
+        until: Option<Moment>,
+    ) -> Option<Offer>
+        ensures { result ≡ option_and_then (λ way. offered_by self.entry.now way perms until (receiver_named self.entry.now.state.tables to.now)) way.now }
     {
         match way {
-            Some(way) => self.offered_by(way, self.user_named(to), perms),
+            Some(way) => self.offered_by(way, perms, until, receiver_named(&self.view, to)),
             None => None,
         }
     }
 
-    /// The user of that name.
-    fn user_named(&self, name: &Name) -> Option<UserId>
-        ensures { result ≡ user_named self.entry.now.state.tables.users name.now }
-    {
-        self.view.people().user(name)
-    }
-
-    fn offered_by(&self, way: &Way, to: Option<UserId>, perms: Option<Perms>) -> Option<Offer>
-        ensures { result ≡ offered_by self.entry.now way.now perms to }
+    fn offered_by(
+        &self,
+        way: &Way,
+        perms: Option<Perms>,
+        until: Option<Moment>,
+        to: Option<Receiver>,
+    ) -> Option<Offer>
+        ensures { result ≡ offered_by self.entry.now way.now perms until to }
     {
         let node = node_found(&way.place)?;
-        Some(offer_of(self.view.tree(), way.mount, perms, node, to?))
+        Some(offer_of(self.view.tree(), way.mount, perms, until, node, &to?))
     }
 
     /// The row of the new share.
@@ -294,13 +367,13 @@ impl<'a> Call<'a> {
     {
         ShareRow {
             id: self.view.meta().next_share,
-            kind: ShareKind::User(offer.to),
+            kind: offer.to.kind(),
             node: offer.node,
             owner: owner_of(self.view.tree(), offer.node),
             initiator: asker.user(),
             parent: self.parent_by(asker, offer),
             perms: offer.perms,
-            until: None,
+            until: offer.until,
             ended: false,
             made: self.now,
         }
@@ -319,22 +392,42 @@ impl<'a> Call<'a> {
     }
 }
 
-/// A share of a node that is there, for a user.
+/// A share of a node that is there.
 fn offer_of(
     tree: &Tree,
     mount: Option<NodeId>,
     perms: Option<Perms>,
+    until: Option<Moment>,
     node: NodeId,
-    user: UserId,
+    to: &Receiver,
 ) -> Offer
-    ensures { result ≡ offer_of tree.now.rows mount perms node user }
+    ensures { result ≡ offer_of tree.now.rows mount perms until node to.now }
 {
-    let wanted = perms.unwrap_or(all_permissions());
+    let perms = perms_offered(tree, perms, node, &to.kind());
     Offer {
         node,
         mount,
-        to: user,
-        perms: perms_of_share(kind_of(tree, node), &ShareKind::User(user), wanted),
+        to: *to,
+        perms,
+        until,
+    }
+}
+
+/// The permissions that are asked for, or all, as far as a share of the node may have them.
+fn perms_offered(tree: &Tree, perms: Option<Perms>, node: NodeId, kind: &ShareKind) -> Perms
+    ensures { result ≡ perms_of_share (kind_of tree.now.rows node) kind.now (unwrap_or perms all_permissions) }
+{
+    let wanted = perms.unwrap_or(all_permissions());
+    perms_of_share(kind_of(tree, node), kind, wanted)
+}
+
+/// The user or the group of that name.
+fn receiver_named(view: &View<'_>, to: &Sharee) -> Option<Receiver>
+    ensures { result ≡ receiver_named view.now.tables to.now }
+{
+    match to {
+        Sharee::User(name) => Some(Receiver::User(view.people().user(name)?)),
+        Sharee::Group(name) => Some(Receiver::Group(view.people().group(name)?)),
     }
 }
 

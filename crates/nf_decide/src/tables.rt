@@ -15,10 +15,11 @@ ghost use Rattle.nf_rules.specs.Ruled.{AreRuled};
 ghost use Rattle.nf_decide.specs.Counts.{FitsNodes, FitsRows, IsNoSmaller, only_nodes};
 
 use crate::counts::RowCounts;
+use crate::people_put::{drop_member, put_group, put_member, put_token, put_user};
 use crate::view::View;
 use nf_base::{
-    BlobId, Change, Changes, MetaRow, Moment, MountRow, Name, NodeId, NodeRow, Row, RowList,
-    ShareId, ShareRow,
+    BlobId, Change, Changes, GroupId, MetaRow, Moment, MountRow, Name, NodeId, NodeRow, Row,
+    RowKey, RowList, ShareId, ShareRow, UserId,
 };
 use nf_mounts::Mounts;
 use nf_opening::Loaded;
@@ -46,7 +47,15 @@ impl Model for Tables {
 
     ghost view = { λ t. record {
       tables = tables_in t.meta t.people t.tree.rows t.shares.rows t.mounts.rows;
-      room = record { nodes = t.tree.room; shares = t.shares.room; mounts = t.mounts.room };
+      room = record {
+        users = t.people.room.users;
+        tokens = t.people.room.tokens;
+        groups = t.people.room.groups;
+        members = t.people.room.members;
+        nodes = t.tree.room;
+        shares = t.shares.room;
+        mounts = t.mounts.room;
+      };
     } };
 }
 
@@ -95,6 +104,7 @@ impl Tables {
     pub(crate) fn keeps_room(&self)
         ensures { FitsRows self.now.tables self.now.room (only_nodes 0) }
     {
+        self.people.keeps();
         self.tree.keeps();
         self.shares.keeps();
         self.mounts.keeps();
@@ -110,6 +120,7 @@ impl Tables {
         if self.tree.reserve(added.nodes).is_err() {
             return Err(AllocError);
         }
+        self.people.reserve(added.people())?;
         self.shares.reserve(added.shares)?;
         self.mounts.reserve(added.mounts)
     }
@@ -179,7 +190,7 @@ impl Tables {
         }
     }
 
-    /// Makes a change. Only rows of nodes, of shares and of mounts are changed yet.
+    /// Makes a change. Only rows of people, of nodes, of shares and of mounts are changed yet.
     fn make(&mut self, change: Change)
         requires room { FitsRows self.old.tables self.old.room (added_of self.old.tables.meta.next_node (change ∷ [])) }
         requires borne { IsBorne self.old.tables.meta.next_node self.old.tables change }
@@ -187,10 +198,15 @@ impl Tables {
         ensures room { IsNoSmaller self.old.room self.new.room }
     {
         match change {
+            Change::Put(Row::User(row)) => put_user(&mut self.people, row),
+            Change::Put(Row::Token(row)) => put_token(&mut self.people, row),
+            Change::Put(Row::Group(row)) => put_group(&mut self.people, row),
+            Change::Put(Row::Member(row)) => put_member(&mut self.people, row),
+            Change::Drop(key) => drop_member(&mut self.people, &key),
             Change::Put(Row::Node(row)) => put_node(&mut self.tree, row),
             Change::Put(Row::Share(row)) => self.shares.put(row),
             Change::Put(Row::Mount(row)) => self.mounts.put(row),
-            Change::Put(_) | Change::Drop(_) => unreachable!(),
+            Change::Put(_) => unreachable!(),
         }
     }
 
@@ -432,6 +448,14 @@ fn above(meta: MetaRow, change: &Change) -> MetaRow
     ensures { result ≡ above meta change.now }
 {
     match change {
+        Change::Put(Row::User(row)) => MetaRow {
+            next_user: meta.next_user.max(UserId::new(row.id.number() + 1)),
+            ..meta
+        },
+        Change::Put(Row::Group(row)) => MetaRow {
+            next_group: meta.next_group.max(GroupId::new(row.id.number() + 1)),
+            ..meta
+        },
         Change::Put(Row::Node(row)) => MetaRow {
             next_node: meta.next_node.max(NodeId::new(row.id.number() + 1)),
             ..meta

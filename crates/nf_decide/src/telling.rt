@@ -8,7 +8,7 @@ ghost use Rattle.nf_defs.specs.Tree.{node_row, relinked};
 ghost use Rattle.nf_words.specs.Changes.{blob_of, changes_of, closed_under, ended_row, gone_for, gone_under, hold_of, is_closing, meta_after, told, transferred_row, with_meta};
 ghost use Rattle.nf_words.specs.declared.answer.LockKey.TheVariants as lock_keys;
 ghost use Rattle.nf_words.specs.declared.answer.Mode.TheVariants.{Exclusive, Shared};
-ghost use Rattle.nf_decide.specs.Current.{BearsAct, added_by, added_of, is_counted, is_fresh, puts_mount, puts_share};
+ghost use Rattle.nf_decide.specs.Current.{BearsAct, added_by, added_of, is_counted, is_fresh, puts_group, puts_member, puts_mount, puts_share, puts_token, puts_user};
 
 use crate::counts::RowCounts;
 use crate::tables::{copy, raised};
@@ -27,6 +27,10 @@ enum Counted {
     Fresh(NodeId),
     Share,
     Mount,
+    User,
+    Token,
+    Group,
+    Member,
 }
 
 /// The rows that an act changes, and no other.
@@ -276,11 +280,15 @@ pub fn added_by(view: &View<'_>, act: &Allowed) -> RowCounts
     }
 }
 
-/// How many rows some changes add at most: nodes of numbers that weren't given yet, shares and mounts.
+/// How many rows some changes add at most: nodes of numbers that weren't given yet, and rows of the other kinds.
 fn added_of(next: NodeId, changes: &[Change]) -> RowCounts
     ensures { result ≡ added_of next changes.now }
 {
     RowCounts {
+        users: change_count(&Counted::User, changes),
+        tokens: change_count(&Counted::Token, changes),
+        groups: change_count(&Counted::Group, changes),
+        members: change_count(&Counted::Member, changes),
         nodes: change_count(&Counted::Fresh(next), changes),
         shares: change_count(&Counted::Share, changes),
         mounts: change_count(&Counted::Mount, changes),
@@ -308,6 +316,10 @@ fn is_counted(counted: &Counted, change: &Change) -> bool
         Counted::Fresh(next) => is_fresh(*next, change),
         Counted::Share => puts_share(change),
         Counted::Mount => puts_mount(change),
+        Counted::User => puts_user(change),
+        Counted::Token => puts_token(change),
+        Counted::Group => puts_group(change),
+        Counted::Member => puts_member(change),
     }
 }
 
@@ -331,6 +343,30 @@ fn puts_mount(change: &Change) -> bool
     ensures { result ≡ puts_mount change.now }
 {
     matches!(change, Change::Put(Row::Mount(_)))
+}
+
+fn puts_user(change: &Change) -> bool
+    ensures { result ≡ puts_user change.now }
+{
+    matches!(change, Change::Put(Row::User(_)))
+}
+
+fn puts_token(change: &Change) -> bool
+    ensures { result ≡ puts_token change.now }
+{
+    matches!(change, Change::Put(Row::Token(_)))
+}
+
+fn puts_group(change: &Change) -> bool
+    ensures { result ≡ puts_group change.now }
+{
+    matches!(change, Change::Put(Row::Group(_)))
+}
+
+fn puts_member(change: &Change) -> bool
+    ensures { result ≡ puts_member change.now }
+{
+    matches!(change, Change::Put(Row::Member(_)))
 }
 
 /// The blob that an act stores.

@@ -9,11 +9,11 @@ use Rattle.nf_access.specs.Shares.{ground_of}
 use Rattle.nf_base.specs.declared.rows.NodeRow.{NodeRow}
 use Rattle.nf_defs.specs.declared.Found.{Found}
 use Rattle.nf_defs.specs.declared.Found.TheVariants.{At, Free, Missing}
-use Rattle.nf_defs.specs.Prelude.{Access, user_named}
+use Rattle.nf_defs.specs.Prelude.{Access}
 use Rattle.nf_words.proofs.Orders.{first_of}
 use Rattle.nf_words.specs.Places.{has_forbidden, taken}
 use Rattle.nf_words.specs.Sharing.{unnamed_by}
-use Rattle.nf_words.specs.Prelude.{access_of, acts_rule, allowed_of, answered_by, asked_by, Call, call_of, caller_row, exists_rule, forbidden_rule, is_caller, is_one, IsSound, limit_rule, locked_rule, mount_of, named_rule, needed, not_you_rule, overwrite_rule, paths_of, place_rule, places_of, refusal_of, room_rule, root_of, seeker_of, share_shown, share_steered, sharing_rule, source_lost, source_refused, State, target_lost, target_refused, target_rule, token_rule, unless_refused, unreached, unreached_by, users_of, Way, way_by, way_of}
+use Rattle.nf_words.specs.Prelude.{access_of, acts_rule, allowed_of, answered_by, are_named, asked_by, Call, call_of, caller_row, exists_rule, forbidden_rule, is_caller, is_one, IsSound, limit_rule, locked_rule, may_ask, mount_of, named_rule, needed, not_you_rule, receiver_named, overwrite_rule, paths_of, place_rule, places_of, refusal_of, room_rule, root_of, seeker_of, share_shown, share_steered, sharing_rule, source_lost, source_refused, State, target_lost, target_refused, target_rule, token_rule, unless_refused, unreached, unreached_by, users_of, Way, way_by, way_of}
 use Rattle.nf_words.specs.declared.answer.Allowed.{Allowed}
 use Rattle.nf_words.specs.declared.answer.Denial.{Denial}
 use Rattle.nf_words.specs.declared.answer.Denial.TheVariants as denial
@@ -23,7 +23,7 @@ use Rattle.nf_words.specs.declared.request.Places.{Places}
 use Rattle.nf_words.specs.declared.request.ShareAsk.TheVariants as ask
 use Rattle.nf_words.specs.declared.request.Spot.{Spot}
 use Rattle.nf_words.specs.declared.request.Wanted.{Wanted}
-use Rattle.nf_words.specs.declared.request.Wanted.TheVariants.{Share}
+use Rattle.nf_words.specs.declared.request.Wanted.TheVariants.{People, Share}
 use Rattle.nf_denials.proofs.Told.{acts_told, unreached_told}
 use Rattle.nf_denials.specs.Laws.{BeginsTellTheirBreak, GoesBy, IsKeptOut, IsStoppedAt, IsUnmet, UnreachedIsRefused, at_source, at_target, is_of_shares}
 
@@ -61,13 +61,14 @@ taken_other rows places making.Copied = tt
 taken_other rows places making.Shared = tt
 taken_other rows places making.Told = tt
 
--- a user or a share that isn't there
+-- a user, a group or a share that isn't there
 named_other : (call : Call) (wanted : Wanted) → IsOther (unnamed_by call wanted)
-named_other call (Share (ask.New spot to perms)) = unless_test (is_some (user_named call.state.tables.users to)) denial.NotFound refl
+named_other call (Share (ask.New spot to perms until)) = unless_test (is_some (receiver_named call.state.tables to)) denial.NotFound refl
 named_other call (Share (ask.List spot with_me)) = tt
 named_other call (Share (ask.Show share)) = unless_test (is_some (share_shown call share)) denial.NotFound refl
-named_other call (Share (ask.Set share perms)) = unless_test (is_some (share_steered call share)) denial.NotFound refl
+named_other call (Share (ask.Set share perms until)) = unless_test (is_some (share_steered call share)) denial.NotFound refl
 named_other call (Share (ask.End share)) = unless_test (is_some (share_steered call share)) denial.NotFound refl
+named_other call (People asked) = unless_test (are_named call.state.tables asked) denial.NotFound refl
 named_other call other = tt
 
 -- the rules behind those of places and of acts don't refuse by shares
@@ -98,7 +99,7 @@ unfolding token_rule not_you_rule forbidden_rule named_rule
 by_rules access call refusal shares is =
     here (place_rule access call) (acts_rule access call) refl refl
     (skip (forbidden_rule access call) _ refusal (if_test (list_any has_forbidden (paths_of (asked_by call))) denial.ForbiddenName refl) shares
-    (skip (not_you_rule access call) _ refusal (unless_test (list_all (is_caller call) (users_of (asked_by call))) denial.NotYou refl) shares
+    (skip (not_you_rule access call) _ refusal (unless_test (list_all (is_caller call) (users_of (asked_by call)) && may_ask call) denial.NotYou refl) shares
     (skip (token_rule access call) _ refusal (unless_test (is_some (caller_row call)) denial.Token refl) shares is)))
   where
     here : (place acts : Option Denial) → place_rule access call ≡ place → acts_rule access call ≡ acts

@@ -2,15 +2,12 @@
 use Rattle.std.proofs.Common.{max, ℕ, ◌+◌, ◌-◌, drop, option_map, ◌==◌, ◌&&◌, ◌≡◌, ◌<◌, ◌≤◌, Bool, true, false, not, List, [], ◌∷◌, ◌++◌, Option, None, Some, Result, Ok, if◌then◌else◌, length, get_or, slice_get, unwrap_or, inl, inr, refl, sym, ap, subst, ◌∙◌, arith, length-append}
 use Rattle.std.specs.Prelude.{IsOk}
 use Rattle.std.specs.Option.{IfSome, option_map_or}
-use Rattle.std.specs.declared.cmp.Ordering.{Ordering}
-use Rattle.std.specs.declared.cmp.Ordering.TheVariants.{Equal, Greater, Less}
 use Rattle.std.proofs.Math.Seq.{get_or-append_seam}
 use Rattle.std.proofs.lemmas.Bool.{and_parts, cases_Bool, eqb-true, false_from_ne_true, ne_eqb, not-true}
 use Rattle.std.proofs.lemmas.List.{length-map}
 use Rattle.std.proofs.lemmas.List.Elements.{All-weaker}
 use Rattle.std.proofs.lemmas.Option.{unwrap_or-slice_get}
-use Rattle.std.proofs.lemmas.Slice.Eq.{bytes_eq-Decides}
-use Rattle.nf_access.specs.Mounts.{is_mount_of, mount_row}
+use Rattle.nf_access.specs.Mounts.{mount_row}
 use Rattle.nf_base.specs.Content.{content_eq}
 use Rattle.nf_base.specs.declared.changes.Change.{Change}
 use Rattle.nf_base.specs.declared.changes.Change.TheVariants.{Drop, Put}
@@ -22,17 +19,15 @@ use Rattle.nf_base.specs.declared.rows.NodeKind.TheVariants.{File, Folder}
 use Rattle.nf_base.specs.declared.rows.NodeRow.{NodeRow}
 use Rattle.nf_base.specs.declared.rows.Row.TheVariants as rows
 use Rattle.nf_base.specs.declared.rows.UserRow.{UserRow}
-use Rattle.nf_defs.proofs.Lookups.{equal_bytes}
 use Rattle.nf_defs.proofs.Walks.{climbs_walk}
-use Rattle.nf_defs.specs.Prelude.{by_order, child_of, filled, found_from, is_folder, is_folder_kind, is_under, key_cmp, mount_key, node_key, node_row, put, Tables, walk_of}
+use Rattle.nf_defs.specs.Prelude.{child_of, filled, found_from, is_folder, is_folder_kind, is_under, mount_key, node_key, node_row, put, Tables, walk_of}
 use Rattle.nf_defs.specs.declared.Found.{Found}
 use Rattle.nf_defs.specs.declared.Found.TheVariants.{At, Free, Missing}
 use Rattle.nf_laws.proofs.Climbs.{holds_some, under_climb}
 use Rattle.nf_laws.proofs.Ended.{are_ended}
 use Rattle.nf_laws.proofs.Entries.{step_changed}
 use Rattle.nf_laws.proofs.Gone.{row_cleared, row_gone}
-use Rattle.nf_laws.proofs.Lists.{put_other}
-use Rattle.nf_laws.proofs.Mounted.{not_it}
+use Rattle.nf_laws.proofs.Puts.{put_other}
 use Rattle.nf_laws.proofs.Paths.{found_free, found_leads}
 use Rattle.nf_laws.proofs.Reading.{none_refused}
 use Rattle.nf_laws.proofs.Rows.{finds_none, row_is, stamp, stamped_some}
@@ -48,7 +43,7 @@ use Rattle.nf_words.proofs.Ends.{known_change, goal_held}
 use Rattle.nf_words.proofs.Fits.{newest, put_found}
 use Rattle.nf_words.proofs.Found.{free_known, last_more, last_of}
 use Rattle.nf_words.proofs.Known.{Known}
-use Rattle.nf_words.proofs.Mounting.{IsOwnMount, mount_found, own_known}
+use Rattle.nf_words.proofs.Mounting.{IsOwnMount, mount_found, mount_left_so, not_mount, own_known}
 use Rattle.nf_words.proofs.Passing.{call_passes, Passes, place_passes, PlacePasses}
 use Rattle.nf_words.proofs.Starts.{has_row, row_of_caller}
 use Rattle.nf_words.specs.Prelude.{access_of, allowed_of, answered_by, AreSound, asked_of, asker_of, blob_after, blob_for, by_of, Call, call_decision, call_of, changed, closed_under, content_in, decision_of, deleted, dropped_under, end_refusal, ends_at, exists_rule, found, given, gone_under, IsHeld, IsStorable, last_name, left_row, made_folder, makes, MayAsk, MayEnd, mount_left, mount_of, mount_renamed, moved, named_row, new_node, node_at, own_mount, refilled, refusal_of, removed, root_of, seeker_of, source_lost, step, stored, stored_at, stores, taken, target_lost, told, transfer_of, user_of, way_by, way_of, with_mount_row}
@@ -216,27 +211,6 @@ deletes_keep s seat now words request spot sound may asked other ok =
 
 -- ---- a mount itself
 
--- a row that is put is none of another mount's
-mount_other : (row : MountRow) (old : List MountRow) (user node : ℕ) → (user ≡ row.user → node ≡ row.node → ⊥)
-    → mount_row (put mount_key row old) user node ≡ mount_row old user node
-mount_other row [] user node differs = rw (not_it row user node (λ a b. differs (sym a) (sym b))) refl
-mount_other row (x ∷ old) user node differs = here (key_cmp (mount_key row) (mount_key x)) refl (mount_other row old user node differs)
-  where
-    fails : is_mount_of user node row ≡ false
-    fails = not_it row user node (λ a b. differs (sym a) (sym b))
-
-    here : (o : Ordering) → key_cmp (mount_key row) (mount_key x) ≡ o → mount_row (put mount_key row old) user node ≡ mount_row old user node
-        → mount_row (by_order o (row ∷ x ∷ old) (row ∷ old) (x ∷ put mount_key row old)) user node ≡ mount_row (x ∷ old) user node
-    here Less e rest = simp fails refl
-    here Equal e rest =
-        let keyed : row.user ∷ row.node ∷ [] ≡ x.user ∷ x.node ∷ [] =
-        (bytes_eq-Decides (mount_key row) (mount_key x)).0 (equal_bytes (mount_key row) (mount_key x) Equal e) in
-        let same_user : row.user ≡ x.user = cc in
-        let same_node : row.node ≡ x.node = cc in
-        let other = not_it x user node (λ a b. differs (sym (same_user ∙ a)) (sym (same_node ∙ b))) in
-        simp (fails, other)
-    here Greater e rest = ap (λ (o : Option MountRow). if is_mount_of user node x then Some x else o) rest
-
 -- the caller's mount whose own path that is has another row
 remounts : (call : Call) (spot : Spot) (change : MountRow → MountRow) (report : Report) → AreSound call.state.tables
     → user_of call ≡ Some (asker_of call) → (way_of call spot).itself ≡ true
@@ -257,7 +231,7 @@ remounts call spot change report sound asks itself users nodes =
       itself = subst (λ (n : ℕ). mount_row (put mount_key new t.mounts) (asker_of call) n ≡ Some new) of_node
           (subst (λ (n : ℕ). mount_row (put mount_key new t.mounts) n new.node ≡ Some new) of_user (mount_found new t.mounts));
       others = λ owner other differs.
-          mount_other new t.mounts owner other (λ a b. differs (a ∙ of_user) (b ∙ of_node));
+          mount_left_so new t.mounts owner other (not_mount new owner other (λ a b. differs (sym a ∙ of_user) (sym b ∙ of_node)));
       rest = refl;
     })
   where

@@ -89,6 +89,9 @@ born_sound t row sound born =
           (new_sound t row sound born);
       names = all_pairs_push AreApart t.nodes row sound.names (new_apart t.nodes born.folder row born.place born.free);
       roots = All-weaker (HasRoot t) (HasRoot made) (root_kept t t.meta made.nodes kept) t.users sound.roots;
+      users_given = sound.users_given;
+      members_there = sound.members_there;
+      groups_given = sound.groups_given;
       few_nodes = omega (arith, born.few_nodes, length-append t.nodes (row ∷ []));
       few_pieces = omega (arith, born.few_pieces, sum_by_push (λ row. length row.content) t.nodes row);
       later = sound.later;

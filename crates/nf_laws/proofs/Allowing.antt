@@ -27,14 +27,15 @@ use Rattle.nf_defs.specs.declared.Found.TheVariants.{At, Free, Missing}
 use Rattle.nf_defs.specs.declared.Seeker.{Seeker}
 use Rattle.nf_laws.proofs.Acting.{added_rows, put_rows}
 use Rattle.nf_laws.proofs.Asking.{asks_share, OneShare}
-use Rattle.nf_laws.proofs.Entries.{entry_has, rest_kept}
+use Rattle.nf_laws.proofs.Entries.{entry_has}
 use Rattle.nf_laws.proofs.Following.{AllFollow, added_follow, copied_follow, copied_shares, crossed_follow, crossed_shares, deleted_follow, deleted_shares, kept_shares, moved_follow, moved_shares, refilled_follow}
+use Rattle.nf_laws.proofs.Providing.{people_provide}
 use Rattle.nf_laws.proofs.Reaching.{way_mount}
-use Rattle.nf_laws.proofs.Rows.{found_is, inside_folder, parent_there, stamp, stamped_has}
+use Rattle.nf_laws.proofs.Rows.{found_is, inside_folder, parent_there, stamped_has}
 use Rattle.nf_laws.proofs.Transferred.{moved_rows}
 use Rattle.nf_laws.proofs.Upwards.{climbs_is_under}
 use Rattle.nf_laws.specs.Acts.{IsAdded, IsPut, IsRefilled}
-use Rattle.nf_laws.specs.Access.{ChangesAllowed, ChangesWhatMayBeChanged, Follows, IsAllowed, IsNeeded, IsOwnPath, IsRemounted, IsSharing, KeepsShares, MayDo, Remounts, is_left, is_moved, is_renamed, is_updated, needs_of, needs_of_goal, seeker_at, seeker_of_goal}
+use Rattle.nf_laws.specs.Access.{ChangesAllowed, ChangesWhatMayBeChanged, Follows, IsAllowed, IsNeeded, IsOwnPath, IsProviding, IsRemounted, IsSharing, KeepsShares, NodesAllowed, MayDo, Remounts, is_left, is_moved, is_renamed, is_updated, needs_of, needs_of_goal, seeker_at, seeker_of_goal}
 use Rattle.nf_words.proofs.Begins.{only_at, places_at, wanted_passes, WantedPasses}
 use Rattle.nf_words.proofs.Ends.{known_change, goal_held}
 use Rattle.nf_words.proofs.Fits.{within}
@@ -45,7 +46,7 @@ use Rattle.nf_words.proofs.Starts.{has_row}
 use Rattle.nf_words.proofs.Transfers.{copies_known, no_mount, transfer_known, transfer_parts}
 use Rattle.nf_words.proofs.Ways.{slot_known, way_there}
 use Rattle.nf_words.specs.Needed.{source_act, target_needs}
-use Rattle.nf_words.specs.Prelude.{access_of, altered, AreSound, asked_of, asker_of, blob_for, by_of, Call, call_of, caller_row, carry_limit, changed, content_in, copied, copies_to, copy_limit, crosses, decision_of, deepest_in, deleted, end_refusal, ends_at, fault_of_ask, folder_at, found, given, goal_at, is_one, is_within, IsSound, IsStorable, joined, last_name, left_row, limited, listing_of, made_folder, MayAsk, MayEnd, mount_left, mount_of, mount_renamed, mounted, move_limit, moved, named_row, Need, needed, needed_by, needs, needs_at, needs_between, needs_in, node_at, node_found, own_mount, removed, root_of, seeker_of, served, shared, State, stored, stored_at, told, transfer_of, transferred, unfit_between, unreached, Way, way_by, way_of, with_mount_row}
+use Rattle.nf_words.specs.Prelude.{access_of, AreSound, asked_of, asker_of, blob_for, by_of, Call, call_of, call_decision, caller_row, carry_limit, changed, content_in, copied, copies_to, copy_limit, crosses, decision_of, deepest_in, deleted, end_refusal, ends_at, fault_of_ask, folder_at, found, given, goal_at, is_about_people, is_one, is_within, IsSound, IsStorable, joined, last_name, left_row, limited, listing_of, made_folder, MayAsk, MayEnd, MayWant, mount_left, mount_of, mount_renamed, mounted, move_limit, moved, named_row, Need, needed, needed_by, needs, needs_at, needs_between, needs_in, node_at, node_found, own_mount, removed, root_of, seeker_of, served, shared, State, stored, stored_at, told, transfer_of, transferred, unfit_between, unreached, Way, way_by, way_of, with_mount_row}
 use Rattle.nf_words.specs.declared.answer.Allowed.{Allowed}
 use Rattle.nf_words.specs.declared.answer.Allowed.TheVariants as allowed
 use Rattle.nf_words.specs.declared.answer.By.{By}
@@ -62,19 +63,30 @@ use Rattle.nf_words.specs.declared.history.Outcome.{Outcome}
 use Rattle.nf_words.specs.declared.history.Outcome.TheVariants.{Body}
 use Rattle.nf_words.specs.declared.request.Making.TheVariants as making
 use Rattle.nf_words.specs.declared.request.Places.{Places}
+use Rattle.nf_words.specs.declared.request.Request.{Request}
 use Rattle.nf_words.specs.declared.request.ShareAsk.{ShareAsk}
 use Rattle.nf_words.specs.declared.request.Spot.{Spot}
 use Rattle.nf_words.specs.declared.request.Transfer.{Transfer}
 use Rattle.nf_words.specs.declared.request.Wanted.{Wanted}
-use Rattle.nf_words.specs.declared.request.Wanted.TheVariants.{Get, Put, Mkcol, Delete, Move, Copy, Share}
+use Rattle.nf_words.specs.declared.request.Wanted.TheVariants.{Get, Put, Mkcol, Delete, Move, Copy, People, Share}
+use Rattle.nf_words.specs.declared.request.Words.{Words}
 
 -- ---- what fits
+
+-- but for the meta row, nodes, shares and mounts all is as it was
+abbrev KeepsRest : Tables → Tables → Type 0
+KeepsRest t made = made ≡ record t { meta = made.meta; nodes = made.nodes; shares = made.shares; mounts = made.mounts }
+
+-- so it is where the nodes alone are others
+rest_of : (t made : Tables) → made ≡ record t { meta = made.meta; nodes = made.nodes } → KeepsRest t made
+rest_of t made is = subst (KeepsRest t) (sym is) refl
 
 -- where a row is another what became of the node follows from what is needed. Shares end with their nodes and mounts are as they were,
 -- or both are as something else has it
 record Fits (t : Tables) (needs : List Need) (Other : Tables → Type 0) (made : Tables) : Type 0 where
   follow : AllFollow needs t.nodes made.nodes
   others : KeepsShares t made ⊎ Other made
+  rest : KeepsRest t made
 
 same_follow : (needs : List Need) (rows : List NodeRow) → AllFollow needs rows rows
 same_follow needs rows node differs = absurd (differs refl)
@@ -84,6 +96,7 @@ same_fits t needs Other sound =
     record {
       follow = same_follow needs t.nodes;
       others = inl (record { shares = kept_shares t t.nodes sound (λ node there. there); mounts = refl });
+      rest = refl;
     }
 
 -- where a node is added, or refilled
@@ -96,6 +109,7 @@ added_fits t made now folder name kind content needs Other sound is needed = rec
     shares = ap (λ (u : Tables). u.shares) is.rest ∙ kept_shares t made.nodes sound stay;
     mounts = ap (λ (u : Tables). u.mounts) is.rest;
   });
+  rest = subst (KeepsRest t) (sym is.rest) refl;
 }
   where
     stay : (node : ℕ) → is_some (node_row t.nodes node) ≡ true → is_some (node_row made.nodes node) ≡ true
@@ -113,6 +127,7 @@ refilled_fits t made now node content needs Other sound is needed = record {
     shares = ap (λ (u : Tables). u.shares) is.rest ∙ kept_shares t made.nodes sound stay;
     mounts = ap (λ (u : Tables). u.mounts) is.rest;
   });
+  rest = subst (KeepsRest t) (sym is.rest) refl;
 }
   where
     stay : (other : ℕ) → is_some (node_row t.nodes other) ≡ true → is_some (node_row made.nodes other) ≡ true
@@ -318,6 +333,7 @@ module _ (call : Call) (row : UserRow) (sound : AreSound call.state.tables) (is 
           nodes = refl;
           shares = refl;
         }));
+        rest = refl;
       })
 
   -- ---- MOVE and COPY
@@ -358,6 +374,7 @@ module _ (call : Call) (row : UserRow) (sound : AreSound call.state.tables) (is 
         (same_fits t needs (OneOther call) sound) (record {
           follow = moved_follow t transfer name needs sound known (moved_gone b) (moved_itself b within);
           others = inl (record { shares = moved_shares t transfer name sound known; mounts = refl });
+          rest = refl;
         })
 
   -- ---- what each may ask for
@@ -419,6 +436,7 @@ module _ (call : Call) (row : UserRow) (sound : AreSound call.state.tables) (is 
       (record {
         follow = deleted_follow t top (need ∷ []) (first_needed need []);
         others = inl (record { shares = deleted_shares t top sound (ap is_some there.1); mounts = refl });
+        rest = refl;
       }))
   deletes_fit spot nowhere reached leads = same_fits t (needs_at act.Delete (way_of call spot) ++ []) (OneOther call) sound
 
@@ -469,6 +487,7 @@ module _ (call : Call) (row : UserRow) (sound : AreSound call.state.tables) (is 
           follow = copied_follow t call.now (copies transfer) transfer.replaced sound known needs
               (replaced_needed (first ∷ second ∷ []) transfer.replaced to) (second_needed first second going);
           others = inl (record { shares = copied_shares t call.now (copies transfer) transfer.replaced sound known; mounts = refl });
+          rest = refl;
         })
 
     crossed_fits : (transfer : Transfer) → transfer_of t.nodes places ≡ Some transfer → copy_limit t transfer ≡ None
@@ -487,6 +506,7 @@ module _ (call : Call) (row : UserRow) (sound : AreSound call.state.tables) (is 
           follow = crossed_follow t call.now (copies transfer) transfer.replaced sound known needs
               (replaced_needed (first ∷ second ∷ []) transfer.replaced to) (first_needed first (second ∷ going)) (second_needed first second going);
           others = inl (record { shares = crossed_shares t call.now (copies transfer) transfer.replaced sound known; mounts = refl });
+          rest = refl;
         })
 
     -- a transfer stays with its owner, or goes to another
@@ -571,20 +591,23 @@ module _ (call : Call) (row : UserRow) (sound : AreSound call.state.tables) (is 
         | inr one ↦ record {
           follow = λ node differs. absurd (differs (ap (λ (rows : List NodeRow). node_row rows node) one.nodes));
           others = inr (inr one);
+          rest = one.rest;
         }
       ]
 
-  begin_fits : (wanted : Wanted) → call.request.wanted ≡ wanted → WantedPasses call wanted
+  -- what isn't asked about users and groups
+  begin_fits : (wanted : Wanted) → call.request.wanted ≡ wanted → is_about_people wanted ≡ false → WantedPasses call wanted
       → FitsCall (needed_for wanted) (changed t call.now (given (access_of call.state) call (places_at call wanted) wanted))
-  begin_fits (Get spot) asked p = served_fits (way_of call spot).mount (found call spot) (needed_for (Get spot))
-  begin_fits (Put spot size) asked p = stored_fits (by_of call spot) (last_name spot) size (found call spot) (needed_for (Put spot size))
-  begin_fits (Mkcol spot) asked p = made_fits spot (found call spot) p.place.target refl
-  begin_fits (Delete spot) asked p = delete_fits spot (way_of call spot).itself asked refl p.place.source
-  begin_fits (Move source target overwrite) asked p =
+  begin_fits (Get spot) asked other p = served_fits (way_of call spot).mount (found call spot) (needed_for (Get spot))
+  begin_fits (Put spot size) asked other p = stored_fits (by_of call spot) (last_name spot) size (found call spot) (needed_for (Put spot size))
+  begin_fits (Mkcol spot) asked other p = made_fits spot (found call spot) p.place.target refl
+  begin_fits (Delete spot) asked other p = delete_fits spot (way_of call spot).itself asked refl p.place.source
+  begin_fits (Move source target overwrite) asked other p =
       move_fits source target overwrite (way_of call source).itself asked refl p.place.source p.place.target p.fits p.few
-  begin_fits (Copy source target overwrite) asked p =
+  begin_fits (Copy source target overwrite) asked other p =
       copies_fit source target (p.place.source refl) p.place.target p.fits overwrite p.few
-  begin_fits (Share asks) asked p = asks_fit (places_at call (Share asks)) asks (needed_for (Share asks)) asked p.sharing
+  begin_fits (Share asks) asked other p = asks_fit (places_at call (Share asks)) asks (needed_for (Share asks)) asked p.sharing
+  begin_fits (People asks) asked other p = absurd (false≢true (sym other))
 
 -- ---- an End
 
@@ -604,6 +627,7 @@ record AreAllowed (s : State) (e : Entry) (event : Event) (made : Tables) : Type
   nodes : (node : ℕ) → node_row made.nodes node ≢ node_row s.tables.nodes node
       → IsAllowed s e.moment (seeker_at s e.seat e.moment event) (needs_of s e.seat e.moment event) made.nodes node
   others : KeepsShares s.tables made ⊎ (IsRemounted s e made ⊎ IsSharing s e made)
+  rest : KeepsRest s.tables made
 
 allowed_so : (s : State) (e : Entry) (event : Event) (seeker : Seeker) (Other : Tables → Type 0) (made : Tables)
     → seeker_at s e.seat e.moment event ≡ Some seeker → All (MayDo s e.moment seeker) (needs_of s e.seat e.moment event)
@@ -611,12 +635,13 @@ allowed_so : (s : State) (e : Entry) (event : Event) (seeker : Seeker) (Other : 
 allowed_so s e event seeker Other made is may fits other = record {
   nodes = λ node differs. record { seeker = seeker; acts = is; may = may; follows = fits.follow node differs };
   others = elim fits.others [ inl keeps ↦ inl keeps | inr one ↦ inr (other one) ];
+  rest = fits.rest;
 }
 
 same_allowed : (s : State) (e : Entry) (event : Event) → IsSound s → AreAllowed s e event s.tables
 same_allowed s e event sound =
     let fits = same_fits s.tables [] (λ made. ⊥) sound.rows in
-    record { nodes = λ node differs. absurd (differs refl); others = elim fits.others [ inl keeps ↦ inl keeps | inr none ↦ absurd none ] }
+    record { nodes = λ node differs. absurd (differs refl); others = elim fits.others [ inl keeps ↦ inl keeps | inr none ↦ absurd none ]; rest = refl }
 
 abbrev nothing : Tables → Type 0
 nothing made = ⊥
@@ -645,13 +670,15 @@ goal_allowed s e outcome goal act sound at held is known =
     let closes : allowed.Close ≡ act = cc in
     subst (λ (a : Allowed). AreAllowed s e (End outcome) (changed s.tables e.moment a)) closes (same_allowed s e (End outcome) sound)
 
-act_allowed : (s : State) (e : Entry) (event : Event) (act : Allowed) → e.event ≡ event → IsSound s → MayAsk s e.seat event
-    → decision_of s e.seat e.moment event ≡ Ok act → AreAllowed s e event (changed s.tables e.moment act)
-act_allowed s e (Begin words request) act begins sound may is =
+-- what isn't asked about users and groups
+begin_allowed : (s : State) (e : Entry) (words : Words) (request : Request) (act : Allowed) → e.event ≡ Begin words request → IsSound s
+    → MayWant request → call_decision (call_of s e.seat e.moment words request) ≡ Ok act → is_about_people request.wanted ≡ false
+    → AreAllowed s e (Begin words request) (changed s.tables e.moment act)
+begin_allowed s e words request act begins sound may is other =
     let call = call_of s e.seat e.moment words request in
     let passes = call_passes call act is in
     let row = has_row call passes.0.token in
-    let fits = begin_fits call row.0 sound.rows row.1 request.wanted refl (wanted_passes call may.1 passes.0) in
+    let fits = begin_fits call row.0 sound.rows row.1 request.wanted refl other (wanted_passes call may passes.0) in
     allowed_so s e (Begin words request) (seeker_of call) (OneOther call) (changed s.tables e.moment act) refl
     (acts_pass (access_of s) call passes.0.acts)
     (subst (λ (a : Allowed). Fits s.tables (needed call) (OneOther call) (changed s.tables e.moment a)) passes.1 fits)
@@ -676,10 +703,30 @@ act_allowed s e (Begin words request) act begins sound may is =
         one = one.one;
         shares = one.shares;
         mounts = one.mounts;
+        mounted = one.mounted;
         nodes = one.nodes;
       })
     ])
-act_allowed s e (End outcome) act ends sound may is = here (goal_at s e.seat) refl may is (goal_held s e.seat sound)
+
+-- and what is, which members of the group `admin` alone ask
+people_allowed : (s : State) (e : Entry) (words : Words) (request : Request) (act : Allowed) → e.event ≡ Begin words request → IsSound s
+    → MayWant request → call_decision (call_of s e.seat e.moment words request) ≡ Ok act → is_about_people request.wanted ≡ true
+    → AreAllowed s e (Begin words request) (changed s.tables e.moment act) ⊎ IsProviding s e (changed s.tables e.moment act)
+people_allowed s e words request act begins sound may is about =
+    elim (people_provide s e words request act begins sound may is about) [
+      | inl same ↦ inl (subst (AreAllowed s e (Begin words request)) (sym same) (same_allowed s e (Begin words request) sound))
+      | inr one ↦ inr one
+    ]
+
+act_allowed : (s : State) (e : Entry) (event : Event) (act : Allowed) → e.event ≡ event → IsSound s → MayAsk s e.seat event
+    → decision_of s e.seat e.moment event ≡ Ok act
+    → AreAllowed s e event (changed s.tables e.moment act) ⊎ IsProviding s e (changed s.tables e.moment act)
+act_allowed s e (Begin words request) act begins sound may is =
+    elim (cases_Bool (is_about_people request.wanted)) [
+      | inl about ↦ people_allowed s e words request act begins sound may.1 is about
+      | inr other ↦ inl (begin_allowed s e words request act begins sound may.1 is other)
+    ]
+act_allowed s e (End outcome) act ends sound may is = inl (here (goal_at s e.seat) refl may is (goal_held s e.seat sound))
   where
     here : (goal : Option Goal) → goal_at s e.seat ≡ goal → MayEnd goal outcome → ends_at (access_of s) s.tables e.moment outcome goal ≡ Ok act
         → IfSome goal (IsStorable s.tables) → AreAllowed s e (End outcome) (changed s.tables e.moment act)
@@ -687,23 +734,11 @@ act_allowed s e (End outcome) act ends sound may is = here (goal_at s e.seat) re
     here (Some goal) at brings goes held =
         goal_allowed s e outcome goal act sound at held goes (known_change s e.seat e.moment (End outcome) act sound may is)
 
--- no other rows are others
-act_rest : (t : Tables) (now : ℕ) (act : Allowed) → AreSound t → Known t now act
-    → changed t now act
-    ≡ record t { meta = (changed t now act).meta; nodes = (changed t now act).nodes; shares = (changed t now act).shares; mounts = (changed t now act).mounts }
-act_rest t now act sound known =
-    stamped_has (λ (made : Tables). made ≡ record t { meta = made.meta; nodes = made.nodes; shares = made.shares; mounts = made.mounts }) t
-    (altered t now act) now (told t act) refl (ap (λ (made : Tables). stamp made now) (rest_kept t now act sound known))
-
 pub changes_allowed : ChangesWhatMayBeChanged
 changes_allowed n s e sound may =
     entry_has (λ t tickets blob. ChangesAllowed s e t) s e e.mark
-    (let same = same_allowed s e e.event sound in
-    record { nodes = same.nodes; others = same.others; rest = refl })
-    (λ act is.
-    let all = act_allowed s e e.event act refl sound may.asked is in
-    record {
-      nodes = all.nodes;
-      others = all.others;
-      rest = act_rest s.tables e.moment act sound.rows (known_change s e.seat e.moment e.event act sound may.asked is);
-    })
+    (inl (all_so (same_allowed s e e.event sound)))
+    (λ act is. elim (act_allowed s e e.event act refl sound may.asked is) [ inl all ↦ inl (all_so all) | inr one ↦ inr one ])
+  where
+    all_so : {made : Tables} → AreAllowed s e e.event made → NodesAllowed s e made
+    all_so all = record { nodes = all.nodes; others = all.others; rest = all.rest }

@@ -7,18 +7,20 @@ use Rattle.std.proofs.lemmas.List.Elements.{All-append, All-cons, All-nil}
 use Rattle.std.proofs.lemmas.Option.{none-some, slice_get-get_or}
 use Rattle.std.proofs.lemmas.Bool.{cases_Bool, cond_both}
 use Rattle.sha2.specs.Sha256.{sha256}
-use Rattle.nf_access.specs.Mounts.{ensured}
 use Rattle.nf_base.specs.declared.changes.Change.{Change}
 use Rattle.nf_base.specs.declared.content.Piece.{Piece}
+use Rattle.nf_base.specs.declared.rows.MemberRow.{MemberRow}
 use Rattle.nf_base.specs.declared.rows.MetaRow.{MetaRow}
 use Rattle.nf_base.specs.declared.rows.MountRow.{MountRow}
 use Rattle.nf_base.specs.declared.rows.NodeRow.{NodeRow}
 use Rattle.nf_base.specs.declared.rows.Row.{Row}
 use Rattle.nf_base.specs.declared.rows.ShareRow.{ShareRow}
+use Rattle.nf_base.specs.declared.rows.UserRow.{UserRow}
 use Rattle.nf_base.specs.Content.{content_eq}
-use Rattle.nf_base.specs.declared.changes.Change.TheVariants.{Put}
+use Rattle.nf_base.specs.declared.changes.Change.TheVariants.{Drop, Put}
+use Rattle.nf_base.specs.declared.changes.RowKey.TheVariants as keys
 use Rattle.nf_base.specs.declared.rows.Row.TheVariants as rows
-use Rattle.nf_defs.specs.Prelude.{Access, blob_at, Blobs, content_of, filled, is_folder, mount_key, node_key, node_row, put, put_all, put_blob, relinked, Tables, with_blob, share_key}
+use Rattle.nf_defs.specs.Prelude.{Access, blob_at, Blobs, content_of, filled, is_folder, made, node_key, node_row, put_all, put_blob, relinked, Tables, user_named, with_blob}
 use Rattle.nf_defs.proofs.Blobs.{new_at, put_at, put_elsewhere, still_at}
 use Rattle.nf_defs.proofs.Puts.{all_put}
 use Rattle.nf_defs.specs.declared.Found.{Found}
@@ -26,12 +28,12 @@ use Rattle.nf_defs.specs.declared.Found.TheVariants.{At, Free}
 use Rattle.nf_laws.proofs.Contents.{contents_sound, by_kind, others_have}
 use Rattle.nf_laws.proofs.Entries.{entry_has, rest_kept, tickets_left, tickets_with}
 use Rattle.nf_laws.proofs.Gone.{all_cleared}
-use Rattle.nf_laws.proofs.Lists.{AreBuilt}
+use Rattle.nf_laws.proofs.Lists.{AreBuilt, IsBuilt}
 use Rattle.nf_laws.proofs.Mirrored.{mirrored}
 use Rattle.nf_laws.proofs.OneRow.{with_all}
 use Rattle.nf_laws.proofs.Rows.{content_has, found_is, stamped_has}
 use Rattle.nf_laws.specs.Wholes.{BlobsAreNew, Brings, IsGoalHeld, IsHeld, IsThere, StaysWhole, blob_in, blob_under}
-use Rattle.nf_words.specs.Prelude.{access_of, after_mark, allowed_of, altered, AreSound, blob_after, blob_for, blob_of, by_of, Call, call_of, carried, changed, cleared, content_in, contents_of, copies_to, crosses, decision_of, deleted, end_refusal, ends_at, ends_goal, given, goal_at, goal_of, hold_of, IsGoalSound, IsPieceSound, IsSound, IsTicketSound, joined, last_name, left_row, listing_of, made_folder, MayAsk, mount_left, mount_renamed, moved, named_row, node_at, own_mount, places_of, raised, refilled, refusal_of, served, stamped, State, stored, stored_at, told, transfer_of, unless_refused, way_of, with_goal, with_mount_row, without, nothing_done, share_told, shared, mounting, share_made, offered, new_share, share_shown, share_set, perms_after, share_steered, share_ended}
+use Rattle.nf_words.specs.Prelude.{access_of, after_mark, allowed_of, altered, AreSound, blob_after, blob_for, blob_of, by_of, Call, call_of, carried, changed, cleared, content_in, contents_of, copies_to, crosses, decision_of, deleted, end_refusal, ends_at, ends_goal, given, goal_at, goal_of, hold_of, IsGoalSound, IsPieceSound, IsSound, IsTicketSound, joined, last_name, left_row, listing_of, made_folder, MayAsk, mount_left, mount_renamed, moved, named_row, node_at, own_mount, places_of, raised, refilled, refusal_of, served, stamped, State, stored, stored_at, told, transfer_of, unless_refused, way_of, with_goal, with_mount_row, without, is_member, joined_by, left_by, membership, mounts_for, mounts_joined, nothing_done, share_told, shared, share_made, offered, share_shown, share_set, perms_after, people_changed, put_mounts, requoted, row_named, same_end, set_row, share_steered, share_ended, until_after}
 use Rattle.nf_words.specs.declared.answer.Allowed.{Allowed}
 use Rattle.nf_words.specs.declared.answer.Allowed.TheVariants as allowed
 use Rattle.nf_words.specs.declared.answer.Goal.{Goal}
@@ -41,7 +43,7 @@ use Rattle.nf_words.specs.declared.history.Mark.{Mark}
 use Rattle.nf_words.specs.declared.history.Ticket.{Ticket}
 use Rattle.nf_words.proofs.Bodies.{IsOfBody}
 use Rattle.nf_words.proofs.Ends.{known_change}
-use Rattle.nf_words.proofs.Fits.{KnownRows}
+use Rattle.nf_words.proofs.Fits.{KnownRow, KnownRows, no_more, one_more, user_more}
 use Rattle.nf_words.proofs.Known.{Known, KnownCopies}
 use Rattle.nf_words.specs.declared.answer.By.{By}
 use Rattle.nf_words.specs.declared.answer.Denial.{Denial}
@@ -53,6 +55,8 @@ use Rattle.nf_words.specs.declared.history.Event.{Event}
 use Rattle.nf_words.specs.declared.history.Event.TheVariants.{Begin, End}
 use Rattle.nf_words.specs.declared.history.Outcome.{Outcome}
 use Rattle.nf_words.specs.declared.history.Outcome.TheVariants.{Body}
+use Rattle.nf_words.specs.declared.request.PeopleAsk.{PeopleAsk}
+use Rattle.nf_words.specs.declared.request.PeopleAsk.TheVariants as people
 use Rattle.nf_words.specs.declared.request.Places.{Places}
 use Rattle.nf_words.specs.declared.request.ShareAsk.{ShareAsk}
 use Rattle.nf_words.specs.declared.request.ShareAsk.TheVariants as ask
@@ -70,22 +74,27 @@ body_next : (meta : MetaRow) (blob : Option ℕ) (content : List Piece) → IsOf
 body_next meta None content of_body = tt
 body_next meta (Some id) content of_body = of_body.0
 
--- where changes are of bodies, the blob is that of one of them
-changes_next : (t u : Tables) (changes : List Change) (blob : Option ℕ) → KnownRows t blob u changes
-    → (changes ≡ [] → blob ≡ None) → IsNext t.meta.next_blob blob
-changes_next t u [] blob known stored = subst (IsNext t.meta.next_blob) (sym (stored refl)) tt
-changes_next t u (Put (rows.Node row) ∷ changes) blob known stored =
-    elim known.0 [
+none_next : (next : ℕ) (blob : Option ℕ) → blob ≡ None → IsNext next blob
+none_next next blob none = subst (IsNext next) (sym none) tt
+
+row_next : (t u : Tables) (change : Change) (blob : Option ℕ) → KnownRow t blob u change → IsNext t.meta.next_blob blob
+row_next t u (Put (rows.Node row)) blob known =
+    elim known [
       | inl it ↦ body_next t.meta blob row.content it.body
       | inr it ↦
           elim it.body [
             | inl of ↦ body_next t.meta blob row.content of
-            | inr kept ↦ subst (IsNext t.meta.next_blob) (sym kept.0) tt
+            | inr kept ↦ none_next t.meta.next_blob blob kept.0
           ]
     ]
-changes_next t u (Put (rows.Mount row) ∷ changes) blob known stored = subst (IsNext t.meta.next_blob) (sym known.0.0) tt
-changes_next t u (Put (rows.Share row) ∷ changes) blob known stored = subst (IsNext t.meta.next_blob) (sym known.0.0) tt
-changes_next t u (change ∷ changes) blob known stored = absurd known.0
+row_next t u change blob known = none_next t.meta.next_blob blob known.0
+
+-- where changes are of bodies, the blob is that of one of them
+changes_next : (t u : Tables) (changes : List Change) (blob : Option ℕ) → KnownRows t blob u changes
+    → (changes ≡ [] → blob ≡ None) → IsNext t.meta.next_blob blob
+changes_next t _ _ blob (no_more u) stored = none_next t.meta.next_blob blob (stored refl)
+changes_next t _ _ blob (one_more u change changes known rest) stored = row_next t u change blob known
+changes_next t _ _ blob (user_more u row root changes known rest) stored = none_next t.meta.next_blob blob known.0
 
 pub act_next : (t : Tables) (now : ℕ) (act : Allowed) → Known t now act → IsNext t.meta.next_blob (blob_of act)
 act_next t now (allowed.Change changes blob report) known = changes_next t (raised t now changes blob) changes blob known.rows known.stored
@@ -102,13 +111,14 @@ told_blob t now act known none = refl
 
 -- ---- what an event stores
 
--- each change is of a mount's or a share's row, or of a node's with that content
+-- a change that may be in a list is of a row without content, or of a node's with that content
+abbrev pub IsOf : List Piece → Change → Type 0
+IsOf content (Put (rows.Node row)) = row.content ≡ content
+IsOf content change = IsBuilt change
+
 abbrev pub AreOf : List Piece → List Change → Type 0
 AreOf content [] = Unit {0}
-AreOf content (Put (rows.Node row) ∷ changes) = (row.content ≡ content) × AreOf content changes
-AreOf content (Put (rows.Mount row) ∷ changes) = AreOf content changes
-AreOf content (Put (rows.Share row) ∷ changes) = AreOf content changes
-AreOf content (change ∷ changes) = ⊥
+AreOf content (change ∷ changes) = IsOf content change × AreOf content changes
 
 pub refilled_of : (o : Option NodeRow) (now : ℕ) (content : List Piece) → AreOf content (refilled o now content)
 refilled_of None now content = tt
@@ -116,12 +126,13 @@ refilled_of (Some row) now content =
     cond_both (content_eq row.content content && row.changed == now) [] (Put (rows.Node (filled content now row)) ∷ []) (AreOf content)
     (λ same. tt) (λ other. (refl, tt))
 
+of_one : (content : List Piece) (change : Change) → IsOf content change → IsBuilt change
+of_one content (Put (rows.Node row)) of = tt
+of_one content change of = of
+
 pub of_nodes : (content : List Piece) (changes : List Change) → AreOf content changes → AreBuilt changes
 of_nodes content [] of = tt
-of_nodes content (Put (rows.Node row) ∷ changes) of = of_nodes content changes of.1
-of_nodes content (Put (rows.Mount row) ∷ changes) of = of_nodes content changes of
-of_nodes content (Put (rows.Share row) ∷ changes) of = of_nodes content changes of
-of_nodes content (change ∷ changes) of = absurd of
+of_nodes content (change ∷ changes) of = (of_one content change of.0, of_nodes content changes of.1)
 
 -- each is of a row without content, or with that of a node that is there
 abbrev pub AreOld : Tables → List Change → Type 0
@@ -167,35 +178,64 @@ if_alters t false act other one another = another
 
 mount_alters : (t : Tables) (row : Option MountRow) (told : Report) → Alters t (with_mount_row row told)
 mount_alters t None told = (refl, inl tt)
-mount_alters t (Some row) told = (refl, inl tt)
+mount_alters t (Some row) told = (refl, inl (tt, tt))
 
 -- what is asked about shares puts rows of shares and mounts alone
 found_alters : {X : Type 0} (t : Tables) (act : X → Allowed) (o : Option X) → ((x : X) → Alters t (act x)) → Alters t (option_map_or act o nothing_done)
 found_alters t act None all = (refl, inl tt)
 found_alters t act (Some x) all = all x
 
-made_alters : (t : Tables) (share row : ShareRow) (mount : Option MountRow) → Alters t (share_told t (Put (rows.Share share) ∷ mounting mount) row)
-made_alters t share row None = (refl, inl tt)
-made_alters t share row (Some mount) = (refl, inl tt)
+mounts_of : (content : List Piece) (mounts : List MountRow) → AreOf content (put_mounts mounts)
+mounts_of content [] = tt
+mounts_of content (mount ∷ mounts) = (tt, mounts_of content mounts)
 
 set_alters : (t : Tables) (share row : ShareRow) (same : Bool) → Alters t (share_told t (if same then [] else Put (rows.Share share) ∷ []) row)
 set_alters t share row true = (refl, inl tt)
-set_alters t share row false = (refl, inl tt)
+set_alters t share row false = (refl, inl (tt, tt))
 
 shared_alters : (call : Call) (places : Places) (asked : ShareAsk) → Alters call.state.tables (shared (access_of call.state) call places asked)
-shared_alters call places (ask.New spot to perms) =
+shared_alters call places (ask.New spot to perms until) =
     let t = call.state.tables in
-    found_alters t (share_made (access_of call.state) call) (offered call spot to perms) (λ offer.
-    let row = new_share (access_of call.state) call offer in made_alters t row row (ensured t.users t.nodes t.mounts offer.to offer.node))
+    found_alters t (share_made (access_of call.state) call) (offered call spot to perms until) (λ offer.
+    (refl, inl (tt, mounts_of [] (mounts_for t offer))))
 shared_alters call places (ask.List spot with_me) = (refl, inl tt)
 shared_alters call places (ask.Show share) =
     found_alters call.state.tables (share_told call.state.tables []) (share_shown call share) (λ row. (refl, inl tt))
-shared_alters call places (ask.Set share perms) =
+shared_alters call places (ask.Set share perms until) =
     let t = call.state.tables in
-    found_alters t (λ row. share_set t (perms_after t perms row) row) (share_steered call share) (λ row.
+    found_alters t (λ row. share_set t (perms_after t perms row) (until_after until row.until) row) (share_steered call share) (λ row.
     let wanted = perms_after t perms row in
-    let other = record row { perms = wanted } in set_alters t other other (wanted == row.perms))
-shared_alters call places (ask.End share) = found_alters call.state.tables share_ended (share_steered call share) (λ row. (refl, inl tt))
+    let end = until_after until row.until in
+    let other = set_row wanted end row in set_alters t other other (wanted == row.perms && same_end end row.until))
+shared_alters call places (ask.End share) = found_alters call.state.tables share_ended (share_steered call share) (λ row. (refl, inl (tt, tt)))
+
+-- and what is asked about users and groups puts rows without content
+joined_of : (t : Tables) (row : MemberRow) (b : Bool) → AreOf [] (if b then [] else Put (rows.Member row) ∷ put_mounts (mounts_joined t row))
+joined_of t row true = tt
+joined_of t row false = (tt, mounts_of [] (mounts_joined t row))
+
+left_of : (group user : ℕ) (b : Bool) → AreOf [] (if b then Drop (keys.Member group user) ∷ [] else [])
+left_of group user true = (tt, tt)
+left_of group user false = tt
+
+requoted_of : (row : UserRow) (b : Bool) → AreOf [] (if b then [] else Put (rows.User row) ∷ [])
+requoted_of row true = tt
+requoted_of row false = (tt, tt)
+
+where_found : {X : Type 0} (changes : X → List Change) (o : Option X) → ((x : X) → AreOf [] (changes x)) → AreOf [] (option_map_or changes o [])
+where_found changes None of = tt
+where_found changes (Some x) of = of x
+
+pub people_of : (t : Tables) (now : ℕ) (asked : PeopleAsk) → AreOf [] (people_changed t now asked)
+people_of t now (people.NewUser name token quota) = (tt, (refl, (tt, tt)))
+people_of t now (people.NewGroup name) = (tt, tt)
+people_of t now (people.AddMember user group) = where_found (joined_by t) (membership t user group) (λ row. joined_of t row (is_member t row))
+people_of t now (people.DropMember user group) =
+    where_found (left_by t) (membership t user group) (λ row. left_of row.group row.user (is_member t row))
+people_of t now (people.SetQuota user quota) =
+    where_found (requoted quota) (row_named t user) (λ row. requoted_of (record row { quota = quota }) (row.quota == quota))
+people_of t now (people.AddToken user token) =
+    where_found (λ user. Put (rows.Token (record { digest = token; user = user })) ∷ []) (user_named t.users user) (λ id. (tt, tt))
 
 pub given_alters : (call : Call) (places : Places) (asked : Wanted)
     → ((spot : Spot) × (asked ≡ wanted.Get spot)) ⊎ Alters call.state.tables (given (access_of call.state) call places asked)
@@ -221,6 +261,7 @@ given_alters call places (wanted.Copy source target overwrite) =
     inr (either_alters t (λ transfer. allowed.Copy (copies_to t call.now transfer (last_name target)) transfer.replaced)
     (transfer_of t.nodes places) (λ transfer. tt))
 given_alters call places (wanted.Share asked) = inr (shared_alters call places asked)
+given_alters call places (wanted.People asked) = inr (refl, inl (people_of call.state.tables call.now asked))
 
 -- so a Begin stores nothing
 alters_stores : (t : Tables) (body : List ℕ) (act : Allowed) → Alters t act → StoresBody t body act
@@ -346,14 +387,17 @@ stored_held next opening start blobs body blob content in_blob in_content =
     rw (in_blob, in_content) (brought next opening start blobs body)
 
 -- what the nodes have, and all of that content, the nodes have after changes to it
+one_has : (P : NodeRow → Type 0) (t : Tables) (content : List Piece) (change : Change) → IsOf content change
+    → ((row : NodeRow) → row.content ≡ content → P row) → All P t.nodes → All P (made t change).nodes
+one_has P t content (Put (rows.Node row)) of has all = all_put node_key P row t.nodes (has row of) all
+one_has P t content (Drop (keys.Node node)) of has all = absurd of
+one_has P t content change of has all = all
+
 of_have : (P : NodeRow → Type 0) (t : Tables) (content : List Piece) (changes : List Change) → AreOf content changes
     → ((row : NodeRow) → row.content ≡ content → P row) → All P t.nodes → All P (put_all t changes).nodes
 of_have P t content [] of has all = all
-of_have P t content (Put (rows.Node row) ∷ changes) of has all =
-    of_have P (record t { nodes = put node_key row t.nodes }) content changes of.1 has (all_put node_key P row t.nodes (has row of.0) all)
-of_have P t content (Put (rows.Mount row) ∷ changes) of has all = of_have P (record t { mounts = put mount_key row t.mounts }) content changes of has all
-of_have P t content (Put (rows.Share row) ∷ changes) of has all = of_have P (record t { shares = put share_key row t.shares }) content changes of has all
-of_have P t content (change ∷ changes) of has all = absurd of
+of_have P t content (change ∷ changes) of has all =
+    of_have P (made t change) content changes of.1 has (one_has P t content change of.0 has all)
 
 -- a copy has the content of a node that is there
 copies_held : (t : Tables) (now : ℕ) (copies : List NodeRow) (replaced : Option ℕ) (opening : List Row)
@@ -418,8 +462,9 @@ changed_held t now act opening start blobs body sound known kept stores =
     let more = with_blob blobs (blob_of act) body in
     let Held : List Piece → Type 0 = All (IsHeld opening start more) in
     let each = by_kind Held t kept in
+    let rest = rest_kept t now act sound known in
     stamped_has (AreHeld opening start more) t (altered t now act) now (told t act) kept
-    (others_have Held t (altered t now act) (rest_kept t now act sound known) each
+    (others_have Held t (altered t now act) (ap (λ (u : Tables). u.versions) rest) (ap (λ (u : Tables). u.chunks) rest) each
     (altered_held t now act opening start blobs body sound known each.nodes stores))
 
 -- ---- the tickets

@@ -81,15 +81,15 @@ module _ (P : List Piece → Type 0) where
         chunks = All-nil (λ (row : ChunkRow). P row.content);
       }))
 
-  -- ---- tables whose nodes, shares and mounts alone are others
+  -- ---- tables whose versions and chunks aren't others
 
-  pub others_have : (t made : Tables) → made ≡ record t { meta = made.meta; nodes = made.nodes; shares = made.shares; mounts = made.mounts } → EachHas t
+  pub others_have : (t made : Tables) → made.versions ≡ t.versions → made.chunks ≡ t.chunks → EachHas t
       → All (λ (row : NodeRow). P row.content) made.nodes → All P (contents_of made)
-  others_have t made rest each nodes =
+  others_have t made versions chunks each nodes =
       all_have made (record {
         nodes = nodes;
-        versions = subst (λ (u : Tables). All (λ (row : VersionRow). P row.content) u.versions) (sym rest) each.versions;
-        chunks = subst (λ (u : Tables). All (λ (row : ChunkRow). P row.content) u.chunks) (sym rest) each.chunks;
+        versions = subst (All (λ (row : VersionRow). P row.content)) (sym versions) each.versions;
+        chunks = subst (All (λ (row : ChunkRow). P row.content)) (sym chunks) each.chunks;
       })
 
 -- ---- sound tables

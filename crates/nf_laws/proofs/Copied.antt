@@ -349,6 +349,9 @@ module _ (t : Tables) (now : ℕ) (transfer : Transfer) (name : List ℕ) (rows 
             copies_sound;
         names = AllPairs-append AreApart left.nodes rows left_fine.names (copies_apart once) old_apart;
         roots = All-weaker (HasRoot left) (HasRoot made) (root_kept left made.meta made.nodes kept) t.users left_fine.roots;
+        users_given = sound.users_given;
+        members_there = sound.members_there;
+        groups_given = sound.groups_given;
         few_nodes = omega (arith, few_nodes, counts.0, mirrors.all, length-append left.nodes rows);
         few_pieces = omega (
           arith,

@@ -1,10 +1,11 @@
 -- What a state is after an entry: as before it but for what an event takes, or as an act made it of which its Known is known.
-use Rattle.std.proofs.Common.{ℕ, ◌==◌, ◌≡◌, not, List, Option, None, Some, Result, Ok, Err, refl, ap, subst}
+use Rattle.std.proofs.Common.{ℕ, ◌==◌, ◌≡◌, not, List, Option, None, Some, Result, Ok, Err, refl, sym, ap, subst}
 use Rattle.std.specs.List.{All}
 use Rattle.std.specs.Option.{IfSome}
 use Rattle.std.proofs.lemmas.List.Elements.{All-filter, All-push}
-use Rattle.nf_defs.specs.Tables.{Tables}
+use Rattle.nf_defs.specs.Prelude.{made, Tables}
 use Rattle.nf_laws.proofs.Lists.{changes_have, with_born, with_filled, with_remounted, with_share}
+use Rattle.nf_laws.proofs.Peopled.{people_alone, with_rooted}
 use Rattle.nf_laws.proofs.Rows.{stamp, stamped_has}
 use Rattle.nf_laws.specs.Wholes.{blob_under}
 use Rattle.nf_words.proofs.Ends.{known_change}
@@ -87,13 +88,31 @@ after_has P n s e sound may same acts =
     stamped_has P s.tables (altered s.tables e.moment act) e.moment (told s.tables act) same
     (acts act (known_change s e.seat e.moment e.event act sound may.asked is)))
 
--- no act makes other rows than nodes, shares, mounts and the meta row
+-- the tables are others in none but the kinds that are built
+abbrev pub RestKept : Tables → Tables → Type 0
+RestKept t u =
+    u ≡ record t {
+      meta = u.meta;
+      users = u.users;
+      tokens = u.tokens;
+      groups = u.groups;
+      members = u.members;
+      nodes = u.nodes;
+      shares = u.shares;
+      mounts = u.mounts;
+    }
+
+-- no act makes other rows of other kinds
 pub rest_kept : (t : Tables) (now : ℕ) (act : Allowed) → AreSound t → Known t now act
-    → altered t now act
-    ≡ record t { meta = (altered t now act).meta; nodes = (altered t now act).nodes; shares = (altered t now act).shares; mounts = (altered t now act).mounts }
+    → RestKept t (altered t now act)
 rest_kept t now (allowed.Change changes blob report) sound known =
-    changes_have (λ (u : Tables). u ≡ record t { meta = u.meta; nodes = u.nodes; shares = u.shares; mounts = u.mounts }) t now changes blob report sound.rising known
+    changes_have (RestKept t) t now changes blob report sound.rising known
     (λ u row same it. ap (λ (v : Tables). with_born v row) same) (λ u row same it. ap (λ (v : Tables). with_filled v row) same)
-    (λ u row same it. ap (λ (v : Tables). with_remounted v row) same) (λ u row same it. ap (λ (v : Tables). with_share v row) same) refl
+    (λ u row same it. ap (λ (v : Tables). with_remounted v row) same) (λ u row same it. ap (λ (v : Tables). with_share v row) same)
+    (λ u change same it.
+    let by = made u change in
+    subst (RestKept t) (sym (people_alone u change it))
+    (ap (λ (v : Tables). record v { users = by.users; tokens = by.tokens; groups = by.groups; members = by.members }) same))
+    (λ u row root same it. ap (λ (v : Tables). with_rooted v row root) same) refl
 rest_kept t now allowed.Close sound known = refl
 rest_kept t now act sound known = refl

@@ -85,6 +85,9 @@ those_sound t gone sound closed roots =
           (All-filter passes (IsNodeSound t) t.nodes sound.nodes k d within);
       names = AllPairs-filter AreApart passes t.nodes sound.names;
       roots = All-weaker (HasRoot t) (HasRoot (without t gone)) (λ user root. root_stays t gone user (roots user root) root) t.users sound.roots;
+      users_given = sound.users_given;
+      members_there = sound.members_there;
+      groups_given = sound.groups_given;
       few_nodes = omega (arith, sound.few_nodes, length-filter_both passes (λ row. not (passes row)) (λ row. refl) t.nodes);
       few_pieces = omega (
         arith,

@@ -1,5 +1,5 @@
 -- What is held stays as it is by each step that leaves it alone.
-use Rattle.std.proofs.Common.{◌≡◌, ◌≢◌, ℕ, zero, ◌<◌, ◌&&◌, bytes_eq, get_or, not, suc, ◌+◌, true, false, List, [], ◌∷◌, Option, None, Some, refl, sym, ap, subst, ◌∙◌, arith}
+use Rattle.std.proofs.Common.{◌≡◌, ◌≢◌, ℕ, zero, ◌<◌, ◌≤◌, ◌++◌, ◌&&◌, bytes_eq, get_or, not, suc, ◌+◌, true, false, List, [], ◌∷◌, Option, None, Some, refl, sym, ap, subst, ◌∙◌, arith}
 use Rattle.std.specs.Prelude.{find, option_map}
 use Rattle.std.specs.List.{All}
 use Rattle.std.specs.Option.{IfSome, option_map_or}
@@ -7,20 +7,20 @@ use Rattle.std.proofs.lemmas.Bool.{and_parts, both_ways, false_from_ne_true, ne_
 use Rattle.std.proofs.lemmas.List.Elements.{All-append, All-cons, All-nil}
 use Rattle.std.proofs.lemmas.Slice.Eq.{bytes_eq-Decides}
 use Rattle.nf_base.specs.declared.rows.NodeRow.{NodeRow}
-use Rattle.nf_base.specs.declared.rows.Place.TheVariants.{Inside}
+use Rattle.nf_base.specs.declared.rows.Place.TheVariants.{Inside, Root}
 use Rattle.nf_defs.proofs.Walks.{inside_of}
 use Rattle.nf_defs.specs.Prelude.{child_of, filled, is_folder_kind, is_in, is_under, node_row, relinked, Tables}
 use Rattle.nf_laws.proofs.Climbs.{climb_under}
 use Rattle.nf_laws.proofs.Crossed.{crossed_under}
 use Rattle.nf_laws.proofs.Copied.{copy_at}
 use Rattle.nf_laws.proofs.Gone.{all_cleared, row_cleared}
-use Rattle.nf_laws.proofs.Lists.{changes_all, with_born, with_filled}
+use Rattle.nf_laws.proofs.Lists.{nodes_have, with_filled}
 use Rattle.nf_laws.proofs.Mirrored.{mirrored}
 use Rattle.nf_laws.proofs.OneRow.{row_other, with_all}
 use Rattle.nf_laws.proofs.Rows.{each_fails, finds_none, folder_there, no_value, row_is, row_joined, stamped_has}
 use Rattle.nf_laws.specs.Locks.{IsFree, KeyStays}
 use Rattle.nf_laws.specs.Transfers.{is_replaced, IsPlacedCopy, Mirrors}
-use Rattle.nf_words.proofs.Fits.{KnownBorn, KnownFilled}
+use Rattle.nf_words.proofs.Fits.{KnownFilled}
 use Rattle.nf_words.proofs.Known.{Known, KnownCopies, KnownCross}
 use Rattle.nf_words.proofs.Spared.{Spares, SparesChange, SparesRow, SparesTarget, SparesUnder}
 use Rattle.nf_words.specs.Prelude.{altered, AreSound, changed, cleared, IsHeld, joined, node_of_key, removed, told, transferred}
@@ -123,16 +123,16 @@ module _ (t : Tables) (hold : Hold) (sound : AreSound t) (held : IsHeld t hold.k
   given : node < t.meta.next_node
   given = held_given t key sound held
 
-  -- with a new node
-  born_stays : (u : Tables) (blob : Option ℕ) (row : NodeRow) → Stays u.nodes → KnownBorn t blob u row → SparesRow t key row
-      → Stays (with_born u row).nodes
-  born_stays u blob row stays it spares = (
-    row_joined u.nodes (row ∷ []) node
-        (All-cons (λ (row : NodeRow). row.id ≢ node) row [] (λ same. absurd (omega (arith, it.fresh, given, same)))
+  -- with a new node, which isn't put under a name that is held
+  new_stays : (rows : List NodeRow) (row : NodeRow) → Stays rows → t.meta.next_node ≤ row.id
+      → ((folder : ℕ) → row.place ≡ Inside folder → key ≢ Slot folder row.name) → Stays (rows ++ row ∷ [])
+  new_stays rows row stays fresh slot = (
+    row_joined rows (row ∷ []) node
+        (All-cons (λ (row : NodeRow). row.id ≢ node) row [] (λ same. absurd (omega (arith, fresh, given, same)))
         (All-nil (λ (row : NodeRow). row.id ≢ node)))
         ∙ stays.0,
-    All-append (Spared key) u.nodes (row ∷ []) stays.1
-        (All-cons (Spared key) row [] (spared_row key row (spares.slot it.fresh)) (All-nil (Spared key))),
+    All-append (Spared key) rows (row ∷ []) stays.1
+        (All-cons (Spared key) row [] (spared_row key row slot) (All-nil (Spared key))),
   )
 
   -- a file that gets another content isn't what is held
@@ -227,9 +227,12 @@ module _ (t : Tables) (hold : Hold) (sound : AreSound t) (held : IsHeld t hold.k
 
   altered_stays : (now : ℕ) (act : Allowed) → Known t now act → Spares t now hold act → Stays (altered t now act).nodes
   altered_stays now (allowed.Change changes blob report) known spares =
-      changes_all (λ (u : Tables). Stays u.nodes) (SparesChange t key) t now changes blob report sound.rising known spares
-      (λ u row stays it is. born_stays u blob row stays it is) (λ u row stays it is. filled_stays u blob row stays it is) (λ u row stays it is. stays)
-      (λ u row stays it is. stays) first
+      nodes_have Stays (SparesChange t key) t now changes blob report sound.rising known spares
+      (λ u row stays it is. new_stays u.nodes row stays it.fresh (is.slot it.fresh)) (λ u row stays it is. filled_stays u blob row stays it is)
+      (λ u row root stays it. new_stays u.nodes root stays it.2 (λ folder inside. absurd (no_folder folder (sym it.1.place ∙ inside)))) first
+    where
+      no_folder : (folder : ℕ) → Root ≢ Inside folder
+      no_folder folder = λ same. cc
   altered_stays now (allowed.Delete top) known spares = cleared_stays (Some top) spares
   altered_stays now (allowed.Move transfer name) known spares = moved_stays transfer name spares.0 spares.1
   altered_stays now (allowed.Copy rows replaced) known spares = copied_stays now rows replaced spares.0 spares.1

@@ -15,9 +15,11 @@ pub mod Ended
 pub mod Entries
 pub mod Following
 pub mod Free
+pub mod Given
 pub mod Gone
 pub mod Held
 pub mod Lines
+pub mod Leaning
 pub mod Lists
 pub mod Locking
 pub mod May
@@ -28,9 +30,11 @@ pub mod Numbers
 pub mod OneRow
 pub mod Opening
 pub mod Others
+pub mod Peopled
 pub mod Owned
 pub mod Paths
 pub mod Presence
+pub mod Providing
 pub mod Puts
 pub mod Reached
 pub mod Reaching

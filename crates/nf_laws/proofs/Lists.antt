@@ -1,38 +1,32 @@
 -- Lists of changed rows: what each known change keeps, all of them keep. By the kind of the row, whatever the act.
-use Rattle.std.proofs.Common.{◌≡◌, ◌≢◌, ◌⊎◌, ℕ, suc, ◌==◌, ◌<◌, ◌≤◌, inl, inr, List, [], ◌∷◌, ◌++◌, Option, Some, refl, sym, ap, subst, ◌∙◌, arith, le_refl}
+use Rattle.std.proofs.Common.{◌≡◌, ◌⊎◌, ℕ, ◌<◌, ◌≤◌, inl, inr, List, [], ◌∷◌, ◌++◌, Option, refl, sym, ap, subst, ◌∙◌, arith, le_refl}
 use Rattle.std.specs.List.{All, AllPairs}
-use Rattle.std.proofs.lemmas.Bool.{cond_both}
 use Rattle.std.proofs.lemmas.List.Elements.{All-cons, All-head, All-nil, All-tail}
 use Rattle.std.proofs.lemmas.List.Quantifiers.{all_pairs_push}
-use Rattle.std.proofs.lemmas.Option.{same_Some, none-some}
-use Rattle.nf_access.specs.Mounts.{is_mount_of, mount_row}
 use Rattle.nf_base.specs.declared.changes.Change.{Change}
-use Rattle.nf_base.specs.declared.changes.Change.TheVariants.{Put}
+use Rattle.nf_base.specs.declared.changes.Change.TheVariants.{Drop, Put}
 use Rattle.nf_base.specs.declared.changes.RowKey.TheVariants as keys
 use Rattle.nf_base.specs.declared.rows.MetaRow.{MetaRow}
 use Rattle.nf_base.specs.declared.rows.MountRow.{MountRow}
 use Rattle.nf_base.specs.declared.rows.NodeRow.{NodeRow}
-use Rattle.nf_base.specs.declared.rows.Row.TheVariants.{Group, Mount, Node, Share, User}
-use Rattle.nf_defs.specs.Prelude.{filled, IsDroppable, made, mount_key, node_key, node_row, put, put_all, Tables, with_node, share_key}
+use Rattle.nf_base.specs.declared.rows.Row.TheVariants.{Group, Member, Mount, Node, Share, Token, User}
+use Rattle.nf_defs.specs.Prelude.{filled, IsDroppable, made, mount_key, node_key, put, put_all, Tables, with_node, share_key}
 use Rattle.nf_laws.proofs.Added.{born_sound}
-use Rattle.nf_laws.proofs.Mounted.{mounted_sound, not_it}
+use Rattle.nf_laws.proofs.Mounted.{mounted_sound}
 use Rattle.nf_laws.proofs.Sharing.{new_share_sound, other_share_sound}
-use Rattle.nf_laws.proofs.Puts.{other_number, put_changed, put_new}
+use Rattle.nf_laws.proofs.Puts.{put_changed, put_new}
 use Rattle.nf_laws.proofs.Replaced.{filled_sound}
 use Rattle.nf_laws.proofs.Others.{meta_sound}
-use Rattle.nf_laws.proofs.Rows.{blob_up, found_is}
+use Rattle.nf_laws.proofs.Rows.{blob_up}
 use Rattle.nf_laws.specs.Numbers.{AreHigher}
 use Rattle.nf_laws.proofs.OneRow.{rising_with}
-use Rattle.nf_words.proofs.Found.{put_leaves}
-use Rattle.nf_words.proofs.Mounting.{mount_found}
-use Rattle.nf_words.proofs.Fits.{KnownBorn, KnownChange, KnownFilled, KnownRow, KnownRows, put_found}
-use Rattle.nf_words.specs.Prelude.{above, altered, AreSound, changed_key, counted, IsBorn, IsFilled, IsLean, IsNewMount, IsNewShare, IsOtherShare, IsRemounted, raised}
+use Rattle.nf_laws.proofs.Peopled.{new_user_sound, people_nodes, people_sound, rooted_made, with_rooted}
+use Rattle.nf_words.proofs.Fits.{KnownBorn, KnownChange, KnownFilled, KnownRow, KnownRows, KnownUser, no_more, one_more, user_more, with_user}
+use Rattle.nf_words.specs.Prelude.{above, altered, AreSound, counted, IsBorn, IsFilled, IsNewMount, IsNewShare, IsOfPeople, IsOtherShare, IsRemounted, raised}
 use Rattle.nf_words.specs.declared.answer.Allowed.TheVariants as allowed
 use Rattle.nf_words.specs.declared.answer.Report.{Report}
 use Rattle.nf_base.specs.declared.rows.ShareRow.{ShareRow}
-use Rattle.nf_base.specs.declared.changes.RowKey.{RowKey}
-use Rattle.nf_access.specs.Shares.{share_row}
-use Rattle.nf_words.proofs.Asks.{share_found}
+use Rattle.nf_base.specs.declared.rows.UserRow.{UserRow}
 
 -- ---- the counters, which are raised first
 
@@ -108,187 +102,121 @@ filled_made t row rising is =
     (ap (λ (r : NodeRow). put node_key r t.nodes) is.same
     ∙ put_changed t.nodes row.id (filled row.content row.changed) is.old refl rising is.there)
 
--- ---- lists of rows of nodes, of mounts and of shares
+-- ---- lists of changed rows
+
+-- what may be in a list: all but the meta row and kinds that aren't built yet, and no drop but that of a member
+abbrev pub IsBuilt : Change → Type 0
+IsBuilt (Put (Node row)) = Unit {0}
+IsBuilt (Put (Mount row)) = Unit {0}
+IsBuilt (Put (Share row)) = Unit {0}
+IsBuilt (Put (User row)) = Unit {0}
+IsBuilt (Put (Token row)) = Unit {0}
+IsBuilt (Put (Group row)) = Unit {0}
+IsBuilt (Put (Member row)) = Unit {0}
+IsBuilt (Drop (keys.Member group user)) = Unit {0}
+IsBuilt change = ⊥
 
 abbrev pub AreBuilt : List Change → Type 0
 AreBuilt [] = Unit {0}
-AreBuilt (Put (Node row) ∷ changes) = AreBuilt changes
-AreBuilt (Put (Mount row) ∷ changes) = AreBuilt changes
-AreBuilt (Put (Share row) ∷ changes) = AreBuilt changes
-AreBuilt (change ∷ changes) = ⊥
+AreBuilt (change ∷ changes) = IsBuilt change × AreBuilt changes
 
 -- the meta row may be set before or behind them
-meta_first : (t : Tables) (meta : MetaRow) (changes : List Change) → AreBuilt changes
+meta_one : (t : Tables) (meta : MetaRow) (change : Change) → IsBuilt change
+    → made (record t { meta = meta }) change ≡ record (made t change) { meta = meta }
+meta_one t meta (Put (Node row)) built = refl
+meta_one t meta (Put (Mount row)) built = refl
+meta_one t meta (Put (Share row)) built = refl
+meta_one t meta (Put (User row)) built = refl
+meta_one t meta (Put (Token row)) built = refl
+meta_one t meta (Put (Group row)) built = refl
+meta_one t meta (Put (Member row)) built = refl
+meta_one t meta (Drop (keys.Member group user)) built = refl
+meta_one t meta change built = absurd built
+
+pub meta_first : (t : Tables) (meta : MetaRow) (changes : List Change) → AreBuilt changes
     → put_all (record t { meta = meta }) changes ≡ record (put_all t changes) { meta = meta }
 meta_first t meta [] built = refl
-meta_first t meta (Put (Node row) ∷ changes) built = meta_first (made t (Put (Node row))) meta changes built
-meta_first t meta (Put (Mount row) ∷ changes) built = meta_first (made t (Put (Mount row))) meta changes built
-meta_first t meta (Put (Share row) ∷ changes) built = meta_first (made t (Put (Share row))) meta changes built
-meta_first t meta (change ∷ changes) built = absurd built
+meta_first t meta (change ∷ changes) built =
+    ap (λ (u : Tables). put_all u changes) (meta_one t meta change built.0) ∙ meta_first (made t change) meta changes built.1
 
--- no other row becomes another
-pub built_alone : (t : Tables) (changes : List Change) → AreBuilt changes
-    → put_all t changes
-    ≡ record t { nodes = (put_all t changes).nodes; shares = (put_all t changes).shares; mounts = (put_all t changes).mounts }
-built_alone t [] built = refl
-built_alone t (Put (Node row) ∷ changes) built = built_alone (made t (Put (Node row))) changes built
-built_alone t (Put (Mount row) ∷ changes) built = built_alone (made t (Put (Mount row))) changes built
-built_alone t (Put (Share row) ∷ changes) built = built_alone (made t (Put (Share row))) changes built
-built_alone t (change ∷ changes) built = absurd built
+droppable_one : (change : Change) → IsBuilt change → IsDroppable change
+droppable_one (Put row) built = tt
+droppable_one (Drop (keys.Member group user)) built = λ is. cc
+droppable_one (Drop key) built = absurd built
 
 pub built_droppable : (changes : List Change) → AreBuilt changes → All IsDroppable changes
 built_droppable [] built = All-nil IsDroppable
-built_droppable (Put (Node row) ∷ changes) built = All-cons IsDroppable (Put (Node row)) changes tt (built_droppable changes built)
-built_droppable (Put (Mount row) ∷ changes) built = All-cons IsDroppable (Put (Mount row)) changes tt (built_droppable changes built)
-built_droppable (Put (Share row) ∷ changes) built = All-cons IsDroppable (Put (Share row)) changes tt (built_droppable changes built)
-built_droppable (change ∷ changes) built = absurd built
+built_droppable (change ∷ changes) built = All-cons IsDroppable change changes (droppable_one change built.0) (built_droppable changes built.1)
 
 pub put_more : (t : Tables) (changes more : List Change) → put_all t (changes ++ more) ≡ put_all (put_all t changes) more
 put_more t [] more = refl
 put_more t (change ∷ changes) more = put_more (made t change) changes more
 
--- ---- rows of other keys
-
--- what each row of another key leaves, a list of such rows leaves
-all_leave : {X : Type 0} (of : Tables → X) (key : RowKey)
-    → ((t : Tables) (row : NodeRow) → key ≢ keys.Node row.id → of (made t (Put (Node row))) ≡ of t)
-    → ((t : Tables) (row : MountRow) → key ≢ keys.Mount row.user row.node → of (made t (Put (Mount row))) ≡ of t)
-    → ((t : Tables) (row : ShareRow) → key ≢ keys.Share row.id → of (made t (Put (Share row))) ≡ of t)
-    → (t : Tables) (changes : List Change) → AreBuilt changes → All (λ (change : Change). key ≢ changed_key change) changes
-    → of (put_all t changes) ≡ of t
-all_leave of key nodes mounts shares t [] built other = refl
-all_leave of key nodes mounts shares t (Put (Node row) ∷ changes) built other =
-    let Other : Change → Type 0 = λ change. key ≢ changed_key change in
-    all_leave of key nodes mounts shares (made t (Put (Node row))) changes built (All-tail Other (Put (Node row)) changes other)
-    ∙ nodes t row (All-head Other (Put (Node row)) changes other)
-all_leave of key nodes mounts shares t (Put (Mount row) ∷ changes) built other =
-    let Other : Change → Type 0 = λ change. key ≢ changed_key change in
-    all_leave of key nodes mounts shares (made t (Put (Mount row))) changes built (All-tail Other (Put (Mount row)) changes other)
-    ∙ mounts t row (All-head Other (Put (Mount row)) changes other)
-all_leave of key nodes mounts shares t (Put (Share row) ∷ changes) built other =
-    let Other : Change → Type 0 = λ change. key ≢ changed_key change in
-    all_leave of key nodes mounts shares (made t (Put (Share row))) changes built (All-tail Other (Put (Share row)) changes other)
-    ∙ shares t row (All-head Other (Put (Share row)) changes other)
-all_leave of key nodes mounts shares t (change ∷ changes) built other = absurd built
-
--- a node of another number keeps its row
-pub put_other : (row : NodeRow) (old : List NodeRow) (node : ℕ) → node ≢ row.id → node_row (put node_key row old) node ≡ node_row old node
-put_other = other_number (λ (row : NodeRow). row.id)
-
--- a mount of another key keeps its row
-mount_other : (row : MountRow) (old : List MountRow) (user node : ℕ) → keys.Mount user node ≢ keys.Mount row.user row.node
-    → mount_row (put mount_key row old) user node ≡ mount_row old user node
-mount_other row old user node other =
-    put_leaves mount_key (is_mount_of user node) row old (not_it row user node (λ a b. other (keyed row a b)))
-    (λ x key. not_it x user node (λ a b. other (keyed row (users key ∙ a) (nodes key ∙ b))))
-  where
-    keyed : (row : MountRow) → row.user ≡ user → row.node ≡ node → keys.Mount user node ≡ keys.Mount row.user row.node
-    keyed row a b = ap (λ (n : ℕ). keys.Mount n node) (sym a) ∙ ap (keys.Mount row.user) (sym b)
-
-    users : {a b c d : ℕ} → a ∷ b ∷ [] ≡ c ∷ d ∷ [] → a ≡ c
-    users same = cc
-
-    nodes : {a b c d : ℕ} → a ∷ b ∷ [] ≡ c ∷ d ∷ [] → b ≡ d
-    nodes same = cc
-
-same_rows : (rows : List NodeRow) (node : ℕ) → with_node rows node (λ row. row) ≡ rows
-same_rows [] node = refl
-same_rows (x ∷ rows) node =
-    cond_both (x.id == node) (x ∷ rows) (x ∷ with_node rows node (λ row. row)) (λ made. made ≡ x ∷ rows) (λ e. refl)
-    (λ e. ap (λ (all : List NodeRow). x ∷ all) (same_rows rows node))
-
--- a mount that is known wasn't there so
-mount_anew : (t : Tables) (row : MountRow) → IsMounting t row → mount_row t.mounts row.user row.node ≢ Some row
-mount_anew t row (inl is) = λ same. is.other (same_Some row is.old (sym same ∙ is.there))
-mount_anew t row (inr is) = λ same. none-some row (sym is.fresh ∙ same)
-
--- nor was a share
-share_anew : (first t : Tables) (row : ShareRow) → KnownShare first t row → share_row t.shares row.id ≢ Some row
-share_anew first t row (inl (is, new)) = λ same.
-    absurd (omega (arith, (found_is (λ (old : ShareRow). old.id < row.id) (λ (old : ShareRow). old.id == row.id) t.shares row is.newest same).1))
-share_anew first t row (inr (is, old)) = λ same. is.other (same_Some row is.old (sym same ∙ is.there))
-
--- so a lean list that isn't empty makes other tables
-pub lean_moves : (t up : Tables) (blob : Option ℕ) (change : Change) (changes : List Change) → Rising t.nodes → up.mounts ≡ t.mounts
-    → up.shares ≡ t.shares → AreBuilt (change ∷ changes) → KnownRow t blob up change → IsLean t (change ∷ changes)
-    → put_all t (change ∷ changes) ≢ t
-lean_moves t up blob (Put (Node row)) changes rising mounts shares built known lean = λ same.
-    let Other : Change → Type 0 = λ (other : Change). keys.Node row.id ≢ changed_key other in
-    let others : All Other changes = λ k d within. lean.once 0 (suc k) d (omega arith) (omega arith) in
-    let last : node_row (put_all t (Put (Node row) ∷ changes)).nodes row.id ≡ Some row =
-    all_leave (λ (u : Tables). node_row u.nodes row.id) (keys.Node row.id)
-    (λ u other differs. put_other other u.nodes row.id (λ same. differs (ap keys.Node same))) (λ u other differs. refl) (λ u other differs. refl)
-    (made t (Put (Node row))) changes built others ∙ put_found row t.nodes in
-    let there : node_row t.nodes row.id ≡ Some row = sym (ap (λ (u : Tables). node_row u.nodes row.id) same) ∙ last in
-    All-head (λ (c : Change). made t c ≢ t) (Put (Node row)) changes lean.differ
-    (ap (λ (all : List NodeRow). record t { nodes = all })
-    (put_changed t.nodes row.id (λ r. r) row refl rising there ∙ same_rows t.nodes row.id))
-lean_moves t up blob (Put (Mount row)) changes rising mounts shares built known lean = λ same.
-    let Other : Change → Type 0 = λ (other : Change). keys.Mount row.user row.node ≢ changed_key other in
-    let others : All Other changes = λ k d within. lean.once 0 (suc k) d (omega arith) (omega arith) in
-    let last : mount_row (put_all t (Put (Mount row) ∷ changes)).mounts row.user row.node ≡ Some row =
-    all_leave (λ (u : Tables). mount_row u.mounts row.user row.node) (keys.Mount row.user row.node) (λ u other differs. refl)
-    (λ u other differs. mount_other other u.mounts row.user row.node differs) (λ u other differs. refl)
-    (made t (Put (Mount row))) changes built others ∙ mount_found row t.mounts in
-    mount_anew up row known.1
-    (ap (λ (rows : List MountRow). mount_row rows row.user row.node) mounts
-    ∙ sym (ap (λ (u : Tables). mount_row u.mounts row.user row.node) same) ∙ last)
-lean_moves t up blob (Put (Share row)) changes rising mounts shares built known lean = λ same.
-    let Other : Change → Type 0 = λ (other : Change). keys.Share row.id ≢ changed_key other in
-    let others : All Other changes = λ k d within. lean.once 0 (suc k) d (omega arith) (omega arith) in
-    let last : share_row (put_all t (Put (Share row) ∷ changes)).shares row.id ≡ Some row =
-    all_leave (λ (u : Tables). share_row u.shares row.id) (keys.Share row.id) (λ u other differs. refl) (λ u other differs. refl)
-    (λ u other differs. other_number (λ (r : ShareRow). r.id) other u.shares row.id (λ same. differs (ap keys.Share same)))
-    (made t (Put (Share row))) changes built others ∙ share_found row t.shares in
-    share_anew t up row known.1
-    (ap (λ (rows : List ShareRow). share_row rows row.id) shares ∙ sym (ap (λ (u : Tables). share_row u.shares row.id) same) ∙ last)
-lean_moves t up blob change changes rising mounts shares built known lean = absurd built
-
 -- what is known of a list's changes, in the tables before it
 module _ (first : Tables) (blob : Option ℕ) where
-  -- what a new node keeps, another content, and a row of a mount or of a share, each change keeps; it may have a further property
+  -- what a new node keeps, another content, a row of a mount or of a share, and a change of people, each change keeps; it may have a
+  -- further property
   row_has : (P : Tables → Type 0) (Q : Change → Type 0) (t : Tables) (change : Change) → Rising t.nodes → KnownRow first blob t change
       → ((row : NodeRow) → KnownBorn first blob t row → Q (Put (Node row)) → P (with_born t row))
       → ((row : NodeRow) → KnownFilled first blob t row → Q (Put (Node row)) → P (with_filled t row))
       → ((row : MountRow) → IsMounting t row → Q (Put (Mount row)) → P (with_remounted t row))
-      → ((row : ShareRow) → KnownShare first t row → Q (Put (Share row)) → P (with_share t row)) → Q change → P (made t change)
-  row_has P Q t (Put (Node row)) rising known born fills mounts shares has =
+      → ((row : ShareRow) → KnownShare first t row → Q (Put (Share row)) → P (with_share t row))
+      → ((change : Change) → IsOfPeople t change → P (made t change)) → Q change → P (made t change)
+  row_has P Q t (Put (Node row)) rising known born fills mounts shares people has =
       elim known [
         | inl it ↦ subst P (sym (born_made t row it.born)) (born row it has)
         | inr it ↦ subst P (sym (filled_made t row rising it.filled)) (fills row it has)
       ]
-  row_has P Q t (Put (Mount row)) rising known born fills mounts shares has = mounts row known.1 has
-  row_has P Q t (Put (Share row)) rising known born fills mounts shares has = shares row known.1 has
-  row_has P Q t change rising known born fills mounts shares has = absurd known
+  row_has P Q t (Put (Mount row)) rising known born fills mounts shares people has = mounts row known.1 has
+  row_has P Q t (Put (Share row)) rising known born fills mounts shares people has = shares row known.1 has
+  row_has P Q t change rising known born fills mounts shares people has = people change known.1
 
   pub rising_row : (t : Tables) (change : Change) → Rising t.nodes → KnownRow first blob t change → Rising (made t change).nodes
   rising_row t change rising known =
       row_has (λ (u : Tables). Rising u.nodes) (λ change. Unit {0}) t change rising known
       (λ row it any. all_pairs_push (λ (a b : NodeRow). a.id < b.id) t.nodes row rising it.born.newest)
       (λ row it any. rising_with t.nodes row.id (filled row.content row.changed) (λ r. refl) rising) (λ row it any. rising)
-      (λ row it any. rising) tt
+      (λ row it any. rising) (λ change is. subst Rising (sym (people_nodes t change is)) rising) tt
 
-  -- and all of them
+  -- and all of them; a new user comes with its root
   rows_have : (P : Tables → Type 0) (Q : Change → Type 0)
       → ((t : Tables) (row : NodeRow) → P t → KnownBorn first blob t row → Q (Put (Node row)) → P (with_born t row))
       → ((t : Tables) (row : NodeRow) → P t → KnownFilled first blob t row → Q (Put (Node row)) → P (with_filled t row))
       → ((t : Tables) (row : MountRow) → P t → IsMounting t row → Q (Put (Mount row)) → P (with_remounted t row))
       → ((t : Tables) (row : ShareRow) → P t → KnownShare first t row → Q (Put (Share row)) → P (with_share t row))
+      → ((t : Tables) (change : Change) → P t → IsOfPeople t change → P (made t change))
+      → ((t : Tables) (row : UserRow) (root : NodeRow) → P t → KnownUser first blob t row root → P (with_rooted t row root))
       → (t : Tables) (changes : List Change) → Rising t.nodes → P t → KnownRows first blob t changes → All Q changes → P (put_all t changes)
-  rows_have P Q born fills mounts shares t [] rising has known each = has
-  rows_have P Q born fills mounts shares t (change ∷ changes) rising has known each =
-      rows_have P Q born fills mounts shares (made t change) changes (rising_row t change rising known.0)
-      (row_has P Q t change rising known.0 (λ row it is. born t row has it is) (λ row it is. fills t row has it is)
-      (λ row it is. mounts t row has it is) (λ row it is. shares t row has it is) (All-head Q change changes each))
-      known.1 (All-tail Q change changes each)
+  rows_have P Q born fills mounts shares people users _ _ rising has (no_more t) each = has
+  rows_have P Q born fills mounts shares people users _ _ rising has (one_more t change changes known rest) each =
+      rows_have P Q born fills mounts shares people users (made t change) changes (rising_row t change rising known)
+      (row_has P Q t change rising known (λ row it is. born t row has it is) (λ row it is. fills t row has it is)
+      (λ row it is. mounts t row has it is) (λ row it is. shares t row has it is) (λ change is. people t change has is) (All-head Q change changes each))
+      rest (All-tail Q change changes each)
+  rows_have P Q born fills mounts shares people users _ _ rising has (user_more t row root changes known rest) each =
+      let made = rooted_made t row root known.1 in
+      rows_have P Q born fills mounts shares people users (with_user t row root) changes
+      (subst (λ (u : Tables). Rising u.nodes) (sym made)
+      (all_pairs_push (λ (a b : NodeRow). a.id < b.id) t.nodes root rising known.1.newest_node))
+      (subst P (sym made) (users t row root has known)) rest
+      (All-tail Q (Put (Node root)) changes (All-tail Q (Put (User row)) (Put (Node root) ∷ changes) each))
 
   -- of which none is of another kind
+  one_built : (t : Tables) (change : Change) → KnownRow first blob t change → IsBuilt change
+  one_built t (Put (Node row)) known = tt
+  one_built t (Put (Mount row)) known = tt
+  one_built t (Put (Share row)) known = tt
+  one_built t (Put (User row)) known = tt
+  one_built t (Put (Token row)) known = tt
+  one_built t (Put (Group row)) known = tt
+  one_built t (Put (Member row)) known = tt
+  one_built t (Drop (keys.Member group user)) known = tt
+  one_built t change known = absurd known.1
+
   pub only_built : (t : Tables) (changes : List Change) → KnownRows first blob t changes → AreBuilt changes
-  only_built t [] known = tt
-  only_built t (Put (Node row) ∷ changes) known = only_built (made t (Put (Node row))) changes known.1
-  only_built t (Put (Mount row) ∷ changes) known = only_built (made t (Put (Mount row))) changes known.1
-  only_built t (Put (Share row) ∷ changes) known = only_built (made t (Put (Share row))) changes known.1
-  only_built t (change ∷ changes) known = absurd known.0
+  only_built _ _ (no_more t) = tt
+  only_built _ _ (one_more t change changes known rest) = (one_built t change known, only_built (made t change) changes rest)
+  only_built _ _ (user_more t row root changes known rest) = (tt, (tt, only_built (with_user t row root) changes rest))
 
 -- what the tables with raised counters have, and each change of some further property keeps, the tables have after them
 pub changes_all : (P : Tables → Type 0) (Q : Change → Type 0) (t : Tables) (now : ℕ) (changes : List Change) (blob : Option ℕ)
@@ -297,11 +225,13 @@ pub changes_all : (P : Tables → Type 0) (Q : Change → Type 0) (t : Tables) (
     → ((u : Tables) (row : NodeRow) → P u → KnownFilled t blob u row → Q (Put (Node row)) → P (with_filled u row))
     → ((u : Tables) (row : MountRow) → P u → IsMounting u row → Q (Put (Mount row)) → P (with_remounted u row))
     → ((u : Tables) (row : ShareRow) → P u → KnownShare t u row → Q (Put (Share row)) → P (with_share u row))
+    → ((u : Tables) (change : Change) → P u → IsOfPeople u change → P (made u change))
+    → ((u : Tables) (row : UserRow) (root : NodeRow) → P u → KnownUser t blob u row root → P (with_rooted u row root))
     → P (raised t now changes blob) → P (altered t now (allowed.Change changes blob report))
-changes_all P Q t now changes blob report rising known each born fills mounts shares has =
+changes_all P Q t now changes blob report rising known each born fills mounts shares people users has =
     let up = raised t now changes blob in
     subst P (meta_first t up.meta changes (only_built t blob up changes known.rows))
-    (rows_have t blob P Q born fills mounts shares up changes rising has known.rows each)
+    (rows_have t blob P Q born fills mounts shares people users up changes rising has known.rows each)
 
 -- where they have none
 pub changes_have : (P : Tables → Type 0) (t : Tables) (now : ℕ) (changes : List Change) (blob : Option ℕ) (report : Report)
@@ -310,11 +240,24 @@ pub changes_have : (P : Tables → Type 0) (t : Tables) (now : ℕ) (changes : L
     → ((u : Tables) (row : NodeRow) → P u → KnownFilled t blob u row → P (with_filled u row))
     → ((u : Tables) (row : MountRow) → P u → IsMounting u row → P (with_remounted u row))
     → ((u : Tables) (row : ShareRow) → P u → KnownShare t u row → P (with_share u row))
+    → ((u : Tables) (change : Change) → P u → IsOfPeople u change → P (made u change))
+    → ((u : Tables) (row : UserRow) (root : NodeRow) → P u → KnownUser t blob u row root → P (with_rooted u row root))
     → P (raised t now changes blob) → P (altered t now (allowed.Change changes blob report))
-changes_have P t now changes blob report rising known born fills mounts shares has =
+changes_have P t now changes blob report rising known born fills mounts shares people users has =
     changes_all P (λ change. Unit {0}) t now changes blob report rising known (λ k d within. tt)
     (λ u row h it any. born u row h it) (λ u row h it any. fills u row h it) (λ u row h it any. mounts u row h it)
-    (λ u row h it any. shares u row h it) has
+    (λ u row h it any. shares u row h it) people users has
+
+-- of the nodes alone: no change but those of nodes, and a new user's root, touches them
+pub nodes_have : (P : List NodeRow → Type 0) (Q : Change → Type 0) (t : Tables) (now : ℕ) (changes : List Change) (blob : Option ℕ)
+    (report : Report) → Rising t.nodes → KnownChange t now changes blob → All Q changes
+    → ((u : Tables) (row : NodeRow) → P u.nodes → KnownBorn t blob u row → Q (Put (Node row)) → P (with_born u row).nodes)
+    → ((u : Tables) (row : NodeRow) → P u.nodes → KnownFilled t blob u row → Q (Put (Node row)) → P (with_filled u row).nodes)
+    → ((u : Tables) (row : UserRow) (root : NodeRow) → P u.nodes → KnownUser t blob u row root → P (u.nodes ++ root ∷ []))
+    → P t.nodes → P (altered t now (allowed.Change changes blob report)).nodes
+nodes_have P Q t now changes blob report rising known each born fills users has =
+    changes_all (λ (u : Tables). P u.nodes) Q t now changes blob report rising known each born fills (λ u row h it is. h) (λ u row h it is. h)
+    (λ u change h is. subst P (sym (people_nodes u change is)) h) users has
 
 -- so they stay sound
 pub changes_sound : (t : Tables) (now : ℕ) (changes : List Change) (blob : Option ℕ) (report : Report)
@@ -326,4 +269,6 @@ changes_sound t now changes blob report sound later known =
       | inl new ↦ new_share_sound u row s new.0 (omega (arith, sound.counters.shares, new.1))
       | inr other ↦ other_share_sound u row s other.0
     ])
+    (λ u change s it. people_sound u change s it)
+    (λ u row root s it. new_user_sound u row root s it.1 (omega (arith, sound.counters.nodes, it.2)))
     (raised_sound t now changes blob sound later)

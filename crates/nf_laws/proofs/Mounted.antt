@@ -4,7 +4,7 @@ use Rattle.std.specs.Prelude.{is_some}
 use Rattle.std.specs.List.{All, AllPairs}
 use Rattle.std.specs.declared.cmp.Ordering.{Ordering}
 use Rattle.std.specs.declared.cmp.Ordering.TheVariants.{Equal, Greater, Less}
-use Rattle.std.proofs.lemmas.Bool.{and_from, and_parts, both_ways, eq-eqb, eqb-true, false_from_ne_true, not_from_false}
+use Rattle.std.proofs.lemmas.Bool.{and_from, both_ways, eq-eqb, not_from_false}
 use Rattle.std.proofs.lemmas.List.Elements.{All-head, All-tail, All-weaker}
 use Rattle.std.proofs.lemmas.Option.{same_Some}
 use Rattle.std.proofs.lemmas.Slice.Eq.{bytes_eq-Decides}
@@ -23,16 +23,9 @@ use Rattle.nf_words.specs.Others.{AreMountsApart, IsMountSound, IsShareSound, Ar
 use Rattle.nf_words.specs.Prelude.{AreSound, HasRoot, IsNodeSound, IsPlaceSound, IsRemounted, IsNewMount}
 use Rattle.nf_access.specs.Shares.{chain_within}
 use Rattle.nf_base.specs.declared.limits.TheConstants.{MAX_CHAIN, MAX_MOUNTS}
-use Rattle.nf_laws.proofs.Puts.{put_length_over}
+use Rattle.nf_words.proofs.Found.{put_length_over}
 
 -- ---- rows of mounts
-
--- a row of another user or node isn't sought
-pub not_it : (row : MountRow) (user node : ℕ) → (row.user ≡ user → row.node ≡ node → ⊥) → is_mount_of user node row ≡ false
-not_it row user node other =
-    false_from_ne_true (is_mount_of user node row) (λ is.
-    let parts = and_parts (row.user == user) (row.node == node) is in
-    other (eqb-true row.user user parts.0) (eqb-true row.node node parts.1))
 
 itself : (row : MountRow) → is_mount_of row.user row.node row ≡ true
 itself row = and_from (row.user == row.user) (row.node == row.node) (eq-eqb row.user row.user refl) (eq-eqb row.node row.node refl)
@@ -114,6 +107,9 @@ module _ (t : Tables) (shares : List ShareRow) (mounts : List MountRow) where
     roots = All-weaker (HasRoot t) (HasRoot beside)
         (λ user root. record { row = root.row; there = root.there; place = root.place; folder = root.folder; owner = root.owner; name = root.name })
         t.users sound.roots;
+    users_given = sound.users_given;
+    members_there = sound.members_there;
+    groups_given = sound.groups_given;
     few_nodes = sound.few_nodes;
     few_pieces = sound.few_pieces;
     later = sound.later;

@@ -199,6 +199,9 @@ relinked_sound u node folder name old sound fits =
           (either i d) (either j d) (sound.rising i j d before few) (sound.names i j d before few)
           (λ moved. apart moved i d (omega arith)) (λ moved. apart moved j d few);
       roots = All-weaker (HasRoot u) (HasRoot made) (root_moved u node folder name fits.no_root) u.users sound.roots;
+      users_given = sound.users_given;
+      members_there = sound.members_there;
+      groups_given = sound.groups_given;
       few_nodes = omega (arith, counts, sound.few_nodes);
       few_pieces = omega (arith, sound.few_pieces, pieces_with u.nodes node change 0 (λ row is. omega arith));
       later = sound.later;

@@ -9,7 +9,7 @@ use Rattle.nf_laws.proofs.Climbs.{row_there}
 use Rattle.nf_laws.proofs.Counters.{after_up}
 use Rattle.nf_laws.proofs.Entries.{after_has}
 use Rattle.nf_laws.proofs.Gone.{all_cleared}
-use Rattle.nf_laws.proofs.Lists.{changes_have}
+use Rattle.nf_laws.proofs.Lists.{nodes_have}
 use Rattle.nf_laws.proofs.OneRow.{numbers_with}
 use Rattle.nf_laws.proofs.Owned.{copies_new}
 use Rattle.nf_laws.proofs.Stays.{sound_after}
@@ -38,10 +38,10 @@ numbers_copied first t now rows replaced sound later all known =
 numbers_changed : (first t : Tables) (now : ℕ) (act : Allowed) → AreSound t → first.meta.next_node ≤ t.meta.next_node
     → AreOldOrNew first t → Known t now act → AreOldOrNew first (altered t now act)
 numbers_changed first t now (allowed.Change changes blob report) sound later all known =
-    changes_have (AreOldOrNew first) t now changes blob report sound.rising known
-    (λ u row all it. All-push (λ (row : NodeRow). IsOldOrNew first row.id) u.nodes row all (inr (omega (arith, later, it.fresh))))
-    (λ u row all it. numbers_with (IsOldOrNew first) u.nodes row.id (filled row.content row.changed) (λ r. refl) all) (λ u row all it. all) (λ u row all it. all)
-    all
+    nodes_have (All (λ (row : NodeRow). IsOldOrNew first row.id)) (λ change. Unit {0}) t now changes blob report sound.rising known (λ k d within. tt)
+    (λ u row all it any. All-push (λ (row : NodeRow). IsOldOrNew first row.id) u.nodes row all (inr (omega (arith, later, it.fresh))))
+    (λ u row all it any. numbers_with (IsOldOrNew first) u.nodes row.id (filled row.content row.changed) (λ r. refl) all)
+    (λ u row root all it. All-push (λ (row : NodeRow). IsOldOrNew first row.id) u.nodes root all (inr (omega (arith, later, it.2)))) all
 numbers_changed first t now (allowed.Delete node) sound later all known =
     all_cleared (λ (row : NodeRow). IsOldOrNew first row.id) t.nodes (Some node) all
 numbers_changed first t now (allowed.Move transfer name) sound later all known =

@@ -10,6 +10,7 @@ use Rattle.std.proofs.lemmas.Slice.Eq.{bytes_eq-Decides}
 use Rattle.nf_access.specs.Mounts.{is_shown_to, mount_at, root_folder}
 use Rattle.nf_access.specs.Shares.{chain_within, perms_of_share, share_row}
 use Rattle.nf_base.specs.declared.limits.TheConstants.{MAX_CHAIN, MAX_MOUNTS, MAX_SHARES}
+use Rattle.nf_base.specs.declared.rows.GroupRow.{GroupRow}
 use Rattle.nf_base.specs.declared.rows.MetaRow.{MetaRow}
 use Rattle.nf_base.specs.declared.rows.MountRow.{MountRow}
 use Rattle.nf_base.specs.declared.rows.NodeKind.{NodeKind}
@@ -395,6 +396,11 @@ meta_sound t meta sound up later =
           (λ row. node_kept t meta t.nodes row (kept_row t.nodes) up.nodes up.blobs later) t.nodes sound.nodes;
       names = sound.names;
       roots = All-weaker (HasRoot t) (HasRoot made) (root_kept t meta t.nodes (kept_row t.nodes)) t.users sound.roots;
+      users_given = All-weaker (λ (row : UserRow). row.id < t.meta.next_user) (λ (row : UserRow). row.id < meta.next_user)
+          (λ row given. omega (arith, given, up.users)) t.users sound.users_given;
+      members_there = sound.members_there;
+      groups_given = All-weaker (λ (row : GroupRow). row.id < t.meta.next_group) (λ (row : GroupRow). row.id < meta.next_group)
+          (λ row given. omega (arith, given, up.groups)) t.groups sound.groups_given;
       few_nodes = sound.few_nodes;
       few_pieces = sound.few_pieces;
       later = sound.later;

@@ -4,15 +4,15 @@ use Rattle.std.specs.List.{All}
 use Rattle.std.proofs.lemmas.Bool.{cases_Bool, eqb-true}
 use Rattle.std.proofs.lemmas.List.Elements.{All-cons, All-nil}
 use Rattle.nf_base.specs.declared.rows.NodeRow.{NodeRow}
-use Rattle.nf_defs.specs.Prelude.{filled, node_row, relinked, Tables, with_node}
+use Rattle.nf_defs.specs.Prelude.{filled, made, node_row, relinked, Tables, with_node}
 use Rattle.nf_laws.proofs.Climbs.{map_some}
 use Rattle.nf_laws.proofs.Copied.{copies_numbered, old_joined}
 use Rattle.nf_laws.proofs.Gone.{kept_cleared}
 use Rattle.nf_laws.proofs.Lists.{changes_have, with_born, with_filled}
 use Rattle.nf_laws.proofs.Mirrored.{mirrored}
 use Rattle.nf_laws.proofs.OneRow.{KeepsId, row_itself, row_other}
+use Rattle.nf_laws.proofs.Peopled.{people_nodes}
 use Rattle.nf_laws.proofs.Rows.{row_joined, stamped_has}
-use Rattle.nf_words.proofs.Fits.{KnownBorn}
 use Rattle.nf_words.proofs.Known.{Known, KnownCopies}
 use Rattle.nf_words.specs.Prelude.{altered, AreSound, changed, cleared, joined, removed, told, transferred}
 use Rattle.nf_words.specs.declared.answer.Allowed.{Allowed}
@@ -27,11 +27,11 @@ abbrev pub KeepsOwners : Tables → Tables → Type 0
 KeepsOwners t made = (node : ℕ) (row : NodeRow) → node < t.meta.next_node → node_row made.nodes node ≡ Some row → WasOf t.nodes node row
 
 -- a node with a number that wasn't given before is none of these
-pub new_owners : (t u : Tables) (blob : Option ℕ) (row : NodeRow) → KeepsOwners t u → KnownBorn t blob u row → KeepsOwners t (with_born u row)
-new_owners t u blob new keeps it node row given there =
+pub new_owners : (t u : Tables) (row : NodeRow) → KeepsOwners t u → t.meta.next_node ≤ row.id → KeepsOwners t (with_born u row)
+new_owners t u new keeps fresh node row given there =
     keeps node row given
     (sym (row_joined u.nodes (new ∷ []) node
-    (All-cons (λ (row : NodeRow). row.id ≢ node) new [] (λ same. absurd (omega (arith, it.fresh, given))) (All-nil (λ (row : NodeRow). row.id ≢ node))))
+    (All-cons (λ (row : NodeRow). row.id ≢ node) new [] (λ same. absurd (omega (arith, fresh, given))) (All-nil (λ (row : NodeRow). row.id ≢ node))))
     ∙ there)
 
 with_owners : (t made : Tables) (node : ℕ) (change : NodeRow → NodeRow) → KeepsId change → ((row : NodeRow) → (change row).owner ≡ row.owner)
@@ -92,8 +92,11 @@ all_owners t node row given there = (row, there, refl)
 
 altered_owners : (t : Tables) (now : ℕ) (act : Allowed) → AreSound t → Known t now act → KeepsOwners t (altered t now act)
 altered_owners t now (allowed.Change changes blob report) sound known =
-    changes_have (KeepsOwners t) t now changes blob report sound.rising known (λ u row. new_owners t u blob row)
-    (λ u row keeps it. filled_owners t u row keeps) (λ u row keeps it. keeps) (λ u row keeps it. keeps) (all_owners t)
+    changes_have (KeepsOwners t) t now changes blob report sound.rising known (λ u row keeps it. new_owners t u row keeps it.fresh)
+    (λ u row keeps it. filled_owners t u row keeps) (λ u row keeps it. keeps) (λ u row keeps it. keeps)
+    (λ u change keeps it. also_owners t u (made u change) keeps
+    (λ node row there. (row, ap (λ (rows : List NodeRow). node_row rows node) (sym (people_nodes u change it)) ∙ there, refl)))
+    (λ u row root keeps it. new_owners t u root keeps it.2) (all_owners t)
 altered_owners t now (allowed.Delete node) sound known = cleared_owners t (Some node)
 altered_owners t now (allowed.Move transfer name) sound known =
     then_owners t (transferred t transfer name) transfer.replaced

@@ -5,7 +5,7 @@ use Rattle.std.specs.Prelude.{is_some}
 use Rattle.std.specs.List.{All, AllPairs, list_any}
 use Rattle.std.specs.declared.cmp.Ordering.{Ordering}
 use Rattle.std.specs.declared.cmp.Ordering.TheVariants.{Equal, Greater, Less}
-use Rattle.std.proofs.lemmas.Bool.{both_ways, cases_Bool, eq-eqb, eqb-true, false_from_ne_true, ne_eqb}
+use Rattle.std.proofs.lemmas.Bool.{both_ways, cases_Bool, eq-eqb, eqb-true, ne_eqb}
 use Rattle.std.proofs.lemmas.List.{append-nil}
 use Rattle.std.proofs.lemmas.List.Elements.{All-push, All-weaker, filter_agree, filter_passes}
 use Rattle.std.proofs.lemmas.List.Folds.{list_any_at}
@@ -16,15 +16,14 @@ use Rattle.nf_base.specs.declared.changes.RowKey.TheVariants as keys
 use Rattle.nf_base.specs.declared.rows.NodeRow.{NodeRow}
 use Rattle.nf_base.specs.declared.rows.Row.TheVariants.{Node, Share}
 use Rattle.nf_base.specs.declared.rows.ShareRow.{ShareRow}
-use Rattle.nf_defs.proofs.Puts.{below_one, below_rest, compared, put_last, put_rising, tail_rising, key_total, turned}
+use Rattle.nf_defs.proofs.Puts.{below_one, below_rest, compared, put_last, put_rising, tail_rising}
 use Rattle.nf_defs.specs.Prelude.{by_order, climb, dropped, folder_of, is_under, IsRising, key_cmp, node_key, node_row, parent_of, put, put_all, share_key, Tables, walk_of, with_node, without_under}
 use Rattle.nf_laws.proofs.Climbs.{some_there, those, under_climb}
 use Rattle.nf_laws.proofs.Others.{others_ended}
 use Rattle.nf_laws.proofs.Rows.{found_is}
 use Rattle.nf_laws.proofs.Walked.{walk_among}
 use Rattle.nf_words.specs.Prelude.{AreSound, cleared, closed_under, dropped_under, ended_for, ended_row, ended_under, gone_for, gone_under, is_closing, removed}
-use Rattle.nf_words.proofs.Found.{put_leaves}
-use Rattle.std.proofs.lemmas.Cmp.{tied_itself}
+use Rattle.nf_words.proofs.Found.{put_is_found, put_leaves}
 
 -- ---- rows that are put
 
@@ -87,30 +86,15 @@ other_number {R = R} number row old id other =
     first : {a b : ℕ} → a ∷ [] ≡ b ∷ [] → a ≡ b
     first same = cc
 
--- a row put over another makes no more of them
-pub put_length_over : {R : Type 0} (key : R → List ℕ) (sought : R → Bool) (row old : R) (rows : List R)
-    → ((x : R) → sought x ≡ true → key x ≡ key row) → IsRising key rows → find sought rows ≡ Some old
-    → length (put key row rows) ≡ length rows
-put_length_over key sought row old [] keyed rising is = absurd (none-some old is)
-put_length_over {R = R} key sought row old (x ∷ rows) keyed rising is =
-    here (key_cmp (key row) (key x)) refl (λ is. put_length_over key sought row old rows keyed (tail_rising key x rows rising) is)
-  where
-    behind : sought x ≡ false → find sought rows ≡ Some old
-    behind other = simp other at is
+-- and one that is put is found
+pub number_found : {R : Type 0} (number : R → ℕ) (row : R) (old : List R) → find (λ x. number x == number row) (put (λ x. number x ∷ []) row old) ≡ Some row
+number_found number row old =
+    put_is_found (λ x. number x ∷ []) (λ x. number x == number row) row old (eq-eqb (number row) (number row) refl)
+    (λ x same. ap (λ (n : ℕ). n ∷ []) (eqb-true (number x) (number row) same))
 
-    not_here : (o : Ordering) → key_cmp (key row) (key x) ≡ o → (o ≡ Equal → ⊥) → sought x ≡ false
-    not_here o e other =
-        false_from_ne_true (sought x) (λ passes. other (sym e ∙ ap (key_cmp (key row)) (keyed x passes) ∙ tied_itself key_total (key row)))
-
-    here : (o : Ordering) → key_cmp (key row) (key x) ≡ o → (find sought rows ≡ Some old → length (put key row rows) ≡ length rows)
-        → length (by_order o (row ∷ x ∷ rows) (row ∷ rows) (x ∷ put key row rows)) ≡ length (x ∷ rows)
-    here Less e rest =
-        let found = found_is (λ (y : R). key_cmp (key x) (key y) ≡ Less) sought rows old (below_rest key x rows rising)
-        (behind (not_here Less e (λ same. absurd (cc)))) in
-        let less = ap (key_cmp (key x)) (sym (keyed old found.0)) ∙ found.1 in
-        let greater = turned (key row) (key x) Less e in absurd (cc)
-    here Equal e rest = refl
-    here Greater e rest = ap suc (rest (behind (not_here Greater e (λ same. absurd (cc)))))
+-- so a node of another number keeps its row
+pub put_other : (row : NodeRow) (old : List NodeRow) (node : ℕ) → node ≢ row.id → node_row (put node_key row old) node ≡ node_row old node
+put_other = other_number (λ (row : NodeRow). row.id)
 
 -- ---- rows that are dropped
 

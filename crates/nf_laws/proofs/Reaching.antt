@@ -25,15 +25,15 @@ use Rattle.nf_words.proofs.Passing.{Passes, call_passes, if_none}
 use Rattle.nf_words.proofs.Starts.{has_row}
 use Rattle.nf_words.proofs.Steps.{ok_reply, put_grants_nothing, reports_nothing}
 use Rattle.nf_words.proofs.Ways.{bounded, way_there}
-use Rattle.nf_words.specs.Prelude.{access_of, allowed_of, answered_by, AreSound, broken_by, by_of, Call, call_decision, call_of, copied, copies_to, crosses, deleted, found, given, last_name, listing_of, made_folder, may_by, MayWant, mount_left, mount_of, mount_renamed, moved, Need, node_at, node_found, nothing_done, offered, perms_after, reply_by, reported, root_of, seeker_of, served, share_ended, share_made, share_set, share_shown, share_steered, share_told, shared, stored, transfer_of, unreached, way_by, way_of}
+use Rattle.nf_words.specs.Prelude.{access_of, allowed_of, answered_by, AreSound, broken_by, by_of, Call, call_decision, call_of, copied, copies_to, crosses, deleted, found, given, last_name, listing_of, made_folder, may_by, MayWant, mount_left, mount_of, mount_renamed, moved, Need, node_at, node_found, nothing_done, offered, people_changed, perms_after, reply_by, reported, root_of, seeker_of, served, share_ended, share_made, share_set, share_shown, share_steered, until_after, share_told, shared, stored, transfer_of, unreached, way_by, way_of}
 use Rattle.nf_words.specs.declared.answer.Allowed.{Allowed}
 use Rattle.nf_words.specs.declared.answer.Allowed.TheVariants as allowed
+use Rattle.nf_words.specs.declared.answer.Report.TheVariants as report
 use Rattle.nf_words.specs.declared.answer.By.{By}
 use Rattle.nf_words.specs.declared.answer.Denial.{Denial}
 use Rattle.nf_words.specs.declared.answer.Goal.TheVariants.{Serve}
 use Rattle.nf_words.specs.declared.answer.Reply.TheVariants.{Granted, Listing}
 use Rattle.nf_words.specs.declared.answer.Report.{Report}
-use Rattle.nf_words.specs.declared.answer.Report.TheVariants as report
 use Rattle.nf_words.specs.declared.listing.ListingLine.{ListingLine}
 use Rattle.nf_words.specs.declared.request.Places.{Places}
 use Rattle.nf_words.specs.declared.request.ShareAsk.{ShareAsk}
@@ -41,7 +41,7 @@ use Rattle.nf_words.specs.declared.request.ShareAsk.TheVariants as ask
 use Rattle.nf_words.specs.declared.request.Spot.{Spot}
 use Rattle.nf_words.specs.declared.request.Transfer.{Transfer}
 use Rattle.nf_words.specs.declared.request.Wanted.{Wanted}
-use Rattle.nf_words.specs.declared.request.Wanted.TheVariants.{Get, Put, Mkcol, Delete, Move, Copy, Share}
+use Rattle.nf_words.specs.declared.request.Wanted.TheVariants.{Get, Put, Mkcol, Delete, Move, Copy, People, Share}
 
 -- ---- what is shown
 
@@ -120,12 +120,13 @@ found_hides act None all = refl
 found_hides act (Some x) all = all x
 
 shared_hides : (call : Call) (places : Places) (asked : ShareAsk) → is_shown (shared (access_of call.state) call places asked) ≡ false
-shared_hides call places (ask.New spot to perms) =
-    found_hides (share_made (access_of call.state) call) (offered call spot to perms) (λ offer. refl)
+shared_hides call places (ask.New spot to perms until) =
+    found_hides (share_made (access_of call.state) call) (offered call spot to perms until) (λ offer. refl)
 shared_hides call places (ask.List spot with_me) = refl
 shared_hides call places (ask.Show share) = found_hides (share_told call.state.tables []) (share_shown call share) (λ row. refl)
-shared_hides call places (ask.Set share perms) =
-    found_hides (λ row. share_set call.state.tables (perms_after call.state.tables perms row) row) (share_steered call share) (λ row. refl)
+shared_hides call places (ask.Set share perms until) =
+    found_hides (λ row. share_set call.state.tables (perms_after call.state.tables perms row) (until_after until row.until) row) (share_steered call share)
+    (λ row. refl)
 shared_hides call places (ask.End share) = found_hides share_ended (share_steered call share) (λ row. refl)
 
 -- what is shown is asked for by a GET, whose place leads there
@@ -167,6 +168,7 @@ asked call act is shown = here call.request.wanted refl is
     here (Share ask) e is =
         absurd (none (shared (access_of call.state) call (places_at call (Share ask)) ask)
         (shared_hides call (places_at call (Share ask)) ask) is)
+    here (People ask) e is = absurd (none (allowed.Change (people_changed t call.now ask) None report.Plain) refl is)
 
 -- a GET gives that of the node at its place
 pub get_at : (call : Call) (mount : Option ℕ) (place : Found) (node : ℕ) (content : List Piece)

@@ -82,6 +82,9 @@ filled_sound t row sound is =
           (sym (place i d) ∙ first) (sym (place j d) ∙ second) (sym (name i d) ∙ same ∙ name j d);
       roots = All-weaker (HasRoot t) (HasRoot made) (root_kept t t.meta made.nodes (kept_replaced t.nodes row.changed row.id row.content)) t.users
           sound.roots;
+      users_given = sound.users_given;
+      members_there = sound.members_there;
+      groups_given = sound.groups_given;
       few_nodes = omega (arith, counts, sound.few_nodes);
       few_pieces = elim is.few_pieces [
         | inl few ↦ omega (arith, few, pieces_with t.nodes row.id change (length row.content) (λ row is. omega arith))

@@ -16,7 +16,8 @@ use Rattle.nf_laws.proofs.Chained.{AreLinked, still_chained, under_some}
 use Rattle.nf_laws.proofs.Climbs.{some_there}
 use Rattle.nf_laws.proofs.Mounted.{beside, beside_sound, mount_beside, share_beside}
 use Rattle.nf_laws.proofs.Others.{kind_still, others_from}
-use Rattle.nf_laws.proofs.Puts.{other_number, put_length_over}
+use Rattle.nf_laws.proofs.Puts.{other_number}
+use Rattle.nf_words.proofs.Found.{put_length_over}
 use Rattle.nf_laws.proofs.Rows.{found_is, row_is}
 use Rattle.nf_laws.proofs.Upwards.{owners_there}
 use Rattle.nf_words.proofs.Asks.{share_found}
@@ -128,7 +129,7 @@ module _ (t : Tables) (row : ShareRow) where
   other_share_sound sound is =
       let old = (found_is (IsShareSound t) (λ (other : ShareRow). other.id == row.id) t.shares is.old sound.others.shares is.there).1 in
       let linked : AreLinked t.shares others = linked_with (λ old there.
-      let same = is.same ∙ ap (λ (r : ShareRow). record r { perms = row.perms; ended = row.ended }) (same_Some is.old old (sym is.there ∙ there)) in
+      let same = is.same ∙ ap (λ (r : ShareRow). record r { perms = row.perms; until = row.until; ended = row.ended }) (same_Some is.old old (sym is.there ∙ there)) in
       (ap (λ (r : ShareRow). r.parent) same, ap (λ (r : ShareRow). r.initiator) same, ap (λ (r : ShareRow). r.owner) same)) in
       let node : row.node ≡ is.old.node = ap (λ (r : ShareRow). r.node) is.same in
       with_sound sound linked

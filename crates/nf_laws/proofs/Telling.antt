@@ -12,7 +12,6 @@ use Rattle.nf_base.specs.declared.changes.Change.{Change}
 use Rattle.nf_base.specs.declared.changes.Change.TheVariants.{Drop, Put}
 use Rattle.nf_base.specs.declared.changes.RowKey.TheVariants as keys
 use Rattle.nf_base.specs.declared.rows.MetaRow.{MetaRow}
-use Rattle.nf_base.specs.declared.rows.MountRow.{MountRow}
 use Rattle.nf_base.specs.declared.rows.NodeRow.{NodeRow}
 use Rattle.nf_base.specs.declared.rows.Place.TheVariants.{Inside}
 use Rattle.nf_base.specs.declared.rows.Row.{Row}
@@ -25,7 +24,8 @@ use Rattle.nf_laws.proofs.Copied.{joined_rises, walk_first}
 use Rattle.nf_laws.proofs.Crossed.{crossed_gone}
 use Rattle.nf_laws.proofs.Entries.{step_has}
 use Rattle.nf_laws.proofs.Gone.{all_cleared, clearing_sound, row_cleared, row_gone}
-use Rattle.nf_laws.proofs.Lists.{AreBuilt, built_alone, built_droppable, lean_moves, only_built, put_more}
+use Rattle.nf_laws.proofs.Leaning.{lean_moves}
+use Rattle.nf_laws.proofs.Lists.{AreBuilt, built_droppable, meta_first, only_built, put_more}
 use Rattle.nf_laws.proofs.Mirrored.{mirrored}
 use Rattle.nf_laws.proofs.OneRow.{KeepsId, row_itself}
 use Rattle.nf_laws.proofs.Paths.{child_there}
@@ -37,7 +37,7 @@ use Rattle.nf_words.proofs.Fits.{KnownChange}
 use Rattle.nf_words.proofs.Found.{child_parent, put_is_found}
 use Rattle.nf_words.proofs.Known.{Known, KnownCopies, KnownCross, KnownGone, KnownMove, KnownTransfer}
 use Rattle.nf_words.proofs.Ways.{bounded, inside_there}
-use Rattle.nf_words.specs.Prelude.{access_of, allowed_of, AreSound, Call, call_of, changed, changes_by, changes_of, changes_to, cleared, closed_under, decision_of, dropped_under, ended_for, ended_row, ended_under, end_refusal, ends_at, ends_goal, given, goal_at, gone_for, gone_under, is_closing, IsSound, joined, listing_of, MayAsk, meta_after, node_at, places_of, raised, refilled, refusal_of, removed, served, stamped, State, step, stored_at, told, transferred, transferred_row, unless_refused, way_of, with_meta}
+use Rattle.nf_words.specs.Prelude.{access_of, allowed_of, AreSound, Call, call_of, changed, changes_by, changes_of, changes_to, cleared, closed_under, decision_of, dropped_under, ended_for, ended_row, end_refusal, ends_at, ends_goal, given, goal_at, gone_for, gone_under, is_closing, IsSound, joined, listing_of, MayAsk, meta_after, node_at, places_of, raised, refilled, refusal_of, removed, served, stamped, State, step, stored_at, told, transferred, transferred_row, unless_refused, way_of, with_meta}
 use Rattle.nf_words.specs.Changes.{new_meta, same_meta}
 use Rattle.nf_words.specs.declared.answer.Allowed.{Allowed}
 use Rattle.nf_words.specs.declared.answer.Allowed.TheVariants as allowed
@@ -105,20 +105,20 @@ meta_differs t meta =
     (λ same. both_ways (same_meta t.meta meta) e (ap (same_meta t.meta) (ap (λ (u : Tables). u.meta) same) ∙ same_itself t.meta))
     (All-nil (Differs t)))
 
--- the tables with other nodes, shares and mounts
-abbrev with_rows : Tables → List NodeRow → List ShareRow → List MountRow → Tables
-with_rows t nodes shares mounts = record t { nodes = nodes; shares = shares; mounts = mounts }
+-- other tables, with the meta row as it was
+abbrev with_rows : Tables → Tables → Tables
+with_rows t made = record made { meta = t.meta }
 
 -- where the changes of these make other tables
-rows_told : (t : Tables) (now : ℕ) (meta : MetaRow) (nodes : List NodeRow) (shares : List ShareRow) (mounts : List MountRow) (changes : List Change)
-    → ((rest : List Change) → put_all t (changes ++ rest) ≡ put_all (with_rows t nodes shares mounts) rest)
-    → All (Differs t) changes → with_rows t nodes shares mounts ≢ t
-    → Tell t (stamped t (record (with_rows t nodes shares mounts) { meta = meta }) now changes) (with_meta t.meta (record meta { last = now }) changes)
-rows_told t now meta nodes shares mounts [] puts differ moved = absurd (moved (sym (puts [])))
-rows_told t now meta nodes shares mounts (change ∷ changes) puts differ moved =
+rows_told : (t : Tables) (now : ℕ) (meta : MetaRow) (made : Tables) (changes : List Change)
+    → ((rest : List Change) → put_all t (changes ++ rest) ≡ put_all (with_rows t made) rest)
+    → All (Differs t) changes → with_rows t made ≢ t
+    → Tell t (stamped t (record made { meta = meta }) now changes) (with_meta t.meta (record meta { last = now }) changes)
+rows_told t now meta made [] puts differ moved = absurd (moved (sym (puts [])))
+rows_told t now meta made (change ∷ changes) puts differ moved =
     let last = record meta { last = now } in
     record {
-      put = puts (new_meta t.meta last) ∙ put_meta (with_rows t nodes shares mounts) last;
+      put = puts (new_meta t.meta last) ∙ put_meta (with_rows t made) last;
       differ = All-append (Differs t) (change ∷ changes) (new_meta t.meta last) differ (meta_differs t last);
       none = λ same. absurd (moved (ap (λ (u : Tables). record u { meta = t.meta }) same));
     }
@@ -135,13 +135,10 @@ changes_told t now [] blob report sound known = nothing_told t
 changes_told t now (change ∷ changes) blob report sound known =
     let all : List Change = change ∷ changes in
     let up = raised t now all blob in
-    let built = only_built t blob up all known.rows in
-    let alone = built_alone t all built in
     let made = put_all t all in
-    subst (λ (made : Tables). Tell t (stamped t (record made { meta = up.meta }) now all) (with_meta t.meta up.meta all)) (sym alone)
-    (rows_told t now up.meta made.nodes made.shares made.mounts all (λ rest. put_more t all rest ∙ ap (λ (u : Tables). put_all u rest) alone)
-    known.lean.differ
-    (λ same. lean_moves t up blob change changes sound.rising refl refl built known.rows.0 known.lean (alone ∙ same)))
+    let alone : made ≡ record made { meta = t.meta } = meta_first t t.meta all (only_built t blob up all known.rows) in
+    rows_told t now up.meta made all (λ rest. put_more t all rest ∙ ap (λ (u : Tables). put_all u rest) alone) known.lean.differ
+    (λ same. lean_moves t up blob all sound.rising refl known.rows known.lean (λ none. cc) (alone ∙ same))
 
 all_given : (t : Tables) → AreSound t → All (λ (row : NodeRow). row.id < t.meta.next_node) t.nodes
 all_given t sound k d within = (sound.nodes k d within).given
@@ -211,7 +208,7 @@ gone_differ t top sound there =
 gone_told : (t : Tables) (now : ℕ) (top : ℕ) → AreSound t → KnownGone t top → TellsAct t now (allowed.Delete top)
 gone_told t now top sound known =
     let there = ap is_some known.there.1 in
-    rows_told t now t.meta (without_under t.nodes top) (ended_under t.nodes top t.shares) t.mounts (gone_under t.nodes t.shares top)
+    rows_told t now t.meta (removed t top) (gone_under t.nodes t.shares top)
     (λ rest. gone_one t top rest sound.rising sound.others.shares_rise) (gone_differ t top sound there) (λ same. under_fewer t.nodes top there (ap (λ (u : Tables). u.nodes) same))
 
 -- what is replaced is there
@@ -260,7 +257,7 @@ moved_told t now transfer name sound move =
     let still : node_row left transfer.node ≡ Some row = row_cleared t.nodes transfer.replaced transfer.node known.apart ∙ found.1 in
     subst (λ (o : Option NodeRow). Tell t (stamped t after now (gone ++ transferred_row o transfer name))
     (with_meta t.meta (record t.meta { last = now }) (gone ++ transferred_row o transfer name))) (sym found.1)
-    (rows_told t now t.meta after.nodes after.shares t.mounts (gone ++ new ∷ [])
+    (rows_told t now t.meta after (gone ++ new ∷ [])
     (λ rest. ap (put_all t) (append_assoc gone (new ∷ []) rest) ∙ gone_all t transfer.replaced (new ∷ rest) sound
     ∙ ap (λ (all : List NodeRow). put_all (record t { nodes = all; shares = after.shares }) rest)
     (put_changed left transfer.node change row refl (clearing_sound t transfer name sound known).rising still))
@@ -309,7 +306,7 @@ module _ (t : Tables) (now : ℕ) (copies : List NodeRow) (replaced : Option ℕ
 
   copies_told : TellsAct t now (allowed.Copy copies replaced)
   copies_told =
-      rows_told t now (joined t copies replaced).meta (cleared t.nodes replaced ++ copies) (ended_for t.nodes replaced t.shares) t.mounts copied_list copies_put
+      rows_told t now (joined t copies replaced).meta (joined t copies replaced) copied_list copies_put
       copies_differ
       (λ same. copies_more t (cleared t.nodes replaced) copies sound numbered
       (omega (arith, (mirrored t now copies replaced sound known).all, (walk_first t.nodes known.transfer.node).1)) (ap (λ (u : Tables). u.nodes) same))
@@ -324,7 +321,7 @@ crossed_told t now copies replaced top sound cross =
     let gone = gone_under t.nodes t.shares top in
     let list = copied_list t now copies replaced sound cross.copies in
     let source : is_some (node_row t.nodes top) ≡ true = ap (λ (n : ℕ). is_some (node_row t.nodes n)) cross.node_is ∙ ap is_some cross.copies.known.source.1 in
-    rows_told t now made.meta after.nodes after.shares t.mounts (list ++ gone)
+    rows_told t now made.meta after (list ++ gone)
     (λ rest. ap (put_all t) (append_assoc list gone rest) ∙ copies_put t now copies replaced sound cross.copies (gone ++ rest)
     ∙ ap (λ (changes : List Change). put_all beside (changes ++ rest)) (sym (crossed_gone t now copies replaced top sound cross))
     ∙ gone_one beside top rest
@@ -383,7 +380,7 @@ row_droppable : (o : Option NodeRow) (transfer : Transfer) (name : List ℕ) →
 row_droppable None transfer name = All-nil IsDroppable
 row_droppable (Some row) transfer name = put_droppable false (rows.Node (relinked transfer.folder name row))
 
--- where an act is a list, it is one of rows of nodes and mounts
+-- where an act is a list, it is one of changes that may be in one
 abbrev IsBuilt : Allowed → Type 0
 IsBuilt (allowed.Change changes blob report) = AreBuilt changes
 IsBuilt act = Unit {0}
@@ -405,7 +402,7 @@ with_meta_droppable old meta [] all = all
 with_meta_droppable old meta (change ∷ changes) all =
     All-append IsDroppable (change ∷ changes) (new_meta old meta) all (put_droppable (same_meta old meta) (rows.Meta meta))
 
--- a decision changes rows of nodes alone
+-- so it is for each decision
 abbrev DecidesBuilt : Result Allowed Denial → Type 0
 DecidesBuilt (Ok act) = IsBuilt act
 DecidesBuilt (Err refusal) = Unit {0}
@@ -437,7 +434,7 @@ begin_nodes call asked =
 
 stored_nodes : (t : Tables) (now : ℕ) (key : LockKey) (digest : List ℕ) (size : ℕ) → IsBuilt (stored_at t now key digest size)
 stored_nodes t now (Node node) digest size = let o = node_row t.nodes node in of_nodes _ (refilled o now _) (refilled_of o now _)
-stored_nodes t now (Slot folder name) digest size = tt
+stored_nodes t now (Slot folder name) digest size = (tt, tt)
 
 goal_nodes : (access : Access) (t : Tables) (now : ℕ) (outcome : Outcome) (goal : Goal) → DecidesBuilt (ends_goal access t now outcome goal)
 goal_nodes access t now (Body digest size) (Store by key wanted) =

@@ -1,26 +1,28 @@
 -- What who acts may read is served, and what they may change is changed, and nothing else.
-use Rattle.std.specs.Prelude.{◌≡◌, ◌≢◌, ◌↔◌, ◌⊎◌, ℕ, ◌&&◌, not, All, Bool, Contains, true, false, drop, List, [], ◌∷◌, map, Option, None, Some, is_some, Ok, option_and_then, if◌then◌else◌, unwrap_or}
+use Rattle.std.specs.Prelude.{◌≡◌, ◌≢◌, ◌↔◌, ◌⊎◌, ℕ, ◌&&◌, not, All, Bool, Contains, true, false, drop, List, [], ◌∷◌, ◌++◌, map, Option, None, Some, is_some, Ok, option_and_then, if◌then◌else◌, unwrap_or}
 use Rattle.std.specs.Option.{option_map_or}
 use Rattle.nf_access.specs.Access.{Allows, Reaches}
 use Rattle.nf_access.specs.Making.{is_part}
 use Rattle.nf_access.specs.Mounts.{is_mount_of, is_mounted, mount_row, free_name_of, name_of, names_in_root}
-use Rattle.nf_access.specs.Shares.{ground_of, mask_of, share_row, perms_of_share}
+use Rattle.nf_access.specs.Shares.{ground_of, is_before, mask_of, perms_of_share, receives, share_row}
 use Rattle.nf_base.specs.declared.content.Piece.{Piece}
 use Rattle.nf_base.specs.declared.perms.Act.{Act}
 use Rattle.nf_base.specs.declared.perms.Act.TheVariants as act
 use Rattle.nf_base.specs.declared.perms.Act.TheVariants.{Create, Delete, Read, Update}
+use Rattle.nf_base.specs.declared.rows.MemberRow.{MemberRow}
 use Rattle.nf_base.specs.declared.rows.MountRow.{MountRow}
 use Rattle.nf_base.specs.declared.rows.NodeRow.{NodeRow}
 use Rattle.nf_base.specs.declared.rows.Place.TheVariants.{Inside}
-use Rattle.nf_base.specs.declared.rows.ShareKind.TheVariants as kinds
 use Rattle.nf_base.specs.declared.rows.ShareRow.{ShareRow}
-use Rattle.nf_defs.specs.Prelude.{is_folder_kind, Leads, mount_key, node_row, owner_of, parent_of, put, share_key, Tables, user_named}
+use Rattle.nf_base.specs.declared.rows.UserRow.{UserRow}
+use Rattle.nf_defs.specs.People.{is_admin}
+use Rattle.nf_defs.specs.Prelude.{dropped, group_key, group_named, holder_of, is_folder_kind, Leads, member_key, node_row, owner_of, parent_of, put, share_key, Tables, token_key, user_key, user_named, user_row}
 use Rattle.nf_defs.specs.declared.Seeker.{Seeker}
 use Rattle.nf_defs.specs.declared.Seeker.TheVariants.{User}
 use Rattle.nf_laws.specs.Reads.{IsFreeToRead, IsWellAsked}
 use Rattle.nf_laws.specs.Tree.{Under}
 use Rattle.nf_words.specs.Listing.{all_permissions}
-use Rattle.nf_words.specs.Prelude.{access_of, after, answer_to, asker_of, Call, call_of, ended_row, goal_at, IsSound, last_name, listing_of, may_by, MayCome, MayWant, mount_of, Need, needed, needed_by, root_of, seeker_of, State, perms_after, set_fault, kind_of}
+use Rattle.nf_words.specs.Prelude.{access_of, after, answer_to, asker_of, Call, call_of, ended_row, goal_at, is_joined, is_member, IsModest, IsSound, kind_of, kind_to, last_name, listing_of, may_by, MayCome, MayWant, membership, mount_of, Need, needed, needed_by, new_root, new_user, people_limit, perms_after, receiver_named, root_of, row_named, seeker_of, set_fault, set_row, State, until_after}
 use Rattle.nf_words.specs.declared.answer.Goal.{Goal}
 use Rattle.nf_words.specs.declared.answer.Goal.TheVariants.{Serve, Store}
 use Rattle.nf_words.specs.declared.answer.Reply.TheVariants.{Granted, Listing}
@@ -28,9 +30,14 @@ use Rattle.nf_words.specs.declared.history.Entry.{Entry}
 use Rattle.nf_words.specs.declared.history.Event.{Event}
 use Rattle.nf_words.specs.declared.history.Event.TheVariants.{Begin, End}
 use Rattle.nf_words.specs.declared.listing.ListingLine.{ListingLine}
+use Rattle.nf_words.specs.declared.request.PeopleAsk.{PeopleAsk}
+use Rattle.nf_words.specs.declared.request.PeopleAsk.TheVariants as people
+use Rattle.nf_words.specs.declared.request.Receiver.{Receiver}
 use Rattle.nf_words.specs.declared.request.Request.{Request}
+use Rattle.nf_words.specs.declared.request.Sharee.{Sharee}
 use Rattle.nf_words.specs.declared.request.Spot.{Spot}
-use Rattle.nf_words.specs.declared.request.Wanted.TheVariants.{Delete, Get, Move, Share}
+use Rattle.nf_words.specs.declared.request.Until.{Until}
+use Rattle.nf_words.specs.declared.request.Wanted.TheVariants.{Delete, Get, Move, People, Share}
 use Rattle.nf_words.specs.declared.request.ShareAsk.TheVariants as ask
 use Rattle.nf_words.specs.declared.request.Words.{Words}
 
@@ -226,18 +233,19 @@ IsPassedOn call spot row (Some parent) =
     × Allows (ground_of call.state.tables) call.now (seeker_of call) mount act.Share share up
     × (is_part row.perms (mask_of (share ∷ up)) ≡ true))
 
--- a new share of what a path of the caller's leads to, with the user of that name
-pub record IsMadeBy (call : Call) (spot : Spot) (to : List ℕ) (perms : Option ℕ) (row : ShareRow) : Type 0 where
+-- a new share of what a path of the caller's leads to, with the user or the group of that name, and to that end, which is to come
+pub record IsMadeBy (call : Call) (spot : Spot) (to : Sharee) (perms until : Option ℕ) (row : ShareRow) : Type 0 where
   pub number : row.id ≡ call.state.tables.meta.next_share
   pub led : LeadsBy call spot (mount_of call spot) row.node
   pub initiator : row.initiator ≡ asker_of call
   pub owner : row.owner ≡ owner_of call.state.tables.nodes row.node
-  pub user : ℕ
-  pub named : user_named call.state.tables.users to ≡ Some user
-  pub kind : row.kind ≡ kinds.User user
+  pub receiver : Receiver
+  pub named : receiver_named call.state.tables to ≡ Some receiver
+  pub kind : row.kind ≡ kind_to receiver
   pub allowed : row.perms ≡ perms_of_share (kind_of call.state.tables.nodes row.node) row.kind (unwrap_or perms all_permissions)
   pub passed_on : IsPassedOn call spot row row.parent
-  pub forever : row.until ≡ None
+  pub ends : row.until ≡ until
+  pub later : is_before call.now until ≡ true
   pub lasts : row.ended ≡ false
 
 -- a share that is there and isn't ended, by who made it or owns its node
@@ -246,26 +254,34 @@ pub record IsSteered (call : Call) (share : ℕ) (old : ShareRow) : Type 0 where
   pub lasts : old.ended ≡ false
   pub by : (old.initiator ≡ asker_of call) ⊎ (old.owner ≡ asker_of call)
 
--- the one share that is made, has other permissions, which no rule forbids, or is ended
+-- the one share that is made, has other permissions or another end, which no rule forbids, or is ended
 pub data SharesOne (call : Call) : ShareRow → Type 0 where
-  is_made : (spot : Spot) (to : List ℕ) (perms : Option ℕ) (row : ShareRow) → call.request.wanted ≡ Share (ask.New spot to perms)
-      → IsMadeBy call spot to perms row → SharesOne call row
-  is_set : (share : ℕ) (perms : Option ℕ) (old row : ShareRow) → call.request.wanted ≡ Share (ask.Set share perms)
-      → IsSteered call share old → row ≡ record old { perms = perms_after call.state.tables perms old }
-      → set_fault call.state.tables perms old ≡ None → SharesOne call row
+  is_made : (spot : Spot) (to : Sharee) (perms until : Option ℕ) (row : ShareRow)
+      → call.request.wanted ≡ Share (ask.New spot to perms until) → IsMadeBy call spot to perms until row → SharesOne call row
+  is_set : (share : ℕ) (perms : Option ℕ) (until : Until) (old row : ShareRow)
+      → call.request.wanted ≡ Share (ask.Set share perms until) → IsSteered call share old
+      → row ≡ set_row (perms_after call.state.tables perms old) (until_after until old.until) old
+      → set_fault call.state.tables call.now perms until old ≡ None → SharesOne call row
   is_ended : (share : ℕ) (old : ShareRow) → call.request.wanted ≡ Share (ask.End share) → IsSteered call share old
       → SharesOne call (ended_row old)
 
--- a mount of the node of a new share, under a free name, for its user, who has none
+-- each mount is as it was or one that is given; and each that was there is as it was, or was left and its user has one again
+pub record MountsGiven (before after : List MountRow) (IsGiven : MountRow → Type 0) : Type 0 where
+  pub each : All (λ (row : MountRow). Contains before row ⊎ IsGiven row) after
+  pub kept : (row : MountRow) → Contains before row
+      → Contains after row ⊎ ((row.left ≡ true) × (is_mounted after row.user row.node ≡ true))
+
+-- a mount of the node of a new share, under a free name, for a user whom the share names, who has none and doesn't own the node
 pub record IsMountFor (t : Tables) (share : ShareRow) (row : MountRow) : Type 0 where
   pub new : share.id ≡ t.meta.next_share
-  pub user : share.kind ≡ kinds.User row.user
+  pub user : receives t.members (User row.user) share ≡ true
+  pub there : is_some (user_row t.users row.user) ≡ true
   pub node : row.node ≡ share.node
   pub name : row.name ≡ free_name_of (name_of t.nodes row.node) (names_in_root t.users t.nodes t.mounts row.user)
   pub stays : row.left ≡ false
   pub none : is_mounted t.mounts row.user row.node ≡ false
 
--- a Begin makes, changes or ends one share, and a mount for it if it is new; no node is another
+-- a Begin makes, changes or ends one share, and mounts for all whom it names if it is new; no node is another
 pub record IsSharing (s : State) (e : Entry) (after : Tables) : Type 0 where
   pub words : Words
   pub request : Request
@@ -273,9 +289,62 @@ pub record IsSharing (s : State) (e : Entry) (after : Tables) : Type 0 where
   pub row : ShareRow
   pub one : SharesOne (call_of s e.seat e.moment words request) row
   pub shares : after.shares ≡ put share_key row s.tables.shares
-  pub mounts : (after.mounts ≡ s.tables.mounts)
-      ⊎ ((mount : MountRow) × IsMountFor s.tables row mount × (after.mounts ≡ put mount_key mount s.tables.mounts))
+  pub mounts : MountsGiven s.tables.mounts after.mounts (IsMountFor s.tables row)
+  pub mounted : row.id ≡ s.tables.meta.next_share → (user : ℕ) → receives s.tables.members (User user) row ≡ true
+      → is_some (user_row s.tables.users user) ≡ true → is_mounted after.mounts user row.node ≡ true
   pub nodes : after.nodes ≡ s.tables.nodes
+
+-- ---- what is asked about users and groups
+
+-- a mount of the node of a share of the group that a user joins, for that user, who has none and doesn't own the node
+pub record IsMountJoined (t : Tables) (joins : MemberRow) (row : MountRow) : Type 0 where
+  pub share : ShareRow
+  pub among : Contains t.shares share
+  pub joined : is_joined joins share ≡ true
+  pub user : row.user ≡ joins.user
+  pub node : row.node ≡ share.node
+  pub stays : row.left ≡ false
+  pub none : is_mounted t.mounts row.user row.node ≡ false
+
+-- what is asked about users and groups makes of the tables; but for the meta row no other row is another
+pub data Provides (t : Tables) (now : ℕ) (after : Tables) : PeopleAsk → Type 0 where
+  makes_user : (name token : List ℕ) (quota : ℕ) → user_named t.users name ≡ None → holder_of t.tokens token ≡ None
+      → after ≡ record t {
+        meta = after.meta;
+        users = put user_key (new_user t name quota) t.users;
+        tokens = put token_key (record { digest = token; user = t.meta.next_user }) t.tokens;
+        nodes = t.nodes ++ new_root t now name ∷ [];
+      }
+      → Provides t now after (people.NewUser name token quota)
+  makes_group : (name : List ℕ) → group_named t.groups name ≡ None
+      → after ≡ record t { meta = after.meta; groups = put group_key (record { id = t.meta.next_group; name = name }) t.groups }
+      → Provides t now after (people.NewGroup name)
+  joins : (user group : List ℕ) (row : MemberRow) → membership t user group ≡ Some row → is_member t row ≡ false
+      → after ≡ record t { meta = after.meta; members = put member_key row t.members; mounts = after.mounts }
+      → MountsGiven t.mounts after.mounts (IsMountJoined t row)
+      → All (λ (share : ShareRow). is_joined row share ≡ true → is_mounted after.mounts row.user share.node ≡ true) t.shares
+      → Provides t now after (people.AddMember user group)
+  leaves : (user group : List ℕ) (row : MemberRow) → membership t user group ≡ Some row → is_member t row ≡ true
+      → after ≡ record t { meta = after.meta; members = dropped member_key (row.group ∷ row.user ∷ []) t.members }
+      → Provides t now after (people.DropMember user group)
+  has_quota : (user : List ℕ) (quota : ℕ) (row : UserRow) → row_named t user ≡ Some row
+      → after ≡ record t { meta = after.meta; users = put user_key (record row { quota = quota }) t.users }
+      → Provides t now after (people.SetQuota user quota)
+  has_token : (user token : List ℕ) (id : ℕ) → user_named t.users user ≡ Some id → holder_of t.tokens token ≡ None
+      → after ≡ record t { meta = after.meta; tokens = put token_key (record { digest = token; user = id }) t.tokens }
+      → Provides t now after (people.AddToken user token)
+
+-- a Begin by a member of the group `admin` makes a user, a group, a token or a member, takes a member out, or sets a quota
+pub record IsProviding (s : State) (e : Entry) (after : Tables) : Type 0 where
+  pub words : Words
+  pub request : Request
+  pub begins : e.event ≡ Begin words request
+  pub asked : PeopleAsk
+  pub wanted : request.wanted ≡ People asked
+  pub by_admin : is_admin s.tables.groups s.tables.members (asker_of (call_of s e.seat e.moment words request)) ≡ true
+  pub modest : IsModest asked
+  pub few : people_limit s.tables asked ≡ None
+  pub provides : Provides s.tables e.moment after asked
 
 -- a share ends exactly where its node goes, and no share and no mount is another otherwise
 pub record KeepsShares (before after : Tables) : Type 0 where
@@ -284,13 +353,18 @@ pub record KeepsShares (before after : Tables) : Type 0 where
 
 -- ---- what a step changes
 
--- each node whose row is another is allowed to be. A share ends exactly where its node goes, and no share and no mount is another
--- otherwise, but for the mount whose own path is named, or the share that is asked about. Of the other rows the meta row alone is another
-pub record ChangesAllowed (s : State) (e : Entry) (after : Tables) : Type 0 where
+-- a step changes users, groups, tokens and members, and the root of a new user and the mounts of a new member with them, or none of
+-- these: then each node whose row is another is allowed to be. A share ends exactly where its node goes, and no share and no mount is
+-- another otherwise, but for the mount whose own path is named, or the share that is asked about. Of the other rows the meta row alone is
+-- another
+pub record NodesAllowed (s : State) (e : Entry) (after : Tables) : Type 0 where
   pub nodes : (node : ℕ) → node_row after.nodes node ≢ node_row s.tables.nodes node
       → IsAllowed s e.moment (seeker_at s e.seat e.moment e.event) (needs_of s e.seat e.moment e.event) after.nodes node
   pub others : KeepsShares s.tables after ⊎ (IsRemounted s e after ⊎ IsSharing s e after)
   pub rest : after ≡ record s.tables { meta = after.meta; nodes = after.nodes; shares = after.shares; mounts = after.mounts }
+
+abbrev pub ChangesAllowed : State → Entry → Tables → Type 0
+ChangesAllowed s e after = NodesAllowed s e after ⊎ IsProviding s e after
 
 abbrev pub ChangesWhatMayBeChanged : Type 0
 ChangesWhatMayBeChanged = (n : ℕ) (s : State) (e : Entry) → IsSound s → MayCome n s e → ChangesAllowed s e (after s e).tables

@@ -35,9 +35,12 @@ pub fn what_may_be_read_is_listed()
 {}
 
 /// A step makes a node's row another only where who acts may do all that the request needs, and what became of the node follows
-/// from that: it is updated, made, moved, or gone with what is deleted. A share ends exactly where its node goes, and none is another
-/// otherwise. The mounts are as they were, or the caller's one whose own path a DELETE or a MOVE names is left or has another name, and
-/// then no node and no share is another. Of the other rows the meta row alone becomes another.
+/// from that: it is updated, made, moved, or gone with what is deleted. A share ends exactly where its node goes, and no share and no
+/// mount is another otherwise. But where a DELETE or a MOVE names the own path of one of the caller's mounts, that mount is left or has
+/// another name; and what is asked about shares makes, changes or ends one share, which the caller may pass on or steers, with mounts
+/// for all whom a new one names: then no node is another. Users, groups, tokens and members become others only where a member of the
+/// group `admin` asks for that, and just as it is asked; with them come the root of a new user and the mounts of a new member. Of the
+/// other rows the meta row alone becomes another.
 pub fn changes_what_may_be_changed()
     ensures { ChangesWhatMayBeChanged }
 {}

@@ -26,7 +26,7 @@ found_has P test [] all = tt
 found_has P test (x ∷ xs) all =
     cond_both (test x) (Some x) (find test xs) (λ (o : Option _). IfSome o P) (λ _. All-head P x xs all) (λ _. found_has P test xs (All-tail P x xs all))
 
-find_filter : {X : Type 0} (p test : X → Bool) (xs : List X) → find test (filter p xs) ≡ find (λ x. p x && test x) xs
+pub find_filter : {X : Type 0} (p test : X → Bool) (xs : List X) → find test (filter p xs) ≡ find (λ x. p x && test x) xs
 find_filter p test [] = refl
 find_filter p test (x ∷ xs) = let rest = find_filter p test xs in grind arith
 

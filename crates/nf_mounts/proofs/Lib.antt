@@ -3,3 +3,4 @@ pub mod Puts
 pub mod Found
 pub mod Loaded
 pub mod Naming
+pub mod Ensured

@@ -1,6 +1,5 @@
 -- The names that are taken in a root, and the one that is free.
-use Rattle.std.proofs.Common.{ℕ, zero, suc, ◌+◌, ◌<◌, ◌≤◌, ◌≡◌, Bool, true, false, ◌&&◌, ◌||◌, List, [], ◌∷◌, Some, option_map, is_some, bytes_eq, map, filter, find, length, length-append, refl, sym, ap, ◌∙◌, inl, inr, arith}
-use Rattle.std.specs.Prelude.{if◌then◌else◌}
+use Rattle.std.proofs.Common.{ℕ, zero, suc, ◌+◌, ◌<◌, ◌≤◌, ◌≡◌, Bool, true, false, ◌&&◌, ◌||◌, List, Some, option_map, is_some, bytes_eq, map, filter, find, length, refl, sym, ap, ◌∙◌, inl, inr, arith}
 use Rattle.std.proofs.lemmas.Bool.{cases_lt}
 use Rattle.std.proofs.lemmas.List.Folds.{list_any-append}
 use Rattle.nf_access.specs.Mounts.{free_name_of, free_number, is_shown_to, root_folder}
@@ -10,7 +9,7 @@ use Rattle.nf_base.proofs.FreeNames.{AreTakenBelow}
 use Rattle.nf_base.specs.declared.rows.MountRow.{MountRow}
 use Rattle.nf_base.specs.declared.rows.NodeRow.{NodeRow}
 use Rattle.nf_base.specs.declared.rows.UserRow.{UserRow}
-use Rattle.nf_defs.specs.Tree.{child_of, is_in, taken_names}
+use Rattle.nf_defs.specs.Tree.{child_of, taken_names}
 use Rattle.nf_mounts.specs.Kept.{is_named, is_other, names_beside}
 
 -- ---- names that are taken

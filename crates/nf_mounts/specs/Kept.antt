@@ -22,6 +22,11 @@ pub record KeptMounts : Type 0 where
 abbrev pub left_row : MountRow → MountRow
 left_row row = record row { left = true }
 
+-- the row, if there is one
+abbrev pub one_or_none : Option MountRow → List MountRow
+one_or_none None = []
+one_or_none (Some row) = row ∷ []
+
 -- ---- mounts by their names
 
 abbrev pub entry_key : NamedMount → List ℕ

@@ -4,6 +4,7 @@ ghost use Rattle.std.specs.Prelude.{◌≡◌, ◌==◌, ◌+◌, ◌≤◌, ◌
 ghost use Rattle.std.specs.Option.{option_map_or};
 ghost use Rattle.nf_access.specs.Mounts.{ensured, free_name_of, is_mounted, mount_at, mount_row, names_in_root, root_folder};
 ghost use Rattle.nf_base.specs.FreeNames.{is_taken};
+ghost use Rattle.nf_base.specs.declared.limits.TheConstants.{MAX_MOUNTS, MAX_SHARES};
 ghost use Rattle.nf_defs.specs.Prelude.{IsRising, child_of, mount_key, node_row, put};
 ghost use Rattle.nf_mounts.specs.Kept.{Renames, is_named, left_row, names_beside};
 
@@ -159,7 +160,7 @@ impl Mounts {
         node: NodeId,
     ) -> Result<Option<MountRow>, AllocError>
         requires node { IsSome (node_row tree.now.rows node) }
-        requires few { length self.now.rows ≤ MAX_MOUNTS }
+        requires few { length self.now.rows ≤ MAX_MOUNTS + MAX_SHARES }
         ensures { IfOk result (λ row. row ≡ ensured people.now.users tree.now.rows self.now.rows user node) }
     {
         if self.is_mounted(user, node) {
@@ -252,7 +253,7 @@ impl Mounts {
         user: UserId,
         name: &Name,
     ) -> Result<Name, AllocError>
-        requires { length self.now.rows ≤ MAX_MOUNTS }
+        requires { length self.now.rows ≤ MAX_MOUNTS + MAX_SHARES }
         ensures { IfOk result (λ free. free ≡ free_name_of name.now (names_in_root people.now.users tree.now.rows self.now.rows user)) }
     {
         if self.is_name_free(people, tree, user, name) {

@@ -1,21 +1,23 @@
-//! What is asked about shares.
+//! What is asked about shares, and which request a message is.
 
 ghost use Rattle.std.specs.Prelude.{◌≡◌};
-ghost use Rattle.nf_ocs.specs.Asked.{ask_of, end_of, is_ocs_route as is_of_ocs, is_true as says_true, list_of, new_of, ocs_request_of, offered as is_offered, set_of, set_with as is_set, show_of, topic_of};
+ghost use Rattle.nf_words.specs.History.{end_in as end_of_until};
+ghost use Rattle.nf_ocs.specs.Asked.{ask_of, end_of, is_ocs_route as is_of_ocs, is_true as says_true, list_of, new_of, ocs_request_of, offered as is_offered, set_of, show_of, topic_of};
 ghost use Rattle.nf_ocs.specs.Read.{Gives};
 ghost use Rattle.nf_ocs.specs.Sent.{fields_of, given_in};
 
 use crate::Unread;
 use crate::bodies::{body, says_ocs};
 use crate::parameters::{
-    ShareType, has_date, id, needed, no_password, optional, permissions, recipient, share_type,
-    spot, spot_in,
+    ShareType, id, needed, no_password, optional, permissions, recipient, share_type, spot,
+    spot_in, until,
 };
+use crate::people::{add_member, drop_member, new_group, new_user, set_user};
 use crate::sent::{Given, Sent, Text};
-use nf_base::{Name, Perms, ShareId};
+use nf_base::{Moment, Name, Perms};
 use nf_http::Message;
 use nf_routes::{Method, query};
-use nf_words::{Denial, Parameter, Route, ShareAsk};
+use nf_words::{Denial, Parameter, Route, ShareAsk, Sharee, Until, Wanted};
 use std::alloc::{AllocError, Global};
 
 /// What a request is about.
@@ -26,8 +28,11 @@ pub enum Topic {
     Show,
     Set,
     End,
-    /// Users and groups.
-    People,
+    NewUser,
+    SetUser,
+    AddMember,
+    DropMember,
+    NewGroup,
 }
 
 /// Whether a route is of the OCS API.
@@ -54,7 +59,7 @@ pub fn read(
     method: Method,
     message: &Message,
     bytes: &[u8],
-) -> Result<ShareAsk, Unread>
+) -> Result<Wanted, Unread>
     ensures { Gives (ocs_request_of route method message.now bytes.now) result }
 {
     if !says_ocs(message) {
@@ -76,20 +81,28 @@ fn topic_on(route: Route, method: Method) -> Topic
         (Route::Share, Method::Get) => Topic::Show,
         (Route::Share, Method::Put) => Topic::Set,
         (Route::Share, Method::Delete) => Topic::End,
-        _ => Topic::People,
+        (Route::Users, Method::Post) => Topic::NewUser,
+        (Route::User, Method::Put) => Topic::SetUser,
+        (Route::Memberships, Method::Post) => Topic::AddMember,
+        (Route::Memberships, Method::Delete) => Topic::DropMember,
+        _ => Topic::NewGroup,
     }
 }
 
-fn ask(alloc: Global, topic: Topic, target: &[u8], sent: &Sent<'_>) -> Result<ShareAsk, Unread>
+fn ask(alloc: Global, topic: Topic, target: &[u8], sent: &Sent<'_>) -> Result<Wanted, Unread>
     ensures { Gives (ask_of topic target.now (given_in (fields_of sent.now.body) sent.now.query.now)) result }
 {
     match topic {
-        Topic::List => list(alloc, sent),
-        Topic::New => new(alloc, sent),
-        Topic::Show => show(alloc, target, sent),
-        Topic::Set => set(alloc, target, sent),
-        Topic::End => end(alloc, target, sent),
-        Topic::People => Err(Unread::Refused(Denial::NotBuilt)),
+        Topic::List => Ok(Wanted::Share(list(alloc, sent)?)),
+        Topic::New => Ok(Wanted::Share(new(alloc, sent)?)),
+        Topic::Show => Ok(Wanted::Share(show(alloc, target, sent)?)),
+        Topic::Set => Ok(Wanted::Share(set(alloc, target, sent)?)),
+        Topic::End => Ok(Wanted::Share(end(alloc, target, sent)?)),
+        Topic::NewUser => Ok(Wanted::People(new_user(alloc, sent)?)),
+        Topic::SetUser => Ok(Wanted::People(set_user(alloc, target, sent)?)),
+        Topic::AddMember => Ok(Wanted::People(add_member(alloc, target, sent)?)),
+        Topic::DropMember => Ok(Wanted::People(drop_member(alloc, target, sent)?)),
+        Topic::NewGroup => Ok(Wanted::People(new_group(alloc, sent)?)),
     }
 }
 
@@ -100,9 +113,18 @@ fn new(alloc: Global, sent: &Sent<'_>) -> Result<ShareAsk, Unread>
     let kind = share_type(sent.given(alloc, "shareType")?)?;
     let to = recipient(alloc, kind, sent.given(alloc, "shareWith")?)?;
     let perms = permissions(sent.given(alloc, "permissions")?)?;
-    let date = has_date(sent.given(alloc, "expireDate")?)?;
+    let until = until(sent.given(alloc, "expireDate")?)?;
     no_password(sent.given(alloc, "password")?)?;
-    offered(alloc, &path, kind, to, perms, date)
+    offered(alloc, &path, kind, to, perms, end_in(until))
+}
+
+fn end_in(until: Until) -> Option<Moment>
+    ensures { result ≡ end_of_until until }
+{
+    match until {
+        Until::At(end) => Some(end),
+        Until::Keep | Until::Never => None,
+    }
 }
 
 fn offered(
@@ -111,15 +133,22 @@ fn offered(
     kind: ShareType,
     to: Option<Name>,
     perms: Option<Perms>,
-    date: bool,
+    until: Option<Moment>,
 ) -> Result<ShareAsk, Unread>
-    ensures { Gives (is_offered path.now kind to perms date) result }
+    ensures { Gives (is_offered path.now kind to perms until) result }
 {
-    match (kind, to, date) {
-        (ShareType::User, Some(to), false) => Ok(ShareAsk::New {
+    match (kind, to) {
+        (ShareType::User, Some(to)) => Ok(ShareAsk::New {
             spot: spot(alloc, path)?,
-            to,
+            to: Sharee::User(to),
             perms,
+            until,
+        }),
+        (ShareType::Group, Some(to)) => Ok(ShareAsk::New {
+            spot: spot(alloc, path)?,
+            to: Sharee::Group(to),
+            perms,
+            until,
         }),
         _ => Err(Unread::Refused(Denial::NotBuilt)),
     }
@@ -157,19 +186,13 @@ fn set(alloc: Global, target: &[u8], sent: &Sent<'_>) -> Result<ShareAsk, Unread
 {
     let id = id(alloc, target)?;
     let perms = permissions(sent.given(alloc, "permissions")?)?;
-    let date = has_date(sent.given(alloc, "expireDate")?)?;
+    let until = until(sent.given(alloc, "expireDate")?)?;
     no_password(sent.given(alloc, "password")?)?;
-    set_with(id, perms, date)
-}
-
-fn set_with(share: ShareId, perms: Option<Perms>, date: bool) -> Result<ShareAsk, Unread>
-    ensures { Gives (is_set share perms date) result }
-{
-    if date {
-        Err(Unread::Refused(Denial::NotBuilt))
-    } else {
-        Ok(ShareAsk::Set { share, perms })
-    }
+    Ok(ShareAsk::Set {
+        share: id,
+        perms,
+        until,
+    })
 }
 
 fn end(alloc: Global, target: &[u8], sent: &Sent<'_>) -> Result<ShareAsk, Unread>

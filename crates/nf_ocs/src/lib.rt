@@ -1,9 +1,11 @@
-//! The OCS Share API (Nextcloud developer manual): what is asked about shares, and the JSON of what is told of them.
+//! The OCS Share API and the User provisioning API (Nextcloud developer manual): what is asked about shares, users and groups, and the JSON of
+//! what is told of shares.
 #![tactic(auto)]
 
 mod asked;
 mod bodies;
 mod parameters;
+mod people;
 mod sent;
 mod told;
 

@@ -1,8 +1,10 @@
-//! The parameters of what is asked about shares.
+//! The parameters of what is asked about shares, users and groups.
 
 ghost use Rattle.std.specs.Prelude.{◌≡◌, IfOk, map, option_and_then};
-ghost use Rattle.std.specs.List.{slice_split};
-ghost use Rattle.nf_ocs.specs.Parameters.{begins_with_zero as begins_with_a_zero, has_date as has_a_date, id_of, is_empty as says_nothing, names_in, needed as is_needed, no_password as has_no_password, number_in as number_of, optional as may_be, permissions_in as permissions_of_text, permissions_of, permitted as may_be_permitted, recipient_in as recipient_of_text, recipient_of, spot_in as spot_of_text, spot_of, type_in as type_of_text, type_of, without_front as behind_front};
+ghost use Rattle.std.specs.Char.{is_ascii_graphic};
+ghost use Rattle.std.specs.List.{list_all, slice_split};
+ghost use Rattle.nf_dates.specs.Dates.{end_written};
+ghost use Rattle.nf_ocs.specs.Parameters.{begins_with_zero as begins_with_a_zero, id_of, is_empty as says_nothing, is_token as may_be_token, modest as may_be_quota, name_in as name_of_text, name_of, names_in, needed as is_needed, no_password as has_no_password, number_in as number_of, optional as may_be, permissions_in as permissions_of_text, permissions_of, permitted as may_be_permitted, quota_in as quota_of_text, quota_of, recipient_of, spot_in as spot_of_text, spot_of, token_in as token_of_text, token_of, type_in as type_of_text, type_of, until_in as until_of_text, until_of, user_of, without_front as behind_front};
 ghost use Rattle.nf_ocs.specs.Read.{Gives};
 ghost use Rattle.nf_ocs.specs.declared.Unread.TheVariants.{Refused};
 ghost use Rattle.nf_words.specs.declared.answer.Denial.TheVariants.{BadParameter};
@@ -10,10 +12,11 @@ ghost use Rattle.nf_routes.specs.Targets.{is_slash, without_slash as before_slas
 
 use crate::Unread;
 use crate::sent::{Given, Text};
-use nf_base::{Name, NameFault, Path, Perms, ShareId};
+use nf_base::{Digest, MAX_QUOTA, Name, NameFault, Path, Perms, ShareId};
+use nf_dates::read_end;
 use nf_http::read_length;
-use nf_routes::{pieces, share_segment};
-use nf_words::{Denial, Parameter, Spot};
+use nf_routes::{pieces, share_segment, user_segment};
+use nf_words::{Denial, Parameter, Spot, Until};
 use std::alloc::{AllocError, Global};
 
 /// What kind of recipient a share has.
@@ -24,7 +27,8 @@ pub enum ShareType {
     Link,
 }
 
-fn unread(parameter: Parameter) -> Unread
+/// That a parameter is missing or can't be read.
+pub(crate) fn unread(parameter: Parameter) -> Unread
     ensures { result ≡ Refused (BadParameter parameter) }
 {
     Unread::Refused(Denial::BadParameter(parameter))
@@ -179,20 +183,38 @@ pub(crate) fn recipient(
 {
     match kind {
         ShareType::User | ShareType::Group => {
-            let text = needed(Parameter::ShareWith, given)?;
-            recipient_in(alloc, text.as_bytes())
+            Ok(Some(name(alloc, Parameter::ShareWith, given)?))
         }
         ShareType::Link => Ok(None),
     }
 }
 
-fn recipient_in(alloc: Global, text: &[u8]) -> Result<Option<Name>, Unread>
-    ensures { Gives (recipient_of_text text.now) result }
+/// The name that a parameter has to give.
+pub(crate) fn name(alloc: Global, parameter: Parameter, given: Given) -> Result<Name, Unread>
+    ensures { Gives (name_of parameter given) result }
+{
+    let text = needed(parameter, given)?;
+    name_in(alloc, parameter, text.as_bytes())
+}
+
+fn name_in(alloc: Global, parameter: Parameter, text: &[u8]) -> Result<Name, Unread>
+    ensures { Gives (name_of_text parameter text.now) result }
 {
     match Name::read(alloc, text) {
-        Ok(name) => Ok(Some(name)),
+        Ok(name) => Ok(name),
         Err(NameFault::Memory) => Err(Unread::Memory),
-        Err(_) => Err(unread(Parameter::ShareWith)),
+        Err(_) => Err(unread(parameter)),
+    }
+}
+
+/// The user that the path of a target names.
+pub(crate) fn user(alloc: Global, target: &[u8]) -> Result<Name, Unread>
+    ensures { Gives (user_of target.now) result }
+{
+    match Name::read(alloc, &user_segment(alloc, target)?) {
+        Ok(name) => Ok(name),
+        Err(NameFault::Memory) => Err(Unread::Memory),
+        Err(fault) => Err(Unread::Refused(Denial::BadName(fault))),
     }
 }
 
@@ -232,12 +254,27 @@ fn permitted(number: u64) -> Option<Perms>
     }
 }
 
-/// Whether there is a date.
-pub(crate) fn has_date(given: Given) -> Result<bool, Unread>
-    ensures { Gives (has_a_date given) result }
+/// What becomes of the end of a share.
+pub(crate) fn until(given: Given) -> Result<Until, Unread>
+    ensures { Gives (until_of given) result }
 {
     let date = optional(Parameter::ExpireDate, given)?;
-    Ok(!is_empty(&date))
+    until_in(&date)
+}
+
+fn until_in(date: &Option<Text>) -> Result<Until, Unread>
+    ensures { Gives (until_of_text date.now) result }
+{
+    let Some(date) = date else {
+        return Ok(Until::Keep);
+    };
+    if date.as_bytes().is_empty() {
+        return Ok(Until::Never);
+    }
+    match read_end(date.as_bytes()) {
+        Some(end) => Ok(Until::At(end)),
+        None => Err(unread(Parameter::ExpireDate)),
+    }
 }
 
 /// That there is no password.
@@ -249,5 +286,68 @@ pub(crate) fn no_password(given: Given) -> Result<(), Unread>
         Ok(())
     } else {
         Err(unread(Parameter::Password))
+    }
+}
+
+/// The digest of the token that a parameter has to give.
+pub(crate) fn token(parameter: Parameter, given: Given) -> Result<Digest, Unread>
+    ensures { Gives (token_of parameter given) result }
+{
+    let text = needed(parameter, given)?;
+    token_in(parameter, text.as_bytes())
+}
+
+fn token_in(parameter: Parameter, text: &[u8]) -> Result<Digest, Unread>
+    ensures { Gives (token_of_text parameter text.now) result }
+{
+    if is_token(text) {
+        Ok(Digest::of(text))
+    } else {
+        Err(unread(parameter))
+    }
+}
+
+fn is_token(text: &[u8]) -> bool
+    ensures { result ≡ may_be_token text.now }
+{
+    1 <= text.len() && text.len() <= 128 && is_visible(text)
+}
+
+fn is_visible(text: &[u8]) -> bool
+    ensures { result ≡ list_all is_ascii_graphic text.now }
+{
+    text.iter().all(|byte| byte.is_ascii_graphic())
+}
+
+/// The quota that a parameter has to give.
+pub(crate) fn quota(parameter: Parameter, given: Given) -> Result<u64, Unread>
+    ensures { Gives (quota_of parameter given) result }
+{
+    let text = needed(parameter, given)?;
+    quota_in(parameter, text.as_bytes())
+}
+
+fn quota_in(parameter: Parameter, text: &[u8]) -> Result<u64, Unread>
+    ensures { Gives (quota_of_text parameter text.now) result }
+{
+    match modest_in(text) {
+        Some(quota) => Ok(quota),
+        None => Err(unread(parameter)),
+    }
+}
+
+fn modest_in(text: &[u8]) -> Option<u64>
+    ensures { result ≡ option_and_then may_be_quota (number_of text.now) }
+{
+    modest(number_in(text)?)
+}
+
+fn modest(number: u64) -> Option<u64>
+    ensures { result ≡ may_be_quota number }
+{
+    if number <= MAX_QUOTA {
+        Some(number)
+    } else {
+        None
     }
 }

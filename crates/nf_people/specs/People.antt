@@ -8,6 +8,7 @@ use Rattle.nf_base.specs.declared.rows.GroupRow.{GroupRow}
 use Rattle.nf_base.specs.declared.rows.MemberRow.{MemberRow}
 use Rattle.nf_defs.specs.Prelude.{group_key, IsRising, member_key, token_key, user_key}
 use Rattle.nf_people.specs.Names.{AreNamedApart}
+use Rattle.nf_people.specs.declared.people.PeopleCounts.{PeopleCounts}
 
 -- how many of each kind fit without more memory
 pub record Room : Type 0 where
@@ -46,12 +47,16 @@ FitsGroup p = length p.groups + 1 ≤ p.room.groups
 abbrev pub FitsMember : PeopleValue → Type 0
 FitsMember p = length p.members + 1 ≤ p.room.members
 
--- one more of each kind fits
-pub record HasRoom (p : PeopleValue) : Type 0 where
-  pub user : FitsUser p
-  pub token : FitsToken p
-  pub group : FitsGroup p
-  pub member : FitsMember p
+-- so many more of each kind fit
+pub record HasRoom (p : PeopleValue) (added : PeopleCounts) : Type 0 where
+  pub users : length p.users + added.users ≤ p.room.users
+  pub tokens : length p.tokens + added.tokens ≤ p.room.tokens
+  pub groups : length p.groups + added.groups ≤ p.room.groups
+  pub members : length p.members + added.members ≤ p.room.members
+
+-- the rows that are there fit
+abbrev pub IsHeld : PeopleValue → Type 0
+IsHeld p = HasRoom p (record { users = 0; tokens = 0; groups = 0; members = 0 })
 
 -- the rows of people, by rising kind and key
 abbrev pub rows_of_people : PeopleValue → List Row

@@ -78,6 +78,7 @@ impl<R: Named + Drop> NamedRows<R> {
         ensures rows { result.now ≡ self.now.rows }
         ensures rising { IsRising R.key self.now.rows }
         ensures apart { AreNamedApart R.name_of self.now.rows }
+        ensures held { length self.now.rows ≤ self.now.room }
     {
         &self.rows
     }
@@ -90,13 +91,13 @@ impl<R: Named + Drop> NamedRows<R> {
         Some(&self.rows[self.by_name[at]])
     }
 
-    /// Makes room for one row more.
-    pub(crate) fn reserve(&mut self) -> Result<(), AllocError>
-        ensures ok { OnOk result (length self.new.rows + 1 ≤ self.new.room) }
+    /// Makes room for so many rows more.
+    pub(crate) fn reserve(&mut self, count: usize) -> Result<(), AllocError>
+        ensures ok { OnOk result (length self.new.rows + count ≤ self.new.room) }
         ensures same { self.new.rows ≡ self.old.rows }
     {
-        self.rows.reserve(1)?;
-        self.by_name.reserve(1)
+        self.rows.reserve(count)?;
+        self.by_name.reserve(count)
     }
 
     /// Puts in a row whose key is above all that are there, and whose name none of them has.
@@ -106,6 +107,7 @@ impl<R: Named + Drop> NamedRows<R> {
         ensures ok { OnOk result (self.new.rows ≡ put R.key row self.old.rows) }
         ensures err { OnErr result (self.new.rows ≡ self.old.rows) }
         ensures room { length self.old.rows + 1 ≤ self.old.room → IsOk result }
+        ensures kept { self.old.room ≤ self.new.room }
     {
         self.rows.reserve(1)?;
         let at = place_for(&self.rows, &self.by_name, row.name().as_bytes());

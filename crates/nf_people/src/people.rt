@@ -1,12 +1,12 @@
 //! Users, groups, tokens and members.
 
-ghost use Rattle.std.specs.Prelude.{◌≡◌, ◌≢◌, ◌<◌, ◌==◌, [], ◌∷◌, ◌++◌, map, filter, length, nat_le, All, IfOk, OnOk, Err, option_copied};
+ghost use Rattle.std.specs.Prelude.{◌≡◌, ◌≢◌, ◌<◌, ◌≤◌, ◌==◌, [], ◌∷◌, ◌++◌, map, filter, length, nat_le, All, IfOk, OnOk, Err, option_copied};
 ghost use Rattle.std.specs.List.{take_while};
 ghost use Rattle.std.specs.List.Sorted.{IsStrictlyIncreasing};
 ghost use Rattle.nf_defs.specs.Prelude.{dropped, group_key, group_named, group_row, holder_of, is_member_of, IsRising, member_key, members_of, put, token_key, user_key, user_named, user_row, with_quota};
 ghost use Rattle.nf_defs.specs.People.{is_admin};
 ghost use Rattle.nf_people.specs.Faults.{Adds, is_full, fault_of_user, fault_of_group, fault_of_token, fault_of_member, fault_of_quota};
-ghost use Rattle.nf_people.specs.People.{ArePeople, FitsUser, FitsToken, FitsGroup, FitsMember, HasRoom, rows_of_people};
+ghost use Rattle.nf_people.specs.People.{ArePeople, FitsUser, FitsToken, FitsGroup, FitsMember, HasRoom, IsHeld, rows_of_people};
 ghost use Rattle.nf_people.specs.declared.faults.PeopleFault.TheVariants.{Memory};
 
 use crate::faults::PeopleFault;
@@ -98,21 +98,22 @@ impl People {
 
     /// Tells callers what people always keep; it does nothing.
     pub fn keeps(&self)
-        ensures { ArePeople self.now.users self.now.tokens self.now.groups self.now.members }
+        ensures people { ArePeople self.now.users self.now.tokens self.now.groups self.now.members }
+        ensures held { IsHeld self.now }
     {
         let _ = self.users.rows();
         let _ = self.groups.rows();
     }
 
-    /// Makes room for one more of each kind.
-    pub fn reserve(&mut self) -> Result<(), AllocError>
-        ensures ok { OnOk result (HasRoom self.new) }
+    /// Makes room for so many more of each kind.
+    pub fn reserve(&mut self, added: PeopleCounts) -> Result<(), AllocError>
+        ensures ok { OnOk result (HasRoom self.new added) }
         ensures same { self.new ≡ record self.old { room = self.new.room } }
     {
-        self.users.reserve()?;
-        self.tokens.reserve(1)?;
-        self.groups.reserve()?;
-        self.members.reserve(1)
+        self.users.reserve(added.users)?;
+        self.tokens.reserve(added.tokens)?;
+        self.groups.reserve(added.groups)?;
+        self.members.reserve(added.members)
     }
 
     /// The user whose token has that digest.
@@ -189,6 +190,7 @@ impl People {
         ensures adds { Adds (fault_of_user self.old row) self.old (record self.old { users = put user_key row self.old.users }) self.new result }
         ensures room { FitsUser self.old → result ≢ Err Memory }
         ensures others { self.new.room ≡ record self.old.room { users = self.new.room.users } }
+        ensures kept { self.old.room.users ≤ self.new.room.users }
     {
         if self.user(&row.name).is_some() {
             return Err(PeopleFault::Taken);
@@ -206,6 +208,7 @@ impl People {
         ensures adds { Adds (fault_of_group self.old row) self.old (record self.old { groups = put group_key row self.old.groups }) self.new result }
         ensures room { FitsGroup self.old → result ≢ Err Memory }
         ensures others { self.new.room ≡ record self.old.room { groups = self.new.room.groups } }
+        ensures kept { self.old.room.groups ≤ self.new.room.groups }
     {
         if self.group(&row.name).is_some() {
             return Err(PeopleFault::Taken);
@@ -221,6 +224,7 @@ impl People {
         ensures adds { Adds (fault_of_token self.old row) self.old (record self.old { tokens = put token_key row self.old.tokens }) self.new result }
         ensures room { FitsToken self.old → result ≢ Err Memory }
         ensures others { self.new.room ≡ record self.old.room { tokens = self.new.room.tokens } }
+        ensures kept { self.old.room.tokens ≤ self.new.room.tokens }
     {
         if self.caller(&row.digest).is_some() {
             return Err(PeopleFault::Taken);
@@ -239,6 +243,7 @@ impl People {
         ensures adds { Adds (fault_of_member self.old row) self.old (record self.old { members = put member_key row self.old.members }) self.new result }
         ensures room { FitsMember self.old → result ≢ Err Memory }
         ensures others { self.new.room ≡ record self.old.room { members = self.new.room.members } }
+        ensures kept { self.old.room.members ≤ self.new.room.members }
     {
         if self.is_member(row.group, row.user) {
             return Err(PeopleFault::Taken);

@@ -1,5 +1,5 @@
 -- What is put is what is got, of bytes.
-use Rattle.std.proofs.Common.{ℕ, ◌≡◌, ◌⊎◌, ◌<◌, ◌||◌, Bool, true, false, List, [], ◌++◌, length, take, if◌then◌else◌, Option, None, Some, Result, Ok, Err, inl, inr, refl, sym, ap, append_assoc, subst, ◌∙◌, arith, length-append}
+use Rattle.std.proofs.Common.{ℕ, ◌≡◌, ◌<◌, ◌||◌, Bool, true, false, List, [], ◌++◌, length, take, if◌then◌else◌, Option, None, Some, Result, Ok, Err, inl, inr, refl, sym, ap, append_assoc, subst, ◌∙◌, arith, length-append}
 use Rattle.std.proofs.lemmas.List.{length-take}
 use Rattle.std.specs.Prelude.{IsOk, IsSome, MatchBool}
 use Rattle.std.specs.Io.KnownBytes.{Appends}
@@ -12,6 +12,7 @@ use Rattle.nf_http.specs.Bodies.{TakesBody}
 use Rattle.nf_http.specs.Head.{Head, closes_session, expects_continue, head_of}
 use Rattle.nf_http.specs.Next.{IsNext, IsOfBytes}
 use Rattle.nf_http.specs.declared.wire.WireFault.{WireFault}
+use Rattle.nf_outside.specs.Lent.{Taken}
 use Rattle.nf_words.specs.declared.answer.Goal.TheVariants as goal
 use Rattle.nf_words.specs.declared.answer.Reply.TheVariants as reply
 use Rattle.nf_words.specs.declared.request.Caller.{Caller}
@@ -62,7 +63,7 @@ head_is a m h request left head prints input heads =
 -- ---- the turn of the PUT
 
 -- what it is, and what it leaves to be read
-abbrev PutsAndLeaves : {C : Type 0} → (C → ℕ → C → Type 0) → Bool → Caller → Spot → List ℕ → List ℕ → Scene C → Scene C → Option Ended → Type 0
+abbrev PutsAndLeaves : {C : Type 0} → (C → Taken → C → Type 0) → Bool → Caller → Spot → List ℕ → List ℕ → Scene C → Scene C → Option Ended → Type 0
 PutsAndLeaves reads last caller spot body left a b end = Puts reads last caller spot body a b end × (b.input ≡ Some left)
 
 bodies_of : {C : Type 0} (m x : Scene C) (head : Head) (begun : Begun) (body : List ℕ) (n : ℕ) → BeginsPut begun n
@@ -110,7 +111,7 @@ appends_rest (Some xs) (Some ys) (Some zs) front rest told first all =
     (refl, all ∙ sym (append_assoc xs front rest) ∙ ap (λ (z : List ℕ). z ++ rest) (sym first))
 
 -- behind the invitation
-rest_written : {C : Type 0} (reads : C → ℕ → C → Type 0) (head : Head) (begun : Begun) (k m n : Scene C) (new : Option (List ℕ)) (answer : List ℕ)
+rest_written : {C : Type 0} (reads : C → Taken → C → Type 0) (head : Head) (begun : Begun) (k m n : Scene C) (new : Option (List ℕ)) (answer : List ℕ)
     (rest : Behind head begun answer) → Judges reads head [] k m begun → Invites {T = Unit {0}} head begun m n (Ok tt)
     → IsSome k.output → Appends k.output new (invitation head ++ answer) → IsSome n.output × Appends n.output new rest.bytes
 rest_written {C} reads head begun k m n new answer rest judges invites told wrote =
@@ -119,7 +120,7 @@ rest_written {C} reads head begun k m n new answer rest judges invites told wrot
     (appends_by k.output n.output m.output n.output (invited_bytes head begun) front refl (invites_wrote head begun m n (Unit {0}) tt invites).bytes_are)
     (subst (λ (bytes : List ℕ). Appends k.output new bytes) rest.are wrote)
 
-answers_put : {C : Type 0} (reads : C → ℕ → C → Type 0) (last : Bool) (caller : Caller) (spot : Spot) (body left : List ℕ) (head : Head) (begun : Begun)
+answers_put : {C : Type 0} (reads : C → Taken → C → Type 0) (last : Bool) (caller : Caller) (spot : Spot) (body left : List ℕ) (head : Head) (begun : Begun)
     (a k m n b : Scene C) (end : Option Ended) (answer : List ℕ) → Heads a k (Ok (Some head)) → request_of head [] ≡ Ok (put_of caller spot (length body))
     → k.input ≡ Some (body ++ left) → Judges reads head [] k m begun → Invites {T = Unit {0}} head begun m n (Ok tt)
     → Answers reads last head begun n b end
@@ -164,7 +165,7 @@ answers_put {C} reads last caller spot body left head begun a k m n b end answer
           ∙ input_of x taken (passes_only reads answers.takes.1 x taken begun v answers.takes.3) ∙ whole.1,
     )
 
-cuts_not_done : {C : Type 0} (reads : C → ℕ → C → Type 0) (head : Head) (begun : Begun) (n b : Scene C) (end : Option Ended) (w : List ℕ)
+cuts_not_done : {C : Type 0} (reads : C → Taken → C → Type 0) (head : Head) (begun : Begun) (n b : Scene C) (end : Option Ended) (w : List ℕ)
     → CutsShort reads head begun n b end → IsSome n.output → Appends n.output b.output w → is_done w ≡ true → ⊥
 cuts_not_done {C} reads head begun n b end w cuts told wrote done =
     let front : cuts.cut.output ≡ n.output = ap (λ (y : Scene C). y.output) cuts.takes.only in
@@ -191,7 +192,7 @@ less_written a b ended.WriteFault w part told wrote =
     omega (arith, ap length same, length-take part.count continue_reply, part.less)
 less_written a b by w never told wrote = absurd never
 
-stops_not_done : {C : Type 0} (reads : C → ℕ → C → Type 0) (head : Head) (begun : Begun) (k m b : Scene C) (end : Option Ended) (answer : List ℕ)
+stops_not_done : {C : Type 0} (reads : C → Taken → C → Type 0) (head : Head) (begun : Begun) (k m b : Scene C) (end : Option Ended) (answer : List ℕ)
     → Judges reads head [] k m begun → StopsShort reads head begun m b end → IsSome k.output → Appends k.output b.output (invitation head ++ answer) → ⊥
 stops_not_done {C} reads head begun k m b end answer judges stops told wrote =
     let front : m.output ≡ k.output = output_of k m (judges_only reads head [] k m begun judges) in
@@ -204,7 +205,7 @@ stops_not_done {C} reads head begun k m b end answer judges stops told wrote =
     ap (λ (waits : Bool). if waits then continue_reply else []) (stopped_waits head begun m stops.sent stops.by stops.invites) in
     omega (arith, less, length-append (invitation head) answer, ap length whole)
 
-turn_puts : {C : Type 0} (reads : C → ℕ → C → Type 0) (last : Bool) (caller : Caller) (spot : Spot) (h : RequestHead) (body left : List ℕ)
+turn_puts : {C : Type 0} (reads : C → Taken → C → Type 0) (last : Bool) (caller : Caller) (spot : Spot) (h : RequestHead) (body left : List ℕ)
     (a b : Scene C) (end : Option Ended) (answer : List ℕ) → Prints h (put_of caller spot (length body))
     → a.input ≡ Some (print_request h ++ (body ++ left)) → IsSome a.output → Appends a.output b.output (invitation (head_of h) ++ answer)
     → is_done answer ≡ true → OnlyOwn a.book b.book → Turn reads last a b end → PutsAndLeaves reads last caller spot body left a b end
@@ -247,7 +248,7 @@ turn_puts {C} reads last caller spot h body left a b end answer prints input tol
 
 -- ---- the turn of the GET
 
-pub turn_gets : {C : Type 0} (reads : C → ℕ → C → Type 0) (last : Bool) (caller : Caller) (spot : Spot) (h : RequestHead) (rest : List ℕ)
+pub turn_gets : {C : Type 0} (reads : C → Taken → C → Type 0) (last : Bool) (caller : Caller) (spot : Spot) (h : RequestHead) (rest : List ℕ)
     (a b : Scene C) (end : Option Ended) → Prints h (get_of caller spot) → a.input ≡ Some (print_request h ++ rest) → IsWritten end
     → Turn reads last a b end → (get : Gets reads last caller spot a b end) × (get.head ≡ head_of h)
 turn_gets reads last caller spot h rest a b end prints input written (inl (heads, is)) =
@@ -266,7 +267,7 @@ says_done : {C : Type 0} (head : Head) (a b : Scene C) → SaysDone head a b
 says_done head a b (close, inl wrote) = (made_reply close, wrote, made_mark close)
 says_done head a b (close, inr wrote) = (done_reply close, wrote, done_mark close)
 
-pub put_then_get_of_bytes : {C : Type 0} (reads : C → ℕ → C → Type 0) → PutThenGetOfBytes reads
+pub put_then_get_of_bytes : {C : Type 0} (reads : C → Taken → C → Type 0) → PutThenGetOfBytes reads
 put_then_get_of_bytes {C} reads caller spot put get body rest a b c first last end done puts gets input told turn says later written sound own only =
     let wrote = says_done (head_of put) a b says in
     let parts : print_request put ++ body ++ print_request get ++ rest ≡ print_request put ++ (body ++ (print_request get ++ rest)) =

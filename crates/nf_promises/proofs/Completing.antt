@@ -10,6 +10,7 @@ use Rattle.nf_dav.specs.Reply.{file_head, refusal_reply, done_reply, listing_rep
 use Rattle.nf_dav.specs.declared.replies.Manner.{Manner}
 use Rattle.nf_http.specs.Bodies.{TakesBody}
 use Rattle.nf_http.specs.Head.{Head, closes_session}
+use Rattle.nf_outside.specs.Lent.{Taken}
 use Rattle.nf_words.specs.declared.answer.By.{By}
 use Rattle.nf_words.specs.declared.answer.Denial.{Denial}
 use Rattle.nf_words.specs.declared.answer.Denial.TheVariants as denial
@@ -18,7 +19,8 @@ use Rattle.nf_words.specs.declared.answer.LockKey.{LockKey}
 use Rattle.nf_words.specs.declared.answer.Reply.TheVariants as reply
 use Rattle.nf_words.specs.declared.history.Event.TheVariants.{Begin}
 use Rattle.nf_words.specs.declared.request.Request.{Request}
-use Rattle.nf_session.specs.Prelude.{Answer, Answers, AreGiven, Begins, Book, denial_of_piece, end_by, end_of, end_of_close, Enters, event_of_body, how_of, Invites, is_unmade, IsOfBody, IsResponse, Judges, manner_of, Meets, MeetsWith, no_words, Passes, Scene, Starts, StartsFile, state_after, stays_granted, StoresBody, Strikes, taken_length, Way, way_of, Writes}
+use Rattle.nf_words.specs.declared.request.Words.{Words}
+use Rattle.nf_session.specs.Prelude.{Answer, Answers, AreGiven, Begins, Book, denial_of_piece, end_by, end_of, end_of_close, Enters, event_of_body, how_of, Invites, is_unmade, IsOfBody, IsResponse, Judges, manner_of, Meets, MeetsWith, Passes, Scene, Starts, StartsFile, state_after, stays_granted, StoresBody, Strikes, taken_length, Way, way_of, Writes}
 use Rattle.nf_session.specs.Book.{Passes as Unchanged}
 use Rattle.nf_session.specs.declared.backend.PieceFault.{PieceFault}
 use Rattle.nf_session.specs.declared.backend.PieceFault.TheVariants as fault
@@ -81,20 +83,20 @@ module _ {C : Type 0} (a b : Scene C) (nothing : NothingFails a b)
       here mark.Store struck is = absurd (not_struck a b nothing whole x y before behind struck)
       here mark.Memory strikes is = inl is
 
-  pub begin_known : (y : Scene C) (now : ℕ) (r : Request) (answer : Answer) → Calm y b → Begins a.book y.book now no_words r answer
-      → (answer ≡ Err denial.RunFull) ⊎ (answer ≡ Err denial.Memory) ⊎ IsAnswerOf a.book b.book (Begin no_words r) answer
-  begin_known y now r answer behind begins = here (is_unmade answer) refl begins.entry
+  pub begin_known : (y : Scene C) (now : ℕ) (words : Words) (r : Request) (answer : Answer) → Calm y b → Begins a.book y.book now words r answer
+      → (answer ≡ Err denial.RunFull) ⊎ (answer ≡ Err denial.Memory) ⊎ IsAnswerOf a.book b.book (Begin words r) answer
+  begin_known y now words r answer behind begins = here (is_unmade answer) refl begins.entry
     where
       made : (answer ≡ Err denial.RunFull) ⊎ (answer ≡ Err denial.Memory)
-          → (answer ≡ Err denial.RunFull) ⊎ (answer ≡ Err denial.Memory) ⊎ IsAnswerOf a.book b.book (Begin no_words r) answer
+          → (answer ≡ Err denial.RunFull) ⊎ (answer ≡ Err denial.Memory) ⊎ IsAnswerOf a.book b.book (Begin words r) answer
       made (inl full) = inl full
       made (inr memory) = inr (inl memory)
 
       here : (unmade : Bool) → is_unmade answer ≡ unmade
-          → MatchBool unmade (Unchanged a.book y.book) (Enters a.book y.book now (Begin no_words r) answer)
-          → (answer ≡ Err denial.RunFull) ⊎ (answer ≡ Err denial.Memory) ⊎ IsAnswerOf a.book b.book (Begin no_words r) answer
+          → MatchBool unmade (Unchanged a.book y.book) (Enters a.book y.book now (Begin words r) answer)
+          → (answer ≡ Err denial.RunFull) ⊎ (answer ≡ Err denial.Memory) ⊎ IsAnswerOf a.book b.book (Begin words r) answer
       here true is passes = made (unmade_is answer is)
-      here false is enters = inr (step_known a y now (Begin no_words r) answer (calm_of (same_goes a a 0 refl)) behind enters)
+      here false is enters = inr (step_known a y now (Begin words r) answer (calm_of (same_goes a a 0 refl)) behind enters)
 
 pub close_is : (last closes : Bool) → (last || is_some (end_of_close (closes || false))) ≡ (last || closes)
 close_is true closes = refl
@@ -150,7 +152,7 @@ pub writes_input : {C : Type 0} (manner : Manner) (v : Response) (a b : Scene C)
 writes_input {C} manner (response.File content first) a b (given, writes, all, unstruck) = ap (λ (x : Scene C). x.input) writes.pieces.only
 writes_input {C} manner other a b wrote = ap (λ (x : Scene C). x.input) wrote.only
 
-module _ {C : Type 0} (reads : C → ℕ → C → Type 0) (last : Bool) (head : Head) (early : List ℕ) (a b : Scene C) (nothing : NothingFails a b)
+module _ {C : Type 0} (reads : C → Taken → C → Type 0) (last : Bool) (head : Head) (early : List ℕ) (a b : Scene C) (nothing : NothingFails a b)
     (whole : StaysWhole a.book) where
   -- ---- what was granted
 
@@ -243,14 +245,14 @@ module _ {C : Type 0} (reads : C → ℕ → C → Type 0) (last : Bool) (head :
   begun_met r (begun.Unasked refusal) v end n x k s body asked (inr memory, same) before judged taken sent fronts takes (is, kept) writes =
       let refused = refusal_written [] last (way_of head (begun.Unasked refusal)) denial.Memory v a k s b fronts (is ∙ ap response.Denied memory) writes in
       inr (inl (inr (refused.0, inl refused.1)))
-  begun_met r (begun.Asked answer) v end n x k s body asked (other, now, is, read, begins, only) before judged taken sent fronts takes passes writes =
+  begun_met r (begun.Asked answer) v end n x k s body asked (other, now, words, is, read, begins, only) before judged taken sent fronts takes passes writes =
       let same : other ≡ r = cc in
-      here (begin_known a b nothing whole n now r answer judged (subst (λ (q : Request). Begins a.book n.book now no_words q answer) same begins))
+      here (begin_known a b nothing whole n now words r answer judged (subst (λ (q : Request). Begins a.book n.book now words q answer) same begins))
     where
       refused : (refusal : Denial) → answer ≡ Err refusal → v ≡ response.Denied refusal
       refused refusal is = (subst (λ (z : Answer). Passes reads body x k (begun.Asked z) v) is passes).0
 
-      here : (answer ≡ Err denial.RunFull) ⊎ (answer ≡ Err denial.Memory) ⊎ IsAnswerOf a.book b.book (Begin no_words r) answer
+      here : (answer ≡ Err denial.RunFull) ⊎ (answer ≡ Err denial.Memory) ⊎ IsAnswerOf a.book b.book (Begin words r) answer
           → (v ≡ response.Denied denial.RunFull) ⊎ IsMet last head r a b end
       here (inl full) = inl (refused denial.RunFull full)
       here (inr (inl memory)) =
@@ -261,7 +263,7 @@ module _ {C : Type 0} (reads : C → ℕ → C → Type 0) (last : Bool) (head :
         where
           said : IsWanting head a b end ⊎ Says head (last || closes_session head) answer a b → IsMet last head r a b end
           said (inl wanting) = inl wanting
-          said (inr says) = inr (inr (inr (answer, answers, says)))
+          said (inr says) = inr (inr (inr (answer, words, answers, says)))
 
   -- ---- the message
 
@@ -348,7 +350,7 @@ later_nothing a m b calm book nothing = record {
   write = subst (λ (n : ℕ). IsUnrisen n b.write_faults) (sym calm.write) nothing.write;
 }
 
-pub completes : {C : Type 0} (reads : C → ℕ → C → Type 0) → Completes reads
+pub completes : {C : Type 0} (reads : C → Taken → C → Type 0) → Completes reads
 completes {C} reads last a m b head end heads meets nothing whole = here meets
   where
     book : m.book ≡ a.book

@@ -6,6 +6,7 @@ use Rattle.nf_dav.specs.Reply.{continue_reply}
 use Rattle.nf_http.specs.Head.{Head}
 use Rattle.nf_http.specs.declared.wire.WireFault.{WireFault}
 use Rattle.nf_http.specs.declared.wire.WireFault.TheVariants as wire
+use Rattle.nf_outside.specs.Lent.{Taken}
 use Rattle.nf_words.specs.Prelude.{opened}
 use Rattle.nf_words.specs.declared.answer.Denial.{Denial}
 use Rattle.nf_words.specs.declared.answer.Denial.TheVariants as denial
@@ -70,7 +71,7 @@ abbrev IsFound : Begun → Type 0
 IsFound (begun.Unasked refusal) = refusal ≡ denial.RunFull
 IsFound (begun.Asked answer) = answer ≡ Err denial.RunFull
 
-passes_full : {C : Type 0} (reads : C → ℕ → C → Type 0) (body : List ℕ) (a b : Scene C) (begun : Begun)
+passes_full : {C : Type 0} (reads : C → Taken → C → Type 0) (body : List ℕ) (a b : Scene C) (begun : Begun)
     → Passes reads body a b begun (response.Denied denial.RunFull) → IsFound begun
 passes_full reads body a b (begun.Unasked refusal) (is, same) = cc
 passes_full reads body a b (begun.Asked (Ok (reply.Granted (goal.Serve content)))) starts =
@@ -80,15 +81,15 @@ passes_full reads body a b (begun.Asked (Ok (reply.Granted (goal.Store by key le
     absurd (end_not_full (state_after a.book enters.others) enters.entry _ enters.event_is (sym enters.answer_is ∙ answer_full answer is))
 passes_full reads body a b (begun.Asked answer) passes = answer_full answer passes.0
 
-judges_full : {C : Type 0} (reads : C → ℕ → C → Type 0) (head : Head) (early : List ℕ) (a b : Scene C) (begun : Begun)
+judges_full : {C : Type 0} (reads : C → Taken → C → Type 0) (head : Head) (early : List ℕ) (a b : Scene C) (begun : Begun)
     → Judges reads head early a b begun → IsFound begun → MAX_ENTRIES < entries_wanted b.book
 judges_full reads head early a b (begun.Unasked refusal) (inl asked, same) is =
     absurd (request_not_full head early (asked ∙ ap Err is))
 judges_full reads head early a b (begun.Unasked refusal) (inr memory, same) is = absurd (cc)
-judges_full reads head early a b (begun.Asked answer) (r, now, asked, read, begins, only) is = begins.full is
+judges_full reads head early a b (begun.Asked answer) (r, now, words, asked, read, begins, only) is = begins.full is
 
 -- nothing is done then
-found_same : {C : Type 0} (reads : C → ℕ → C → Type 0) (body : List ℕ) (a b : Scene C) (begun : Begun) (v : Response)
+found_same : {C : Type 0} (reads : C → Taken → C → Type 0) (body : List ℕ) (a b : Scene C) (begun : Begun) (v : Response)
     → IsFound begun → Passes reads body a b begun v → b ≡ a
 found_same reads body a b (begun.Unasked refusal) v is (denied, same) = same
 found_same reads body a b (begun.Asked answer) v is passes =
@@ -101,7 +102,7 @@ refusal_same last way refusal a b (Err by) says = book_of a b (says_only {T = Un
 
 -- ---- a turn
 
-pub answers_full : {C : Type 0} (reads : C → ℕ → C → Type 0) (last : Bool) (head : Head) (early : List ℕ) (begun : Begun)
+pub answers_full : {C : Type 0} (reads : C → Taken → C → Type 0) (last : Bool) (head : Head) (early : List ℕ) (begun : Begun)
     (a m n b : Scene C) → Judges reads head early a m begun → Invites {T = Unit {0}} head begun m n (Ok tt) → Answers reads last head begun n b (Some ended.RunFull)
     → MAX_ENTRIES < entries_wanted b.book
 answers_full {C} reads last head early begun a m n b judges invites answers =
@@ -120,20 +121,20 @@ answers_full {C} reads last head early begun a m n b judges invites answers =
     ∙ ap (λ (x : Scene C). x.book) takes.2.only ∙ ap (λ (x : Scene C). x.book) (invites_wrote head begun m n (Unit {0}) tt invites).only in
     subst (λ (k : Book). MAX_ENTRIES < entries_wanted k) (sym same) (judges_full reads head early a m begun judges found)
 
-cuts_not_full : {C : Type 0} (reads : C → ℕ → C → Type 0) (head : Head) (begun : Begun) (a b : Scene C)
+cuts_not_full : {C : Type 0} (reads : C → Taken → C → Type 0) (head : Head) (begun : Begun) (a b : Scene C)
     → CutsShort reads head begun a b (Some ended.RunFull) → ⊥
 cuts_not_full {C} reads head begun a b cuts =
     let same : cuts.by ≡ ended.RunFull = cc in
     ends_not_full cuts.fault cuts.cut cuts.sent (subst (λ (e : Ended). EndsBy cuts.fault cuts.cut cuts.sent e) same cuts.responds)
 
-stops_not_full : {C : Type 0} (reads : C → ℕ → C → Type 0) (head : Head) (begun : Begun) (a b : Scene C)
+stops_not_full : {C : Type 0} (reads : C → Taken → C → Type 0) (head : Head) (begun : Begun) (a b : Scene C)
     → StopsShort reads head begun a b (Some ended.RunFull) → ⊥
 stops_not_full {C} reads head begun a b stops =
     let by = sends_failed (Unit {0}) a stops.sent continue_reply stops.by (stops_sends head begun a stops.sent (Unit {0}) stops.by stops.invites) in
     let same : stops.by ≡ ended.WriteFault = by.0 in
     cc
 
-turn_full : {C : Type 0} (reads : C → ℕ → C → Type 0) (last : Bool) (a b : Scene C) → Turn reads last a b (Some ended.RunFull)
+turn_full : {C : Type 0} (reads : C → Taken → C → Type 0) (last : Bool) (a b : Scene C) → Turn reads last a b (Some ended.RunFull)
     → MAX_ENTRIES < entries_wanted b.book
 turn_full reads last a b (inl (heads, is)) = absurd (cc)
 turn_full {C} reads last a b (inr (inl (m, fault, by, heads, ends, is))) =
@@ -154,10 +155,10 @@ turn_full reads last a b (inr (inr (m, head, heads, inr (t, early, takes, (n, be
 few_wanted : (b : Book) (most : ℕ) → length b.known ≤ most → entries_wanted b ≤ most + most + 2
 few_wanted b most few = omega (arith, few_tickets (opened b.opening) b.known)
 
-pub full_is_seen : {C : Type 0} (reads : C → ℕ → C → Type 0) → FullIsSeen reads
+pub full_is_seen : {C : Type 0} (reads : C → Taken → C → Type 0) → FullIsSeen reads
 full_is_seen {C} reads a b session = turn_full reads (length session.scenes == MAX_MESSAGES - 1) session.before b session.turn
 
-pub never_full : {C : Type 0} (reads : C → ℕ → C → Type 0) → NeverFull reads
+pub never_full : {C : Type 0} (reads : C → Taken → C → Type 0) → NeverFull reads
 never_full {C} reads a b end session fresh alone is =
     let full = full_is_seen reads a b (subst (λ (e : Option Ended). Session reads a b e) is session) in
     let whole = (session_goes reads a b end session).book in

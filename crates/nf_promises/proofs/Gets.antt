@@ -5,7 +5,7 @@ use Rattle.std.specs.Io.KnownBytes.{Appends}
 use Rattle.std.specs.declared.alloc.Global.{Global}
 use Rattle.std.proofs.lemmas.Bool.{eqb-true}
 use Rattle.std.proofs.lemmas.Bool.Decides.{nat_tests}
-use Rattle.nf_words.specs.Asked.{is_about_shares}
+use Rattle.nf_outside.specs.Lent.{Taken}
 use Rattle.std.proofs.lemmas.List.{append-nil}
 use Rattle.sha2.specs.Sha256.{sha256}
 use Rattle.nf_base.specs.declared.limits.TheConstants.{MAX_OCS_BODY}
@@ -35,7 +35,7 @@ use Rattle.nf_words.specs.declared.request.Request.{Request}
 use Rattle.nf_words.specs.declared.request.Spot.{Spot}
 use Rattle.nf_words.specs.declared.request.Words.{Words}
 use Rattle.nf_defs.specs.Prelude.{blob_at, Blobs, Tables}
-use Rattle.nf_session.specs.Prelude.{Answer, Begins, Book, end_of, end_of_close, Enters, FailsPiece, file_front, HaveBytes, is_early, is_invited, is_unmade, is_unsent, IsPiece, Judges, Lasts, manner_of, next_blob_of, no_words, OthersCame, Scene, SendsFile, Starts, StartsFile, state_of, TakesIn, TellsDamage, TellsPiece, TellsStill, Way, way_of, Writes}
+use Rattle.nf_session.specs.Prelude.{Answer, Begins, Book, end_of, end_of_close, Enters, FailsPiece, file_front, HaveBytes, is_early, is_invited, is_unmade, is_unsent, IsPiece, Judges, Lasts, manner_of, next_blob_of, OthersCame, Scene, SendsFile, Starts, StartsFile, state_of, TakesIn, TellsDamage, TellsPiece, TellsStill, Way, way_of, Writes}
 use Rattle.nf_session.specs.Book.{Differs, Passes as Unchanged}
 use Rattle.nf_session.specs.Steps.{holds_back}
 use Rattle.nf_session.specs.Turn.{says_close}
@@ -54,13 +54,13 @@ use Rattle.nf_promises.proofs.Putting.{content_of_body}
 use Rattle.nf_promises.proofs.Puts.{IsKept, Keeps}
 use Rattle.nf_promises.proofs.Touches.{starts_other}
 use Rattle.nf_promises.specs.Kept.{AreOfBody, FailsStore, IsWritten, OnlyOwn, ShowsDamage, get_of, plainly, waits}
-use Rattle.nf_dav.proofs.Asked.{asked_no_head, asked_no_ocs}
+use Rattle.nf_dav.proofs.Asked.{asked_no_head, asked_no_ocs, is_of_ocs_api}
 
 pub record IsPlain (way : Way) : Type 0 where
   pub ocs : way.ocs ≡ false
   pub head_only : way.head_only ≡ false
 
-pub asked_plain : (head : Head) (begun : Begun) (request : Request) → request_of head [] ≡ Ok request → is_about_shares request.wanted ≡ false
+pub asked_plain : (head : Head) (begun : Begun) (request : Request) → request_of head [] ≡ Ok request → is_of_ocs_api request.wanted ≡ false
     → IsPlain (way_of head begun)
 asked_plain head begun request asked other = record {
   ocs = asked_no_ocs head [] request asked other;
@@ -70,7 +70,7 @@ asked_plain head begun request asked other = record {
 never_early : (n : ℕ) → (nat_lt 0 n && nat_le n 0) ≡ false
 never_early n = grind (arith, nat_tests)
 
-pub asked_not_early : (head : Head) (request : Request) → request_of head [] ≡ Ok request → is_about_shares request.wanted ≡ false
+pub asked_not_early : (head : Head) (request : Request) → request_of head [] ≡ Ok request → is_of_ocs_api request.wanted ≡ false
     → is_early head ≡ false
 asked_not_early head request asked other =
     ap (λ (ocs : Bool). nat_lt 0 (length_of head) && nat_le (length_of head) (if ocs then MAX_OCS_BODY else 0)) (asked_no_ocs head [] request asked other)
@@ -109,24 +109,24 @@ unmade_is (Err denial.Memory) is = inr refl
 unmade_is (Err other) is = absurd (cc)
 
 -- it is granted what was stored, or there was no memory or no room
-get_answered : (a m : Book) (now : ℕ) (caller : Caller) (spot : Spot) (body : List ℕ) (answer : Answer) (kept : IsKept a caller spot body)
-    → OnlyOwn a m → Begins a m now no_words (get_of caller spot) answer
+get_answered : (a m : Book) (now : ℕ) (words : Words) (caller : Caller) (spot : Spot) (body : List ℕ) (answer : Answer) (kept : IsKept a caller spot body)
+    → OnlyOwn a m → Begins a m now words (get_of caller spot) answer
     → (answer ≡ Ok (reply.Granted (Serve (content_of_body kept.before body))))
     ⊎ ((answer ≡ Err denial.RunFull) ⊎ (answer ≡ Err denial.Memory))
-get_answered a m now caller spot body answer kept only begins = here (is_unmade answer) refl begins.entry
+get_answered a m now words caller spot body answer kept only begins = here (is_unmade answer) refl begins.entry
   where
     here : (unmade : Bool) → is_unmade answer ≡ unmade
-        → MatchBool unmade (Unchanged a m) (Enters a m now (Begin no_words (get_of caller spot)) answer)
+        → MatchBool unmade (Unchanged a m) (Enters a m now (Begin words (get_of caller spot)) answer)
         → (answer ≡ Ok (reply.Granted (Serve (content_of_body kept.before body)))) ⊎ ((answer ≡ Err denial.RunFull) ⊎ (answer ≡ Err denial.Memory))
     here true is passes = inr (unmade_is answer is)
     here false is enters =
-        let event : Event = Begin no_words (get_of caller spot) in
+        let event : Event = Begin words (get_of caller spot) in
         let s = state_of a in
         let e = enters.entry in
         let begin = entered a m now event answer enters only in
-        let got : answer_to s e.seat e.moment event ≡ Ok (reply.Granted (Serve (content_of_body kept.before body))) = kept.got e.seat e.moment no_words in
+        let got : answer_to s e.seat e.moment event ≡ Ok (reply.Granted (Serve (content_of_body kept.before body))) = kept.got e.seat e.moment words in
         let marked : e.mark ≡ mark.Answered =
-        begin_marked s e no_words (get_of caller spot) (content_of_body kept.before body) begin.event_is got e.mark begin.may.marked in
+        begin_marked s e words (get_of caller spot) (content_of_body kept.before body) begin.event_is got e.mark begin.may.marked in
         inl (sym begin.answer_is ∙ ap (answer_at s e) marked ∙ ap (answer_to s e.seat e.moment) begin.event_is ∙ got)
 
 -- ---- the bytes of the file
@@ -353,7 +353,7 @@ refused_closes head answer refusal plain is =
     ∙ ap (λ (unsent : Bool). closes_session head || unsent) (held_back head (begun.Asked answer) plain)
 
 -- what was answered, by what it is
-answered_shown : {C : Type 0} (reads : C → ℕ → C → Type 0) (last : Bool) (head : Head) (caller : Caller) (spot : Spot) (body : List ℕ)
+answered_shown : {C : Type 0} (reads : C → Taken → C → Type 0) (last : Bool) (head : Head) (caller : Caller) (spot : Spot) (body : List ℕ)
     (k : Book) (m a b : Scene C) (v : Response) (answer : Answer) (kept : IsKept k caller spot body) (plain : IsPlain (way_of head (begun.Asked answer)))
     → (answer ≡ Ok (reply.Granted (Serve (content_of_body kept.before body))))
     ⊎ ((answer ≡ Err denial.RunFull) ⊎ (answer ≡ Err denial.Memory))
@@ -379,15 +379,15 @@ answered_shown {C} reads last head caller spot body k m a b v answer kept plain 
     (refused_closes head answer denial.Memory plain is) wanting.3.0 writes
 
 -- nobody is invited by a GET
-pub get_not_invited : {C : Type 0} (reads : C → ℕ → C → Type 0) (head : Head) (caller : Caller) (spot : Spot) (body : List ℕ) (begun : Begun) (k m : Scene C)
+pub get_not_invited : {C : Type 0} (reads : C → Taken → C → Type 0) (head : Head) (caller : Caller) (spot : Spot) (body : List ℕ) (begun : Begun) (k m : Scene C)
     → request_of head [] ≡ Ok (get_of caller spot) → Judges reads head [] k m begun → IsKept k.book caller spot body → OnlyOwn k.book m.book
     → is_invited head begun ≡ false
 get_not_invited reads head caller spot body (begun.Unasked refusal) k m asked judges kept alone = refl
-get_not_invited {C} reads head caller spot body (begun.Asked answer) k m asked (r, now, is, read, begins, only) kept alone =
+get_not_invited {C} reads head caller spot body (begun.Asked answer) k m asked (r, now, words, is, read, begins, only) kept alone =
     let same : r ≡ get_of caller spot = cc in
-    let get : Begins k.book m.book now no_words (get_of caller spot) answer =
-    subst (λ (q : Request). Begins k.book m.book now no_words q answer) same begins in
-    here (get_answered k.book m.book now caller spot body answer kept alone get)
+    let get : Begins k.book m.book now words (get_of caller spot) answer =
+    subst (λ (q : Request). Begins k.book m.book now words q answer) same begins in
+    here (get_answered k.book m.book now words caller spot body answer kept alone get)
   where
     here : (answer ≡ Ok (reply.Granted (Serve (content_of_body kept.before body))))
         ⊎ ((answer ≡ Err denial.RunFull) ⊎ (answer ≡ Err denial.Memory)) → is_invited head (begun.Asked answer) ≡ false
@@ -395,7 +395,7 @@ get_not_invited {C} reads head caller spot body (begun.Asked answer) k m asked (
     here (inr (inl is)) = ap (λ (w : Answer). is_invited head (begun.Asked w)) is
     here (inr (inr is)) = ap (λ (w : Answer). is_invited head (begun.Asked w)) is
 
-pub begun_shown : {C : Type 0} (reads : C → ℕ → C → Type 0) (last : Bool) (head : Head) (caller : Caller) (spot : Spot) (body : List ℕ)
+pub begun_shown : {C : Type 0} (reads : C → Taken → C → Type 0) (last : Bool) (head : Head) (caller : Caller) (spot : Spot) (body : List ℕ)
     (begun : Begun) (k m a b : Scene C) (v : Response) → request_of head [] ≡ Ok (get_of caller spot) → Judges reads head [] k m begun
     → IsKept k.book caller spot body → OnlyOwn k.book m.book → OnlyOwn k.book b.book
     → TakesIn reads head m a begun (Ok v) → IsWritten (end_of (way_of head begun).closes v)
@@ -407,11 +407,11 @@ begun_shown reads last head caller spot body (begun.Unasked refusal) k m a b v a
     let plain = asked_plain head (begun.Unasked refusal) (get_of caller spot) asked refl in
     denied_shown last (closes_session head) (waits head) (way_of head (begun.Unasked refusal)) plain body k.book a b v
     (ap (λ (unsent : Bool). closes_session head || unsent) (held_back head (begun.Unasked refusal) plain)) (passes.0 ∙ ap response.Denied memory) writes
-begun_shown {C} reads last head caller spot body (begun.Asked answer) k m a b v asked (r, now, is, read, begins, judged) kept one only takes
+begun_shown {C} reads last head caller spot body (begun.Asked answer) k m a b v asked (r, now, words, is, read, begins, judged) kept one only takes
     written writes =
     let same : r ≡ get_of caller spot = cc in
-    let get : Begins k.book m.book now no_words (get_of caller spot) answer =
-    subst (λ (q : Request). Begins k.book m.book now no_words q answer) same begins in
+    let get : Begins k.book m.book now words (get_of caller spot) answer =
+    subst (λ (q : Request). Begins k.book m.book now words q answer) same begins in
     answered_shown reads last head caller spot body k.book m a b v answer kept (asked_plain head (begun.Asked answer) (get_of caller spot) asked refl)
-    (get_answered k.book m.book now caller spot body answer kept one get)
-    (begins_move k.book m.book now no_words (get_of caller spot) answer get).onward.lasts only takes written writes
+    (get_answered k.book m.book now words caller spot body answer kept one get)
+    (begins_move k.book m.book now words (get_of caller spot) answer get).onward.lasts only takes written writes

@@ -4,6 +4,7 @@ use Rattle.std.specs.Prelude.{IfSome, IsOk, OnOk}
 use Rattle.nf_base.specs.declared.content.Piece.{Piece}
 use Rattle.nf_dav.specs.Asked.{request_of}
 use Rattle.nf_http.specs.Head.{Head}
+use Rattle.nf_outside.specs.Lent.{Taken}
 use Rattle.nf_words.specs.Prelude.{after, answer_at, answer_to, blob_for, blob_to, IsSound, MayCome, State}
 use Rattle.nf_words.specs.declared.answer.By.{By}
 use Rattle.nf_words.specs.declared.answer.Denial.{Denial}
@@ -18,7 +19,7 @@ use Rattle.nf_words.specs.declared.request.Request.{Request}
 use Rattle.nf_words.specs.declared.request.Spot.{Spot}
 use Rattle.nf_words.specs.declared.request.Words.{Words}
 use Rattle.nf_defs.specs.Blobs.{Blobs, blob_at}
-use Rattle.nf_session.specs.Prelude.{Answer, Bodies, Book, Closes, EndsBody, Enters, event_of_body, how_of, IsResponse, Judges, next_blob_of, no_words, Passes, Scene, Starts, state_after, state_of, stays_granted, Stores, StoresBody, taken_length, way_of}
+use Rattle.nf_session.specs.Prelude.{Answer, Bodies, Book, Closes, EndsBody, Enters, event_of_body, how_of, IsResponse, Judges, next_blob_of, Passes, Scene, Starts, state_after, state_of, stays_granted, Stores, StoresBody, taken_length, way_of}
 use Rattle.nf_session.specs.declared.begun.Begun.{Begun}
 use Rattle.nf_session.specs.declared.begun.Begun.TheVariants as begun
 use Rattle.nf_session.specs.declared.ended.Ended.{Ended}
@@ -60,22 +61,22 @@ on_ok : {P : Type 0} (answer : Answer) → IsOk answer → OnOk answer P → P
 on_ok (Ok r) ok is = is
 on_ok (Err refusal) ok is = absurd (cc)
 
-kept_books : (a m b : Book) (now moment : ℕ) (caller : Caller) (spot : Spot) (n : ℕ) (by : By) (key : LockKey) (size : ℕ) (body : List ℕ)
+kept_books : (a m b : Book) (now moment : ℕ) (words : Words) (caller : Caller) (spot : Spot) (n : ℕ) (by : By) (key : LockKey) (size : ℕ) (body : List ℕ)
     (answer : Answer) → IsSound (state_of a) → GoesByNoMount (state_of a) caller spot → OnlyOwn a m → OnlyOwn m b
-    → Enters a m now (Begin no_words (put_of caller spot n)) (Ok (reply.Granted (goal.Store by key size)))
+    → Enters a m now (Begin words (put_of caller spot n)) (Ok (reply.Granted (goal.Store by key size)))
     → EndsBody m b moment body answer → IsOk answer → length body ≡ size → IsKept b caller spot body
-kept_books a m b now moment caller spot n by key size body answer sound own one two enters ends ok long =
+kept_books a m b now moment words caller spot n by key size body answer sound own one two enters ends ok long =
     let first = enters.entry in
     let second = ends.enters.entry in
     let s = state_of a in
-    let begin = entered a m now (Begin no_words (put_of caller spot n)) (Ok (reply.Granted (goal.Store by key size))) enters one in
+    let begin = entered a m now (Begin words (put_of caller spot n)) (Ok (reply.Granted (goal.Store by key size))) enters one in
     let end = entered m b moment (event_of_body body) answer ends.enters two in
     let middle : State = after s first in
     let may : MayCome end.count middle second = subst (λ (x : State). MayCome end.count x second) begin.state end.may in
     let seat : second.seat ≡ first.seat = end.seat_is ∙ enters.lasts.seat ∙ sym begin.seat_is in
     let answered : answer_at middle second second.mark ≡ answer =
     ap (λ (x : State). answer_at x second second.mark) (sym begin.state) ∙ end.answer_is in
-    let got = put_is_got begin.count end.count s first second no_words caller spot n by key size body sound own begin.may begin.event_is begin.answer_is
+    let got = put_is_got begin.count end.count s first second words caller spot n by key size body sound own begin.may begin.event_is begin.answer_is
     may end.event_is seat (subst (λ (x : Answer). IsOk x) (sym answered) ok) long in
     let last : state_of b ≡ after middle second = end.state ∙ ap (λ (x : State). after x second) begin.state in
     let there : state_after m ends.enters.others ≡ middle =
@@ -106,20 +107,20 @@ stored_ok (Ok r) v is says = refl
 stored_ok (Err refusal) v is says = absurd (not_stored v refusal is says)
 
 -- a PUT's Begin is answered as one
-begins_put : (a m : Book) (now : ℕ) (caller : Caller) (spot : Spot) (n : ℕ) (answered : Reply) → OnlyOwn a m
-    → Enters a m now (Begin no_words (put_of caller spot n)) (Ok answered) → IsOfPut answered
-begins_put a m now caller spot n answered one enters =
-    let begin = entered a m now (Begin no_words (put_of caller spot n)) (Ok answered) enters one in
+begins_put : (a m : Book) (now : ℕ) (words : Words) (caller : Caller) (spot : Spot) (n : ℕ) (answered : Reply) → OnlyOwn a m
+    → Enters a m now (Begin words (put_of caller spot n)) (Ok answered) → IsOfPut answered
+begins_put a m now words caller spot n answered one enters =
+    let begin = entered a m now (Begin words (put_of caller spot n)) (Ok answered) enters one in
     let e = enters.entry in
-    put_replies (state_of a) e.seat e.moment no_words caller spot n answered
-    (ok_answer (state_of a) e (Begin no_words (put_of caller spot n)) answered begin.event_is begin.answer_is).1
+    put_replies (state_of a) e.seat e.moment words caller spot n answered
+    (ok_answer (state_of a) e (Begin words (put_of caller spot n)) answered begin.event_is begin.answer_is).1
 
-asked_enters : (a m : Book) (now : ℕ) (head : Head) (caller : Caller) (spot : Spot) (n : ℕ) (r : Request) (answer : Answer)
+asked_enters : (a m : Book) (now : ℕ) (words : Words) (head : Head) (caller : Caller) (spot : Spot) (n : ℕ) (r : Request) (answer : Answer)
     → request_of head [] ≡ Ok (put_of caller spot n) → request_of head [] ≡ Ok r
-    → Enters a m now (Begin no_words r) answer → Enters a m now (Begin no_words (put_of caller spot n)) answer
-asked_enters a m now head caller spot n r answer asked is enters =
+    → Enters a m now (Begin words r) answer → Enters a m now (Begin words (put_of caller spot n)) answer
+asked_enters a m now words head caller spot n r answer asked is enters =
     let same : r ≡ put_of caller spot n = cc in
-    subst (λ (q : Request). Enters a m now (Begin no_words q) answer) same enters
+    subst (λ (q : Request). Enters a m now (Begin words q) answer) same enters
 
 -- so what was begun is a granted body of the length asked for
 pub record BeginsPut (b : Begun) (n : ℕ) : Type 0 where
@@ -127,7 +128,7 @@ pub record BeginsPut (b : Begun) (n : ℕ) : Type 0 where
   pub key : LockKey
   pub is : b ≡ begun.Asked (Ok (reply.Granted (goal.Store by key n)))
 
-pub put_begun : {C : Type 0} (reads : C → ℕ → C → Type 0) (head : Head) (begun : Begun) (v : Response) (a m x b : Scene C) (body : List ℕ)
+pub put_begun : {C : Type 0} (reads : C → Taken → C → Type 0) (head : Head) (begun : Begun) (v : Response) (a m x b : Scene C) (body : List ℕ)
     (caller : Caller) (spot : Spot) (n : ℕ) → request_of head [] ≡ Ok (put_of caller spot n)
     → Judges reads head [] a m begun → Passes reads body x b begun v → SaysStored v → OnlyOwn a.book m.book → BeginsPut begun n
 put_begun reads head (begun.Unasked refusal) v a m x b body caller spot n asked judges passes says one =
@@ -135,13 +136,13 @@ put_begun reads head (begun.Unasked refusal) v a m x b body caller spot n asked 
 put_begun reads head (begun.Asked (Ok (reply.Granted (goal.Serve content)))) v a m x b body caller spot n asked judges starts says one =
     absurd (starts_not_stored x.book b.book content v starts.starts says)
 put_begun reads head (begun.Asked (Ok (reply.Granted (goal.Store by key size)))) v a m x b body caller spot n asked
-    (r, now, is, read, begins, only) passes says one =
+    (r, now, words, is, read, begins, only) passes says one =
     let answer : Answer = Ok (reply.Granted (goal.Store by key size)) in
-    let enters = asked_enters a.book m.book now head caller spot n r answer asked is begins.entry in
-    let begin = entered a.book m.book now (Begin no_words (put_of caller spot n)) answer enters one in
+    let enters = asked_enters a.book m.book now words head caller spot n r answer asked is begins.entry in
+    let begin = entered a.book m.book now (Begin words (put_of caller spot n)) answer enters one in
     let e = enters.entry in
-    let same : n ≡ size = put_size (state_of a.book) e.seat e.moment no_words caller spot n by key size
-    (ok_answer (state_of a.book) e (Begin no_words (put_of caller spot n)) (reply.Granted (goal.Store by key size)) begin.event_is begin.answer_is).1 in
+    let same : n ≡ size = put_size (state_of a.book) e.seat e.moment words caller spot n by key size
+    (ok_answer (state_of a.book) e (Begin words (put_of caller spot n)) (reply.Granted (goal.Store by key size)) begin.event_is begin.answer_is).1 in
     record { by = by; key = key; is = ap (λ (l : ℕ). begun.Asked (Ok (reply.Granted (goal.Store by key l)))) (sym same) }
 put_begun reads head (begun.Asked (Ok reply.Closed)) v a m x b body caller spot n asked judges passes says one = absurd passes.0
 put_begun reads head (begun.Asked (Ok (reply.Listing lines))) v a m x b body caller spot n asked judges passes says one =
@@ -154,23 +155,23 @@ put_begun reads head (begun.Asked (Ok reply.Plain)) v a m x b body caller spot n
     absurd (subst (λ (w : Response). SaysStored w) passes.0 says)
 put_begun reads head (begun.Asked (Err refusal)) v a m x b body caller spot n asked judges passes says one =
     absurd (not_stored v refusal passes.0 says)
-put_begun reads head (begun.Asked (Ok word)) v a m x b body caller spot n asked (r, now, is, read, begins, only) passes says one =
-    absurd (begins_put a.book m.book now caller spot n word one
-    (asked_enters a.book m.book now head caller spot n r (Ok word) asked is begins.entry))
+put_begun reads head (begun.Asked (Ok word)) v a m x b body caller spot n asked (r, now, words, is, read, begins, only) passes says one =
+    absurd (begins_put a.book m.book now words caller spot n word one
+    (asked_enters a.book m.book now words head caller spot n r (Ok word) asked is begins.entry))
 
-kept_stored : {C : Type 0} (reads : C → ℕ → C → Type 0) (head : Head) (by : By) (key : LockKey) (v : Response) (a m n x b : Scene C) (body : List ℕ)
+kept_stored : {C : Type 0} (reads : C → Taken → C → Type 0) (head : Head) (by : By) (key : LockKey) (v : Response) (a m n x b : Scene C) (body : List ℕ)
     (caller : Caller) (spot : Spot) (size : ℕ) → request_of head [] ≡ Ok (put_of caller spot size)
     → Judges reads head [] a m (begun.Asked (Ok (reply.Granted (goal.Store by key size)))) → n.book ≡ m.book
     → Bodies n x size body → StoresBody reads body x b v → SaysStored v
     → IsSound (state_of a.book) → GoesByNoMount (state_of a.book) caller spot → OnlyOwn a.book m.book → OnlyOwn m.book b.book → IsKept b.book caller spot body
-kept_stored {C} reads head by key v a m n x b body caller spot size asked (r, now, is, read, begins, only) told bodies
+kept_stored {C} reads head by key v a m n x b body caller spot size asked (r, now, words, is, read, begins, only) told bodies
     (moment, answer, later, ends, answers, more) says sound own one two =
     let book : x.book ≡ m.book = ap (λ (y : Scene C). y.book) bodies.only ∙ told in
-    kept_books a.book m.book b.book now moment caller spot size by key size body answer sound own one two
-    (asked_enters a.book m.book now head caller spot size r (Ok (reply.Granted (goal.Store by key size))) asked is begins.entry)
+    kept_books a.book m.book b.book now moment words caller spot size by key size body answer sound own one two
+    (asked_enters a.book m.book now words head caller spot size r (Ok (reply.Granted (goal.Store by key size))) asked is begins.entry)
     (subst (λ (k : Book). EndsBody k b.book moment body answer) book ends) (stored_ok answer v answers says) bodies.taken.0
 
-kept_taken : {C : Type 0} (reads : C → ℕ → C → Type 0) (head : Head) (begun : Begun) (v : Response) (a m n x b : Scene C) (body : List ℕ)
+kept_taken : {C : Type 0} (reads : C → Taken → C → Type 0) (head : Head) (begun : Begun) (v : Response) (a m n x b : Scene C) (body : List ℕ)
     (caller : Caller) (spot : Spot) (size : ℕ) → request_of head [] ≡ Ok (put_of caller spot size)
     → Judges reads head [] a m begun → n.book ≡ m.book → Bodies n x (taken_length head begun) body → Passes reads body x b begun v → SaysStored v
     → IsSound (state_of a.book) → GoesByNoMount (state_of a.book) caller spot → OnlyOwn a.book m.book → OnlyOwn m.book b.book → IsKept b.book caller spot body
@@ -183,13 +184,13 @@ kept_taken {C} reads head begun v a m n x b body caller spot size asked judges t
 
 -- ---- the turn
 
-closes_book : {C : Type 0} (reads : C → ℕ → C → Type 0) (v : Response) (a b : Scene C) (result : Result (Option Ended) Ended) → SaysStored v
+closes_book : {C : Type 0} (reads : C → Taken → C → Type 0) (v : Response) (a b : Scene C) (result : Result (Option Ended) Ended) → SaysStored v
     → Closes reads (how_of v result) (stays_granted v) a b → b.book ≡ a.book
 closes_book {C} reads response.Made a b result says same = ap (λ (x : Scene C). x.book) same
 closes_book {C} reads response.Done a b result says same = ap (λ (x : Scene C). x.book) same
 closes_book reads other a b result says same = absurd says
 
-pub put_is_kept : {C : Type 0} (reads : C → ℕ → C → Type 0) (last : Bool) (caller : Caller) (spot : Spot) (body : List ℕ) (a b : Scene C)
+pub put_is_kept : {C : Type 0} (reads : C → Taken → C → Type 0) (last : Bool) (caller : Caller) (spot : Spot) (body : List ℕ) (a b : Scene C)
     (end : Option Ended) → Puts reads last caller spot body a b end
     → IsSound (state_of a.book) → GoesByNoMount (state_of a.book) caller spot → OnlyOwn a.book b.book → IsKept b.book caller spot body
 put_is_kept reads last caller spot body a b end put sound own only =

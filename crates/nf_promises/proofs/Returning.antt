@@ -8,6 +8,7 @@ use Rattle.nf_dav.specs.Reply.{continue_reply, file_head, refusal_reply}
 use Rattle.nf_http.specs.Head.{Head, closes_session}
 use Rattle.nf_http.specs.declared.wire.WireFault.{WireFault}
 use Rattle.nf_http.specs.declared.wire.WireFault.TheVariants as wire
+use Rattle.nf_outside.specs.Lent.{Taken}
 use Rattle.nf_words.specs.declared.answer.Denial.TheVariants as denial
 use Rattle.nf_words.specs.declared.request.Caller.{Caller}
 use Rattle.nf_words.specs.declared.request.Spot.{Spot}
@@ -27,7 +28,7 @@ use Rattle.nf_promises.proofs.Puts.{IsKept, put_is_kept}
 use Rattle.nf_promises.proofs.Touches.{closes_only, judges_only, output_of, passes_only}
 use Rattle.nf_promises.specs.Kept.{AreOfBody, FailsStore, IsWritten, OnlyOwn, PutThenGet, ShowsDamage, ShowsFile, get_of, plainly, put_of, waits}
 
-pub takes_output : {C : Type 0} (reads : C → ℕ → C → Type 0) (head : Head) (a b : Scene C) (begun : Begun) (v : Response)
+pub takes_output : {C : Type 0} (reads : C → Taken → C → Type 0) (head : Head) (a b : Scene C) (begun : Begun) (v : Response)
     → TakesIn reads head a b begun (Ok v) → b.output ≡ a.output
 takes_output {C} reads head a b begun v (m, body, bodies, passes) =
     output_of m b (passes_only reads body m b begun v passes) ∙ ap (λ (x : Scene C). x.output) bodies.only
@@ -113,7 +114,7 @@ told_shown close unsent body shelf a b told (inr (inr (inr (inl fails)))) = inr 
 told_shown close unsent body shelf a b told (inr (inr (inr (inr damage)))) =
     absurd (subst (λ (o : Option Blobs). ShowsDamage o close a b) told damage)
 
-answers_shown : {C : Type 0} (reads : C → ℕ → C → Type 0) (last : Bool) (head : Head) (caller : Caller) (spot : Spot) (body : List ℕ)
+answers_shown : {C : Type 0} (reads : C → Taken → C → Type 0) (last : Bool) (head : Head) (caller : Caller) (spot : Spot) (body : List ℕ)
     (begun : Begun) (k m b : Scene C) (end : Option Ended) → request_of head [] ≡ Ok (get_of caller spot) → Judges reads head [] k m begun
     → IsKept k.book caller spot body → OnlyOwn k.book m.book → OnlyOwn k.book b.book
     → Answers reads last head begun m b end → IsWritten end → ShowsFile (last || closes_session head) (waits head) body k b
@@ -134,7 +135,7 @@ answers_shown {C} reads last head caller spot body begun k m b end asked judges 
     shown_by (last || closes_session head) (waits head) body k.book.told (FailsStore k.book answers.taken.book) (FailsStore k.book b.book)
     k answers.taken answers.sent b front (sym closed) (λ fails. omega (arith, later, fails)) shown
 
-with_shown : {C : Type 0} (reads : C → ℕ → C → Type 0) (last : Bool) (head : Head) (caller : Caller) (spot : Spot) (body : List ℕ)
+with_shown : {C : Type 0} (reads : C → Taken → C → Type 0) (last : Bool) (head : Head) (caller : Caller) (spot : Spot) (body : List ℕ)
     (k b : Scene C) (end : Option Ended) → MeetsWith reads last head [] k b end → request_of head [] ≡ Ok (get_of caller spot)
     → IsKept k.book caller spot body → OnlyOwn k.book b.book → IsWritten end → ShowsFile (last || closes_session head) (waits head) body k b
 with_shown reads last head caller spot body k b end (m, begun, judges, inl stops) asked kept only written =
@@ -150,13 +151,13 @@ with_shown {C} reads last head caller spot body k b end (m, begun, judges, inr (
 with_shown reads last head caller spot body k b end (m, begun, judges, inr (n, invites, inr cuts)) asked kept only written =
     absurd (cut_not_written cuts.fault cuts.cut cuts.sent cuts.by cuts.responds (subst (λ (e : Option Ended). IsWritten e) cuts.ends written))
 
-pub meets_shown : {C : Type 0} (reads : C → ℕ → C → Type 0) (last : Bool) (head : Head) (caller : Caller) (spot : Spot) (body : List ℕ)
+pub meets_shown : {C : Type 0} (reads : C → Taken → C → Type 0) (last : Bool) (head : Head) (caller : Caller) (spot : Spot) (body : List ℕ)
     (k b : Scene C) (end : Option Ended) → Meets reads last head k b end → request_of head [] ≡ Ok (get_of caller spot)
     → IsKept k.book caller spot body → OnlyOwn k.book b.book → IsWritten end → ShowsFile (last || closes_session head) (waits head) body k b
 meets_shown reads last head caller spot body k b end meets asked kept only written =
     with_shown reads last head caller spot body k b end (meets_at_once reads last head k b end (asked_not_early head (get_of caller spot) asked refl) meets) asked kept only written
 
-pub put_then_get : {C : Type 0} (reads : C → ℕ → C → Type 0) → PutThenGet reads
+pub put_then_get : {C : Type 0} (reads : C → Taken → C → Type 0) → PutThenGet reads
 put_then_get {C} reads caller spot body a b c first last end done put get sound own only written =
     let same : get.behind.book ≡ b.book = heads_same b get.behind (Ok (Some get.head)) get.heads in
     let one = turn_goes reads first a b end

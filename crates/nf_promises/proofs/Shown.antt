@@ -8,6 +8,7 @@ use Rattle.nf_http.specs.Head.{length_of}
 use Rattle.nf_http.specs.Next.{Shows}
 use Rattle.nf_http.specs.declared.wire.WireFault.{WireFault}
 use Rattle.nf_http.specs.declared.wire.WireFault.TheVariants as wire
+use Rattle.nf_outside.specs.Lent.{Taken}
 use Rattle.nf_words.specs.declared.answer.Denial.{Denial}
 use Rattle.nf_words.specs.declared.answer.Denial.TheVariants as denial
 use Rattle.nf_words.specs.declared.answer.Goal.TheVariants as goal
@@ -85,7 +86,7 @@ shown_by a m b fault heads ends =
 
 -- ---- a turn
 
-turn_shown : {C : Type 0} (reads : C → ℕ → C → Type 0) (last : Bool) (a b : Scene C) → Turn reads last a b (Some ended.BadMessage)
+turn_shown : {C : Type 0} (reads : C → Taken → C → Type 0) (last : Bool) (a b : Scene C) → Turn reads last a b (Some ended.BadMessage)
     → ((fault : WireFault) × IsShown a b fault) ⊎ EndsInBody reads a b ⊎ EndsEarly a b
 turn_shown reads last a b (inl ends) =
     let never : ◌≡◌ {A = Option Ended} (Some ended.BadMessage) (Some ended.Closed) = ends.1 in absurd (cc)
@@ -124,5 +125,5 @@ turn_shown reads last a b (inr (inr (m, head, heads, inr (taken, early, takes, (
           (subst (λ (z : Ended). EndsBy cut.fault cut.cut cut.sent z) (bad_by cut.by cut.ends) cut.responds);
     }))
 
-pub faults_shown : {C : Type 0} (reads : C → ℕ → C → Type 0) → FaultsAreShown reads
+pub faults_shown : {C : Type 0} (reads : C → Taken → C → Type 0) → FaultsAreShown reads
 faults_shown reads a b session = turn_shown reads _ session.before b session.turn

@@ -5,6 +5,7 @@ use Rattle.std.specs.Prelude.{Vec}
 use Rattle.std.specs.declared.alloc.Global.{Global}
 use Rattle.nf_base.specs.declared.content.Piece.{Piece}
 use Rattle.nf_http.specs.Head.{Head}
+use Rattle.nf_outside.specs.Lent.{Taken}
 use Rattle.nf_words.specs.declared.answer.Goal.TheVariants as goal
 use Rattle.nf_words.specs.declared.answer.Reply.TheVariants as reply
 use Rattle.nf_session.specs.Prelude.{Book, Closes, Judges, OnlyWrites, Passes, Responds, Scene, TakesIn, TellsRows, Way, how_of, stays_granted, way_of}
@@ -42,7 +43,7 @@ plain_only last way response.Plain a b (Ok end) plain responds = says_only {T = 
 plain_only last way response.Plain a b (Err by) plain responds = says_only {T = Unit {0}} a b _ (Err by) responds
 plain_only last way v a b result plain responds = stored_only last way v a b result plain responds
 
-module _ {C : Type 0} (reads : C → ℕ → C → Type 0) where
+module _ {C : Type 0} (reads : C → Taken → C → Type 0) where
   -- the End of what was granted is an entry
   file_tells : (content : List Piece) (first : Option (Vec ℕ Global)) (a b : Scene C) (result : Result (Option Ended) Ended)
       → Closes reads (how_of (response.File content first) result) (stays_granted (response.File content first)) a b → Tells b.book
@@ -68,7 +69,7 @@ module _ {C : Type 0} (reads : C → ℕ → C → Type 0) where
   passes_tells head early (begun.Asked (Ok (reply.Granted (goal.Store by key length)))) v body a m x b judges same stores plain =
       stores.3.enters.rows
   passes_tells head early (begun.Asked (Err refusal)) v body a m x b judges same passes plain = absurd (subst IsPlain passes.0 plain)
-  passes_tells head early (begun.Asked (Ok word)) v body a m x b (r, now, asked, read, begins, only) same passes plain =
+  passes_tells head early (begun.Asked (Ok word)) v body a m x b (r, now, words, asked, read, begins, only) same passes plain =
       subst Tells (sym (ap (λ (y : Scene C). y.book) passes.1 ∙ same)) begins.entry.rows
 
   answered_tells : (last : Bool) (head : Head) (early : List ℕ) (begun : Begun) (v : Response) (result : Result (Option Ended) Ended) (a m n t s b : Scene C)

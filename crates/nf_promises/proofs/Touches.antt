@@ -1,6 +1,7 @@
 -- What each step of a turn touches.
 use Rattle.std.proofs.Common.{ℕ, ◌≡◌, Bool, true, false, List, [], ◌∷◌, Option, Result, Ok, Err, refl, sym, ap, subst, ◌∙◌}
 use Rattle.nf_http.specs.Head.{Head}
+use Rattle.nf_outside.specs.Lent.{Taken}
 use Rattle.nf_words.specs.declared.answer.Goal.TheVariants as goal
 use Rattle.nf_words.specs.declared.answer.Reply.TheVariants as reply
 use Rattle.nf_base.specs.declared.content.Piece.{Piece}
@@ -18,7 +19,7 @@ asks_none : {C : Type 0} (a b : Scene C) → b ≡ a → OnlyAsks a b
 asks_none {C} a b same = subst (λ (x : Scene C). OnlyAsks a x) (sym same) refl
 
 asks_book : {C : Type 0} (a b : Scene C) → b ≡ record a { book = b.book } → OnlyAsks a b
-asks_book {C} a b only = only ∙ ap (λ (c : C). record a { book = b.book; clock = c }) (sym (ap (λ (x : Scene C). x.clock) only))
+asks_book {C} a b only = only ∙ ap (λ (c : C). record a { book = b.book; lent = c }) (sym (ap (λ (x : Scene C). x.lent) only))
 
 writes_none : {C : Type 0} (a b : Scene C) → b ≡ a → OnlyWrites a b
 writes_none {C} a b same = subst (λ (x : Scene C). OnlyWrites a x) (sym same) refl
@@ -27,21 +28,21 @@ writes_all : {C : Type 0} (a b : Scene C) → b ≡ record a { output = b.output
 writes_all {C} a b only =
     only ∙ ap (λ (n : ℕ). record a { output = b.output; write_faults = n }) (sym (ap (λ (x : Scene C). x.write_faults) only))
 
--- ---- the book and the clock alone
+-- ---- the book, the clock and the dice alone
 
-pub judges_only : {C : Type 0} (reads : C → ℕ → C → Type 0) (head : Head) (early : List ℕ) (a b : Scene C) (v : Begun)
+pub judges_only : {C : Type 0} (reads : C → Taken → C → Type 0) (head : Head) (early : List ℕ) (a b : Scene C) (v : Begun)
     → Judges reads head early a b v → OnlyAsks a b
 judges_only reads head early a b (begun.Unasked refusal) (is, same) = asks_none a b same
-judges_only reads head early a b (begun.Asked answer) (r, now, asked, read, begins, only) = only
+judges_only reads head early a b (begun.Asked answer) (r, now, words, asked, read, begins, only) = only
 
-pub passes_only : {C : Type 0} (reads : C → ℕ → C → Type 0) (body : List ℕ) (a b : Scene C) (begun : Begun) (v : Response)
+pub passes_only : {C : Type 0} (reads : C → Taken → C → Type 0) (body : List ℕ) (a b : Scene C) (begun : Begun) (v : Response)
     → Passes reads body a b begun v → OnlyAsks a b
 passes_only reads body a b (begun.Unasked refusal) v (is, same) = asks_none a b same
 passes_only reads body a b (begun.Asked (Ok (reply.Granted (goal.Serve content)))) v starts = asks_book a b starts.only
 passes_only reads body a b (begun.Asked (Ok (reply.Granted (goal.Store by key length)))) v (now, answer, read, ends, is, only) = only
 passes_only reads body a b (begun.Asked other) v passes = asks_none a b passes.1
 
-pub closes_only : {C : Type 0} (reads : C → ℕ → C → Type 0) (how : Ending) (granted : Bool) (a b : Scene C) → Closes reads how granted a b
+pub closes_only : {C : Type 0} (reads : C → Taken → C → Type 0) (how : Ending) (granted : Bool) (a b : Scene C) → Closes reads how granted a b
     → OnlyAsks a b
 closes_only reads how true a b (now, read, ends, only) = only
 closes_only reads how false a b same = asks_none a b same

@@ -14,6 +14,7 @@ use Rattle.nf_http.specs.declared.wire.WireFault.{WireFault}
 use Rattle.nf_http.specs.declared.wire.WireFault.TheVariants as wire
 use Rattle.nf_laws.specs.Wholes.{IsDamaged}
 use Rattle.nf_outside.specs.Causes.{Rose}
+use Rattle.nf_outside.specs.Lent.{Taken}
 use Rattle.nf_words.specs.declared.answer.Damage.{Damage}
 use Rattle.nf_words.specs.declared.answer.Denial.{Denial}
 use Rattle.nf_words.specs.declared.answer.Denial.TheVariants as denial
@@ -120,14 +121,14 @@ module _ {C : Type 0} (a b : Scene C) (nothing : NothingFails a b) (whole : Stay
       let write : m.write_faults ≡ x.write_faults = ap (λ (s : Scene C). s.write_faults) only in
       so_whole (denial_of other) m y by (λ rose. not_risen x y before behind (subst (λ (n : ℕ). Rose n y.write_faults) write rose)) ends
 
-  pub stop_whole : (reads : C → ℕ → C → Type 0) (head : Head) (u : Begun) (x : Scene C) (end : Option Ended) → Calm a x
+  pub stop_whole : (reads : C → Taken → C → Type 0) (head : Head) (u : Begun) (x : Scene C) (end : Option Ended) → Calm a x
       → StopsShort reads head u x b end → end ≡ Some ended.Memory
   stop_whole reads head u x end before stops =
       let behind = calm_of (closes_go reads ending.Gone _ stops.sent b stops.closes) in
       let says = sends_says {T = Unit {0}} x stops.sent continue_reply (Err stops.by) (stops_sends head u x stops.sent (Unit {0}) stops.by stops.invites) in
       stops.ends ∙ ap (λ (e : Ended). Some e) (says_whole x stops.sent continue_reply stops.by (not_risen x stops.sent before behind) says)
 
-  pub short_whole : (reads : C → ℕ → C → Type 0) (head : Head) (u : Begun) (x : Scene C) (end : Option Ended) → Calm a x
+  pub short_whole : (reads : C → Taken → C → Type 0) (head : Head) (u : Begun) (x : Scene C) (end : Option Ended) → Calm a x
       → CutsShort reads head u x b end → IsRefused end
   short_whole reads head u x end before cuts =
       subst (λ (e : Option Ended). IsRefused e) (sym cuts.ends)
@@ -157,7 +158,7 @@ response_well closes other = close_well closes
 well_by : (end good : Option Ended) → end ≡ good → IsWell good → IsWell end
 well_by end good is well = subst (λ (e : Option Ended). IsWell e) (sym is) well
 
-module _ {C : Type 0} (reads : C → ℕ → C → Type 0) (a b : Scene C) (nothing : NothingFails a b) (whole : StaysWhole a.book) where
+module _ {C : Type 0} (reads : C → Taken → C → Type 0) (a b : Scene C) (nothing : NothingFails a b) (whole : StaysWhole a.book) where
   answers_well : (last : Bool) (head : Head) (u : Begun) (x : Scene C) (end : Option Ended) → Calm a x → Answers reads last head u x b end → IsWell end
   answers_well last head u x end before answers =
       let v = answers.response in
@@ -197,7 +198,7 @@ module _ {C : Type 0} (reads : C → ℕ → C → Type 0) (a b : Scene C) (noth
   turn_well last x end before (inr (inr (m, head, heads, meets))) =
       meets_well last head m end (calm_then a x m before (calm_of (heads_go x m 0 (Some head) heads))) meets
 
-pub ends_well : {C : Type 0} (reads : C → ℕ → C → Type 0) → EndsWell reads
+pub ends_well : {C : Type 0} (reads : C → Taken → C → Type 0) → EndsWell reads
 ends_well reads a b end session nothing whole =
     turn_well reads a b nothing whole (length session.scenes == MAX_MESSAGES - 1) session.before end
     (calm_of (through_goes reads a session.scenes session.before session.through)) session.turn

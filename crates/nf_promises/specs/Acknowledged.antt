@@ -2,6 +2,7 @@
 use Rattle.std.specs.Prelude.{ℕ, Bool, List, Option, Some, Ok}
 use Rattle.std.specs.Option.{IfSome}
 use Rattle.nf_http.specs.Head.{Head}
+use Rattle.nf_outside.specs.Lent.{Taken}
 use Rattle.nf_session.specs.Prelude.{Answers, Heads, Invites, Judges, Scene, TakesEarly, TellsRows}
 use Rattle.nf_session.specs.declared.begun.Begun.{Begun}
 use Rattle.nf_session.specs.declared.ended.Ended.{Ended}
@@ -21,7 +22,7 @@ IsBelow300 (response.Denied refusal) = ⊥
 IsBelow300 (response.Lost fault) = ⊥
 
 -- a turn took a head, and its message was answered so
-pub record Acknowledges {C : Type 0} (reads : C → ℕ → C → Type 0) (last : Bool) (a b : Scene C) (end : Option Ended) : Type 0 where
+pub record Acknowledges {C : Type 0} (reads : C → Taken → C → Type 0) (last : Bool) (a b : Scene C) (end : Option Ended) : Type 0 where
   pub head : Head
   pub behind : Scene C
   pub heads : Heads a behind (Ok (Some head))
@@ -38,6 +39,6 @@ pub record Acknowledges {C : Type 0} (reads : C → ℕ → C → Type 0) (last 
 
 -- over a store that tells, what it has by then are the rows of all that the seat has seen, the message's own steps among it; this is so
 -- also where the answer isn't written whole
-abbrev pub AcknowledgedIsStored : {C : Type 0} → (C → ℕ → C → Type 0) → Type 0
+abbrev pub AcknowledgedIsStored : {C : Type 0} → (C → Taken → C → Type 0) → Type 0
 AcknowledgedIsStored {C} reads =
     (last : Bool) (a b : Scene C) (end : Option Ended) → Acknowledges reads last a b end → IfSome b.book.told (λ _. TellsRows b.book)

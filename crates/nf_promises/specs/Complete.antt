@@ -11,7 +11,8 @@ use Rattle.nf_dav.specs.Reply.{done_reply, file_head, listing_reply, made_reply,
 use Rattle.nf_dav.specs.declared.replies.Manner.{Manner}
 use Rattle.nf_http.specs.Bodies.{TakesBody}
 use Rattle.nf_http.specs.Head.{Head, closes_session}
-use Rattle.nf_session.specs.Prelude.{Answer, AreGiven, Book, entries_wanted, Heads, is_early, Meets, no_words, Scene, Session, state_after, TakesEarly, WasDamaged}
+use Rattle.nf_outside.specs.Lent.{Taken}
+use Rattle.nf_session.specs.Prelude.{Answer, AreGiven, Book, entries_wanted, Heads, is_early, Meets, Scene, Session, state_after, TakesEarly, WasDamaged}
 use Rattle.nf_session.specs.declared.ended.Ended.{Ended}
 use Rattle.nf_session.specs.declared.ended.Ended.TheVariants as ended
 use Rattle.nf_words.specs.Prelude.{answer_to}
@@ -23,6 +24,7 @@ use Rattle.nf_words.specs.declared.history.Event.{Event}
 use Rattle.nf_words.specs.declared.history.Event.TheVariants.{Begin, End}
 use Rattle.nf_words.specs.declared.history.Outcome.TheVariants.{Body}
 use Rattle.nf_words.specs.declared.request.Request.{Request}
+use Rattle.nf_words.specs.declared.request.Words.{Words}
 use Rattle.nf_promises.specs.Kept.{invitation}
 
 -- ---- nothing fails
@@ -104,7 +106,7 @@ IsWanting head a b end =
 abbrev pub IsMet : {C : Type 0} → Bool → Head → Request → Scene C → Scene C → Option Ended → Type 0
 IsMet last head r a b end =
     IsWanting head a b end ⊎ ((end ≡ Some ended.RunFull) × (MAX_ENTRIES < entries_wanted b.book)) ⊎ (end ≡ Some ended.BadMessage)
-    ⊎ ((answer : Answer) × IsAnswerOf a.book b.book (Begin no_words r) answer × Says head (last || closes_session head) answer a b)
+    ⊎ ((answer : Answer) × (words : Words) × IsAnswerOf a.book b.book (Begin words r) answer × Says head (last || closes_session head) answer a b)
 
 -- the body that its request may go by was taken, if it has one, and by that its request is met
 pub record IsMetBy {C : Type 0} (last : Bool) (head : Head) (a b : Scene C) (end : Option Ended) : Type 0 where
@@ -118,7 +120,7 @@ abbrev pub IsCutEarly : Head → Option Ended → Type 0
 IsCutEarly head end = (is_early head ≡ true) × ((end ≡ Some ended.Memory) ⊎ (end ≡ Some ended.BadMessage))
 
 -- each message with a request is, at which nothing fails
-abbrev pub Completes : {C : Type 0} → (C → ℕ → C → Type 0) → Type 0
+abbrev pub Completes : {C : Type 0} → (C → Taken → C → Type 0) → Type 0
 Completes {C} reads =
     (last : Bool) (a m b : Scene C) (head : Head) (end : Option Ended)
     → Heads a m (Ok (Some head)) → Meets reads last head m b end → NothingFails a b → StaysWhole a.book
@@ -135,6 +137,6 @@ IsWell (Some ended.Memory) = Unit {0}
 IsWell (Some other) = ⊥
 
 -- each session does, in which nothing fails
-abbrev pub EndsWell : {C : Type 0} → (C → ℕ → C → Type 0) → Type 0
+abbrev pub EndsWell : {C : Type 0} → (C → Taken → C → Type 0) → Type 0
 EndsWell {C} reads =
     (a b : Scene C) (end : Option Ended) → Session reads a b end → NothingFails a b → StaysWhole a.book → IsWell end

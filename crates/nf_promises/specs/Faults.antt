@@ -6,6 +6,7 @@ use Rattle.nf_http.specs.Head.{Head}
 use Rattle.nf_http.specs.Next.{IsOfBytes, Shows}
 use Rattle.nf_http.specs.declared.wire.WireFault.{WireFault}
 use Rattle.nf_http.specs.declared.wire.WireFault.TheVariants.{Truncated}
+use Rattle.nf_outside.specs.Lent.{Taken}
 use Rattle.nf_session.specs.Prelude.{CutsEarly, CutsShort, Heads, Invites, IsFront, Judges, Scene, Session, TakesEarly, denial_of}
 use Rattle.nf_session.specs.declared.begun.Begun.{Begun}
 use Rattle.nf_session.specs.declared.ended.Ended.TheVariants.{BadMessage}
@@ -19,7 +20,7 @@ pub record IsShown {C : Type 0} (a b : Scene C) (fault : WireFault) : Type 0 whe
   pub refused : Appends a.output b.output (refusal_reply last_manner (denial_of fault))
 
 -- a head was taken, and the input ended inside its body
-pub record EndsInBody {C : Type 0} (reads : C → ℕ → C → Type 0) (a b : Scene C) : Type 0 where
+pub record EndsInBody {C : Type 0} (reads : C → Taken → C → Type 0) (a b : Scene C) : Type 0 where
   pub head : Head
   pub behind : Scene C
   pub heads : Heads a behind (Ok (Some head))
@@ -44,7 +45,7 @@ pub record EndsEarly {C : Type 0} (a b : Scene C) : Type 0 where
 
 -- a session that is ended by bytes that are no message shows their fault, also where neither end tells anything, or its input ended inside
 -- a body
-abbrev pub FaultsAreShown : {C : Type 0} → (C → ℕ → C → Type 0) → Type 0
+abbrev pub FaultsAreShown : {C : Type 0} → (C → Taken → C → Type 0) → Type 0
 FaultsAreShown {C} reads =
     (a b : Scene C) (session : Session reads a b (Some BadMessage))
     → ((fault : WireFault) × IsShown session.before b fault) ⊎ EndsInBody reads session.before b ⊎ EndsEarly session.before b

@@ -9,7 +9,8 @@ use Rattle.nf_dav.specs.Reply.{continue_reply, done_reply, file_head, made_reply
 use Rattle.nf_dav.specs.declared.replies.Manner.{Manner}
 use Rattle.httparse.specs.Grammar.{IsRequestHead, RequestHead, print_request}
 use Rattle.nf_http.specs.Head.{Head, closes_session, expects_continue, head_fault, head_of, length_of}
-use Rattle.nf_session.specs.Prelude.{Answers, Book, Heads, Invites, Judges, Meets, no_words, Scene, state_of, Turn}
+use Rattle.nf_outside.specs.Lent.{Taken}
+use Rattle.nf_session.specs.Prelude.{Answers, Book, Heads, Invites, Judges, Meets, Scene, state_of, Turn}
 use Rattle.nf_session.specs.declared.begun.Begun.{Begun}
 use Rattle.nf_session.specs.declared.ended.Ended.{Ended}
 use Rattle.nf_session.specs.declared.ended.Ended.TheVariants as ended
@@ -20,6 +21,7 @@ use Rattle.nf_words.specs.declared.answer.Damage.{Damage}
 use Rattle.nf_words.specs.declared.answer.Denial.TheVariants as denial
 use Rattle.nf_words.specs.declared.request.Caller.{Caller}
 use Rattle.nf_words.specs.declared.request.Request.{Request}
+use Rattle.nf_words.specs.declared.request.Words.{Words}
 use Rattle.nf_words.specs.declared.request.Spot.{Spot}
 use Rattle.nf_words.specs.declared.request.Wanted.TheVariants.{Get, Put}
 
@@ -44,7 +46,7 @@ SaysStored (response.Lost fault) = ⊥
 SaysStored (response.File content first) = ⊥
 
 -- a turn took a head that asks for a PUT, by no body that is taken before it is looked for, and this body from the input, and answered that it was made or done
-pub record Puts {C : Type 0} (reads : C → ℕ → C → Type 0) (last : Bool) (caller : Caller) (spot : Spot) (body : List ℕ)
+pub record Puts {C : Type 0} (reads : C → Taken → C → Type 0) (last : Bool) (caller : Caller) (spot : Spot) (body : List ℕ)
     (a b : Scene C) (end : Option Ended) : Type 0 where
   pub head : Head
   pub behind : Scene C
@@ -60,7 +62,7 @@ pub record Puts {C : Type 0} (reads : C → ℕ → C → Type 0) (last : Bool) 
   pub stored : SaysStored answers.response
 
 -- a turn took a head that asks for a GET, and met it
-pub record Gets {C : Type 0} (reads : C → ℕ → C → Type 0) (last : Bool) (caller : Caller) (spot : Spot)
+pub record Gets {C : Type 0} (reads : C → Taken → C → Type 0) (last : Bool) (caller : Caller) (spot : Spot)
     (a b : Scene C) (end : Option Ended) : Type 0 where
   pub head : Head
   pub behind : Scene C
@@ -113,13 +115,17 @@ ShowsFile close unsent body a b =
     ⊎ (Appends a.output b.output (refusal_reply (plainly close) denial.Store) × FailsStore a.book b.book)
     ⊎ ShowsDamage a.book.told close a b
 
+-- words of chance; no path leads anywhere by them
+abbrev pub no_words : Words
+no_words = record { first = 0; second = 0 }
+
 -- the path goes by no mount: it leads on in the caller's own root
 abbrev pub GoesByNoMount : State → Caller → Spot → Type 0
 GoesByNoMount s caller spot = mount_of (call_of s 0 0 no_words (get_of caller spot)) spot ≡ None
 
 -- the body of a PUT that was made or done is what the next turn's GET of its path by the same caller is answered, where
 -- the answer is written whole: over a sound state, in the caller's own root, and byte for byte over a store that tells its bytes
-abbrev pub PutThenGet : {C : Type 0} → (C → ℕ → C → Type 0) → Type 0
+abbrev pub PutThenGet : {C : Type 0} → (C → Taken → C → Type 0) → Type 0
 PutThenGet {C} reads =
     (caller : Caller) (spot : Spot) (body : List ℕ)
     (a b c : Scene C) (first last : Bool) (end done : Option Ended)
@@ -149,7 +155,7 @@ SaysDone head a b =
 
 -- two turns over an input that begins with a PUT, its body and a GET of its path by the same caller, and ends that tell
 -- their bytes
-abbrev pub PutThenGetOfBytes : {C : Type 0} → (C → ℕ → C → Type 0) → Type 0
+abbrev pub PutThenGetOfBytes : {C : Type 0} → (C → Taken → C → Type 0) → Type 0
 PutThenGetOfBytes {C} reads =
     (caller : Caller) (spot : Spot) (put get : RequestHead) (body rest : List ℕ)
     (a b c : Scene C) (first last : Bool) (end done : Option Ended)

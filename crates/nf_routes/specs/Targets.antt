@@ -54,6 +54,12 @@ share_segment target =
     option_map_or percent_decode
     (option_and_then (behind (codes "/ocs/v2.php/apps/files_sharing/api/v1/shares/")) (target_path target)) []
 
+-- what stands for the name of a user, decoded: what is behind the words of the mount of users, up to a slash; nothing in any other target
+abbrev pub user_segment : List ℕ → List ℕ
+user_segment target =
+    option_map_or (λ rest. percent_decode (before_first is_slash rest))
+    (option_and_then (behind (codes "/ocs/v2.php/cloud/users/")) (target_path target)) []
+
 -- the query: what is behind the first `?` (RFC 3986, section 3.4)
 abbrev pub query_of : List ℕ → List ℕ
 query_of target = option_map_or (λ at. drop (at + 1) target) (position is_question target) []

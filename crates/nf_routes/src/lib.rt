@@ -7,4 +7,4 @@ mod targets;
 
 pub use methods::{Method, allow, method_of, takes};
 pub use mounts::Routes;
-pub use targets::{is_ocs, pieces, query, segments, share_segment};
+pub use targets::{is_ocs, pieces, query, segments, share_segment, user_segment};

@@ -3,13 +3,15 @@
 ghost use Rattle.std.specs.Prelude.{◌≡◌, ◌<◌, IfOk, IfSome, codes, length, map, option_and_then, option_copied, position};
 ghost use Rattle.std.specs.List.{before_first, slice_split};
 ghost use Rattle.percent_encoding.specs.Percent.{percent_decode};
-ghost use Rattle.nf_routes.specs.Targets.{behind, from_slash, is_ocs as begins_with_ocs, is_question, is_slash, path_in, query_of, segments_of, share_segment as segment_of_share, target_path, whole_path, without_slash};
+ghost use Rattle.nf_routes.specs.Targets.{behind, from_slash, is_ocs as begins_with_ocs, is_question, is_slash, path_in, query_of, segments_of, share_segment as segment_of_share, target_path, user_segment as segment_of_user, whole_path, without_slash};
 
 use std::alloc::{AllocError, Global};
 
 const FILES: &[u8] = b"/remote.php/dav/files/";
 
 const SHARES: &[u8] = b"/ocs/v2.php/apps/files_sharing/api/v1/shares/";
+
+const USERS: &[u8] = b"/ocs/v2.php/cloud/users/";
 
 const OCS: &[u8] = b"/ocs/v2.php/";
 
@@ -35,6 +37,16 @@ pub fn share_segment(alloc: Global, target: &[u8]) -> Result<Vec<u8>, AllocError
 {
     match behind_shares(target) {
         Some(segment) => decoded(alloc, segment),
+        None => Ok(Vec::new(alloc)),
+    }
+}
+
+/// What stands for the name of a user in the path of a target, decoded; nothing where no user is named.
+pub fn user_segment(alloc: Global, target: &[u8]) -> Result<Vec<u8>, AllocError>
+    ensures { IfOk result (λ segment. segment.items ≡ segment_of_user target.now) }
+{
+    match behind_users(target) {
+        Some(rest) => decoded(alloc, before_slash(rest)),
         None => Ok(Vec::new(alloc)),
     }
 }
@@ -71,6 +83,22 @@ fn behind_shares(target: &[u8]) -> Option<&[u8]>
     ensures { option_copied result ≡ option_and_then (behind (codes "/ocs/v2.php/apps/files_sharing/api/v1/shares/")) (target_path target.now) }
 {
     target_path(target)?.strip_prefix(SHARES)
+}
+
+// What is behind the words of the mount of users.
+fn behind_users(target: &[u8]) -> Option<&[u8]>
+    ensures { option_copied result ≡ option_and_then (behind (codes "/ocs/v2.php/cloud/users/")) (target_path target.now) }
+{
+    target_path(target)?.strip_prefix(USERS)
+}
+
+fn before_slash(path: &[u8]) -> &[u8]
+    ensures { result.now ≡ before_first is_slash path.now }
+{
+    match first_slash(path) {
+        Some(at) => &path[..at],
+        None => path,
+    }
 }
 
 /// A segment without its escapes; a `%` without two hexadecimal digits stays.

@@ -5,6 +5,9 @@ pub mod Firsts
 pub mod Later
 pub mod Leading
 pub mod OneShare
+pub mod Pairs
+pub mod Peopled
+pub mod Rising
 pub mod Ruled
 pub mod Shared
 pub mod Shares

@@ -1,84 +1,46 @@
 -- Shares of which one is made, has other permissions, or is ended.
-use Rattle.std.proofs.Common.{◌≡◌, ◌≢◌, ℕ, zero, suc, ◌<◌, ◌≤◌, ◌==◌, inl, inr, true, false, List, [], ◌∷◌, get_or, refl, sym, ap, ◌∙◌, subst, arith}
+use Rattle.std.proofs.Common.{◌≡◌, ◌≢◌, ℕ, ◌==◌, ◌≤◌, inl, inr, true, false, List, get_or, refl, sym, ap, ◌∙◌, subst, arith}
 use Rattle.std.specs.Prelude.{None, Some, Option, is_some}
-use Rattle.std.specs.List.{All, AllPairs}
+use Rattle.std.specs.List.{All, AllPairs, list_any}
 use Rattle.std.specs.Option.{IfSome, option_map_or}
-use Rattle.std.specs.declared.cmp.Ordering.{Ordering}
-use Rattle.std.specs.declared.cmp.Ordering.TheVariants.{Less, Equal, Greater}
 use Rattle.std.proofs.lemmas.Bool.{and_from, and_parts, cases_order, eqb-true, le-ltb, not_from_false}
 use Rattle.nf_access.proofs.LookUps.{find_among}
 use Rattle.nf_access.proofs.Kept.{share_row_each}
-use Rattle.std.proofs.lemmas.List.Elements.{All-head, All-tail, All-weaker}
-use Rattle.std.proofs.lemmas.List.Kept.{AllPairs-cons}
+use Rattle.std.proofs.lemmas.List.Elements.{All-contains, All-weaker}
+use Rattle.std.proofs.lemmas.List.Folds.{Any-from_list_any}
 use Rattle.std.proofs.lemmas.List.{get_or_default}
 use Rattle.nf_base.specs.declared.limits.TheConstants.{MAX_CHAIN}
+use Rattle.nf_base.specs.declared.rows.GroupRow.{GroupRow}
 use Rattle.nf_base.specs.declared.rows.MetaRow.{MetaRow}
-use Rattle.nf_base.specs.declared.rows.MountRow.{MountRow}
 use Rattle.nf_base.specs.declared.rows.NodeRow.{NodeRow}
 use Rattle.nf_base.specs.declared.rows.ShareKind.{ShareKind}
 use Rattle.nf_base.specs.declared.rows.ShareKind.TheVariants as to
 use Rattle.nf_base.specs.declared.rows.ShareRow.{ShareRow}
 use Rattle.nf_base.specs.declared.rows.UserRow.{UserRow}
-use Rattle.nf_defs.proofs.Puts.{all_put, below_one, same_one, turned}
-use Rattle.nf_defs.specs.Prelude.{by_order, IsRising, key_cmp, node_row, put, share_key, Tables, user_row}
+use Rattle.nf_defs.proofs.Puts.{all_put}
+use Rattle.nf_defs.specs.Prelude.{node_row, share_key, Tables, user_row}
 use Rattle.nf_laws.proofs.Rows.{found_is}
-use Rattle.nf_laws.specs.Access.{IsMountFor, IsSharing, IsSteered, is_ended, is_made, is_set, SharesOne}
+use Rattle.nf_laws.specs.Access.{IsSharing, IsSteered, is_ended, is_made, is_set, SharesOne}
 use Rattle.nf_laws.specs.Numbers.{AreHigher}
 use Rattle.nf_words.proofs.Asks.{share_found}
 use Rattle.nf_words.proofs.Found.{found_has}
-use Rattle.nf_words.specs.Prelude.{AreSound, Call, call_of, ended_row, IsKindSound, IsNodeSound, IsShareSound, State, perms_after}
+use Rattle.nf_words.specs.History.{end_in, IsEnd, IsInBounds}
+use Rattle.nf_words.specs.Prelude.{AreSound, Call, call_of, ended_row, is_end_moment, IsKindSound, IsNodeSound, IsShareSound, kind_to, perms_after, set_row, State, until_after}
 use Rattle.nf_words.specs.declared.history.Entry.{Entry}
+use Rattle.nf_words.specs.declared.request.Receiver.{Receiver}
+use Rattle.nf_words.specs.declared.request.Receiver.TheVariants as receiver
+use Rattle.nf_words.specs.declared.request.ShareAsk.TheVariants as ask
+use Rattle.nf_words.specs.declared.request.Sharee.{Sharee}
+use Rattle.nf_words.specs.declared.request.Spot.{Spot}
+use Rattle.nf_words.specs.declared.request.Until.{Until}
+use Rattle.nf_words.specs.declared.request.Until.TheVariants as until
+use Rattle.nf_words.specs.declared.request.Wanted.TheVariants.{Share}
 use Rattle.nf_access.specs.Shares.{share_row}
-use Rattle.nf_rules.specs.Ruled.{AreRuled, AreTokensApart, IsGiven, IsMountRuled, IsShareRuled, IsUserRuled}
-use Rattle.nf_rules.specs.Rules.{are_share_numbers, is_end_moment, is_given, is_recipient_given}
+use Rattle.nf_rules.specs.Ruled.{AreRuled, AreTokensApart, IsGiven, IsGroupRuled, IsMountRuled, IsShareRuled, IsUserRuled}
+use Rattle.nf_rules.specs.Rules.{are_share_numbers, is_given, is_recipient_given}
 use Rattle.nf_rules.proofs.After.{chain_above, IsAbove, numbers_up, share_ruled, still_given}
+use Rattle.nf_rules.proofs.Pairs.{pairs_put}
 use Rattle.nf_rules.proofs.Shares.{given, is_given_from}
-
--- ---- rows with one put
-
--- what is so of each two shares is so with one that is put, where it is so of that and of each other
-pairs_put : (P : ShareRow → ShareRow → Type 0) → ((a b : ShareRow) → P a b → P b a) → (row : ShareRow) (rows : List ShareRow)
-    → IsRising share_key rows → All (λ (other : ShareRow). other.id ≢ row.id → P row other) rows → AllPairs P rows
-    → AllPairs P (put share_key row rows)
-pairs_put P back row [] rising one pairs = λ i j d before within. absurd (omega (arith, before, within))
-pairs_put P back row (x ∷ rows) rising one pairs =
-    here (key_cmp (share_key row) (share_key x)) refl
-    (pairs_put P back row rows (λ i j d before within. rising (suc i) (suc j) d (omega arith) (omega arith))
-    (All-tail (λ (other : ShareRow). other.id ≢ row.id → P row other) x rows one) tails)
-  where
-    tails : AllPairs P rows
-    tails i j d before within = pairs (suc i) (suc j) d (omega arith) (omega arith)
-
-    heads : All (P x) rows
-    heads k d within = pairs 0 (suc k) d (omega arith) (omega arith)
-
-    -- those behind the first have higher numbers
-    behind : All (λ (other : ShareRow). x.id < other.id) rows
-    behind k d within = below_one x.id (get_or rows k d).id (rising 0 (suc k) d (omega arith) (omega arith))
-
-    others : ((n : ℕ) → x.id < n → n ≢ row.id) → All (P row) rows
-    others apart k d within =
-        All-tail (λ (other : ShareRow). other.id ≢ row.id → P row other) x rows one k d within (apart (get_or rows k d).id (behind k d within))
-
-    here : (o : Ordering) → key_cmp (share_key row) (share_key x) ≡ o → AllPairs P (put share_key row rows)
-        → AllPairs P (by_order o (row ∷ x ∷ rows) (row ∷ rows) (x ∷ put share_key row rows))
-    here Less e rest =
-        let less = below_one row.id x.id e in
-        AllPairs-cons P row (x ∷ rows)
-        (λ k d within. first less k d within) pairs
-      where
-        first : row.id < x.id → All (P row) (x ∷ rows)
-        first less zero d within =
-            All-head (λ (other : ShareRow). other.id ≢ row.id → P row other) x rows one (λ same. absurd (omega (arith, less, same)))
-        first less (suc k) d within = others (λ n above same. absurd (omega (arith, less, above, same))) k d (omega (arith, within))
-    here Equal e rest =
-        let equal = same_one row.id x.id e in
-        AllPairs-cons P row rows (others (λ n above same. absurd (omega (arith, above, same, equal)))) tails
-    here Greater e rest =
-        let more = below_one x.id row.id (turned (share_key row) (share_key x) Greater e) in
-        AllPairs-cons P x (put share_key row rows)
-        (all_put share_key (P x) row rows
-        (back row x (All-head (λ (other : ShareRow). other.id ≢ row.id → P row other) x rows one (λ same. absurd (omega (arith, more, same))))) heads) rest
 
 -- ---- numbers
 
@@ -93,16 +55,19 @@ module _ (meta : MetaRow) (row : ShareRow) (is : are_share_numbers meta row ≡ 
       let owner = and_parts _ _ initiator.0 in
       (and_parts _ _ owner.0).1
 
-  pub recipient_given : is_recipient_given meta row.kind ≡ true
-  recipient_given =
-      let until = and_parts _ _ (and_parts _ _ is).0 in
-      let parent = and_parts _ _ until.0 in
-      (and_parts _ _ parent.0).1
+-- where a share has another end, its numbers were given as before
+pub numbers_ending : (meta : MetaRow) (row : ShareRow) (perms : ℕ) (until : Option ℕ) → are_share_numbers meta row ≡ true
+    → option_map_or is_end_moment until true ≡ true → are_share_numbers meta (set_row perms until row) ≡ true
+numbers_ending meta row perms until is ends =
+    let made = and_parts _ _ is in
+    let parts = and_parts _ _ made.0 in
+    and_from _ _ (and_from _ _ parts.0 ends) made.1
 
--- those of a new share of a user's were, since all that it names is there
-module _ (t : Tables) (users : All (λ (user : UserRow). IsGiven t.meta.next_user user.id) t.users) (sound : AreSound t) (row : ShareRow)
-    (fine : IsShareSound t row) (there : share_row t.shares row.id ≡ Some row) (lasts : row.ended ≡ false) (forever : row.until ≡ None)
-    (user : ℕ) (kind : row.kind ≡ to.User user) where
+-- the numbers of a new share were given, since all that it names is there
+module _ (t : Tables) (users : All (λ (user : UserRow). IsGiven t.meta.next_user user.id) t.users)
+    (groups : All (λ (group : GroupRow). IsGiven t.meta.next_group group.id) t.groups) (sound : AreSound t) (row : ShareRow)
+    (fine : IsShareSound t row) (there : share_row t.shares row.id ≡ Some row) (lasts : row.ended ≡ false)
+    (ends : option_map_or is_end_moment row.until true ≡ true) (no_link : (token : List ℕ) → row.kind ≢ to.Link token) where
   user_given : (user : ℕ) → is_some (user_row t.users user) ≡ true → is_given t.meta.next_user user ≡ true
   user_given user is = here (user_row t.users user) refl is
     where
@@ -111,6 +76,17 @@ module _ (t : Tables) (users : All (λ (user : UserRow). IsGiven t.meta.next_use
       here (Some found) e is =
           let h = found_is (λ (row : UserRow). IsGiven t.meta.next_user row.id) (λ (row : UserRow). row.id == user) t.users found users e in
           is_given_from t.meta.next_user user (subst (IsGiven t.meta.next_user) (eqb-true found.id user h.0) h.1)
+
+  group_given : (group : ℕ) → list_any (λ (row : GroupRow). row.id == group) t.groups ≡ true → is_given t.meta.next_group group ≡ true
+  group_given group is =
+      let any = Any-from_list_any (λ (row : GroupRow). row.id == group) t.groups is in
+      is_given_from t.meta.next_group group
+      (subst (IsGiven t.meta.next_group) (eqb-true any.1.id group any.4) (subst (λ (g : GroupRow). IsGiven t.meta.next_group g.id) any.3 (groups any.0 any.1 any.2)))
+
+  recipient_is : (kind : ShareKind) → IsKindSound t kind → ((token : List ℕ) → kind ≢ to.Link token) → is_recipient_given t.meta kind ≡ true
+  recipient_is (to.User user) is none = user_given user is
+  recipient_is (to.Group group) is none = group_given group is
+  recipient_is (to.Link token) is none = absurd (none token refl)
 
   node_there : is_some (node_row t.nodes row.node) ≡ true → is_given t.meta.next_node row.node ≡ true
   node_there is = here (node_row t.nodes row.node) refl is
@@ -135,10 +111,6 @@ module _ (t : Tables) (users : All (λ (user : UserRow). IsGiven t.meta.next_use
 
   pub new_numbers : are_share_numbers t.meta row ≡ true
   new_numbers =
-      let recipient : is_recipient_given t.meta row.kind ≡ true =
-      subst (λ (k : ShareKind). is_recipient_given t.meta k ≡ true) (sym kind)
-      (user_given user (subst (IsKindSound t) kind fine.kind)) in
-      let until : option_map_or is_end_moment row.until true ≡ true = ap (λ (o : Option ℕ). option_map_or is_end_moment o true) forever in
       and_from _ _
       (and_from _ _
       (and_from _ _
@@ -149,9 +121,9 @@ module _ (t : Tables) (users : All (λ (user : UserRow). IsGiven t.meta.next_use
       (node_there (fine.present lasts)))
       (user_given row.owner fine.owner))
       (user_given row.initiator fine.initiator))
-      recipient)
+      (recipient_is row.kind fine.kind no_link))
       (parent_given row.parent (chain_above MAX_CHAIN t.shares row there fine.chained)))
-      until)
+      ends)
       (not_from_false _ (le-ltb t.meta.last row.made fine.made))
 
 -- ---- a share that is asked about
@@ -160,7 +132,8 @@ same_higher : (meta : MetaRow) → AreHigher meta meta
 same_higher meta = record { users = omega arith; groups = omega arith; nodes = omega arith; shares = omega arith; blobs = omega arith }
 
 module _ (s : State) (e : Entry) (made : Tables) (h : AreRuled s.tables) (sound : AreSound made) (up : AreHigher s.tables.meta made.meta)
-    (users : made.users ≡ s.tables.users) (is : IsSharing s e made) where
+    (users : made.users ≡ s.tables.users) (groups : made.groups ≡ s.tables.groups) (is : IsSharing s e made)
+    (bounds : IsInBounds is.request.wanted) where
   abbrev t : Tables
   t = s.tables
 
@@ -189,12 +162,51 @@ module _ (s : State) (e : Entry) (made : Tables) (h : AreRuled s.tables) (sound 
       (All-weaker (IsUserRuled t) (λ (user : UserRow). IsGiven made.meta.next_user user.id)
       (λ user own. still_given t.meta.next_user made.meta.next_user user.id up.users own.id) t.users h.users)
 
+  groups_given : All (λ (group : GroupRow). IsGiven made.meta.next_group group.id) made.groups
+  groups_given =
+      subst (All (λ (group : GroupRow). IsGiven made.meta.next_group group.id)) (sym groups)
+      (All-weaker (IsGroupRuled t) (λ (group : GroupRow). IsGiven made.meta.next_group group.id)
+      (λ group own. still_given t.meta.next_group made.meta.next_group group.id up.groups own.id) t.groups h.groups)
+
+  -- ends that are asked for are told by dates
+  end_is : (until : Option ℕ) → IsEnd until → option_map_or is_end_moment until true ≡ true
+  end_is None is = refl
+  end_is (Some moment) is = is
+
+  new_end : (spot : Spot) (name : Sharee) (perms until : Option ℕ) → is.request.wanted ≡ Share (ask.New spot name perms until) → IsEnd until
+  new_end spot name perms until asked = subst IsInBounds asked bounds
+
+  set_end : (share : ℕ) (perms : Option ℕ) (until : Until) (old : Option ℕ) → is.request.wanted ≡ Share (ask.Set share perms until)
+      → option_map_or is_end_moment old true ≡ true → option_map_or is_end_moment (until_after until old) true ≡ true
+  set_end share perms wanted old asked own = here wanted (subst IsInBounds asked bounds)
+    where
+      here : (until : Until) → IsEnd (end_in until) → option_map_or is_end_moment (until_after until old) true ≡ true
+      here until.Keep ends = own
+      here until.Never ends = refl
+      here (until.At moment) ends = ends
+
+  no_link : (by : Receiver) (kind : ShareKind) → kind ≡ kind_to by → (token : List ℕ) → kind ≢ to.Link token
+  no_link (receiver.User user) kind same token link = absurd (user_link user token (sym same ∙ link))
+    where
+      user_link : (user : ℕ) (token : List ℕ) → to.User user ≡ to.Link token → ⊥
+      user_link user token same = cc
+  no_link (receiver.Group group) kind same token link = absurd (group_link group token (sym same ∙ link))
+    where
+      group_link : (group : ℕ) (token : List ℕ) → to.Group group ≡ to.Link token → ⊥
+      group_link group token same = cc
+
   of_one : (row : ShareRow) → SharesOne call row → is.row ≡ row → Numbered row
-  of_one row (is_made spot name perms _ asked by) same =
-      λ before. new_numbers made users_given sound row (subst (IsShareSound made) same fine)
-      (subst (λ (r : ShareRow). share_row made.shares r.id ≡ Some r) same there) by.lasts by.forever by.user by.kind
-  of_one row (is_set share perms old _ asked steered like fits) same =
-      subst Numbered (sym like) (raised (record old { perms = perms_after t perms old }) (old_of share old steered).numbers)
+  of_one row (is_made spot name perms until _ asked by) same =
+      λ before. new_numbers made users_given groups_given sound row (subst (IsShareSound made) same fine)
+      (subst (λ (r : ShareRow). share_row made.shares r.id ≡ Some r) same there) by.lasts
+      (ap (λ (o : Option ℕ). option_map_or is_end_moment o true) by.ends ∙ end_is until (new_end spot name perms until asked))
+      (no_link by.receiver row.kind by.kind)
+  of_one row (is_set share perms until old _ asked steered like fits) same =
+      let own = (old_of share old steered).numbers in
+      let until_own = (and_parts _ _ (and_parts _ _ own).0).1 in
+      subst Numbered (sym like)
+      (raised (set_row (perms_after t perms old) (until_after until old.until) old)
+      (numbers_ending t.meta old (perms_after t perms old) (until_after until old.until) own (set_end share perms until old.until asked until_own)))
   of_one _ (is_ended share old asked steered) same = raised (ended_row old) (old_of share old steered).numbers
 
   -- a link and another share that is there
@@ -229,11 +241,8 @@ module _ (s : State) (e : Entry) (made : Tables) (h : AreRuled s.tables) (sound 
 
   -- links keep their tokens, and what is new is none
   apart_from : (row : ShareRow) → SharesOne call row → All (λ (other : ShareRow). other.id ≢ row.id → AreTokensApart row other) t.shares
-  apart_from row (is_made spot name perms _ asked by) k d within other token link = absurd (no_link by.user token (sym by.kind ∙ link))
-    where
-      no_link : (user : ℕ) (token : List ℕ) → to.User user ≡ to.Link token → ⊥
-      no_link user token same = cc
-  apart_from row (is_set share perms old _ asked steered like fits) k d within other token link =
+  apart_from row (is_made spot name perms until _ asked by) k d within other token link = absurd (no_link by.receiver row.kind by.kind token link)
+  apart_from row (is_set share perms until old _ asked steered like fits) k d within other token link =
       of_old share old steered k d within (λ same. other (same ∙ sym (ap (λ (r : ShareRow). r.id) like))) token
       (sym (ap (λ (r : ShareRow). r.kind) like) ∙ link)
   apart_from _ (is_ended share old asked steered) k d within other token link = of_old share old steered k d within other token link
@@ -241,13 +250,27 @@ module _ (s : State) (e : Entry) (made : Tables) (h : AreRuled s.tables) (sound 
   pub one_apart : AllPairs AreTokensApart made.shares
   one_apart =
       subst (AllPairs AreTokensApart) (sym is.shares)
-      (pairs_put AreTokensApart (λ a b apart token first second. apart token second first) is.row t.shares h.sound.others.shares_rise
+      (pairs_put (λ (row : ShareRow). row.id) AreTokensApart (λ a b apart token first second. apart token second first) is.row t.shares
+      h.sound.others.shares_rise
       (apart_from is.row is.one) h.tokens_apart)
 
-  pub mount_ruled : (mount : MountRow) → IsMountFor t is.row mount → IsMountRuled made mount
-  mount_ruled mount of = record {
-    user = given made.meta.next_user mount.user
-        (subst (λ (k : ShareKind). is_recipient_given made.meta k ≡ true) of.user (recipient_given made.meta is.row own_numbers));
-    node = subst (IsGiven made.meta.next_node) (sym of.node)
-        (given made.meta.next_node is.row.node (node_given made.meta is.row own_numbers));
-  }
+  pub mounts_ruled : All (IsMountRuled made) t.mounts → All (IsMountRuled made) made.mounts
+  mounts_ruled all k d within =
+      elim (is.mounts.each k d within) [
+        | inl among ↦ All-contains (IsMountRuled made) t.mounts (get_or made.mounts k d) all among
+        | inr of ↦ record {
+          user = user_ruled (get_or made.mounts k d).user of.there;
+          node = subst (IsGiven made.meta.next_node) (sym of.node)
+              (given made.meta.next_node is.row.node (node_given made.meta is.row own_numbers));
+        }
+      ]
+    where
+      user_ruled : (user : ℕ) → is_some (user_row t.users user) ≡ true → IsGiven made.meta.next_user user
+      user_ruled user there = here (user_row t.users user) refl there
+        where
+          here : (o : Option UserRow) → user_row t.users user ≡ o → is_some o ≡ true → IsGiven made.meta.next_user user
+          here None e is = absurd (cc)
+          here (Some row) e is =
+              let found = found_is (IsUserRuled t) (λ (row : UserRow). row.id == user) t.users row h.users e in
+              still_given t.meta.next_user made.meta.next_user user up.users
+              (subst (IsGiven t.meta.next_user) (eqb-true row.id user found.0) found.1.id)

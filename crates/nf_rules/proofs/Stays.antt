@@ -1,31 +1,33 @@
 -- Tables that keep the rules keep them by each entry that may come.
 use Rattle.std.proofs.Common.{◌≡◌, ℕ, ◌+◌, ◌<◌, ◌⊎◌, inl, inr, Bool, true, false, if◌then◌else◌, List, [], ◌∷◌, map, length, get_or, refl, sym, ap, ◌∙◌, subst, arith}
 use Rattle.std.specs.List.{All, AllPairs}
-use Rattle.std.specs.declared.cmp.Ordering.TheVariants.{Less}
 use Rattle.std.proofs.lemmas.List.{get_or-map, length-map}
 use Rattle.std.proofs.lemmas.List.Elements.{All-map, All-weaker}
 use Rattle.nf_access.proofs.Kept.{share_row_each}
 use Rattle.nf_access.specs.Mounts.{is_mount_of}
 use Rattle.nf_base.specs.declared.rows.MountRow.{MountRow}
-use Rattle.nf_base.specs.declared.rows.NodeRow.{NodeRow}
 use Rattle.nf_base.specs.declared.rows.ShareRow.{ShareRow}
 use Rattle.nf_defs.proofs.Loads.{rises}
-use Rattle.nf_defs.proofs.Puts.{all_put, compared}
-use Rattle.nf_defs.specs.Prelude.{IsRising, mount_key, node_key, Tables}
+use Rattle.nf_defs.specs.Prelude.{Tables}
 use Rattle.nf_laws.proofs.Allowing.{changes_allowed}
 use Rattle.nf_laws.proofs.Counters.{after_up}
 use Rattle.nf_laws.proofs.Rows.{found_is}
 use Rattle.nf_laws.proofs.Stays.{sound_after}
 use Rattle.nf_laws.proofs.Upwards.{owners_there}
-use Rattle.nf_laws.specs.Access.{IsRemounted, IsSharing, is_gone_from, is_left, is_renamed, KeepsShares, Remounts}
+use Rattle.nf_laws.specs.Access.{IsRemounted, IsSharing, is_gone_from, is_left, is_renamed, KeepsShares, NodesAllowed, Remounts}
 use Rattle.nf_laws.specs.Numbers.{AreHigher}
-use Rattle.nf_words.specs.Prelude.{after, AreSound, Call, call_of, ended_row, IsSound, MayCome, State}
+use Rattle.nf_words.specs.Prelude.{after, AreSound, Call, call_of, ended_row, IsInBounds, IsSound, MayAsk, MayCome, State}
 use Rattle.nf_words.specs.declared.history.Entry.{Entry}
+use Rattle.nf_words.specs.declared.history.Event.TheVariants.{Begin}
+use Rattle.nf_words.specs.declared.request.Request.{Request}
+use Rattle.nf_words.specs.declared.request.Words.{Words}
 use Rattle.nf_rules.specs.Laws.{StaysRuled}
 use Rattle.nf_rules.specs.Ruled.{AreRuled, AreTokensApart, IsGiven, IsGroupRuled, IsMemberRuled, IsMountRuled, IsShareRuled, IsTokenRuled, IsUserRuled}
 use Rattle.nf_rules.specs.Rules.{are_share_numbers}
 use Rattle.nf_rules.proofs.After.{share_ruled, still_given}
-use Rattle.nf_rules.proofs.OneShare.{mount_ruled, one_apart, one_ruled}
+use Rattle.nf_rules.proofs.OneShare.{mounts_ruled, one_apart, one_ruled}
+use Rattle.nf_rules.proofs.Peopled.{people_ruled}
+use Rattle.nf_rules.proofs.Rising.{nodes_rise}
 
 -- ---- shares and mounts
 
@@ -117,9 +119,6 @@ remounted_ruled s e made h up is =
 abbrev with_four : Tables → Tables → Tables
 with_four t made = record t { meta = made.meta; nodes = made.nodes; shares = made.shares; mounts = made.mounts }
 
-nodes_rise : (some : List NodeRow) → AllPairs (λ (a b : NodeRow). a.id < b.id) some → IsRising node_key some
-nodes_rise some rising i j d before within = compared (get_or some i d).id (get_or some j d).id Less (rising i j d before within)
-
 -- where these keep the rules of their kinds
 others_ruled : (t other : Tables) → let made = with_four t other in AreRuled t → AreSound made → AreHigher t.meta made.meta
     → All (IsShareRuled made) made.shares → AllPairs AreTokensApart made.shares → All (IsMountRuled made) made.mounts → AreRuled made
@@ -168,8 +167,10 @@ record AreKept (made : Tables) : Type 0 where
   mounts : All (IsMountRuled made) made.mounts
 
 others_kept : (s : State) (e : Entry) (made : Tables) → AreRuled s.tables → AreSound made → AreHigher s.tables.meta made.meta
-    → made.users ≡ s.tables.users → KeepsShares s.tables made ⊎ (IsRemounted s e made ⊎ IsSharing s e made) → AreKept made
-others_kept s e made ruled sound up users others = elim others [
+    → made.users ≡ s.tables.users → made.groups ≡ s.tables.groups
+    → KeepsShares s.tables made ⊎ (IsRemounted s e made ⊎ IsSharing s e made)
+    → ((words : Words) (request : Request) → e.event ≡ Begin words request → IsInBounds request.wanted) → AreKept made
+others_kept s e made ruled sound up users groups others bounds = elim others [
   | inl keeps ↦
       record {
         shares = shares_ruled t made gone ruled sound up keeps.shares;
@@ -185,15 +186,9 @@ others_kept s e made ruled sound up users others = elim others [
       })
   | inr (inr is) ↦
       record {
-        shares = one_ruled s e made ruled sound up users is;
-        apart = one_apart s e made ruled sound up users is;
-        mounts = elim is.mounts [
-          | inl same ↦ subst (All (IsMountRuled made)) (sym same) (still_mounted t made ruled up)
-          | inr one ↦
-              subst (All (IsMountRuled made)) (sym one.2)
-              (all_put mount_key (IsMountRuled made) one.0 t.mounts (mount_ruled s e made ruled sound up users is one.0 one.1)
-              (still_mounted t made ruled up))
-        ];
+        shares = one_ruled s e made ruled sound up users groups is (bounds is.words is.request is.begins);
+        apart = one_apart s e made ruled sound up users groups is (bounds is.words is.request is.begins);
+        mounts = mounts_ruled s e made ruled sound up users groups is (bounds is.words is.request is.begins) (still_mounted t made ruled up);
       }
 ]
   where
@@ -210,18 +205,28 @@ others_kept s e made ruled sound up users others = elim others [
     ends_none [] = refl
     ends_none (share ∷ shares) = ap (λ (rest : List ShareRow). share ∷ rest) (ends_none shares)
 
--- an entry changes the nodes, the shares, the mounts and the meta row alone
-ruled_after : (n : ℕ) (s : State) (e : Entry) → AreRuled s.tables → IsSound s → MayCome n s e → AreRuled (after s e).tables
-ruled_after n s e ruled sound may =
+-- where an entry changes the nodes, the shares, the mounts and the meta row alone
+nodes_ruled : (n : ℕ) (s : State) (e : Entry) → AreRuled s.tables → IsSound s → MayCome n s e → NodesAllowed s e (after s e).tables
+    → AreRuled (after s e).tables
+nodes_ruled n s e ruled sound may changes =
     let made : Tables = (after s e).tables in
-    let changes = changes_allowed n s e sound may in
     let rows : AreSound made = (sound_after n s e sound may).rows in
     let up = after_up s e e.mark in
-    let kept = others_kept s e made ruled rows up (ap (λ (t : Tables). t.users) changes.rest) changes.others in
+    let kept = others_kept s e made ruled rows up (ap (λ (t : Tables). t.users) changes.rest) (ap (λ (t : Tables). t.groups) changes.rest) changes.others bounds in
     subst AreRuled (sym changes.rest)
     (others_ruled s.tables made ruled (subst AreSound changes.rest rows) up
     (subst (λ (u : Tables). All (IsShareRuled u) u.shares) changes.rest kept.shares) kept.apart
     (subst (λ (u : Tables). All (IsMountRuled u) u.mounts) changes.rest kept.mounts))
+  where
+    bounds : (words : Words) (request : Request) → e.event ≡ Begin words request → IsInBounds request.wanted
+    bounds words request begins = (subst (MayAsk s e.seat) begins may.asked).1.bounds
+
+ruled_after : (n : ℕ) (s : State) (e : Entry) → AreRuled s.tables → IsSound s → MayCome n s e → AreRuled (after s e).tables
+ruled_after n s e ruled sound may =
+    elim (changes_allowed n s e sound may) [
+      | inl nodes ↦ nodes_ruled n s e ruled sound may nodes
+      | inr people ↦ people_ruled s e (after s e).tables ruled (sound_after n s e sound may).rows (after_up s e e.mark) people
+    ]
 
 pub stays_ruled : StaysRuled
 stays_ruled n s [] ruled sound legal = ruled

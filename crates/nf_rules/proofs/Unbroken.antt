@@ -273,6 +273,7 @@ sound all kept h =
     let numbers = all_have (λ row. are_numbers t.meta row ≡ true) all h.numbers in
     let keeps = all_have IsKept all kept in
     let placed = all_have (λ row. is_placed t row ≡ true) all h.placed in
+    let there = all_have (λ row. names_are_there t row ≡ true) all h.there in
     let within = all_have (λ row. is_beyond t row ≡ false) all h.few in
     let apart = names_differ node_key rows.Node (λ row. refl) t all t.nodes h.names rising.nodes among.nodes in
     let rises : AllPairs (λ (a b : NodeRow). a.id < b.id) t.nodes =
@@ -288,6 +289,9 @@ sound all kept h =
           apart i j d before less (6 ∷ folder ∷ a.name)
           (ap (λ (p : Place). child_key p a.name) place)
           (ap (λ (p : Place). child_key p b.name) other ∙ ap (λ (name : List ℕ). Some (6 ∷ folder ∷ name)) (sym same));
+      users_given = λ k d less. (given t.meta.next_user _ (and_parts _ _ (numbers.users k d less)).0).below;
+      members_there = λ k d less. (and_parts _ _ (there.members k d less)).1;
+      groups_given = λ k d less. (given t.meta.next_group _ (numbers.groups k d less)).below;
       roots = All-weaker (λ (row : UserRow). is_placed t (rows.User row) ≡ true) (HasRoot t) (has_root t) t.users placed.users;
       few_nodes = few t.nodes (count_of limit.Nodes)
           (All-weaker (λ (row : NodeRow). is_beyond t (rows.Node row) ≡ false)

@@ -1,6 +1,6 @@
 -- The rules that stored rows keep. A row breaks a rule among all the rows that were loaded; rows that break a rule together each
 -- break it.
-use Rattle.std.specs.Prelude.{◌≡◌, ℕ, zero, suc, ◌==◌, ◌&&◌, ◌||◌, ◌%◌, Bool, false, true, not, nat_lt, bytes_eq, List, [], ◌∷◌, map, length, Option, None, Some, option_map, is_some, if◌then◌else◌}
+use Rattle.std.specs.Prelude.{◌≡◌, ℕ, zero, suc, ◌==◌, ◌&&◌, ◌||◌, Bool, false, true, not, nat_lt, bytes_eq, List, [], ◌∷◌, map, length, Option, None, Some, option_map, is_some, if◌then◌else◌}
 use Rattle.std.specs.List.{list_any}
 use Rattle.std.specs.Option.{option_map_or, option_or}
 use Rattle.nf_access.specs.Shares.{chain_within, perms_of_share, share_row}
@@ -18,7 +18,7 @@ use Rattle.nf_base.specs.declared.rows.ShareRow.{ShareRow}
 use Rattle.nf_base.specs.declared.rows.Place.{Place}
 use Rattle.nf_base.specs.declared.rows.Place.TheVariants.{Root, Inside, Trash}
 use Rattle.nf_defs.specs.Prelude.{is_folder_kind, is_root_place, is_under, item_row, node_row, piece_count, Tables, tables_of, user_row}
-use Rattle.nf_words.specs.Prelude.{count_of, is_later, root_of_user}
+use Rattle.nf_words.specs.Prelude.{count_of, is_end_moment, is_later, root_of_user}
 use Rattle.nf_words.specs.declared.answer.Limit.TheVariants as limit
 use Rattle.nf_rules.specs.Keys.{is_shared, name_key, spelled_key}
 
@@ -53,10 +53,6 @@ is_place_given next Trash = true
 
 abbrev pub has_ungiven_blob : ℕ → List Piece → Bool
 has_ungiven_blob next content = list_any (λ (piece : Piece). not (is_given next piece.blob)) content
-
--- the midnight after one of the days from 1970-01-01 to 9998-12-31, in UTC
-abbrev pub is_end_moment : ℕ → Bool
-is_end_moment moment = nat_lt 0 moment && moment % 86400 == 0 && not (nat_lt 253370764800 moment)
 
 abbrev pub is_recipient_given : MetaRow → ShareKind → Bool
 is_recipient_given meta (to.User user) = is_given meta.next_user user

@@ -5,12 +5,13 @@ use native.Mathlib.Decide.{ℕ_discrete}
 use Rattle.std.proofs.lemmas.Bool.{ne_eqb, or_right}
 use Rattle.nf_desk.specs.Desk.{Served, meanings}
 use Rattle.nf_keeper.specs.declared.keeper.Keeper.{Ghosts as KeeperOf}
+use Rattle.nf_outside.specs.Lent.{Lent, Taken}
 use Rattle.nf_outside.specs.declared.traits.Ends.{Ghosts as EndsOf}
 use Rattle.nf_turn.proofs.Left.{IsLeft}
 use Rattle.nf_turn.proofs.Whole.{has_so, ways}
 use Rattle.nf_turn.specs.Prelude.{has_number, having_joined, having_split, is_joined, IsWhole, longer, Numbers, numbers_of, split_from}
 use Rattle.nf_turn.specs.declared.view.Memory.{Memory}
-use Rattle.nf_server.specs.Work.{InTurn, Visited, WorkBeside, Works}
+use Rattle.nf_server.specs.Work.{InTurn, lent_of, Visited, WorkBeside, Works}
 use Rattle.nf_server.specs.declared.door.Door.{Ghosts as DoorOf}
 use Rattle.nf_server.specs.declared.workers.Worked.{Worked}
 use Rattle.nf_server.specs.declared.workers.Worker.{Worker}
@@ -100,14 +101,14 @@ module _ {W : Type 0} (pick : W → W → W) (m mine others : Memory W) (count :
             omega (arith, same, behind);
       }
 
-module _ {K S O C D : Type 0} (k : KeeperOf K) (s : EndsOf S) (o : EndsOf O) (reads : C → ℕ → C → Type 0) (door : DoorOf D S O) where
-  numbers_stay : (m : Memory (Served K)) (c : C) (visits : List (Visited K S O C)) (n : Memory (Served K)) (d : C)
+module _ {K S O C Q D : Type 0} (k : KeeperOf K) (s : EndsOf S) (o : EndsOf O) (reads : Lent C Q → Taken → Lent C Q → Type 0) (door : DoorOf D S O) where
+  numbers_stay : (m : Memory (Served K)) (c : Lent C Q) (visits : List (Visited K S O C Q)) (n : Memory (Served K)) (d : Lent C Q)
       → InTurn k s o reads m c visits n d → numbers_of n ≡ numbers_of m
   numbers_stay m c [] n d so = ap (λ (x : Memory (Served K)). numbers_of x) so.0
   numbers_stay m c (v ∷ visits) n d so =
-      numbers_stay v.memory v.clock visits n d so.1 ∙ ap (λ (x : Memory (Served K)). numbers_of x) so.0.steady_is
+      numbers_stay v.memory v.lent visits n d so.1 ∙ ap (λ (x : Memory (Served K)). numbers_of x) so.0.steady_is
 
-  pub work_spans : (connections : ℕ) (m n : Memory (Served K)) (before after : List (Worker D C)) (result : Worked)
+  pub work_spans : (connections : ℕ) (m n : Memory (Served K)) (before after : List (Worker D C Q)) (result : Worked)
       → WorkBeside (longer (meanings k)) (Works k s o reads door connections) m n before after result → Spans (numbers_of m) (numbers_of n)
   work_spans connections m n [] [] result so =
       subst (λ (x : Memory (Served K)). Spans (numbers_of m) (numbers_of x)) (sym so.0) (record { seats = refl; has = λ n has. has })
@@ -116,11 +117,11 @@ module _ {K S O C D : Type 0} (k : KeeperOf K) (s : EndsOf S) (o : EndsOf O) (re
   work_spans connections m n (a ∷ before) (b ∷ after) result (mine, others, one, rest, works, beside, is, ends) =
       subst (λ (x : Memory (Served K)). Spans (numbers_of m) (numbers_of x)) (sym is)
       (joined_spans (longer (meanings k)) m mine others
-      (numbers_stay (split_from m) a.clock works.visits mine b.clock works.in_turn)
+      (numbers_stay (split_from m) (lent_of a) works.visits mine (lent_of b) works.in_turn)
       (work_spans connections (having_split m) others before after rest beside))
 
   -- the first value stays
-  pub work_begins : (connections : ℕ) (m n : Memory (Served K)) (before after : List (Worker D C)) (result : Worked)
+  pub work_begins : (connections : ℕ) (m n : Memory (Served K)) (before after : List (Worker D C Q)) (result : Worked)
       → WorkBeside (longer (meanings k)) (Works k s o reads door connections) m n before after result → n.first ≡ m.first
   work_begins connections m n [] [] result so = ap (λ (x : Memory (Served K)). x.first) so.0
   work_begins connections m n [] (b ∷ after) result so = absurd so
@@ -128,7 +129,7 @@ module _ {K S O C D : Type 0} (k : KeeperOf K) (s : EndsOf S) (o : EndsOf O) (re
   work_begins connections m n (a ∷ before) (b ∷ after) result (mine, others, one, rest, works, beside, is, ends) =
       ap (λ (x : Memory (Served K)). x.first) is ∙ work_begins connections (having_split m) others before after rest beside
 
-  pub work_numbers : (connections : ℕ) (m n : Memory (Served K)) (before after : List (Worker D C)) (result : Worked)
+  pub work_numbers : (connections : ℕ) (m n : Memory (Served K)) (before after : List (Worker D C Q)) (result : Worked)
       → WorkBeside (longer (meanings k)) (Works k s o reads door connections) m n before after result → length before ≤ m.left
       → Numbered m n (length before)
   work_numbers connections m n [] [] result so few =
@@ -139,5 +140,5 @@ module _ {K S O C D : Type 0} (k : KeeperOf K) (s : EndsOf S) (o : EndsOf O) (re
   work_numbers connections m n (a ∷ before) (b ∷ after) result (mine, others, one, rest, works, beside, is, ends) few =
       subst (λ (x : Memory (Served K)). Numbered m x (suc (length before))) (sym is)
       (joined_numbers (longer (meanings k)) m mine others (length before)
-      (numbers_stay (split_from m) a.clock works.visits mine b.clock works.in_turn)
+      (numbers_stay (split_from m) (lent_of a) works.visits mine (lent_of b) works.in_turn)
       (work_numbers connections (having_split m) others before after rest beside (omega (arith, few))) (omega (arith, few)))

@@ -7,6 +7,7 @@ use Rattle.nf_desk.specs.Desk.{Served, entries_by, meanings}
 use Rattle.nf_hub.proofs.Owning.{own_same}
 use Rattle.nf_hub.specs.Seats.{book_in}
 use Rattle.nf_keeper.specs.declared.keeper.Keeper.{Ghosts as KeeperOf}
+use Rattle.nf_outside.specs.Lent.{Lent, Taken}
 use Rattle.nf_outside.specs.declared.traits.Ends.{Ghosts as EndsOf}
 use Rattle.nf_session.proofs.Causes.{session_goes}
 use Rattle.nf_session.proofs.Lasting.{Later, known_then, lasts_same}
@@ -22,7 +23,7 @@ use Rattle.nf_words.specs.declared.history.Entry.{Entry}
 use Rattle.nf_words.specs.declared.history.Ticket.{Ticket}
 use Rattle.nf_server.specs.Links.{scene_at}
 use Rattle.nf_server.specs.Together.{AllStand, SawFull, StandInTurn, StandsIn}
-use Rattle.nf_server.specs.Work.{EndsWork, InTurn, ServesEnds, Visited, WorkBeside, Works, both}
+use Rattle.nf_server.specs.Work.{both, EndsWork, InTurn, lent_of, ServesEnds, Visited, WorkBeside, Works}
 use Rattle.nf_server.specs.declared.door.Door.{Ghosts as DoorOf}
 use Rattle.nf_server.specs.declared.workers.Worked.{Worked}
 use Rattle.nf_server.specs.declared.workers.Worked.TheVariants as worked
@@ -50,35 +51,35 @@ module _ {W E O : Type 0} where
   precede_behind book value [] ys all = all
   precede_behind book value (x ∷ xs) ys all = precede_behind book value xs ys all.1
 
-module _ {K S O C : Type 0} (k : KeeperOf K) (s : EndsOf S) (o : EndsOf O) (reads : C → ℕ → C → Type 0) where
+module _ {K S O C Q : Type 0} (k : KeeperOf K) (s : EndsOf S) (o : EndsOf O) (reads : Lent C Q → Taken → Lent C Q → Type 0) where
   -- what a seat knows goes on with each session, and with all of a worker's
-  onward : (m n : Memory (Served K)) (c d : C) (v : Visited K S O C) → ServesEnds k s o reads m n c d v.came v.left v.ended
+  onward : (m n : Memory (Served K)) (c d : Lent C Q) (v : Visited K S O C Q) → ServesEnds k s o reads m n c d v.came v.left v.ended
       → Onward (book_in k m) (book_in k n)
   onward m n c d v serves =
       (session_goes reads (scene_at s o (book_in k m) [] v.came.source v.came.sink c)
       (scene_at s o (book_in k n) serves.kept v.left.source v.left.sink d) v.ended serves.session).book.onward
 
-  all_onward : (m : Memory (Served K)) (c : C) (visits : List (Visited K S O C)) (n : Memory (Served K)) (d : C) → InTurn k s o reads m c visits n d
+  all_onward : (m : Memory (Served K)) (c : Lent C Q) (visits : List (Visited K S O C Q)) (n : Memory (Served K)) (d : Lent C Q) → InTurn k s o reads m c visits n d
       → Onward (book_in k m) (book_in k n)
   all_onward m c [] n d so = record {
     lasts = lasts_same (book_in k m) (book_in k n) (ap (λ (x : Memory (Served K)). book_in k x) so.0);
     known = ([], ap (λ (x : Memory (Served K)). (book_in k x).known) so.0 ∙ sym (append-nil (book_in k m).known));
   }
   all_onward m c (v ∷ visits) n d so =
-      onward_then (book_in k m) (book_in k v.memory) (book_in k n) (onward m v.memory c v.clock v so.0)
-      (all_onward v.memory v.clock visits n d so.1)
+      onward_then (book_in k m) (book_in k v.memory) (book_in k n) (onward m v.memory c v.lent v so.0)
+      (all_onward v.memory v.lent visits n d so.1)
 
   -- what it passed on last is among what it knows
-  heard_on : (m : Memory (Served K)) (c : C) (visits : List (Visited K S O C)) (n : Memory (Served K)) (d : C) → InTurn k s o reads m c visits n d
+  heard_on : (m : Memory (Served K)) (c : Lent C Q) (visits : List (Visited K S O C Q)) (n : Memory (Served K)) (d : Lent C Q) → InTurn k s o reads m c visits n d
       → HasHeard (meanings k) m → HasHeard (meanings k) n
   heard_on m c [] n d so heard = subst (λ (x : Memory (Served K)). HasHeard (meanings k) x) (sym so.0) heard
-  heard_on m c (v ∷ visits) n d so heard = heard_on v.memory v.clock visits n d so.1 so.0.told
+  heard_on m c (v ∷ visits) n d so heard = heard_on v.memory v.lent visits n d so.1 so.0.told
 
   module _ (rows : List Row) (history : List Entry) (legal : IsLegal (opened rows) history)
       (none : (replay (opened rows) history).tickets ≡ []) where
     -- ---- a session
 
-    stands : (m n : Memory (Served K)) (c d : C) (v : Visited K S O C) → ServesEnds k s o reads m n c d v.came v.left v.ended
+    stands : (m n : Memory (Served K)) (c d : Lent C Q) (v : Visited K S O C Q) → ServesEnds k s o reads m n c d v.came v.left v.ended
         → (book_in k m).opening ≡ rows → Later (book_in k n).known history → StandsIn rows history (book_in k m) (book_in k n)
     stands m n c d v serves opening ahead =
         let on = onward m n c d v serves in
@@ -109,23 +110,23 @@ module _ {K S O C : Type 0} (k : KeeperOf K) (s : EndsOf S) (o : EndsOf O) (read
 
     -- ---- a worker
 
-    in_turn_stands : (m : Memory (Served K)) (c : C) (visits : List (Visited K S O C)) (n : Memory (Served K)) (d : C)
+    in_turn_stands : (m : Memory (Served K)) (c : Lent C Q) (visits : List (Visited K S O C Q)) (n : Memory (Served K)) (d : Lent C Q)
         → InTurn k s o reads m c visits n d → (book_in k m).opening ≡ rows → Later (book_in k n).known history
         → own_from (book_in k n).seat (opened rows) history ≡ (book_in k n).own → StandInTurn k rows history (book_in k m) visits
     in_turn_stands m c [] n d so opening ahead whole =
         subst (λ (x : Memory (Served K)). own_from (book_in k x).seat (opened rows) history ≡ (book_in k x).own) so.0 whole
     in_turn_stands m c (v ∷ visits) n d so opening ahead whole =
-        let on = onward m v.memory c v.clock v so.0 in
-        let further = known_then (book_in k v.memory).known (book_in k n).known history (all_onward v.memory v.clock visits n d so.1).known ahead in
+        let on = onward m v.memory c v.lent v so.0 in
+        let further = known_then (book_in k v.memory).known (book_in k n).known history (all_onward v.memory v.lent visits n d so.1).known ahead in
         let rows_are : (book_in k v.memory).opening ≡ rows = on.lasts.opening ∙ opening in (
-          stands m v.memory c v.clock v so.0 opening further,
+          stands m v.memory c v.lent v so.0 opening further,
           λ is. record { seen = so.0.full is; long = long (book_in k v.memory) rows_are further (so.0.full is) },
-          in_turn_stands v.memory v.clock visits n d so.1 rows_are ahead whole,
+          in_turn_stands v.memory v.lent visits n d so.1 rows_are ahead whole,
         )
 
 -- ---- all workers
 
-module _ {K S O C D : Type 0} (k : KeeperOf K) (s : EndsOf S) (o : EndsOf O) (reads : C → ℕ → C → Type 0) (door : DoorOf D S O) (connections : ℕ)
+module _ {K S O C Q D : Type 0} (k : KeeperOf K) (s : EndsOf S) (o : EndsOf O) (reads : Lent C Q → Taken → Lent C Q → Type 0) (door : DoorOf D S O) (connections : ℕ)
     (rows : List Row) (history : List Entry) (legal : IsLegal (opened rows) history) (none : (replay (opened rows) history).tickets ≡ [])
     -- the first value, the one that the joined seat knows, and the last one, whose history this is
     (first top last : Served K) (fresh : IsFresh (meanings k) first) (opening : first.site.kept.opening ≡ rows)
@@ -143,7 +144,7 @@ module _ {K S O C D : Type 0} (k : KeeperOf K) (s : EndsOf S) (o : EndsOf O) (re
       }
 
   -- the history has no entry of a worker's seat but those that it knows
-  worker_whole : (m mine : Memory (Served K)) (c d : C) (visits : List (Visited K S O C)) → InTurn k s o reads (split_from m) c visits mine d
+  worker_whole : (m mine : Memory (Served K)) (c d : Lent C Q) (visits : List (Visited K S O C Q)) → InTurn k s o reads (split_from m) c visits mine d
       → m.known ≡ first → m.first ≡ first → Later mine.known.site.kept.history history → GrowsWithout (meanings k) mine.number mine.last last
       → own_from (book_in k mine).seat (opened rows) history ≡ (book_in k mine).own
   worker_whole m mine c d visits so known begun further without =
@@ -155,7 +156,7 @@ module _ {K S O C D : Type 0} (k : KeeperOf K) (s : EndsOf S) (o : EndsOf O) (re
       ap (entries_by mine.number) (sym is) ∙ entries_stay (meanings k) mine.number mine.last last without ∙ sym heard.own in
       own_same mine.number mine.known.site.kept.opening rows mine.known.site.kept.history further.0 history (sym rows_are) further.1 same
 
-  pub all_stand : (number : ℕ) (m n : Memory (Served K)) (before after : List (Worker D C)) (result : Worked)
+  pub all_stand : (number : ℕ) (m n : Memory (Served K)) (before after : List (Worker D C Q)) (result : Worked)
       (work : WorkBeside (longer (meanings k)) (Works k s o reads door connections) m n before after result) → m.known ≡ first → m.first ≡ first
       → m.next ≡ number → AllPrecede (meanings k) n.heard top → AllAreKept (meanings k) last n.joined
       → AllStand k s o reads door connections rows history number m n before after result work
@@ -167,9 +168,9 @@ module _ {K S O C D : Type 0} (k : KeeperOf K) (s : EndsOf S) (o : EndsOf O) (re
       let kept = subst (λ (x : Memory (Served K)). AllAreKept (meanings k) last x.joined) knows joined in
       let further = known_then mine.known.site.kept.history top.site.kept.history history all.1.0 ahead in (
         record { seat = next; known = ap (λ (x : Served K). x.site.kept.history) known ∙ fresh.no_entries },
-        in_turn_stands k s o reads rows history legal none (split_from m) a.clock works.visits mine b.clock works.in_turn
+        in_turn_stands k s o reads rows history legal none (split_from m) (lent_of a) works.visits mine (lent_of b) works.in_turn
             (ap (λ (x : Served K). x.site.kept.opening) known ∙ opening) further
-            (worker_whole m mine a.clock b.clock works.visits works.in_turn known begun further kept.0),
+            (worker_whole m mine (lent_of a) (lent_of b) works.visits works.in_turn known begun further kept.0),
         all_stand (number + 1) (having_split m) others before after rest beside known begun (ap (λ (n : ℕ). n + 1) next)
             (precede_behind (meanings k) top mine.heard others.heard all.1.1) (kept_behind (meanings k) last mine.joined others.joined kept.1),
       )
@@ -185,15 +186,15 @@ both_full worked.Memory worked.All is = absurd (cc)
 both_full worked.Memory worked.Memory is = absurd (cc)
 both_full worked.All other is = inr is
 
-module _ {K S O C D : Type 0} (k : KeeperOf K) (s : EndsOf S) (o : EndsOf O) (reads : C → ℕ → C → Type 0) (door : DoorOf D S O) (connections : ℕ)
+module _ {K S O C Q D : Type 0} (k : KeeperOf K) (s : EndsOf S) (o : EndsOf O) (reads : Lent C Q → Taken → Lent C Q → Type 0) (door : DoorOf D S O) (connections : ℕ)
     (rows : List Row) (history : List Entry) where
-  last_saw : (a : Book) (front : List (Visited K S O C)) (v : Visited K S O C) → StandInTurn k rows history a (front ++ v ∷ []) → v.ended ≡ Some EndedFull
+  last_saw : (a : Book) (front : List (Visited K S O C Q)) (v : Visited K S O C Q) → StandInTurn k rows history a (front ++ v ∷ []) → v.ended ≡ Some EndedFull
       → SawFull history (book_in k v.memory)
   last_saw a [] v stand full = stand.1 full
   last_saw a (u ∷ front) v stand full = last_saw (book_in k u.memory) front v stand.2 full
 
   -- the worker that ended so saw it at its last session
-  pub full_long : (number : ℕ) (m n : Memory (Served K)) (before after : List (Worker D C)) (result : Worked)
+  pub full_long : (number : ℕ) (m n : Memory (Served K)) (before after : List (Worker D C Q)) (result : Worked)
       (work : WorkBeside (longer (meanings k)) (Works k s o reads door connections) m n before after result)
       → AllStand k s o reads door connections rows history number m n before after result work → result ≡ worked.RunFull
       → MAX_ENTRIES ≤ length history + 1
@@ -208,4 +209,4 @@ module _ {K S O C D : Type 0} (k : KeeperOf K) (s : EndsOf S) (o : EndsOf O) (re
       saw : EndsWork k s o reads door connections a.door b.door works.visits worked.RunFull → MAX_ENTRIES ≤ length history + 1
       saw (front, last, visits, unfull, ended, same) =
           (last_saw (book_in k (split_from m)) front last
-          (subst (λ (vs : List (Visited K S O C)). StandInTurn k rows history (book_in k (split_from m)) vs) visits stand.1) ended).long
+          (subst (λ (vs : List (Visited K S O C Q)). StandInTurn k rows history (book_in k (split_from m)) vs) visits stand.1) ended).long

@@ -11,6 +11,7 @@ use Rattle.nf_hub.specs.Visiting.{Visiting}
 use Rattle.nf_hub.specs.declared.hub.HubOf.{HubOf}
 use Rattle.nf_hub.specs.declared.seat.SeatOf.{SeatOf}
 use Rattle.nf_keeper.specs.declared.keeper.Keeper.{Ghosts as KeeperOf}
+use Rattle.nf_outside.specs.Lent.{Taken}
 use Rattle.nf_promises.proofs.Full.{full_is_seen}
 use Rattle.nf_session.specs.Prelude.{entries_wanted, Scene, Session}
 use Rattle.nf_session.specs.declared.ended.Ended.{Ended}
@@ -35,6 +36,6 @@ module _ {K : Type 0} (k : KeeperOf K) where
       ap (λ (h : LentHub). book k h.now b.seat) (ap (λ (l : LentHub × Memory (Served K)). l.0) lent ∙ its)
       ∙ ap (λ (s : ItsSeat). book k hub.now s) (sym same)
 
-pub full_seen : {C : Type 0} (reads : C → ℕ → C → Type 0) (a b : Scene C) (end : Option Ended) → Session reads a b end
+pub full_seen : {C : Type 0} (reads : C → Taken → C → Type 0) (a b : Scene C) (end : Option Ended) → Session reads a b end
     → end ≡ Some ended.RunFull → MAX_ENTRIES < entries_wanted b.book
 full_seen reads a b end session is = full_is_seen reads a b (subst (λ (e : Option Ended). Session reads a b e) is session)

@@ -6,46 +6,47 @@ use Rattle.std.specs.Prelude.{Option, None, Some, option_map}
 use Rattle.nf_desk.specs.Desk.{Served}
 use Rattle.nf_keeper.specs.declared.keeper.Keeper.{Ghosts as KeeperOf}
 use Rattle.nf_outside.specs.Causes.{Rose}
+use Rattle.nf_outside.specs.Lent.{Lent, Taken}
 use Rattle.nf_outside.specs.declared.traits.Ends.{Ghosts as EndsOf}
 use Rattle.nf_session.specs.declared.ended.Ended.{Ended}
 use Rattle.nf_session.specs.declared.ended.Ended.TheVariants.{RunFull as EndedFull}
 use Rattle.nf_turn.specs.declared.view.Memory.{Memory}
 use Rattle.nf_server.specs.Doors.{GivesLink, behind, closed}
-use Rattle.nf_server.specs.Work.{GaveAndTook, HasNone, InTurn, NoneFull, ServesEnds, ServesNext, Visited, Works}
+use Rattle.nf_server.specs.Work.{GaveAndTook, HasNone, InTurn, lent_of, NoneFull, ServesEnds, ServesNext, Visited, Works}
 use Rattle.nf_server.specs.declared.door.Door.{Ghosts as DoorOf}
 use Rattle.nf_server.specs.declared.link.Link.{Link}
 use Rattle.nf_server.specs.declared.workers.Worked.TheVariants as worked
 use Rattle.nf_server.specs.declared.workers.Worker.{Worker}
 
-module _ {K S O C : Type 0} (k : KeeperOf K) (s : EndsOf S) (o : EndsOf O) (reads : C → ℕ → C → Type 0) where
-  in_turn_more : (m : Memory (Served K)) (c : C) (visits : List (Visited K S O C)) (n : Memory (Served K)) (d : C) (v : Visited K S O C)
-      → InTurn k s o reads m c visits n d → ServesEnds k s o reads n v.memory d v.clock v.came v.left v.ended
-      → InTurn k s o reads m c (visits ++ v ∷ []) v.memory v.clock
+module _ {K S O C Q : Type 0} (k : KeeperOf K) (s : EndsOf S) (o : EndsOf O) (reads : Lent C Q → Taken → Lent C Q → Type 0) where
+  in_turn_more : (m : Memory (Served K)) (c : Lent C Q) (visits : List (Visited K S O C Q)) (n : Memory (Served K)) (d : Lent C Q) (v : Visited K S O C Q)
+      → InTurn k s o reads m c visits n d → ServesEnds k s o reads n v.memory d v.lent v.came v.left v.ended
+      → InTurn k s o reads m c (visits ++ v ∷ []) v.memory v.lent
   in_turn_more m c [] n d v so serves = (
-    subst (λ (z : C). ServesEnds k s o reads m v.memory z v.clock v.came v.left v.ended) so.1
-        (subst (λ (z : Memory (Served K)). ServesEnds k s o reads z v.memory d v.clock v.came v.left v.ended) so.0 serves),
+    subst (λ (z : Lent C Q). ServesEnds k s o reads m v.memory z v.lent v.came v.left v.ended) so.1
+        (subst (λ (z : Memory (Served K)). ServesEnds k s o reads z v.memory d v.lent v.came v.left v.ended) so.0 serves),
     (refl, refl),
   )
-  in_turn_more m c (u ∷ visits) n d v so serves = (so.0, in_turn_more u.memory u.clock visits n d v so.1 serves)
+  in_turn_more m c (u ∷ visits) n d v so serves = (so.0, in_turn_more u.memory u.lent visits n d v so.1 serves)
 
-  came_more : (visits : List (Visited K S O C)) (v : Visited K S O C) (b next : Option (List (Link S O))) → GivesLink b next (Ok (Some v.came))
-      → option_map (λ (links : List (Link S O)). map (λ (u : Visited K S O C). u.came) visits ++ links) b
-      ≡ option_map (λ (links : List (Link S O)). map (λ (u : Visited K S O C). u.came) (visits ++ v ∷ []) ++ links) next
+  came_more : (visits : List (Visited K S O C Q)) (v : Visited K S O C Q) (b next : Option (List (Link S O))) → GivesLink b next (Ok (Some v.came))
+      → option_map (λ (links : List (Link S O)). map (λ (u : Visited K S O C Q). u.came) visits ++ links) b
+      ≡ option_map (λ (links : List (Link S O)). map (λ (u : Visited K S O C Q). u.came) (visits ++ v ∷ []) ++ links) next
   came_more visits v None None gives = refl
   came_more visits v None (Some left) gives = absurd gives
   came_more visits v (Some links) None gives = absurd gives
   came_more visits v (Some links) (Some left) gives =
-      let f = λ (u : Visited K S O C). u.came in
+      let f = λ (u : Visited K S O C Q). u.came in
       ap Some
       (ap (λ (z : List (Link S O)). map f visits ++ z) gives ∙ sym (append_assoc (map f visits) (v.came ∷ []) left)
       ∙ ap (λ (z : List (Link S O)). z ++ left) (sym (map-append f visits (v ∷ []))))
 
-  left_more : (visits : List (Visited K S O C)) (v : Visited K S O C) (a : Option (List (Link S O)))
-      → behind (option_map (λ (links : List (Link S O)). links ++ map (λ (u : Visited K S O C). u.left) visits) a) v.left
-      ≡ option_map (λ (links : List (Link S O)). links ++ map (λ (u : Visited K S O C). u.left) (visits ++ v ∷ [])) a
+  left_more : (visits : List (Visited K S O C Q)) (v : Visited K S O C Q) (a : Option (List (Link S O)))
+      → behind (option_map (λ (links : List (Link S O)). links ++ map (λ (u : Visited K S O C Q). u.left) visits) a) v.left
+      ≡ option_map (λ (links : List (Link S O)). links ++ map (λ (u : Visited K S O C Q). u.left) (visits ++ v ∷ [])) a
   left_more visits v None = refl
   left_more visits v (Some links) =
-      let f = λ (u : Visited K S O C). u.left in
+      let f = λ (u : Visited K S O C Q). u.left in
       ap Some
       (append_assoc links (map f visits) (v.left ∷ []) ∙ ap (λ (z : List (Link S O)). links ++ z) (sym (map-append f visits (v ∷ []))))
 
@@ -59,42 +60,42 @@ module _ {K S O C : Type 0} (k : KeeperOf K) (s : EndsOf S) (o : EndsOf O) (read
 
   module _ {D : Type 0} (door : DoorOf D S O) where
     -- so many links were served, and no session found the run full
-    pub record SoFar (m n : Memory (Served K)) (a b : Worker D C) (count : ℕ) : Type 0 where
-      pub visits : List (Visited K S O C)
+    pub record SoFar (m n : Memory (Served K)) (a b : Worker D C Q) (count : ℕ) : Type 0 where
+      pub visits : List (Visited K S O C Q)
       pub so_many : length visits ≡ count
-      pub in_turn : InTurn k s o reads m a.clock visits n b.clock
+      pub in_turn : InTurn k s o reads m (lent_of a) visits n (lent_of b)
       pub gave : GaveAndTook k s o reads door a.door b.door (door.coming b.door) visits
       pub none_full : NoneFull k s o reads visits
       pub same : door.faults b.door ≡ door.faults a.door
 
-    pub nothing_yet : (m n : Memory (Served K)) (a b : Worker D C) → n ≡ m → b ≡ a → SoFar m n a b 0
+    pub nothing_yet : (m n : Memory (Served K)) (a b : Worker D C Q) → n ≡ m → b ≡ a → SoFar m n a b 0
     nothing_yet m n a b knows same = record {
       visits = [];
       so_many = refl;
-      in_turn = (knows, ap (λ (w : Worker D C). w.clock) same);
+      in_turn = (knows, ap (λ (w : Worker D C Q). lent_of w) same);
       gave = record {
-        came = ap (λ (w : Worker D C). door.coming w.door) (sym same) ∙ nothing_came (door.coming b.door);
-        left = ap (λ (w : Worker D C). door.served w.door) same ∙ nothing_left (door.served a.door);
+        came = ap (λ (w : Worker D C Q). door.coming w.door) (sym same) ∙ nothing_came (door.coming b.door);
+        left = ap (λ (w : Worker D C Q). door.served w.door) same ∙ nothing_left (door.served a.door);
       };
       none_full = All-nil _;
-      same = ap (λ (w : Worker D C). door.faults w.door) same;
+      same = ap (λ (w : Worker D C Q). door.faults w.door) same;
     }
 
     -- another link was given, served and given back
-    module _ (m n p : Memory (Served K)) (a b t e : Worker D C) (count : ℕ) (so_far : SoFar m n a b count) (link : Link S O) (ended : Option Ended)
-        (clock : t.clock ≡ b.clock) (gives : GivesLink (door.coming b.door) (door.coming t.door) (Ok (Some link)))
+    module _ (m n p : Memory (Served K)) (a b t e : Worker D C Q) (count : ℕ) (so_far : SoFar m n a b count) (link : Link S O) (ended : Option Ended)
+        (lent_is : lent_of t ≡ lent_of b) (gives : GivesLink (door.coming b.door) (door.coming t.door) (Ok (Some link)))
         (kept : door.served t.door ≡ door.served b.door) (unfailed : door.faults t.door ≡ door.faults b.door)
         (next : ServesNext k s o reads door n p t e link ended) where
-      abbrev visit : Visited K S O C
-      visit = record { came = link; left = next.after; memory = p; clock = e.clock; ended = ended }
+      abbrev visit : Visited K S O C Q
+      visit = record { came = link; left = next.after; memory = p; lent = lent_of e; ended = ended }
 
-      abbrev visits : List (Visited K S O C)
+      abbrev visits : List (Visited K S O C Q)
       visits = so_far.visits ++ visit ∷ []
 
-      in_turn : InTurn k s o reads m a.clock visits p e.clock
+      in_turn : InTurn k s o reads m (lent_of a) visits p (lent_of e)
       in_turn =
-          in_turn_more m a.clock so_far.visits n b.clock visit so_far.in_turn
-          (subst (λ (z : C). ServesEnds k s o reads n p z e.clock link next.after ended) clock next.serves)
+          in_turn_more m (lent_of a) so_far.visits n (lent_of b) visit so_far.in_turn
+          (subst (λ (z : Lent C Q). ServesEnds k s o reads n p z (lent_of e) link next.after ended) lent_is next.serves)
 
       gave : GaveAndTook k s o reads door a.door e.door (door.coming e.door) visits
       gave = record {
@@ -119,18 +120,18 @@ module _ {K S O C : Type 0} (k : KeeperOf K) (s : EndsOf S) (o : EndsOf O) (read
         so_many = so_many;
         in_turn = in_turn;
         gave = gave;
-        none_full = All-push (λ (v : Visited K S O C). v.ended ≢ Some EndedFull) so_far.visits visit so_far.none_full other;
+        none_full = All-push (λ (v : Visited K S O C Q). v.ended ≢ Some EndedFull) so_far.visits visit so_far.none_full other;
         same = faults;
       }
 
       -- it found the run full, and its door was closed
-      pub full_work : (f : Worker D C) (connections : ℕ) → count < connections → ended ≡ Some EndedFull → f.clock ≡ e.clock
+      pub full_work : (f : Worker D C Q) (connections : ℕ) → count < connections → ended ≡ Some EndedFull → lent_of f ≡ lent_of e
           → door.coming f.door ≡ closed (door.coming e.door) → door.served f.door ≡ door.served e.door → door.faults f.door ≡ door.faults e.door
           → Works k s o reads door connections m p a f worked.RunFull
-      full_work f connections less full its_clock shut kept_still unfailed_still = record {
+      full_work f connections less full its_lent shut kept_still unfailed_still = record {
         visits = visits;
         few = omega (arith, so_many);
-        in_turn = subst (λ (z : C). InTurn k s o reads m a.clock visits p z) (sym its_clock) in_turn;
+        in_turn = subst (λ (z : Lent C Q). InTurn k s o reads m (lent_of a) visits p z) (sym its_lent) in_turn;
         rest = door.coming e.door;
         gave = record { came = gave.came; left = kept_still ∙ gave.left };
         coming = shut;
@@ -138,19 +139,19 @@ module _ {K S O C : Type 0} (k : KeeperOf K) (s : EndsOf S) (o : EndsOf O) (read
       }
 
     -- there was no memory to begin with, and the door was closed
-    pub no_work : (m : Memory (Served K)) (a b : Worker D C) (connections : ℕ) → b.clock ≡ a.clock → door.coming b.door ≡ closed (door.coming a.door)
+    pub no_work : (m : Memory (Served K)) (a b : Worker D C Q) (connections : ℕ) → lent_of b ≡ lent_of a → door.coming b.door ≡ closed (door.coming a.door)
         → door.served b.door ≡ door.served a.door → door.faults b.door ≡ door.faults a.door → Works k s o reads door connections m m a b worked.Memory
-    no_work m a b connections clock shut kept unfailed = record {
+    no_work m a b connections lent_is shut kept unfailed = record {
       visits = [];
       few = omega arith;
-      in_turn = (refl, clock);
+      in_turn = (refl, lent_is);
       rest = door.coming a.door;
       gave = record { came = nothing_came (door.coming a.door); left = kept ∙ nothing_left (door.served a.door) };
       coming = shut;
       ends = (refl, unfailed);
     }
 
-    pub all_work : (m n : Memory (Served K)) (a b : Worker D C) (connections : ℕ) → SoFar m n a b connections
+    pub all_work : (m n : Memory (Served K)) (a b : Worker D C Q) (connections : ℕ) → SoFar m n a b connections
         → Works k s o reads door connections m n a b worked.All
     all_work m n a b connections so_far = record {
       visits = so_far.visits;
@@ -163,16 +164,16 @@ module _ {K S O C : Type 0} (k : KeeperOf K) (s : EndsOf S) (o : EndsOf O) (read
     }
 
     -- the door did nothing but to say that it is closed, or to fail
-    module _ (m n : Memory (Served K)) (a b e : Worker D C) (count connections : ℕ) (less : count < connections) (so_far : SoFar m n a b count)
-        (clock : e.clock ≡ b.clock) (kept : door.served e.door ≡ door.served b.door) where
-      in_turn_still : InTurn k s o reads m a.clock so_far.visits n e.clock
-      in_turn_still = subst (λ (z : C). InTurn k s o reads m a.clock so_far.visits n z) (sym clock) so_far.in_turn
+    module _ (m n : Memory (Served K)) (a b e : Worker D C Q) (count connections : ℕ) (less : count < connections) (so_far : SoFar m n a b count)
+        (lent_is : lent_of e ≡ lent_of b) (kept : door.served e.door ≡ door.served b.door) where
+      in_turn_still : InTurn k s o reads m (lent_of a) so_far.visits n (lent_of e)
+      in_turn_still = subst (λ (z : Lent C Q). InTurn k s o reads m (lent_of a) so_far.visits n z) (sym lent_is) so_far.in_turn
 
       gave_still : door.coming e.door ≡ door.coming b.door → GaveAndTook k s o reads door a.door e.door (door.coming e.door) so_far.visits
       gave_still same = record {
         came =
             so_far.gave.came
-            ∙ ap (λ (z : Option (List (Link S O))). option_map (λ (links : List (Link S O)). map (λ (v : Visited K S O C). v.came) so_far.visits ++ links) z) (sym same);
+            ∙ ap (λ (z : Option (List (Link S O))). option_map (λ (links : List (Link S O)). map (λ (v : Visited K S O C Q). v.came) so_far.visits ++ links) z) (sym same);
         left = kept ∙ so_far.gave.left;
       }
 

@@ -5,6 +5,7 @@ use Rattle.nf_base.specs.declared.rows.Row.{Row}
 use Rattle.nf_desk.specs.Desk.{Served, meanings}
 use Rattle.nf_hub.specs.Seats.{book_in}
 use Rattle.nf_keeper.specs.declared.keeper.Keeper.{Ghosts as KeeperOf}
+use Rattle.nf_outside.specs.Lent.{Lent, Taken}
 use Rattle.nf_outside.specs.declared.traits.Ends.{Ghosts as EndsOf}
 use Rattle.nf_session.specs.Prelude.{Book, entries_wanted, own_from, state_of}
 use Rattle.nf_session.specs.declared.ended.Ended.TheVariants.{RunFull as EndedFull}
@@ -40,19 +41,19 @@ pub record IsNewSeat (number : ℕ) (a : Book) : Type 0 where
   pub seat : a.seat ≡ number
   pub known : a.known ≡ []
 
-module _ {K S O C : Type 0} (k : KeeperOf K) where
+module _ {K S O C Q : Type 0} (k : KeeperOf K) where
   -- the sessions of a worker stand there one behind the other, each behind all that the worker had seen before it; and the history has no
   -- other entry of its seat
-  abbrev pub StandInTurn : List Row → List Entry → Book → List (Visited K S O C) → Type 0
+  abbrev pub StandInTurn : List Row → List Entry → Book → List (Visited K S O C Q) → Type 0
   StandInTurn rows history a [] = own_from a.seat (opened rows) history ≡ a.own
   StandInTurn rows history a (v ∷ visits) =
       StandsIn rows history a (book_in k v.memory) × (v.ended ≡ Some EndedFull → SawFull history (book_in k v.memory))
       × StandInTurn rows history (book_in k v.memory) visits
 
-module _ {K S O C D : Type 0} (k : KeeperOf K) (s : EndsOf S) (o : EndsOf O) (reads : C → ℕ → C → Type 0) (door : DoorOf D S O)
+module _ {K S O C Q D : Type 0} (k : KeeperOf K) (s : EndsOf S) (o : EndsOf O) (reads : Lent C Q → Taken → Lent C Q → Type 0) (door : DoorOf D S O)
     (connections : ℕ) where
   -- so do those of all workers, whose seats have the numbers from this one on
-  abbrev pub AllStand : List Row → List Entry → ℕ → (m n : Memory (Served K)) (before after : List (Worker D C)) (result : Worked)
+  abbrev pub AllStand : List Row → List Entry → ℕ → (m n : Memory (Served K)) (before after : List (Worker D C Q)) (result : Worked)
       → WorkBeside (longer (meanings k)) (Works k s o reads door connections) m n before after result → Type 0
   AllStand rows history number m n [] [] result work = Unit {0}
   AllStand rows history number m n [] (b ∷ after) result work = ⊥

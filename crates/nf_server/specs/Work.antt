@@ -5,6 +5,7 @@ use Rattle.nf_desk.specs.Desk.{Served, meanings}
 use Rattle.nf_hub.specs.Seats.{book_in, steady}
 use Rattle.nf_keeper.specs.declared.keeper.Keeper.{Ghosts as KeeperOf}
 use Rattle.nf_outside.specs.Causes.{Rose}
+use Rattle.nf_outside.specs.Lent.{Lent, Taken, lent}
 use Rattle.nf_outside.specs.declared.traits.Ends.{Ghosts as EndsOf}
 use Rattle.nf_session.specs.Prelude.{entries_wanted, Session}
 use Rattle.nf_session.specs.declared.ended.Ended.{Ended}
@@ -19,17 +20,21 @@ use Rattle.nf_server.specs.declared.workers.Worked.{Worked}
 use Rattle.nf_server.specs.declared.workers.Worked.TheVariants as worked
 use Rattle.nf_server.specs.declared.workers.Worker.{Worker}
 
--- a link that was served: as it came, and as it was given back; what the seat knew then, and the clock; and how its session ended
-pub record Visited (K S O C : Type 0) : Type 0 where
+-- what a worker's sessions are lent
+abbrev pub lent_of : {D C Q : Type 0} → Worker D C Q → Lent C Q
+lent_of w = lent w.clock w.dice
+
+-- a link that was served: as it came, and as it was given back; what the seat knew then, and the clock and the dice; and how its session ended
+pub record Visited (K S O C Q : Type 0) : Type 0 where
   pub came : Link S O
   pub left : Link S O
   pub memory : Memory (Served K)
-  pub clock : C
+  pub lent : Lent C Q
   pub ended : Option Ended
 
-module _ {K S O C : Type 0} (k : KeeperOf K) (s : EndsOf S) (o : EndsOf O) (reads : C → ℕ → C → Type 0) where
+module _ {K S O C Q : Type 0} (k : KeeperOf K) (s : EndsOf S) (o : EndsOf O) (reads : Lent C Q → Taken → Lent C Q → Type 0) where
   -- a session through a seat that knew m, and then n; it ends because the run is full only where the seat has seen that it is
-  pub record ServesEnds (m n : Memory (Served K)) (c d : C) (before after : Link S O) (ended : Option Ended) : Type 0 where
+  pub record ServesEnds (m n : Memory (Served K)) (c d : Lent C Q) (before after : Link S O) (ended : Option Ended) : Type 0 where
     pub steady_is : steady n ≡ steady m
     pub kept : List ℕ
     pub few : length kept ≤ MAX_HEAD
@@ -39,19 +44,19 @@ module _ {K S O C : Type 0} (k : KeeperOf K) (s : EndsOf S) (o : EndsOf O) (read
     pub told : HasHeard (meanings k) n
 
   -- these links were served one after the other, each from what the one before it left
-  abbrev pub InTurn : Memory (Served K) → C → List (Visited K S O C) → Memory (Served K) → C → Type 0
+  abbrev pub InTurn : Memory (Served K) → Lent C Q → List (Visited K S O C Q) → Memory (Served K) → Lent C Q → Type 0
   InTurn m c [] n d = (n ≡ m) × (d ≡ c)
-  InTurn m c (v ∷ visits) n d = ServesEnds m v.memory c v.clock v.came v.left v.ended × InTurn v.memory v.clock visits n d
+  InTurn m c (v ∷ visits) n d = ServesEnds m v.memory c v.lent v.came v.left v.ended × InTurn v.memory v.lent visits n d
 
   -- none of these sessions ended because the run is full
-  abbrev pub NoneFull : List (Visited K S O C) → Type 0
-  NoneFull visits = All (λ (v : Visited K S O C). v.ended ≢ Some EndedFull) visits
+  abbrev pub NoneFull : List (Visited K S O C Q) → Type 0
+  NoneFull visits = All (λ (v : Visited K S O C Q). v.ended ≢ Some EndedFull) visits
 
   module _ {D : Type 0} (door : DoorOf D S O) where
     -- what the door had to give was the links that came, and then the rest; and they were given back to it, in that order
-    pub record GaveAndTook (a b : D) (rest : Option (List (Link S O))) (visits : List (Visited K S O C)) : Type 0 where
-      pub came : door.coming a ≡ option_map (λ (links : List (Link S O)). map (λ (v : Visited K S O C). v.came) visits ++ links) rest
-      pub left : door.served b ≡ option_map (λ (links : List (Link S O)). links ++ map (λ (v : Visited K S O C). v.left) visits) (door.served a)
+    pub record GaveAndTook (a b : D) (rest : Option (List (Link S O))) (visits : List (Visited K S O C Q)) : Type 0 where
+      pub came : door.coming a ≡ option_map (λ (links : List (Link S O)). map (λ (v : Visited K S O C Q). v.came) visits ++ links) rest
+      pub left : door.served b ≡ option_map (λ (links : List (Link S O)). links ++ map (λ (v : Visited K S O C Q). v.left) visits) (door.served a)
 
     -- it has no link left, as far as it tells
     abbrev pub HasNone : Option (List (Link S O)) → Type 0
@@ -60,12 +65,12 @@ module _ {K S O C : Type 0} (k : KeeperOf K) (s : EndsOf S) (o : EndsOf O) (read
 
     -- the door has no link left, or so many were served; or it failed, and counted it; or the last session found the run full; or there was no
     -- memory to begin with
-    abbrev pub EndsWork : ℕ → D → D → List (Visited K S O C) → Worked → Type 0
+    abbrev pub EndsWork : ℕ → D → D → List (Visited K S O C Q) → Worked → Type 0
     EndsWork connections a b visits worked.All =
         NoneFull visits × (door.faults b ≡ door.faults a) × (HasNone (door.coming b) ⊎ (length visits ≡ connections))
     EndsWork connections a b visits worked.DoorFault = NoneFull visits × Rose (door.faults a) (door.faults b) × (length visits < connections)
     EndsWork connections a b visits worked.RunFull =
-        (front : List (Visited K S O C)) × (last : Visited K S O C) × (visits ≡ front ++ last ∷ []) × NoneFull front
+        (front : List (Visited K S O C Q)) × (last : Visited K S O C Q) × (visits ≡ front ++ last ∷ []) × NoneFull front
         × (last.ended ≡ Some EndedFull) × (door.faults b ≡ door.faults a)
     EndsWork connections a b visits worked.Memory = (visits ≡ []) × (door.faults b ≡ door.faults a)
 
@@ -77,19 +82,19 @@ module _ {K S O C : Type 0} (k : KeeperOf K) (s : EndsOf S) (o : EndsOf O) (read
     coming_after worked.Memory rest = closed rest
 
     -- one worker
-    pub record Works (connections : ℕ) (m n : Memory (Served K)) (a b : Worker D C) (result : Worked) : Type 0 where
-      pub visits : List (Visited K S O C)
+    pub record Works (connections : ℕ) (m n : Memory (Served K)) (a b : Worker D C Q) (result : Worked) : Type 0 where
+      pub visits : List (Visited K S O C Q)
       pub few : length visits ≤ connections
-      pub in_turn : InTurn m a.clock visits n b.clock
+      pub in_turn : InTurn m (lent_of a) visits n (lent_of b)
       pub rest : Option (List (Link S O))
       pub gave : GaveAndTook a.door b.door rest visits
       pub coming : door.coming b.door ≡ coming_after result rest
       pub ends : EndsWork connections a.door b.door visits result
 
     -- one connection was served and given back
-    pub record ServesNext (m n : Memory (Served K)) (a b : Worker D C) (link : Link S O) (ended : Option Ended) : Type 0 where
+    pub record ServesNext (m n : Memory (Served K)) (a b : Worker D C Q) (link : Link S O) (ended : Option Ended) : Type 0 where
       pub after : Link S O
-      pub serves : ServesEnds m n a.clock b.clock link after ended
+      pub serves : ServesEnds m n (lent_of a) (lent_of b) link after ended
       pub back : door.served b.door ≡ option_map (λ (links : List (Link S O)). links ++ after ∷ []) (door.served a.door)
       pub coming : door.coming b.door ≡ door.coming a.door
       pub faults : door.faults b.door ≡ door.faults a.door

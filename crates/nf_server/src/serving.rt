@@ -3,6 +3,7 @@
 ghost use Rattle.std.specs.Prelude.{◌≡◌, ◌<◌, ◌≤◌, ℕ, List, [], length, None, Some};
 ghost use Rattle.nf_base.specs.declared.limits.TheConstants.{MAX_ENTRIES, MAX_HEAD};
 ghost use Rattle.nf_hub.specs.Seats.{IsSeat, book, memory_of, steady};
+ghost use Rattle.nf_outside.specs.Lent.{lent, takes};
 ghost use Rattle.nf_server.specs.Links.{scene_at};
 ghost use Rattle.nf_session.specs.Prelude.{entries_wanted, held, Session};
 ghost use Rattle.nf_session.specs.declared.ended.Ended.TheVariants as ended;
@@ -10,7 +11,7 @@ ghost use Rattle.nf_session.specs.declared.ended.Ended.TheVariants as ended;
 use crate::link::Link;
 use nf_hub::{Hub, Seat, Visit};
 use nf_keeper::Keeper;
-use nf_outside::{Clock, Sink, Source};
+use nf_outside::{Clock, Dice, Sink, Source};
 use nf_routes::Routes;
 use nf_session::{Ended, serve_session};
 use std::alloc::Global;
@@ -27,7 +28,7 @@ pub struct Served<K: Keeper + Drop> {
 /// Serves the messages of one connection through a seat, which is the session's while it lasts.
 ///
 /// Up to `MAX_HEAD` bytes may have been read behind the last message that was taken; they are lost with the session.
-pub fn serve_link<R: Wait, K: Keeper + Drop, S: Source, O: Sink, C: Clock>(
+pub fn serve_link<R: Wait, K: Keeper + Drop, S: Source, O: Sink, C: Clock, Q: Dice>(
     rt: &R,
     alloc: Global,
     routes: &Routes,
@@ -35,15 +36,16 @@ pub fn serve_link<R: Wait, K: Keeper + Drop, S: Source, O: Sink, C: Clock>(
     seat: Seat<K>,
     link: &mut Link<S, O>,
     clock: &mut C,
+    dice: &mut Q,
 ) -> Served<K>
     requires seat { IsSeat K.Keeper hub.now seat }
     requires idle { held (book K.Keeper hub.now seat) ≡ None }
     ensures seat { IsSeat K.Keeper hub.now result.seat }
     ensures idle { held (book K.Keeper hub.now result.seat) ≡ None }
     ensures steady { steady (memory_of K.Keeper hub.now result.seat) ≡ steady (memory_of K.Keeper hub.now seat) }
-    ensures session { (kept : List ℕ) × (length kept ≤ MAX_HEAD) × Session C.reads
-        (scene_at S.Ends O.Ends (book K.Keeper hub.now seat) [] link.old.source link.old.sink clock.old)
-        (scene_at S.Ends O.Ends (book K.Keeper hub.now result.seat) kept link.new.source link.new.sink clock.new) result.ended }
+    ensures session { (kept : List ℕ) × (length kept ≤ MAX_HEAD) × Session (takes C.reads Q.draws)
+        (scene_at S.Ends O.Ends (book K.Keeper hub.now seat) [] link.old.source link.old.sink (lent clock.old dice.old))
+        (scene_at S.Ends O.Ends (book K.Keeper hub.now result.seat) kept link.new.source link.new.sink (lent clock.new dice.new)) result.ended }
     ensures full { result.ended ≡ Some ended.RunFull → MAX_ENTRIES < entries_wanted (book K.Keeper hub.now result.seat) }
 {
     serve_ends(
@@ -55,11 +57,12 @@ pub fn serve_link<R: Wait, K: Keeper + Drop, S: Source, O: Sink, C: Clock>(
         &mut link.source,
         &mut link.sink,
         clock,
+        dice,
     )
 }
 
 /// The same over the two ends of a connection that aren't held together.
-pub fn serve_ends<R: Wait, K: Keeper + Drop, S: Source, O: Sink, C: Clock>(
+pub fn serve_ends<R: Wait, K: Keeper + Drop, S: Source, O: Sink, C: Clock, Q: Dice>(
     rt: &R,
     alloc: Global,
     routes: &Routes,
@@ -68,19 +71,20 @@ pub fn serve_ends<R: Wait, K: Keeper + Drop, S: Source, O: Sink, C: Clock>(
     input: &mut S,
     output: &mut O,
     clock: &mut C,
+    dice: &mut Q,
 ) -> Served<K>
     requires seat { IsSeat K.Keeper hub.now seat }
     requires idle { held (book K.Keeper hub.now seat) ≡ None }
     ensures seat { IsSeat K.Keeper hub.now result.seat }
     ensures idle { held (book K.Keeper hub.now result.seat) ≡ None }
     ensures steady { steady (memory_of K.Keeper hub.now result.seat) ≡ steady (memory_of K.Keeper hub.now seat) }
-    ensures session { (kept : List ℕ) × (length kept ≤ MAX_HEAD) × Session C.reads
-        (scene_at S.Ends O.Ends (book K.Keeper hub.now seat) [] input.old output.old clock.old)
-        (scene_at S.Ends O.Ends (book K.Keeper hub.now result.seat) kept input.new output.new clock.new) result.ended }
+    ensures session { (kept : List ℕ) × (length kept ≤ MAX_HEAD) × Session (takes C.reads Q.draws)
+        (scene_at S.Ends O.Ends (book K.Keeper hub.now seat) [] input.old output.old (lent clock.old dice.old))
+        (scene_at S.Ends O.Ends (book K.Keeper hub.now result.seat) kept input.new output.new (lent clock.new dice.new)) result.ended }
     ensures full { result.ended ≡ Some ended.RunFull → MAX_ENTRIES < entries_wanted (book K.Keeper hub.now result.seat) }
 {
     let mut visit = Visit::new(rt, hub, seat);
-    let ended = serve_session(alloc, routes, input, output, clock, &mut visit);
+    let ended = serve_session(alloc, routes, input, output, clock, dice, &mut visit);
     Served {
         ended,
         seat: visit.into_seat(),

@@ -2,6 +2,7 @@
 
 ghost use Rattle.std.specs.Prelude.{◌≡◌, ◌≤◌, ◌<◌, ◌+◌, ◌↔◌, ℕ, IsTrue, length, None, Some};
 ghost use Rattle.nf_hub.specs.Seats.{IsSeat, book, memory_of};
+ghost use Rattle.nf_outside.specs.Lent.{takes};
 ghost use Rattle.nf_server.specs.Posts.{Beside};
 ghost use Rattle.nf_server.specs.Work.{ServesNext, WorkBeside, Works, both as of_both};
 ghost use Rattle.nf_server.specs.declared.workers.Worked.{Worked};
@@ -16,7 +17,7 @@ use crate::link::Link;
 use crate::serving::{Served, serve_link};
 use nf_hub::{Hub, Seat};
 use nf_keeper::Keeper;
-use nf_outside::{Clock, Failed};
+use nf_outside::{Clock, Dice, Failed};
 use nf_routes::Routes;
 use nf_session::Ended;
 use std::alloc::Global;
@@ -24,11 +25,12 @@ use std::marker::Model;
 use std::sync::Wait;
 use std::thread::{Threads, join_mut};
 
-/// A door whose connections one thread serves, and its clock.
+/// A door whose connections one thread serves, and its clock and dice.
 #[derive(Drop)]
-pub struct Worker<D: Drop, C: Drop> {
+pub struct Worker<D: Drop, C: Drop, Q: Drop> {
     pub door: D,
     pub clock: C,
+    pub dice: Q,
 }
 
 /// How workers ended.
@@ -60,12 +62,12 @@ impl Worked {
 
 /// Serves the connections of all doors, each door in a thread of its own where one can be made, at most so many of each. Every worker has
 /// a seat of its own, which is split from this one and joined into it again. It takes no memory of its own but for the routes that each has.
-pub fn serve<R, K, D, C>(
+pub fn serve<R, K, D, C, Q>(
     rt: &R,
     alloc: Global,
     hub: &Hub<K>,
     seat: Seat<K>,
-    workers: &mut [Worker<D, C>],
+    workers: &mut [Worker<D, C, Q>],
     connections: u64,
 ) -> (Worked, Seat<K>)
 where
@@ -73,6 +75,7 @@ where
     K: Keeper + Drop + Send,
     D: Door + Drop + Send,
     C: Clock + Drop + Send,
+    Q: Dice + Drop + Send,
     D::Source: Send,
     D::Sink: Send,
     requires seat { IsSeat K.Keeper hub.now seat }
@@ -80,7 +83,7 @@ where
     requires few { length workers.old ≤ (numbers seat.turns).left }
     ensures seat { IsSeat K.Keeper hub.now result.1 }
     ensures idle { held (book K.Keeper hub.now result.1) ≡ None }
-    ensures work { WorkBeside (longer (meanings K.Keeper)) (Works K.Keeper D.Source.Ends D.Sink.Ends C.reads D.Door connections)
+    ensures work { WorkBeside (longer (meanings K.Keeper)) (Works K.Keeper D.Source.Ends D.Sink.Ends (takes C.reads Q.draws) D.Door connections)
         (memory_of K.Keeper hub.now seat) (memory_of K.Keeper hub.now result.1) workers.old workers.new result.0 }
     // A seat from which no other was out has all numbers again.
     ensures whole { IsWhole (numbers seat.turns) → IsWhole (numbers result.1.turns) }
@@ -213,8 +216,9 @@ impl<'t, R: Wait, K: Keeper + Drop> Post<'t, R, K> {
     }
 }
 
-impl<'t, R: Wait, K: Keeper + Drop, D: Door + Drop, C: Clock + Drop> Workplace<Worker<D, C>>
-    for Post<'t, R, K> {
+impl<'t, R: Wait, K: Keeper + Drop, D: Door + Drop, C: Clock + Drop, Q: Dice + Drop> Workplace<
+    Worker<D, C, Q>,
+> for Post<'t, R, K> {
     ghost use Rattle.nf_server.specs.Posts.{IsBeside, JoinsIn, SplitsOff, WorksThrough, left_at};
 
     ghost left = { λ p. left_at K.Keeper p.seat };
@@ -222,7 +226,7 @@ impl<'t, R: Wait, K: Keeper + Drop, D: Door + Drop, C: Clock + Drop> Workplace<W
     ghost splits = { SplitsOff K.Keeper };
 
     ghost works = { λ p q a b result. WorksThrough K.Keeper
-        (λ connections m n. Works K.Keeper D.Source.Ends D.Sink.Ends C.reads D.Door connections m n a b result) p q };
+        (λ connections m n. Works K.Keeper D.Source.Ends D.Sink.Ends (takes C.reads Q.draws) D.Door connections m n a b result) p q };
 
     ghost joins = { JoinsIn K.Keeper };
 
@@ -245,7 +249,7 @@ impl<'t, R: Wait, K: Keeper + Drop, D: Door + Drop, C: Clock + Drop> Workplace<W
         }
     }
 
-    fn work(&mut self, worker: &mut Worker<D, C>) -> Worked {
+    fn work(&mut self, worker: &mut Worker<D, C, Q>) -> Worked {
         // Routes can't be shared by threads, so each has its own.
         let Ok(routes) = Routes::new(self.alloc) else {
             // Else the others would serve on, and nobody would learn that one is missing.
@@ -285,25 +289,26 @@ impl<'t, R: Wait, K: Keeper + Drop, D: Door + Drop, C: Clock + Drop> Workplace<W
 }
 
 // Serves the connections of one door, one after the other.
-fn work<R, K, D, C>(
+fn work<R, K, D, C, Q>(
     rt: &R,
     alloc: Global,
     routes: &Routes,
     hub: &Hub<K>,
     connections: u64,
     seat: Seat<K>,
-    worker: &mut Worker<D, C>,
+    worker: &mut Worker<D, C, Q>,
 ) -> (Worked, Seat<K>)
 where
     R: Wait,
     K: Keeper + Drop,
     D: Door + Drop,
     C: Clock + Drop,
+    Q: Dice + Drop,
     requires seat { IsSeat K.Keeper hub.now seat }
     requires idle { held (book K.Keeper hub.now seat) ≡ None }
     ensures seat { IsSeat K.Keeper hub.now result.1 }
     ensures idle { held (book K.Keeper hub.now result.1) ≡ None }
-    ensures works { Works K.Keeper D.Source.Ends D.Sink.Ends C.reads D.Door connections
+    ensures works { Works K.Keeper D.Source.Ends D.Sink.Ends (takes C.reads Q.draws) D.Door connections
         (memory_of K.Keeper hub.now seat) (memory_of K.Keeper hub.now result.1) worker.old worker.new result.0 }
 {
     let mut seat = seat;
@@ -331,13 +336,13 @@ fn is_full(ended: Option<Ended>) -> bool
 }
 
 // Serves a connection, and gives it back to its door.
-fn serve_next<R, K, D, C>(
+fn serve_next<R, K, D, C, Q>(
     rt: &R,
     alloc: Global,
     routes: &Routes,
     hub: &Hub<K>,
     seat: Seat<K>,
-    worker: &mut Worker<D, C>,
+    worker: &mut Worker<D, C, Q>,
     link: Link<D::Source, D::Sink>,
 ) -> Served<K>
 where
@@ -345,16 +350,18 @@ where
     K: Keeper + Drop,
     D: Door + Drop,
     C: Clock + Drop,
+    Q: Dice + Drop,
     requires seat { IsSeat K.Keeper hub.now seat }
     requires idle { held (book K.Keeper hub.now seat) ≡ None }
     requires room { D.has_room worker.old.door }
     ensures seat { IsSeat K.Keeper hub.now result.seat }
     ensures idle { held (book K.Keeper hub.now result.seat) ≡ None }
-    ensures serves { ServesNext K.Keeper D.Source.Ends D.Sink.Ends C.reads D.Door
+    ensures serves { ServesNext K.Keeper D.Source.Ends D.Sink.Ends (takes C.reads Q.draws) D.Door
         (memory_of K.Keeper hub.now seat) (memory_of K.Keeper hub.now result.seat) worker.old worker.new link result.ended }
 {
     let mut link = link;
-    let served = serve_link(rt, alloc, routes, hub, seat, &mut link, &mut worker.clock);
+    let (clock, dice) = (&mut worker.clock, &mut worker.dice);
+    let served = serve_link(rt, alloc, routes, hub, seat, &mut link, clock, dice);
     worker.door.back(link);
     served
 }

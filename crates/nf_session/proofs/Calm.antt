@@ -8,6 +8,7 @@ use Rattle.std.specs.declared.alloc.Global.{Global}
 use Rattle.nf_base.specs.declared.content.Piece.{Piece}
 use Rattle.nf_dav.specs.declared.replies.Manner.{Manner}
 use Rattle.nf_http.specs.Head.{Head, length_of}
+use Rattle.nf_outside.specs.Lent.{Taken}
 use Rattle.nf_words.specs.declared.answer.Goal.TheVariants as goal
 use Rattle.nf_words.specs.declared.answer.Reply.TheVariants as reply
 use Rattle.nf_session.specs.Prelude.{Answer, Bodies, Closes, CountsFault, failed_first, file_front, Heads, Invites, IsResponse, is_early, Judges, OnlyAsks, OnlyReads, Passes, Scene, taken_length, TakesEarly, TakesIn, Writes, WritesPieces, Wrote}
@@ -99,10 +100,10 @@ wrote_goes {C} a b bytes wrote = record {
 pub heads_go : {C : Type 0} (a b : Scene C) (most : ℕ) (found : Option Head) → Heads a b (Ok found) → Goes a b most 0 None
 heads_go {C} a b most found heads = reads_go a b most None heads.only (heads.cause, ap (λ (x : Scene C). x.write_faults) heads.only)
 
-pub judges_go : {C : Type 0} (reads : C → ℕ → C → Type 0) (head : Head) (body : List ℕ) (a b : Scene C) (v : Begun)
+pub judges_go : {C : Type 0} (reads : C → Taken → C → Type 0) (head : Head) (body : List ℕ) (a b : Scene C) (v : Begun)
     → Judges reads head body a b v → Goes a b 1 0 None
 judges_go reads head body a b (begun.Unasked refusal) (is, same) = same_goes a b 1 same
-judges_go reads head body a b (begun.Asked answer) (r, now, asked, read, begins, only) =
+judges_go reads head body a b (begun.Asked answer) (r, now, words, asked, read, begins, only) =
     asks_go a b 1 0 only (begins_move a.book b.book now _ r answer begins)
 
 -- nobody waited to be told, or was told
@@ -129,7 +130,7 @@ plain_response other v is = ap failed_first is
 plain_goes : {C : Type 0} (a b : Scene C) (answer : Answer) (v : Response) → IsResponse answer v → Goes a b 1 0 None → Goes a b 1 (failed_first v) None
 plain_goes a b answer v is goes = subst (λ (z : ℕ). Goes a b 1 z None) (sym (plain_response answer v is)) goes
 
-pub passes_go : {C : Type 0} (reads : C → ℕ → C → Type 0) (body : List ℕ) (a b : Scene C) (u : Begun) (v : Response)
+pub passes_go : {C : Type 0} (reads : C → Taken → C → Type 0) (body : List ℕ) (a b : Scene C) (u : Begun) (v : Response)
     → Passes reads body a b u v → Goes a b 1 (failed_first v) None
 passes_go reads body a b (begun.Unasked refusal) v (is, same) = plain_goes a b (Err refusal) v is (same_goes a b 1 same)
 passes_go reads body a b (begun.Asked (Ok (reply.Granted (goal.Serve content)))) v starts =
@@ -138,7 +139,7 @@ passes_go reads body a b (begun.Asked (Ok (reply.Granted (goal.Store by key leng
     plain_goes a b answer v is (asks_go a b 1 0 only (enters_move a.book b.book now _ answer ends.enters))
 passes_go reads body a b (begun.Asked answer) v passes = plain_goes a b answer v passes.0 (same_goes a b 1 passes.1)
 
-pub takes_go : {C : Type 0} (reads : C → ℕ → C → Type 0) (head : Head) (a b : Scene C) (u : Begun) (v : Response)
+pub takes_go : {C : Type 0} (reads : C → Taken → C → Type 0) (head : Head) (a b : Scene C) (u : Begun) (v : Response)
     → TakesIn reads head a b u (Ok v) → Goes a b 1 (failed_first v) None
 takes_go reads head a b u v (m, body, bodies, passes) =
     goes_first (bodies_go a m (taken_length head u) body bodies) (passes_go reads body m b u v passes)
@@ -158,7 +159,7 @@ writes_go manner (response.File content first) a b (given, writes, all, unstruck
     pieces_go manner.close content first a b given 0 writes (inl (refl, unstruck))
 writes_go manner other a b wrote = wrote_goes a b _ wrote
 
-pub closes_go : {C : Type 0} (reads : C → ℕ → C → Type 0) (how : Ending) (granted : Bool) (a b : Scene C) → Closes reads how granted a b
+pub closes_go : {C : Type 0} (reads : C → Taken → C → Type 0) (how : Ending) (granted : Bool) (a b : Scene C) → Closes reads how granted a b
     → Goes a b 1 0 None
 closes_go reads how true a b (now, read, ends, only) = asks_go a b 1 0 only (ends_move a.book b.book now how _ ends)
 closes_go reads how false a b same = same_goes a b 1 same

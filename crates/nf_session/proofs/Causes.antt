@@ -7,6 +7,7 @@ use Rattle.nf_http.specs.Filling.{HasReadCause}
 use Rattle.nf_http.specs.Head.{Head}
 use Rattle.nf_http.specs.declared.wire.WireFault.{WireFault}
 use Rattle.nf_http.specs.declared.wire.WireFault.TheVariants as wire
+use Rattle.nf_outside.specs.Lent.{Taken}
 use Rattle.nf_words.specs.declared.answer.Denial.{Denial}
 use Rattle.nf_words.specs.declared.answer.Denial.TheVariants as denial
 use Rattle.nf_dav.specs.Reply.{continue_reply}
@@ -152,7 +153,7 @@ refused_goes {C} T a m b other by only cause ends =
 
 -- ---- a turn
 
-pub answers_go : {C : Type 0} (reads : C → ℕ → C → Type 0) (last : Bool) (head : Head) (u : Begun) (a b : Scene C) (end : Option Ended)
+pub answers_go : {C : Type 0} (reads : C → Taken → C → Type 0) (last : Bool) (head : Head) (u : Begun) (a b : Scene C) (end : Option Ended)
     → (answers : Answers reads last head u a b end) → Goes a b 2 (failed_first answers.response + failed_behind answers.result) end
 answers_go reads last head u a b end answers =
     ends_as end (end_by answers.result) answers.ends
@@ -160,7 +161,7 @@ answers_go reads last head u a b end answers =
     (goes_last (responds_go last (way_of head u) answers.response answers.taken answers.sent answers.result answers.responds)
     (closes_go reads _ _ answers.sent b answers.closes)))
 
-pub short_goes : {C : Type 0} (reads : C → ℕ → C → Type 0) (head : Head) (u : Begun) (a b : Scene C) (end : Option Ended)
+pub short_goes : {C : Type 0} (reads : C → Taken → C → Type 0) (head : Head) (u : Begun) (a b : Scene C) (end : Option Ended)
     → CutsShort reads head u a b end → Goes a b 1 0 end
 short_goes reads head u a b end cut =
     ends_as end (Some cut.by) cut.ends
@@ -172,14 +173,14 @@ early_short_goes head a b end cut =
     ends_as end (Some cut.by) cut.ends
     (refused_goes ℕ a cut.cut b cut.fault cut.by cut.takes.1.only cut.takes.1.cause cut.responds)
 
-stops_go : {C : Type 0} (reads : C → ℕ → C → Type 0) (head : Head) (u : Begun) (a b : Scene C) (end : Option Ended)
+stops_go : {C : Type 0} (reads : C → Taken → C → Type 0) (head : Head) (u : Begun) (a b : Scene C) (end : Option Ended)
     → StopsShort reads head u a b end → Goes a b 1 0 end
 stops_go reads head u a b end stops =
     let p = sends_failed (Unit {0}) a stops.sent continue_reply stops.by (stops_sends head u a stops.sent (Unit {0}) stops.by stops.invites) in
     ends_as end (Some ended.WriteFault) (stops.ends ∙ ap (λ (e : Ended). Some e) p.0)
     (goes_last (part_goes a stops.sent continue_reply p.1) (closes_go reads ending.Gone _ stops.sent b stops.closes))
 
-pub turn_goes : {C : Type 0} (reads : C → ℕ → C → Type 0) (last : Bool) (a b : Scene C) (end : Option Ended) (turn : Turn reads last a b end)
+pub turn_goes : {C : Type 0} (reads : C → Taken → C → Type 0) (last : Bool) (a b : Scene C) (end : Option Ended) (turn : Turn reads last a b end)
     → Goes a b 3 (failed_pieces reads last a b end turn) end
 turn_goes {C} reads last a b end (inl (heads, is)) =
     ends_as end (Some ended.Closed) is (goes_to (Some ended.Closed) refl (heads_go a b 3 None heads))
@@ -205,7 +206,7 @@ turn_goes reads last a b end (inr (inr (m, head, heads, inr (n, body, takes, (op
 
 -- ---- a session
 
-pub through_goes : {C : Type 0} (reads : C → ℕ → C → Type 0) (a : Scene C) (scenes : List (Scene C)) (b : Scene C) (through : Through reads a scenes b)
+pub through_goes : {C : Type 0} (reads : C → Taken → C → Type 0) (a : Scene C) (scenes : List (Scene C)) (b : Scene C) (through : Through reads a scenes b)
     → Goes a b (3 * length scenes) (failed_through reads a scenes b through) None
 through_goes reads a [] b through = same_goes a b 0 (sym through)
 through_goes reads a (m ∷ scenes) b through =
@@ -215,11 +216,11 @@ through_goes reads a (m ∷ scenes) b through =
     more : (n : ℕ) → 3 + 3 * n ≡ 3 * suc n
     more n = omega arith
 
-pub session_goes : {C : Type 0} (reads : C → ℕ → C → Type 0) (a b : Scene C) (end : Option Ended) (session : Session reads a b end)
+pub session_goes : {C : Type 0} (reads : C → Taken → C → Type 0) (a b : Scene C) (end : Option Ended) (session : Session reads a b end)
     → Goes a b (3 * length session.scenes + 3) (failed_in reads a b end session) end
 session_goes reads a b end session =
     goes_then (through_goes reads a session.scenes session.before session.through) (turn_goes reads _ session.before b end session.turn)
 
-pub session_follows : {C : Type 0} (reads : C → ℕ → C → Type 0) → SessionsFollow reads
+pub session_follows : {C : Type 0} (reads : C → Taken → C → Type 0) → SessionsFollow reads
 session_follows reads a b end session =
     let all = session_goes reads a b end session in record { lasts = all.book.onward.lasts; counts = all.counts }

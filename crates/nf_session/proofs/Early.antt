@@ -2,6 +2,7 @@
 use Rattle.std.proofs.Common.{◌≡◌, ℕ, List, [], refl, sym, ◌∙◌, ap, subst, inl, inr, Ok}
 use Rattle.std.specs.Prelude.{Bool, true, false, MatchBool, Option}
 use Rattle.nf_http.specs.Head.{Head, length_of}
+use Rattle.nf_outside.specs.Lent.{Taken}
 use Rattle.nf_session.specs.Prelude.{Bodies, Meets, MeetsWith, Scene, TakesEarly, is_early}
 use Rattle.nf_session.specs.declared.ended.Ended.{Ended}
 
@@ -32,7 +33,7 @@ none_early {C} head a is =
     subst (λ (early : Bool). MatchBool early (Bodies a a (length_of head) []) ((◌≡◌ {A = List ℕ} [] []) × (a ≡ a))) (sym is) (refl, refl)
 
 -- and the request is met at once
-pub meets_at_once : {C : Type 0} (reads : C → ℕ → C → Type 0) (last : Bool) (head : Head) (a b : Scene C) (end : Option Ended)
+pub meets_at_once : {C : Type 0} (reads : C → Taken → C → Type 0) (last : Bool) (head : Head) (a b : Scene C) (end : Option Ended)
     → is_early head ≡ false → Meets reads last head a b end → MeetsWith reads last head [] a b end
 meets_at_once reads last head a b end is (inl cut) = let never : true ≡ false = sym cut.takes.0 ∙ is in absurd (cc)
 meets_at_once {C} reads last head a b end is (inr (m, body, takes, meets)) =

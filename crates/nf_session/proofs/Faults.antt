@@ -1,9 +1,10 @@
 -- What a turn that ends by a fault of reading did.
-use Rattle.std.proofs.Common.{◌≡◌, ℕ, refl, sym, ◌∙◌, ap, subst, inl, inr, Result, Err}
+use Rattle.std.proofs.Common.{◌≡◌, refl, sym, ◌∙◌, ap, subst, inl, inr, Result, Err}
 use Rattle.std.specs.Prelude.{Bool, false, Option, Some}
 use Rattle.nf_http.specs.declared.wire.WireFault.{WireFault}
 use Rattle.nf_http.specs.declared.wire.WireFault.TheVariants as wire
 use Rattle.nf_dav.specs.Reply.{continue_reply}
+use Rattle.nf_outside.specs.Lent.{Taken}
 use Rattle.nf_session.specs.Laws.{ReadFaultsStoreNothing}
 use Rattle.nf_session.specs.Prelude.{Closes, Cuts, cutting, end_by, end_of, EndsBy, Heads, is_granted, Responds, Scene, Sends, taken_length, TakesEarly, Way, way_of}
 use Rattle.nf_session.specs.declared.backend.Ending.TheVariants as ending
@@ -30,7 +31,7 @@ ends_read a b wire.Memory ends = let never : ended.ReadFault ≡ ended.Memory = 
 ends_read a b other ends = absurd ends
 
 -- no head was taken; or less than its body was
-pub read_fault : {C : Type 0} (reads : C → ℕ → C → Type 0) → ReadFaultsStoreNothing reads
+pub read_fault : {C : Type 0} (reads : C → Taken → C → Type 0) → ReadFaultsStoreNothing reads
 read_fault reads last a b (inl ends) = let never : ◌≡◌ {A = Option Ended} (Some ended.ReadFault) (Some ended.Closed) = ends.1 in absurd (cc)
 read_fault reads last a b (inr (inl (m, fault, by, heads, ends, is))) =
     let by_read = ends_read m b fault (subst (λ (z : Ended). EndsBy fault m b z) (read_by by is) ends) in

@@ -1,6 +1,7 @@
 -- What a session counts of the failures of its store.
 use Rattle.std.proofs.Common.{◌≡◌, ◌⊎◌, ℕ, ◌+◌, ◌-◌, ◌^◌, ◌≤◌, inl, inr, arith}
 use Rattle.std.specs.Prelude.{min}
+use Rattle.nf_outside.specs.Lent.{Taken}
 use Rattle.nf_session.specs.Laws.{Counted, StrikesCount, failed_entries, failed_in}
 use Rattle.nf_session.proofs.Causes.{session_goes}
 use Rattle.nf_session.proofs.Moving.{Rises}
@@ -12,7 +13,7 @@ counts a b n (inr p) = here (a + n) p.1
     here : (all : ℕ) → b ≡ min all (2 ^ 64 - 1) → (b ≡ all) ⊎ ((b ≡ 2 ^ 64 - 1) × (b ≤ all))
     here all is = grind arith
 
-pub session_counts : {C : Type 0} (reads : C → ℕ → C → Type 0) → StrikesCount reads
+pub session_counts : {C : Type 0} (reads : C → Taken → C → Type 0) → StrikesCount reads
 session_counts reads a b end session =
     let moves = (session_goes reads a b end session).book in
     record {

@@ -2,6 +2,7 @@
 use Rattle.std.proofs.Common.{◌≡◌, ℕ, List, refl, sym, ◌∙◌, subst, Ok}
 use Rattle.std.specs.Prelude.{None, Some}
 use Rattle.nf_http.specs.Head.{Head}
+use Rattle.nf_outside.specs.Lent.{Taken}
 use Rattle.nf_words.specs.declared.answer.Goal.TheVariants as goal
 use Rattle.nf_words.specs.declared.answer.Reply.TheVariants as reply
 use Rattle.nf_session.specs.Prelude.{Bodies, Passes, Scene, StoresBody, taken_length, TakesIn}
@@ -14,7 +15,7 @@ taken_none : (head : Head) (v : Begun) → stored_length v ≡ None → taken_le
 taken_none head (begun.Asked (Ok (reply.Granted (goal.Store by key length)))) none = absurd (cc)
 taken_none head other none = refl
 
-module _ {C : Type 0} (reads : C → ℕ → C → Type 0) (head : Head) (a m b : Scene C) (v : Begun) (w : Response) where
+module _ {C : Type 0} (reads : C → Taken → C → Type 0) (head : Head) (a m b : Scene C) (v : Begun) (w : Response) where
   -- it was to be stored
   pub take_stored : (n : ℕ) (body : List ℕ) → stored_length v ≡ Some n → Bodies a m n body → StoresBody reads body m b w → TakesIn reads head a b v (Ok w)
   take_stored n body is bodies stores = here v is

@@ -5,6 +5,7 @@ use Rattle.std.specs.Prelude.{Bool, true, false, ◌||◌, ◌==◌, Option, Non
 use Rattle.nf_base.specs.declared.limits.TheConstants.{MAX_MESSAGES}
 use Rattle.nf_http.specs.Head.{Head, closes_session}
 use Rattle.nf_http.specs.declared.wire.WireFault.{WireFault}
+use Rattle.nf_outside.specs.Lent.{Taken}
 use Rattle.nf_session.specs.Prelude.{Answers, Closes, CutsEarly, CutsShort, end_by, EndsBy, Heads, how_of, Invites, is_granted, is_unsent, Judges, Meets, MeetsWith, Responds, Says, Scene, Sends, Session, stays_granted, StopsShort, TakesEarly, TakesIn, Through, Turn, WrotePart}
 use Rattle.nf_session.specs.Turn.{way_by}
 use Rattle.nf_session.specs.declared.backend.Ending.{Ending}
@@ -38,7 +39,7 @@ says_so {C} {T} a b items want (Err e) result is sends none =
 -- ---- a message
 
 -- its sender couldn't be told
-pub meets_stopped : {C : Type 0} (reads : C → ℕ → C → Type 0) (last : Bool) (head : Head) (body : List ℕ) (a m n b : Scene C) (begun : Begun)
+pub meets_stopped : {C : Type 0} (reads : C → Taken → C → Type 0) (last : Bool) (head : Head) (body : List ℕ) (a m n b : Scene C) (begun : Begun)
     (by : Ended) (granted : Bool) → Judges reads head body a m begun → Invites {T = Unit {0}} head begun m n (Err by)
     → granted ≡ is_granted begun → Closes reads ending.Gone granted n b → MeetsWith reads last head body a b (Some by)
 meets_stopped reads last head body a m n b begun by granted judged invites granted_is closed =
@@ -51,7 +52,7 @@ meets_stopped reads last head body a m n b begun by granted judged invites grant
     } in
     (m, begun, judged, inl stops)
 
-module _ {C : Type 0} (reads : C → ℕ → C → Type 0) (last : Bool) (head : Head) (body : List ℕ) (a m n t s b : Scene C) (begun : Begun)
+module _ {C : Type 0} (reads : C → Taken → C → Type 0) (last : Bool) (head : Head) (body : List ℕ) (a m n t s b : Scene C) (begun : Begun)
     (judged : Judges reads head body a m begun) (invites : Invites {T = Unit {0}} head begun m n (Ok tt)) where
   pub meets_answered : (closes : Bool) (v : Response) (written : Result (Option Ended) Ended) (granted : Bool) (how : Ending)
       (end : Option Ended) → TakesIn reads head n t begun (Ok v) → closes ≡ (closes_session head || is_unsent head begun)
@@ -87,7 +88,7 @@ module _ {C : Type 0} (reads : C → ℕ → C → Type 0) (last : Bool) (head :
       (m, begun, judged, inr (n, invites, inr cuts))
 
 -- its early body was cut
-pub meets_early : {C : Type 0} (reads : C → ℕ → C → Type 0) (last : Bool) (head : Head) (a m b : Scene C) (fault : WireFault) (by : Ended)
+pub meets_early : {C : Type 0} (reads : C → Taken → C → Type 0) (last : Bool) (head : Head) (a m b : Scene C) (fault : WireFault) (by : Ended)
     → TakesEarly head a m (Err fault) → EndsBy fault m b by → Meets reads last head a b (Some by)
 meets_early reads last head a m b fault by takes responds =
     let cuts : CutsEarly head a b (Some by) = record {
@@ -101,33 +102,33 @@ meets_early reads last head a m b fault by takes responds =
     inl cuts
 
 -- or taken
-pub meets_with : {C : Type 0} (reads : C → ℕ → C → Type 0) (last : Bool) (head : Head) (body : List ℕ) (a m b : Scene C) (end : Option Ended)
+pub meets_with : {C : Type 0} (reads : C → Taken → C → Type 0) (last : Bool) (head : Head) (body : List ℕ) (a m b : Scene C) (end : Option Ended)
     → TakesEarly head a m (Ok body) → MeetsWith reads last head body m b end → Meets reads last head a b end
 meets_with reads last head body a m b end takes meets = inr (m, body, takes, meets)
 
-pub turn_met : {C : Type 0} (reads : C → ℕ → C → Type 0) (last : Bool) (a m t b : Scene C) (head : Head) (found : Option Head)
+pub turn_met : {C : Type 0} (reads : C → Taken → C → Type 0) (last : Bool) (a m t b : Scene C) (head : Head) (found : Option Head)
     (end : Option Ended) → found ≡ Some head → Heads a m (Ok found) → Meets reads last head m t end → b ≡ t → Turn reads last a b end
 turn_met {C} reads last a m t b head found end is heads meets ended =
     let whole = subst (λ (z : Scene C). Meets reads last head m z end) (sym ended) meets in
     inr (inr (m, head, subst (λ (z : Option Head). Heads a m (Ok z)) is heads, whole))
 
-pub turn_failed : {C : Type 0} (reads : C → ℕ → C → Type 0) (last : Bool) (a m t b : Scene C) (fault : WireFault) (by : Ended)
+pub turn_failed : {C : Type 0} (reads : C → Taken → C → Type 0) (last : Bool) (a m t b : Scene C) (fault : WireFault) (by : Ended)
     → Heads a m (Err fault) → EndsBy fault m t by → b ≡ t → Turn reads last a b (Some by)
 turn_failed {C} reads last a m t b fault by heads ends ended =
     inr (inl (m, fault, by, heads, subst (λ (z : Scene C). EndsBy fault m z by) (sym ended) ends, refl))
 
 -- ---- a session
 
-through_more : {C : Type 0} (reads : C → ℕ → C → Type 0) (a : Scene C) (scenes : List (Scene C)) (m b : Scene C)
+through_more : {C : Type 0} (reads : C → Taken → C → Type 0) (a : Scene C) (scenes : List (Scene C)) (m b : Scene C)
     → Through reads a scenes m → Turn reads false m b None → Through reads a (scenes ++ b ∷ []) b
 through_more reads a [] m b through turn = (subst (λ (z : Scene _). Turn reads false z b None) (sym through) turn, refl)
 through_more reads a (s ∷ scenes) m b through turn = (through.0, through_more reads s scenes m b through.1 turn)
 
 -- so many messages were answered
-abbrev pub SoFar : {C : Type 0} → (C → ℕ → C → Type 0) → Scene C → Scene C → ℕ → Type 0
+abbrev pub SoFar : {C : Type 0} → (C → Taken → C → Type 0) → Scene C → Scene C → ℕ → Type 0
 SoFar {C} reads a b n = (scenes : List (Scene C)) × (length scenes ≡ n) × Through reads a scenes b
 
-pub so_far_more : {C : Type 0} (reads : C → ℕ → C → Type 0) (a m b : Scene C) (n : ℕ)
+pub so_far_more : {C : Type 0} (reads : C → Taken → C → Type 0) (a m b : Scene C) (n : ℕ)
     → SoFar reads a m n → Turn reads false m b None → SoFar reads a b (n + 1)
 so_far_more reads a m b n so_far turn = (
   so_far.0 ++ b ∷ [],
@@ -138,7 +139,7 @@ so_far_more reads a m b n so_far turn = (
 early : (n : ℕ) → n < MAX_MESSAGES - 1 → (n == MAX_MESSAGES - 1) ≡ false
 early n less = grind (arith, nat_tests)
 
-pub session_ends : {C : Type 0} (reads : C → ℕ → C → Type 0) (a m b : Scene C) (n : ℕ) (end : Ended)
+pub session_ends : {C : Type 0} (reads : C → Taken → C → Type 0) (a m b : Scene C) (n : ℕ) (end : Ended)
     → SoFar reads a m n → n < MAX_MESSAGES - 1 → Turn reads false m b (Some end) → Session reads a b (Some end)
 session_ends reads a m b n end so_far less turn = record {
   scenes = so_far.0;
@@ -149,7 +150,7 @@ session_ends reads a m b n end so_far less turn = record {
   full = λ none. cc;
 }
 
-pub session_full : {C : Type 0} (reads : C → ℕ → C → Type 0) (a m b : Scene C) (n : ℕ) (end : Option Ended)
+pub session_full : {C : Type 0} (reads : C → Taken → C → Type 0) (a m b : Scene C) (n : ℕ) (end : Option Ended)
     → n ≡ MAX_MESSAGES - 1 → SoFar reads a m n → Turn reads true m b end → Session reads a b end
 session_full reads a m b n end is so_far turn = record {
   scenes = so_far.0;

@@ -5,6 +5,7 @@ use Rattle.nf_base.specs.declared.limits.TheConstants.{MAX_MESSAGES}
 use Rattle.nf_http.specs.Head.{Head}
 use Rattle.nf_http.specs.declared.wire.WireFault.{WireFault}
 use Rattle.nf_http.specs.declared.wire.WireFault.TheVariants as wire
+use Rattle.nf_outside.specs.Lent.{Taken}
 use Rattle.nf_words.specs.Prelude.{answer_at, goal_at, replay, State}
 use Rattle.nf_words.specs.declared.answer.Denial.TheVariants as denial
 use Rattle.nf_words.specs.declared.history.Entry.{Entry}
@@ -29,7 +30,7 @@ pub record LosesEarly {C : Type 0} (a b : Scene C) (fault : WireFault) : Type 0 
   pub cuts : TakesEarly head headed b (Err fault)
 
 -- a head was taken and less than its body, and what was granted is gone
-pub record LosesBody {C : Type 0} (reads : C → ℕ → C → Type 0) (a b : Scene C) (fault : WireFault) : Type 0 where
+pub record LosesBody {C : Type 0} (reads : C → Taken → C → Type 0) (a b : Scene C) (fault : WireFault) : Type 0 where
   pub headed : Scene C
   pub head : Head
   pub taken : Scene C
@@ -46,7 +47,7 @@ pub record LosesBody {C : Type 0} (reads : C → ℕ → C → Type 0) (a b : Sc
   pub closed : Closes reads ending.Gone (is_granted begun) cut b
 
 -- at a fault of reading no head was taken and nothing was done, or less than a body was, and that is gone: nothing is stored
-abbrev pub ReadFaultsStoreNothing : {C : Type 0} → (C → ℕ → C → Type 0) → Type 0
+abbrev pub ReadFaultsStoreNothing : {C : Type 0} → (C → Taken → C → Type 0) → Type 0
 ReadFaultsStoreNothing {C} reads =
     (last : Bool) (a b : Scene C) → Turn reads last a b (Some ended.ReadFault)
     → Heads a b (Err wire.ReadFault) ⊎ LosesEarly a b wire.ReadFault ⊎ LosesBody reads a b wire.ReadFault
@@ -62,7 +63,7 @@ pub record Follows {C : Type 0} (a b : Scene C) (end : Option Ended) : Type 0 wh
   pub lasts : Lasts a.book b.book
   pub counts : CountsFault end a.read_faults b.read_faults a.write_faults b.write_faults
 
-abbrev pub SessionsFollow : {C : Type 0} → (C → ℕ → C → Type 0) → Type 0
+abbrev pub SessionsFollow : {C : Type 0} → (C → Taken → C → Type 0) → Type 0
 SessionsFollow {C} reads = (a b : Scene C) (end : Option Ended) → Session reads a b end → Follows a b end
 
 -- ---- strikes
@@ -91,7 +92,7 @@ failed_behind (Ok end) = 0
 failed_behind (Err by) = failed_by by
 
 -- how many pieces the store failed at in a turn
-abbrev pub failed_pieces : {C : Type 0} (reads : C → ℕ → C → Type 0) (last : Bool) (a b : Scene C)
+abbrev pub failed_pieces : {C : Type 0} (reads : C → Taken → C → Type 0) (last : Bool) (a b : Scene C)
     (end : Option Ended)
     → Turn reads last a b end → ℕ
 failed_pieces reads last a b end (inl ended) = 0
@@ -122,7 +123,7 @@ failed_pieces reads last a b end (inr (inr (
 ))) = 0
 
 -- in some turns
-abbrev pub failed_through : {C : Type 0} (reads : C → ℕ → C → Type 0) (a : Scene C) (scenes : List (Scene C))
+abbrev pub failed_through : {C : Type 0} (reads : C → Taken → C → Type 0) (a : Scene C) (scenes : List (Scene C))
     (b : Scene C)
     → Through reads a scenes b → ℕ
 failed_through reads a [] b through = 0
@@ -130,7 +131,7 @@ failed_through reads a (m ∷ scenes) b through =
     failed_pieces reads false a m None through.0 + failed_through reads m scenes b through.1
 
 -- and in a session
-abbrev pub failed_in : {C : Type 0} (reads : C → ℕ → C → Type 0) (a b : Scene C) (end : Option Ended)
+abbrev pub failed_in : {C : Type 0} (reads : C → Taken → C → Type 0) (a b : Scene C) (end : Option Ended)
     → Session reads a b end → ℕ
 failed_in reads a b end session =
     failed_through reads a session.scenes session.before session.through
@@ -147,7 +148,7 @@ pub record CountsStrikes (a b : Book) (pieces : ℕ) : Type 0 where
   pub counted : Counted a.strikes (failed_entries entries + pieces) b.strikes
 
 -- a session tells every failure of the store that was met in it
-abbrev pub StrikesCount : {C : Type 0} → (C → ℕ → C → Type 0) → Type 0
+abbrev pub StrikesCount : {C : Type 0} → (C → Taken → C → Type 0) → Type 0
 StrikesCount {C} reads =
     (a b : Scene C) (end : Option Ended) (session : Session reads a b end)
     → CountsStrikes a.book b.book (failed_in reads a b end session)

@@ -4,5 +4,5 @@ pub use Rattle.nf_session.specs.Connections.{IsSame, scene}
 pub use Rattle.nf_session.specs.Files.{AreGiven, HaveBytes, IsGiven, SendsFile, WritesPieces, file_front}
 pub use Rattle.nf_session.specs.Laws.{CountsFault, failed_by, failed_entries, failed_first, failed_in}
 pub use Rattle.nf_session.specs.Session.{Session, Through}
-pub use Rattle.nf_session.specs.Steps.{Bodies, Closes, Cuts, EndsBy, EndsSo, Heads, Invites, IsFront, IsResponse, Judges, OnlyAsks, OnlyReads, OnlyWrites, Passes, Says, Scene, Sends, Starts, StartsFile, StoresBody, TakesEarly, TakesIn, Wrote, WrotePart, cutting, denial_of, is_early, is_granted, is_invited, is_unsent, left_length, no_words, taken_length}
+pub use Rattle.nf_session.specs.Steps.{Bodies, Closes, Cuts, EndsBy, EndsSo, Heads, Invites, IsFront, IsResponse, Judges, OnlyAsks, OnlyReads, OnlyWrites, Passes, Says, Scene, Sends, Starts, StartsFile, StoresBody, TakesEarly, TakesIn, Wrote, WrotePart, cutting, denial_of, is_early, is_granted, is_invited, is_unsent, left_length, taken_length}
 pub use Rattle.nf_session.specs.Turn.{Answers, CutsEarly, CutsShort, Meets, MeetsWith, Responds, StopsShort, Turn, Way, Writes, end_by, end_of, end_of_close, end_of_denial, how_of, manner_of, stays_granted, way_of}

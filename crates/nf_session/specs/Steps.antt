@@ -10,6 +10,7 @@ use Rattle.nf_http.specs.Head.{Head, length_of, expects_continue}
 use Rattle.nf_http.specs.Next.{IsNext, IsShownBy}
 use Rattle.nf_http.specs.declared.wire.WireFault.{WireFault}
 use Rattle.nf_http.specs.declared.wire.WireFault.TheVariants as wire
+use Rattle.nf_outside.specs.Lent.{Taken, a_reading, two_words}
 use Rattle.nf_words.specs.declared.answer.Denial.{Denial}
 use Rattle.nf_words.specs.declared.answer.Denial.TheVariants as denial
 use Rattle.nf_words.specs.declared.answer.Goal.{Goal}
@@ -30,7 +31,7 @@ use Rattle.nf_session.specs.declared.response.Response.{Response}
 use Rattle.nf_session.specs.declared.response.Response.TheVariants as response
 
 -- all that a session touches: the bytes that are left to read and those that were written, where they are told, what the
--- seat knows, the clock, and how often each end failed; of the bytes that are left, those that were read and not yet taken; and
+-- seat knows, the clock and the dice, and how often each end failed; of the bytes that are left, those that were read and not yet taken; and
 -- the method and target of each answer that the output was told of, where it tells them
 pub record Scene (C : Type 0) : Type 0 where
   pub input : Option (List ℕ)
@@ -38,7 +39,7 @@ pub record Scene (C : Type 0) : Type 0 where
   pub output : Option (List ℕ)
   pub answers : Option (List (List ℕ × List ℕ))
   pub book : Book
-  pub clock : C
+  pub lent : C
   pub read_faults : ℕ
   pub write_faults : ℕ
 
@@ -50,7 +51,7 @@ abbrev pub OnlyWrites : {C : Type 0} → Scene C → Scene C → Type 0
 OnlyWrites a b = b ≡ record a { output = b.output; write_faults = b.write_faults }
 
 abbrev pub OnlyAsks : {C : Type 0} → Scene C → Scene C → Type 0
-OnlyAsks a b = b ≡ record a { book = b.book; clock = b.clock }
+OnlyAsks a b = b ≡ record a { book = b.book; lent = b.lent }
 
 -- ---- reading
 
@@ -131,20 +132,17 @@ TakesEarly head a b (Err fault) = (is_early head ≡ true) × Cuts CutsBody a b 
 
 -- ---- the Begin
 
--- the words of chance of a Begin: none are drawn yet
-abbrev pub no_words : Words
-no_words = record { first = 0; second = 0 }
-
 -- the denial of a message without a request, or for which there is no memory
 abbrev pub IsUnasked : Head → List ℕ → Denial → Type 0
 IsUnasked head body refusal = (request_of head body ≡ Err refusal) ⊎ (refusal ≡ denial.Memory)
 
--- a message is judged by its head, and the body that was taken before
-abbrev pub Judges : {C : Type 0} → (C → ℕ → C → Type 0) → Head → List ℕ → Scene C → Scene C → Begun → Type 0
+-- a message is judged by its head, and the body that was taken before, at a reading of the clock and with two words of the dice
+abbrev pub Judges : {C : Type 0} → (C → Taken → C → Type 0) → Head → List ℕ → Scene C → Scene C → Begun → Type 0
 Judges reads head body a b (begun.Unasked refusal) = IsUnasked head body refusal × (b ≡ a)
-Judges reads head body a b (begun.Asked answer) =
-    (r : Request) × (now : ℕ) × (request_of head body ≡ Ok r) × reads a.clock now b.clock
-    × Begins a.book b.book now no_words r answer × OnlyAsks a b
+Judges {C} reads head body a b (begun.Asked answer) =
+    (r : Request) × (now : ℕ) × (words : Words) × (request_of head body ≡ Ok r)
+    × ((m : C) × reads a.lent (a_reading now) m × reads m (two_words words.first words.second) b.lent)
+    × Begins a.book b.book now words r answer × OnlyAsks a b
 
 -- something is granted, until it is ended
 abbrev pub is_granted : Begun → Bool
@@ -240,19 +238,19 @@ pub record StartsFile {C : Type 0} (a b : Scene C) (content : List Piece) (v : R
   pub starts : Starts a.book b.book content v
 
 -- a body that was taken is brought to its End
-abbrev pub StoresBody : {C : Type 0} → (C → ℕ → C → Type 0) → List ℕ → Scene C → Scene C → Response → Type 0
+abbrev pub StoresBody : {C : Type 0} → (C → Taken → C → Type 0) → List ℕ → Scene C → Scene C → Response → Type 0
 StoresBody reads body a b v =
-    (now : ℕ) × (answer : Answer) × reads a.clock now b.clock × EndsBody a.book b.book now body answer
+    (now : ℕ) × (answer : Answer) × reads a.lent (a_reading now) b.lent × EndsBody a.book b.book now body answer
     × IsResponse answer v × OnlyAsks a b
 
 -- what the body makes of what was begun
-abbrev pub Passes : {C : Type 0} → (C → ℕ → C → Type 0) → List ℕ → Scene C → Scene C → Begun → Response → Type 0
+abbrev pub Passes : {C : Type 0} → (C → Taken → C → Type 0) → List ℕ → Scene C → Scene C → Begun → Response → Type 0
 Passes reads body a b (begun.Unasked refusal) v = (v ≡ response.Denied refusal) × (b ≡ a)
 Passes reads body a b (begun.Asked (Ok (reply.Granted (goal.Serve content)))) v = StartsFile a b content v
 Passes reads body a b (begun.Asked (Ok (reply.Granted (goal.Store by key length)))) v = StoresBody reads body a b v
 Passes reads body a b (begun.Asked answer) v = IsResponse answer v × (b ≡ a)
 
-abbrev pub TakesIn : {C : Type 0} → (C → ℕ → C → Type 0) → Head → Scene C → Scene C → Begun
+abbrev pub TakesIn : {C : Type 0} → (C → Taken → C → Type 0) → Head → Scene C → Scene C → Begun
     → Result Response WireFault → Type 0
 TakesIn {C} reads head a b begun (Ok v) =
     (m : Scene C) × (body : List ℕ) × Bodies a m (taken_length head begun) body × Passes reads body m b begun v
@@ -266,9 +264,9 @@ IsClosing ending.Sent = Unit {0}
 IsClosing ending.Gone = Unit {0}
 IsClosing (ending.Body bytes) = ⊥
 
-abbrev pub Closes : {C : Type 0} → (C → ℕ → C → Type 0) → Ending → Bool → Scene C → Scene C → Type 0
+abbrev pub Closes : {C : Type 0} → (C → Taken → C → Type 0) → Ending → Bool → Scene C → Scene C → Type 0
 Closes reads how true a b =
-    (now : ℕ) × reads a.clock now b.clock × Ends a.book b.book now how (Ok reply.Closed) × OnlyAsks a b
+    (now : ℕ) × reads a.lent (a_reading now) b.lent × Ends a.book b.book now how (Ok reply.Closed) × OnlyAsks a b
 Closes reads how false a b = b ≡ a
 
 -- ---- no message

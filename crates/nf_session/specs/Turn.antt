@@ -2,6 +2,7 @@
 use Rattle.std.specs.Prelude.{◌≡◌, ◌⊎◌, ℕ, Bool, true, false, ◌||◌, bytes_eq, codes, List, Option, None, Some, is_some, Result, Ok, Err, if◌then◌else◌}
 use Rattle.nf_http.specs.Head.{Head, closes_session}
 use Rattle.nf_http.specs.declared.wire.WireFault.{WireFault}
+use Rattle.nf_outside.specs.Lent.{Taken}
 use Rattle.nf_words.specs.declared.answer.Denial.{Denial}
 use Rattle.nf_words.specs.declared.answer.Denial.TheVariants as denial
 use Rattle.nf_dav.specs.Reply.{refusal_reply, listing_reply, made_reply, done_reply, share_reply, shares_reply, plain_reply}
@@ -112,7 +113,7 @@ end_by (Err by) = Some by
 -- ---- a message
 
 -- the body was taken, and the message answered
-pub record Answers {C : Type 0} (reads : C → ℕ → C → Type 0) (last : Bool) (head : Head) (begun : Begun)
+pub record Answers {C : Type 0} (reads : C → Taken → C → Type 0) (last : Bool) (head : Head) (begun : Begun)
     (a b : Scene C) (end : Option Ended) : Type 0 where
   pub taken : Scene C
   pub sent : Scene C
@@ -124,7 +125,7 @@ pub record Answers {C : Type 0} (reads : C → ℕ → C → Type 0) (last : Boo
   pub ends : end ≡ end_by result
 
 -- or it was cut: what was granted is gone
-pub record CutsShort {C : Type 0} (reads : C → ℕ → C → Type 0) (head : Head) (begun : Begun)
+pub record CutsShort {C : Type 0} (reads : C → Taken → C → Type 0) (head : Head) (begun : Begun)
     (a b : Scene C) (end : Option Ended) : Type 0 where
   pub cut : Scene C
   pub sent : Scene C
@@ -136,7 +137,7 @@ pub record CutsShort {C : Type 0} (reads : C → ℕ → C → Type 0) (head : H
   pub ends : end ≡ Some by
 
 -- or its sender couldn't be told to send it: what was granted is gone
-pub record StopsShort {C : Type 0} (reads : C → ℕ → C → Type 0) (head : Head) (begun : Begun)
+pub record StopsShort {C : Type 0} (reads : C → Taken → C → Type 0) (head : Head) (begun : Begun)
     (a b : Scene C) (end : Option Ended) : Type 0 where
   pub sent : Scene C
   pub by : Ended
@@ -154,7 +155,7 @@ pub record CutsEarly {C : Type 0} (head : Head) (a b : Scene C) (end : Option En
   pub ends : end ≡ Some by
 
 -- the request is judged, and whoever waits for it is told to send the body
-abbrev pub MeetsWith : {C : Type 0} → (C → ℕ → C → Type 0) → Bool → Head → List ℕ → Scene C → Scene C → Option Ended → Type 0
+abbrev pub MeetsWith : {C : Type 0} → (C → Taken → C → Type 0) → Bool → Head → List ℕ → Scene C → Scene C → Option Ended → Type 0
 MeetsWith {C} reads last head body a b end =
     (m : Scene C) × (begun : Begun) × Judges reads head body a m begun
     × (StopsShort reads head begun m b end
@@ -162,13 +163,13 @@ MeetsWith {C} reads last head body a b end =
     × (Answers reads last head begun n b end ⊎ CutsShort reads head begun n b end)))
 
 -- what becomes of a head that was taken: the body that its request may go by is taken, or cut; and the request is met
-abbrev pub Meets : {C : Type 0} → (C → ℕ → C → Type 0) → Bool → Head → Scene C → Scene C → Option Ended → Type 0
+abbrev pub Meets : {C : Type 0} → (C → Taken → C → Type 0) → Bool → Head → Scene C → Scene C → Option Ended → Type 0
 Meets {C} reads last head a b end =
     CutsEarly head a b end
     ⊎ ((m : Scene C) × (body : List ℕ) × TakesEarly head a m (Ok body) × MeetsWith reads last head body m b end)
 
 -- one turn: the input ended; or no message stands at its front; or one was taken
-abbrev pub Turn : {C : Type 0} → (C → ℕ → C → Type 0) → Bool → Scene C → Scene C → Option Ended → Type 0
+abbrev pub Turn : {C : Type 0} → (C → Taken → C → Type 0) → Bool → Scene C → Scene C → Option Ended → Type 0
 Turn {C} reads last a b end =
     (Heads a b (Ok None) × (end ≡ Some ended.Closed))
     ⊎ ((m : Scene C) × (fault : WireFault) × (by : Ended) × Heads a m (Err fault) × EndsBy fault m b by

@@ -1,22 +1,23 @@
 //! What follows from the definitions. Each function does nothing, and its clause is the law.
 
+ghost use Rattle.nf_outside.specs.Lent.{takes};
 ghost use Rattle.nf_session.specs.Laws.{HeldIsTicket, OwnGrows, ReadFaultsStoreNothing, SessionsFollow, StrikesCount};
 
-use nf_outside::Clock;
+use nf_outside::{Clock, Dice};
 
 /// A fault of reading stores nothing: no body that wasn't taken whole comes to an End.
-pub fn read_faults_store_nothing<C: Clock>()
-    ensures { ReadFaultsStoreNothing C.reads }
+pub fn read_faults_store_nothing<C: Clock, D: Dice>()
+    ensures { ReadFaultsStoreNothing (takes C.reads D.draws) }
 {}
 
 /// A session counts a fault of its input or output where it ends by that, and nowhere else; what its seat knows only goes on.
-pub fn sessions_follow<C: Clock>()
-    ensures { SessionsFollow C.reads }
+pub fn sessions_follow<C: Clock, D: Dice>()
+    ensures { SessionsFollow (takes C.reads D.draws) }
 {}
 
 /// A session counts each failure of the store: those by which its own entries are answered, and those of pieces that it sends.
-pub fn strikes_count<C: Clock>()
-    ensures { StrikesCount C.reads }
+pub fn strikes_count<C: Clock, D: Dice>()
+    ensures { StrikesCount (takes C.reads D.draws) }
 {}
 
 /// What a seat holds by its own entries is its ticket in the state of all that it has seen.

@@ -4,6 +4,7 @@ ghost use Rattle.std.specs.Prelude.{◌≡◌, ◌<◌, ◌≤◌, ℕ, List, []
 ghost use Rattle.std.specs.List.{concat};
 ghost use Rattle.nf_base.specs.declared.limits.TheConstants.{MAX_HEAD};
 ghost use Rattle.nf_http.specs.Bodies.{CutsBody, CutsRead};
+ghost use Rattle.nf_outside.specs.Lent.{takes};
 ghost use Rattle.nf_words.specs.declared.answer.Goal.TheVariants.{Serve};
 ghost use Rattle.nf_routes.specs.Targets.{is_ocs as begins_with_ocs};
 ghost use Rattle.nf_session.specs.Book.{MayEnd, held};
@@ -25,16 +26,10 @@ use nf_dav::{
     share, shares,
 };
 use nf_http::{Buffer, Message, WireFault, next_message, read_body, send, skip_body};
-use nf_outside::{Clock, Sink, Source};
+use nf_outside::{Clock, Dice, Sink, Source};
 use nf_routes::{Routes, is_ocs};
 use nf_words::{Denial, Goal, Reply, Words};
 use std::alloc::{AllocError, Global};
-
-/// The words of chance of a Begin: none are drawn yet.
-const NO_WORDS: Words = Words {
-    first: 0,
-    second: 0,
-};
 
 /// The most bytes of a first piece that is written with its head in one call, so that both leave in one run of packets. A
 /// longer one isn't worth the copy.
@@ -49,21 +44,49 @@ const LAST: Manner = Manner {
 
 /// The two ends of a connection, the bytes that were read and not yet taken, and what its messages are answered from.
 #[derive(Drop)]
-pub struct Connection<'t, 'r, 'i, 'o, 'c, 'b, S: Source, O: Sink, C: Clock, B: Backend> {
+pub struct Connection<
+    't,
+    'r,
+    'i,
+    'o,
+    'c,
+    'd,
+    'b,
+    S: Source,
+    O: Sink,
+    C: Clock,
+    D: Dice,
+    B: Backend,
+> {
     pub alloc: Global,
     pub routes: &'t Routes,
     pub buffer: &'r mut Buffer,
     pub input: &'i mut S,
     pub output: &'o mut O,
     pub clock: &'c mut C,
+    pub dice: &'d mut D,
     pub backend: &'b mut B,
 }
 
-impl<'t, 'r, 'i, 'o, 'c, 'b, S, O, C, B> Connection<'t, 'r, 'i, 'o, 'c, 'b, S, O, C, B>
+impl<'t, 'r, 'i, 'o, 'c, 'd, 'b, S, O, C, D, B> Connection<
+    't,
+    'r,
+    'i,
+    'o,
+    'c,
+    'd,
+    'b,
+    S,
+    O,
+    C,
+    D,
+    B,
+>
 where
     S: Source,
     O: Sink,
     C: Clock,
+    D: Dice,
     B: Backend,
 {
     // Takes the head at the front of the input, and tells the output of its answer.
@@ -149,14 +172,15 @@ where
     fn begin(&mut self, message: &Message, body: &[u8]) -> Begun
         requires { held (B.book self.old.backend.now) ≡ None }
         ensures same { IsSame B.Backend self.old self.new }
-        ensures judges { Judges C.reads message.now body.now (scene S.Ends O.Ends B.Backend self.old)
+        ensures judges { Judges (takes C.reads D.draws) message.now body.now (scene S.Ends O.Ends B.Backend self.old)
             (scene S.Ends O.Ends B.Backend self.new) result }
         ensures begun { IsBegun (B.book self.new.backend.now) result }
     {
         match request(self.routes, self.alloc, message, body) {
             Ok(request) => {
                 let now = Moment::new(self.clock.now());
-                Begun::Asked(self.backend.begin(now, NO_WORDS, request))
+                let words = words_of(self.dice);
+                Begun::Asked(self.backend.begin(now, words, request))
             }
             Err(Unasked::Refused(denial)) => Begun::Unasked(denial),
             Err(Unasked::Memory) => Begun::Unasked(Denial::Memory),
@@ -187,7 +211,7 @@ where
         requires begun { IsBegun (B.book self.old.backend.now) begun }
         requires skipped { skipped ≡ skipped_length message.now begun }
         ensures same { IsSame B.Backend self.old self.new }
-        ensures takes { TakesIn C.reads message.now (scene S.Ends O.Ends B.Backend self.old)
+        ensures takes { TakesIn (takes C.reads D.draws) message.now (scene S.Ends O.Ends B.Backend self.old)
             (scene S.Ends O.Ends B.Backend self.new) begun result }
         ensures responding { IfOk result (IsResponding (B.book self.new.backend.now)) }
         ensures cut { OnErr result (B.book self.new.backend.now ≡ B.book self.old.backend.now) }
@@ -211,7 +235,7 @@ where
         requires begun { IsBegun (B.book self.old.backend.now) begun }
         requires unstored { stored_length begun ≡ None }
         ensures same { IsSame B.Backend self.old self.new }
-        ensures passes { (body : List ℕ) → Passes C.reads body (scene S.Ends O.Ends B.Backend self.old)
+        ensures passes { (body : List ℕ) → Passes (takes C.reads D.draws) body (scene S.Ends O.Ends B.Backend self.old)
             (scene S.Ends O.Ends B.Backend self.new) begun result }
         ensures responding { IsResponding (B.book self.new.backend.now) result }
     {
@@ -232,7 +256,7 @@ where
     fn store(&mut self, body: Vec<u8>) -> Response
         requires { MayEnd (held (B.book self.old.backend.now)) (ending.Body body) }
         ensures same { IsSame B.Backend self.old self.new }
-        ensures stores { StoresBody C.reads body.items (scene S.Ends O.Ends B.Backend self.old)
+        ensures stores { StoresBody (takes C.reads D.draws) body.items (scene S.Ends O.Ends B.Backend self.old)
             (scene S.Ends O.Ends B.Backend self.new) result }
         ensures responding { IsResponding (B.book self.new.backend.now) result }
     {
@@ -372,7 +396,7 @@ where
         requires granted { granted ≡ is_some (held (B.book self.old.backend.now)) }
         requires closing { IsClosing ending }
         ensures same { IsSame B.Backend self.old self.new }
-        ensures closes { Closes C.reads ending granted (scene S.Ends O.Ends B.Backend self.old)
+        ensures closes { Closes (takes C.reads D.draws) ending granted (scene S.Ends O.Ends B.Backend self.old)
             (scene S.Ends O.Ends B.Backend self.new) }
         ensures idle { held (B.book self.new.backend.now) ≡ None }
     {
@@ -417,7 +441,7 @@ where
     fn answer(&mut self, message: &Message, last: bool) -> Option<Ended>
         requires { held (B.book self.old.backend.now) ≡ None }
         ensures same { IsSame B.Backend self.old self.new }
-        ensures meets { Meets C.reads last message.now (scene S.Ends O.Ends B.Backend self.old)
+        ensures meets { Meets (takes C.reads D.draws) last message.now (scene S.Ends O.Ends B.Backend self.old)
             (scene S.Ends O.Ends B.Backend self.new) result }
         ensures idle { held (B.book self.new.backend.now) ≡ None }
     {
@@ -431,7 +455,7 @@ where
     fn answer_with(&mut self, message: &Message, body: &[u8], last: bool) -> Option<Ended>
         requires { held (B.book self.old.backend.now) ≡ None }
         ensures same { IsSame B.Backend self.old self.new }
-        ensures meets { MeetsWith C.reads last message.now body.now (scene S.Ends O.Ends B.Backend self.old)
+        ensures meets { MeetsWith (takes C.reads D.draws) last message.now body.now (scene S.Ends O.Ends B.Backend self.old)
             (scene S.Ends O.Ends B.Backend self.new) result }
         ensures idle { held (B.book self.new.backend.now) ≡ None }
     {
@@ -471,7 +495,7 @@ where
     fn exchange(&mut self, last: bool) -> Option<Ended>
         requires { held (B.book self.old.backend.now) ≡ None }
         ensures same { IsSame B.Backend self.old self.new }
-        ensures turn { Turn C.reads last (scene S.Ends O.Ends B.Backend self.old)
+        ensures turn { Turn (takes C.reads D.draws) last (scene S.Ends O.Ends B.Backend self.old)
             (scene S.Ends O.Ends B.Backend self.new) result }
         ensures idle { held (B.book self.new.backend.now) ≡ None }
     {
@@ -494,7 +518,7 @@ where
     fn session(&mut self) -> Option<Ended>
         requires { held (B.book self.old.backend.now) ≡ None }
         ensures same { IsSame B.Backend self.old self.new }
-        ensures session { Session C.reads (scene S.Ends O.Ends B.Backend self.old)
+        ensures session { Session (takes C.reads D.draws) (scene S.Ends O.Ends B.Backend self.old)
             (scene S.Ends O.Ends B.Backend self.new) result }
         ensures idle { held (B.book self.new.backend.now) ≡ None }
     {
@@ -506,6 +530,15 @@ where
         }
         self.exchange(true)
     }
+}
+
+// Two words of chance. Each Begin has them, whatever it asks for.
+fn words_of<D: Dice>(dice: &mut D) -> Words
+    ensures { (between : D) × D.draws dice.old result.first between × D.draws between result.second dice.new }
+{
+    let first = dice.draw();
+    let second = dice.draw();
+    Words { first, second }
 }
 
 // Lets go of what was begun: in a call, since a function that owns it would do so case by case at each of its ways out.
@@ -542,44 +575,56 @@ fn append_small<'p>(head: &mut Vec<u8>, piece: &'p [u8]) -> &'p [u8]
     }
 }
 
-/// Serves the messages of one connection. None says that `MAX_MESSAGES` were answered, and that none ended the session.
+/// Serves the messages of one connection; each Begin has two words of the dice. None says that `MAX_MESSAGES` were answered, and that none
+/// ended the session.
 ///
 /// Up to `MAX_HEAD` bytes may have been read behind the last message that was taken; they are lost with the session.
-pub fn serve_session<S: Source, O: Sink, C: Clock, B: Backend>(
+pub fn serve_session<S: Source, O: Sink, C: Clock, D: Dice, B: Backend>(
     alloc: Global,
     routes: &Routes,
     input: &mut S,
     output: &mut O,
     clock: &mut C,
+    dice: &mut D,
     backend: &mut B,
 ) -> Option<Ended>
     requires { held (B.book backend.old) ≡ None }
-    ensures session { (kept : List ℕ) × (length kept ≤ MAX_HEAD) × Session C.reads
-        (between S.Ends O.Ends B.Backend [] input.old output.old clock.old backend.old)
-        (between S.Ends O.Ends B.Backend kept input.new output.new clock.new backend.new) result }
+    ensures session { (kept : List ℕ) × (length kept ≤ MAX_HEAD) × Session (takes C.reads D.draws)
+        (between S.Ends O.Ends B.Backend [] input.old output.old clock.old dice.old backend.old)
+        (between S.Ends O.Ends B.Backend kept input.new output.new clock.new dice.new backend.new) result }
     ensures idle { held (B.book backend.new) ≡ None }
     ensures lent { B.lent backend.new ≡ B.lent backend.old }
 {
     let mut buffer = Buffer::new();
-    let ended = serve(alloc, routes, &mut buffer, input, output, clock, backend);
+    let ended = serve(
+        alloc,
+        routes,
+        &mut buffer,
+        input,
+        output,
+        clock,
+        dice,
+        backend,
+    );
     // What was read and not taken fits the buffer.
     let _ = buffer.bytes();
     ended
 }
 
-fn serve<S: Source, O: Sink, C: Clock, B: Backend>(
+fn serve<S: Source, O: Sink, C: Clock, D: Dice, B: Backend>(
     alloc: Global,
     routes: &Routes,
     buffer: &mut Buffer,
     input: &mut S,
     output: &mut O,
     clock: &mut C,
+    dice: &mut D,
     backend: &mut B,
 ) -> Option<Ended>
     requires { held (B.book backend.old) ≡ None }
-    ensures session { Session C.reads
-        (between S.Ends O.Ends B.Backend buffer.old input.old output.old clock.old backend.old)
-        (between S.Ends O.Ends B.Backend buffer.new input.new output.new clock.new backend.new) result }
+    ensures session { Session (takes C.reads D.draws)
+        (between S.Ends O.Ends B.Backend buffer.old input.old output.old clock.old dice.old backend.old)
+        (between S.Ends O.Ends B.Backend buffer.new input.new output.new clock.new dice.new backend.new) result }
     ensures idle { held (B.book backend.new) ≡ None }
     ensures lent { B.lent backend.new ≡ B.lent backend.old }
 {
@@ -590,6 +635,7 @@ fn serve<S: Source, O: Sink, C: Clock, B: Backend>(
         input,
         output,
         clock,
+        dice,
         backend,
     };
     connection.session()

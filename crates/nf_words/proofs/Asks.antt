@@ -1,25 +1,29 @@
 -- What is known of what is asked about shares.
-use Rattle.std.proofs.Common.{◌≡◌, ◌≢◌, ◌⊎◌, ℕ, zero, suc, ◌+◌, ◌<◌, ◌≤◌, ◌==◌, ◌&&◌, ◌||◌, not, inl, inr, min, max, Bool, true, false, List, [], ◌∷◌, find, length, Option, option_map, if◌then◌else◌, refl, ap, sym, subst, ◌∙◌, arith, le_refl}
+use Rattle.std.proofs.Common.{◌≡◌, ◌≢◌, ◌⊎◌, ℕ, zero, suc, ◌+◌, ◌<◌, ◌≤◌, ◌==◌, ◌&&◌, ◌||◌, not, inl, inr, min, max, Bool, true, false, List, [], ◌∷◌, filter, find, get_or, length, map, Option, option_map, if◌then◌else◌, refl, ap, sym, subst, ◌∙◌, arith, le_refl}
 use Rattle.std.specs.Prelude.{None, Some, bit_and, bit_or, bytes_eq, is_none, is_some, nat_lt}
 use Rattle.std.specs.Int.{bit_at}
-use Rattle.std.specs.List.{AllPairs, list_any}
+use Rattle.std.specs.List.{All, AllPairs, list_any}
 use Rattle.std.specs.Option.{IfSome, option_and_then, option_map_or}
-use Rattle.std.proofs.lemmas.Bool.{both_ways, eq-eqb, eqb-true, leb-false, ltb-false}
-use Rattle.std.proofs.lemmas.List.Elements.{All-cons, All-nil, All-weaker}
+use Rattle.std.proofs.lemmas.Bool.{and_from, both_ways, eq-eqb, eqb-true, leb-false, ltb-false, not-true}
+use Rattle.std.proofs.lemmas.List.Elements.{All-cons, All-filter, All-map, All-nil, All-weaker, filter_passes}
+use Rattle.std.proofs.lemmas.List.{get_or-map, length-map}
+use Rattle.std.proofs.lemmas.List.Kept.{AllPairs-cons}
 use Rattle.std.proofs.lemmas.List.Folds.{list_any-from_Any}
 use Rattle.std.proofs.lemmas.Nat.Bits.{bit_at_and, bit_at_or, same_from_bits}
 use Rattle.std.proofs.lemmas.Option.{none-some, same_Some}
 use Rattle.nf_access.proofs.Chains.{own_row}
 use Rattle.nf_access.proofs.Granted.{any_is}
 use Rattle.nf_access.proofs.LookUps.{find_among}
-use Rattle.nf_access.proofs.Naming.{free_is_free, names_few, taken_in_root}
 use Rattle.nf_access.specs.Access.{by_chains}
 use Rattle.nf_access.specs.Making.{is_again, is_self_share, passes_on}
-use Rattle.nf_access.specs.Mounts.{ensured, free_name_of, mount_at, mount_row, name_of, names_in_root, root_folder}
+use Rattle.nf_access.specs.Mounts.{ensured_all, is_mount_of, is_mounted, mount_row}
 use Rattle.nf_access.specs.Shares.{chain_of, ground_of, most_of_node, most_of_share, perms_of_share, share_row}
 use Rattle.nf_base.specs.declared.changes.Change.{Change}
 use Rattle.nf_base.specs.declared.changes.Change.TheVariants.{Put}
 use Rattle.nf_base.specs.declared.limits.TheConstants.{MAX_CHAIN, MAX_MOUNTS, MAX_SHARES}
+use Rattle.nf_base.specs.declared.changes.RowKey.TheVariants as keys
+use Rattle.nf_base.specs.declared.rows.GroupRow.{GroupRow}
+use Rattle.nf_base.specs.declared.rows.MemberRow.{MemberRow}
 use Rattle.nf_base.specs.declared.rows.MetaRow.{MetaRow}
 use Rattle.nf_base.specs.declared.rows.MountRow.{MountRow}
 use Rattle.nf_base.specs.declared.rows.NodeKind.{NodeKind}
@@ -28,24 +32,30 @@ use Rattle.nf_base.specs.declared.rows.Row.TheVariants as rows
 use Rattle.nf_base.specs.declared.rows.ShareKind.{ShareKind}
 use Rattle.nf_base.specs.declared.rows.ShareRow.{ShareRow}
 use Rattle.nf_base.specs.declared.rows.UserRow.{UserRow}
-use Rattle.nf_defs.specs.Prelude.{Access, child_of, is_root, is_root_place, made, node_row, owner_of, put, share_key, Tables, user_named, user_row}
+use Rattle.nf_defs.specs.Prelude.{Access, group_named, is_root, is_root_place, made, members_of, node_row, owner_of, put, share_key, Tables, user_named, user_row}
 use Rattle.nf_defs.specs.declared.Found.{Found}
 use Rattle.nf_defs.specs.declared.Found.TheVariants.{At, Free, Missing}
 use Rattle.nf_defs.specs.declared.Grant.{Grant}
-use Rattle.nf_words.proofs.Fits.{KnownChange, none_lean}
+use Rattle.nf_words.proofs.Ensured.{each_new, each_once, ensured_known, IsGivenNew, IsMountable, new_count}
+use Rattle.nf_words.proofs.Fits.{KnownChange, no_more, none_lean, one_more}
 use Rattle.nf_words.proofs.Found.{found_has, found_passes, put_is_found}
 use Rattle.nf_words.proofs.Known.{Known}
 use Rattle.nf_words.proofs.Mounting.{mount_found}
 use Rattle.nf_words.proofs.Starts.{row_of_caller}
 use Rattle.nf_words.proofs.Ways.{bounded, way_there}
-use Rattle.nf_words.specs.Prelude.{access_of, AreSound, asked_about, asker_of, Call, caller_row, changed_key, ended_row, fault_of_ask, found, is_long, is_own, is_steered_by, is_widened, IsLean, IsNewMount, IsNewShare, IsOfNode, IsOtherShare, IsRemounted, IsShareSound, kind_of, last_number, limit_of_ask, live_share, mounting, new_share, offer_fault, offer_limit, offer_of, parent_by, parent_for, node_found, nothing_done, offered, perms_after, raised, seeker_of, share_ended, share_made, share_set, share_shown, share_steered, share_told, shared, StandsOn, unreached, user_of, way_of}
+use Rattle.nf_words.specs.Prelude.{access_of, AreSound, asked_about, asker_of, Call, caller_row, changed_key, counted, ended_row, fault_of_ask, found, is_long, is_own, is_steered_by, is_widened, IsKindSound, IsLean, IsNewShare, IsOfNode, IsOtherShare, is_past, IsShareSound, kind_of, kind_to, last_number, limit_of_ask, live_share, mount_limit, new_share, offer_fault, offer_limit, offer_of, parent_by, parent_for, node_found, nothing_done, offered, perms_after, put_mounts, raised, receiver_named, same_end, seeker_of, set_row, share_ended, share_made, share_set, share_shown, share_steered, share_told, shared, StandsOn, unreached, until_after, user_of, users_for, way_of}
+use Rattle.nf_words.specs.declared.answer.Limit.{Limit}
 use Rattle.nf_words.specs.declared.answer.Limit.TheVariants as limit
-use Rattle.nf_words.specs.declared.answer.ShareRule.TheVariants as rule
+use Rattle.nf_words.specs.declared.answer.Breach.TheVariants as rule
 use Rattle.nf_words.specs.declared.answer.Allowed.{Allowed}
 use Rattle.nf_words.specs.declared.request.Offer.{Offer}
 use Rattle.nf_words.specs.declared.request.Places.{Places}
+use Rattle.nf_words.specs.declared.request.Receiver.{Receiver}
+use Rattle.nf_words.specs.declared.request.Receiver.TheVariants as receiver
 use Rattle.nf_words.specs.declared.request.ShareAsk.{ShareAsk}
 use Rattle.nf_words.specs.declared.request.ShareAsk.TheVariants as ask
+use Rattle.nf_words.specs.declared.request.Sharee.{Sharee}
+use Rattle.nf_words.specs.declared.request.Sharee.TheVariants as sharee
 use Rattle.nf_words.specs.declared.request.Spot.{Spot}
 
 -- ---- permissions
@@ -83,40 +93,100 @@ share_differs t row other = λ same. other (sym (ap (λ (u : Tables). share_row 
 mount_differs : (t : Tables) (row : MountRow) → mount_row t.mounts row.user row.node ≢ Some row → made t (Put (rows.Mount row)) ≢ t
 mount_differs t row other = λ same. other (sym (ap (λ (u : Tables). mount_row u.mounts row.user row.node) same) ∙ mount_found row t.mounts)
 
-pair : {X : Type 0} (R : X → X → Type 0) (x y : X) → R x y → AllPairs R (x ∷ y ∷ [])
-pair R x y related zero (suc zero) d before within = related
-pair R x y related i j d before within = absurd (omega (arith, before, within))
+-- mounts that are put once each, and aren't there so
+abbrev pub AreMountsLean : Tables → List MountRow → Type 0
+AreMountsLean t mounts =
+    AllPairs (λ (a b : MountRow). is_mount_of a.user a.node b ≡ false) mounts × All (λ (m : MountRow). mount_row t.mounts m.user m.node ≢ Some m) mounts
 
--- a share, and a mount if one is put with it
-share_lean : (t : Tables) (row : ShareRow) (mount : Option MountRow) → share_row t.shares row.id ≢ Some row
-    → IfSome mount (λ (m : MountRow). mount_row t.mounts m.user m.node ≢ Some m) → IsLean t (Put (rows.Share row) ∷ mounting mount)
-share_lean t row None other fine = record {
-  once = λ i j d before within. absurd (omega arith);
-  differ = All-cons (λ (change : Change). made t change ≢ t) (Put (rows.Share row)) [] (share_differs t row other)
-      (All-nil (λ (change : Change). made t change ≢ t));
+abbrev pub Differs : Tables → Change → Type 0
+Differs t change = made t change ≢ t
+
+abbrev pub Once : Change → Change → Type 0
+Once a b = changed_key a ≢ changed_key b
+
+pub mounts_once : (mounts : List MountRow) → AllPairs (λ (a b : MountRow). is_mount_of a.user a.node b ≡ false) mounts
+    → AllPairs Once (put_mounts mounts)
+mounts_once mounts once i j d before within =
+    let few : j < length mounts = omega (arith, within, length-map mounts (λ (row : MountRow). Put (rows.Mount row))) in
+    here (get_or mounts i any) (get_or mounts j any) (get_or-map (λ (row : MountRow). Put (rows.Mount row)) mounts i any d (omega (arith, before, few)))
+    (get_or-map (λ (row : MountRow). Put (rows.Mount row)) mounts j any d few) (once i j any before few)
+  where
+    any : MountRow
+    any = record { user = 0; node = 0; name = []; left = false }
+
+    same_users : {a b c d : ℕ} → keys.Mount a b ≡ keys.Mount c d → a ≡ c
+    same_users same = cc
+
+    same_nodes : {a b c d : ℕ} → keys.Mount a b ≡ keys.Mount c d → b ≡ d
+    same_nodes same = cc
+
+    here : (a b : MountRow) → get_or (put_mounts mounts) i d ≡ Put (rows.Mount a) → get_or (put_mounts mounts) j d ≡ Put (rows.Mount b)
+        → is_mount_of a.user a.node b ≡ false → changed_key (get_or (put_mounts mounts) i d) ≢ changed_key (get_or (put_mounts mounts) j d)
+    here a b first second off = λ same.
+        let keys_same = sym (ap changed_key first) ∙ same ∙ ap changed_key second in
+        both_ways (is_mount_of a.user a.node b) off
+        (and_from (b.user == a.user) (b.node == a.node) (eq-eqb b.user a.user (sym (same_users keys_same)))
+        (eq-eqb b.node a.node (sym (same_nodes keys_same))))
+
+pub mounts_differ_all : (t : Tables) (mounts : List MountRow) → All (λ (m : MountRow). mount_row t.mounts m.user m.node ≢ Some m) mounts
+    → All (Differs t) (put_mounts mounts)
+mounts_differ_all t mounts other =
+    All-map (Differs t) (λ row. Put (rows.Mount row)) mounts
+    (All-weaker (λ (m : MountRow). mount_row t.mounts m.user m.node ≢ Some m) (λ (m : MountRow). Differs t (Put (rows.Mount m)))
+    (mount_differs t) mounts other)
+
+-- one change of no mount before them
+pub lean_with : (t : Tables) (change : Change) (mounts : List MountRow) → ((m : MountRow) → changed_key change ≢ keys.Mount m.user m.node)
+    → Differs t change → AreMountsLean t mounts → IsLean t (change ∷ put_mounts mounts)
+lean_with t change mounts apart differs lean = record {
+  once = AllPairs-cons Once change (put_mounts mounts)
+      (All-map (Once change) (λ row. Put (rows.Mount row)) mounts (λ k d within. apart (get_or mounts k d))) (mounts_once mounts lean.0);
+  differ = All-cons (Differs t) change (put_mounts mounts) differs (mounts_differ_all t mounts lean.1);
 }
-share_lean t row (Some mount) other fine = record {
-  once = pair (λ (a b : Change). changed_key a ≢ changed_key b) (Put (rows.Share row)) (Put (rows.Mount mount)) (λ same. cc);
-  differ = All-cons (λ (change : Change). made t change ≢ t) (Put (rows.Share row)) (Put (rows.Mount mount) ∷ []) (share_differs t row other)
-      (All-cons (λ (change : Change). made t change ≢ t) (Put (rows.Mount mount)) [] (mount_differs t mount fine)
-      (All-nil (λ (change : Change). made t change ≢ t)));
+
+-- what is ensured is lean
+pub ensured_lean : (t : Tables) (pairs : List (ℕ × ℕ)) → AreMountsLean t (ensured_all t.users t.nodes pairs t.mounts)
+ensured_lean t pairs = (
+  each_once t.users t.nodes pairs t.mounts,
+  All-weaker (IsGivenNew t.users t.nodes t.mounts) (λ (m : MountRow). mount_row t.mounts m.user m.node ≢ Some m)
+      (λ m is same. both_ways (is_mounted t.mounts m.user m.node) is.1
+      (ap (λ (o : Option MountRow). option_map_or (λ (r : MountRow). not r.left) o false) same ∙ ap not is.0))
+      (ensured_all t.users t.nodes pairs t.mounts) (each_new t.users t.nodes pairs t.mounts),
+)
+
+-- nothing is changed
+pub nothing_known : (t : Tables) (now : ℕ) → KnownChange t now [] None
+nothing_known t now = record {
+  rows = no_more (raised t now [] None);
+  lean = none_lean t;
+  stored = λ none. refl;
+  next_user = omega arith;
+  next_group = omega arith;
+  next_node = omega arith;
+  next_share = omega arith;
+  next_blob = omega arith;
 }
 
 -- ---- a share that is there
 
 pub other_known : (t : Tables) (now : ℕ) (row : ShareRow) → IsOtherShare t row → row.id < t.meta.next_share
     → KnownChange t now (Put (rows.Share row) ∷ []) None
-other_known t now row is given = record {
-  rows = (
-    (refl, inr (record { old = is.old; there = is.there; same = is.same; other = is.other; lasts = is.lasts; of_node = is.of_node }, given)),
-    tt,
-  );
-  lean = share_lean t row None (λ same. is.other (same_Some row is.old (sym same ∙ is.there))) tt;
-  stored = λ none. absurd (cc);
-  next_node = omega arith;
-  next_share = omega (arith, given);
-  next_blob = omega arith;
-}
+other_known t now row is given =
+    let up = raised t now (Put (rows.Share row) ∷ []) None in
+    record {
+      rows = one_more up (Put (rows.Share row)) []
+          (refl, inr (record { old = is.old; there = is.there; same = is.same; other = is.other; lasts = is.lasts; of_node = is.of_node }, given))
+          (no_more (made up (Put (rows.Share row))));
+      lean = lean_with t (Put (rows.Share row)) [] (λ m same. absurd (cc))
+          (share_differs t row (λ same. is.other (same_Some row is.old (sym same ∙ is.there))))
+          (λ i j d before within. absurd (omega (arith, before, within)), All-nil (λ (m : MountRow). mount_row t.mounts m.user m.node ≢ Some m));
+      stored = λ none. absurd (cc);
+      next_user = omega arith;
+      next_group = omega arith;
+      next_node = omega arith;
+      next_share = omega (arith, given);
+      next_blob = omega arith;
+    }
 
 -- a share that is found by its number, is sound and isn't ended
 pub record IsThere (t : Tables) (user : ℕ) (row : ShareRow) : Type 0 where
@@ -163,10 +233,15 @@ ended_known t now user row is =
       of_node = λ of there. let fine = is.sound.of_node of there in record { owner = fine.owner; no_root = fine.no_root; perms = fine.perms };
     }) is.sound.given
 
-pub set_known : (t : Tables) (now user : ℕ) (wanted : Option ℕ) (row : ShareRow) → IsThere t user row
-    → Known t now (share_set t (perms_after t wanted row) row)
-set_known t now user wanted row is = here (perms_after t wanted row == row.perms) refl
+pub set_known : (t : Tables) (now user : ℕ) (wanted until : Option ℕ) (row : ShareRow) → IsThere t user row
+    → Known t now (share_set t (perms_after t wanted row) until row)
+set_known t now user wanted until row is = here (perms_after t wanted row == row.perms && same_end until row.until) refl
   where
+    -- the same end is the same
+    ends_same : (a b : Option ℕ) → a ≡ b → same_end a b ≡ true
+    ends_same None b same = rw (sym same) refl
+    ends_same (Some end) b same = rw (sym same) (eq-eqb end end refl)
+
     perms : ℕ
     perms = perms_after t wanted row
 
@@ -180,115 +255,26 @@ set_known t now user wanted row is = here (perms_after t wanted row == row.perms
         kind_of_none : NodeKind
         kind_of_none = kind_of [] 0
 
-    here : (b : Bool) → (perms == row.perms) ≡ b
-        → KnownChange t now (if b then [] else Put (rows.Share (record row { perms = perms })) ∷ []) None
-    here true same = record {
-      rows = tt;
-      lean = none_lean t;
-      stored = λ none. refl;
-      next_node = omega arith;
-      next_share = omega arith;
-      next_blob = omega arith;
-    }
+    here : (b : Bool) → (perms == row.perms && same_end until row.until) ≡ b
+        → KnownChange t now (if b then [] else Put (rows.Share (set_row perms until row)) ∷ []) None
+    here true same = nothing_known t now
     here false other =
-        other_known t now (record row { perms = perms })
+        other_known t now (set_row perms until row)
         (record {
           old = row;
           there = is.there;
           same = refl;
-          other = λ same. both_ways (perms == row.perms) other (eq-eqb perms row.perms (ap (λ (r : ShareRow). r.perms) same));
+          other = λ same. both_ways (perms == row.perms && same_end until row.until) other
+              (and_from (perms == row.perms) (same_end until row.until) (eq-eqb perms row.perms (ap (λ (r : ShareRow). r.perms) same))
+              (ends_same until row.until (ap (λ (r : ShareRow). r.until) same)));
           lasts = is.lasts;
           of_node = λ of there. let fine = is.sound.of_node of there in
               record { owner = fine.owner; no_root = fine.no_root; perms = fits of there wanted };
         }) is.sound.given
 
--- ---- a mount that is ensured
-
--- the free name of a name in a user's root is free there
-free_in_root : (t : Tables) (user : ℕ) (name : List ℕ) → AreSound t
-    → let free = free_name_of name (names_in_root t.users t.nodes t.mounts user) in
-    (child_of t.nodes (root_folder t.users user) free ≡ None) × (mount_at t.mounts user free ≡ None)
-free_in_root t user name sound =
-    let names = names_in_root t.users t.nodes t.mounts user in
-    let free = free_name_of name names in
-    neither (child_of t.nodes (root_folder t.users user) free) (mount_at t.mounts user free)
-    (sym (taken_in_root t.users t.nodes t.mounts user free)
-    ∙ free_is_free name names (omega (arith, names_few t.users t.nodes t.mounts user, sound.few_nodes, sound.others.few_mounts)))
-  where
-    neither : (a b : Option ℕ) → (is_some a || is_some b) ≡ false → (a ≡ None) × (b ≡ None)
-    neither None None none = (refl, refl)
-    neither None (Some b) none = absurd (cc)
-    neither (Some a) b none = absurd (cc)
-
--- it is there again, or new, also where shares are others
-pub ensured_fits : (t : Tables) (meta : MetaRow) (shares : List ShareRow) (user node : ℕ) (of : NodeRow) → AreSound t
-    → node_row t.nodes node ≡ Some of → of.owner ≢ user → is_some (user_row t.users user) ≡ true
-    → (is_none (mount_row t.mounts user node) && nat_lt MAX_MOUNTS (length t.mounts + 1)) ≡ false
-    → IfSome (ensured t.users t.nodes t.mounts user node) (λ (row : MountRow).
-    (IsRemounted (record t { meta = meta; shares = shares }) row ⊎ IsNewMount (record t { meta = meta; shares = shares }) row)
-    × (mount_row t.mounts row.user row.node ≢ Some row))
-ensured_fits t meta shares user node of sound there other is few = here (mount_row t.mounts user node) refl few
-  where
-    row : MountRow
-    row = record { user = user; node = node; name = free_name_of (name_of t.nodes node) (names_in_root t.users t.nodes t.mounts user); left = false }
-
-    Fits : MountRow → Type 0
-    Fits row = (IsRemounted (record t { meta = meta; shares = shares }) row ⊎ IsNewMount (record t { meta = meta; shares = shares }) row)
-        × (mount_row t.mounts row.user row.node ≢ Some row)
-
-    free : (child_of t.nodes (root_folder t.users user) row.name ≡ None) × (mount_at t.mounts user row.name ≡ None)
-    free = free_in_root t user (name_of t.nodes node) sound
-
-    again : (old : MountRow) → mount_row t.mounts user node ≡ Some old → old.left ≡ true → Fits row
-    again old e left =
-        let parts = found_passes (λ (x : MountRow). x.user == user && x.node == node) t.mounts old e in
-        let differs : row ≢ old = λ same. both_ways old.left (sym (ap (λ (r : MountRow). r.left) same)) left in (
-          inl (record {
-            old = old;
-            there = e;
-            same = of_old old parts;
-            other = differs;
-            free = λ shown. free.0;
-            apart = λ shown. free.1;
-          }),
-          λ same. differs (same_Some row old (sym same ∙ e)),
-        )
-      where
-        of_old : (old : MountRow) → (old.user == user && old.node == node) ≡ true → row ≡ record old { name = row.name; left = row.left }
-        of_old old parts =
-            let both = and_both (old.user == user) (old.node == node) parts in
-            rw (eqb-true old.user user both.0, eqb-true old.node node both.1) refl
-          where
-            and_both : (a b : Bool) → (a && b) ≡ true → (a ≡ true) × (b ≡ true)
-            and_both true true h = (refl, refl)
-            and_both true false h = absurd (cc)
-            and_both false b h = absurd (cc)
-
-    here : (o : Option MountRow) → mount_row t.mounts user node ≡ o → (is_none o && nat_lt MAX_MOUNTS (length t.mounts + 1)) ≡ false
-        → IfSome (if option_map_or (λ row. not row.left) o false then None else Some row) Fits
-    here None e few = (
-      inr (record {
-        fresh = e;
-        stays = refl;
-        user = is;
-        node = of;
-        there = there;
-        others = other;
-        free = free.0;
-        apart = free.1;
-        few = ltb-false _ _ few;
-      }),
-      λ same. absurd (none-some row (sym e ∙ same)),
-    )
-    here (Some old) e few = by_left old.left refl
-      where
-        by_left : (b : Bool) → old.left ≡ b → IfSome (if not b then None else Some row) Fits
-        by_left false left = tt
-        by_left true left = again old e left
-
 -- ---- a call
 
-found_any : {X : Type 0} (test : X → Bool) (xs : List X) → list_any test xs ≡ true → is_some (find test xs) ≡ true
+pub found_any : {X : Type 0} (test : X → Bool) (xs : List X) → list_any test xs ≡ true → is_some (find test xs) ≡ true
 found_any test [] any = absurd (cc)
 found_any test (x ∷ xs) any = here (test x) any (λ any. found_any test xs any)
   where
@@ -298,7 +284,7 @@ found_any test (x ∷ xs) any = here (test x) any (λ any. found_any test xs any
     here false any rest = rest any
 
 -- a user who has a name is there
-named_there : (users : List UserRow) (name : List ℕ) (user : ℕ) → user_named users name ≡ Some user → is_some (user_row users user) ≡ true
+pub named_there : (users : List UserRow) (name : List ℕ) (user : ℕ) → user_named users name ≡ Some user → is_some (user_row users user) ≡ true
 named_there users name user is = here (find (λ (row : UserRow). bytes_eq row.name name) users) refl is
   where
     here : (o : Option UserRow) → find (λ (row : UserRow). bytes_eq row.name name) users ≡ o → option_map (λ row. row.id) o ≡ Some user
@@ -310,27 +296,37 @@ named_there users name user is = here (find (λ (row : UserRow). bytes_eq row.na
         (list_any-from_Any (λ (x : UserRow). x.id == user) users
         (among.0, row, among.1, among.2, eq-eqb row.id user (same_Some row.id user is)))
 
-pub none_broken : (a b c d e : Bool)
-    → (if a then Some rule.Root else if b then Some rule.SelfShare else if c then Some rule.Already else if d then Some rule.Widened
-    else if e then Some rule.Chain else None) ≡ None
-    → (a ≡ false) × (b ≡ false) × (c ≡ false) × (d ≡ false) × (e ≡ false)
-none_broken false false false false false none = (refl, refl, refl, refl, refl)
-none_broken a b c d e none = absurd (cc)
+-- so is a group
+pub group_there : (groups : List GroupRow) (name : List ℕ) (group : ℕ) → group_named groups name ≡ Some group
+    → list_any (λ row. row.id == group) groups ≡ true
+group_there groups name group is = here (find (λ (row : GroupRow). bytes_eq row.name name) groups) refl is
+  where
+    here : (o : Option GroupRow) → find (λ (row : GroupRow). bytes_eq row.name name) groups ≡ o → option_map (λ row. row.id) o ≡ Some group
+        → list_any (λ row. row.id == group) groups ≡ true
+    here None e is = absurd (none-some group is)
+    here (Some row) e is =
+        let among = (find_among (λ (row : GroupRow). bytes_eq row.name name) groups row e).0 in
+        list_any-from_Any (λ (x : GroupRow). x.id == group) groups
+        (among.0, row, among.1, among.2, eq-eqb row.id group (same_Some row.id group is))
 
-none_passed : (a b c : Bool) → (if a || b then Some limit.Shares else if c then Some limit.Mounts else None) ≡ None
-    → (a ≡ false) × (b ≡ false) × (c ≡ false)
-none_passed false false false none = (refl, refl, refl)
-none_passed a b c none = absurd (cc)
+pub none_broken : (a b p c d e : Bool)
+    → (if a then Some rule.Root else if b then Some rule.SelfShare else if p then Some rule.Past else if c then Some rule.Already
+    else if d then Some rule.Widened else if e then Some rule.Chain else None) ≡ None
+    → (a ≡ false) × (b ≡ false) × (p ≡ false) × (c ≡ false) × (d ≡ false) × (e ≡ false)
+none_broken false false false false false false none = (refl, refl, refl, refl, refl, refl)
+none_broken a b p c d e none = absurd (cc)
 
-pub nothing_known : (t : Tables) (now : ℕ) → KnownChange t now [] None
-nothing_known t now = record {
-  rows = tt;
-  lean = none_lean t;
-  stored = λ none. refl;
-  next_node = omega arith;
-  next_share = omega arith;
-  next_blob = omega arith;
-}
+none_passed : (a b : Bool) (o : Option Limit) → (if a || b then Some limit.Shares else o) ≡ None → (a ≡ false) × (b ≡ false) × (o ≡ None)
+none_passed false false o none = (refl, refl, none)
+none_passed a b o none = absurd (cc)
+
+-- so many mounts pass no limit
+pub mounts_fit : (mounts more : List MountRow) → mount_limit mounts more ≡ None → length mounts + new_count mounts more ≤ MAX_MOUNTS
+mounts_fit mounts more none = ltb-false _ _ (here (nat_lt MAX_MOUNTS (length mounts + new_count mounts more)) none)
+  where
+    here : (b : Bool) → (if b then Some limit.Mounts else None) ≡ None → b ≡ false
+    here false none = refl
+    here true none = absurd (cc)
 
 module _ (call : Call) (user : UserRow) (sound : AreSound call.state.tables) (is : caller_row call ≡ Some user) where
   abbrev t : Tables
@@ -393,24 +389,31 @@ module _ (call : Call) (user : UserRow) (sound : AreSound call.state.tables) (is
       here true e fits short = own e
       here false e fits short = passed (parent_for access call offer) refl fits short
 
-  -- ---- a new share, with a mount if one is put with it
+  -- ---- a new share, with the mounts that are put with it
 
-  module _ (mount wanted : Option ℕ) (node to : ℕ) (of : NodeRow) (there : node_row t.nodes node ≡ Some of)
-      (known : is_some (user_row t.users to) ≡ true)
-      (fits : offer_fault (access_of call.state) call (offer_of t.nodes mount wanted node to) ≡ None)
-      (few : offer_limit t (offer_of t.nodes mount wanted node to) ≡ None) where
+  module _ (mount wanted until : Option ℕ) (node : ℕ) (to : Receiver) (of : NodeRow) (there : node_row t.nodes node ≡ Some of)
+      (known : IsKindSound t (kind_to to))
+      (fits : offer_fault (access_of call.state) call (offer_of t.nodes mount wanted until node to) ≡ None)
+      (few : offer_limit t (offer_of t.nodes mount wanted until node to) ≡ None) where
     abbrev offer : Offer
-    offer = offer_of t.nodes mount wanted node to
+    offer = offer_of t.nodes mount wanted until node to
 
     abbrev row : ShareRow
     row = new_share (access_of call.state) call offer
 
-    faults : (is_root t.nodes node ≡ false) × (is_self_share row row.kind ≡ false) × (list_any (is_again row call.now) t.shares ≡ false)
-        × (is_widened (access_of call.state) call offer ≡ false) × (is_long t.shares row.parent ≡ false)
-    faults = none_broken _ _ _ _ _ fits
+    abbrev pairs : List (ℕ × ℕ)
+    pairs = map (λ user. (user, node)) (users_for t.members (owner_of t.nodes node) to)
+
+    abbrev mounts : List MountRow
+    mounts = ensured_all t.users t.nodes pairs t.mounts
+
+    faults : (is_root t.nodes node ≡ false) × (is_self_share row row.kind ≡ false) × (is_past call.now until ≡ false)
+        × (list_any (is_again row call.now) t.shares ≡ false) × (is_widened (access_of call.state) call offer ≡ false)
+        × (is_long t.shares row.parent ≡ false)
+    faults = none_broken _ _ _ _ _ _ fits
 
     limits : (nat_lt MAX_SHARES (length t.shares + 1) ≡ false) × (nat_lt last_number (t.meta.next_share + 1) ≡ false)
-        × ((is_none (mount_row t.mounts to node) && nat_lt MAX_MOUNTS (length t.mounts + 1)) ≡ false)
+        × (mount_limit t.mounts mounts ≡ None)
     limits = none_passed _ _ _ few
 
     of_node : IsOfNode row of
@@ -423,40 +426,70 @@ module _ (call : Call) (user : UserRow) (sound : AreSound call.state.tables) (is
         kind_is : of.kind ≡ kind_of t.nodes node
         kind_is = sym (ap (λ (o : Option NodeRow). option_map_or (λ row. row.kind) o (kind_of [] 0)) there)
 
-    not_own : of.owner ≢ to
-    not_own same =
-        let self = either (to == row.initiator) (to == row.owner) faults.1 in
-        both_ways (to == row.owner) self (eq-eqb to row.owner (sym same ∙ of_node.owner))
+    -- whom it is for: somebody else who is there
+    abbrev IsOther : ℕ → Type 0
+    IsOther user = (of.owner ≢ user) × (is_some (user_row t.users user) ≡ true)
+
+    others_of : (to : Receiver) → IsKindSound t (kind_to to) → is_self_share row (kind_to to) ≡ false
+        → All IsOther (users_for t.members (owner_of t.nodes node) to)
+    others_of (receiver.User user) there other =
+        All-cons IsOther user [] (
+          λ same. both_ways (user == row.owner) (either (user == row.initiator) (user == row.owner) other)
+              (eq-eqb user row.owner (sym same ∙ of_node.owner)),
+          there,
+        ) (All-nil IsOther)
       where
         either : (a b : Bool) → (a || b) ≡ false → b ≡ false
         either false b h = h
         either true b h = absurd (cc)
+    others_of (receiver.Group group) there other =
+        let owner : ℕ = owner_of t.nodes node in
+        let all : List ℕ = members_of t.members group in
+        λ k d within. (
+          λ same. both_ways (get_or (users_for t.members owner (receiver.Group group)) k d == owner)
+              (not-true _ (filter_passes (λ (user : ℕ). not (user == owner)) all k d within))
+              (eq-eqb _ owner (sym same ∙ of_node.owner)),
+          All-filter (λ (user : ℕ). not (user == owner)) (λ (user : ℕ). is_some (user_row t.users user) ≡ true) all
+              (All-map (λ (user : ℕ). is_some (user_row t.users user) ≡ true) (λ (m : MemberRow). m.user)
+              (filter (λ (m : MemberRow). m.group == group) t.members)
+              (All-filter (λ (m : MemberRow). m.group == group) (λ (m : MemberRow). is_some (user_row t.users m.user) ≡ true) t.members
+              sound.members_there)) k d within,
+        )
 
-    is_new : (up : Tables) → up.nodes ≡ t.nodes → up.users ≡ t.users → up.shares ≡ t.shares → t.meta.next_share < up.meta.next_share
-        → call.now ≤ up.meta.last → IsNewShare up row
-    is_new up nodes users shares given made = record {
+    mountable : (u : Tables) → u.nodes ≡ t.nodes → u.users ≡ t.users → All (IsMountable u) pairs
+    mountable u nodes users =
+        All-map (IsMountable u) (λ (user : ℕ). (user, node)) (users_for t.members (owner_of t.nodes node) to)
+        (All-weaker IsOther (λ (user : ℕ). IsMountable u (user, node))
+        (λ user is. record {
+          node = of;
+          there = ap (λ (r : List NodeRow). node_row r node) nodes ∙ there;
+          others = is.0;
+          user = ap (λ (r : List UserRow). is_some (user_row r user)) users ∙ is.1;
+        }) (users_for t.members (owner_of t.nodes node) to) (others_of to known faults.1))
+
+    is_new : (up : Tables) → up.nodes ≡ t.nodes → up.users ≡ t.users → up.groups ≡ t.groups → up.shares ≡ t.shares
+        → t.meta.next_share < up.meta.next_share → call.now ≤ up.meta.last → IsNewShare up row
+    is_new up nodes users groups shares given made = record {
       newest = rw shares
           (All-weaker (IsShareSound t) (λ (old : ShareRow). old.id < row.id) (λ old s. s.given) t.shares sound.others.shares);
       given = given;
       made = made;
       live = refl;
-      forever = refl;
       node = of;
       there = rw nodes there;
       of_node = of_node;
       initiator = rw users asker_there;
-      kind = rw users known;
+      kind = kind_in to known;
       on = rw shares on;
       few = rw shares (ltb-false _ _ limits.0);
     }
       where
         on : StandsOn t row row.parent
-        on = stands_on offer faults.3 faults.4
+        on = stands_on offer faults.4 faults.5
 
-    abbrev Fits : MountRow → Type 0
-    Fits m = ((meta : MetaRow) (shares : List ShareRow)
-        → IsRemounted (record t { meta = meta; shares = shares }) m ⊎ IsNewMount (record t { meta = meta; shares = shares }) m)
-        × (mount_row t.mounts m.user m.node ≢ Some m)
+        kind_in : (to : Receiver) → IsKindSound t (kind_to to) → IsKindSound up (kind_to to)
+        kind_in (receiver.User user) is = rw users is
+        kind_in (receiver.Group group) is = rw groups is
 
     fresh : share_row t.shares row.id ≢ Some row
     fresh same =
@@ -465,61 +498,65 @@ module _ (call : Call) (user : UserRow) (sound : AreSound call.state.tables) (is
         (All-weaker (IsShareSound t) (λ (old : ShareRow). old.id < row.id) (λ old s. s.given) t.shares sound.others.shares)) in
         absurd (omega (arith, given))
 
-    with_mount : (m : Option MountRow) → IfSome m Fits → KnownChange t call.now (Put (rows.Share row) ∷ mounting m) None
-    with_mount None tt = record {
-      rows = ((refl, inl (is_new (raised t call.now (Put (rows.Share row) ∷ []) None) refl refl refl (omega arith) (le_refl _), le_refl _)), tt);
-      lean = share_lean t row None fresh tt;
-      stored = λ none. absurd (cc);
-      next_node = omega arith;
-      next_share = omega (arith, ltb-false _ _ limits.1);
-      next_blob = omega arith;
-    }
-    with_mount (Some m) m_fits =
-        let up = raised t call.now (Put (rows.Share row) ∷ Put (rows.Mount m) ∷ []) None in
-        record {
-          rows = (
-            (refl, inl (is_new up refl refl refl (omega arith) (le_refl _), le_refl _)),
-            ((refl, m_fits.0 up.meta (put share_key row t.shares)), tt),
-          );
-          lean = share_lean t row (Some m) fresh m_fits.1;
-          stored = λ none. absurd (cc);
-          next_node = omega arith;
-          next_share = omega (arith, ltb-false _ _ limits.1);
-          next_blob = omega arith;
-        }
+    -- mounts have no number of their own
+    counted_mounts : (meta : MetaRow) (mounts : List MountRow) → counted meta (put_mounts mounts) ≡ meta
+    counted_mounts meta [] = refl
+    counted_mounts meta (m ∷ mounts) = counted_mounts meta mounts
 
     pub made_known : Known t call.now (share_made (access_of call.state) call offer)
     made_known =
-        with_mount (ensured t.users t.nodes t.mounts to node)
-        (both (ensured t.users t.nodes t.mounts to node)
-        (λ meta shares. ensured_fits t meta shares to node of sound there not_own known limits.2))
-      where
-        both : (o : Option MountRow)
-            → ((meta : MetaRow) (shares : List ShareRow) → IfSome o (λ (m : MountRow).
-            (IsRemounted (record t { meta = meta; shares = shares }) m ⊎ IsNewMount (record t { meta = meta; shares = shares }) m)
-            × (mount_row t.mounts m.user m.node ≢ Some m)))
-            → IfSome o Fits
-        both None all = tt
-        both (Some m) all = (λ meta shares. (all meta shares).0, (all t.meta t.shares).1)
+        let changes : List Change = Put (rows.Share row) ∷ put_mounts mounts in
+        let up = raised t call.now changes None in
+        let meta : counted t.meta changes ≡ record t.meta { next_share = max t.meta.next_share (row.id + 1) } =
+        counted_mounts (record t.meta { next_share = max t.meta.next_share (row.id + 1) }) mounts in
+        let higher : t.meta.next_share < up.meta.next_share = rw meta (omega arith) in
+        record {
+          rows = one_more up (Put (rows.Share row)) (put_mounts mounts)
+              (refl, inl (is_new up refl refl refl refl higher (le_refl _), le_refl _))
+              (ensured_known t (made up (Put (rows.Share row))) pairs sound.few_nodes sound.others.mounts_rise
+              (mountable (made up (Put (rows.Share row))) refl refl) (mounts_fit t.mounts mounts limits.2));
+          lean = lean_with t (Put (rows.Share row)) mounts (λ m same. absurd (cc)) (share_differs t row fresh) (ensured_lean t pairs);
+          stored = λ none. absurd (cc);
+          next_user = rw meta (omega arith);
+          next_group = rw meta (omega arith);
+          next_node = rw meta (omega arith);
+          next_share = rw meta (omega (arith, ltb-false _ _ limits.1));
+          next_blob = omega arith;
+        }
 
   -- ---- what is asked
 
-  offer_known : (spot : Spot) (name : List ℕ) (wanted : Option ℕ) → unreached (access_of call.state) call (way_of call spot) ≡ None
-      → option_and_then (offer_fault (access_of call.state) call) (offered call spot name wanted) ≡ None
-      → option_and_then (offer_limit t) (offered call spot name wanted) ≡ None
-      → Known t call.now (option_map_or (share_made (access_of call.state) call) (offered call spot name wanted) nothing_done)
-  offer_known spot name wanted reached fits few = here (found call spot) (user_named t.users name) refl refl fits few
+  -- who has that name is there
+  receiver_there : (to : Sharee) (by : Receiver) → receiver_named t to ≡ Some by → IsKindSound t (kind_to by)
+  receiver_there (sharee.User name) by is = here (user_named t.users name) refl is
     where
-      of : Found → Option ℕ → Option Offer
-      of place to =
-          option_and_then (λ node. option_map (offer_of t.nodes (way_of call spot).mount wanted node) to) (node_found place)
+      here : (o : Option ℕ) → user_named t.users name ≡ o → option_map receiver.User o ≡ Some by → IsKindSound t (kind_to by)
+      here None e is = absurd (none-some by is)
+      here (Some user) e is =
+          subst (λ (r : Receiver). IsKindSound t (kind_to r)) (same_Some (receiver.User user) by is) (named_there t.users name user e)
+  receiver_there (sharee.Group name) by is = here (group_named t.groups name) refl is
+    where
+      here : (o : Option ℕ) → group_named t.groups name ≡ o → option_map receiver.Group o ≡ Some by → IsKindSound t (kind_to by)
+      here None e is = absurd (none-some by is)
+      here (Some group) e is =
+          subst (λ (r : Receiver). IsKindSound t (kind_to r)) (same_Some (receiver.Group group) by is) (group_there t.groups name group e)
 
-      here : (place : Found) (to : Option ℕ) → found call spot ≡ place → user_named t.users name ≡ to
+  offer_known : (spot : Spot) (name : Sharee) (wanted until : Option ℕ) → unreached (access_of call.state) call (way_of call spot) ≡ None
+      → option_and_then (offer_fault (access_of call.state) call) (offered call spot name wanted until) ≡ None
+      → option_and_then (offer_limit t) (offered call spot name wanted until) ≡ None
+      → Known t call.now (option_map_or (share_made (access_of call.state) call) (offered call spot name wanted until) nothing_done)
+  offer_known spot name wanted until reached fits few = here (found call spot) (receiver_named t name) refl refl fits few
+    where
+      of : Found → Option Receiver → Option Offer
+      of place to =
+          option_and_then (λ node. option_map (offer_of t.nodes (way_of call spot).mount wanted until node) to) (node_found place)
+
+      here : (place : Found) (to : Option Receiver) → found call spot ≡ place → receiver_named t name ≡ to
           → option_and_then (offer_fault (access_of call.state) call) (of place to) ≡ None → option_and_then (offer_limit t) (of place to) ≡ None
           → Known t call.now (option_map_or (share_made (access_of call.state) call) (of place to) nothing_done)
       here (At node) (Some to) leads named fits few =
           let row = way_there call spot user sound is node reached leads in
-          made_known (way_of call spot).mount wanted node to row.0 row.1 (named_there t.users name to named) fits few
+          made_known (way_of call spot).mount wanted until node to row.0 row.1 (receiver_there name to named) fits few
       here (At node) None leads named fits few = nothing_known t call.now
       here (Free folder) to leads named fits few = nothing_known t call.now
       here (Missing depth) to leads named fits few = nothing_known t call.now
@@ -537,13 +574,14 @@ module _ (call : Call) (user : UserRow) (sound : AreSound call.state.tables) (is
       → ((spot : Spot) → (asked_about asked).source ≡ Some spot → unreached (access_of call.state) call (way_of call spot) ≡ None)
       → fault_of_ask (access_of call.state) call asked ≡ None → limit_of_ask call asked ≡ None
       → Known t call.now (shared (access_of call.state) call places asked)
-  asks_known places (ask.New spot name wanted) reached fits few = offer_known spot name wanted (reached spot refl) fits few
+  asks_known places (ask.New spot name wanted until) reached fits few = offer_known spot name wanted until (reached spot refl) fits few
   asks_known places (ask.List spot with_me) reached fits few = nothing_known t call.now
   asks_known places (ask.Show share) reached fits few = here (share_shown call share)
     where
       here : (o : Option ShareRow) → Known t call.now (option_map_or (share_told t []) o nothing_done)
       here None = nothing_known t call.now
       here (Some it) = nothing_known t call.now
-  asks_known places (ask.Set share wanted) reached fits few =
-      steered_known share (λ row. share_set t (perms_after t wanted row) row) (λ row there. set_known t call.now (asker_of call) wanted row there)
+  asks_known places (ask.Set share wanted until) reached fits few =
+      steered_known share (λ row. share_set t (perms_after t wanted row) (until_after until row.until) row)
+      (λ row there. set_known t call.now (asker_of call) wanted (until_after until row.until) row there)
   asks_known places (ask.End share) reached fits few = steered_known share share_ended (λ row there. ended_known t call.now (asker_of call) row there)

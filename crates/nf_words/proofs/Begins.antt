@@ -38,9 +38,11 @@ use Rattle.nf_words.specs.declared.request.Making.TheVariants as making
 use Rattle.nf_words.specs.declared.request.Places.{Places}
 use Rattle.nf_words.specs.declared.request.Spot.{Spot}
 use Rattle.nf_words.specs.declared.request.Wanted.{Wanted}
-use Rattle.nf_words.specs.declared.request.Wanted.TheVariants.{Get, Put, Mkcol, Delete, Move, Copy, Share}
+use Rattle.nf_words.specs.declared.request.Wanted.TheVariants.{Get, Put, Mkcol, Delete, Move, Copy, Share, People}
 use Rattle.nf_words.specs.declared.request.ShareAsk.{ShareAsk}
 use Rattle.nf_words.specs.declared.request.ShareAsk.TheVariants as ask
+use Rattle.nf_words.proofs.Provided.{not_taken, people_known}
+use Rattle.nf_words.specs.declared.answer.Breach.TheVariants as rule
 use Rattle.nf_words.proofs.Asks.{asks_known}
 
 passed : (b : Bool) (fault : TargetFault) → (if b then Some fault else None) ≡ None → b ≡ false
@@ -248,7 +250,7 @@ module _ (call : Call) (row : UserRow) (sound : AreSound call.state.tables) (is 
   -- what is asked about shares leaves what is at its path, so that its mount is tested
   of_place : (asked : ShareAsk) → PlacePasses (access_of call.state) call (asked_about asked)
       → (spot : Spot) → (asked_about asked).source ≡ Some spot → unreached (access_of call.state) call (way_of call spot) ≡ None
-  of_place (ask.New spot name perms) p other same =
+  of_place (ask.New spot name perms until) p other same =
       subst (λ (s : Spot). unreached (access_of call.state) call (way_of call s) ≡ None) (same_Some spot other same) (p.source refl)
   of_place (ask.List None with_me) p other same = absurd (cc)
   of_place (ask.List (Some spot) with_me) p other same =
@@ -268,6 +270,7 @@ module _ (call : Call) (row : UserRow) (sound : AreSound call.state.tables) (is 
       copied_known call source to row sound is (p.place.source refl) p.place.target p.fits p.few
   wanted_known (Share asked) p =
       asks_known call row sound is (places_at call (Share asked)) asked (of_place asked p.place) p.sharing p.room
+  wanted_known (People asked) p = people_known all call.now asked sound (not_taken _ rule.Taken p.sharing) p.room
 
 pub wanted_passes : (call : Call) → MayWant call.request → Passes (access_of call.state) call → WantedPasses call call.request.wanted
 unfolding exists_rule target_rule limit_rule sharing_rule room_rule

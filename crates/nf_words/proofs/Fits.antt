@@ -16,10 +16,11 @@ use Rattle.nf_base.specs.declared.rows.MountRow.{MountRow}
 use Rattle.nf_base.specs.declared.rows.NodeRow.{NodeRow}
 use Rattle.nf_base.specs.declared.rows.Row.TheVariants as rows
 use Rattle.nf_base.specs.declared.rows.ShareRow.{ShareRow}
+use Rattle.nf_base.specs.declared.rows.UserRow.{UserRow}
 use Rattle.nf_defs.specs.Prelude.{child_of, depth, filled, is_folder, is_folder_kind, made, node_key, node_row, put, Tables}
 use Rattle.nf_words.proofs.Bodies.{IsOfBody, body_sound, content_decides, refills_none}
 use Rattle.nf_words.proofs.Found.{found_has, found_passes, put_is_found}
-use Rattle.nf_words.specs.Prelude.{AreSound, blob_after, counted, IsBorn, IsFilled, IsLean, IsMountSound, IsNewMount, IsNewShare, IsNodeSound, IsOtherShare, IsPieceSound, IsRemounted, IsShareSound, IsUnmounted, last_number, limit_passed, new_node, raised, refilled, stored_pieces}
+use Rattle.nf_words.specs.Prelude.{AreSound, blob_after, counted, IsBorn, IsFilled, IsLean, IsMountSound, IsNewMount, IsNewShare, IsNewUser, IsNodeSound, IsOfPeople, IsOtherShare, IsPieceSound, IsRemounted, IsShareSound, IsUnmounted, last_number, last_short, limit_passed, new_node, raised, refilled, stored_pieces}
 use Rattle.nf_words.specs.declared.answer.Limit.TheVariants as limit
 
 -- ---- limits
@@ -69,18 +70,31 @@ KnownRow first blob t (Put (rows.Node row)) = KnownBorn first blob t row ⊎ Kno
 KnownRow first blob t (Put (rows.Mount row)) = (blob ≡ None) × (IsRemounted t row ⊎ IsNewMount t row)
 KnownRow first blob t (Put (rows.Share row)) =
     (blob ≡ None) × ((IsNewShare t row × (first.meta.next_share ≤ row.id)) ⊎ (IsOtherShare t row × (row.id < first.meta.next_share)))
-KnownRow first blob t other = ⊥
+KnownRow first blob t other = (blob ≡ None) × IsOfPeople t other
 
--- each in the tables that those before it make
-abbrev pub KnownRows : Tables → Option ℕ → Tables → List Change → Type 0
-KnownRows first blob t [] = Unit {0}
-KnownRows first blob t (change ∷ changes) = KnownRow first blob t change × KnownRows first blob (made t change) changes
+-- a new user and its root, which has a number that wasn't given before
+abbrev pub KnownUser : Tables → Option ℕ → Tables → UserRow → NodeRow → Type 0
+KnownUser first blob t row root = (blob ≡ None) × IsNewUser t row root × (first.meta.next_node ≤ root.id)
+
+-- the tables with them
+abbrev pub with_user : Tables → UserRow → NodeRow → Tables
+with_user t row root = made (made t (Put (rows.User row))) (Put (rows.Node root))
+
+-- each in the tables that those before it make, but for a new user and its root, which are new together
+pub data KnownRows (first : Tables) (blob : Option ℕ) : Tables → List Change → Type 0 where
+  no_more : (t : Tables) → KnownRows first blob t []
+  one_more : (t : Tables) (change : Change) (changes : List Change) → KnownRow first blob t change
+      → KnownRows first blob (made t change) changes → KnownRows first blob t (change ∷ changes)
+  user_more : (t : Tables) (row : UserRow) (root : NodeRow) (changes : List Change) → KnownUser first blob t row root
+      → KnownRows first blob (with_user t row root) changes → KnownRows first blob t (Put (rows.User row) ∷ Put (rows.Node root) ∷ changes)
 
 -- some changes, and the blob that is stored with them
 pub record KnownChange (t : Tables) (now : ℕ) (changes : List Change) (blob : Option ℕ) : Type 0 where
   pub rows : KnownRows t blob (raised t now changes blob) changes
   pub lean : IsLean t changes
   pub stored : changes ≡ [] → blob ≡ None
+  pub next_user : (counted t.meta changes).next_user ≤ max t.meta.next_user last_short
+  pub next_group : (counted t.meta changes).next_group ≤ max t.meta.next_group last_short
   pub next_node : (counted t.meta changes).next_node ≤ max t.meta.next_node last_number
   pub next_share : (counted t.meta changes).next_share ≤ max t.meta.next_share last_number
   pub next_blob : blob_after t.meta.next_blob blob ≤ max t.meta.next_blob last_number
@@ -113,7 +127,7 @@ none_lean t = record { once = λ i j d before within. absurd (omega arith); diff
 pub newest : (t : Tables) → AreSound t → All (λ (old : NodeRow). old.id < t.meta.next_node) t.nodes
 newest t sound = All-weaker (IsNodeSound t) (λ (old : NodeRow). old.id < t.meta.next_node) (λ old s. s.given) t.nodes sound.nodes
 
-not_there : (t : Tables) (row : NodeRow) → AreSound t → row.id ≡ t.meta.next_node → node_row t.nodes row.id ≢ Some row
+pub not_there : (t : Tables) (row : NodeRow) → AreSound t → row.id ≡ t.meta.next_node → node_row t.nodes row.id ≢ Some row
 not_there t row sound id = λ is.
     let given = subst (λ (o : Option NodeRow). IfSome o (λ (old : NodeRow). old.id < t.meta.next_node)) is
     (found_has (λ (old : NodeRow). old.id < t.meta.next_node) (λ (old : NodeRow). old.id == row.id) t.nodes (newest t sound)) in
@@ -128,33 +142,34 @@ new_known t now folder name kind content blob blobs sound there free unmounted f
     let row = new_node t now folder name kind content in
     let up = raised t now (Put (rows.Node row) ∷ []) blob in
     record {
-      rows = (
-        inl (record {
-          born = record {
-            folder = folder;
-            place = refl;
-            in_folder = there;
-            owner = refl;
-            free = free;
-            unmounted = unmounted;
-            newest = newest t sound;
-            unshared = All-weaker (IsShareSound t) (λ (share : ShareRow). share.node < t.meta.next_node) (λ share s. s.node) t.shares sound.others.shares;
-            unused = All-weaker (IsMountSound t) (λ (mount : MountRow). mount.node < t.meta.next_node) (λ mount s. s.node) t.mounts sound.others.mounts;
-            given = omega arith;
-            changed = le_refl _;
-            pieces = body_sound t.meta up blob content sound.counters body (le_refl _);
-            empty = empty;
-            deep = fits.deep;
-            few_nodes = fits.nodes;
-            few_pieces = fits.pieces;
-          };
-          fresh = le_refl _;
-          body = body;
-        }),
-        tt,
-      );
+      rows = one_more up (Put (rows.Node row)) []
+          (inl (record {
+            born = record {
+              folder = folder;
+              place = refl;
+              in_folder = there;
+              owner = refl;
+              free = free;
+              unmounted = unmounted;
+              newest = newest t sound;
+              unshared = All-weaker (IsShareSound t) (λ (share : ShareRow). share.node < t.meta.next_node) (λ share s. s.node) t.shares sound.others.shares;
+              unused = All-weaker (IsMountSound t) (λ (mount : MountRow). mount.node < t.meta.next_node) (λ mount s. s.node) t.mounts sound.others.mounts;
+              given = omega arith;
+              changed = le_refl _;
+              pieces = body_sound t.meta up blob content sound.counters body (le_refl _);
+              empty = empty;
+              deep = fits.deep;
+              few_nodes = fits.nodes;
+              few_pieces = fits.pieces;
+            };
+            fresh = le_refl _;
+            body = body;
+          }))
+          (no_more (made up (Put (rows.Node row))));
       lean = one_lean t row (not_there t row sound refl);
       stored = λ none. absurd (cc);
+      next_user = omega arith;
+      next_group = omega arith;
       next_node = omega (arith, fits.next_node);
       next_share = omega arith;
       next_blob = omega (arith, fits.next_blob, counts);
@@ -171,9 +186,11 @@ pub over_known : (t : Tables) (now node : ℕ) (content : List Piece) (blob : Op
 over_known t now node content blob old sound there file counts few body =
     elim (cases_Bool (content_eq old.content content && old.changed == now)) [
       | inl same ↦ simp same (record {
-        rows = tt;
+        rows = no_more (raised t now [] blob);
         lean = none_lean t;
         stored = λ none. elim body [ inl of ↦ refills_none t old now content blob is.pieces of (rw same refl) | inr kept ↦ kept.0 ];
+        next_user = omega arith;
+        next_group = omega arith;
         next_node = omega arith;
         next_share = omega arith;
         next_blob = counts;
@@ -217,24 +234,25 @@ over_known t now node content blob old sound there file counts few body =
     changed other =
         let up = raised t now (Put (rows.Node row) ∷ []) blob in
         record {
-          rows = (
-            inr (record {
-              filled = record {
-                old = old;
-                there = at;
-                file = file;
-                same = refl;
-                changed = le_refl _;
-                pieces = sound_in up (le_refl _);
-                few_pieces = few;
-              };
-              given = is.given;
-              body = body;
-            }),
-            tt,
-          );
+          rows = one_more up (Put (rows.Node row)) []
+              (inr (record {
+                filled = record {
+                  old = old;
+                  there = at;
+                  file = file;
+                  same = refl;
+                  changed = le_refl _;
+                  pieces = sound_in up (le_refl _);
+                  few_pieces = few;
+                };
+                given = is.given;
+                body = body;
+              }))
+              (no_more (made up (Put (rows.Node row))));
           lean = one_lean t row (differs other);
           stored = λ none. absurd (cc);
+          next_user = omega arith;
+          next_group = omega arith;
           next_node = omega (arith, is.given);
           next_share = omega arith;
           next_blob = counts;

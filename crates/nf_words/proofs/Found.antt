@@ -3,7 +3,7 @@ use Rattle.std.proofs.Common.{◌≡◌, ℕ, ◌+◌, ◌-◌, ◌<◌, ◌&&�
 use Rattle.std.specs.Prelude.{None, Some}
 use Rattle.std.specs.List.{All, AllPairs}
 use Rattle.std.specs.Option.{IfSome, option_and_then}
-use Rattle.std.proofs.lemmas.Bool.{and_parts, cases_Bool}
+use Rattle.std.proofs.lemmas.Bool.{and_parts, cases_Bool, false_from_ne_true}
 use Rattle.std.proofs.lemmas.Cmp.{tied_itself}
 use Rattle.std.proofs.lemmas.List.Elements.{All-head, All-tail}
 use Rattle.std.proofs.lemmas.Option.{none-some, same_Some}
@@ -12,8 +12,8 @@ use Rattle.std.specs.declared.cmp.Ordering.{Ordering}
 use Rattle.std.specs.declared.cmp.Ordering.TheVariants.{Equal, Greater, Less}
 use Rattle.nf_base.specs.declared.rows.NodeRow.{NodeRow}
 use Rattle.nf_defs.proofs.Lookups.{equal_bytes}
-use Rattle.nf_defs.proofs.Puts.{key_total}
-use Rattle.nf_defs.specs.Prelude.{by_order, child_of, folder_of, found_from, is_folder, is_in, key_cmp, node_row, onward, parent_of, put}
+use Rattle.nf_defs.proofs.Puts.{below_rest, key_total, tail_rising, turned}
+use Rattle.nf_defs.specs.Prelude.{by_order, child_of, folder_of, found_from, is_folder, is_in, IsRising, key_cmp, node_row, onward, parent_of, put}
 use Rattle.nf_defs.specs.declared.Found.TheVariants.{At, Free, Missing}
 use Rattle.nf_defs.proofs.Walks.{inside_of, node_row_each}
 
@@ -68,6 +68,32 @@ put_leaves {R = R} key test row (x ∷ rows) off keyed = here (key_cmp (key row)
     here Less e rest = simp off refl
     here Equal e rest = simp (off, keyed x ((bytes_eq-Decides (key row) (key x)).0 (equal_bytes (key row) (key x) Equal e))) refl
     here Greater e rest = ap (λ (o : Option R). if test x then Some x else o) rest
+
+-- a row put over another makes no more of them
+pub put_length_over : {R : Type 0} (key : R → List ℕ) (sought : R → Bool) (row old : R) (rows : List R)
+    → ((x : R) → sought x ≡ true → key x ≡ key row) → IsRising key rows → find sought rows ≡ Some old
+    → length (put key row rows) ≡ length rows
+put_length_over key sought row old [] keyed rising is = absurd (none-some old is)
+put_length_over {R = R} key sought row old (x ∷ rows) keyed rising is =
+    here (key_cmp (key row) (key x)) refl (λ is. put_length_over key sought row old rows keyed (tail_rising key x rows rising) is)
+  where
+    behind : sought x ≡ false → find sought rows ≡ Some old
+    behind other = simp other at is
+
+    not_here : (o : Ordering) → key_cmp (key row) (key x) ≡ o → (o ≡ Equal → ⊥) → sought x ≡ false
+    not_here o e other =
+        false_from_ne_true (sought x) (λ passes. other (sym e ∙ ap (key_cmp (key row)) (keyed x passes) ∙ tied_itself key_total (key row)))
+
+    here : (o : Ordering) → key_cmp (key row) (key x) ≡ o → (find sought rows ≡ Some old → length (put key row rows) ≡ length rows)
+        → length (by_order o (row ∷ x ∷ rows) (row ∷ rows) (x ∷ put key row rows)) ≡ length (x ∷ rows)
+    here Less e rest =
+        let found = behind (not_here Less e (λ same. absurd (cc))) in
+        let after = subst (λ (o : Option R). IfSome o (λ (y : R). key_cmp (key x) (key y) ≡ Less)) found
+        (found_has (λ (y : R). key_cmp (key x) (key y) ≡ Less) sought rows (below_rest key x rows rising)) in
+        let less = ap (key_cmp (key x)) (sym (keyed old (found_passes sought rows old found))) ∙ after in
+        let greater = turned (key row) (key x) Less e in absurd (cc)
+    here Equal e rest = refl
+    here Greater e rest = ap suc (rest (behind (not_here Greater e (λ same. absurd (cc)))))
 
 -- ---- children
 

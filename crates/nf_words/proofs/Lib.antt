@@ -9,6 +9,7 @@ pub mod Starts
 pub mod Transfers
 pub mod Ways
 pub mod Mounting
+pub mod Ensured
 pub mod Begins
 pub mod Ends
 pub mod Histories
@@ -16,3 +17,4 @@ pub mod Marks
 pub mod Opens
 pub mod Orders
 pub mod Asks
+pub mod Provided

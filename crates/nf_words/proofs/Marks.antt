@@ -18,7 +18,7 @@ use Rattle.nf_words.specs.declared.request.Spot.{Spot}
 use Rattle.nf_defs.specs.Prelude.{Access, is_root, owner_of, Tables}
 use Rattle.nf_defs.specs.declared.Found.{Found}
 use Rattle.nf_defs.specs.declared.Found.TheVariants.{At, Missing}
-use Rattle.nf_words.specs.Prelude.{access_of, acts_rule, allowed_of, answer_at, answer_to, answered_by, asked_by, broken_by, Call, call_of, decision_of, earlier_rules, end_lost, end_refusal, end_unallowed, end_unreached, ends_at, ends_goal, exists_rule, first_refused, first_that_holds, forbidden_rule, goal_at, has_forbidden, is_caller, is_kept, is_owner, is_refused, is_transfer, key_in_way, later_rules, limit_at, limit_rule, limited, locked_rule, Need, need_broken, needed, needed_by, node_of_key, not_you_rule, overwrite_rule, Pass, pieces_of, place_of, paths_of, place_rule, places_of, refusal_of, root_of, Rule, seeker_of, source_lost, source_refused, State, stored_at, taken, target_lost, target_refused, target_rule, told_broken, token_rule, touches, unfit, unless_refused, unreached, unreached_by, users_of, Way, way_of, ways_of, caller_row, named_rule, sharing_rule, room_rule, unnamed, fault_by, limit_by, unnamed_by}
+use Rattle.nf_words.specs.Prelude.{access_of, acts_rule, allowed_of, answer_at, answer_to, answered_by, asked_by, broken_by, Call, call_of, decision_of, earlier_rules, end_lost, end_refusal, end_unallowed, end_unreached, ends_at, ends_goal, exists_rule, first_refused, first_that_holds, forbidden_rule, goal_at, has_forbidden, is_caller, is_kept, is_owner, is_refused, is_transfer, key_in_way, later_rules, limit_at, limit_rule, limited, locked_rule, Need, need_broken, needed, needed_by, node_of_key, not_you_rule, overwrite_rule, Pass, pieces_of, place_of, paths_of, place_rule, places_of, refusal_of, root_of, Rule, seeker_of, source_lost, source_refused, State, stored_at, taken, target_lost, target_refused, target_rule, told_broken, token_rule, touches, unfit, unless_refused, unreached, unreached_by, users_of, Way, way_of, ways_of, caller_row, named_rule, sharing_rule, room_rule, unnamed, fault_by, limit_by, unnamed_by, may_ask}
 use Rattle.nf_words.specs.declared.answer.Allowed.{Allowed}
 use Rattle.nf_words.specs.declared.answer.Denial.{Denial}
 use Rattle.nf_words.specs.declared.answer.Denial.TheVariants as denial
@@ -42,7 +42,7 @@ use Rattle.nf_words.specs.declared.request.ShareAsk.{ShareAsk}
 use Rattle.nf_words.specs.declared.request.ShareAsk.TheVariants as ask
 use Rattle.nf_words.specs.declared.request.Wanted.{Wanted}
 use Rattle.nf_words.specs.declared.request.Wanted.TheVariants as wanted
-use Rattle.nf_words.specs.declared.answer.ShareRule.{ShareRule}
+use Rattle.nf_words.specs.declared.answer.Breach.{Breach}
 use Rattle.nf_words.specs.declared.route.Route.TheVariants.{Files}
 
 -- a denial that no rule gives: the step failed, or there was no room for it
@@ -130,7 +130,7 @@ token_fine access call = unless_test (is_some (caller_row call)) denial.Token re
 
 not_you_fine : (access : Access) (call : Call) → IsEarly (not_you_rule access call)
 unfolding not_you_rule
-not_you_fine access call = unless_test (list_all (is_caller call) (users_of (asked_by call))) denial.NotYou refl
+not_you_fine access call = unless_test (list_all (is_caller call) (users_of (asked_by call)) && may_ask call) denial.NotYou refl
 
 forbidden_fine : (access : Access) (call : Call) → IsEarly (forbidden_rule access call)
 unfolding forbidden_rule
@@ -203,14 +203,15 @@ unfolding named_rule
 named_fine access call = here call.request.wanted
   where
     of_ask : (asked : ShareAsk) → IsEarly (unnamed call asked)
-    of_ask (ask.New spot name perms) = unless_test _ denial.NotFound refl
+    of_ask (ask.New spot name perms until) = unless_test _ denial.NotFound refl
     of_ask (ask.List spot with_me) = tt
     of_ask (ask.Show share) = unless_test _ denial.NotFound refl
-    of_ask (ask.Set share perms) = unless_test _ denial.NotFound refl
+    of_ask (ask.Set share perms until) = unless_test _ denial.NotFound refl
     of_ask (ask.End share) = unless_test _ denial.NotFound refl
 
     here : (wanted : Wanted) → IsEarly (unnamed_by call wanted)
     here (wanted.Share asked) = of_ask asked
+    here (wanted.People asked) = unless_test _ denial.NotFound refl
     here other = tt
 
 acts_fine : (access : Access) (call : Call) → IsEarly (acts_rule access call)
@@ -233,7 +234,7 @@ sharing_fine : (access : Access) (call : Call) → IsEarly (sharing_rule access 
 unfolding sharing_rule
 sharing_fine access call = here (fault_by access call call.request.wanted)
   where
-    here : (o : Option ShareRule) → IsEarly (option_map denial.Rule o)
+    here : (o : Option Breach) → IsEarly (option_map denial.Rule o)
     here None = tt
     here (Some fault) = refl
 

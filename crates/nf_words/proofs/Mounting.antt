@@ -4,7 +4,7 @@ use Rattle.std.specs.Prelude.{None, Some, is_some}
 use Rattle.std.specs.List.{All, AllPairs}
 use Rattle.std.specs.Option.{IfSome}
 use Rattle.std.specs.declared.cmp.Ordering.TheVariants.{Less}
-use Rattle.std.proofs.lemmas.Bool.{and_from, and_parts, both_ways, cases_Bool, eq-eqb, eqb-true, not-true}
+use Rattle.std.proofs.lemmas.Bool.{and_from, and_parts, both_ways, cases_Bool, eq-eqb, eqb-true, false_from_ne_true, not-true}
 use Rattle.std.proofs.lemmas.Cmp.{tied_itself}
 use Rattle.std.proofs.lemmas.List.Elements.{All-cons, All-nil}
 use Rattle.std.proofs.lemmas.Option.{none-some, same_Some}
@@ -16,10 +16,10 @@ use Rattle.nf_base.specs.declared.rows.MountRow.{MountRow}
 use Rattle.nf_base.specs.declared.rows.Row.TheVariants as rows
 use Rattle.nf_defs.specs.Prelude.{child_of, key_cmp, made, mount_key, put, Tables}
 use Rattle.nf_defs.proofs.Puts.{key_total}
-use Rattle.nf_words.proofs.Fits.{KnownChange}
+use Rattle.nf_words.proofs.Fits.{KnownChange, no_more, one_more}
 use Rattle.nf_words.proofs.Known.{Known}
-use Rattle.nf_words.proofs.Found.{found_has, found_passes, put_is_found}
-use Rattle.nf_words.specs.Prelude.{AreSound, asker_of, Call, IsLean, IsRemounted, left_row, mount_left, mount_of, mount_renamed, mounted, named_row, own_mount, root_of, way_by, way_of, with_mount_row}
+use Rattle.nf_words.proofs.Found.{found_has, found_passes, put_is_found, put_leaves}
+use Rattle.nf_words.specs.Prelude.{AreSound, asker_of, Call, IsLean, IsRemounted, left_row, mount_left, mount_of, mount_renamed, mounted, named_row, own_mount, raised, root_of, way_by, way_of, with_mount_row}
 use Rattle.nf_words.specs.declared.answer.Report.TheVariants as report
 use Rattle.nf_words.specs.declared.request.Spot.{Spot}
 
@@ -106,6 +106,27 @@ mount_found row old =
     itself : is_mount_of row.user row.node row ≡ true
     itself = and_from (row.user == row.user) (row.node == row.node) (eq-eqb row.user row.user refl) (eq-eqb row.node row.node refl)
 
+-- a mount of another user or node isn't sought
+pub not_mount : (row : MountRow) (user node : ℕ) → (row.user ≡ user → row.node ≡ node → ⊥) → is_mount_of user node row ≡ false
+not_mount row user node other =
+    false_from_ne_true (is_mount_of user node row) (λ is.
+    let parts = and_parts (row.user == user) (row.node == node) is in
+    other (eqb-true row.user user parts.0) (eqb-true row.node node parts.1))
+
+-- so it is left where one is put
+pub mount_left_so : (row : MountRow) (old : List MountRow) (user node : ℕ) → is_mount_of user node row ≡ false
+    → mount_row (put mount_key row old) user node ≡ mount_row old user node
+mount_left_so row old user node off =
+    put_leaves mount_key (is_mount_of user node) row old off
+    (λ x same. not_mount x user node (λ a b. both_ways (is_mount_of user node row) off
+    (and_from (row.user == user) (row.node == node) (eq-eqb row.user user (users same ∙ a)) (eq-eqb row.node node (nodes same ∙ b)))))
+  where
+    users : {a b c d : ℕ} → a ∷ b ∷ [] ≡ c ∷ d ∷ [] → a ≡ c
+    users same = cc
+
+    nodes : {a b c d : ℕ} → a ∷ b ∷ [] ≡ c ∷ d ∷ [] → b ≡ d
+    nodes same = cc
+
 remount_lean : (t : Tables) (row : MountRow) → mount_row t.mounts row.user row.node ≢ Some row → IsLean t (Put (rows.Mount row) ∷ [])
 remount_lean t row other = record {
   once = λ i j d before within. absurd (omega arith);
@@ -116,17 +137,20 @@ remount_lean t row other = record {
 
 pub remount_known : (t : Tables) (now : ℕ) (row : MountRow) → IsRemounted t row
     → KnownChange t now (Put (rows.Mount row) ∷ []) None
-remount_known t now row is = record {
-  rows = (
-    (refl, inl (record { old = is.old; there = is.there; same = is.same; other = is.other; free = is.free; apart = is.apart })),
-    tt,
-  );
-  lean = remount_lean t row (λ same. is.other (same_Some row is.old (sym same ∙ is.there)));
-  stored = λ none. absurd (cc);
-  next_node = omega arith;
-  next_share = omega arith;
-  next_blob = omega arith;
-}
+remount_known t now row is =
+    let up = raised t now (Put (rows.Mount row) ∷ []) None in
+    record {
+      rows = one_more up (Put (rows.Mount row)) []
+          (refl, inl (record { old = is.old; there = is.there; same = is.same; other = is.other; free = is.free; apart = is.apart }))
+          (no_more (made up (Put (rows.Mount row))));
+      lean = remount_lean t row (λ same. is.other (same_Some row is.old (sym same ∙ is.there)));
+      stored = λ none. absurd (cc);
+      next_user = omega arith;
+      next_group = omega arith;
+      next_node = omega arith;
+      next_share = omega arith;
+      next_blob = omega arith;
+    }
 
 -- ---- of a call
 

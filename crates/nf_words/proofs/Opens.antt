@@ -6,7 +6,7 @@ use Rattle.nf_base.specs.declared.rows.NodeRow.{NodeRow}
 use Rattle.nf_defs.specs.Prelude.{Access, content_of, is_folder, Tables}
 use Rattle.nf_defs.specs.declared.Found.{Found}
 use Rattle.nf_defs.specs.declared.Found.TheVariants.{At, Free, Missing}
-use Rattle.nf_words.specs.Prelude.{access_of, allowed_of, answer_to, answered_by, asked_of, by_of, Call, call_of, copied, copies_to, crosses, decided, decision_of, deleted, end_refusal, ends_at, exists_rule, found, given, goal_at, goal_of, hold_of, is_off_mount, is_root_at, last_name, listing_of, made_folder, mount_left, mount_renamed, moved, node_at, node_found, refusal_of, reply_by, reply_to, reported, root_of, served, shown, source_lost, State, step, stored, stored_at, taken, target_lost, target_rule, transfer_between, transfer_by, transfer_of, transfer_to, unfit, unfit_between, unless_refused, Way, way_of, ways_for, with_goal, shared, share_made, nothing_done, offered, share_told, share_shown, share_set, perms_after, share_steered, share_ended}
+use Rattle.nf_words.specs.Prelude.{access_of, allowed_of, answer_to, answered_by, asked_of, by_of, Call, call_of, copied, copies_to, crosses, decided, decision_of, deleted, end_refusal, ends_at, exists_rule, found, given, goal_at, goal_of, hold_of, is_off_mount, is_root_at, last_name, listing_of, made_folder, mount_left, mount_renamed, moved, node_at, node_found, refusal_of, reply_by, reply_to, reported, root_of, served, shown, source_lost, State, step, stored, stored_at, taken, target_lost, target_rule, transfer_between, transfer_by, transfer_of, transfer_to, unfit, unfit_between, unless_refused, Way, way_of, ways_for, with_goal, shared, share_made, nothing_done, offered, share_told, share_shown, share_set, perms_after, share_steered, share_ended, until_after}
 use Rattle.nf_words.specs.declared.answer.Allowed.{Allowed}
 use Rattle.nf_words.specs.declared.answer.Allowed.TheVariants as allowed
 use Rattle.nf_words.specs.declared.answer.Denial.{Denial}
@@ -33,7 +33,7 @@ use Rattle.nf_words.specs.declared.request.Transfer.{Transfer}
 use Rattle.nf_words.specs.declared.request.Words.{Words}
 use Rattle.nf_words.specs.declared.request.Wanted.{Wanted}
 use Rattle.nf_words.specs.declared.route.Route.TheVariants.{Files}
-use Rattle.nf_words.specs.declared.request.Wanted.TheVariants.{Get, Put, Mkcol, Delete, Move, Copy, Share}
+use Rattle.nf_words.specs.declared.request.Wanted.TheVariants.{Get, Put, Mkcol, Delete, Move, Copy, Share, People}
 use Rattle.nf_words.proofs.Begins.{only_at, places_at}
 use Rattle.nf_words.proofs.Passing.{no_fault, PlacePasses, place_passes, unrefused}
 use Rattle.nf_words.proofs.Transfers.{fit_parts, FitParts, same_transfer}
@@ -128,7 +128,7 @@ only_source None none = refl
 only_source (Some refusal) none = absurd (cc)
 
 open_shared : (access : Access) (call : Call) (places : Places) (asked : ShareAsk) → shared access call places asked ≢ allowed.Close
-open_shared access call places (ask.New spot name perms) = here (offered call spot name perms)
+open_shared access call places (ask.New spot name perms until) = here (offered call spot name perms until)
   where
     here : (o : Option Offer) → option_map_or (share_made access call) o nothing_done ≢ allowed.Close
     here None = λ is. cc
@@ -139,10 +139,11 @@ open_shared access call places (ask.Show share) = here (share_shown call share)
     here : (o : Option ShareRow) → option_map_or (share_told call.state.tables []) o nothing_done ≢ allowed.Close
     here None = λ is. cc
     here (Some row) = λ is. cc
-open_shared access call places (ask.Set share perms) = here (share_steered call share)
+open_shared access call places (ask.Set share perms until) = here (share_steered call share)
   where
     here : (o : Option ShareRow)
-        → option_map_or (λ row. share_set call.state.tables (perms_after call.state.tables perms row) row) o nothing_done ≢ allowed.Close
+        → option_map_or (λ row. share_set call.state.tables (perms_after call.state.tables perms row) (until_after until row.until) row) o nothing_done
+        ≢ allowed.Close
     here None = λ is. cc
     here (Some row) = λ is. cc
 open_shared access call places (ask.End share) = here (share_steered call share)
@@ -181,6 +182,7 @@ open_given call (Copy source to overwrite) led free fits =
     open_copied call.state.tables call.now (last_name to) (transfer_of call.state.tables.nodes places)
     (fits_some call.state.tables.nodes (root_of call) (way_of call source) (way_of call to) led.there fits)
 open_given call (Share asked) led free fits = open_shared (access_of call.state) call (places_at call (Share asked)) asked
+open_given call (People asked) led free fits = λ is. cc
 
 -- a Begin isn't
 pub begins_open : (s : State) (seat now : ℕ) (words : Words) (request : Request) → answer_to s seat now (Begin words request) ≢ Ok Closed

@@ -15,7 +15,7 @@ use Rattle.nf_words.specs.declared.answer.Denial.{Denial}
 use Rattle.nf_words.specs.declared.answer.Denial.TheVariants as denial
 use Rattle.nf_words.specs.declared.answer.Limit.{Limit}
 use Rattle.nf_words.specs.declared.answer.LockKey.{LockKey}
-use Rattle.nf_words.specs.declared.answer.ShareRule.{ShareRule}
+use Rattle.nf_words.specs.declared.answer.Breach.{Breach}
 use Rattle.nf_words.specs.declared.answer.TargetFault.{TargetFault}
 use Rattle.nf_words.specs.declared.request.Spot.{Spot}
 
@@ -193,7 +193,7 @@ pub no_key : (key : Option LockKey) → option_map denial.Locked key ≡ None �
 no_key None none = refl
 no_key (Some key) none = absurd (cc)
 
-pub no_rule : (fault : Option ShareRule) → option_map denial.Rule fault ≡ None → fault ≡ None
+pub no_rule : (fault : Option Breach) → option_map denial.Rule fault ≡ None → fault ≡ None
 no_rule None none = refl
 no_rule (Some fault) none = absurd (cc)
 

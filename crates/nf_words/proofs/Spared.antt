@@ -4,22 +4,24 @@ use Rattle.std.specs.Prelude.{None, Some, IsNone, nat_lt, option_and_then, optio
 use Rattle.std.specs.List.{All, AllPairs, list_any}
 use Rattle.std.specs.Option.{IfSome, option_map_or}
 use Rattle.std.proofs.lemmas.Bool.{both_ways, eq-eqb, eqb-true, not-true}
-use Rattle.std.proofs.lemmas.List.Elements.{All-cons, All-filter, All-head, All-nil, All-tail, filter_passes}
+use Rattle.std.proofs.lemmas.List.Elements.{All-cons, All-filter, All-head, All-map, All-nil, All-tail, filter_passes}
 use Rattle.std.proofs.lemmas.Option.{none-some, same_Some}
 use Rattle.std.proofs.lemmas.Slice.Eq.{bytes_eq-Decides}
 use Rattle.nf_access.specs.Mounts.{ensured}
 use Rattle.nf_base.specs.Content.{content_eq}
 use Rattle.nf_base.specs.declared.changes.Change.{Change}
-use Rattle.nf_base.specs.declared.changes.Change.TheVariants.{Put}
+use Rattle.nf_base.specs.declared.changes.Change.TheVariants.{Drop, Put}
+use Rattle.nf_base.specs.declared.changes.RowKey.TheVariants as keys
 use Rattle.nf_base.specs.declared.content.Piece.{Piece}
 use Rattle.nf_base.specs.declared.rows.NodeKind.{NodeKind}
 use Rattle.nf_base.specs.declared.rows.NodeKind.TheVariants.{File, Folder}
+use Rattle.nf_base.specs.declared.rows.MemberRow.{MemberRow}
 use Rattle.nf_base.specs.declared.rows.MountRow.{MountRow}
 use Rattle.nf_base.specs.declared.rows.NodeRow.{NodeRow}
 use Rattle.nf_base.specs.declared.rows.Place.TheVariants.{Inside}
 use Rattle.nf_base.specs.declared.rows.Row.TheVariants as rows
 use Rattle.nf_base.specs.declared.rows.UserRow.{UserRow}
-use Rattle.nf_defs.specs.Prelude.{Access, content_of, is_folder, is_under, node_row, Tables}
+use Rattle.nf_defs.specs.Prelude.{Access, content_of, is_folder, is_under, node_row, Tables, user_named}
 use Rattle.nf_defs.specs.declared.Found.{Found}
 use Rattle.nf_defs.specs.declared.Found.TheVariants.{At, Free, Missing}
 use Rattle.nf_words.proofs.Begins.{only_at, places_at, wanted_passes, WantedPasses}
@@ -29,7 +31,7 @@ use Rattle.nf_words.proofs.Passing.{call_passes, no_key, not_refused}
 use Rattle.nf_words.proofs.Starts.{has_row}
 use Rattle.nf_words.proofs.Steps.{fails_each}
 use Rattle.nf_words.proofs.Transfers.{copies_known}
-use Rattle.nf_words.specs.Prelude.{access_of, AreApartHolds, AreKeysApart, AreSound, asked_by, asked_of, blob_for, blocks, by_of, Call, call_decision, call_of, caller_row, carry_limit, clashes, content_in, copied, copies_to, copy_limit, crosses, decision_of, deleted, end_decision, end_refusal, ends_at, ends_goal, found, given, HoldsFor, is_exclusive, IsNodeSound, IsSound, IsTicketSound, key_in_way, last_name, least, left_row, lesser, limited, listing_of, locked_rule, made_folder, makes, MayAsk, MayWant, mount_left, mount_renamed, move_limit, moved, named_row, new_node, node_at, node_of_key, own_mount, places_of, refilled, root_of, same_key, served, source_touches, State, stored, stored_at, target_touches, ticket_of, Touch, touch_key, touch_under, touched, touches, transfer_of, transfer_touches, unfit_between, unreached, way_of, with_mount_row, without, without_ticket, share_made, shared, new_share, nothing_done, mounting, offered, share_told, share_shown, share_set, perms_after, share_steered, share_ended, ended_row}
+use Rattle.nf_words.specs.Prelude.{access_of, AreApartHolds, AreKeysApart, AreSound, asked_by, asked_of, blob_for, blocks, by_of, Call, call_decision, call_of, caller_row, carry_limit, clashes, content_in, copied, copies_to, copy_limit, crosses, decision_of, deleted, end_decision, end_refusal, ends_at, ends_goal, found, given, HoldsFor, is_exclusive, IsNodeSound, IsSound, IsTicketSound, key_in_way, last_name, least, left_row, lesser, limited, listing_of, locked_rule, made_folder, makes, MayAsk, MayWant, mount_left, mount_renamed, move_limit, moved, named_row, new_node, node_at, node_of_key, own_mount, places_of, refilled, root_of, same_key, served, source_touches, State, stored, stored_at, target_touches, ticket_of, Touch, touch_key, touch_under, touched, touches, transfer_of, transfer_touches, unfit_between, unreached, way_of, with_mount_row, without, without_ticket, share_made, shared, new_share, nothing_done, mounting, offered, share_told, share_shown, share_set, perms_after, share_steered, share_ended, ended_row, put_mounts, until_after, mounts_for, same_end, set_row, new_user, new_root, membership, mounts_joined, joined_by, left_by, is_member, row_named, requoted, people_changed}
 use Rattle.nf_words.specs.declared.answer.Allowed.{Allowed}
 use Rattle.nf_words.specs.declared.answer.Allowed.TheVariants as allowed
 use Rattle.nf_words.specs.declared.answer.By.{By}
@@ -52,6 +54,8 @@ use Rattle.nf_words.specs.declared.history.Outcome.TheVariants.{Body, Gone, Sent
 use Rattle.nf_words.specs.declared.history.Ticket.{Ticket}
 use Rattle.nf_base.specs.declared.rows.ShareRow.{ShareRow}
 use Rattle.nf_words.specs.declared.request.Offer.{Offer}
+use Rattle.nf_words.specs.declared.request.PeopleAsk.{PeopleAsk}
+use Rattle.nf_words.specs.declared.request.PeopleAsk.TheVariants as people
 use Rattle.nf_words.specs.declared.request.Places.{Places}
 use Rattle.nf_words.specs.declared.request.ShareAsk.{ShareAsk}
 use Rattle.nf_words.specs.declared.request.ShareAsk.TheVariants as ask
@@ -305,24 +309,20 @@ module _ (call : Call) (row : UserRow) (hold : Hold) (sound : AreSound call.stat
   )
 
   -- no key is of a share or of a mount
-  share_spares : (offer : Offer) → IsSpared (share_made (access_of call.state) call offer)
-  share_spares offer = here (ensured t.users t.nodes t.mounts offer.to offer.node)
-    where
-      share : Change
-      share = Put (rows.Share (new_share (access_of call.state) call offer))
+  mounts_spare : (mounts : List MountRow) → All (SparesChange t hold.key) (put_mounts mounts)
+  mounts_spare mounts = All-map (SparesChange t hold.key) (λ row. Put (rows.Mount row)) mounts (λ k d within. tt)
 
-      here : (mount : Option MountRow) → All (SparesChange t hold.key) (share ∷ mounting mount)
-      here None = All-cons (SparesChange t hold.key) share [] tt (All-nil (SparesChange t hold.key))
-      here (Some mount) =
-          All-cons (SparesChange t hold.key) share (Put (rows.Mount mount) ∷ []) tt
-          (All-cons (SparesChange t hold.key) (Put (rows.Mount mount)) [] tt (All-nil (SparesChange t hold.key)))
+  share_spares : (offer : Offer) → IsSpared (share_made (access_of call.state) call offer)
+  share_spares offer =
+      All-cons (SparesChange t hold.key) (Put (rows.Share (new_share (access_of call.state) call offer))) (put_mounts (mounts_for t offer)) tt
+      (mounts_spare (mounts_for t offer))
 
   put_spares : (row : ShareRow) (b : Bool) → All (SparesChange t hold.key) (if b then [] else Put (rows.Share row) ∷ [])
   put_spares row true = All-nil (SparesChange t hold.key)
   put_spares row false = All-cons (SparesChange t hold.key) (Put (rows.Share row)) [] tt (All-nil (SparesChange t hold.key))
 
   asks_spare : (places : Places) (asked : ShareAsk) → IsSpared (shared (access_of call.state) call places asked)
-  asks_spare places (ask.New spot name perms) = here (offered call spot name perms)
+  asks_spare places (ask.New spot name perms until) = here (offered call spot name perms until)
     where
       here : (o : Option Offer) → IsSpared (option_map_or (share_made (access_of call.state) call) o nothing_done)
       here None = All-nil (SparesChange t hold.key)
@@ -333,16 +333,68 @@ module _ (call : Call) (row : UserRow) (hold : Hold) (sound : AreSound call.stat
       here : (o : Option ShareRow) → IsSpared (option_map_or (share_told t []) o nothing_done)
       here None = All-nil (SparesChange t hold.key)
       here (Some row) = All-nil (SparesChange t hold.key)
-  asks_spare places (ask.Set share perms) = here (share_steered call share)
+  asks_spare places (ask.Set share perms until) = here (share_steered call share)
     where
-      here : (o : Option ShareRow) → IsSpared (option_map_or (λ row. share_set t (perms_after t perms row) row) o nothing_done)
+      here : (o : Option ShareRow)
+          → IsSpared (option_map_or (λ row. share_set t (perms_after t perms row) (until_after until row.until) row) o nothing_done)
       here None = All-nil (SparesChange t hold.key)
-      here (Some row) = put_spares (record row { perms = perms_after t perms row }) (perms_after t perms row == row.perms)
+      here (Some row) =
+          let end = until_after until row.until in
+          put_spares (set_row (perms_after t perms row) end row) (perms_after t perms row == row.perms && same_end end row.until)
   asks_spare places (ask.End share) = here (share_steered call share)
     where
       here : (o : Option ShareRow) → IsSpared (option_map_or share_ended o nothing_done)
       here None = All-nil (SparesChange t hold.key)
       here (Some row) = put_spares (ended_row row) false
+
+  -- nor of a user or a group, and the root of a new user is in no folder
+  people_spare : (asked : PeopleAsk) → IsSpared (allowed.Change (people_changed t call.now asked) None report.Plain)
+  people_spare (people.NewUser name token quota) =
+      let Fine : Change → Type 0 = SparesChange t hold.key in
+      let root : Change = Put (rows.Node (new_root t call.now name)) in
+      let holds : Change = Put (rows.Token (record { digest = token; user = t.meta.next_user })) in
+      All-cons Fine (Put (rows.User (new_user t name quota))) (root ∷ holds ∷ []) tt
+      (All-cons Fine root (holds ∷ [])
+      (record { node = λ given. absurd (omega (arith, given)); slot = λ fresh folder place. absurd (cc) })
+      (All-cons Fine holds [] tt (All-nil Fine)))
+  people_spare (people.NewGroup name) = All-cons (SparesChange t hold.key) _ [] tt (All-nil (SparesChange t hold.key))
+  people_spare (people.AddMember user group) = here (membership t user group)
+    where
+      joins : (row : MemberRow) (b : Bool)
+          → All (SparesChange t hold.key) (if b then [] else Put (rows.Member row) ∷ put_mounts (mounts_joined t row))
+      joins row true = All-nil (SparesChange t hold.key)
+      joins row false =
+          All-cons (SparesChange t hold.key) (Put (rows.Member row)) (put_mounts (mounts_joined t row)) tt (mounts_spare (mounts_joined t row))
+
+      here : (o : Option MemberRow) → All (SparesChange t hold.key) (option_map_or (joined_by t) o [])
+      here None = All-nil (SparesChange t hold.key)
+      here (Some row) = joins row (is_member t row)
+  people_spare (people.DropMember user group) = here (membership t user group)
+    where
+      leaves : (row : MemberRow) (b : Bool) → All (SparesChange t hold.key) (if b then Drop (keys.Member row.group row.user) ∷ [] else [])
+      leaves row true = All-cons (SparesChange t hold.key) (Drop (keys.Member row.group row.user)) [] tt (All-nil (SparesChange t hold.key))
+      leaves row false = All-nil (SparesChange t hold.key)
+
+      here : (o : Option MemberRow) → All (SparesChange t hold.key) (option_map_or (left_by t) o [])
+      here None = All-nil (SparesChange t hold.key)
+      here (Some row) = leaves row (is_member t row)
+  people_spare (people.SetQuota user quota) = here (row_named t user)
+    where
+      another : (row : UserRow) (b : Bool) → All (SparesChange t hold.key) (if b then [] else Put (rows.User (record row { quota = quota })) ∷ [])
+      another row true = All-nil (SparesChange t hold.key)
+      another row false =
+          All-cons (SparesChange t hold.key) (Put (rows.User (record row { quota = quota }))) [] tt (All-nil (SparesChange t hold.key))
+
+      here : (o : Option UserRow) → All (SparesChange t hold.key) (option_map_or (requoted quota) o [])
+      here None = All-nil (SparesChange t hold.key)
+      here (Some row) = another row (row.quota == quota)
+  people_spare (people.AddToken user token) = here (user_named t.users user)
+    where
+      here : (o : Option ℕ)
+          → All (SparesChange t hold.key) (option_map_or (λ user. Put (rows.Token (record { digest = token; user = user })) ∷ []) o [])
+      here None = All-nil (SparesChange t hold.key)
+      here (Some user) =
+          All-cons (SparesChange t hold.key) (Put (rows.Token (record { digest = token; user = user }))) [] tt (All-nil (SparesChange t hold.key))
 
   wanted_spares : (wanted : Wanted) → WantedPasses call wanted → IsClear t hold (touches t.nodes (asked_of wanted) (places_at call wanted))
       → IsSpared (given (access_of call.state) call (places_at call wanted) wanted)
@@ -356,6 +408,7 @@ module _ (call : Call) (row : UserRow) (hold : Hold) (sound : AreSound call.stat
   wanted_spares (Copy from to overwrite) p clear =
       copy_spares from to (p.place.source refl) p.place.target p.fits (transfer_of t.nodes (led from to)) refl p.few clear
   wanted_spares (wanted.Share asked) p clear = asks_spare (places_at call (wanted.Share asked)) asked
+  wanted_spares (wanted.People asked) p clear = people_spare asked
 
 -- ---- nobody is in the way
 

@@ -7,7 +7,7 @@ use Rattle.nf_words.specs.declared.request.Spot.{Spot}
 use Rattle.nf_words.specs.declared.request.Wanted.{Wanted}
 use Rattle.nf_words.specs.declared.request.ShareAsk.{ShareAsk}
 use Rattle.nf_words.specs.declared.request.ShareAsk.TheVariants as ask
-use Rattle.nf_words.specs.declared.request.Wanted.TheVariants.{Get, Put, Mkcol, Delete, Move, Copy, Share}
+use Rattle.nf_words.specs.declared.request.Wanted.TheVariants.{Get, Put, Mkcol, Delete, Move, Copy, Share, People}
 
 -- the place of what it acts upon, that of what it makes or stores over, what it makes there, whether what is at the source doesn't
 -- stay, and whether what is at the target may be replaced
@@ -23,10 +23,10 @@ asks_nothing = record { source = None; target = None; makes = making.Nothing; re
 
 -- a new share is of what is at the source, and so are the shares that are told
 abbrev pub asked_about : ShareAsk → Asked
-asked_about (ask.New spot to perms) = record asks_nothing { source = Some spot; makes = making.Shared }
+asked_about (ask.New spot to perms until) = record asks_nothing { source = Some spot; makes = making.Shared }
 asked_about (ask.List spot with_me) = record asks_nothing { source = spot; makes = making.Told }
 asked_about (ask.Show share) = asks_nothing
-asked_about (ask.Set share perms) = asks_nothing
+asked_about (ask.Set share perms until) = asks_nothing
 asked_about (ask.End share) = asks_nothing
 
 abbrev pub asked_of : Wanted → Asked
@@ -39,6 +39,7 @@ asked_of (Move source target overwrite) =
 asked_of (Copy source target overwrite) =
     record { source = Some source; target = Some target; makes = making.Copied; removes = false; overwrites = overwrite }
 asked_of (Share ask) = asked_about ask
+asked_of (People ask) = asks_nothing
 
 -- ---- what follows from it
 
@@ -75,3 +76,8 @@ is_transfer making.Told = false
 abbrev pub is_about_shares : Wanted → Bool
 is_about_shares (Share ask) = true
 is_about_shares other = false
+
+-- something is asked about users and groups
+abbrev pub is_about_people : Wanted → Bool
+is_about_people (People ask) = true
+is_about_people other = false

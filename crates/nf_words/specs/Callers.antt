@@ -1,10 +1,11 @@
 -- The rules of who asks.
-use Rattle.std.specs.Prelude.{ℕ, Bool, false, bytes_eq, List, Option, None, Some, is_some, if◌then◌else◌}
+use Rattle.std.specs.Prelude.{ℕ, Bool, false, not, ◌&&◌, ◌||◌, bytes_eq, List, Option, None, Some, is_some, if◌then◌else◌}
 use Rattle.std.specs.List.{list_all}
 use Rattle.std.specs.Option.{option_map_or}
 use Rattle.nf_defs.specs.Access.{Access}
-use Rattle.nf_words.specs.Asked.{users_of}
-use Rattle.nf_words.specs.Calls.{Call, asked_by, caller_row}
+use Rattle.nf_defs.specs.People.{is_admin}
+use Rattle.nf_words.specs.Asked.{is_about_people, users_of}
+use Rattle.nf_words.specs.Calls.{Call, asked_by, asker_of, caller_row}
 use Rattle.nf_words.specs.declared.answer.Denial.{Denial}
 use Rattle.nf_words.specs.declared.answer.Denial.TheVariants as denial
 
@@ -16,6 +17,12 @@ token_rule access call = if is_some (caller_row call) then None else Some denial
 abbrev pub is_caller : Call → List ℕ → Bool
 is_caller call name = option_map_or (λ row. bytes_eq row.name name) (caller_row call) false
 
--- `not-you`: a user in the path isn't the caller
+-- users and groups are asked about by members of the group `admin` alone
+abbrev pub may_ask : Call → Bool
+may_ask call =
+    not (is_about_people call.request.wanted) || is_admin call.state.tables.groups call.state.tables.members (asker_of call)
+
+-- `not-you`: a user in the path isn't the caller, or who asks about users and groups is no administrator
 unfoldable pub not_you_rule : Access → Call → Option Denial
-not_you_rule access call = if list_all (is_caller call) (users_of (asked_by call)) then None else Some denial.NotYou
+not_you_rule access call =
+    if list_all (is_caller call) (users_of (asked_by call)) && may_ask call then None else Some denial.NotYou

@@ -1,7 +1,7 @@
 -- What each act changes and is answered, where no rule refuses it.
-use Rattle.std.specs.Prelude.{ℕ, ◌+◌, ◌==◌, ◌&&◌, not, Bool, true, List, [], ◌∷◌, ◌++◌, filter, length, map, max, Option, None, Some, option_map, option_and_then, if◌then◌else◌}
+use Rattle.std.specs.Prelude.{ℕ, ◌+◌, ◌==◌, ◌&&◌, not, Bool, true, false, List, [], ◌∷◌, ◌++◌, filter, length, map, max, Option, None, Some, is_none, option_map, option_and_then, if◌then◌else◌}
 use Rattle.std.specs.Option.{option_map_or}
-use Rattle.nf_access.specs.Mounts.{ensured, mount_row}
+use Rattle.nf_access.specs.Mounts.{mount_row}
 use Rattle.nf_base.specs.Content.{content_eq}
 use Rattle.nf_base.specs.declared.changes.Change.{Change}
 use Rattle.nf_base.specs.declared.changes.Change.TheVariants.{Put, Drop}
@@ -22,8 +22,9 @@ use Rattle.nf_words.specs.State.{State, ticket_for}
 use Rattle.nf_words.specs.Calls.{asker_of, Call, last_name, places_of, seeker_of, Way, way_of}
 use Rattle.nf_words.specs.Copies.{copies_to}
 use Rattle.nf_words.specs.Listing.{listing_of}
+use Rattle.nf_words.specs.People.{people_changed, put_mounts}
 use Rattle.nf_words.specs.Places.{crosses, node_at, transfer_of}
-use Rattle.nf_words.specs.Sharing.{new_share, offered, perms_after, share_line, share_lines, share_shown, share_steered}
+use Rattle.nf_words.specs.Sharing.{mounts_for, new_share, offered, perms_after, share_line, share_lines, share_shown, share_steered, until_after}
 use Rattle.nf_words.specs.declared.request.Offer.{Offer}
 use Rattle.nf_words.specs.declared.request.Places.{Places}
 use Rattle.nf_words.specs.declared.request.ShareAsk.{ShareAsk}
@@ -149,30 +150,40 @@ share_told t changes row = allowed.Change changes None (option_map_or report.Sha
 abbrev pub nothing_done : Allowed
 nothing_done = allowed.Change [] None report.Plain
 
--- a share is made, and its user has a mount of the node
+-- a share is made, and those whom it names have a mount of the node
 abbrev pub share_made : Access → Call → Offer → Allowed
 share_made access call offer =
     let t = call.state.tables in
     let row = new_share access call offer in
-    share_told t (Put (rows.Share row) ∷ mounting (ensured t.users t.nodes t.mounts offer.to offer.node)) row
+    share_told t (Put (rows.Share row) ∷ put_mounts (mounts_for t offer)) row
 
--- a share has those permissions
-abbrev pub share_set : Tables → ℕ → ShareRow → Allowed
-share_set t perms row =
-    share_told t (if perms == row.perms then [] else Put (rows.Share (record row { perms = perms })) ∷ []) (record row { perms = perms })
+-- a share with those permissions and that end
+abbrev pub set_row : ℕ → Option ℕ → ShareRow → ShareRow
+set_row perms until row = record row { perms = perms; until = until }
+
+abbrev pub same_end : Option ℕ → Option ℕ → Bool
+same_end None other = is_none other
+same_end (Some end) other = option_map_or (λ moment. moment == end) other false
+
+-- a share has those permissions and that end
+abbrev pub share_set : Tables → ℕ → Option ℕ → ShareRow → Allowed
+share_set t perms until row =
+    share_told t (if perms == row.perms && same_end until row.until then [] else Put (rows.Share (set_row perms until row)) ∷ [])
+    (set_row perms until row)
 
 -- a share is ended
 abbrev pub share_ended : ShareRow → Allowed
 share_ended row = allowed.Change (Put (rows.Share (ended_row row)) ∷ []) None report.Plain
 
 abbrev pub shared : Access → Call → Places → ShareAsk → Allowed
-shared access call places (ask.New spot to perms) =
-    option_map_or (share_made access call) (offered call spot to perms) nothing_done
+shared access call places (ask.New spot to perms until) =
+    option_map_or (share_made access call) (offered call spot to perms until) nothing_done
 shared access call places (ask.List spot with_me) =
     allowed.Change [] None (report.Shares (share_lines call.state.tables (asker_of call) (node_at places.source) with_me))
 shared access call places (ask.Show share) = option_map_or (share_told call.state.tables []) (share_shown call share) nothing_done
-shared access call places (ask.Set share perms) =
-    option_map_or (λ row. share_set call.state.tables (perms_after call.state.tables perms row) row) (share_steered call share) nothing_done
+shared access call places (ask.Set share perms until) =
+    option_map_or (λ row. share_set call.state.tables (perms_after call.state.tables perms row) (until_after until row.until) row)
+    (share_steered call share) nothing_done
 shared access call places (ask.End share) = option_map_or share_ended (share_steered call share) nothing_done
 
 abbrev pub given : Access → Call → Places → Wanted → Allowed
@@ -188,6 +199,7 @@ given access call places (wanted.Move source target overwrite) =
 given access call places (wanted.Copy source target overwrite) =
     copied call.state.tables call.now (last_name target) (transfer_of call.state.tables.nodes places)
 given access call places (wanted.Share ask) = shared access call places ask
+given access call places (wanted.People ask) = allowed.Change (people_changed call.state.tables call.now ask) None report.Plain
 
 -- what a call that no rule refuses may do, by what shares let their seekers do
 abbrev pub allowed_of : Access → Call → Allowed

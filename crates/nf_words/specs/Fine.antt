@@ -2,12 +2,20 @@
 use Rattle.std.specs.Prelude.{◌≡◌, ◌≢◌, ◌⊎◌, List, ℕ, ◌+◌, ◌<◌, ◌≤◌, All, false, true, [], length, Option, None, Some, is_some}
 use Rattle.nf_access.specs.Mounts.{mount_at, mount_row, root_folder}
 use Rattle.nf_access.specs.Shares.{chain_of, share_row}
-use Rattle.nf_base.specs.declared.limits.TheConstants.{MAX_CHAIN, MAX_DEPTH, MAX_MOUNTS, MAX_NODES, MAX_SHARES, MAX_STORED_PIECES}
+use Rattle.nf_base.specs.declared.limits.TheConstants.{MAX_CHAIN, MAX_DEPTH, MAX_GROUPS, MAX_MEMBERS, MAX_MOUNTS, MAX_NODES, MAX_SHARES, MAX_STORED_PIECES, MAX_TOKENS, MAX_USERS}
+use Rattle.nf_base.specs.declared.changes.Change.{Change}
+use Rattle.nf_base.specs.declared.changes.Change.TheVariants.{Put, Drop}
+use Rattle.nf_base.specs.declared.changes.RowKey.TheVariants as keys
+use Rattle.nf_base.specs.declared.rows.GroupRow.{GroupRow}
+use Rattle.nf_base.specs.declared.rows.MemberRow.{MemberRow}
 use Rattle.nf_base.specs.declared.rows.MountRow.{MountRow}
 use Rattle.nf_base.specs.declared.rows.NodeRow.{NodeRow}
-use Rattle.nf_base.specs.declared.rows.Place.TheVariants.{Inside}
+use Rattle.nf_base.specs.declared.rows.Place.TheVariants.{Inside, Root}
+use Rattle.nf_base.specs.declared.rows.Row.TheVariants as rows
 use Rattle.nf_base.specs.declared.rows.ShareRow.{ShareRow}
-use Rattle.nf_defs.specs.Prelude.{child_of, depth, filled, is_folder, is_folder_kind, is_root, node_row, owner_of, Tables, user_row}
+use Rattle.nf_base.specs.declared.rows.TokenRow.{TokenRow}
+use Rattle.nf_base.specs.declared.rows.UserRow.{UserRow}
+use Rattle.nf_defs.specs.Prelude.{child_of, depth, filled, group_named, group_row, holder_of, is_folder, is_folder_kind, is_member_of, is_root, node_row, owner_of, Tables, user_named, user_row}
 use Rattle.nf_words.specs.Contents.{IsPieceSound, stored_pieces}
 use Rattle.nf_words.specs.Others.{IsKindSound, IsOfNode}
 
@@ -77,7 +85,6 @@ pub record IsNewShare (t : Tables) (row : ShareRow) : Type 0 where
   pub given : row.id < t.meta.next_share
   pub made : row.made ≤ t.meta.last
   pub live : row.ended ≡ false
-  pub forever : row.until ≡ None
   pub node : NodeRow
   pub there : node_row t.nodes row.node ≡ Some node
   pub of_node : IsOfNode row node
@@ -86,11 +93,65 @@ pub record IsNewShare (t : Tables) (row : ShareRow) : Type 0 where
   pub on : StandsOn t row row.parent
   pub few : length t.shares + 1 ≤ MAX_SHARES
 
--- a share that is there, with other permissions, or ended
+-- a share that is there, with other permissions or another end, or ended
 pub record IsOtherShare (t : Tables) (row : ShareRow) : Type 0 where
   pub old : ShareRow
   pub there : share_row t.shares row.id ≡ Some old
-  pub same : row ≡ record old { perms = row.perms; ended = row.ended }
+  pub same : row ≡ record old { perms = row.perms; until = row.until; ended = row.ended }
   pub other : row ≢ old
   pub lasts : old.ended ≡ false
   pub of_node : (of : NodeRow) → node_row t.nodes row.node ≡ Some of → IsOfNode row of
+
+-- ---- users and groups
+
+-- a new user and its root: their numbers are above all others, also those of shares and mounts, and the name is nobody's
+pub record IsNewUser (t : Tables) (row : UserRow) (root : NodeRow) : Type 0 where
+  pub newest : All (λ (old : UserRow). old.id < row.id) t.users
+  pub given : row.id < t.meta.next_user
+  pub unnamed : user_named t.users row.name ≡ None
+  pub few : length t.users + 1 ≤ MAX_USERS
+  pub of_user : row.root ≡ root.id
+  pub owner : root.owner ≡ row.id
+  pub place : root.place ≡ Root
+  pub name : root.name ≡ row.name
+  pub folder : is_folder_kind root.kind ≡ true
+  pub empty : root.content ≡ []
+  pub newest_node : All (λ (old : NodeRow). old.id < root.id) t.nodes
+  pub unshared : All (λ (share : ShareRow). share.node < root.id) t.shares
+  pub unused : All (λ (mount : MountRow). mount.node < root.id) t.mounts
+  pub given_node : root.id < t.meta.next_node
+  pub changed : root.changed ≤ t.meta.last
+  pub few_nodes : length t.nodes + 1 ≤ MAX_NODES
+
+-- a user who is there, with another quota
+pub record IsRequoted (t : Tables) (row : UserRow) : Type 0 where
+  pub old : UserRow
+  pub there : user_row t.users row.id ≡ Some old
+  pub same : row ≡ record old { quota = row.quota }
+  pub other : row ≢ old
+
+pub record IsNewToken (t : Tables) (row : TokenRow) : Type 0 where
+  pub fresh : holder_of t.tokens row.digest ≡ None
+  pub user : is_some (user_row t.users row.user) ≡ true
+  pub few : length t.tokens + 1 ≤ MAX_TOKENS
+
+pub record IsNewGroup (t : Tables) (row : GroupRow) : Type 0 where
+  pub newest : All (λ (old : GroupRow). old.id < row.id) t.groups
+  pub given : row.id < t.meta.next_group
+  pub unnamed : group_named t.groups row.name ≡ None
+  pub few : length t.groups + 1 ≤ MAX_GROUPS
+
+pub record IsNewMember (t : Tables) (row : MemberRow) : Type 0 where
+  pub fresh : is_member_of t.members row.group row.user ≡ false
+  pub group : is_some (group_row t.groups row.group) ≡ true
+  pub user : is_some (user_row t.users row.user) ≡ true
+  pub few : length t.members + 1 ≤ MAX_MEMBERS
+
+-- a change of people alone: a user has another quota, a token, a group or a member is new, or somebody is a member no more
+abbrev pub IsOfPeople : Tables → Change → Type 0
+IsOfPeople t (Put (rows.User row)) = IsRequoted t row
+IsOfPeople t (Put (rows.Token row)) = IsNewToken t row
+IsOfPeople t (Put (rows.Group row)) = IsNewGroup t row
+IsOfPeople t (Put (rows.Member row)) = IsNewMember t row
+IsOfPeople t (Drop (keys.Member group user)) = is_member_of t.members group user ≡ true
+IsOfPeople t other = ⊥

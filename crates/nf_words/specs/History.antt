@@ -1,6 +1,6 @@
 -- Legal histories: lists of entries, each of which may come in the state that those before it made.
-use Rattle.std.specs.Prelude.{◌≡◌, ◌≢◌, ℕ, ◌+◌, ◌≤◌, ◌&&◌, Bool, false, not, List, [], ◌∷◌, length, Option, None, Some, IsNone, IfSome, is_some, Result, Err}
-use Rattle.nf_base.specs.declared.limits.TheConstants.{MAX_BODY, MAX_ENTRIES}
+use Rattle.std.specs.Prelude.{◌≡◌, ◌≢◌, ℕ, ◌+◌, ◌≤◌, ◌&&◌, Bool, true, false, not, List, [], ◌∷◌, length, Option, None, Some, IsNone, IfSome, is_some, Result, Err}
+use Rattle.nf_base.specs.declared.limits.TheConstants.{MAX_BODY, MAX_ENTRIES, MAX_QUOTA}
 use Rattle.nf_words.specs.Asked.{asked_of, is_about_shares}
 use Rattle.nf_words.specs.State.{State, goal_at, ticket_of}
 use Rattle.nf_words.specs.Step.{step, answer_to, changes_to, without}
@@ -20,8 +20,17 @@ use Rattle.nf_words.specs.declared.request.Caller.{Caller}
 use Rattle.nf_words.specs.declared.request.Caller.TheVariants.{Absent, Token}
 use Rattle.nf_words.specs.declared.request.Making.{Making}
 use Rattle.nf_words.specs.declared.request.Making.TheVariants as making
+use Rattle.nf_words.specs.declared.request.PeopleAsk.{PeopleAsk}
+use Rattle.nf_words.specs.declared.request.PeopleAsk.TheVariants as people
 use Rattle.nf_words.specs.declared.request.Request.{Request}
+use Rattle.nf_words.specs.declared.request.ShareAsk.{ShareAsk}
+use Rattle.nf_words.specs.declared.request.ShareAsk.TheVariants as ask
 use Rattle.nf_words.specs.declared.request.Spot.{Spot}
+use Rattle.nf_words.specs.declared.request.Until.{Until}
+use Rattle.nf_words.specs.declared.request.Until.TheVariants as until
+use Rattle.nf_words.specs.declared.request.Wanted.{Wanted}
+use Rattle.nf_words.specs.declared.request.Wanted.TheVariants as wanted
+use Rattle.nf_words.specs.Sharing.{is_end_moment}
 
 -- a step whose store failed or that found no memory: the rows stay, and the ticket of an End goes
 abbrev pub failed : State → ℕ → ℕ → Event → State
@@ -68,7 +77,38 @@ is_link (Token digest) = false
 abbrev pub NamesUser : Request → Spot → Type 0
 NamesUser request spot = is_some spot.user ≡ (not (is_link request.caller) && not (is_about_shares request.wanted))
 
+-- an end is one that a date tells
+abbrev pub IsEnd : Option ℕ → Type 0
+IsEnd until = IfSome until (λ (moment : ℕ). is_end_moment moment ≡ true)
+
+abbrev pub end_in : Until → Option ℕ
+end_in until.Keep = None
+end_in until.Never = None
+end_in (until.At moment) = Some moment
+
+abbrev pub EndsAtDays : ShareAsk → Type 0
+EndsAtDays (ask.New spot to perms until) = IsEnd until
+EndsAtDays (ask.List spot with_me) = Unit {0}
+EndsAtDays (ask.Show share) = Unit {0}
+EndsAtDays (ask.Set share perms until) = IsEnd (end_in until)
+EndsAtDays (ask.End share) = Unit {0}
+
+-- a quota isn't too large
+abbrev pub IsModest : PeopleAsk → Type 0
+IsModest (people.NewUser name token quota) = quota ≤ MAX_QUOTA
+IsModest (people.NewGroup name) = Unit {0}
+IsModest (people.AddMember user group) = Unit {0}
+IsModest (people.DropMember user group) = Unit {0}
+IsModest (people.SetQuota user quota) = quota ≤ MAX_QUOTA
+IsModest (people.AddToken user token) = Unit {0}
+
+abbrev pub IsInBounds : Wanted → Type 0
+IsInBounds (wanted.Share asked) = EndsAtDays asked
+IsInBounds (wanted.People asked) = IsModest asked
+IsInBounds other = Unit {0}
+
 pub record MayWant (request : Request) : Type 0 where
+  pub bounds : IsInBounds request.wanted
   pub short : IsShort (asked_of request.wanted).makes
   pub source : IfSome (asked_of request.wanted).source (NamesUser request)
   pub target : IfSome (asked_of request.wanted).target (NamesUser request)

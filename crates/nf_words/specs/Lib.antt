@@ -7,6 +7,7 @@ pub mod Contents
 pub mod Needed
 pub mod Limits
 pub mod Listing
+pub mod People
 pub mod Sharing
 pub mod Copies
 pub mod Holds

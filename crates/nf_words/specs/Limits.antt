@@ -1,7 +1,9 @@
 -- The limits of the site, and the rule that none is passed.
-use Rattle.std.specs.Prelude.{ℕ, ◌+◌, ◌-◌, ◌==◌, ◌||◌, nat_lt, max, List, [], ◌∷◌, length, sum_by, Option, None, Some, option_map, option_and_then, if◌then◌else◌}
+use Rattle.std.specs.Prelude.{ℕ, ◌+◌, ◌-◌, ◌==◌, ◌||◌, nat_lt, max, List, [], ◌∷◌, filter, length, sum_by, Option, None, Some, is_none, option_map, option_and_then, if◌then◌else◌}
+use Rattle.nf_access.specs.Mounts.{mount_row}
 use Rattle.nf_defs.specs.Prelude.{Access, content_of, depth, Tables, walk_of}
-use Rattle.nf_base.specs.declared.limits.TheConstants.{MAX_DEPTH, MAX_MOUNTS, MAX_NODES, MAX_SHARES, MAX_STORED_PIECES}
+use Rattle.nf_base.specs.declared.limits.TheConstants.{MAX_DEPTH, MAX_GROUPS, MAX_MEMBERS, MAX_MOUNTS, MAX_NODES, MAX_SHARES, MAX_STORED_PIECES, MAX_TOKENS, MAX_USERS}
+use Rattle.nf_base.specs.declared.rows.MountRow.{MountRow}
 use Rattle.nf_base.specs.declared.rows.NodeRow.{NodeRow}
 use Rattle.nf_defs.specs.declared.Found.{Found}
 use Rattle.nf_defs.specs.declared.Found.TheVariants.{At, Free, Missing}
@@ -19,15 +21,22 @@ use Rattle.nf_words.specs.declared.answer.Limit.TheVariants as limit
 
 -- the number of a limit
 abbrev pub count_of : Limit → ℕ
+count_of limit.Users = MAX_USERS
+count_of limit.Groups = MAX_GROUPS
+count_of limit.Tokens = MAX_TOKENS
+count_of limit.Members = MAX_MEMBERS
 count_of limit.Nodes = MAX_NODES
 count_of limit.Depth = MAX_DEPTH
 count_of limit.Shares = MAX_SHARES
 count_of limit.Mounts = MAX_MOUNTS
 count_of limit.Pieces = MAX_STORED_PIECES
 
--- the greatest number that a counter holds
+-- the greatest number that a counter holds, of nodes, shares and blobs, and of users and groups
 abbrev pub last_number : ℕ
 last_number = 18446744073709551615
+
+abbrev pub last_short : ℕ
+last_short = 4294967295
 
 -- the first limit that is passed by so many nodes more, the deepest of them so deep, so many pieces more, and so many new blobs
 abbrev pub limit_passed : Tables → ℕ → ℕ → ℕ → ℕ → Option Limit
@@ -35,6 +44,12 @@ limit_passed t nodes deep pieces blobs =
     if nat_lt (count_of limit.Nodes) (length t.nodes + nodes) || nat_lt last_number (t.meta.next_node + nodes) then Some limit.Nodes
     else if nat_lt (count_of limit.Depth) deep then Some limit.Depth
     else if nat_lt (count_of limit.Pieces) (stored_pieces t + pieces) || nat_lt last_number (t.meta.next_blob + blobs) then Some limit.Pieces
+    else None
+
+-- the limit that is passed by some rows of mounts; one that was left has its row already
+abbrev pub mount_limit : List MountRow → List MountRow → Option Limit
+mount_limit mounts rows =
+    if nat_lt MAX_MOUNTS (length mounts + length (filter (λ row. is_none (mount_row mounts row.user row.node)) rows)) then Some limit.Mounts
     else None
 
 -- the pieces of a body: an empty one has none

@@ -3,6 +3,8 @@ use Rattle.std.specs.Prelude.{◌≡◌, ◌≢◌, ℕ, ◌<◌, ◌≤◌, All
 use Rattle.std.specs.List.{AllPairs}
 use Rattle.std.specs.Option.{option_map_or}
 use Rattle.nf_base.specs.declared.limits.TheConstants.{MAX_BODY}
+use Rattle.nf_base.specs.declared.rows.GroupRow.{GroupRow}
+use Rattle.nf_base.specs.declared.rows.MemberRow.{MemberRow}
 use Rattle.nf_base.specs.declared.rows.MetaRow.{MetaRow}
 use Rattle.nf_base.specs.declared.rows.NodeRow.{NodeRow}
 use Rattle.nf_base.specs.declared.rows.Place.{Place}
@@ -85,6 +87,9 @@ pub record AreSound (t : Tables) : Type 0 where
   pub nodes : All (IsNodeSound t) t.nodes
   pub names : AllPairs AreApart t.nodes
   pub roots : All (HasRoot t) t.users
+  pub users_given : All (λ (row : UserRow). row.id < t.meta.next_user) t.users
+  pub members_there : All (λ (row : MemberRow). is_some (user_row t.users row.user) ≡ true) t.members
+  pub groups_given : All (λ (row : GroupRow). row.id < t.meta.next_group) t.groups
   pub few_nodes : length t.nodes ≤ count_of limit.Nodes
   pub few_pieces : stored_pieces t ≤ count_of limit.Pieces
   pub later : HasNoLater t

@@ -6,8 +6,9 @@ ghost use Rattle.nf_words.specs.Limits.{count_of};
 use crate::{Listing, Route, ShareLine, ShareLines, Transfer};
 use nf_access::Cause;
 use nf_base::{
-    BlobId, Changes, Content, Digest, MAX_DEPTH, MAX_MOUNTS, MAX_NODES, MAX_SHARES,
-    MAX_STORED_PIECES, Name, NameFault, NodeId, NodeRow, ShareId,
+    BlobId, Changes, Content, Digest, MAX_DEPTH, MAX_GROUPS, MAX_MEMBERS, MAX_MOUNTS, MAX_NODES,
+    MAX_SHARES, MAX_STORED_PIECES, MAX_TOKENS, MAX_USERS, Name, NameFault, NodeId, NodeRow,
+    ShareId,
 };
 use nf_defs::Seeker;
 use std::alloc::AllocError;
@@ -24,7 +25,7 @@ pub enum Denial {
     BadParameter(Parameter),
     /// 401: the caller shows no token that is known.
     Token,
-    /// 403: the user in the path isn't the caller.
+    /// 403: the user in the path isn't the caller; or users and groups are asked about by who isn't a member of the group `admin`.
     NotYou,
     /// 403: a name in the path is `.htaccess`.
     ForbiddenName,
@@ -35,9 +36,9 @@ pub enum Denial {
     NoShare,
     /// 403: that can't be done to what the path leads to.
     BadTarget(TargetFault),
-    /// 403: what is asked of a share breaks a rule of sharing.
-    Rule(ShareRule),
-    /// 404: there is no such file, folder, user or share, or no such route.
+    /// 403: what is asked breaks a rule of sharing, or of new names and tokens.
+    Rule(Breach),
+    /// 404: there is no such file, folder, user, group or share, or no such route.
     NotFound,
     /// 405: the route doesn't have the method.
     Method(Route),
@@ -87,6 +88,15 @@ pub enum Parameter {
     Permissions,
     ExpireDate,
     Password,
+    /// The name of a user.
+    UserId,
+    Token,
+    Quota,
+    /// The name of a group.
+    GroupId,
+    /// What of a user is to be another.
+    Key,
+    Value,
 }
 
 /// Why a target can't be acted upon.
@@ -102,19 +112,23 @@ pub enum TargetFault {
     Mount,
 }
 
-/// A rule of sharing.
+/// A rule of sharing, or of new names and tokens.
 #[derive(Clone, Copy, PartialEq, Eq)]
-pub enum ShareRule {
+pub enum Breach {
     /// A root isn't shared.
     Root,
     /// Nothing is shared with who makes the share, nor with the owner.
     SelfShare,
-    /// The same is shared with the same user by the same one already.
+    /// The end of a share is after the moment at which it is asked for.
+    Past,
+    /// The same is shared with the same user or group by the same one already.
     Already,
     /// No share allows more than those that it stands on.
     Widened,
     /// No chain has more than `MAX_CHAIN` shares.
     Chain,
+    /// A user or a group of that name, or that token, is there already.
+    Taken,
 }
 
 /// A blob that isn't what a row says of it.
@@ -137,6 +151,14 @@ pub struct Measure {
 /// A limit of the site.
 #[derive(Clone, Copy, PartialEq, Eq)]
 pub enum Limit {
+    /// `MAX_USERS` users, and 2^32 - 1 numbers of users ever given.
+    Users,
+    /// `MAX_GROUPS` groups, and 2^32 - 1 numbers of groups ever given.
+    Groups,
+    /// `MAX_TOKENS` tokens.
+    Tokens,
+    /// `MAX_MEMBERS` members of all groups together.
+    Members,
     /// `MAX_NODES` nodes, and 2^64 - 1 numbers of nodes ever given.
     Nodes,
     /// `MAX_DEPTH` folders above a node.
@@ -155,6 +177,10 @@ impl Limit {
         ensures { result ≡ count_of self }
     {
         match self {
+            Limit::Users => MAX_USERS as u32,
+            Limit::Groups => MAX_GROUPS as u32,
+            Limit::Tokens => MAX_TOKENS as u32,
+            Limit::Members => MAX_MEMBERS as u32,
             Limit::Nodes => MAX_NODES as u32,
             Limit::Depth => MAX_DEPTH,
             Limit::Shares => MAX_SHARES as u32,
@@ -234,7 +260,7 @@ pub enum Reply {
     /// What there is to tell of a share.
     Share(ShareLine),
     Shares(ShareLines),
-    /// What was asked of a share was done, and there is nothing to tell.
+    /// What was asked of a share, or of users and groups, was done, and there is nothing to tell.
     Plain,
 }
 
@@ -305,8 +331,8 @@ pub enum Allowed {
         key: LockKey,
         length: u64,
     },
-    /// These rows are put and dropped, each of them once: MKCOL, PUT at its End, and what becomes of a mount or is asked about shares.
-    /// Where shares are only told, there is none.
+    /// These rows are put and dropped, each of them once: MKCOL, PUT at its End, and what becomes of a mount or is asked about shares or
+    /// people. Where shares are only told, there is none.
     Change {
         changes: Changes,
         blob: Option<BlobId>,

@@ -11,8 +11,8 @@ mod route;
 mod sharing;
 
 pub use answer::{
-    Allowed, Answer, By, Damage, Denial, Goal, Hold, Limit, LockKey, Measure, Mode, NodeRows,
-    Parameter, Reply, Report, ShareRule, TargetFault,
+    Allowed, Answer, Breach, By, Damage, Denial, Goal, Hold, Limit, LockKey, Measure, Mode,
+    NodeRows, Parameter, Reply, Report, TargetFault,
 };
 pub use history::{Entry, Event, Mark, Outcome, Ticket};
 pub use laws::{
@@ -21,7 +21,8 @@ pub use laws::{
 };
 pub use listing::{Listing, ListingLine};
 pub use request::{
-    Asked, Caller, Making, Offer, Places, Request, ShareAsk, Spot, Transfer, Wanted, Words,
+    Asked, Caller, Making, Offer, PeopleAsk, Places, Receiver, Request, ShareAsk, Sharee, Spot,
+    Transfer, Until, Wanted, Words,
 };
 pub use route::Route;
 pub use sharing::{Recipient, ShareLine, ShareLines};

@@ -2,9 +2,10 @@
 
 ghost use Rattle.std.specs.Prelude.{◌≡◌};
 ghost use Rattle.nf_words.specs.Asked.{asked_about, asked_of, asks_nothing};
+ghost use Rattle.nf_words.specs.Sharing.{kind_to};
 ghost use Rattle.nf_words.specs.declared.request.Wanted.TheVariants as wanted;
 
-use nf_base::{Digest, Name, NodeId, Path, Perms, ShareId, UserId};
+use nf_base::{Digest, GroupId, Moment, Name, NodeId, Path, Perms, ShareId, ShareKind, UserId};
 use nf_defs::Found;
 use std::marker::Model;
 
@@ -53,16 +54,19 @@ pub enum Wanted {
     },
     /// Something about shares.
     Share(ShareAsk),
+    /// Something about users and groups.
+    People(PeopleAsk),
 }
 
 /// What is asked about shares.
 #[derive(Drop)]
 pub enum ShareAsk {
-    /// A new share of what is there, for the user of that name. Where no permissions are named, all are asked for.
+    /// A new share of what is there. Where no permissions are named, all are asked for, and where no end is, it has none.
     New {
         spot: Spot,
-        to: Name,
+        to: Sharee,
         perms: Option<Perms>,
+        until: Option<Moment>,
     },
     /// The shares that the caller made; with a place, those of what is there that the caller made or owns. `with_me` asks for those that
     /// the caller receives instead.
@@ -72,13 +76,67 @@ pub enum ShareAsk {
     },
     /// What there is to tell of a share.
     Show(ShareId),
-    /// That a share has other permissions; without any, they stay.
+    /// That a share has other permissions or another end; without any permissions, they stay.
     Set {
         share: ShareId,
         perms: Option<Perms>,
+        until: Until,
     },
     /// That a share ends.
     End(ShareId),
+}
+
+/// Whom a new share is for.
+#[derive(Drop)]
+pub enum Sharee {
+    /// The user of that name.
+    User(Name),
+    /// All members of the group of that name, whoever they are at the time.
+    Group(Name),
+}
+
+/// What becomes of the end of a share.
+#[derive(Clone, Copy, PartialEq, Eq)]
+pub enum Until {
+    /// It stays.
+    Keep,
+    /// The share ends by itself no more.
+    Never,
+    /// It ends at that moment.
+    At(Moment),
+}
+
+/// What is asked about users and groups.
+#[derive(Drop)]
+pub enum PeopleAsk {
+    /// A new user with an empty root. The token is known by its SHA-256 digest, and the quota is in bytes.
+    NewUser {
+        name: Name,
+        token: Digest,
+        quota: u64,
+    },
+    /// A new group without members.
+    NewGroup(Name),
+    /// That a user is a member of a group.
+    AddMember {
+        user: Name,
+        group: Name,
+    },
+    /// That a user is none.
+    DropMember {
+        user: Name,
+        group: Name,
+    },
+    /// That a user has that quota, in bytes.
+    SetQuota {
+        user: Name,
+        quota: u64,
+    },
+    /// A further token of a user.
+    AddToken {
+        user: Name,
+        token: Digest,
+    },
 }
 
 /// What a request puts at its target.
@@ -180,6 +238,7 @@ impl Wanted {
                 overwrite,
             } => copies(source, target, *overwrite),
             Wanted::Share(ask) => about(ask),
+            Wanted::People(_) => Asked::nothing(),
         }
     }
 }
@@ -254,12 +313,32 @@ pub struct Transfer {
     pub replaced: Option<NodeId>,
 }
 
+/// Whom a share is for, by number.
+#[derive(Clone, Copy, PartialEq, Eq)]
+pub enum Receiver {
+    User(UserId),
+    Group(GroupId),
+}
+
+impl Receiver {
+    /// The same as a row tells it.
+    pub fn kind(self) -> ShareKind
+        ensures { result ≡ kind_to self }
+    {
+        match self {
+            Receiver::User(user) => ShareKind::User(user),
+            Receiver::Group(group) => ShareKind::Group(group),
+        }
+    }
+}
+
 /// A share that is asked for.
 #[derive(Clone, Copy)]
 pub struct Offer {
     pub node: NodeId,
     /// The node of the mount that its path goes by, if it goes by one.
     pub mount: Option<NodeId>,
-    pub to: UserId,
+    pub to: Receiver,
     pub perms: Perms,
+    pub until: Option<Moment>,
 }

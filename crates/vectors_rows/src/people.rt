@@ -10,7 +10,13 @@ fn bob_and_ann(alloc: Global) -> Option<People> {
     let ann = Name::read(alloc, b"ann").ok()?;
     let admin = Name::read(alloc, b"admin").ok()?;
     let mut people = People::new(alloc);
-    people.reserve().ok()?;
+    let one_more = PeopleCounts {
+        users: 1,
+        tokens: 1,
+        groups: 1,
+        members: 1,
+    };
+    people.reserve(one_more).ok()?;
     people
         .add_user(UserRow {
             id: UserId::new(1),

@@ -30,13 +30,13 @@ enum Act {
 
 /// What two threads share. Each Begin and each End is a stage, before which the one waits for the other.
 #[derive(Drop)]
-struct Shared<K: Keeper + Drop> {
+pub(crate) struct Shared<K: Keeper + Drop> {
     alloc: Global,
     hub: Hub<K>,
     stage: AtomicU8,
 }
 
-type Started<K> = Result<(Shared<K>, Seat<K>), Unopened<K>>;
+pub(crate) type Started<K> = Result<(Shared<K>, Seat<K>), Unopened<K>>;
 
 /// The demonstration rows and the bytes of their one file.
 fn demonstration(alloc: Global) -> Result<Opening, AllocError>
@@ -118,6 +118,21 @@ fn ask<K: Keeper + Drop, R: Wait>(
     ensures { IsIdleSeat K.Keeper shared.now.hub seat.new }
 {
     let request = request(shared.alloc, act, path).ok_or(Denial::Memory)?;
+    answered(rt, shared, stages, request, seat)
+}
+
+/// A request, whose Begin and End wait for so many stages.
+pub(crate) fn answered<K: Keeper + Drop, R: Wait>(
+    rt: &R,
+    shared: &Shared<K>,
+    stages: (u8, u8),
+    request: Request,
+    seat: &mut Seat<K>,
+) -> Answer
+    requires idle { IsIdleSeat K.Keeper shared.now.hub seat.old }
+    requires wants { MayWant request }
+    ensures { IsIdleSeat K.Keeper shared.now.hub seat.new }
+{
     let (first, second) = (1, 2);
     wait_for(rt, &shared.stage, stages.0);
     let began = shared
@@ -160,7 +175,7 @@ fn put_amid<K: Keeper + Drop + Send, R: Threads + Wait + Sync>(
 }
 
 /// A hub over what the keeper has, and its first seat.
-fn start<K: Keeper + Drop>(alloc: Global, keeper: K, opening: Opening) -> Started<K>
+pub(crate) fn start<K: Keeper + Drop>(alloc: Global, keeper: K, opening: Opening) -> Started<K>
     requires { MayBegin opening }
     ensures { IfOk result (λ made. IsIdleSeat K.Keeper made.0.hub made.1) }
 {

@@ -148,3 +148,51 @@ fn a_mount_is_ensured_renamed_and_left(rt: HostRuntime) -> Result<(), Fail> {
     assert!(rt; !is_at(alloc, &mounts, b"notes")? && !is_listed(alloc, &tree, &mounts)?);
     Ok(())
 }
+
+/// The rows that give users 2, 4 and 6 mounts of node 7, where they have none.
+fn ensured_for(alloc: Global, tree: &Tree, mounts: &Mounts) -> Result<Vec<MountRow>, Fail> {
+    let node = NodeId::new(7);
+    if tree.node(node).is_none() || mounts.count() > MAX_MOUNTS {
+        return Err("the node isn't there, or there are too many mounts")?;
+    }
+    let users = [UserId::new(2), UserId::new(4), UserId::new(6)];
+    Ok(mounts.ensured_for(alloc, &People::new(alloc), tree, node, &users)?)
+}
+
+/// The rows that give user 2 mounts of both folders, where it has none.
+fn ensured_of(alloc: Global, tree: &Tree, mounts: &Mounts) -> Result<Vec<MountRow>, Fail> {
+    let (first, second) = (NodeId::new(7), NodeId::new(3));
+    if tree.node(first).is_none() || tree.node(second).is_none() || mounts.count() > MAX_MOUNTS {
+        return Err("a node isn't there, or there are too many mounts")?;
+    }
+    let people = People::new(alloc);
+    Ok(mounts.ensured_of(alloc, &people, tree, UserId::new(2), &[first, second])?)
+}
+
+/// Whether the row is of a mount of that user and node, under that name.
+fn is_mount(row: &MountRow, user: u32, node: u64, bytes: &[u8]) -> bool {
+    row.user == UserId::new(user)
+        && row.node == NodeId::new(node)
+        && row.name.as_bytes() == bytes
+        && !row.left
+}
+
+#[test]
+fn mounts_are_ensured_for_those_who_have_none(rt: HostRuntime) -> Result<(), Fail> {
+    let alloc = rt.alloc();
+    let (tree, mounts) = (two_plans(alloc)?, others(alloc)?);
+    let rows = ensured_for(alloc, &tree, &mounts)?;
+    assert!(rt; rows.len() == 2);
+    assert!(rt; is_mount(&rows[0], 2, 7, b"plans (2)") && is_mount(&rows[1], 6, 7, b"plans (2)"));
+    Ok(())
+}
+
+#[test]
+fn each_of_several_mounts_has_a_name_of_its_own(rt: HostRuntime) -> Result<(), Fail> {
+    let alloc = rt.alloc();
+    let (tree, mounts) = (two_plans(alloc)?, others(alloc)?);
+    let rows = ensured_of(alloc, &tree, &mounts)?;
+    assert!(rt; rows.len() == 2);
+    assert!(rt; is_mount(&rows[0], 2, 7, b"plans (2)") && is_mount(&rows[1], 2, 3, b"plans (3)"));
+    Ok(())
+}

@@ -6,7 +6,7 @@ ghost use Rattle.nf_base.specs.declared.limits.TheConstants.{MAX_SEATS};
 use crate::words::words_of;
 use filesd::{Finished, RowsFault, Status, run};
 use nf_keeper::MemKeeper;
-use nf_outside::{Ends, Failed, ListClock, MemSink, MemSource, Sink, Source};
+use nf_outside::{Ends, Failed, ListClock, ListDice, MemSink, MemSource, Sink, Source};
 use nf_server::{Cause, Closing, Door, Link, MemDoor, MemLink, Pace, TcpDoor, Terms, Worker};
 use std::alloc::{AllocError, Global};
 use std::io::{self, Read, Write};
@@ -30,7 +30,7 @@ fn run_with<R, D>(
     alloc: Global,
     words: &[&str],
     keeper: MemKeeper,
-    workers: &mut [Worker<D, ListClock>],
+    workers: &mut [Worker<D, ListClock, ListDice>],
 ) -> Result<Finished<MemKeeper>, Fail>
 where
     R: Threads + Wait + Sync,
@@ -52,11 +52,12 @@ where
         &mut output,
         keeper,
         &mut clock,
+        &mut ListDice::new(Vec::new(alloc)),
         workers,
     ))
 }
 
-type MemWorker = Worker<MemDoor<MemSource, MemSink>, ListClock>;
+type MemWorker = Worker<MemDoor<MemSource, MemSink>, ListClock, ListDice>;
 
 fn mem_worker(
     alloc: Global,
@@ -66,6 +67,7 @@ fn mem_worker(
     Ok(Worker {
         door: MemDoor::new(alloc, links, failing)?,
         clock: ListClock::new(Vec::new(alloc)),
+        dice: ListDice::new(Vec::new(alloc)),
     })
 }
 
@@ -88,7 +90,7 @@ pub fn status_of<R, D>(
     rt: &R,
     alloc: Global,
     words: &[&str],
-    workers: &mut [Worker<D, ListClock>],
+    workers: &mut [Worker<D, ListClock, ListDice>],
 ) -> Result<Status, Fail>
 where
     R: Threads + Wait + Sync,
@@ -269,7 +271,7 @@ impl<'f> Sink for Bell<'f> {
     fn begin_answer(&mut self, _method: &[u8], _target: &[u8]) {}
 }
 
-type GateWorker<'f> = Worker<MemDoor<Gate<'f>, Bell<'f>>, ListClock>;
+type GateWorker<'f> = Worker<MemDoor<Gate<'f>, Bell<'f>>, ListClock, ListDice>;
 
 /// A worker with one connection, whose answers set the one flag and whose body may wait for the other.
 fn gate_worker<'f>(
@@ -307,6 +309,7 @@ fn gate_worker<'f>(
             Vec::new(alloc),
         )?,
         clock: ListClock::new(Vec::new(alloc)),
+        dice: ListDice::new(Vec::new(alloc)),
     })
 }
 
@@ -372,6 +375,7 @@ fn asked<R: Threads + Wait + Sync>(
     let mut workers = [Worker {
         door: TcpDoor::new(alloc, listener, terms(rt, limit)?, 1),
         clock: ListClock::new(Vec::new(alloc)),
+        dice: ListDice::new(Vec::new(alloc)),
     }];
     let workers = &mut workers;
     let (answer, status) = join(
@@ -426,6 +430,7 @@ fn a_listener_that_fails_is_told(rt: HostRuntime) -> Result<(), Fail> {
     let mut workers = [Worker {
         door: TcpDoor::new(alloc, listener, terms(&rt, limit)?, 1),
         clock: ListClock::new(Vec::new(alloc)),
+        dice: ListDice::new(Vec::new(alloc)),
     }];
     assert!(rt; status_of(&rt, alloc, &["serve"], &mut workers)? == Status::DoorFault);
     Ok(())
@@ -468,6 +473,7 @@ fn dripped<R: Threads + Wait + Sync>(
     let mut workers = [Worker {
         door: TcpDoor::new(alloc, listener, terms, 1),
         clock: ListClock::new(Vec::new(alloc)),
+        dice: ListDice::new(Vec::new(alloc)),
     }];
     let workers = &mut workers;
     let (count, status) = join(

@@ -3,7 +3,7 @@
 use crate::words::words_of;
 use filesd::{Finished, Status, run};
 use nf_keeper::MemKeeper;
-use nf_outside::{ListClock, MemSink, MemSource};
+use nf_outside::{ListClock, ListDice, MemSink, MemSource};
 use nf_server::{MemDoor, Worker};
 use std::alloc::{AllocError, Global};
 use std::sync::Wait;
@@ -27,7 +27,7 @@ fn source(alloc: Global, text: &str) -> Result<MemSource, AllocError> {
     ))
 }
 
-type NoWorker = Worker<MemDoor<MemSource, MemSink>, ListClock>;
+type NoWorker = Worker<MemDoor<MemSource, MemSink>, ListClock, ListDice>;
 
 fn no_workers() -> [NoWorker; 0] {
     []
@@ -51,6 +51,7 @@ fn batch_over<R: Threads + Wait + Sync>(
         output,
         keeper,
         &mut clock,
+        &mut ListDice::new(Vec::new(alloc)),
         &mut no_workers(),
     ))
 }

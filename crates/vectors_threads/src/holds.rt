@@ -2,7 +2,7 @@
 
 use crate::doors::{status_of, terms};
 use filesd::Status;
-use nf_outside::ListClock;
+use nf_outside::{ListClock, ListDice};
 use nf_server::{TcpDoor, Worker};
 use std::alloc::{AllocError, Global};
 use std::io::{self, Read, Write};
@@ -62,13 +62,14 @@ fn talk(rt: &HostRuntime, address: SocketAddr) -> io::Result<usize> {
     Ok(TALK.len())
 }
 
-type TcpWorker = Worker<TcpDoor<TcpListener, HostRuntime>, ListClock>;
+type TcpWorker = Worker<TcpDoor<TcpListener, HostRuntime>, ListClock, ListDice>;
 
 fn worker(rt: &HostRuntime, listener: TcpListener) -> Result<TcpWorker, AllocError> {
     let alloc = rt.alloc();
     Ok(Worker {
         door: TcpDoor::new(alloc, listener, terms(rt, Duration::from_secs(5))?, 1),
         clock: ListClock::new(Vec::new(alloc)),
+        dice: ListDice::new(Vec::new(alloc)),
     })
 }
 

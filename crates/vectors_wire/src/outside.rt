@@ -1,8 +1,10 @@
 //! The adapters of the real outside, of which no contract says what they give.
 
-use nf_outside::{Clock, Ends, Failed, Input, Output, RealClock, Sink, Source};
+use nf_dice::RealDice;
+use nf_outside::{Clock, Dice, Ends, Failed, Input, Output, RealClock, Sink, Source};
 use std::alloc::{AllocError, Global};
 use std::io::{self, Error, ErrorKind, Read, Write};
+use std::random::RandomSource;
 use std::test::Fail;
 
 // All that a source gives to reads of up to four bytes, with a `!` for each that fails.
@@ -80,4 +82,36 @@ fn never_tries_again(rt: HostRuntime) {
 fn reads_the_time(rt: HostRuntime) {
     // 2020-01-01T00:00:00Z
     assert!(rt; RealClock::new(rt).now() > 1577836800);
+}
+
+// A source that gives zeros alone.
+struct Zeros;
+
+impl RandomSource for Zeros {
+    fn fill_bytes(&self, buf: &mut [u8]) -> io::Result<()> {
+        buf.fill(0);
+        Ok(())
+    }
+}
+
+// A source that gives nothing.
+struct Dry;
+
+impl RandomSource for Dry {
+    fn fill_bytes(&self, _buf: &mut [u8]) -> io::Result<()> {
+        Err(Error::from(ErrorKind::Unsupported))
+    }
+}
+
+// The words of the key of zeros are those of RFC 8439, appendix A.1, test vector 1.
+#[test]
+fn draws_words(rt: HostRuntime) -> Result<(), Fail> {
+    let mut dice = RealDice::new(&Zeros)?;
+    assert!(rt; dice.draw() == 0x903d_f1a0_ade0_b876);
+    assert!(rt; dice.draw() == 0x28bd_8653_e56a_5d40);
+    assert!(rt; RealDice::new(&Dry).is_err());
+    let mut one = RealDice::new(&rt)?;
+    let mut other = RealDice::new(&rt)?;
+    assert!(rt; (one.draw(), one.draw()) != (other.draw(), other.draw()));
+    Ok(())
 }

@@ -2,6 +2,7 @@ use Rattle.std.proofs.Common.{ap, ◌∙◌, inr}
 use Rattle.nf_base.specs.declared.limits.TheConstants.{MAX_SEATS}
 use Rattle.nf_desk.specs.Desk.{Served}
 use Rattle.nf_hub.specs.Seats.{book_in, memory_of}
+use Rattle.nf_outside.specs.Lent.{takes}
 use Rattle.nf_server.proofs.Spanning.{work_begins}
 use Rattle.nf_session.specs.Book.{held}
 use Rattle.nf_turn.specs.Prelude.{numbers_of, of_the_first}
@@ -31,7 +32,7 @@ returns-in-Ok-clause-serves g c =
     inr (record {
       memory = memory_of g.K.Keeper c.in-Ok.hub c.serve-worked.result.1;
       result = c.serve-worked.result.0;
-      work = work_of g.K.Keeper g.D.Source.Ends g.D.Sink.Ends g.W.Clock.reads g.D.Door c.args.connections _ _ c.args.desk _ _
+      work = work_of g.K.Keeper g.D.Source.Ends g.D.Sink.Ends (takes g.W.Clock.reads g.V.Dice.draws) g.D.Door c.args.connections _ _ c.args.desk _ _
           c.serve-worked.result.0 c.in-Ok.ensures.memory c.serve-worked.ensures.work;
       heard = c.serve-worked.ensures.seat.told;
       closes = c.close-site.ensures.closes;
@@ -46,9 +47,9 @@ returns-in-Ok-clause-leaves g c =
 pub returns-in-Ok-clause-paid : goal.returns-in-Ok-clause-paid
 returns-in-Ok-clause-paid g c =
     let last = memory_of g.K.Keeper c.in-Ok.hub c.serve-worked.result.1 in
-    let work = work_of g.K.Keeper g.D.Source.Ends g.D.Sink.Ends g.W.Clock.reads g.D.Door c.args.connections _ _ c.args.desk _ _
+    let work = work_of g.K.Keeper g.D.Source.Ends g.D.Sink.Ends (takes g.W.Clock.reads g.V.Dice.draws) g.D.Door c.args.connections _ _ c.args.desk _ _
     c.serve-worked.result.0 c.in-Ok.ensures.memory c.serve-worked.ensures.work in
     closing_pays g.K.Keeper last c.args.desk c.close-site.result.0 c.close-site.result.1
-    (work_begins g.K.Keeper g.D.Source.Ends g.D.Sink.Ends g.W.Clock.reads g.D.Door c.args.connections
+    (work_begins g.K.Keeper g.D.Source.Ends g.D.Sink.Ends (takes g.W.Clock.reads g.V.Dice.draws) g.D.Door c.args.connections
     (of_the_first MAX_SEATS c.args.desk) last _ _
     c.serve-worked.result.0 work) c.requires.start c.close-site.ensures.closes

@@ -8,6 +8,7 @@ use Rattle.nf_command.specs.First.{init_rows}
 use Rattle.nf_command.specs.Reading.{ReadsCommand}
 use Rattle.nf_command.specs.declared.command.Command.{Command}
 use Rattle.nf_command.specs.declared.command.Command.TheVariants as commands
+use Rattle.nf_outside.specs.Lent.{lent, takes}
 use Rattle.filesd.specs.Doors.{RunsDoors}
 use Rattle.filesd.specs.Init.{Inits}
 use Rattle.filesd.specs.Outside.{outlet}
@@ -22,23 +23,23 @@ use Rattle.filesd.proofs.running.run.Goals as goal
 
 pub returns-in-Ok-Some-Batch-clause-one_file : goal.returns-in-Ok-Some-Batch-clause-one_file
 returns-in-Ok-Some-Batch-clause-one_file g c = λ batch.
-    serves_one g.C.Clock.reads _ _ c.batch.result.status c.batch.result.site c.batch.ensures.runs c.batch.ensures.alone
+    serves_one (takes g.C.Clock.reads g.Q.Dice.draws) _ _ c.batch.result.status c.batch.result.site c.batch.ensures.runs c.batch.ensures.alone
 
 pub returns-in-Ok-Some-Batch-clause-read : goal.returns-in-Ok-Some-Batch-clause-read
 returns-in-Ok-Some-Batch-clause-read g c =
-    runs_read g.C.Clock.reads _ _ c.batch.result.status c.batch.result.site c.batch.ensures.runs
+    runs_read (takes g.C.Clock.reads g.Q.Dice.draws) _ _ c.batch.result.status c.batch.result.site c.batch.ensures.runs
 
 pub returns-in-Ok-Some-Batch-clause-write : goal.returns-in-Ok-Some-Batch-clause-write
 returns-in-Ok-Some-Batch-clause-write g c =
-    runs_write g.C.Clock.reads _ _ c.batch.result.status c.batch.result.site c.batch.ensures.runs
+    runs_write (takes g.C.Clock.reads g.Q.Dice.draws) _ _ c.batch.result.status c.batch.result.site c.batch.ensures.runs
 
 pub returns-in-Ok-Some-Batch-clause-store : goal.returns-in-Ok-Some-Batch-clause-store
 returns-in-Ok-Some-Batch-clause-store g c =
-    runs_store g.C.Clock.reads _ _ c.batch.result.status c.batch.result.site c.batch.ensures.runs
+    runs_store (takes g.C.Clock.reads g.Q.Dice.draws) _ _ c.batch.result.status c.batch.result.site c.batch.ensures.runs
 
 pub returns-in-Ok-Some-Batch-clause-batch_well : goal.returns-in-Ok-Some-Batch-clause-batch_well
 returns-in-Ok-Some-Batch-clause-batch_well g c = λ batch.
-    batch_well g.C.Clock.reads _ _ c.batch.result.status c.batch.result.site c.batch.ensures.runs c.batch.ensures.room
+    batch_well (takes g.C.Clock.reads g.Q.Dice.draws) _ _ c.batch.result.status c.batch.result.site c.batch.ensures.runs c.batch.ensures.room
 
 pub returns-in-Ok-Some-Init-clause-init : goal.returns-in-Ok-Some-Init-clause-init
 returns-in-Ok-Some-Init-clause-init g c = λ name token quota is.
@@ -50,7 +51,7 @@ returns-in-Ok-Some-Init-clause-init g c = λ name token quota is.
     (subst (λ (read : Result (Option Command) AllocError). ReadsCommand words read) c.in-Ok-Some-Init.is c.command_of.ensures)) in
     let gives = init_is_read words name token quota (Ok (Some (commands.Init init))) is read in
     let rows = rows_are init.name init.token init.quota name token quota gives.0 gives.1 gives.2 in
-    inits_beside (g.S.Ends.left c.args.input.now) (g.S.Ends.read_faults c.args.input.now) c.args.clock.now (init_rows name token quota) _ _
+    inits_beside (g.S.Ends.left c.args.input.now) (g.S.Ends.read_faults c.args.input.now) (lent c.args.clock.now c.args.dice.now) (init_rows name token quota) _ _
     c.initialize.result.status c.initialize.result.site
     (subst (λ (these : List Row). Inits these
     (outlet g.O.Ends g.K.Keeper c.args.output.now c.args.keeper)
@@ -64,7 +65,7 @@ returns-in-Ok-Some-Init-clause-init_well g c = λ name token quota is.
 
 pub returns-in-Ok-Some-Serve-clause-serve_well : goal.returns-in-Ok-Some-Serve-clause-serve_well
 returns-in-Ok-Some-Serve-clause-serve_well g c = λ is.
-    serve_well g.K.Keeper g.D.Source.Ends g.D.Sink.Ends g.W.Clock.reads g.D.Door c.args.keeper c.serve_doors.result.keeper
+    serve_well g.K.Keeper g.D.Source.Ends g.D.Sink.Ends (takes g.W.Clock.reads g.V.Dice.draws) g.D.Door c.args.keeper c.serve_doors.result.keeper
     c.args.workers.now c.serve_doors.new.workers c.serve_doors.result.status c.serve_doors.result.site c.in-Ok-Some-Serve.connections
     c.serve_doors.ensures.runs
 
@@ -76,20 +77,20 @@ returns-in-Ok-Some-Serve-clause-serve g c = λ n is.
     subst (λ (command : Command). ReadsCommand words (Ok (Some command))) c.in-Ok-Some-Serve.field-0-0-is
     (subst (λ (command : Option Command). ReadsCommand words (Ok command)) c.in-Ok-Some-Serve.field-0-is
     (subst (λ (read : Result (Option Command) AllocError). ReadsCommand words read) c.in-Ok-Some-Serve.is c.command_of.ensures)) in
-    subst (λ (count : ℕ). RunsDoors g.K.Keeper g.D.Source.Ends g.D.Sink.Ends g.W.Clock.reads g.D.Door count c.args.keeper
+    subst (λ (count : ℕ). RunsDoors g.K.Keeper g.D.Source.Ends g.D.Sink.Ends (takes g.W.Clock.reads g.V.Dice.draws) g.D.Door count c.args.keeper
     c.serve_doors.result.keeper c.args.workers.now c.serve_doors.new.workers c.serve_doors.result.status c.serve_doors.result.site)
     (serve_is_read words n (Ok (Some (commands.Serve connections))) is read) c.serve_doors.ensures.runs
 
 pub returns-in-Ok-Some-Serve-clause-door : goal.returns-in-Ok-Some-Serve-clause-door
 returns-in-Ok-Some-Serve-clause-door g c = λ is.
-    subst (λ (s : Status). Says g.K.Keeper g.D.Source.Ends g.D.Sink.Ends g.W.Clock.reads g.D.Door c.args.keeper c.serve_doors.result.keeper
+    subst (λ (s : Status). Says g.K.Keeper g.D.Source.Ends g.D.Sink.Ends (takes g.W.Clock.reads g.V.Dice.draws) g.D.Door c.args.keeper c.serve_doors.result.keeper
     c.args.workers.now c.serve_doors.new.workers s) is
-    (runs_say g.K.Keeper g.D.Source.Ends g.D.Sink.Ends g.W.Clock.reads g.D.Door c.in-Ok-Some-Serve.connections c.args.keeper
+    (runs_say g.K.Keeper g.D.Source.Ends g.D.Sink.Ends (takes g.W.Clock.reads g.V.Dice.draws) g.D.Door c.in-Ok-Some-Serve.connections c.args.keeper
     c.serve_doors.result.keeper _ _ c.serve_doors.result.status c.serve_doors.result.site c.serve_doors.ensures.runs)
 
 pub returns-in-Ok-Some-Batch-clause-safe : goal.returns-in-Ok-Some-Batch-clause-safe
 returns-in-Ok-Some-Batch-clause-safe g c =
-    batch_keeps g.C.Clock.reads _ _ c.batch.result.status c.batch.result.site c.batch.ensures.runs c.batch.ensures.leaves
+    batch_keeps (takes g.C.Clock.reads g.Q.Dice.draws) _ _ c.batch.result.status c.batch.result.site c.batch.ensures.runs c.batch.ensures.leaves
 
 pub returns-in-Ok-Some-Init-clause-safe : goal.returns-in-Ok-Some-Init-clause-safe
 returns-in-Ok-Some-Init-clause-safe g c =
@@ -99,6 +100,6 @@ returns-in-Ok-Some-Init-clause-safe g c =
 
 pub returns-in-Ok-Some-Serve-clause-safe : goal.returns-in-Ok-Some-Serve-clause-safe
 returns-in-Ok-Some-Serve-clause-safe g c =
-    serve_keeps g.K.Keeper g.D.Source.Ends g.D.Sink.Ends g.W.Clock.reads g.D.Door c.in-Ok-Some-Serve.connections c.args.keeper
+    serve_keeps g.K.Keeper g.D.Source.Ends g.D.Sink.Ends (takes g.W.Clock.reads g.V.Dice.draws) g.D.Door c.in-Ok-Some-Serve.connections c.args.keeper
     c.serve_doors.result.keeper c.args.workers.now c.serve_doors.new.workers c.serve_doors.result.status c.serve_doors.result.site
     c.serve_doors.ensures.runs c.serve_doors.ensures.leaves

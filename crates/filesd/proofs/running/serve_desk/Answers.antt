@@ -2,6 +2,7 @@ use Rattle.std.proofs.Common.{ap, ◌∙◌}
 use Rattle.nf_base.specs.declared.limits.TheConstants.{MAX_SEATS}
 use Rattle.nf_desk.specs.Desk.{Served}
 use Rattle.nf_hub.specs.Seats.{book_in, memory_of}
+use Rattle.nf_outside.specs.Lent.{lent, takes}
 use Rattle.nf_session.specs.Book.{held}
 use Rattle.nf_turn.specs.declared.view.Memory.{Memory}
 use Rattle.filesd.specs.Outside.{outside}
@@ -33,9 +34,9 @@ returns-in-Ok-clause-session g c =
       said.session.0,
       c.status_of.ensures,
       said.session.1,
-      session_between g.C.Clock.reads
-          (outside g.S.Ends g.O.Ends k c.args.input.now c.args.output.now c.args.desk.keeper c.args.clock.now)
-          (outside g.S.Ends g.O.Ends k c.serve_ends-ended.new.input c.serve_ends-ended.new.output c.close-site.result.1 c.serve_ends-ended.new.clock)
+      session_between (takes g.C.Clock.reads g.Q.Dice.draws)
+          (outside g.S.Ends g.O.Ends k c.args.input.now c.args.output.now c.args.desk.keeper (lent c.args.clock.now c.args.dice.now))
+          (outside g.S.Ends g.O.Ends k c.serve_ends-ended.new.input c.serve_ends-ended.new.output c.close-site.result.1 (lent c.serve_ends-ended.new.clock c.serve_ends-ended.new.dice))
           said.session.0 c.serve_ends-ended.result.ended _ _ _ _
           (ap (λ (m : Memory (Served g.row.K.Denot)). book_in k m) c.in-Ok.ensures.memory
           ∙ first_book_is k c.args.desk c.requires.fresh c.requires.start)
@@ -65,7 +66,7 @@ returns-in-Ok-clause-alone g c =
 pub returns-in-Err-clause-session : goal.returns-in-Err-clause-session
 returns-in-Err-clause-session g c =
     let handed = c.handed_out.ensures in
-    serves_none g.C.Clock.reads g.K.Keeper
-    (outside g.S.Ends g.O.Ends g.K.Keeper c.args.input.now c.args.output.now c.args.desk.keeper c.args.clock.now)
+    serves_none (takes g.C.Clock.reads g.Q.Dice.draws) g.K.Keeper
+    (outside g.S.Ends g.O.Ends g.K.Keeper c.args.input.now c.args.output.now c.args.desk.keeper (lent c.args.clock.now c.args.dice.now))
     c.args.desk c.in-Err.desk c.handed_out.result.status c.handed_out.result.site c.handed_out.result.keeper
     c.requires.start c.in-Err.ensures.err handed.status handed.site handed.keeper handed.leaves

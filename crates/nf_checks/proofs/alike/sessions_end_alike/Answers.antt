@@ -1,5 +1,6 @@
+use Rattle.nf_outside.specs.Lent.{takes}
 use Rattle.nf_checks.proofs.Sessions.{sessions_same}
 use Rattle.nf_checks.proofs.alike.sessions_end_alike.Goals as goal
 
 pub returns : goal.returns
-returns g c = sessions_same g.C.Clock.reads
+returns g c = sessions_same (takes g.C.Clock.reads g.D.Dice.draws)

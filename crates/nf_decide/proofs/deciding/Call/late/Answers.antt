@@ -8,10 +8,10 @@ returns-in-Some c =
 
 pub returns-in-Some-2 : goal.returns-in-Some-2
 returns-in-Some-2 c =
-    limited_late c.args.self.now c.args.places.now c.args.offer.now (Some c.in-Some-2.limit) c.requires.places c.requires.offer
+    limited_late c.args.self.now c.args.places.now (Some c.in-Some-2.limit) c.requires.places
     (sym c.in-None.is ∙ c.in_ok-refusal.ensures) (sym c.in-Some-2.is ∙ c.in_ok-limit-in-None.ensures)
 
 pub returns-in-None-2 : goal.returns-in-None-2
 returns-in-None-2 c =
-    limited_late c.args.self.now c.args.places.now c.args.offer.now None c.requires.places c.requires.offer
+    limited_late c.args.self.now c.args.places.now None c.requires.places
     (sym c.in-None.is ∙ c.in_ok-refusal.ensures) (sym c.in-None-2.is ∙ c.in_ok-limit-in-None.ensures)

@@ -1,7 +1,7 @@
 use Rattle.std.proofs.Common.{ℕ, Bool, ◌&&◌, if◌then◌else◌, Some, None, is_some, ap, sym, ◌∙◌, ◌≡◌}
 use Rattle.nf_words.specs.Prelude.{Call, is_wider, perms_after, State}
-use Rattle.nf_words.specs.declared.answer.ShareRule.TheVariants as rule
-use Rattle.nf_decide.proofs.deciding.Call.set_fault.Goals as goal
+use Rattle.nf_words.specs.declared.answer.Breach.TheVariants as rule
+use Rattle.nf_decide.proofs.deciding.Call.perms_fault.Goals as goal
 
 pub returns-in-Some : goal.returns-in-Some
 returns-in-Some c =

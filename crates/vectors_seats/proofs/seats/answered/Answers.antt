@@ -14,8 +14,8 @@ use Rattle.nf_hub.specs.Seats.{IsIdleSeat, book}
 use Rattle.nf_hub.specs.declared.seat.Began.{Began}
 use Rattle.nf_hub.specs.declared.seat.SeatOf.{SeatOf}
 use Rattle.nf_hub.specs.declared.seat.Began.TheVariants as how
-use Rattle.vectors_seats.proofs.seats.ask.Goals.{in-Done, in-Granted, in-Refused}
-use Rattle.vectors_seats.proofs.seats.ask.Goals as goal
+use Rattle.vectors_seats.proofs.seats.answered.Goals.{in-Done, in-Granted, in-Refused}
+use Rattle.vectors_seats.proofs.seats.answered.Goals as goal
 
 -- what a seat holds after its Begin, by what that returned
 abbrev goal_of : Began → Option Goal
@@ -31,14 +31,14 @@ began_holds a b now words request (how.Refused refusal) idle begins done = (begi
 
 pub finish-answer-requires-clause-granted : goal.finish-answer-requires-clause-granted
 finish-answer-requires-clause-granted g c =
-    began_holds _ _ _ _ _ _ c.requires.1 c.begin-began.ensures.begins c.begin-began.ensures.began ∙ ap goal_of c.in-Granted.is
+    began_holds _ _ _ _ _ _ c.requires.idle.1 c.begin-began.ensures.begins c.begin-began.ensures.began ∙ ap goal_of c.in-Granted.is
 
 pub returns : goal.returns
 returns g c =
     let began = c.begin-began in
     let P : SeatOf (Served g.row.K.Denot) Entry (List Row × Snapshot g.row.K.Denot) → Type 0 = λ seat. IsIdleSeat g.K.Keeper c.args.shared.now.hub seat in
     let holds : held (book g.K.Keeper c.args.shared.now.hub began.new.seat) ≡ goal_of began.result =
-    began_holds _ _ _ _ _ _ c.requires.1 began.ensures.begins began.ensures.began in
+    began_holds _ _ _ _ _ _ c.requires.idle.1 began.ensures.begins began.ensures.began in
     elim c.match-began.branch [
       | in-Granted w ↦ subst P (sym w.seat-is) w.finish-answer.ensures
       | in-Done w ↦ subst P (sym w.seat-is) (began.ensures.seat, holds ∙ ap goal_of w.in-Done.is)
