@@ -1,4 +1,5 @@
-"""A model of files, shares and mounts, for `tools/soak --shares`: by docs/HTTP.md it says what each member is answered.
+"""A model of files, shares and mounts, for `tools/soak --shares`: by docs/HTTP.md it says what each member is answered, and whoever comes
+by a link.
 
 A world is what is there between two changes, and is never changed itself. It has the folders and files that stay until a change
 moves or removes them. Files that come and go beside them have no place in it: who asks says whether one is there.
@@ -7,11 +8,15 @@ from collections import namedtuple
 
 READ, UPDATE, CREATE, DELETE, SHARE = ACTS = [1, 2, 4, 8, 16]
 ALL, OF_A_FILE = sum(ACTS), READ | UPDATE | SHARE
+OF_A_LINK = ALL & ~SHARE
 LONGEST_CHAIN, LONGEST_EXTENSION = 16, 10
 
 # `folder` is the number of the folder that it is in, or the name of the user in whose root it is. A folder has no body.
 Node = namedtuple("Node", "folder name body")
-Share = namedtuple("Share", "number parent giver receiver owner node permissions ended")
+# A link has a token, and no receiver.
+Share = namedtuple("Share", "number parent giver receiver owner node permissions ended token", defaults=(None,))
+# Who asks, where it isn't a user: whoever knows the link of a share. What the share is of is where its paths begin.
+Link = namedtuple("Link", "number token")
 Mount = namedtuple("Mount", "name left")
 # A request. That of a share is NEW, SET, END, SHOW or LIST, and any other is called by its method.
 Ask = namedtuple("Ask", "user method path target overwrite body share receiver permissions", defaults=(None, None, True) + 4 * (None,))
@@ -39,7 +44,8 @@ class World:
         self.called = {(user, mount.name): node for (user, node), mount in mounts.items() if not mount.left}
         self.received = {}
         for share in shares.values():
-            self.received.setdefault((share.receiver, share.node), []).append(share.number)
+            who = Link(share.number, share.token) if share.token else share.receiver
+            self.received.setdefault((who, share.node), []).append(share.number)
 
     def is_folder(self, at):
         return isinstance(at, str) or self.nodes[at].body is None
@@ -66,8 +72,11 @@ class World:
         return [number for number, node in self.nodes.items() if node.folder == at]
 
     def paths(self, user):
-        """The paths by which names lead the user to what is there, and to mounts, with the nodes: whether or not the user is let in."""
+        """The paths by which names lead the user to what is there, and to mounts, with the nodes: whether or not the user is let in. By a
+        link the path without names leads there, too."""
         found = [((self.nodes[number].name,), number) for number in self.inside(user)]
+        if isinstance(user, Link) and self.shares[user.number].node in self.nodes:
+            found = [((), self.shares[user.number].node)]
         found += [((mount.name,), node) for (of, node), mount in self.mounts.items() if of == user and not mount.left]
         for path, at in found:
             found += [(path + (self.nodes[number].name,), number) for number in self.inside(at)]
@@ -118,7 +127,14 @@ class World:
             at, rest = self.named[at, rest[0]], rest[1:]
         return at, rest
 
+    def links(self):
+        return [Link(share.number, share.token) for share in self.shares.values() if share.token]
+
     def find(self, user, path):
+        if isinstance(user, Link):
+            mount = self.shares[user.number].node
+            self.need(user, mount)
+            return Place(mount, *self.go(mount, path))
         at, rest = self.go(user, path)
         if at != user or not rest or (user, rest[0]) not in self.called:
             return Place(None, at, rest)
@@ -135,8 +151,13 @@ class World:
     def is_there(self, place, has):
         return not place.rest or has and len(place.rest) == 1 and self.is_folder(place.at)
 
-    def folder(self, place):
-        return place.at if place.rest else self.nodes[place.at].folder
+    def is_start(self, user, place):
+        """Whether it is what the link is of that somebody comes by."""
+        return isinstance(user, Link) and not place.rest and place.at == place.mount
+
+    def folder(self, user, place):
+        """What a link is of stands for its own folder."""
+        return place.at if place.rest or self.is_start(user, place) else self.nodes[place.at].folder
 
     # Files
 
@@ -157,6 +178,8 @@ class World:
         if ask.method in ("MOVE", "COPY"):
             return self.decide_carried(ask, source, has[1])
         self.need(user, source.mount, READ if ask.method == "GET" else DELETE)
+        if ask.method == "DELETE" and self.is_start(user, source):
+            raise Refused(403, "bad-target", cause="root")
         return 200 if ask.method == "GET" else 204, source, None
 
     def decide_new(self, ask, has):
@@ -181,16 +204,18 @@ class World:
     def decide_carried(self, ask, source, has):
         """A MOVE or COPY of what is there."""
         user, target = ask.user, self.find_target(ask.user, ask.target)
-        replaces, folder = self.is_there(target, has), self.folder(target)
-        if not target.rest and target.at == target.mount:
+        replaces, folder = self.is_there(target, has), self.folder(user, target)
+        if not isinstance(user, Link) and not target.rest and target.at == target.mount:
             raise NotModelled
-        if ask.method == "MOVE" and folder == self.folder(source):
+        if ask.method == "MOVE" and folder == self.folder(user, source):
             self.need(user, source.mount, UPDATE)
         else:
             self.need(user, source.mount, DELETE if ask.method == "MOVE" else READ)
             self.need(user, target.mount, CREATE)
         if replaces:
             self.need(user, target.mount, DELETE)
+        if self.is_start(user, source) or self.is_start(user, target):
+            raise Refused(403, "bad-target", cause="root")
         if source[1:] == target[1:]:
             raise Refused(403, "bad-target", cause="same")
         if not source.rest and self.is_under(folder, source.at) or not target.rest and self.is_under(source.at, target.at):
@@ -220,13 +245,13 @@ class World:
         share = self.shares.get(ask.share)
         if not share or share.ended or not self.is_of(share, ask.user):
             raise Refused(404, "not-found")
-        permissions = share.permissions if ask.method == "END" else self.allowed(ask.permissions, share.node)
+        permissions = share.permissions if ask.method == "END" else self.allowed(ask.permissions, share.node, share.token)
         if ask.method == "SET" and any(permissions & ~link.permissions for link in self.chain(ask.share)[:-1]):
             raise Refused(403, "rule", rule="widened")
         return share.parent, permissions
 
-    def allowed(self, permissions, at):
-        return READ | permissions & (ALL if self.is_folder(at) else OF_A_FILE)
+    def allowed(self, permissions, at, is_link):
+        return READ | permissions & (ALL if self.is_folder(at) else OF_A_FILE) & (OF_A_LINK if is_link else ALL)
 
     def decide_new_share(self, ask):
         place = self.find(ask.user, ask.path)
@@ -235,10 +260,10 @@ class World:
         self.need(ask.user, place.mount, SHARE)
         if ask.receiver in (ask.user, self.owner(place.at)):
             raise Refused(403, "rule", rule="self")
-        if any(not share.ended and (share.giver, share.receiver, share.node) == (ask.user, ask.receiver, place.at)
+        if ask.receiver and any(not share.ended and (share.giver, share.receiver, share.node) == (ask.user, ask.receiver, place.at)
                for share in self.shares.values()):
             raise Refused(403, "rule", rule="already")
-        permissions, parent = self.allowed(ask.permissions, place.at), None
+        permissions, parent = self.allowed(ask.permissions, place.at, not ask.receiver), None
         if place.mount is not None:
             parents = [number for number in self.received[ask.user, place.mount] if not self.broken(number, SHARE | permissions)]
             if not parents:
@@ -264,14 +289,14 @@ class World:
 
     # Changes
 
-    def after(self, ask, numbers, number=None):
+    def after(self, ask, numbers, number=None, token=None):
         """The world after a request that isn't refused, and pairs of what was copied and its copy. `numbers` gives new nodes theirs, and
-        `number` is that of a new share."""
+        `number` is that of a new share; it is a link where it has a token."""
         if ask.method in ("NEW", "SET", "END"):
-            return self.after_share(ask, number), []
+            return self.after_share(ask, number, token), []
         nodes, shares, mounts = dict(self.nodes), dict(self.shares), dict(self.mounts)
         _, source, target = self.decide(ask)
-        if source and source.at == source.mount and len(ask.path) == 1 and ask.method != "COPY":
+        if not isinstance(ask.user, Link) and source and source.at == source.mount and len(ask.path) == 1 and ask.method != "COPY":
             key = ask.user, source.mount
             mounts[key] = mounts[key]._replace(left=True) if ask.method == "DELETE" else mounts[key]._replace(name=ask.target[0])
             return World(nodes, shares, mounts), []
@@ -284,7 +309,7 @@ class World:
         if ask.method in ("PUT", "MKCOL"):
             nodes[next(numbers)] = Node(target.at, target.rest[0], ask.body)
         elif ask.method != "DELETE":
-            folder, name = self.folder(target), ask.target[-1]
+            folder, name = self.folder(ask.user, target), ask.target[-1]
             if ask.method == "MOVE" and self.owner(folder) == self.owner(source.at):
                 nodes[source.at] = nodes[source.at]._replace(folder=folder, name=name)
                 return World(nodes, shares, mounts), []
@@ -307,15 +332,15 @@ class World:
         for child in self.inside(at):
             self.copy(child, number, self.nodes[child].name, nodes, numbers, pairs)
 
-    def after_share(self, ask, number):
+    def after_share(self, ask, number, token):
         parent, permissions = self.decide_share(ask)
         shares, mounts = dict(self.shares), dict(self.mounts)
         if ask.method != "NEW":
             shares[ask.share] = shares[ask.share]._replace(permissions=permissions, ended=ask.method == "END")
             return World(self.nodes, shares, mounts)
         at = self.find(ask.user, ask.path).at
-        shares[number] = Share(number, parent, ask.user, ask.receiver, self.owner(at), at, permissions, False)
-        if mounts.get((ask.receiver, at), Mount(None, True)).left:
+        shares[number] = Share(number, parent, ask.user, ask.receiver, self.owner(at), at, permissions, False, token)
+        if ask.receiver and mounts.get((ask.receiver, at), Mount(None, True)).left:
             mounts[ask.receiver, at] = Mount(self.free_name(ask.receiver, self.nodes[at].name), False)
         return World(self.nodes, shares, mounts)
 

@@ -1,4 +1,5 @@
-"""The part of `tools/soak --shares`: members share folders and files, pass them on, and use what is shared with them, all at once.
+"""The part of `tools/soak --shares`: members share folders and files, also by links, pass them on, and use what is shared with them, all at
+once; and so do strangers who come by the links.
 
 The clients work in scenes, four of them in one: folders of one member, what is shared of them, and a folder of each other member. What
 changes shares, mounts, folders, or files that stay, is made one at a time in a scene, and its answer has to be the model's (chains.py).
@@ -20,13 +21,14 @@ import threading
 import time
 from collections import namedtuple
 from contextlib import contextmanager
-from urllib.parse import urlencode
+from urllib.parse import quote, urlencode
 
-from chains import ALL, CREATE, OF_A_FILE, READ, SHARE, UPDATE, Ask, Node, NotModelled, Refused, World
+from chains import ALL, CREATE, READ, SHARE, UPDATE, Ask, Link, Node, NotModelled, Refused, World
 from rounds import LONG_LENGTH, NarrowClient
 from serving import Client
 
 USERS = ["alice", "bob", "carol"]
+PUBLIC = "/public.php/dav/files/"
 SHARES = "/ocs/v2.php/apps/files_sharing/api/v1/shares"
 IN_A_SCENE = 4
 # Files that come and go, and what the names of the others end in, behind that of their scene.
@@ -34,6 +36,8 @@ COMING, FOLDERS, FILES, LATE = ["f0", "f1", "f2"], ["a", "b", "c d"], ["x.txt", 
 # How many shares a scene has before it begins anew, and how many the whole run makes: a store has room for 65,536.
 MOST_IN_A_SCENE, MOST_SHARES = 40, 16_000
 MOST_NODES, MOST_NAMES, KEPT_WORLDS = 24, 6, 2_000
+# How much is asked by links, and how many of the new shares are such.
+BY_LINKS, LINKS = 0.2, 0.25
 # The longest time in seconds for which a PUT waits before its body.
 LONGEST_PAUSE = 0.004
 USES = {"GET": 30, "PUT": 25, "listing": 15, "MOVE": 7, "COPY": 7, "LIST": 6, "SHOW": 5, "DELETE": 3}
@@ -61,12 +65,23 @@ def plain(answer, ask):
     return data if meta == wanted and list(what) == ["ocs"] else what
 
 
+def name_of(user):
+    """Whose token is sent. By a link it isn't looked at."""
+    return "nobody" if isinstance(user, Link) else user
+
+
+def placed(user, path):
+    """A path, which is a list of names; or by a link its target."""
+    return f"{PUBLIC}{user.token}/{'/'.join(quote(name, safe='') for name in path)}" if isinstance(user, Link) else list(path)
+
+
 def request(ask):
     """The method, the path or target, the body and the fields of a request."""
     if ask.method in ("NEW", "SET", "END", "SHOW", "LIST"):
         target, form, fields = SHARES, None, {"OCS-APIRequest": "true"}
         if ask.method == "NEW":
-            form = {"path": "/" + "/".join(ask.path), "shareType": 0, "shareWith": ask.receiver, "permissions": ask.permissions}
+            whom = {"shareType": 0, "shareWith": ask.receiver} if ask.receiver else {"shareType": 3}
+            form = {"path": "/" + "/".join(ask.path), **whom, "permissions": ask.permissions}
         elif ask.method == "LIST":
             target += "?" + urlencode({"path": "/" + "/".join(ask.path), **({"shared_with_me": "true"} if ask.receiver else {})})
         else:
@@ -74,13 +89,13 @@ def request(ask):
             form = {"permissions": ask.permissions} if ask.method == "SET" else None
         method = {"NEW": "POST", "SET": "PUT", "END": "DELETE"}.get(ask.method, "GET")
         return method, target, form and urlencode(form).encode(), fields
-    fields = {"Destination": list(ask.target), "Overwrite": "T" if ask.overwrite else "F"} if ask.target else {}
-    return ask.method, list(ask.path), ask.body, fields
+    fields = {"Destination": placed(ask.user, ask.target), "Overwrite": "T" if ask.overwrite else "F"} if ask.target is not None else {}
+    return ask.method, placed(ask.user, ask.path), ask.body, fields
 
 
 def shown(ask):
     what = f"{ask.user}: {ask.method} " + ("" if ask.path is None else "/" + "/".join(ask.path))
-    what += f" to /{'/'.join(ask.target)}" + ("" if ask.overwrite else ", if free") if ask.target else ""
+    what += f" to /{'/'.join(ask.target)}" + ("" if ask.overwrite else ", if free") if ask.target is not None else ""
     what += "" if ask.body is None else f" ({len(ask.body)} bytes)"
     return what + "".join(f" {name} {value}" for name, value in ask._asdict().items()
                           if name in ("share", "receiver", "permissions") and value is not None)
@@ -110,7 +125,7 @@ def refused_at_end(world, user, mount, act):
 def told_share(share):
     """What is told of a share, but for the number of what is shared."""
     return {"expiration": None, "id": str(share.number), "parent": share.parent and str(share.parent), "permissions": share.permissions,
-            "share_type": 0, "share_with": share.receiver, "token": None, "uid_file_owner": share.owner, "uid_owner": share.giver}
+            "share_type": 3 if share.token else 0, "share_with": share.receiver, "token": share.token, "uid_file_owner": share.owner, "uid_owner": share.giver}
 
 
 def is_locked(status, what):
@@ -155,7 +170,7 @@ class Scene:
             wanted = wanted_of(self.world, ask)
         except NotModelled:
             return False
-        client = Client(self.soak.server.port, ask.user)
+        client = Client(self.soak.server.port, name_of(ask.user))
         self.begin()
         try:
             method, path, body, fields = request(ask)
@@ -180,7 +195,7 @@ class Scene:
             self.wrong(f"{shown(ask)}: {status} {what}, but it should be {wanted}\n{self.story()}")
         if is_made:
             number = int(what["id"]) if ask.method == "NEW" else None
-            world, pairs = self.world.after(ask, self.fresh, number)
+            world, pairs = self.world.after(ask, self.fresh, number, what["token"] if number else None)
             if ask.method in ("NEW", "SET") and not self.is_told(world.shares[number or ask.share], what):
                 self.wrong(f"{shown(ask)}: {what}\n{self.story()}")
             if ask.method == "NEW":
@@ -397,8 +412,9 @@ def outcomes(world, ask):
     """What a world says to a request about files, for whatever files come and go: a status, an object where it is refused, the source
     and the target."""
     # Only a MOVE or COPY has two places.
-    choices = [(False, True) if set(path[-1:]) & set(COMING) else (False,) for path in (ask.path, ask.target or ask.path)]
-    for has in itertools.product(*choices) if ask.target else zip(*choices):
+    paths = ask.path, ask.path if ask.target is None else ask.target
+    choices = [(False, True) if set(path[-1:]) & set(COMING) else (False,) for path in paths]
+    for has in itertools.product(*choices) if ask.target is not None else zip(*choices):
         try:
             status, source, target = world.decide(ask, has)
             yield status, None, source, target
@@ -448,10 +464,13 @@ class Member:
         self.send(ask, self.client, waits, (lambda: time.sleep(pause)) if waits else None)
 
     def ask_by_chance(self, world):
-        chance, user, paths = self.chance, self.user, world.paths(self.user)
+        chance, user = self.chance, self.user
         [method] = chance.choices(list(USES), USES.values())
         if method == "SHOW" and world.shares:
             return Ask(user, "SHOW", share=chance.choice(list(world.shares)))
+        if method != "LIST" and world.links() and chance.random() < BY_LINKS:
+            user = chance.choice(world.links())
+        paths = world.paths(user)
         if not paths or method == "SHOW" or method == "listing" and chance.random() < 0.2:
             return Ask(user, "GET", ())
         path, at = chance.choice(paths)
@@ -481,6 +500,8 @@ class Member:
     def change_by_chance(self, world):
         chance, user, paths = self.chance, self.user, world.paths(self.user)
         [method] = chance.choices(list(CHANGES), CHANGES.values())
+        if method in ("PUT", "MOVE", "MKCOL", "COPY", "DELETE") and world.links() and chance.random() < BY_LINKS:
+            return self.kept_by_chance(world, method, user := chance.choice(world.links()), world.paths(user))
         if method in ("NEW", "END") and not self.scene.can_share():
             method = "SET"
         if method in ("SET", "END"):
@@ -495,21 +516,22 @@ class Member:
             found = Ask(user, "MOVE", None, target) if method == "rename" else Ask(user, "DELETE")
             return found._replace(path=chance.choice(mounts)) if mounts else None
         if method == "NEW":
-            ask = Ask(user, "NEW", receiver=chance.choice(USERS), permissions=chance.choice(SOME))
+            receiver = None if chance.random() < LINKS else chance.choice(USERS)
+            ask = Ask(user, "NEW", receiver=receiver, permissions=chance.choice(SOME))
             return ask._replace(path=chance.choice(paths)[0]) if paths else None
-        return self.kept_by_chance(world, method, paths)
+        return self.kept_by_chance(world, method, user, paths)
 
-    def kept_by_chance(self, world, method, paths):
+    def kept_by_chance(self, world, method, user, paths):
         """A change of folders and of files that stay."""
-        chance, user, prefix = self.chance, self.user, self.scene.prefix
+        chance, prefix = self.chance, self.scene.prefix
         if len(world.nodes) > MOST_NODES and method != "MOVE":
             method = "DELETE"
         folders = [path for path, at in paths if at not in world.nodes or world.is_folder(at)]
         files = [path for path, at in paths if at in world.nodes and not world.is_folder(at) and len(world.nodes[at].body) < LONG_LENGTH]
-        deep = [path for path, at in paths if len(path) > 1]
+        deep = [path for path, at in paths if len(path) > (0 if isinstance(user, Link) else 1) or not path and chance.random() < 0.1]
         if not folders:
             return None
-        folder = chance.choice(folders if chance.random() < 0.8 else [path for path in folders if len(path) == 1])
+        folder = chance.choice(folders if chance.random() < 0.8 else [path for path in folders if len(path) <= 1])
         if method == "MKCOL":
             ask = Ask(user, "MKCOL", (*folder, f"{prefix} {chance.choice(FOLDERS)}"))
         elif method == "PUT":
@@ -519,8 +541,9 @@ class Member:
             return None
         else:
             path = chance.choice(deep)
-            name = path[-1] if chance.random() < 0.6 else f"{prefix} {chance.choice(FILES if path in files else FOLDERS)}"
-            ask = Ask(user, method, path, None if method == "DELETE" else (*folder, name), chance.random() < 0.6)
+            name = path[-1] if path and chance.random() < 0.6 else f"{prefix} {chance.choice(FILES if path in files else FOLDERS)}"
+            target = () if isinstance(user, Link) and chance.random() < 0.05 else (*folder, name)
+            ask = Ask(user, method, path, None if method == "DELETE" else target, chance.random() < 0.6)
         return ask if len(ask.target or ask.path) <= MOST_NAMES else None
 
     # What is revoked amid a request
@@ -541,7 +564,7 @@ class Member:
         """A request by a mount that is granted, the place and the act that it is granted for, and a change after which it isn't."""
         chance, scene = self.chance, self.scene
         for _ in range(20):
-            user = chance.choice(USERS)
+            user = chance.choice(USERS + world.links())
             paths = [(path, at) for path, at in world.paths(user) if at in world.nodes and world.owner(at) != user]
             if method == "GET":
                 paths = [(path, at) for path, at in paths if world.nodes[at].body is scene.long]
@@ -578,14 +601,14 @@ class Member:
 
     def put_ends_late(self, ask, place, act, revocation):
         """Sends the head of a PUT, has it granted and then revoked, and sends the body. Whether it was revoked."""
-        scene, revoked, client, runs = self.scene, [], Client(self.soak.server.port, ask.user), self.soak.server.runs()
+        scene, revoked, client, runs = self.scene, [], Client(self.soak.server.port, name_of(ask.user)), self.soak.server.runs()
         granted = wanted_of(scene.world, ask)
 
         def amid():
             revoked.append(scene.change(revocation, once=True))
             scene.begin()
 
-        answer = self.soak.ask_once(client, "PUT", list(ask.path), ask.body, expect=True, amid=amid)
+        answer = self.soak.ask_once(client, "PUT", placed(ask.user, ask.path), ask.body, expect=True, amid=amid)
         client.close()
         if answer is None:
             # A run that ends waits five seconds for what was granted.
@@ -606,14 +629,14 @@ class Member:
 
     def get_goes_on(self, ask, place, act, revocation):
         """Reads the head of the long file, has the GET revoked, and reads the rest. Whether it was revoked."""
-        scene, revoked, client = self.scene, [], NarrowClient(self.soak.server.port, ask.user)
+        scene, revoked, client = self.scene, [], NarrowClient(self.soak.server.port, name_of(ask.user))
         world, sent, begun = scene.world, time.monotonic(), []
 
         def amid():
             begun.append(time.monotonic())
             revoked.append(scene.change(revocation, once=True))
 
-        answer = self.soak.ask_once(client, "GET", list(ask.path), amid=amid)
+        answer = self.soak.ask_once(client, "GET", placed(ask.user, ask.path), amid=amid)
         if answer is not None:
             scene.tell(Told(ask, sent, begun[0], sent, begun[0], answer.status, plain(answer, ask)))
             scene.went_on += revoked[0] and answer.status == 200
@@ -635,7 +658,8 @@ class Member:
 
     def tend(self, world):
         """Nothing is granted that can be revoked: gives a share all permissions, or begins anew."""
-        shares = [share for share in world.shares.values() if not share.ended and share.permissions not in (ALL, OF_A_FILE)]
+        shares = [share for share in world.shares.values()
+                  if not share.ended and share.permissions != world.allowed(ALL, share.node, share.token)]
         asks = [Ask(share.owner, "SET", share=share.number, permissions=ALL) for share in shares]
         asks = [ask for ask in asks if wanted_of(world, ask)[1] is None]
         if asks:

@@ -1,5 +1,5 @@
 -- The file of the demonstration rows is one that a run serves.
-use Rattle.std.proofs.Common.{◌≡◌, ◌∙◌, ◌&&◌, ap, refl, arith, true, List, [], ◌∷◌, codes, Some, None, ℕ, Ok, is_some, if◌then◌else◌, Bool, find, false}
+use Rattle.std.proofs.Common.{◌≡◌, ◌∙◌, ◌&&◌, ◌||◌, ap, refl, arith, true, List, [], ◌∷◌, codes, Some, None, ℕ, Ok, is_some, if◌then◌else◌, Bool, find, false}
 use Rattle.std.specs.Prelude.{bytes_eq, Option, option_map}
 use Rattle.std.specs.List.{list_all}
 use Rattle.std.specs.Option.{option_and_then, option_map_or, option_or}
@@ -63,12 +63,12 @@ hello_granted seat now words =
     let row : caller_row call ≡ user_row s.tables.users 1 = ap (option_and_then (user_row s.tables.users)) holds in
     let root : root_of call ≡ 1 = ap (λ (o : Option UserRow). option_map_or (λ row. row.root) o 0) row in
     let way : way_of call spot ≡ record { mount = None; itself = false; place = At 4 } =
-    ap (λ (r : ℕ). way_by s.tables.nodes r spot.path (mounted s.tables.nodes s.tables.mounts (asker_of call) r spot.path)) root in
+    ap (λ (r : ℕ). way_by s.tables.nodes (seeker_of call) r spot.path (mounted s.tables.nodes s.tables.mounts (asker_of call) r spot.path)) root in
     let at : found call spot ≡ At 4 = ap (λ (way : Way). way.place) way in
     let asker : asker_of call ≡ 1 = ap (λ (o : Option UserRow). option_map_or (λ row. row.id) o 0) row in
     let places : places_of call ≡ record { source = Some (At 4); target = None } =
     ap (λ (way : Way). places_by (asked_of (Get spot)) (record { source = Some way; target = None })) way in
-    let token : token_rule access call ≡ None = ap (λ (o : Option UserRow). if is_some o then None else Some denial.Token) row in
+    let token : token_rule access call ≡ None = ap (λ (o : Option UserRow). if is_some o || false then None else Some denial.Token) row in
     let not_you : not_you_rule access call ≡ None =
     ap (λ (o : Option UserRow). if list_all (λ name. option_map_or (λ row. bytes_eq row.name name) o false) (codes "alice" ∷ []) && true then None else Some denial.NotYou) row in
     let led : place_rule access call ≡ None = ap (λ (way : Way). option_or (source_refused access call way) None) way in

@@ -1,7 +1,7 @@
 -- A share that is to be made, beside those that are there.
-use Rattle.std.specs.Prelude.{ℕ, Bool, false, not, ◌&&◌, ◌||◌, ◌==◌, bit_and}
+use Rattle.std.specs.Prelude.{ℕ, Bool, false, not, ◌&&◌, ◌||◌, ◌==◌, bit_and, is_some, List}
 use Rattle.nf_access.specs.Access.{allows}
-use Rattle.nf_access.specs.Shares.{is_before}
+use Rattle.nf_access.specs.Shares.{is_before, link_row}
 use Rattle.nf_base.specs.declared.perms.Act.TheVariants as act
 use Rattle.nf_base.specs.declared.rows.ShareKind.{ShareKind}
 use Rattle.nf_base.specs.declared.rows.ShareKind.TheVariants as kind
@@ -25,6 +25,12 @@ abbrev pub is_again : ShareRow → ℕ → ShareRow → Bool
 is_again row now other =
     not other.ended && is_before now other.until && other.node == row.node && other.initiator == row.initiator
     && is_same_recipient other.kind row.kind
+
+-- there is a link of that token already
+abbrev pub is_token_taken : List ShareRow → ShareKind → Bool
+is_token_taken shares (kind.User user) = false
+is_token_taken shares (kind.Group group) = false
+is_token_taken shares (kind.Link token) = is_some (link_row shares token)
 
 -- ---- passing on
 

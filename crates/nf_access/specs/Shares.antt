@@ -1,5 +1,5 @@
 -- Shares: who receives one, and the chain of shares that it stands on.
-use Rattle.std.specs.Prelude.{ℕ, zero, suc, Bool, true, false, not, ◌&&◌, ◌==◌, nat_lt, min, List, [], ◌∷◌, find, Option, Some, None, option_map, option_and_then, unwrap_or, bit_and, bit_or, if◌then◌else◌}
+use Rattle.std.specs.Prelude.{ℕ, zero, suc, Bool, true, false, not, ◌&&◌, ◌==◌, bytes_eq, nat_lt, min, List, [], ◌∷◌, find, Option, Some, None, option_map, option_and_then, unwrap_or, bit_and, bit_or, if◌then◌else◌}
 use Rattle.nf_base.specs.Perms.{bit_of, has}
 use Rattle.nf_base.specs.declared.perms.Act.TheVariants as act
 use Rattle.nf_base.specs.declared.rows.MemberRow.{MemberRow}
@@ -45,6 +45,24 @@ most_of_share (kind.Link token) = 15
 -- the permissions of a share for which some are asked: of these what it may allow, and read always
 abbrev pub perms_of_share : NodeKind → ShareKind → ℕ → ℕ
 perms_of_share of to wanted = bit_or (bit_and wanted (bit_and (most_of_node of) (most_of_share to))) (bit_of act.Read)
+
+-- ---- links
+
+-- the share is the link of that token
+abbrev pub is_link : List ℕ → ShareKind → Bool
+is_link token (kind.User user) = false
+is_link token (kind.Group group) = false
+is_link token (kind.Link own) = bytes_eq own token
+
+-- the row of the link of that token
+abbrev pub link_row : List ShareRow → List ℕ → Option ShareRow
+link_row shares token = find (λ row. is_link token row.kind) shares
+
+-- a link, whatever its token is
+abbrev pub is_link_kind : ShareKind → Bool
+is_link_kind (kind.User user) = false
+is_link_kind (kind.Group group) = false
+is_link_kind (kind.Link token) = true
 
 -- ---- receiving
 

@@ -10,7 +10,7 @@ ghost use Rattle.nf_base.specs.declared.rows.MemberRow.{MemberRow};
 ghost use Rattle.nf_defs.specs.People.{is_member_of};
 
 use nf_base::{GroupId, UserId};
-pub use perms::{is_part, nothing, perms_of_share};
+pub use perms::{is_part, nothing, perms_of_link, perms_of_share};
 
 /// Why a share of a chain is broken. At one share the first of these that holds is told.
 #[derive(Clone, Copy, PartialEq, Eq)]

@@ -20,6 +20,7 @@ use Rattle.nf_ocs.specs.Read.{and_then}
 use Rattle.nf_ocs.proofs.Asks.{AsksWell, IsFine, fine_request, is_of_ocs}
 use Rattle.nf_dav.specs.Asked as dav
 use Rattle.nf_dav.specs.Asked.{request_of}
+use Rattle.nf_dav.specs.declared.fronts.Front.{Front}
 
 -- what refuses a request before the site is asked
 abbrev pub is_of_request : Denial → Bool
@@ -53,20 +54,20 @@ unread_field : (p : Parameter) (test : List ℕ → Bool) (value : Option (List 
 unread_field p test None = tt
 unread_field p test (Some value) = unless (test value) (denial.BadParameter p) refl
 
-transfer : (head : Head) → AreOfRequest (dav.transfer_refusal head)
-transfer head =
-    or_else _ _ (unless (is_some (dav.destination_of head)) (denial.BadParameter parameter.Destination) refl)
+transfer : (front : Front) (head : Head) → AreOfRequest (dav.transfer_refusal front head)
+transfer front head =
+    or_else _ _ (unless (is_some (dav.destination_of front head)) (denial.BadParameter parameter.Destination) refl)
     (or_else _ _ (unread_field parameter.Overwrite dav.is_overwrite (dav.field (codes "Overwrite") head))
     (unread_field parameter.Depth dav.is_infinite (dav.field (codes "Depth") head)))
 
-parameters : (m : Method) (head : Head) → AreOfRequest (dav.parameter_refusal m head)
-parameters method.Get head = tt
-parameters method.Put head = tt
-parameters method.Mkcol head = tt
-parameters method.Delete head = unread_field parameter.Depth dav.is_infinite (dav.field (codes "Depth") head)
-parameters method.Move head = transfer head
-parameters method.Copy head = transfer head
-parameters method.Post head = tt
+parameters : (front : Front) (m : Method) (head : Head) → AreOfRequest (dav.parameter_refusal front m head)
+parameters front method.Get head = tt
+parameters front method.Put head = tt
+parameters front method.Mkcol head = tt
+parameters front method.Delete head = unread_field parameter.Depth dav.is_infinite (dav.field (codes "Depth") head)
+parameters front method.Move head = transfer front head
+parameters front method.Copy head = transfer front head
+parameters front method.Post head = tt
 
 body : (m : Method) (n : ℕ) → AreOfRequest (dav.body_refusal m n)
 body method.Get n = tt
@@ -91,9 +92,9 @@ unless_any : (refusal : Option Denial) (request : Request) → AreOfRequest refu
 unless_any None request is = tt
 unless_any (Some refusal) request is = is
 
-on_files : (m : Method) (head : Head) → IsOfRequest (dav.files_request m head)
-on_files m head =
-    unless_any (dav.files_refusal m head) _ (or_else _ _ (body m (length_of head)) (or_else _ _ (parameters m head) (names _)))
+on_files : (front : Front) (m : Method) (head : Head) → IsOfRequest (dav.files_request front m head)
+on_files front m head =
+    unless_any (dav.files_refusal front m head) _ (or_else _ _ (body m (length_of head)) (or_else _ _ (parameters front m head) (names _)))
 
 -- the refusals of a request about shares, users and groups are among them
 ocs_too : (refusal : Denial) → is_of_ocs refusal ≡ true → is_of_request refusal ≡ true
@@ -101,7 +102,6 @@ ocs_too denial.OcsHeader is = refl
 ocs_too denial.Body is = refl
 ocs_too (denial.BadParameter p) is = refl
 ocs_too (denial.BadName fault) is = refl
-ocs_too denial.NotBuilt is = refl
 ocs_too other is = absurd (cc)
 
 on_ocs : (r : Route) (m : Method) (head : Head) (body : List ℕ) → IsOfRequest (dav.ocs_request r m head body)
@@ -117,7 +117,12 @@ by : (r : Route) (m : Option Method) (head : Head) (body : List ℕ)
 by r None head body = refl
 by r (Some m) head body =
     checked (not (takes r m)) _ _ refl
-    (checked (dav.is_files r) _ _ (on_files m head) (checked (is_ocs_route r) _ _ (on_ocs r m head body) refl))
+    (there (dav.front_on r) (checked (is_ocs_route r) _ _ (on_ocs r m head body) refl))
+  where
+    there : (front : Option Front) → IsOfRequest (dav.other_request r m head body)
+        → IsOfRequest (option_map_or (λ front. dav.files_request front m head) front (dav.other_request r m head body))
+    there None other = other
+    there (Some front) other = on_files front m head
 
 -- no other refusal comes before the site is asked
 pub unasked_refusal : (head : Head) (body : List ℕ) (refusal : Denial) → request_of head body ≡ Err refusal → is_of_request refusal ≡ true

@@ -1,6 +1,6 @@
 -- The request of a message: GET, PUT and DELETE (RFC 9110, section 9.3), MKCOL, COPY and MOVE (RFC 4918, sections 9.3, 9.8 and 9.9) in
--- a user's files, and what is asked about shares, users and groups (Nextcloud developer manual, OCS Share API and User provisioning API), by
--- the holder of a token (RFC 6750, section 2.1).
+-- a user's files and in what a link shares, and what is asked about shares, users and groups (Nextcloud developer manual, OCS Share API and
+-- User provisioning API), by the holder of a token (RFC 6750, section 2.1) or by whoever knows a link.
 use Rattle.std.specs.Prelude.{◌≡◌, ⊤, ℕ, Bool, true, false, ◌||◌, ◌&&◌, ◌==◌, nat_le, not, if◌then◌else◌, List, [], ◌∷◌, length, take, drop, codes, bytes_eq, Option, None, Some, is_some, Result, Ok, Err, option_map, option_and_then}
 use Rattle.std.specs.List.{list_any}
 use Rattle.std.specs.Option.{option_map_or, option_or}
@@ -22,15 +22,25 @@ use Rattle.nf_words.specs.declared.answer.Parameter.TheVariants as parameter
 use Rattle.nf_words.specs.declared.route.Route.{Route}
 use Rattle.nf_words.specs.declared.route.Route.TheVariants as route
 use Rattle.nf_words.specs.declared.request.Caller.{Caller}
-use Rattle.nf_words.specs.declared.request.Caller.TheVariants.{Absent, Token}
+use Rattle.nf_words.specs.declared.request.Caller.TheVariants.{Absent, Token, Link}
 use Rattle.nf_words.specs.declared.request.Request.{Request}
 use Rattle.nf_words.specs.declared.request.Spot.{Spot}
 use Rattle.nf_words.specs.declared.request.Wanted.{Wanted}
 use Rattle.nf_words.specs.declared.request.Wanted.TheVariants as wanted
 use Rattle.nf_ocs.specs.Asked.{is_ocs_route, ocs_request_of}
 use Rattle.nf_ocs.specs.Read.{and_then}
+use Rattle.nf_dav.specs.declared.fronts.Front.{Front}
+use Rattle.nf_dav.specs.declared.fronts.Front.TheVariants as fronts
 use Rattle.nf_dav.specs.declared.requests.Unasked.{Unasked}
 use Rattle.nf_dav.specs.declared.requests.Unasked.TheVariants.{Refused, Memory}
+
+-- ---- the routes to files
+
+-- what the first segment of a path to files is: on the files route the name of a user, on the public route the token of a link
+abbrev pub front_on : Route → Option Front
+front_on route.Files = Some fronts.User
+front_on route.Public = Some fronts.Link
+front_on other = None
 
 -- ---- the caller
 
@@ -44,39 +54,61 @@ caller_of_value (Some value) =
 abbrev pub caller_of : Head → Caller
 caller_of head = caller_of_value (first_value (codes "Authorization") head.fields)
 
+-- the first of the segments
+abbrev pub first_of : List (List ℕ) → List ℕ
+first_of [] = []
+first_of (first ∷ names) = first
+
+-- the caller of a request for files: by a link, whatever the Authorization says
+abbrev pub caller_by : Front → Head → Caller
+caller_by fronts.User head = caller_of head
+caller_by fronts.Link head = Link (first_of (segments_of head.target))
+
 -- ---- the place
 
--- the place of segments: the user's, and the names of the path
-abbrev pub spot_at : List (List ℕ) → Spot
-spot_at [] = record { user = None; path = [] }
-spot_at (user ∷ names) = record { user = Some user; path = names }
+-- the user whose name is in front; a link's token names none
+abbrev pub user_by : Front → List ℕ → Option (List ℕ)
+user_by fronts.User name = Some name
+user_by fronts.Link token = None
 
--- the first bad name of the segments: the user's, or else the path's
+-- the place of segments: the user in front, and the names of the path
+abbrev pub spot_at : Front → List (List ℕ) → Spot
+spot_at front [] = record { user = None; path = [] }
+spot_at front (first ∷ names) = record { user = user_by front first; path = names }
+
+-- the first bad name of the segments: that in front, where a token is read as a name too, or else one of the path
 abbrev pub segments_fault : List (List ℕ) → Option NameFault
 segments_fault [] = None
-segments_fault (user ∷ names) = option_or (name_fault user) (path_fault names)
+segments_fault (first ∷ names) = option_or (name_fault first) (path_fault names)
 
-abbrev pub target_spot : Head → Spot
-target_spot head = spot_at (segments_of head.target)
+abbrev pub target_spot : Front → Head → Spot
+target_spot front head = spot_at front (segments_of head.target)
 
 -- ---- fields (RFC 4918, sections 10.2, 10.3 and 10.6)
 
 abbrev pub field : List ℕ → Head → Option (List ℕ)
 field name head = first_value name head.fields
 
--- the route of a user's files
-abbrev pub is_files : Route → Bool
-is_files route.Files = true
-is_files other = false
+-- the same link is in front of both
+abbrev pub is_same_link : List ℕ → List ℕ → Bool
+is_same_link target value = bytes_eq (first_of (segments_of target)) (first_of (segments_of value))
 
--- a destination is a target on the files route, without a query
-abbrev pub is_destination : List ℕ → Bool
-is_destination value = not (list_any (λ b. b == 63) value) && option_map_or (λ route. is_files route) (route_of value) false
+-- a value that is a target leads to files as the target does: to those of some user, or to what the same link shares
+abbrev pub leads_alike : Front → List ℕ → List ℕ → Option Front → Bool
+leads_alike fronts.User target value (Some fronts.User) = true
+leads_alike fronts.Link target value (Some fronts.Link) = is_same_link target value
+leads_alike one target value other = false
+
+-- a destination is such a value, without a query
+abbrev pub is_destination : Front → List ℕ → List ℕ → Bool
+is_destination front target value =
+    not (list_any (λ b. b == 63) value) && leads_alike front target value (option_and_then front_on (route_of value))
 
 -- the segments of the destination, where it can be read
-abbrev pub destination_of : Head → Option (List (List ℕ))
-destination_of head =
-    option_and_then (λ value. if is_destination value then Some (segments_of value) else None) (field (codes "Destination") head)
+abbrev pub destination_of : Front → Head → Option (List (List ℕ))
+destination_of front head =
+    option_and_then (λ value. if is_destination front head.target value then Some (segments_of value) else None)
+    (field (codes "Destination") head)
 
 -- `T`, which is the default, or `F`
 abbrev pub is_overwrite : List ℕ → Bool
@@ -97,16 +129,16 @@ abbrev pub depth_refusal : Head → Option Denial
 depth_refusal head = unread parameter.Depth is_infinite (field (codes "Depth") head)
 
 -- those of what has two places: `destination`, `overwrite`, `depth`
-abbrev pub transfer_refusal : Head → Option Denial
-transfer_refusal head =
-    option_or (if is_some (destination_of head) then None else Some (denial.BadParameter parameter.Destination))
+abbrev pub transfer_refusal : Front → Head → Option Denial
+transfer_refusal front head =
+    option_or (if is_some (destination_of front head) then None else Some (denial.BadParameter parameter.Destination))
     (option_or (unread parameter.Overwrite is_overwrite (field (codes "Overwrite") head)) (depth_refusal head))
 
-abbrev pub parameter_refusal : Method → Head → Option Denial
-parameter_refusal method.Move head = transfer_refusal head
-parameter_refusal method.Copy head = transfer_refusal head
-parameter_refusal method.Delete head = depth_refusal head
-parameter_refusal other head = None
+abbrev pub parameter_refusal : Front → Method → Head → Option Denial
+parameter_refusal front method.Move head = transfer_refusal front head
+parameter_refusal front method.Copy head = transfer_refusal front head
+parameter_refusal front method.Delete head = depth_refusal head
+parameter_refusal front other head = None
 
 -- ---- a body that is taken before the request is looked for
 
@@ -122,50 +154,56 @@ body_refusal method.Mkcol n = if n == 0 then None else Some denial.Body
 body_refusal other n = None
 
 -- the segments of the second place, where there is one
-abbrev pub second_segments : Method → Head → List (List ℕ)
-second_segments method.Move head = option_map_or (λ segments. segments) (destination_of head) []
-second_segments method.Copy head = option_map_or (λ segments. segments) (destination_of head) []
-second_segments other head = []
+abbrev pub second_segments : Front → Method → Head → List (List ℕ)
+second_segments front method.Move head = option_map_or (λ segments. segments) (destination_of front head) []
+second_segments front method.Copy head = option_map_or (λ segments. segments) (destination_of front head) []
+second_segments front other head = []
+
+abbrev pub second_spot : Front → Method → Head → Spot
+second_spot front m head = spot_at front (second_segments front m head)
 
 -- `bad-name`: the first in the target, or else in the destination
-abbrev pub name_refusal : Method → Head → Option Denial
-name_refusal m head =
-    option_map denial.BadName (option_or (segments_fault (segments_of head.target)) (segments_fault (second_segments m head)))
+abbrev pub name_refusal : Front → Method → Head → Option Denial
+name_refusal front m head =
+    option_map denial.BadName (option_or (segments_fault (segments_of head.target)) (segments_fault (second_segments front m head)))
 
--- what a method wants; the files route has no other
-abbrev pub wanted_of : Method → Head → Wanted
-wanted_of method.Get head = wanted.Get (target_spot head)
-wanted_of method.Put head = wanted.Put (target_spot head) (length_of head)
-wanted_of method.Mkcol head = wanted.Mkcol (target_spot head)
-wanted_of method.Delete head = wanted.Delete (target_spot head)
-wanted_of method.Move head = wanted.Move (target_spot head) (spot_at (second_segments method.Move head)) (overwrites head)
-wanted_of method.Copy head = wanted.Copy (target_spot head) (spot_at (second_segments method.Copy head)) (overwrites head)
-wanted_of method.Post head = wanted.Get (target_spot head)
+-- what a method wants; the routes to files have no other
+abbrev pub wanted_of : Front → Method → Head → Wanted
+wanted_of front method.Get head = wanted.Get (target_spot front head)
+wanted_of front method.Put head = wanted.Put (target_spot front head) (length_of head)
+wanted_of front method.Mkcol head = wanted.Mkcol (target_spot front head)
+wanted_of front method.Delete head = wanted.Delete (target_spot front head)
+wanted_of front method.Move head = wanted.Move (target_spot front head) (second_spot front method.Move head) (overwrites head)
+wanted_of front method.Copy head = wanted.Copy (target_spot front head) (second_spot front method.Copy head) (overwrites head)
+wanted_of front method.Post head = wanted.Get (target_spot front head)
 
 abbrev pub unless_refused : Option Denial → Request → Result Request Denial
 unless_refused None request = Ok request
 unless_refused (Some refusal) request = Err refusal
 
 -- `body`, `bad-parameter`, `bad-name`
-abbrev pub files_refusal : Method → Head → Option Denial
-files_refusal m head = option_or (body_refusal m (length_of head)) (option_or (parameter_refusal m head) (name_refusal m head))
+abbrev pub files_refusal : Front → Method → Head → Option Denial
+files_refusal front m head =
+    option_or (body_refusal m (length_of head)) (option_or (parameter_refusal front m head) (name_refusal front m head))
 
--- a request on the files route
-abbrev pub files_request : Method → Head → Result Request Denial
-files_request m head = unless_refused (files_refusal m head) (record { caller = caller_of head; wanted = wanted_of m head })
+-- a request for files
+abbrev pub files_request : Front → Method → Head → Result Request Denial
+files_request front m head =
+    unless_refused (files_refusal front m head) (record { caller = caller_by front head; wanted = wanted_of front m head })
 
 -- a request about shares, users and groups
 abbrev pub ocs_request : Route → Method → Head → List ℕ → Result Request Denial
 ocs_request route m head body =
     and_then (ocs_request_of route m head body) (λ wanted. Ok (record { caller = caller_of head; wanted = wanted }))
 
--- no other route is built yet
+-- a request on a route where no files are; those of uploads, the trash bin and versions aren't built yet
+abbrev pub other_request : Route → Method → Head → List ℕ → Result Request Denial
+other_request route m head body = if is_ocs_route route then ocs_request route m head body else Err denial.NotBuilt
+
 abbrev pub routed : Route → Method → Head → List ℕ → Result Request Denial
 routed route m head body =
     if not (takes route m) then Err (denial.Method route)
-    else if is_files route then files_request m head
-    else if is_ocs_route route then ocs_request route m head body
-    else Err denial.NotBuilt
+    else option_map_or (λ front. files_request front m head) (front_on route) (other_request route m head body)
 
 -- the only chunk that is moved is all of them
 abbrev pub is_stray : Route → Option Method → Bool

@@ -155,6 +155,7 @@ rule_word rule.Past = codes "past"
 rule_word rule.Already = codes "already"
 rule_word rule.Widened = codes "widened"
 rule_word rule.Chain = codes "chain"
+rule_word rule.TokenTaken = codes "token-taken"
 rule_word rule.Taken = codes "taken"
 
 -- the line of a route's methods (RFC 9110, section 10.2.1)

@@ -1,14 +1,15 @@
 //! The fields Destination, Overwrite and Depth (RFC 4918, sections 10.2, 10.3 and 10.6).
 
-ghost use Rattle.std.specs.Prelude.{◌≡◌, ◌==◌, None, Some, IfOk, codes, if◌then◌else◌, map, option_copied, option_map};
+ghost use Rattle.std.specs.Prelude.{◌≡◌, ◌==◌, None, Some, IfOk, codes, if◌then◌else◌, map, option_and_then, option_copied, option_map};
 ghost use Rattle.std.specs.List.{list_any};
+ghost use Rattle.nf_routes.specs.Mounts.{route_of};
 ghost use Rattle.nf_words.specs.declared.answer.Denial.TheVariants.{BadParameter};
 ghost use Rattle.nf_words.specs.declared.answer.Parameter.TheVariants as parameter;
-ghost use Rattle.nf_dav.specs.Asked.{Gives, depth_refusal, destination_of, field, is_destination as is_place, is_infinite as says_infinity, is_overwrite, overwrites as may_overwrite, parameter_refusal, second_segments as second, transfer_refusal, unread as unread_by};
+ghost use Rattle.nf_dav.specs.Asked.{Gives, depth_refusal, destination_of, field, front_on as front_of_route, is_destination as is_place, is_infinite as says_infinity, is_overwrite, overwrites as may_overwrite, parameter_refusal, second_segments as second, transfer_refusal, unread as unread_by};
 ghost use Rattle.nf_dav.specs.declared.requests.Unasked.TheVariants.{Refused};
 
 use crate::Unasked;
-use crate::requests::is_files;
+use crate::fronts::{Front, front_on, leads_alike};
 use nf_http::Message;
 use nf_routes::{Method, Routes, segments};
 use nf_words::{Denial, Parameter};
@@ -18,13 +19,15 @@ use std::alloc::{AllocError, Global};
 pub fn second_segments(
     routes: &Routes,
     alloc: Global,
+    front: Front,
     method: Method,
     message: &Message,
 ) -> Result<Vec<Vec<u8>>, Unasked>
-    ensures { Gives (parameter_refusal method message.now) (λ segments. map (λ segment. segment.items) segments.items ≡ second method message.now) result }
+    ensures { Gives (parameter_refusal front method message.now)
+        (λ segments. map (λ segment. segment.items) segments.items ≡ second front method message.now) result }
 {
     match method {
-        Method::Move | Method::Copy => transfer_segments(routes, alloc, message),
+        Method::Move | Method::Copy => transfer_segments(routes, alloc, front, message),
         Method::Delete if has_bad_depth(message) => Err(unread(Parameter::Depth)),
         _ => Ok(Vec::new(alloc)),
     }
@@ -34,11 +37,13 @@ pub fn second_segments(
 fn transfer_segments(
     routes: &Routes,
     alloc: Global,
+    front: Front,
     message: &Message,
 ) -> Result<Vec<Vec<u8>>, Unasked>
-    ensures { Gives (transfer_refusal message.now) (λ segments. Some (map (λ segment. segment.items) segments.items) ≡ destination_of message.now) result }
+    ensures { Gives (transfer_refusal front message.now)
+        (λ segments. Some (map (λ segment. segment.items) segments.items) ≡ destination_of front message.now) result }
 {
-    let Some(destination) = destination(routes, alloc, message)? else {
+    let Some(destination) = destination(routes, alloc, front, message)? else {
         return Err(unread(Parameter::Destination));
     };
     if has_bad_overwrite(message) {
@@ -60,25 +65,43 @@ fn unread(parameter: Parameter) -> Unasked
 fn destination(
     routes: &Routes,
     alloc: Global,
+    front: Front,
     message: &Message,
 ) -> Result<Option<Vec<Vec<u8>>>, AllocError>
-    ensures { IfOk result (λ found. option_map (λ segments. map (λ segment. segment.items) segments.items) found ≡ destination_of message.now) }
+    ensures { IfOk result (λ found. option_map (λ segments. map (λ segment. segment.items) segments.items) found ≡ destination_of front message.now) }
 {
     let Some(value) = message.field(b"Destination") else {
         return Ok(None);
     };
-    if !is_destination(routes, alloc, value)? {
+    if !is_destination(routes, alloc, front, message.target(), value)? {
         return Ok(None);
     }
     Ok(Some(segments(alloc, value)?))
 }
 
-fn is_destination(routes: &Routes, alloc: Global, value: &[u8]) -> Result<bool, AllocError>
-    ensures { IfOk result (λ is. is ≡ is_place value.now) }
+fn is_destination(
+    routes: &Routes,
+    alloc: Global,
+    front: Front,
+    target: &[u8],
+    value: &[u8],
+) -> Result<bool, AllocError>
+    ensures { IfOk result (λ is. is ≡ is_place front target.now value.now) }
 {
-    match routes.find(alloc, value)? {
-        Some(route) => Ok(is_files(route) && !has_query(value)),
-        None => Ok(false),
+    if has_query(value) {
+        return Ok(false);
+    }
+    let other = front_at(routes, alloc, value)?;
+    leads_alike(alloc, front, target, value, other)
+}
+
+// What is in front of the path of a target.
+fn front_at(routes: &Routes, alloc: Global, target: &[u8]) -> Result<Option<Front>, AllocError>
+    ensures { IfOk result (λ front. front ≡ option_and_then front_of_route (route_of target.now)) }
+{
+    match routes.find(alloc, target)? {
+        Some(route) => Ok(front_on(route)),
+        None => Ok(None),
     }
 }
 

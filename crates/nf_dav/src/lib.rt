@@ -2,6 +2,7 @@
 #![tactic(auto)]
 
 mod fields;
+mod fronts;
 mod listings;
 mod refusals;
 mod replies;

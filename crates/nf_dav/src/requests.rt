@@ -1,15 +1,18 @@
 //! The request of a message.
 
-ghost use Rattle.std.specs.Prelude.{◌≡◌, ◌≤◌, None, Some, Ok, IfOk, codes, if◌then◌else◌, option_copied};
+ghost use Rattle.std.specs.Prelude.{◌≡◌, ◌≤◌, None, Some, Ok, IfOk, codes, if◌then◌else◌, option_and_then, option_copied};
 ghost use Rattle.nf_base.specs.declared.limits.TheConstants.{MAX_BODY};
-ghost use Rattle.nf_base.specs.Naming.{same_ignoring_case};
+ghost use Rattle.nf_base.specs.Naming.{name_fault, same_ignoring_case};
 ghost use Rattle.nf_http.specs.Head.{length_of};
+ghost use Rattle.nf_routes.specs.Mounts.{route_of};
+ghost use Rattle.nf_routes.specs.Targets.{segments_of};
 ghost use Rattle.nf_words.specs.History.{MayWant};
 ghost use Rattle.nf_words.specs.declared.answer.Denial.TheVariants.{Body};
-ghost use Rattle.nf_dav.specs.Asked.{Gives, GivesRequest, IsGiven, body_refusal, caller_of_value, files_refusal, files_request as request_there, is_files as are_files, is_stray as strays, ocs_request as request_of_ocs, second_segments as second, spot_at, target_spot, wanted_of, wants_body as longest_wanted};
+ghost use Rattle.nf_dav.specs.Asked.{Gives, GivesRequest, IsGiven, body_refusal, caller_by as caller_by_front, caller_of_value, files_refusal, files_request as request_there, first_of, front_on as front_of_route, is_stray as strays, ocs_request as request_of_ocs, other_request as request_elsewhere, second_spot, target_spot, wanted_of, wants_body as longest_wanted};
 
 use crate::fields::{overwrites, second_segments};
-use crate::spots::spot;
+use crate::fronts::{Front, first, front_on};
+use crate::spots::{name, spot};
 use nf_base::{Digest, MAX_OCS_BODY};
 use nf_http::Message;
 use nf_ocs::{Unread, is_ocs_route};
@@ -74,12 +77,9 @@ pub fn request(
     if !takes(route, method) {
         return Err(Unasked::Refused(Denial::Method(route)));
     }
-    if is_files(route) {
-        files_request(routes, alloc, method, message)
-    } else if is_ocs_route(route) {
-        ocs_request(alloc, route, method, message, body)
-    } else {
-        Err(Unasked::Refused(Denial::NotBuilt))
+    match front_on(route) {
+        Some(front) => files_request(routes, alloc, front, method, message),
+        None => other_request(alloc, route, method, message, body),
     }
 }
 
@@ -90,33 +90,47 @@ fn is_stray(route: Route, method: Option<Method>) -> bool
     matches!((route, method), (Route::Chunk, Some(Method::Move)))
 }
 
-/// Whether the route leads to a user's files.
-pub fn is_files(route: Route) -> bool
-    ensures { result ≡ are_files route }
-{
-    matches!(route, Route::Files)
-}
-
-// A request on the files route.
+// A request for files.
 fn files_request(
     routes: &Routes,
     alloc: Global,
+    front: Front,
     method: Method,
     message: &Message,
 ) -> Result<Request, Unasked>
-    ensures gives { Gives (files_refusal method message.now) (λ request. request_there method message.now ≡ Ok request) result }
+    requires { option_and_then front_of_route (route_of message.now.target) ≡ Some front }
+    ensures gives { Gives (files_refusal front method message.now) (λ request. request_there front method message.now ≡ Ok request) result }
     ensures short { length_of message.now ≤ MAX_BODY }
 {
     if takes_no_body(method, message.length()) {
         return Err(Unasked::Refused(Denial::Body));
     }
-    let second = second_segments(routes, alloc, method, message)?;
-    let source = spot(alloc, &segments(alloc, message.target())?)?;
-    let target = spot(alloc, &second)?;
+    let second = second_segments(routes, alloc, front, method, message)?;
+    let segments = segments(alloc, message.target())?;
+    let source = spot(alloc, front, &segments)?;
+    let target = spot(alloc, front, &second)?;
     Ok(Request {
-        caller: caller(message.field(b"Authorization")),
-        wanted: wanted(method, message, source, target),
+        caller: caller_by(alloc, front, first(&segments), message)?,
+        wanted: wanted(front, method, message, source, target),
     })
+}
+
+// A request on a route where no files are. Those of uploads, the trash bin and versions aren't built yet.
+fn other_request(
+    alloc: Global,
+    route: Route,
+    method: Method,
+    message: &Message,
+    body: &[u8],
+) -> Result<Request, Unasked>
+    ensures gives { IsGiven (request_elsewhere route method message.now body.now) result }
+    ensures may_want { IfOk result MayWant }
+{
+    if is_ocs_route(route) {
+        ocs_request(alloc, route, method, message, body)
+    } else {
+        Err(Unasked::Refused(Denial::NotBuilt))
+    }
 }
 
 // A request about shares, users and groups.
@@ -147,11 +161,11 @@ fn takes_no_body(method: Method, length: usize) -> bool
     method == Method::Mkcol && length > 0
 }
 
-// What is wanted, with the second place of a method that has two. The files route has no POST.
-fn wanted(method: Method, message: &Message, source: Spot, target: Spot) -> Wanted
-    requires source { source ≡ target_spot message.now }
-    requires target { target ≡ spot_at (second method message.now) }
-    ensures { result ≡ wanted_of method message.now }
+// What is wanted, with the second place of a method that has two. The routes to files have no POST.
+fn wanted(front: Front, method: Method, message: &Message, source: Spot, target: Spot) -> Wanted
+    requires source { source ≡ target_spot front message.now }
+    requires target { target ≡ second_spot front method message.now }
+    ensures { result ≡ wanted_of front method message.now }
 {
     match method {
         Method::Get | Method::Post => Wanted::Get(source),
@@ -171,6 +185,23 @@ fn wanted(method: Method, message: &Message, source: Spot, target: Spot) -> Want
             target,
             overwrite: overwrites(message),
         },
+    }
+}
+
+// The caller of a request for files, of whose target that is the first segment: by a link, whatever the field says.
+fn caller_by(
+    alloc: Global,
+    front: Front,
+    first: &[u8],
+    message: &Message,
+) -> Result<Caller, Unasked>
+    requires first { first.now ≡ first_of (segments_of message.now.target) }
+    requires fine { name_fault first.now ≡ None }
+    ensures { Gives None (λ caller. caller ≡ caller_by_front front message.now) result }
+{
+    match front {
+        Front::User => Ok(caller(message.field(b"Authorization"))),
+        Front::Link => Ok(Caller::Link(name(alloc, first)?)),
     }
 }
 

@@ -2,30 +2,43 @@
 
 ghost use Rattle.std.specs.Prelude.{◌≡◌, map};
 ghost use Rattle.nf_base.specs.Naming.{name_fault, path_fault};
-ghost use Rattle.nf_dav.specs.Asked.{GivesNamed, segments_fault, spot_at};
+ghost use Rattle.nf_dav.specs.Asked.{GivesNamed, segments_fault, spot_at, user_by};
 
 use crate::Unasked;
+use crate::fronts::Front;
 use nf_base::{Name, NameFault, Path};
 use nf_words::{Denial, Spot};
 use std::alloc::Global;
 
-/// The place of segments, the user's first.
-pub fn spot(alloc: Global, segments: &[Vec<u8>]) -> Result<Spot, Unasked>
-    ensures { GivesNamed (segments_fault (map (λ segment. segment.items) segments.now)) (spot_at (map (λ segment. segment.items) segments.now)) result }
+/// The place of segments, of which the first is in front of the path.
+pub fn spot(alloc: Global, front: Front, segments: &[Vec<u8>]) -> Result<Spot, Unasked>
+    ensures { GivesNamed (segments_fault (map (λ segment. segment.items) segments.now))
+        (spot_at front (map (λ segment. segment.items) segments.now)) result }
 {
     match segments {
         [] => Ok(Spot {
             user: None,
             path: path(alloc, &[])?,
         }),
-        [user, names @ ..] => Ok(Spot {
-            user: Some(name(alloc, user)?),
+        [first, names @ ..] => Ok(Spot {
+            user: user(front, name(alloc, first)?),
             path: path(alloc, names)?,
         }),
     }
 }
 
-fn name(alloc: Global, bytes: &[u8]) -> Result<Name, Unasked>
+// The user whose name is in front. A link's token names none.
+fn user(front: Front, name: Name) -> Option<Name>
+    ensures { result ≡ user_by front name }
+{
+    match front {
+        Front::User => Some(name),
+        Front::Link => None,
+    }
+}
+
+/// A name that is read.
+pub fn name(alloc: Global, bytes: &[u8]) -> Result<Name, Unasked>
     ensures { GivesNamed (name_fault bytes.now) bytes.now result }
 {
     match Name::read(alloc, bytes) {

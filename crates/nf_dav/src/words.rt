@@ -175,6 +175,7 @@ pub fn rule_word(rule: Breach) -> &'static str
         Breach::Already => "already",
         Breach::Widened => "widened",
         Breach::Chain => "chain",
+        Breach::TokenTaken => "token-taken",
         Breach::Taken => "taken",
     }
 }

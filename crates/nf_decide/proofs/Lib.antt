@@ -9,3 +9,6 @@ pub mod Offered
 pub mod Openings
 pub mod Stamps
 pub mod Joining
+pub mod Askers
+pub mod Faults
+pub mod Letters

@@ -14,6 +14,8 @@ use Rattle.nf_access.specs.Access.{by_chains}
 use Rattle.nf_access.specs.Mounts.{listed}
 use Rattle.nf_base.specs.declared.rows.MountRow.{MountRow}
 use Rattle.nf_defs.specs.Prelude.{Tables}
+use Rattle.nf_defs.specs.declared.Seeker.{Seeker}
+use Rattle.nf_defs.specs.declared.Seeker.TheVariants.{User}
 use Rattle.nf_laws.proofs.Lines.{children_rise}
 use Rattle.nf_reach.specs.Asking.{Asking}
 use Rattle.nf_words.specs.Prelude.{AreSound, child_lines, is_line_before, put_line, put_lines}
@@ -133,18 +135,18 @@ sorted_lines xs ys zs up sorted stable =
 
 -- ---- children
 
-pub children_by_name : (t : Tables) (user granted folder : ℕ) → AreSound t → AreByName (child_lines t user granted folder)
-children_by_name t user granted folder sound i j d before within =
-    let lines = child_lines t user granted folder in
-    by_names.one_way (get_or lines i d) (get_or lines j d) (children_rise t user granted folder sound i j d before within)
+pub children_by_name : (t : Tables) (seeker : Seeker) (granted folder : ℕ) → AreSound t → AreByName (child_lines t seeker granted folder)
+children_by_name t seeker granted folder sound i j d before within =
+    let lines = child_lines t seeker granted folder in
+    by_names.one_way (get_or lines i d) (get_or lines j d) (children_rise t seeker granted folder sound i j d before within)
 
 -- ---- mounts
 
--- a user's mounts that are listed
-pub listed_of_user : (a : Asking) (rows : List MountRow)
-    → filter (is_listed a) (filter (λ row. row.user == a.user) rows) ≡ listed (by_chains a.base) a.moment rows a.user
-listed_of_user a [] = refl
-listed_of_user a (row ∷ rows) = let rest = listed_of_user a rows in grind arith
+-- a user's mounts that are listed, where the user asks
+pub listed_of_user : (a : Asking) (user : ℕ) (rows : List MountRow) → a.seeker ≡ User user
+    → filter (is_listed a) (filter (λ row. row.user == user) rows) ≡ listed (by_chains a.base) a.moment rows user
+listed_of_user a user [] asks = refl
+listed_of_user a user (row ∷ rows) asks = let rest = listed_of_user a user rows asks in grind arith
 
 pub all_of_user : (user : ℕ) (rows : List MountRow) → All (λ (row : MountRow). row.user ≡ user) (filter (λ row. row.user == user) rows)
 all_of_user user [] = All-nil (λ (row : MountRow). row.user ≡ user)

@@ -4,7 +4,7 @@ use Rattle.nf_access.specs.Shares.{ground_of}
 use Rattle.nf_defs.specs.Access.{Access}
 use Rattle.nf_defs.specs.Prelude.{node_row, Tables}
 use Rattle.nf_reach.specs.Asking.{Asking}
-use Rattle.nf_words.specs.Prelude.{asked_by, asker_of, Call, earlier_rules, exists_rule, first_that_holds, is_mount_asked, key_in_way, later_rules, overwrite_rule, places_of, root_of, Rule, sharing_rule, target_rule, touches, transfer_of, ways_of}
+use Rattle.nf_words.specs.Prelude.{asked_by, Call, earlier_rules, exists_rule, first_that_holds, is_mount_asked, key_in_way, later_rules, overwrite_rule, places_of, root_of, Rule, seeker_of, sharing_rule, target_rule, touches, transfer_of, ways_of}
 use Rattle.nf_words.specs.declared.answer.Denial.{Denial}
 use Rattle.nf_words.specs.declared.answer.Denial.TheVariants as denial
 use Rattle.nf_words.specs.Sharing.{offered}
@@ -46,7 +46,7 @@ abbrev pub asking_of : Call → Asking
 asking_of call = record {
   base = ground_of call.state.tables;
   mounts = call.state.tables.mounts;
-  user = asker_of call;
+  seeker = seeker_of call;
   root = root_of call;
   moment = call.now;
 }

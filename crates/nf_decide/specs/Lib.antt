@@ -5,3 +5,4 @@ pub mod Deciding
 pub mod Ending
 pub mod Listed
 pub mod Counts
+pub mod Linked

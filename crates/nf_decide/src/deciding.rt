@@ -4,9 +4,7 @@ ghost use Rattle.std.specs.Prelude.{◌≡◌, ◌≤◌, IfOk, IfSome, OnOk, No
 ghost use Rattle.std.specs.Option.{option_map_or, option_or};
 ghost use Rattle.nf_base.specs.declared.limits.TheConstants.{MAX_DEPTH};
 ghost use Rattle.nf_defs.specs.Prelude.{found_from, is_folder, user_row};
-ghost use Rattle.nf_defs.specs.declared.Seeker.TheVariants.{User};
-ghost use Rattle.nf_words.specs.Prelude.{access_of, acts_rule, allowed_of, AreSound, asked_by, asker_of, call_decision, caller_row, exists_rule, forbidden_rule, is_there, limit_at, limited, not_you_rule, overwrite_rule, place_rule, places_of, root_of, served, shared, target_rule, token_rule, user_of, ways_of};
-ghost use Rattle.nf_words.specs.Callers.{may_ask};
+ghost use Rattle.nf_words.specs.Prelude.{access_of, acts_rule, allowed_of, AreSound, asked_by, call_decision, exists_rule, forbidden_rule, is_there, limit_at, limited, link_of, overwrite_rule, place_rule, places_of, root_of, seeker_of, served, shared, target_rule, ways_of};
 ghost use Rattle.nf_words.specs.People.{people_changed};
 ghost use Rattle.nf_words.specs.Sharing.{limit_by, offer_limit};
 ghost use Rattle.nf_words.specs.declared.answer.Allowed.TheVariants as allowed;
@@ -14,7 +12,7 @@ ghost use Rattle.nf_words.specs.declared.answer.Report.TheVariants as report;
 ghost use Rattle.nf_decide.specs.Deciding.{Follows, IsNamed, IsThere, asking_of, early_refusal, late_refusal, locked_at, offer_by, offer_in, place_refusal};
 
 use crate::acting::{copied, deleted, made_folder, moved, stored};
-use crate::asked::{is_forbidden, is_kept, is_transfer, names_caller, node_at};
+use crate::asked::{is_forbidden, is_kept, is_transfer, node_at};
 use crate::limits::{carry_limit, copy_limit, limit_at, offer_limit, pieces_of};
 use crate::locking::locked;
 use crate::mounting::mount_itself;
@@ -22,13 +20,13 @@ use crate::nodes::is_folder;
 use crate::people::{people_changed, people_limit};
 use crate::transferring::{transfer_of, unfit};
 use crate::view::View;
-use nf_base::{Moment, NodeId, UserId, UserRow};
+use nf_base::{Moment, NodeId, ShareRow};
 use nf_defs::{Found, Seeker};
 use nf_reach::{Asker, Way, Ways};
 use nf_tree::Tree;
 use nf_words::{
-    Allowed, By, Caller, Denial, Limit, Making, Offer, PeopleAsk, Places, Report, Request, Route,
-    ShareAsk, Wanted, Words,
+    Allowed, By, Denial, Limit, Making, Offer, PeopleAsk, Places, Report, Request, Route, ShareAsk,
+    Wanted, Words,
 };
 use std::alloc::{AllocError, Global};
 use std::marker::Model;
@@ -57,10 +55,10 @@ impl<'a> Model for Call<'a> {
     } };
 }
 
-/// What the rules found: who asks, with its root, where the paths lead, and the share that is asked for.
+/// What the rules found: who asks, what the paths lead from and to, and the share that is asked for.
 #[derive(Clone, Copy)]
 struct Seen {
-    user: UserId,
+    seeker: Seeker,
     root: NodeId,
     ways: Ways,
     places: Places,
@@ -161,11 +159,11 @@ impl<'a> Call<'a> {
         locked(alloc, &self.view, self.seat, &asked, places)
     }
 
-    /// The rules before the locks, in their order. The caller's row is looked up once, and each path once.
+    /// The rules before the locks, in their order. The row of the caller or of the link is looked up once, and each path once.
     fn judge(&self) -> Result<Seen, Denial>
         requires { AreSound self.now.state.tables }
         ensures judged { Follows (early_refusal (access_of self.entry.now.state)) self.entry.now result }
-        ensures user { IfOk result (λ seen. seen.user ≡ asker_of self.entry.now) }
+        ensures seeker { IfOk result (λ seen. seen.seeker ≡ seeker_of self.entry.now) }
         ensures root { IfOk result (λ seen. seen.root ≡ root_of self.entry.now) }
         ensures ways { IfOk result (λ seen. seen.ways ≡ ways_of self.entry.now) }
         ensures places { IfOk result (λ seen. seen.places ≡ places_of self.entry.now) }
@@ -173,20 +171,20 @@ impl<'a> Call<'a> {
         ensures named { IfOk result (λ _. IsNamed self.entry.now) }
         ensures there { IfOk result (λ seen. IsThere self.entry.now.state.tables seen.offer) }
     {
-        let caller = self.caller();
+        let (caller, link) = (self.caller(), self.link());
         self.token(caller)?;
         self.not_you(caller)?;
         self.forbidden()?;
-        let asker = self.asker(caller);
+        let asker = self.asker(caller, link);
         let ways = self.ways(&asker);
-        self.reached(&asker, &ways)?;
+        self.reached(&asker, link, &ways)?;
         self.named(&asker)?;
         self.allows(&asker, &ways)?;
         let places = self.places(&ways);
         let offer = self.offer(&ways);
         self.places_fit(&asker, &ways, &places, &offer)?;
         Ok(Seen {
-            user: asker.user(),
+            seeker: asker.seeker(),
             root: asker.root(),
             ways,
             places,
@@ -215,50 +213,6 @@ impl<'a> Call<'a> {
         self.sharing(asker, offer)
     }
 
-    /// Somebody whose row is there asks.
-    #[tactic(auto, unfolding(nf_words::specs::Callers::token_rule))]
-    fn token(&self, caller: Option<&UserRow>) -> Result<(), Denial>
-        requires { option_copied caller ≡ caller_row self.now }
-        ensures { Follows (token_rule (access_of self.entry.now.state)) self.entry.now result }
-    {
-        if caller.is_some() {
-            Ok(())
-        } else {
-            Err(Denial::Token)
-        }
-    }
-
-    #[tactic(auto, unfolding(nf_words::specs::Callers::not_you_rule))]
-    fn not_you(&self, caller: Option<&UserRow>) -> Result<(), Denial>
-        requires { option_copied caller ≡ caller_row self.now }
-        ensures { Follows (not_you_rule (access_of self.entry.now.state)) self.entry.now result }
-    {
-        let asked = self.request.wanted.asked();
-        let are_callers = names_caller(caller, asked.source) && names_caller(caller, asked.target);
-        if are_callers && self.may_ask(caller) {
-            Ok(())
-        } else {
-            Err(Denial::NotYou)
-        }
-    }
-
-    /// Whether the caller may ask that: users and groups are asked about by members of the group `admin` alone.
-    fn may_ask(&self, caller: Option<&UserRow>) -> bool
-        requires { option_copied caller ≡ caller_row self.now }
-        ensures { result ≡ may_ask self.entry.now }
-    {
-        match &self.request.wanted {
-            Wanted::People(_) => self.view.people().is_admin(asker_of(caller)),
-            Wanted::Share(_)
-            | Wanted::Get(_)
-            | Wanted::Put { .. }
-            | Wanted::Mkcol(_)
-            | Wanted::Delete(_)
-            | Wanted::Move { .. }
-            | Wanted::Copy { .. } => true,
-        }
-    }
-
     #[tactic(auto, unfolding(nf_words::specs::Places::forbidden_rule))]
     fn forbidden(&self) -> Result<(), Denial>
         ensures { Follows (forbidden_rule (access_of self.entry.now.state)) self.entry.now result }
@@ -272,15 +226,19 @@ impl<'a> Call<'a> {
     }
 
     #[tactic(auto, unfolding(nf_words::specs::Reached::place_rule))]
-    fn reached(&self, asker: &Asker<'_>, ways: &Ways) -> Result<(), Denial>
+    fn reached(&self, asker: &Asker<'_>, link: Option<&ShareRow>, ways: &Ways) -> Result<(), Denial>
         requires asker { asker.now ≡ asking_of self.now }
+        requires link { option_copied link ≡ link_of self.now }
         requires ways { ways.now ≡ ways_of self.now }
         ensures { Follows (place_rule (access_of self.entry.now.state)) self.entry.now result }
     {
         let asked = self.request.wanted.asked();
-        match asker.places(&asked, ways) {
+        match self.unlinked(link) {
             Some(refusal) => Err(refusal),
-            None => Ok(()),
+            None => match asker.places(&asked, ways) {
+                Some(refusal) => Err(refusal),
+                None => Ok(()),
+            },
         }
     }
 
@@ -364,7 +322,7 @@ impl<'a> Call<'a> {
     /// What the act does where its paths lead. It copies what the step keeps.
     fn allowed(&self, alloc: Global, seen: &Seen) -> Result<Allowed, AllocError>
         requires sound { AreSound self.now.state.tables }
-        requires user { seen.now.user ≡ asker_of self.now }
+        requires seeker { seen.now.seeker ≡ seeker_of self.now }
         requires root { seen.now.root ≡ root_of self.now }
         requires ways { seen.now.ways ≡ ways_of self.now }
         requires places { seen.now.places ≡ places_of self.now }
@@ -379,15 +337,15 @@ impl<'a> Call<'a> {
         match &self.request.wanted {
             Wanted::Get(_) => self.got(alloc, seen, node_at(source)),
             Wanted::Put { spot, length } => {
-                stored(by(seen.user, &seen.ways.target), spot, *length, target)
+                stored(by(seen.seeker, &seen.ways.target), spot, *length, target)
             }
             Wanted::Mkcol(spot) => made_folder(alloc, view, self.now, spot, target),
             Wanted::Delete(_) => match mount_itself(&seen.ways.source) {
-                Some(way) => self.mount_left(alloc, seen.user, &way),
+                Some(way) => self.mount_left(alloc, &self.asker_seen(seen), &way),
                 None => Ok(deleted(node_at(source))),
             },
             Wanted::Move { target: spot, .. } => match mount_itself(&seen.ways.source) {
-                Some(way) => self.mount_renamed(alloc, seen.user, &way, spot),
+                Some(way) => self.mount_renamed(alloc, &self.asker_seen(seen), &way, spot),
                 None => {
                     let transfer = transfer_of(view.tree(), &seen.places);
                     moved(alloc, view, self.now, spot, transfer)
@@ -400,6 +358,16 @@ impl<'a> Call<'a> {
             Wanted::Share(ask) => self.about_shares(alloc, seen, ask),
             Wanted::People(ask) => self.about_people(alloc, ask),
         }
+    }
+
+    /// Who asks, as the rules found it.
+    fn asker_seen(&self, seen: &Seen) -> Asker<'_>
+        requires sound { AreSound self.now.state.tables }
+        requires seeker { seen.now.seeker ≡ seeker_of self.now }
+        requires root { seen.now.root ≡ root_of self.now }
+        ensures { result ≡ asking_of self.entry.now }
+    {
+        self.view.asker(seen.seeker, seen.root, self.now)
     }
 
     /// What is done of what is asked about users and groups.
@@ -422,57 +390,31 @@ impl<'a> Call<'a> {
         ask: &ShareAsk,
     ) -> Result<Allowed, AllocError>
         requires sound { AreSound self.now.state.tables }
-        requires user { seen.now.user ≡ asker_of self.now }
+        requires seeker { seen.now.seeker ≡ seeker_of self.now }
         requires root { seen.now.root ≡ root_of self.now }
         requires offer { seen.now.offer ≡ offer_by self.now ask.now }
         requires there { IsThere self.now.state.tables seen.now.offer }
         ensures { IfOk result (λ allowed. allowed ≡ shared (access_of self.entry.now.state) self.entry.now seen.now.places ask.now) }
     {
-        let asker = self.view.asker(seen.user, seen.root, self.now);
+        let asker = self.asker_seen(seen);
         self.shared(alloc, &asker, &seen.offer, &seen.places, ask)
     }
 
     /// GET of what is there, by the mount on its path.
     fn got(&self, alloc: Global, seen: &Seen, node: Option<NodeId>) -> Result<Allowed, AllocError>
         requires sound { AreSound self.now.state.tables }
-        requires user { seen.now.user ≡ asker_of self.now }
+        requires seeker { seen.now.seeker ≡ seeker_of self.now }
         requires root { seen.now.root ≡ root_of self.now }
         ensures { IfOk result (λ allowed. allowed ≡ served (access_of self.entry.now.state) self.entry.now (option_and_then (λ way. way.mount) seen.now.ways.source) node) }
     {
-        let asker = self.view.asker(seen.user, seen.root, self.now);
+        let asker = self.asker_seen(seen);
         self.served(alloc, &asker, mount_of(&seen.ways.source), node)
-    }
-
-    /// The row of the user whose token the caller shows.
-    fn caller(&self) -> Option<&UserRow>
-        ensures { option_copied result ≡ caller_row self.entry.now }
-    {
-        self.view.people().row(self.user()?)
-    }
-
-    fn user(&self) -> Option<UserId>
-        ensures { result ≡ user_of self.entry.now }
-    {
-        match &self.request.caller {
-            Caller::Absent => None,
-            Caller::Token(digest) => self.view.people().caller(digest),
-        }
     }
 
     fn tree(&self) -> &Tree
         ensures { result.now.rows ≡ self.entry.now.state.tables.nodes }
     {
         self.view.tree()
-    }
-
-    /// Who asks, with the rows that access goes by.
-    fn asker(&self, caller: Option<&UserRow>) -> Asker<'_>
-        requires sound { AreSound self.now.state.tables }
-        requires caller { option_copied caller ≡ caller_row self.now }
-        ensures { result ≡ asking_of self.entry.now }
-    {
-        let user = asker_of(caller);
-        self.view.asker(user, root_of(caller), self.now)
     }
 
     /// The ways of the paths.
@@ -492,12 +434,12 @@ impl<'a> Call<'a> {
     }
 }
 
-/// A user who asks, by the mount of a way, if there is one.
-fn by(user: UserId, way: &Option<Way>) -> By
-    ensures { result ≡ record { seeker = User user; mount = option_and_then (λ way. way.mount) way.now } }
+/// Who asks, by the mount of a way, if there is one.
+fn by(seeker: Seeker, way: &Option<Way>) -> By
+    ensures { result ≡ record { seeker = seeker; mount = option_and_then (λ way. way.mount) way.now } }
 {
     By {
-        seeker: Seeker::User(user),
+        seeker,
         mount: mount_of(way),
     }
 }
@@ -518,25 +460,6 @@ fn is_folder_at(tree: &Tree, place: Option<Found>) -> bool
     match node_at(place) {
         Some(node) => is_folder(tree, node),
         None => false,
-    }
-}
-
-/// The number of the user who asks.
-fn asker_of(caller: Option<&UserRow>) -> UserId
-    ensures { result ≡ option_map_or (λ row. row.id) (option_copied caller.entry) 0 }
-{
-    match caller {
-        Some(row) => row.id,
-        None => UserId::new(0),
-    }
-}
-
-fn root_of(caller: Option<&UserRow>) -> NodeId
-    ensures { result ≡ option_map_or (λ row. row.root) (option_copied caller.entry) 0 }
-{
-    match caller {
-        Some(row) => row.root,
-        None => NodeId::new(0),
     }
 }
 

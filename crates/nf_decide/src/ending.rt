@@ -11,18 +11,17 @@ ghost use Rattle.nf_words.specs.declared.answer.Report.TheVariants.{Done};
 ghost use Rattle.nf_words.specs.Prelude.{access_of, AreSound, blob_for, content_in, end_lost, end_refusal, ends_goal, IsGoalSound, IsHeld, IsStorable, limit_at, makes, MayBring, needed_by, new_node, node_of_key, pieces_of, place_of, refilled, stored_at, stores};
 ghost use Rattle.nf_words.specs.declared.answer.By.{By as TheBy};
 ghost use Rattle.nf_words.specs.declared.answer.Denial.TheVariants.{Limit, NotFound};
-ghost use Rattle.nf_defs.specs.declared.Seeker.TheVariants.{User};
 ghost use Rattle.nf_reach.specs.Asking.{refusal_for};
-ghost use Rattle.nf_decide.specs.Ending.{IsUser, unreached_unless_owner};
+ghost use Rattle.nf_decide.specs.Ending.{unreached_unless_owner};
 
 use crate::acting::{makes, new_node, only};
 use crate::limits::{limit_at, pieces_of};
 use crate::nodes::{is_root, owner_of};
 use crate::view::View;
 use nf_base::{
-    Act, BlobId, Changes, Content, Digest, Moment, Name, NodeId, NodeKind, NodeRow, Piece, UserId,
+    Act, BlobId, Changes, Content, Digest, Moment, Name, NodeId, NodeKind, NodeRow, Piece,
 };
-use nf_defs::{Found, Seeker};
+use nf_defs::Found;
 use nf_reach::Asker;
 use nf_tree::Tree;
 use nf_words::{Allowed, By, Denial, Goal, LockKey, Outcome, Report};
@@ -61,7 +60,6 @@ fn store(
     length: u64,
 ) -> Result<Result<Allowed, Denial>, AllocError>
     requires rows { AreSound view.now.tables }
-    requires user { IsUser by.now.seeker }
     requires few { length ≤ MAX_BODY }
     requires held { IsHeld view.now.tables key.now }
     ensures { IfOk result (λ decision. decision ≡ stores (access_of view.now) view.now.tables moment by.now key.now digest.now length) }
@@ -81,27 +79,16 @@ fn end_refusal(
     length: u64,
 ) -> Option<Denial>
     requires rows { AreSound view.now.tables }
-    requires user { IsUser by.now.seeker }
     ensures { result ≡ end_refusal (access_of view.now) view.now.tables moment by.now key.now length }
 {
-    let asker = view.asker(user_of(by.seeker), NodeId::new(0), moment);
+    // An End goes by no path, so that it doesn't matter what its paths would lead from.
+    let asker = view.asker(by.seeker, NodeId::new(0), moment);
     match end_unreached(&asker, by.mount, node_of(key)) {
         Some(refusal) => Some(refusal),
         None => match end_unallowed(&asker, by.mount, key) {
             Some(refusal) => Some(refusal),
             None => end_unfit(view, key, length),
         },
-    }
-}
-
-/// The user who was granted to store. An End goes by no path, so that its user's root doesn't matter.
-fn user_of(seeker: Seeker) -> UserId
-    requires { IsUser seeker }
-    ensures { User result ≡ seeker }
-{
-    match seeker {
-        Seeker::User(user) => user,
-        Seeker::Link(_) => unreachable!(),
     }
 }
 

@@ -3,6 +3,7 @@
 
 mod acting;
 mod asked;
+mod callers;
 mod copying;
 mod counts;
 mod deciding;
@@ -19,6 +20,7 @@ mod sharing;
 mod state;
 mod tables;
 mod telling;
+mod tokens;
 mod transferring;
 mod view;
 

@@ -4,7 +4,8 @@ ghost use Rattle.std.specs.Prelude.{◌≡◌, ◌∷◌, ◌++◌, [], ◌==◌
 ghost use Rattle.std.specs.Cmp.Lexicographic.{slice_cmp};
 ghost use Rattle.std.specs.Ordering.{nat_cmp};
 ghost use Rattle.nf_access.specs.Access.{by_chains};
-ghost use Rattle.nf_words.specs.Prelude.{access_of, AreSound, bytes_of, child_line, child_lines, last_number, line_of, listing_of, mount_line, mount_lines, put_lines, served, shown};
+ghost use Rattle.nf_defs.specs.declared.Seeker.TheVariants.{User};
+ghost use Rattle.nf_words.specs.Prelude.{access_of, AreSound, bytes_of, child_line, child_lines, is_ones_own, last_number, line_of, listing_of, mount_line, mount_lines, put_lines, served, shown};
 ghost use Rattle.nf_words.specs.Listing.{all_permissions, size_of};
 ghost use Rattle.nf_decide.specs.Deciding.{asking_of};
 ghost use Rattle.nf_decide.specs.Listed.{AreByName, is_listed};
@@ -13,6 +14,7 @@ use crate::deciding::Call;
 use crate::nodes::{content_of, is_folder};
 use crate::view::View;
 use nf_base::{MountRow, Name, NodeId, NodeRow, Perms, UserId};
+use nf_defs::Seeker;
 use nf_reach::Asker;
 use nf_tree::Tree;
 use nf_words::{Allowed, Listing, ListingLine};
@@ -73,7 +75,7 @@ impl<'a> Call<'a> {
         ensures { IfOk result (λ listing. listing ≡ listing_of (access_of self.entry.now.state) self.entry.now mount folder) }
     {
         let granted = asker.granted_by(mount);
-        let children = child_lines(alloc, &self.view, asker.user(), granted, folder)?;
+        let children = child_lines(alloc, &self.view, asker, granted, folder)?;
         if folder != asker.root() {
             return Ok(Listing::new(children));
         }
@@ -88,16 +90,16 @@ impl<'a> Call<'a> {
 fn child_lines(
     alloc: Global,
     view: &View<'_>,
-    user: UserId,
+    asker: &Asker<'_>,
     granted: Perms,
     folder: NodeId,
 ) -> Result<Vec<ListingLine>, AllocError>
-    ensures { IfOk result (λ lines. lines.items ≡ child_lines view.now.tables user granted folder) }
+    ensures { IfOk result (λ lines. lines.items ≡ child_lines view.now.tables asker.now.seeker granted folder) }
 {
     let mut lines = Vec::new(alloc);
     let children = view.tree().children(alloc, folder)?;
     for child in &children {
-        push_child(alloc, view, user, granted, *child, &mut lines)?;
+        push_child(alloc, view, asker, granted, *child, &mut lines)?;
     }
     Ok(lines)
 }
@@ -106,17 +108,17 @@ fn child_lines(
 fn push_child(
     alloc: Global,
     view: &View<'_>,
-    user: UserId,
+    asker: &Asker<'_>,
     granted: Perms,
     node: NodeId,
     lines: &mut Vec<ListingLine>,
 ) -> Result<(), AllocError>
-    ensures { OnOk result (lines.new.items ≡ lines.old.items ++ filter_map (child_line view.now.tables user granted) (node ∷ [])) }
+    ensures { OnOk result (lines.new.items ≡ lines.old.items ++ filter_map (child_line view.now.tables asker.now.seeker granted) (node ∷ [])) }
 {
     let Some(row) = view.tree().node(node) else {
         return Ok(());
     };
-    if let Some(line) = line_of(alloc, view, user, granted, &row.name, row)? {
+    if let Some(line) = line_of(alloc, view, asker.seeker(), granted, &row.name, row)? {
         lines.push(line)?;
     }
     Ok(())
@@ -124,17 +126,34 @@ fn push_child(
 
 // ---- mounts
 
-/// The lines of the user's mounts that are listed.
+/// The lines of the mounts of who asks that are listed; a link has none.
 fn mount_lines(
     alloc: Global,
     view: &View<'_>,
     asker: &Asker<'_>,
 ) -> Result<Vec<ListingLine>, AllocError>
     requires { asker.now.mounts ≡ view.now.tables.mounts }
-    ensures { IfOk result (λ lines. lines.items ≡ mount_lines (by_chains asker.now.base) view.now.tables asker.now.moment asker.now.user) }
+    ensures { IfOk result (λ lines. lines.items ≡ mount_lines (by_chains asker.now.base) view.now.tables asker.now.moment asker.now.seeker) }
+{
+    match asker.seeker() {
+        Seeker::User(user) => lines_of(alloc, view, asker, user),
+        Seeker::Link(_) => Ok(Vec::new(alloc)),
+    }
+}
+
+/// The lines of a user's mounts that are listed, where the user asks.
+fn lines_of(
+    alloc: Global,
+    view: &View<'_>,
+    asker: &Asker<'_>,
+    user: UserId,
+) -> Result<Vec<ListingLine>, AllocError>
+    requires mounts { asker.now.mounts ≡ view.now.tables.mounts }
+    requires user { asker.now.seeker ≡ User user }
+    ensures { IfOk result (λ lines. lines.items ≡ mount_lines (by_chains asker.now.base) view.now.tables asker.now.moment (User user)) }
 {
     let mut lines = Vec::new(alloc);
-    for mount in asker.mounts() {
+    for mount in asker.mounts(user) {
         push_mount(alloc, view, asker, mount, &mut lines)?;
     }
     Ok(lines)
@@ -148,7 +167,7 @@ fn push_mount(
     mount: &MountRow,
     lines: &mut Vec<ListingLine>,
 ) -> Result<(), AllocError>
-    requires { mount.now.user ≡ asker.now.user }
+    requires { asker.now.seeker ≡ User mount.now.user }
     ensures { OnOk result (lines.new.items ≡ lines.old.items ++ filter_map (mount_line (by_chains asker.now.base) view.now.tables asker.now.moment) (filter (is_listed asker.now) (mount.now ∷ []))) }
 {
     if !asker.lists(mount) {
@@ -167,14 +186,14 @@ fn mount_line(
     asker: &Asker<'_>,
     mount: &MountRow,
 ) -> Result<Option<ListingLine>, AllocError>
-    requires { mount.now.user ≡ asker.now.user }
+    requires { asker.now.seeker ≡ User mount.now.user }
     ensures { IfOk result (λ line. line ≡ mount_line (by_chains asker.now.base) view.now.tables asker.now.moment mount.now) }
 {
     let Some(row) = view.tree().node(mount.node) else {
         return Ok(None);
     };
     let granted = asker.permissions(mount.node);
-    line_of(alloc, view, asker.user(), granted, &mount.name, row)
+    line_of(alloc, view, asker.seeker(), granted, &mount.name, row)
 }
 
 /// Puts lines, one after the other, at their places among others by name.
@@ -200,16 +219,16 @@ fn compare_names(a: &ListingLine, b: &ListingLine) -> Ordering
 
 // ---- lines
 
-/// What is told of a node whose owner is there, under that name, to a user who may do so much with what others own.
+/// What is told of a node whose owner is there, under that name, to a seeker who may do so much with what others own.
 fn line_of(
     alloc: Global,
     view: &View<'_>,
-    user: UserId,
+    seeker: Seeker,
     granted: Perms,
     name: &Name,
     row: &NodeRow,
 ) -> Result<Option<ListingLine>, AllocError>
-    ensures { IfOk result (λ line. line ≡ line_of view.now.tables user granted name.now row.now) }
+    ensures { IfOk result (λ line. line ≡ line_of view.now.tables seeker granted name.now row.now) }
 {
     let Some(owner) = view.people().row(row.owner) else {
         return Ok(None);
@@ -220,19 +239,29 @@ fn line_of(
         kind: row.kind,
         name: name.copy()?,
         owner: owner.name.copy()?,
-        permissions: permissions_of(user, granted, row),
+        permissions: permissions_of(seeker, granted, row),
         size: size_of(alloc, view.tree(), row.id)?,
     }))
 }
 
-/// What the user may do with a node: everything with an own one.
-fn permissions_of(user: UserId, granted: Perms, row: &NodeRow) -> Perms
-    ensures { result ≡ (if row.now.owner == user then all_permissions else granted) }
+/// What a seeker may do with a node: everything with an own one.
+fn permissions_of(seeker: Seeker, granted: Perms, row: &NodeRow) -> Perms
+    ensures { result ≡ (if is_ones_own seeker row.now then all_permissions else granted) }
 {
-    if row.owner == user {
+    if is_ones_own(seeker, row) {
         all_permissions()
     } else {
         granted
+    }
+}
+
+/// Whether the node is the seeker's own; a link owns none.
+fn is_ones_own(seeker: Seeker, row: &NodeRow) -> bool
+    ensures { result ≡ is_ones_own seeker row.now }
+{
+    match seeker {
+        Seeker::User(user) => row.owner == user,
+        Seeker::Link(_) => false,
     }
 }
 

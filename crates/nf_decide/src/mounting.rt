@@ -2,13 +2,14 @@
 
 ghost use Rattle.std.specs.Prelude.{◌≡◌, ◌≢◌, [], Some, None, option_and_then, option_map, IfOk, if◌then◌else◌};
 ghost use Rattle.nf_access.specs.Mounts.{mount_row};
-ghost use Rattle.nf_words.specs.Prelude.{asker_of, last_name, left_row, mount_left, mount_renamed, named_row, own_mount, with_mount_row};
+ghost use Rattle.nf_words.specs.Prelude.{last_name, left_row, mount_left, mount_renamed, named_row, own_mount, with_mount_row};
+ghost use Rattle.nf_decide.specs.Deciding.{asking_of};
 
 use crate::acting::last_name;
 use crate::deciding::Call;
 use crate::view::View;
 use nf_base::{Change, Changes, MountRow, Name, NodeId, Row, UserId};
-use nf_reach::Way;
+use nf_reach::{Asker, Way};
 use nf_words::{Allowed, Report, Spot};
 use std::alloc::{AllocError, Global};
 
@@ -24,32 +25,34 @@ pub(crate) fn mount_itself(way: &Option<Way>) -> Option<Way>
 
 impl<'a> Call<'a> {
     /// DELETE of the path of a mount itself leaves the mount.
+    #[tactic(auto, using(crate::proofs::Askers::user_asks))]
     pub(crate) fn mount_left(
         &self,
         alloc: Global,
-        user: UserId,
+        asker: &Asker<'_>,
         way: &Way,
     ) -> Result<Allowed, AllocError>
-        requires { user ≡ asker_of self.now }
+        requires { asker.now ≡ asking_of self.now }
         ensures { IfOk result (λ allowed. allowed ≡ mount_left self.entry.now way.now) }
     {
-        let row = left(&self.view, user, way.mount)?;
+        let row = left(&self.view, asker.user(), way.mount)?;
         with_mount_row(alloc, row, Report::Done)
     }
 
     /// MOVE of it gives the mount another name.
+    #[tactic(auto, using(crate::proofs::Askers::user_asks))]
     pub(crate) fn mount_renamed(
         &self,
         alloc: Global,
-        user: UserId,
+        asker: &Asker<'_>,
         way: &Way,
         spot: &Spot,
     ) -> Result<Allowed, AllocError>
-        requires user { user ≡ asker_of self.now }
+        requires asker { asker.now ≡ asking_of self.now }
         requires named { spot.now.path ≢ [] }
         ensures { IfOk result (λ allowed. allowed ≡ mount_renamed self.entry.now way.now (last_name spot.now)) }
     {
-        let row = named(&self.view, user, way.mount, last_name(spot)?)?;
+        let row = named(&self.view, asker.user(), way.mount, last_name(spot)?)?;
         with_mount_row(alloc, row, Report::Made)
     }
 }

@@ -12,6 +12,7 @@ ghost use Rattle.nf_words.specs.Changes.{same_end, set_row};
 ghost use Rattle.nf_words.specs.People.{put_mounts};
 ghost use Rattle.nf_words.specs.declared.answer.Allowed.TheVariants as allowed;
 ghost use Rattle.nf_words.specs.declared.answer.Report.TheVariants as report;
+ghost use Rattle.nf_reach.specs.Asking.{user_in};
 ghost use Rattle.nf_decide.specs.Deciding.{IsThere, asking_of, offer_by};
 
 use crate::asked::node_at;
@@ -20,6 +21,7 @@ use crate::nodes::owner_of;
 use crate::people::push_mounts;
 use crate::sharing::{is_steered_by, perms_after};
 use crate::telling::ended;
+use crate::tokens::kind_to;
 use crate::view::View;
 use nf_base::{
     Change, Changes, GroupId, Moment, MountRow, NodeId, Perms, Row, ShareKind, ShareRow, UserId,
@@ -33,6 +35,7 @@ use std::alloc::{AllocError, Global};
 
 impl<'a> Call<'a> {
     /// What is done and told of what is asked about shares.
+    #[tactic(auto, using(crate::proofs::Askers::user_asks))]
     pub(crate) fn shared(
         &self,
         alloc: Global,
@@ -101,7 +104,8 @@ impl<'a> Call<'a> {
         requires there { IsSome (node_row self.now.state.tables.nodes offer.now.node) }
         ensures { IfOk result (λ allowed. allowed ≡ share_made (access_of self.entry.now.state) self.entry.now offer.now) }
     {
-        let row = self.new_share(asker, offer);
+        let kind = kind_to(alloc, self.words, offer.to)?;
+        let row = self.new_share(asker, offer, kind);
         let mounts = mounts_for(alloc, &self.view, offer)?;
         put(alloc, &self.view, row, mounts)
     }
@@ -140,7 +144,7 @@ pub(crate) fn mounts_for(
         .ensured_for(alloc, people, tree, offer.node, &users)
 }
 
-/// The users who are to have a mount by a share: the one that it names, or the members of the group but for the owner.
+/// The users who are to have a mount by a share: the one that it names, or the members of the group but for the owner; by a link nobody.
 fn users_for(
     alloc: Global,
     people: &People,
@@ -153,6 +157,7 @@ fn users_for(
     match to {
         Receiver::User(user) => one(alloc, *user),
         Receiver::Group(group) => members_but(alloc, people, owner, *group),
+        Receiver::Link => Ok(Vec::new(alloc)),
     }
 }
 
@@ -346,7 +351,7 @@ fn shares_told(
     with_me: bool,
 ) -> Result<Allowed, AllocError>
     requires { asker.now.base.members ≡ view.now.tables.members }
-    ensures { IfOk result (λ told. told ≡ allowed.Change [] None (report.Shares (share_lines view.now.tables asker.now.user node.now with_me))) }
+    ensures { IfOk result (λ told. told ≡ allowed.Change [] None (report.Shares (share_lines view.now.tables (user_in asker.now.seeker) node.now with_me))) }
 {
     let lines = share_lines(alloc, view, asker, node, with_me)?;
     Ok(Allowed::Change {
@@ -365,7 +370,7 @@ fn share_lines(
     with_me: bool,
 ) -> Result<Vec<ShareLine>, AllocError>
     requires { asker.now.base.members ≡ view.now.tables.members }
-    ensures { IfOk result (λ lines. lines.items ≡ share_lines view.now.tables asker.now.user node.now with_me) }
+    ensures { IfOk result (λ lines. lines.items ≡ share_lines view.now.tables (user_in asker.now.seeker) node.now with_me) }
 {
     let mut lines = Vec::new(alloc);
     for row in view.shares().rows() {
@@ -383,7 +388,7 @@ fn push_share(
     row: &ShareRow,
     lines: &mut Vec<ShareLine>,
 ) -> Result<(), AllocError>
-    ensures { OnOk result (lines.new.items ≡ lines.old.items ++ filter_map (share_line view.now.tables) (filter (is_listed_for asker.now.base.members asker.now.user node.now with_me) (row.now ∷ []))) }
+    ensures { OnOk result (lines.new.items ≡ lines.old.items ++ filter_map (share_line view.now.tables) (filter (is_listed_for asker.now.base.members (user_in asker.now.seeker) node.now with_me) (row.now ∷ []))) }
 {
     if !is_listed_for(asker, node, with_me, row) {
         return Ok(());
@@ -396,7 +401,7 @@ fn push_share(
 
 /// Whether a share is listed: one that isn't ended, of that node if one is named, and made or owned by who asks or received by it.
 fn is_listed_for(asker: &Asker<'_>, node: &Option<NodeId>, with_me: bool, row: &ShareRow) -> bool
-    ensures { result ≡ is_listed_for asker.now.base.members asker.now.user node.now with_me row.now }
+    ensures { result ≡ is_listed_for asker.now.base.members (user_in asker.now.seeker) node.now with_me row.now }
 {
     if row.ended || !is_on(node, row) {
         return false;

@@ -1,24 +1,27 @@
 //! What is asked about shares: what it names, and the rules of sharing.
 
-ghost use Rattle.std.specs.Prelude.{◌≡◌, ◌&&◌, if◌then◌else◌, is_some, None, option_and_then, option_copied, option_map, Some, unwrap_or};
+ghost use Rattle.std.specs.Prelude.{◌≡◌, ◌&&◌, ℕ, false, List, if◌then◌else◌, is_some, None, option_and_then, option_copied, option_map, Some};
 ghost use Rattle.std.specs.List.{list_any};
-ghost use Rattle.nf_access.specs.Making.{is_again};
-ghost use Rattle.nf_access.specs.Shares.{perms_of_share};
-ghost use Rattle.nf_words.specs.Listing.{all_permissions};
-ghost use Rattle.nf_words.specs.Prelude.{access_of, asked_about, way_of, ways_of};
-ghost use Rattle.nf_words.specs.Sharing.{fault_by, fault_of_ask, is_long, kind_of, is_past, is_seen_by, is_set_past, is_steered_by, is_wider, is_widened, named_rule, new_share, offer_fault, offer_of, offered_by, parent_by, perms_after, receiver_named, set_fault, share_shown, share_steered, sharing_rule, unnamed, unnamed_by};
+ghost use Rattle.nf_access.specs.Making.{is_again, is_token_taken};
+ghost use Rattle.nf_access.specs.Shares.{is_link_kind};
+ghost use Rattle.nf_base.specs.declared.rows.ShareKind.TheVariants as kind;
+ghost use Rattle.nf_words.specs.Prelude.{access_of, asked_about, asker_of, kind_to, link_token, perms_to, usual_perms, way_of, ways_of};
+ghost use Rattle.nf_words.specs.Sharing.{fault_by, fault_of_ask, is_long, is_past, is_seen_by, is_set_past, is_steered_by, is_wider, is_widened, named_rule, new_share, offer_fault, offer_of, offered_by, parent_by, perms_after, receiver_named, set_fault, share_shown, share_steered, sharing_rule, unnamed, unnamed_by};
 ghost use Rattle.nf_words.specs.People.{are_named, is_taken};
 ghost use Rattle.nf_words.specs.declared.answer.Breach.TheVariants as rule;
 ghost use Rattle.nf_words.specs.declared.answer.Denial.TheVariants as denial;
+ghost use Rattle.nf_words.specs.declared.request.Receiver.TheVariants as receiver;
 ghost use Rattle.nf_decide.specs.Deciding.{Follows, asking_of, offer_by, offer_in};
+ghost use Rattle.nf_decide.specs.Linked.{passing_fault};
 
 use crate::asked::node_found;
 use crate::deciding::Call;
 use crate::listing::all_permissions;
 use crate::nodes::{is_root, kind_of, owner_of};
 use crate::people::{are_named, is_taken};
+use crate::tokens::link_token;
 use crate::view::View;
-use nf_access::{is_part, perms_of_share};
+use nf_access::{is_part, perms_of_link, perms_of_share};
 use nf_base::{MAX_CHAIN, Moment, NodeId, Perms, ShareId, ShareKind, ShareRow, UserId};
 use nf_reach::{Asker, Way, Ways};
 use nf_shares::{Shares, is_before, is_self_share};
@@ -155,13 +158,68 @@ impl<'a> Call<'a> {
         requires { asker.now ≡ asking_of self.now }
         ensures { result ≡ offer_fault (access_of self.entry.now.state) self.entry.now offer.now }
     {
-        let row = self.new_share(asker, offer);
+        let kind = match offer.to {
+            Receiver::User(user) => ShareKind::User(user),
+            Receiver::Group(group) => ShareKind::Group(group),
+            Receiver::Link => return self.link_fault(asker, offer),
+        };
+        let row = self.new_share(asker, offer, kind);
         self.row_fault(asker, offer, &row)
     }
 
-    /// The same, by the row of the new share.
+    /// The same of a link, which is nobody's own and never the same as another.
+    #[tactic(auto, using(crate::proofs::Faults::of_link))]
+    fn link_fault(&self, asker: &Asker<'_>, offer: &Offer) -> Option<Breach>
+        requires asker { asker.now ≡ asking_of self.now }
+        requires link { offer.now.to ≡ receiver.Link }
+        ensures { result ≡ offer_fault (access_of self.entry.now.state) self.entry.now offer.now }
+    {
+        if is_root(self.view.tree(), offer.node) {
+            Some(Breach::Root)
+        } else if is_past(self.now, offer.until) {
+            Some(Breach::Past)
+        } else {
+            self.passing_fault(asker, offer, &self.parent_by(asker, offer))
+        }
+    }
+
+    /// What forbids a link to stand on that share, or to be made at all.
+    fn passing_fault(
+        &self,
+        asker: &Asker<'_>,
+        offer: &Offer,
+        parent: &Option<ShareId>,
+    ) -> Option<Breach>
+        requires asker { asker.now ≡ asking_of self.now }
+        requires parent { parent.now ≡ parent_by (access_of self.now.state) self.now offer.now }
+        ensures { result ≡ passing_fault (access_of self.entry.now.state) self.entry.now offer.now }
+    {
+        if self.is_widened(asker, offer, *parent) {
+            Some(Breach::Widened)
+        } else if is_long(self.view.shares(), *parent) {
+            Some(Breach::Chain)
+        } else if self.is_token_taken() {
+            Some(Breach::TokenTaken)
+        } else {
+            None
+        }
+    }
+
+    /// Whether there is a link already of the token that a new one would have.
+    fn is_token_taken(&self) -> bool
+        ensures { result ≡ is_token_taken self.entry.now.state.tables.shares (kind.Link (link_token self.entry.now.words)) }
+    {
+        self.view
+            .shares()
+            .by_link(&link_token(self.words))
+            .is_some()
+    }
+
+    /// The same, by the row of the new share, which is no link.
+    #[tactic(auto, using(crate::proofs::Faults::no_token_taken))]
     fn row_fault(&self, asker: &Asker<'_>, offer: &Offer, row: &ShareRow) -> Option<Breach>
         requires asker { asker.now ≡ asking_of self.now }
+        requires kind { is_link_kind row.now.kind ≡ false }
         requires row { row.now ≡ new_share (access_of self.now.state) self.now offer.now }
         ensures { result ≡ offer_fault (access_of self.entry.now.state) self.entry.now offer.now }
     {
@@ -279,7 +337,7 @@ impl<'a> Call<'a> {
         ensures { option_copied result ≡ share_steered self.entry.now share }
     {
         let row = self.view.shares().row(share)?;
-        if !row.ended && is_steered_by(asker.user(), row) {
+        if !row.ended && self.steers(asker, row) {
             Some(row)
         } else {
             None
@@ -292,11 +350,29 @@ impl<'a> Call<'a> {
         ensures { option_copied result ≡ share_shown self.entry.now share }
     {
         let row = self.view.shares().row(share)?;
-        if !row.ended && is_seen_by(asker, row) {
+        if !row.ended && self.sees(asker, row) {
             Some(row)
         } else {
             None
         }
+    }
+
+    /// Whether the caller made the share, or owned its node when it was made.
+    #[tactic(auto, using(crate::proofs::Askers::user_asks))]
+    fn steers(&self, asker: &Asker<'_>, row: &ShareRow) -> bool
+        requires { asker.now ≡ asking_of self.now }
+        ensures { result ≡ is_steered_by (asker_of self.entry.now) row.now }
+    {
+        is_steered_by(asker.user(), row)
+    }
+
+    /// Whether the caller may see the share.
+    #[tactic(auto, using(crate::proofs::Askers::user_asks))]
+    fn sees(&self, asker: &Asker<'_>, row: &ShareRow) -> bool
+        requires { asker.now ≡ asking_of self.now }
+        ensures { result ≡ is_seen_by self.entry.now.state.tables.members (asker_of self.entry.now) row.now }
+    {
+        self.steers(asker, row) || asker.receives(row)
     }
 
     /// The share that is asked for, where its path leads to what is there and whom it names is there.
@@ -360,14 +436,16 @@ impl<'a> Call<'a> {
         Some(offer_of(self.view.tree(), way.mount, perms, until, node, &to?))
     }
 
-    /// The row of the new share.
-    pub(crate) fn new_share(&self, asker: &Asker<'_>, offer: &Offer) -> ShareRow
-        requires { asker.now ≡ asking_of self.now }
+    /// The row of the new share, of that kind.
+    #[tactic(auto, using(crate::proofs::Askers::user_asks))]
+    pub(crate) fn new_share(&self, asker: &Asker<'_>, offer: &Offer, kind: ShareKind) -> ShareRow
+        requires asker { asker.now ≡ asking_of self.now }
+        requires kind { kind ≡ kind_to (link_token self.now.words) offer.now.to }
         ensures { result ≡ new_share (access_of self.entry.now.state) self.entry.now offer.now }
     {
         ShareRow {
             id: self.view.meta().next_share,
-            kind: offer.to.kind(),
+            kind,
             node: offer.node,
             owner: owner_of(self.view.tree(), offer.node),
             initiator: asker.user(),
@@ -401,9 +479,9 @@ fn offer_of(
     node: NodeId,
     to: &Receiver,
 ) -> Offer
-    ensures { result ≡ offer_of tree.now.rows mount perms until node to.now }
+    ensures { (token : List ℕ) → result ≡ offer_of tree.now.rows token mount perms until node to.now }
 {
-    let perms = perms_offered(tree, perms, node, &to.kind());
+    let perms = perms_to(tree, node, perms, to);
     Offer {
         node,
         mount,
@@ -413,21 +491,37 @@ fn offer_of(
     }
 }
 
-/// The permissions that are asked for, or all, as far as a share of the node may have them.
-fn perms_offered(tree: &Tree, perms: Option<Perms>, node: NodeId, kind: &ShareKind) -> Perms
-    ensures { result ≡ perms_of_share (kind_of tree.now.rows node) kind.now (unwrap_or perms all_permissions) }
+/// The permissions of a new share of a node: those that are asked for, or the usual ones, as far as it may have them.
+fn perms_to(tree: &Tree, node: NodeId, perms: Option<Perms>, to: &Receiver) -> Perms
+    ensures { (token : List ℕ) → result ≡ perms_to tree.now.rows token node perms to.now }
 {
-    let wanted = perms.unwrap_or(all_permissions());
-    perms_of_share(kind_of(tree, node), kind, wanted)
+    let wanted = perms.unwrap_or(usual_perms(to));
+    let node = kind_of(tree, node);
+    match to {
+        Receiver::User(user) => perms_of_share(node, &ShareKind::User(*user), wanted),
+        Receiver::Group(group) => perms_of_share(node, &ShareKind::Group(*group), wanted),
+        Receiver::Link => perms_of_link(node, wanted),
+    }
 }
 
-/// The user or the group of that name.
+/// The permissions that are asked for where none are named: all, and of a link to read alone.
+fn usual_perms(to: &Receiver) -> Perms
+    ensures { result ≡ usual_perms to.now }
+{
+    match to {
+        Receiver::User(_) | Receiver::Group(_) => all_permissions(),
+        Receiver::Link => Perms::read(1).unwrap(),
+    }
+}
+
+/// The user or the group of that name, or whoever will know a link.
 fn receiver_named(view: &View<'_>, to: &Sharee) -> Option<Receiver>
     ensures { result ≡ receiver_named view.now.tables to.now }
 {
     match to {
         Sharee::User(name) => Some(Receiver::User(view.people().user(name)?)),
         Sharee::Group(name) => Some(Receiver::Group(view.people().group(name)?)),
+        Sharee::Link => Some(Receiver::Link),
     }
 }
 
@@ -446,13 +540,6 @@ pub(crate) fn is_steered_by(user: UserId, row: &ShareRow) -> bool
     ensures { result ≡ is_steered_by user row.now }
 {
     row.initiator == user || row.owner == user
-}
-
-/// Whether who asks may see the share.
-fn is_seen_by(asker: &Asker<'_>, row: &ShareRow) -> bool
-    ensures { result ≡ is_seen_by asker.now.base.members asker.now.user row.now }
-{
-    is_steered_by(asker.user(), row) || asker.receives(row)
 }
 
 /// Whether a share gives the same already.

@@ -2,7 +2,7 @@
 
 ghost use Rattle.std.specs.Prelude.{◌≡◌, false};
 ghost use Rattle.std.specs.Option.{option_map_or};
-ghost use Rattle.nf_words.specs.Places.{crosses, folder_at, folder_in, is_free_in, is_inside, is_off_mount, is_root_at, is_same, misplaced, misplaced_by, transfer_between, transfer_by, transfer_of, transfer_to, unfit, unfit_between};
+ghost use Rattle.nf_words.specs.Places.{crosses, folder_at, folder_in, folder_seen, is_free_in, is_inside, is_off_mount, is_root_at, is_same, misplaced, misplaced_by, transfer_between, transfer_by, transfer_of, transfer_to, unfit, unfit_between};
 
 use crate::asked::{is_transfer, node_at, node_found};
 use crate::nodes::{is_root, owner_of, parent_of};
@@ -58,7 +58,17 @@ fn folder_in(tree: &Tree, root: NodeId, way: &Way) -> Option<NodeId>
     if way.itself {
         Some(root)
     } else {
-        folder_at(tree, &way.place)
+        folder_seen(tree, root, &way.place)
+    }
+}
+
+/// The folder at a place, as who asks sees it: what the paths lead from is in none.
+fn folder_seen(tree: &Tree, root: NodeId, place: &Found) -> Option<NodeId>
+    ensures { result ≡ folder_seen tree.now.rows root place.now }
+{
+    match place {
+        Found::At(node) if *node == root => None,
+        place => folder_at(tree, place),
     }
 }
 
@@ -93,7 +103,7 @@ pub(crate) fn unfit(
     if is_transfer(&asked.makes) {
         return unfit_between(tree, root, renames, ways);
     }
-    if asked.removes && !renames && is_root_at(tree, &ways.source) {
+    if asked.removes && !renames && is_root_at(tree, root, &ways.source) {
         return Some(TargetFault::Root);
     }
     None
@@ -103,7 +113,7 @@ pub(crate) fn unfit(
 fn unfit_between(tree: &Tree, root: NodeId, renames: bool, ways: &Ways) -> Option<TargetFault>
     ensures { result ≡ unfit_between tree.now.rows root renames ways.now }
 {
-    if !renames && is_root_at(tree, &ways.source) {
+    if !renames && is_root_at(tree, root, &ways.source) {
         return Some(TargetFault::Root);
     }
     match transfer_between(tree, root, ways) {
@@ -112,12 +122,12 @@ fn unfit_between(tree: &Tree, root: NodeId, renames: bool, ways: &Ways) -> Optio
     }
 }
 
-/// Whether a root is there.
-fn is_root_at(tree: &Tree, way: &Option<Way>) -> bool
-    ensures { result ≡ is_root_at tree.now.rows way.now }
+/// Whether a user's root is there, or what the paths lead from.
+fn is_root_at(tree: &Tree, root: NodeId, way: &Option<Way>) -> bool
+    ensures { result ≡ is_root_at tree.now.rows root way.now }
 {
     match node_at(place_at(way)) {
-        Some(node) => is_root(tree, node),
+        Some(node) => node == root || is_root(tree, node),
         None => false,
     }
 }

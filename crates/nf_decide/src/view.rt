@@ -6,7 +6,8 @@ ghost use Rattle.nf_access.specs.Shares.{ground_of};
 ghost use Rattle.nf_words.specs.Contents.{stored_pieces};
 ghost use Rattle.nf_words.specs.Sound.{AreSound};
 
-use nf_base::{MetaRow, Moment, NodeId, UserId};
+use nf_base::{MetaRow, Moment, NodeId};
+use nf_defs::Seeker;
 use nf_mounts::Mounts;
 use nf_people::People;
 use nf_reach::Asker;
@@ -62,17 +63,17 @@ impl<'a> View<'a> {
         self.tree
     }
 
-    /// A user who asks, with its root, at a moment.
-    pub(crate) fn asker(&self, user: UserId, root: NodeId, moment: Moment) -> Asker<'_>
+    /// Who asks, what its paths lead from, and when.
+    pub(crate) fn asker(&self, seeker: Seeker, root: NodeId, moment: Moment) -> Asker<'_>
         requires { AreSound self.now.tables }
-        ensures { result ≡ record { base = ground_of self.now.tables; mounts = self.now.tables.mounts; user = user; root = root; moment = moment } }
+        ensures { result ≡ record { base = ground_of self.now.tables; mounts = self.now.tables.mounts; seeker = seeker; root = root; moment = moment } }
     {
         Asker::new(
             self.people,
             self.tree,
             self.shares,
             self.mounts,
-            user,
+            seeker,
             root,
             moment,
         )

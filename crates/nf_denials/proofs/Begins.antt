@@ -1,22 +1,26 @@
 -- Requests that are refused by shares.
-use Rattle.std.proofs.Common.{◌≡◌, ◌⊎◌, inl, inr, ℕ, ◌&&◌, Bool, true, false, List, [], ◌∷◌, Option, None, Some, option_map, Err, if◌then◌else◌, refl, sym, ap, ◌∙◌, subst}
+use Rattle.std.proofs.Common.{◌≡◌, ◌⊎◌, inl, inr, ℕ, ◌&&◌, ◌||◌, Bool, true, false, List, [], ◌∷◌, Option, None, Some, option_map, Err, if◌then◌else◌, refl, sym, ap, ◌∙◌, subst}
 use Rattle.std.specs.Prelude.{IfSome, is_some, option_and_then}
 use Rattle.std.specs.List.{list_all, list_any}
 use Rattle.std.specs.Option.{option_or}
 use Rattle.std.proofs.lemmas.Bool.{both_ways}
 use Rattle.std.proofs.lemmas.Option.{none-some, same_Some}
-use Rattle.nf_access.specs.Shares.{ground_of}
+use Rattle.nf_access.specs.Shares.{ground_of, link_row}
 use Rattle.nf_base.specs.declared.rows.NodeRow.{NodeRow}
 use Rattle.nf_defs.specs.declared.Found.{Found}
 use Rattle.nf_defs.specs.declared.Found.TheVariants.{At, Free, Missing}
 use Rattle.nf_defs.specs.Prelude.{Access}
+use Rattle.nf_defs.specs.declared.Seeker.{Seeker}
 use Rattle.nf_words.proofs.Orders.{first_of}
 use Rattle.nf_words.specs.Places.{has_forbidden, taken}
+use Rattle.nf_words.specs.Reached.{unlinked_by}
 use Rattle.nf_words.specs.Sharing.{unnamed_by}
-use Rattle.nf_words.specs.Prelude.{access_of, acts_rule, allowed_of, answered_by, are_named, asked_by, Call, call_of, caller_row, exists_rule, forbidden_rule, is_caller, is_one, IsSound, limit_rule, locked_rule, may_ask, mount_of, named_rule, needed, not_you_rule, receiver_named, overwrite_rule, paths_of, place_rule, places_of, refusal_of, room_rule, root_of, seeker_of, share_shown, share_steered, sharing_rule, source_lost, source_refused, State, target_lost, target_refused, target_rule, token_rule, unless_refused, unreached, unreached_by, users_of, Way, way_by, way_of}
+use Rattle.nf_words.specs.Prelude.{access_of, acts_rule, allowed_of, answered_by, are_named, asked_by, asks_by_link, Call, call_of, caller_row, exists_rule, forbidden_rule, is_caller, is_itself, IsSound, limit_rule, locked_rule, may_ask, mount_of, named_rule, needed, not_you_rule, receiver_named, overwrite_rule, paths_of, place_rule, places_of, refusal_of, room_rule, root_of, seeker_of, share_shown, share_steered, sharing_rule, source_lost, source_refused, State, target_lost, target_refused, target_rule, token_rule, unless_refused, unlinked, unreached, unreached_by, users_of, Way, way_by, way_of}
 use Rattle.nf_words.specs.declared.answer.Allowed.{Allowed}
 use Rattle.nf_words.specs.declared.answer.Denial.{Denial}
 use Rattle.nf_words.specs.declared.answer.Denial.TheVariants as denial
+use Rattle.nf_words.specs.declared.request.Caller.{Caller}
+use Rattle.nf_words.specs.declared.request.Caller.TheVariants as caller
 use Rattle.nf_words.specs.declared.request.Making.{Making}
 use Rattle.nf_words.specs.declared.request.Making.TheVariants as making
 use Rattle.nf_words.specs.declared.request.Places.{Places}
@@ -100,7 +104,7 @@ by_rules access call refusal shares is =
     here (place_rule access call) (acts_rule access call) refl refl
     (skip (forbidden_rule access call) _ refusal (if_test (list_any has_forbidden (paths_of (asked_by call))) denial.ForbiddenName refl) shares
     (skip (not_you_rule access call) _ refusal (unless_test (list_all (is_caller call) (users_of (asked_by call)) && may_ask call) denial.NotYou refl) shares
-    (skip (token_rule access call) _ refusal (unless_test (is_some (caller_row call)) denial.Token refl) shares is)))
+    (skip (token_rule access call) _ refusal (unless_test (is_some (caller_row call) || asks_by_link call) denial.Token refl) shares is)))
   where
     here : (place acts : Option Denial) → place_rule access call ≡ place → acts_rule access call ≡ acts
         → option_or place (option_or (named_rule access call) (option_or acts (behind access call))) ≡ Some refusal
@@ -116,14 +120,24 @@ by_rules access call refusal shares is =
 
 -- ---- places
 
-mount_is : (rows : List NodeRow) (root : ℕ) (names : List (List ℕ)) (mount : Option ℕ) → (way_by rows root names mount).mount ≡ mount
-mount_is rows root names None = refl
-mount_is rows root names (Some node) = refl
+pub mount_is : (rows : List NodeRow) (who : Seeker) (root : ℕ) (names : List (List ℕ)) (mount : Option ℕ)
+    → (way_by rows who root names mount).mount ≡ mount
+mount_is rows who root names None = refl
+mount_is rows who root names (Some node) = refl
 
-itself_is : (rows : List NodeRow) (root : ℕ) (names : List (List ℕ)) (mount : Option ℕ) (node : ℕ) → mount ≡ Some node
-    → (way_by rows root names mount).itself ≡ is_one names
-itself_is rows root names None node is = absurd (cc)
-itself_is rows root names (Some other) node is = refl
+pub itself_is : (rows : List NodeRow) (who : Seeker) (root : ℕ) (names : List (List ℕ)) (mount : Option ℕ) (node : ℕ) → mount ≡ Some node
+    → (way_by rows who root names mount).itself ≡ is_itself who names
+itself_is rows who root names None node is = absurd (cc)
+itself_is rows who root names (Some other) node is = refl
+
+-- that there is no such link isn't of shares
+unlinked_other : (call : Call) → IsOther (unlinked call)
+unlinked_other call = here call.request.caller
+  where
+    here : (who : Caller) → IsOther (unlinked_by call.state who)
+    here caller.Absent = tt
+    here (caller.Token digest) = tt
+    here (caller.Link token) = unless_test (is_some (link_row call.state.tables.shares token)) denial.NotFound refl
 
 source_other : (place : Found) → IsOther (source_lost place)
 source_other (At node) = tt
@@ -149,7 +163,7 @@ module _ (s : State) (seat now : ℕ) (call : Call) (refusal : Denial) (sound : 
   by_way spot is goes =
       here (mount_of call spot) refl
       (sym (ap (option_and_then (unreached_by (access_of call.state) (ground_of call.state.tables) (seeker_of call) call.now))
-      (mount_is call.state.tables.nodes (root_of call) spot.path (mount_of call spot))) ∙ is)
+      (mount_is call.state.tables.nodes (seeker_of call) (root_of call) spot.path (mount_of call spot))) ∙ is)
     where
       here : (mount : Option ℕ) → mount_of call spot ≡ mount
           → option_and_then (unreached_by (access_of call.state) (ground_of call.state.tables) (seeker_of call) call.now) mount ≡ Some refusal
@@ -160,7 +174,7 @@ module _ (s : State) (seat now : ℕ) (call : Call) (refusal : Denial) (sound : 
 
   kept_out : place_rule (access_of call.state) call ≡ Some refusal → IsKeptOut call refusal
   unfolding place_rule
-  kept_out is = elim (either _ _ refusal is) [
+  kept_out is = elim (either _ _ refusal (skip (unlinked call) _ refusal (unlinked_other call) shares is)) [
     | inl source ↦ at (asked_by call).source refl source
     | inr target ↦ to (asked_by call).target refl target
   ]
@@ -207,30 +221,34 @@ begins_tell s seat now words request refusal sound is shares =
 
 -- ---- the mount first
 
-stopped : (s : State) (call : Call) (mount : ℕ) (refusal : Denial) → IsStoppedAt call mount
+stopped : (call : Call) (mount : ℕ) (refusal : Denial) → unlinked call ≡ None → IsStoppedAt call mount
     → unreached_by (access_of call.state) (ground_of call.state.tables) (seeker_of call) call.now mount ≡ Some refusal
     → place_rule (access_of call.state) call ≡ Some refusal
 unfolding place_rule
-stopped s call mount refusal (at_source spot asked by stays) is =
+stopped call mount refusal linked (at_source spot asked by stays) is =
     let access = access_of call.state in
     let way : Way = way_of call spot in
     let reach : unreached access call way ≡ Some refusal =
     ap (option_and_then (unreached_by access (ground_of call.state.tables) (seeker_of call) call.now))
-    (mount_is call.state.tables.nodes (root_of call) spot.path (mount_of call spot) ∙ by) ∙ is in
+    (mount_is call.state.tables.nodes (seeker_of call) (root_of call) spot.path (mount_of call spot) ∙ by) ∙ is in
     let itself : ((asked_by call).removes && way.itself) ≡ false =
-    ap (λ (b : Bool). (asked_by call).removes && b) (itself_is call.state.tables.nodes (root_of call) spot.path (mount_of call spot) mount by) ∙ stays in
+    ap (λ (b : Bool). (asked_by call).removes && b) (itself_is call.state.tables.nodes (seeker_of call) (root_of call) spot.path (mount_of call spot) mount by) ∙ stays in
     let source : source_refused access call way ≡ Some refusal =
     ap (λ (b : Bool). option_or (if b then None else unreached access call way) (source_lost way.place)) itself
     ∙ ap (λ (o : Option Denial). option_or o (source_lost way.place)) reach in
-    ap (λ (o : Option Denial). option_or o (option_and_then (λ spot. target_refused access call (way_of call spot)) (asked_by call).target))
+    ap (λ (o : Option Denial). option_or o (option_or (option_and_then (λ spot. source_refused access call (way_of call spot)) (asked_by call).source)
+    (option_and_then (λ spot. target_refused access call (way_of call spot)) (asked_by call).target))) linked
+    ∙ ap (λ (o : Option Denial). option_or o (option_and_then (λ spot. target_refused access call (way_of call spot)) (asked_by call).target))
     (ap (option_and_then (λ spot. source_refused access call (way_of call spot))) asked ∙ source)
-stopped s call mount refusal (at_target spot asked by passes) is =
+stopped call mount refusal linked (at_target spot asked by passes) is =
     let access = access_of call.state in
     let way : Way = way_of call spot in
     let reach : unreached access call way ≡ Some refusal =
     ap (option_and_then (unreached_by access (ground_of call.state.tables) (seeker_of call) call.now))
-    (mount_is call.state.tables.nodes (root_of call) spot.path (mount_of call spot) ∙ by) ∙ is in
-    ap (λ (o : Option Denial). option_or o (option_and_then (λ spot. target_refused access call (way_of call spot)) (asked_by call).target)) passes
+    (mount_is call.state.tables.nodes (seeker_of call) (root_of call) spot.path (mount_of call spot) ∙ by) ∙ is in
+    ap (λ (o : Option Denial). option_or o (option_or (option_and_then (λ spot. source_refused access call (way_of call spot)) (asked_by call).source)
+    (option_and_then (λ spot. target_refused access call (way_of call spot)) (asked_by call).target))) linked
+    ∙ ap (λ (o : Option Denial). option_or o (option_and_then (λ spot. target_refused access call (way_of call spot)) (asked_by call).target)) passes
     ∙ ap (option_and_then (λ spot. target_refused access call (way_of call spot))) asked
     ∙ ap (λ (o : Option Denial). option_or o (target_lost way.place)) reach
 
@@ -241,4 +259,4 @@ unreached_refused s seat now words request mount refusal well stop is =
     ap (λ (o : Option Denial). answered_by (unless_refused o (allowed_of access call)))
     (first_of (token_rule ∷ not_you_rule ∷ forbidden_rule ∷ []) place_rule
     (named_rule ∷ acts_rule ∷ exists_rule ∷ target_rule ∷ overwrite_rule ∷ sharing_rule ∷ locked_rule ∷ limit_rule ∷ room_rule ∷ []) access call refusal
-    (well.token, (well.not_you, (well.forbidden, tt))) (stopped s call mount refusal stop is))
+    (well.token, (well.not_you, (well.forbidden, tt))) (stopped call mount refusal well.linked stop is))

@@ -1,12 +1,11 @@
 -- What a request needs by no mount, which is at what is the caller's own.
-use Rattle.std.proofs.Common.{◌≡◌, ℕ, Bool, true, false, [], ◌++◌, Option, None, Some, option_map, if◌then◌else◌, refl, sym, ap, ◌∙◌, subst}
-use Rattle.std.specs.Prelude.{is_some}
+use Rattle.std.proofs.Common.{◌≡◌, ◌==◌, ℕ, Bool, true, false, [], Option, None, Some, if◌then◌else◌, refl, sym, ap, ◌∙◌, subst}
 use Rattle.std.specs.List.{All}
 use Rattle.std.specs.Option.{option_map_or, option_or}
-use Rattle.std.proofs.lemmas.List.Elements.{All-append, All-cons, All-nil}
+use Rattle.std.proofs.lemmas.List.Elements.{All-cons, All-nil}
 use Rattle.std.proofs.lemmas.Option.{none-some, same_Some}
 use Rattle.nf_base.specs.declared.perms.Act.{Act}
-use Rattle.nf_base.specs.declared.perms.Act.TheVariants.{Create, Delete, Share, Update}
+use Rattle.nf_base.specs.declared.perms.Act.TheVariants.{Create}
 use Rattle.nf_base.specs.declared.rows.UserRow.{UserRow}
 use Rattle.nf_defs.specs.Prelude.{found_from, parent_of, Tables}
 use Rattle.nf_defs.specs.declared.Found.{Found}
@@ -16,13 +15,11 @@ use Rattle.nf_laws.proofs.May.{own_may}
 use Rattle.nf_laws.proofs.Paths.{IsOf, found_free, found_leads, leads_own, root_own}
 use Rattle.nf_laws.proofs.Rows.{parent_there}
 use Rattle.nf_laws.specs.Access.{Owns}
-use Rattle.nf_words.proofs.Starts.{row_of_caller}
-use Rattle.nf_words.specs.Places.{folder_at}
-use Rattle.nf_words.specs.Needed.{source_act, source_needs, target_needs}
-use Rattle.nf_words.specs.Prelude.{access_of, AreSound, asked_by, asker_of, Call, call_of, caller_row, is_mount_asked, is_within, may_by, mount_of, Need, needed, needs, needs_at, needs_in, node_found, root_of, seeker_of, user_of, Way, way_by, way_of}
-use Rattle.nf_words.specs.declared.request.Making.{Making}
-use Rattle.nf_words.specs.declared.request.Making.TheVariants as making
+use Rattle.nf_words.proofs.Starts.{row_of_caller, user_root, user_seeks}
+use Rattle.nf_words.specs.Places.{folder_seen}
+use Rattle.nf_words.specs.Prelude.{access_of, AreSound, asker_of, Call, call_of, caller_row, may_by, mount_of, Need, needs, needs_at, needs_in, node_found, root_of, seeker_of, user_of, Way, way_by, way_of}
 use Rattle.nf_words.specs.declared.request.Spot.{Spot}
+use Rattle.nf_denials.proofs.Needs.{each_need}
 use Rattle.nf_denials.specs.Laws.{OwnIsNotRefused}
 
 module _ (call : Call) (user : UserRow) (sound : AreSound call.state.tables) (known : caller_row call ≡ Some user) where
@@ -35,14 +32,13 @@ module _ (call : Call) (user : UserRow) (sound : AreSound call.state.tables) (kn
 
   own_root : IsOf t user.id (root_of call)
   own_root =
-      let root : root_of call ≡ user.root = ap (λ (o : Option UserRow). option_map_or (λ row. row.root) o 0) known in
-      subst (IsOf t user.id) (sym root) (root_own t user sound (row_of_caller t.users (user_of call) user known).1)
+      subst (IsOf t user.id) (sym (user_root call user known)) (root_own t user sound (row_of_caller t.users (user_of call) user known).1)
 
   own_met : (act : Act) (node : ℕ) (mount : Option ℕ) → IsOf t user.id node
       → may_by (access_of call.state) t.nodes (seeker_of call) call.now act node mount ≡ true
   own_met act node mount own =
       let asker : asker_of call ≡ user.id = ap (λ (o : Option UserRow). option_map_or (λ row. row.id) o 0) known in
-      let owns : Owns t.nodes (seeker_of call) node = record { row = own.row; there = own.there; owner = ap User (asker ∙ sym own.owner) } in
+      let owns : Owns t.nodes (seeker_of call) node = record { row = own.row; there = own.there; owner = user_seeks call user known ∙ ap User (asker ∙ sym own.owner) } in
       own_may (access_of call.state) t.nodes (seeker_of call) call.now act node mount owns
 
   -- what is met where it is by no mount
@@ -62,8 +58,8 @@ module _ (call : Call) (user : UserRow) (sound : AreSound call.state.tables) (kn
     by_none : way.mount ≡ None → way.place ≡ found_from t.nodes 0 (root_of call) spot.path
     by_none none = here (mount_of call spot) none
       where
-        here : (mount : Option ℕ) → (way_by t.nodes (root_of call) spot.path mount).mount ≡ None
-            → (way_by t.nodes (root_of call) spot.path mount).place ≡ found_from t.nodes 0 (root_of call) spot.path
+        here : (mount : Option ℕ) → (way_by t.nodes (seeker_of call) (root_of call) spot.path mount).mount ≡ None
+            → (way_by t.nodes (seeker_of call) (root_of call) spot.path mount).place ≡ found_from t.nodes 0 (root_of call) spot.path
         here None none = refl
         here (Some node) none = absurd (none-some node (sym none))
 
@@ -83,7 +79,7 @@ module _ (call : Call) (user : UserRow) (sound : AreSound call.state.tables) (kn
     at_met : (act : Act) → All Met (needs_at act way)
     at_met act = needs_met act (node_found way.place) way.mount own_found
 
-    own_folder : way.mount ≡ None → (node : ℕ) → option_or (folder_at t.nodes way.place) (node_found way.place) ≡ Some node → IsOf t user.id node
+    own_folder : way.mount ≡ None → (node : ℕ) → option_or (folder_seen t.nodes (root_of call) way.place) (node_found way.place) ≡ Some node → IsOf t user.id node
     own_folder none node is = here way.place refl is
       where
         above : (at : ℕ) (parent : Option ℕ) → way.place ≡ At at → parent_of t.nodes at ≡ parent → option_or parent (Some at) ≡ Some node
@@ -94,8 +90,14 @@ module _ (call : Call) (user : UserRow) (sound : AreSound call.state.tables) (kn
             let folder = parent_there t at parent own.row sound own.there f in
             subst (IsOf t user.id) (same_Some parent node is) (record { row = folder.0; there = folder.1; owner = folder.3 ∙ own.owner })
 
-        here : (place : Found) → way.place ≡ place → option_or (folder_at t.nodes place) (node_found place) ≡ Some node → IsOf t user.id node
-        here (At at) e is = above at (parent_of t.nodes at) e refl is
+        seen : (at : ℕ) (start : Bool) → way.place ≡ At at → option_or (if start then None else parent_of t.nodes at) (Some at) ≡ Some node
+            → IsOf t user.id node
+        seen at true e is = subst (IsOf t user.id) (same_Some at node is) (own_at none at e)
+        seen at false e is = above at (parent_of t.nodes at) e refl is
+
+        here : (place : Found) → way.place ≡ place → option_or (folder_seen t.nodes (root_of call) place) (node_found place) ≡ Some node
+            → IsOf t user.id node
+        here (At at) e is = seen at (at == root_of call) e is
         here (Free folder) e is =
             let free = found_free t (root_of call) spot.path folder sound (sym (by_none none) ∙ e) in
             subst (IsOf t user.id) (same_Some folder node is) (leads_own t user.id (root_of call) free.front folder sound free.led own_root)
@@ -105,61 +107,12 @@ module _ (call : Call) (user : UserRow) (sound : AreSound call.state.tables) (kn
     in_met = here way.itself refl
       where
         here : (b : Bool) → way.itself ≡ b
-            → All Met (needs Create (if b then Some (root_of call) else option_or (folder_at t.nodes way.place) (node_found way.place))
+            → All Met (needs Create (if b then Some (root_of call) else option_or (folder_seen t.nodes (root_of call) way.place) (node_found way.place))
             (if b then None else way.mount))
         here true e = needs_met Create (Some (root_of call)) None (λ none node is. subst (IsOf t user.id) (same_Some (root_of call) node is) own_root)
-        here false e = needs_met Create (option_or (folder_at t.nodes way.place) (node_found way.place)) way.mount own_folder
-
-    target_met : (makes : Making) (within : Bool) → All Met (target_needs makes t.nodes (root_of call) within way)
-    target_met making.Nothing within = All-nil Met
-    target_met (making.File length) within = here (is_some (node_found way.place))
-      where
-        here : (b : Bool) → All Met (if b then needs_at Update way else needs_in t.nodes (root_of call) way)
-        here true = at_met Update
-        here false = in_met
-    target_met making.Folder within = in_met
-    target_met making.Moved within = here within
-      where
-        here : (b : Bool) → All Met ((if b then [] else needs_in t.nodes (root_of call) way) ++ needs_at Delete way)
-        here true = at_met Delete
-        here false = All-append Met (needs_in t.nodes (root_of call) way) (needs_at Delete way) in_met (at_met Delete)
-    target_met making.Copied within = All-append Met (needs_in t.nodes (root_of call) way) (needs_at Delete way) in_met (at_met Delete)
-    target_met making.Shared within = All-nil Met
-    target_met making.Told within = All-nil Met
-
-    source_met : (makes : Making) (removes within : Bool) → All Met (source_needs makes removes within way)
-    source_met making.Shared removes within = at_met Share
-    source_met making.Told removes within = All-nil Met
-    source_met other removes within = at_met (source_act removes within)
-
-  sources_met : (makes : Making) (removes within : Bool) (source : Option Spot)
-      → All Met (option_map_or (source_needs makes removes within) (option_map (way_of call) source) [])
-  sources_met makes removes within None = All-nil Met
-  sources_met makes removes within (Some spot) = source_met spot makes removes within
-
-  targets_met : (makes : Making) (within : Bool) (target : Option Spot)
-      → All Met (option_map_or (target_needs makes t.nodes (root_of call) within) (option_map (way_of call) target) [])
-  targets_met makes within None = All-nil Met
-  targets_met makes within (Some spot) = target_met spot makes within
-
-  all_met : All Met (needed call)
-  all_met = here (is_mount_asked (asked_by call) source)
-    where
-      source : Option Way
-      source = option_map (way_of call) (asked_by call).source
-
-      target : Option Way
-      target = option_map (way_of call) (asked_by call).target
-
-      within : Bool
-      within = is_within t.nodes (root_of call) source target
-
-      here : (b : Bool) → All Met (if b then [] else option_map_or (source_needs (asked_by call).makes (asked_by call).removes within) source []
-          ++ option_map_or (target_needs (asked_by call).makes t.nodes (root_of call) within) target [])
-      here true = All-nil Met
-      here false =
-          All-append Met _ _ (sources_met (asked_by call).makes (asked_by call).removes within (asked_by call).source)
-          (targets_met (asked_by call).makes within (asked_by call).target)
+        here false e = needs_met Create (option_or (folder_seen t.nodes (root_of call) way.place) (node_found way.place)) way.mount own_folder
 
 pub own_unrefused : OwnIsNotRefused
-own_unrefused s seat now words request user sound known = all_met (call_of s seat now words request) user sound.rows known
+own_unrefused s seat now words request user sound known =
+    let call = call_of s seat now words request in
+    each_need call (Met call user sound.rows known) (at_met call user sound.rows known) (in_met call user sound.rows known)

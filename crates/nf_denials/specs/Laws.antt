@@ -1,5 +1,5 @@
 -- What a refusal by shares tells, and when it is made.
-use Rattle.std.specs.Prelude.{◌≡◌, ◌⊎◌, ℕ, ◌&&◌, All, Bool, false, true, Contains, List, Option, None, Some, Ok, Err, option_and_then}
+use Rattle.std.specs.Prelude.{◌≡◌, ◌≢◌, ◌⊎◌, ℕ, ◌&&◌, All, Bool, false, true, Contains, List, Option, None, Some, Ok, Err, option_and_then}
 use Rattle.nf_access.specs.Broken.{IsFirstBroken, first_received}
 use Rattle.nf_access.specs.Laws.{IsRefused}
 use Rattle.nf_access.specs.Shares.{Ground, chain_of, ground_of}
@@ -8,8 +8,9 @@ use Rattle.nf_base.specs.declared.perms.Act.{Act}
 use Rattle.nf_base.specs.declared.rows.ShareRow.{ShareRow}
 use Rattle.nf_base.specs.declared.rows.UserRow.{UserRow}
 use Rattle.nf_defs.specs.declared.Seeker.{Seeker}
+use Rattle.nf_defs.specs.declared.Seeker.TheVariants.{Link}
 use Rattle.nf_laws.specs.Reads.{IsWellAsked}
-use Rattle.nf_words.specs.Prelude.{access_of, answer_to, asked_by, Call, call_of, caller_row, end_unreached, first_refused, goal_at, is_one, is_owner, IsSound, may_by, mount_of, Need, needed, needed_by, node_of_key, seeker_of, source_refused, State, unreached_by, way_of}
+use Rattle.nf_words.specs.Prelude.{access_of, answer_to, asked_by, Call, call_of, caller_row, end_unreached, first_refused, goal_at, is_itself, is_owner, link_of, IsSound, may_by, mount_of, Need, needed, needed_by, node_of_key, seeker_of, source_refused, State, unreached_by, way_of}
 use Rattle.nf_words.specs.declared.answer.By.{By}
 use Rattle.nf_words.specs.declared.answer.Denial.{Denial}
 use Rattle.nf_words.specs.declared.answer.Denial.TheVariants.{BrokenLink, NoShare}
@@ -103,11 +104,18 @@ OwnIsNotRefused =
     caller_row call ≡ Some user
     → All (λ (need : Need). need.mount ≡ None → may_by (access_of s) s.tables.nodes (seeker_of call) now need.act need.node need.mount ≡ true) (needed call)
 
+-- who asks by a link that is there, or was granted to store by one, is never told that there is no share: it is the link's own
+pub record LinksTellTheirChain : Type 0 where
+  pub begins : (s : State) (seat now : ℕ) (words : Words) (request : Request) (share : ShareRow) → IsSound s
+      → link_of (call_of s seat now words request) ≡ Some share → answer_to s seat now (Begin words request) ≢ Err NoShare
+  pub ends : (s : State) (seat now link : ℕ) (by : By) (key : LockKey) (wanted : ℕ) (outcome : Outcome) → IsSound s
+      → goal_at s seat ≡ Some (Store by key wanted) → by.seeker ≡ Link link → answer_to s seat now (End outcome) ≢ Err NoShare
+
 -- by a mount that doesn't reach who asks: the source, where it isn't a mount to be left or renamed itself, and the target of a request whose
 -- source isn't refused
 pub data IsStoppedAt (call : Call) (mount : ℕ) : Type 0 where
   at_source : (spot : Spot) → (asked_by call).source ≡ Some spot → mount_of call spot ≡ Some mount
-      → ((asked_by call).removes && is_one spot.path) ≡ false → IsStoppedAt call mount
+      → ((asked_by call).removes && is_itself (seeker_of call) spot.path) ≡ false → IsStoppedAt call mount
   at_target : (spot : Spot) → (asked_by call).target ≡ Some spot → mount_of call spot ≡ Some mount
       → option_and_then (λ spot. source_refused (access_of call.state) call (way_of call spot)) (asked_by call).source ≡ None → IsStoppedAt call mount
 

@@ -1,6 +1,6 @@
 //! What a refusal by shares tells, and when it is made.
 
-ghost use Rattle.nf_denials.specs.Laws.{ActsAreTold, BeginsTellTheirBreak, EndsTellTheirBreak, OwnIsNotRefused, ReadsGoOn, RevokedIsRefused, UnreachedIsRefused, UnreachedIsTold};
+ghost use Rattle.nf_denials.specs.Laws.{ActsAreTold, BeginsTellTheirBreak, EndsTellTheirBreak, LinksTellTheirChain, OwnIsNotRefused, ReadsGoOn, RevokedIsRefused, UnreachedIsRefused, UnreachedIsTold};
 
 /// Who is refused at a mount is let in by no chain of shares, and who is refused an act there is let do it by none. What is told is the
 /// first link that is broken, with its first cause, of the chain of the first share that is received there; or that none is.
@@ -17,6 +17,12 @@ pub fn begins_tell_their_break()
 /// No request is refused so for a path in the caller's own root: who is known may do all that it needs there.
 pub fn own_is_not_refused()
     ensures { OwnIsNotRefused }
+{}
+
+/// Who asks by a link that is there, or was granted to store by one, is never told that there is no share: the link itself is one. So what
+/// shares refuse them tells where its chain is broken.
+pub fn links_tell_their_chain()
+    ensures { LinksTellTheirChain }
 {}
 
 /// A path that goes by a mount on which nobody lets the caller in is refused for that, whatever its further names are.

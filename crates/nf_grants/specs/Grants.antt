@@ -1,12 +1,10 @@
--- What links grant, and what is told of a refusal.
-use Rattle.std.specs.Prelude.{◌≡◌, ℕ, Bool, true, false, Option, Some, None, option_and_then, if◌then◌else◌}
+-- What shares grant, and what is told of a refusal.
+use Rattle.std.specs.Prelude.{◌≡◌, ℕ, Bool, Option, Some, None, option_and_then, if◌then◌else◌}
 use Rattle.nf_access.specs.Access.{allows, grant_by}
 use Rattle.nf_access.specs.Broken.{broken_in}
 use Rattle.nf_access.specs.Making.{passes_on}
 use Rattle.nf_access.specs.Shares.{Ground, chain_of, receives, share_row}
 use Rattle.nf_base.specs.declared.perms.Act.{Act}
-use Rattle.nf_base.specs.declared.rows.ShareKind.{ShareKind}
-use Rattle.nf_base.specs.declared.rows.ShareKind.TheVariants as kind
 use Rattle.nf_base.specs.declared.rows.ShareRow.{ShareRow}
 use Rattle.nf_defs.specs.declared.Grant.{Grant}
 use Rattle.nf_defs.specs.declared.Seeker.{Seeker}
@@ -14,11 +12,6 @@ use Rattle.nf_grants.specs.declared.breaking.Broken.{Broken}
 use Rattle.nf_grants.specs.declared.breaking.Broken.TheVariants.{NoShare, Link}
 use Rattle.nf_grants.specs.declared.grants.Purpose.{Purpose}
 use Rattle.nf_grants.specs.declared.grants.Purpose.TheVariants.{Allow, PassOn}
-
-abbrev pub is_link_kind : ShareKind → Bool
-is_link_kind (kind.User user) = false
-is_link_kind (kind.Group group) = false
-is_link_kind (kind.Link token) = true
 
 -- what a share gives by its chain, where it is there and passes the test
 abbrev pub grant_where : (ShareRow → Bool) → Ground → ℕ → Option Grant
@@ -28,10 +21,6 @@ grant_where test g id =
 -- what a share gives a seeker, where it is there and the seeker receives it
 abbrev pub grant_to : Ground → Seeker → ℕ → Option Grant
 grant_to g who id = grant_where (receives g.members who) g id
-
--- what a link gives whoever holds it: what its chain gives, where the share is there and is a link
-abbrev pub link_grant : Ground → ℕ → Option Grant
-link_grant g id = grant_where (λ share. is_link_kind share.kind) g id
 
 -- a grant serves a purpose
 abbrev pub serves : ℕ → Purpose → Grant → Bool

@@ -4,21 +4,20 @@ ghost use Rattle.std.specs.Prelude.{◌≡◌, [], IsTrue, is_some, None, option
 ghost use Rattle.nf_access.specs.Broken.{act_faults, broken_in, cause_at, first_of, first_received, passing_faults};
 ghost use Rattle.nf_access.specs.Laws.{IsBounded, IsRefused};
 ghost use Rattle.nf_access.specs.Shares.{chain_up, chain_within};
-ghost use Rattle.nf_defs.specs.declared.Seeker.TheVariants as seeker;
 ghost use Rattle.nf_grants.specs.Grants.{Tells};
 
 use crate::ground::Ground;
 use nf_access::Cause;
-use nf_base::{Act, MAX_CHAIN, Moment, NodeId, ShareId, ShareRow, UserId};
+use nf_base::{Act, MAX_CHAIN, Moment, NodeId, ShareId, ShareRow};
 use nf_defs::Seeker;
 use nf_shares::is_before;
 
 /// What a refusal comes to.
 #[derive(Clone, Copy, PartialEq, Eq)]
 pub enum Broken {
-    /// The user receives no share on the node.
+    /// The seeker receives no share on the node.
     NoShare,
-    /// That share is the first broken one of the chain that the user's first share on the node stands on.
+    /// That share is the first broken one of the chain that the seeker's first share on the node stands on.
     Link { share: ShareId, cause: Cause },
 }
 
@@ -33,13 +32,13 @@ fn act_cause(share: &ShareRow, act: Option<Act>) -> Option<Cause>
 }
 
 impl<'a> Ground<'a> {
-    /// Why the user was refused the act on the node, or everything there where no act is given.
-    pub fn broken(&self, user: UserId, node: NodeId, act: Option<Act>, now: Moment) -> Broken
+    /// Why the seeker was refused the act on the node, or everything there where no act is given.
+    pub fn broken(&self, seeker: Seeker, node: NodeId, act: Option<Act>, now: Moment) -> Broken
         requires bounded { IsBounded self.now }
-        requires refused { IsRefused self.now now (seeker.User user) act node }
-        ensures { Tells self.now now act (first_received self.now.members self.now.shares (seeker.User user) node) result }
+        requires refused { IsRefused self.now now seeker act node }
+        ensures { Tells self.now now act (first_received self.now.members self.now.shares seeker node) result }
     {
-        let Some(first) = self.first_received(user, node) else {
+        let Some(first) = self.first_received(seeker, node) else {
             return Broken::NoShare;
         };
         let (share, cause) = self
@@ -48,12 +47,12 @@ impl<'a> Ground<'a> {
         Broken::Link { share, cause }
     }
 
-    /// The first share on the node that the user receives.
-    fn first_received(&self, user: UserId, node: NodeId) -> Option<&ShareRow>
+    /// The first share on the node that the seeker receives.
+    fn first_received(&self, seeker: Seeker, node: NodeId) -> Option<&ShareRow>
         requires { IsBounded self.now }
-        ensures { option_copied result ≡ first_received self.now.members self.now.shares (seeker.User user) node }
+        ensures { option_copied result ≡ first_received self.now.members self.now.shares seeker node }
     {
-        let first = self.shares().first_received(self, user, node)?;
+        let first = self.shares().first_received(self, seeker, node)?;
         self.share(first)
     }
 

@@ -3,10 +3,10 @@
 ghost use Rattle.std.specs.Prelude.{◌≡◌, [], Some, unwrap_or};
 ghost use Rattle.nf_access.specs.Access.{grant_by};
 ghost use Rattle.nf_access.specs.Shares.{chain_of, chain_up, chain_within, earlier, mask_of, share_row};
-ghost use Rattle.nf_grants.specs.Grants.{grant_to, is_link_kind};
+ghost use Rattle.nf_grants.specs.Grants.{grant_to};
 
 use crate::ground::Ground;
-use nf_base::{MAX_CHAIN, Moment, Perms, ShareId, ShareKind, ShareRow};
+use nf_base::{MAX_CHAIN, Moment, Perms, ShareId, ShareRow};
 use nf_defs::{Grant, Seeker};
 
 /// The earlier of two end moments, where there are any.
@@ -17,15 +17,6 @@ fn earlier(one: Option<Moment>, other: Option<Moment>) -> Option<Moment>
         (None, _) => other,
         (Some(_), None) => one,
         (Some(a), Some(b)) => Some(Moment::new(a.seconds().min(b.seconds()))),
-    }
-}
-
-pub(crate) fn is_link(kind: &ShareKind) -> bool
-    ensures { result ≡ is_link_kind kind.now }
-{
-    match kind {
-        ShareKind::Link(_) => true,
-        _ => false,
     }
 }
 

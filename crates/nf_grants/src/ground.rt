@@ -76,10 +76,7 @@ impl<'a> Ground<'a> {
     pub(crate) fn receives(&self, seeker: Seeker, share: &ShareRow) -> bool
         ensures { result ≡ receives self.now.members seeker share.now }
     {
-        match seeker {
-            Seeker::User(user) => receives(self, user, share),
-            Seeker::Link(id) => share.id == id,
-        }
+        receives(self, seeker, share)
     }
 
     /// Whether the share may follow that parent.
@@ -87,7 +84,7 @@ impl<'a> Ground<'a> {
         ensures { result ≡ follows self.now parent.now share.now }
     {
         parent.perms.has(Act::Share)
-            && receives(self, share.initiator, parent)
+            && receives(self, Seeker::User(share.initiator), parent)
             && self.is_under(share.node, parent.node)
     }
 }

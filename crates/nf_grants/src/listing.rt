@@ -6,6 +6,7 @@ ghost use Rattle.nf_access.specs.Mounts.{listed};
 
 use crate::ground::Ground;
 use nf_base::{Moment, NodeId, UserId};
+use nf_defs::Seeker;
 use nf_mounts::Mounts;
 use std::alloc::{AllocError, Global};
 
@@ -23,7 +24,7 @@ impl<'a> Ground<'a> {
         mounts
             .of_user(user)
             .iter()
-            .filter(|row| !row.left && self.reaches(user, row.node, now))
+            .filter(|row| !row.left && self.reaches(Seeker::User(user), row.node, now))
             .map(|row| row.node)
             .collect(alloc)
     }

@@ -1,5 +1,5 @@
 -- What a DELETE, a MKCOL and a PUT change, and a MOVE of a mount.
-use Rattle.std.proofs.Common.{max, ℕ, ◌+◌, ◌-◌, drop, option_map, ◌==◌, ◌&&◌, ◌≡◌, ◌<◌, ◌≤◌, Bool, true, false, not, List, [], ◌∷◌, ◌++◌, Option, None, Some, Result, Ok, if◌then◌else◌, length, get_or, slice_get, unwrap_or, inl, inr, refl, sym, ap, subst, ◌∙◌, arith, length-append}
+use Rattle.std.proofs.Common.{max, ℕ, ◌+◌, ◌-◌, option_map, ◌==◌, ◌&&◌, ◌≡◌, ◌<◌, ◌≤◌, Bool, true, false, not, List, [], ◌∷◌, ◌++◌, Option, None, Some, Result, Ok, if◌then◌else◌, length, get_or, slice_get, unwrap_or, inl, inr, refl, sym, ap, subst, ◌∙◌, arith, length-append}
 use Rattle.std.specs.Prelude.{IsOk}
 use Rattle.std.specs.Option.{IfSome, option_map_or}
 use Rattle.std.proofs.Math.Seq.{get_or-append_seam}
@@ -23,6 +23,8 @@ use Rattle.nf_defs.proofs.Walks.{climbs_walk}
 use Rattle.nf_defs.specs.Prelude.{child_of, filled, found_from, is_folder, is_folder_kind, is_under, mount_key, node_key, node_row, put, Tables, walk_of}
 use Rattle.nf_defs.specs.declared.Found.{Found}
 use Rattle.nf_defs.specs.declared.Found.TheVariants.{At, Free, Missing}
+use Rattle.nf_defs.specs.declared.Seeker.{Seeker}
+use Rattle.nf_defs.specs.declared.Seeker.TheVariants.{Link, User}
 use Rattle.nf_laws.proofs.Climbs.{holds_some, under_climb}
 use Rattle.nf_laws.proofs.Ended.{are_ended}
 use Rattle.nf_laws.proofs.Entries.{step_changed}
@@ -45,8 +47,8 @@ use Rattle.nf_words.proofs.Found.{free_known, last_more, last_of}
 use Rattle.nf_words.proofs.Known.{Known}
 use Rattle.nf_words.proofs.Mounting.{IsOwnMount, mount_found, mount_left_so, not_mount, own_known}
 use Rattle.nf_words.proofs.Passing.{call_passes, Passes, place_passes, PlacePasses}
-use Rattle.nf_words.proofs.Starts.{has_row, row_of_caller}
-use Rattle.nf_words.specs.Prelude.{access_of, allowed_of, answered_by, AreSound, asked_of, asker_of, blob_after, blob_for, by_of, Call, call_decision, call_of, changed, closed_under, content_in, decision_of, deleted, dropped_under, end_refusal, ends_at, exists_rule, found, given, gone_under, IsHeld, IsStorable, last_name, left_row, made_folder, makes, MayAsk, MayEnd, mount_left, mount_of, mount_renamed, moved, named_row, new_node, node_at, own_mount, refilled, refusal_of, removed, root_of, seeker_of, source_lost, step, stored, stored_at, stores, taken, target_lost, told, transfer_of, user_of, way_by, way_of, with_mount_row}
+use Rattle.nf_words.proofs.Starts.{has_asker, itself_asker, row_of_caller}
+use Rattle.nf_words.specs.Prelude.{access_of, allowed_of, answered_by, AreSound, asked_of, asker_of, behind, blob_after, blob_for, by_of, Call, call_decision, call_of, changed, closed_under, content_in, decision_of, deleted, dropped_under, end_refusal, ends_at, exists_rule, found, given, gone_under, IsHeld, IsStorable, last_name, left_row, made_folder, makes, MayAsk, MayEnd, mount_left, mount_of, mount_renamed, moved, named_row, new_node, node_at, own_mount, refilled, refusal_of, removed, root_of, seeker_of, source_lost, step, stored, stored_at, stores, taken, target_lost, told, transfer_of, user_of, way_by, way_of, with_mount_row}
 use Rattle.nf_words.specs.declared.answer.Allowed.{Allowed}
 use Rattle.nf_words.specs.declared.answer.Allowed.TheVariants as allowed
 use Rattle.nf_words.specs.declared.answer.Denial.{Denial}
@@ -95,14 +97,14 @@ module _ (call : Call) (spot : Spot) (sound : AreSound call.state.tables) where
   t = call.state.tables
 
   abbrev lead : Option ℕ → Found
-  lead mount = (way_by t.nodes (root_of call) spot.path mount).place
+  lead mount = (way_by t.nodes (seeker_of call) (root_of call) spot.path mount).place
 
   leads_by : (node : ℕ) → found call spot ≡ At node → LeadsBy call spot (mount_of call spot) node
   leads_by node is = here (mount_of call spot) is
     where
       here : (mount : Option ℕ) → lead mount ≡ At node → LeadsBy call spot mount node
       here None is = found_leads t (root_of call) spot.path node sound is
-      here (Some mount) is = found_leads t mount (drop 1 spot.path) node sound is
+      here (Some mount) is = found_leads t mount (behind (seeker_of call) spot.path) node sound is
 
   -- the name at the end of a path
   last_is : (front : List (List ℕ)) (last : List ℕ) (path : List (List ℕ)) → path ≡ front ++ last ∷ [] → last_of path ≡ last
@@ -120,10 +122,12 @@ module _ (call : Call) (spot : Spot) (sound : AreSound call.state.tables) where
       (free.front, free.parts ∙ ap (λ (name : List ℕ). free.front ++ name ∷ []) (sym last ∙ named), free.led)
 
   -- behind a first name the last is the same, where there are more
-  rest_of : (path : List (List ℕ)) (mount folder : ℕ) → found_from t.nodes 0 mount (drop 1 path) ≡ Free folder → last_of (drop 1 path) ≡ last_of path
-  rest_of [] mount folder leads = refl
-  rest_of (first ∷ []) mount folder leads = absurd (cc)
-  rest_of (first ∷ second ∷ rest) mount folder leads = sym (last_more first second rest)
+  rest_of : (who : Seeker) (path : List (List ℕ)) (mount folder : ℕ) → found_from t.nodes 0 mount (behind who path) ≡ Free folder
+      → last_of (behind who path) ≡ last_of path
+  rest_of (Link share) path mount folder leads = refl
+  rest_of (User user) [] mount folder leads = refl
+  rest_of (User user) (first ∷ []) mount folder leads = absurd (cc)
+  rest_of (User user) (first ∷ second ∷ rest) mount folder leads = sym (last_more first second rest)
 
   frees_by : (folder : ℕ) → found call spot ≡ Free folder
       → LeadsToKeyBy call spot (mount_of call spot) (Slot folder (last_name spot)) × (is_folder t.nodes folder ≡ true)
@@ -136,9 +140,9 @@ module _ (call : Call) (spot : Spot) (sound : AreSound call.state.tables) where
           let known = free_known t.nodes 0 (root_of call) spot.path folder is in
           (free_key (root_of call) folder spot.path refl (found_free t (root_of call) spot.path folder sound is), known.0, known.1)
       here (Some mount) is =
-          let known = free_known t.nodes 0 mount (drop 1 spot.path) folder is in
-          let named = rest_of spot.path mount folder is in (
-            free_key mount folder (drop 1 spot.path) named (found_free t mount (drop 1 spot.path) folder sound is),
+          let known = free_known t.nodes 0 mount (behind (seeker_of call) spot.path) folder is in
+          let named = rest_of (seeker_of call) spot.path mount folder is in (
+            free_key mount folder (behind (seeker_of call) spot.path) named (found_free t mount (behind (seeker_of call) spot.path) folder sound is),
             known.0,
             ap (child_of t.nodes folder) (sym named) ∙ known.1,
           )
@@ -147,14 +151,15 @@ module _ (call : Call) (spot : Spot) (sound : AreSound call.state.tables) where
   way_mount : (way_of call spot).mount ≡ mount_of call spot
   way_mount = here (mount_of call spot)
     where
-      here : (mount : Option ℕ) → (way_by t.nodes (root_of call) spot.path mount).mount ≡ mount
+      here : (mount : Option ℕ) → (way_by t.nodes (seeker_of call) (root_of call) spot.path mount).mount ≡ mount
       here None = refl
       here (Some mount) = refl
 
--- who asks is the user of the call
-asks_is : (call : Call) → Passes (access_of call.state) call → user_of call ≡ Some (asker_of call)
-asks_is call passes =
-    let row = has_row call passes.token in
+-- who asks for a mount itself is the user of the call
+asks_is : (call : Call) (spot : Spot) → Passes (access_of call.state) call → (way_of call spot).itself ≡ true → user_of call ≡ Some (asker_of call)
+asks_is call spot passes itself =
+    let asker = has_asker call passes.token (place_passes (access_of call.state) call passes.place).linked in
+    let row = itself_asker call spot asker itself in
     (row_of_caller call.state.tables.users (user_of call) row.0 row.1).0
     ∙ ap Some (sym (ap (λ (o : Option UserRow). option_map_or (λ row. row.id) o 0) row.1))
 
@@ -260,7 +265,7 @@ mounts_left s seat now words request spot sound may asked itself ok =
     ∙ ap (λ (b : Bool). if b then act else deleted (node_at (only_at b (found call spot)).source)) itself in
     subst (λ (made : Tables). IsMountChanged call spot made left_row)
     (sym (step_changed s seat now (Begin words request) act (is.0 ∙ ap (λ (a : Allowed). Ok a) gives)))
-    (remounts call spot left_row Done sound.rows (asks_is call is.1) itself (λ row. refl) (λ row. refl))
+    (remounts call spot left_row Done sound.rows (asks_is call spot is.1 itself) itself (λ row. refl) (λ row. refl))
 
 pub mounts_renamed : MountsAreRenamed
 mounts_renamed s seat now words request source target overwrite sound may asked itself ok =
@@ -273,7 +278,7 @@ mounts_renamed s seat now words request source target overwrite sound may asked 
     ∙ ap (λ (b : Bool). if b then act else moved s.tables now (last_name target) (transfer_of s.tables.nodes (places_at call wants))) itself in
     subst (λ (made : Tables). IsMountChanged call source made (named_row (last_name target)))
     (sym (step_changed s seat now (Begin words request) act (is.0 ∙ ap (λ (a : Allowed). Ok a) gives)))
-    (remounts call source (named_row (last_name target)) Made sound.rows (asks_is call is.1) itself (λ row. refl) (λ row. refl))
+    (remounts call source (named_row (last_name target)) Made sound.rows (asks_is call source is.1 itself) itself (λ row. refl) (λ row. refl))
 
 -- ---- a node more
 
@@ -377,8 +382,6 @@ puts_granted s seat now words request spot size sound may asked ok =
     let act = allowed.Put (by_of call spot) at.0 size in
     let decides : decision_of s seat now (Begin words request) ≡ Ok act = is.0 ∙ ap (λ (a : Allowed). Ok a) at.2 in
     record {
-      user = asker_of call;
-      caller = asks_is call is.1;
       mount = mount_of call spot;
       by = refl;
       key = at.0;

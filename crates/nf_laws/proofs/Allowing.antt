@@ -19,7 +19,6 @@ use Rattle.nf_base.specs.declared.rows.NodeKind.{NodeKind}
 use Rattle.nf_base.specs.declared.rows.NodeKind.TheVariants.{File, Folder}
 use Rattle.nf_base.specs.declared.rows.NodeRow.{NodeRow}
 use Rattle.nf_base.specs.declared.rows.Place.{Place}
-use Rattle.nf_base.specs.declared.rows.UserRow.{UserRow}
 use Rattle.nf_defs.proofs.Puts.{below_rest, key_total, tail_rising, turned}
 use Rattle.nf_defs.specs.Prelude.{by_order, child_of, content_of, is_folder, is_under, IsRising, key_cmp, mount_key, node_row, owner_of, parent_of, put, relinked, Tables}
 use Rattle.nf_defs.specs.declared.Found.{Found}
@@ -42,11 +41,11 @@ use Rattle.nf_words.proofs.Fits.{within}
 use Rattle.nf_words.proofs.Known.{Known, KnownCopies, KnownTransfer}
 use Rattle.nf_words.proofs.Mounting.{mounts_differ, own_known, same_key, shown_mount}
 use Rattle.nf_words.proofs.Passing.{acts_pass, call_passes, end_passes, needs_pass, not_refused}
-use Rattle.nf_words.proofs.Starts.{has_row}
-use Rattle.nf_words.proofs.Transfers.{copies_known, no_mount, transfer_known, transfer_parts}
-use Rattle.nf_words.proofs.Ways.{slot_known, way_there}
+use Rattle.nf_words.proofs.Starts.{has_asker, IsAsking, itself_seeks}
+use Rattle.nf_words.proofs.Transfers.{copies_known, no_mount, no_starts, transfer_known, transfer_parts}
+use Rattle.nf_words.proofs.Ways.{free_no_mount, slot_known, way_there}
 use Rattle.nf_words.specs.Needed.{source_act, target_needs}
-use Rattle.nf_words.specs.Prelude.{access_of, AreSound, asked_of, asker_of, blob_for, by_of, Call, call_of, call_decision, caller_row, carry_limit, changed, content_in, copied, copies_to, copy_limit, crosses, decision_of, deepest_in, deleted, end_refusal, ends_at, fault_of_ask, folder_at, found, given, goal_at, is_about_people, is_one, is_within, IsSound, IsStorable, joined, last_name, left_row, limited, listing_of, made_folder, MayAsk, MayEnd, MayWant, mount_left, mount_of, mount_renamed, mounted, move_limit, moved, named_row, Need, needed, needed_by, needs, needs_at, needs_between, needs_in, node_at, node_found, own_mount, removed, root_of, seeker_of, served, shared, State, stored, stored_at, told, transfer_of, transferred, unfit_between, unreached, Way, way_by, way_of, with_mount_row}
+use Rattle.nf_words.specs.Prelude.{access_of, AreSound, asked_of, asker_of, blob_for, by_of, Call, call_of, call_decision, carry_limit, changed, content_in, copied, copies_to, copy_limit, crosses, decision_of, deepest_in, deleted, end_refusal, ends_at, fault_of_ask, folder_at, found, given, goal_at, is_about_people, is_itself, is_one, is_start, is_within, IsSound, IsStorable, joined, last_name, left_row, limited, listing_of, made_folder, MayAsk, MayEnd, MayWant, mount_for, mount_left, mount_of, mount_renamed, mounted, move_limit, moved, named_row, Need, needed, needed_by, needs, needs_at, needs_between, needs_in, node_at, node_found, own_mount, removed, root_of, seeker_of, served, shared, State, stored, stored_at, told, transfer_of, transferred, unfit_between, unreached, Way, way_by, way_of, with_mount_row}
 use Rattle.nf_words.specs.declared.answer.Allowed.{Allowed}
 use Rattle.nf_words.specs.declared.answer.Allowed.TheVariants as allowed
 use Rattle.nf_words.specs.declared.answer.By.{By}
@@ -240,16 +239,16 @@ between rows (At node) to transfer is =
 between rows nowhere to transfer is = absurd (none-some transfer is)
 
 move_needs : (rows : List NodeRow) (root : ℕ) (source target : Spot) (overwrite : Bool) (from to : Way) (transfer : Transfer) (b : Bool)
-    → IsBetween rows from.place to.place transfer → to.itself ≡ false → is_within rows root (Some from) (Some to) ≡ b
+    → IsBetween rows from.place to.place transfer → to.itself ≡ false → is_start root to.place ≡ false → is_within rows root (Some from) (Some to) ≡ b
     → needs_at (source_act true b) from ++ target_needs making.Moved rows root b to
     ≡ moved_needs b from.mount to.mount transfer
-move_needs rows root source target overwrite from to transfer true is other within = rw (is.source, is.replaced) refl
-move_needs rows root source target overwrite from to transfer false is other within = rw (is.source, is.replaced, other, is.folder) refl
+move_needs rows root source target overwrite from to transfer true is other on within = rw (is.source, is.replaced) refl
+move_needs rows root source target overwrite from to transfer false is other on within = rw (other, on, is.source, is.replaced, is.folder) refl
 
 copy_needs : (rows : List NodeRow) (root : ℕ) (source target : Spot) (overwrite : Bool) (from to : Way) (transfer : Transfer)
-    → IsBetween rows from.place to.place transfer → to.itself ≡ false
+    → IsBetween rows from.place to.place transfer → to.itself ≡ false → is_start root to.place ≡ false
     → needs_between rows root (asked_of (Copy source target overwrite)) (Some from) (Some to) ≡ copied_needs from.mount to.mount transfer
-copy_needs rows root source target overwrite from to transfer is other = rw (is.source, is.replaced, other, is.folder) refl
+copy_needs rows root source target overwrite from to transfer is other on = rw (other, on, is.source, is.replaced, is.folder) refl
 
 -- what has to go is deleted, whatever else is needed
 replaced_needed : (front : List Need) (replaced to : Option ℕ)
@@ -260,10 +259,11 @@ replaced_needed front (Some top) to =
 
 -- a node that is moved within its folder is in the target's
 within_folder : (t : Tables) (root : ℕ) (from to : Way) (transfer : Transfer) → AreSound t → is_under t.nodes transfer.folder transfer.node ≡ false
-    → IsBetween t.nodes from.place to.place transfer → from.itself ≡ false → to.itself ≡ false → is_within t.nodes root (Some from) (Some to) ≡ true
+    → IsBetween t.nodes from.place to.place transfer → from.itself ≡ false → to.itself ≡ false
+    → (is_start root from.place ≡ false) × (is_start root to.place ≡ false) → is_within t.nodes root (Some from) (Some to) ≡ true
     → parent_of t.nodes transfer.node ≡ Some transfer.folder
-within_folder t root from to transfer sound outside is from_other to_other within =
-    here (parent_of t.nodes transfer.node) refl (rw (from_other, to_other, is.source, is.folder) at within)
+within_folder t root from to transfer sound outside is from_other to_other on within =
+    here (parent_of t.nodes transfer.node) refl (rw (from_other, to_other, on.0, on.1, is.source, is.folder) at within)
   where
     here : (o : Option ℕ) → parent_of t.nodes transfer.node ≡ o
         → option_map_or (λ folder. folder == transfer.folder) (option_or o (Some transfer.node)) false ≡ true
@@ -284,8 +284,8 @@ within_owner t transfer row sound there above =
 
 -- ---- a Begin
 
--- that a caller, whose row is there, makes
-module _ (call : Call) (row : UserRow) (sound : AreSound call.state.tables) (is : caller_row call ≡ Some row) where
+-- that who is there makes
+module _ (call : Call) (sound : AreSound call.state.tables) (is : IsAsking call) where
   abbrev t : Tables
   t = call.state.tables
 
@@ -303,9 +303,9 @@ module _ (call : Call) (row : UserRow) (sound : AreSound call.state.tables) (is 
   one_of : (spot : Spot) → (way_of call spot).itself ≡ true → is_one spot.path ≡ true
   one_of spot itself = here (mount_of call spot) itself
     where
-      here : (mount : Option ℕ) → (way_by t.nodes root spot.path mount).itself ≡ true → is_one spot.path ≡ true
-      here None itself = absurd (false≢true itself)
-      here (Some mount) itself = itself
+      here : (mount : Option ℕ) → (way_by t.nodes (seeker_of call) root spot.path mount).itself ≡ true → is_one spot.path ≡ true
+      here None other = absurd (false≢true other)
+      here (Some mount) one = sym (ap (λ (s : Seeker). is_itself s spot.path) (itself_seeks call spot itself)) ∙ one
 
   mount_fits : (spot : Spot) (change : MountRow → MountRow) (told : Report) (needs : List Need) → (way_of call spot).itself ≡ true
       → ((old : MountRow) → (change old).user ≡ old.user) → ((old : MountRow) → (change old).node ≡ old.node)
@@ -316,7 +316,9 @@ module _ (call : Call) (row : UserRow) (sound : AreSound call.state.tables) (is 
       let old : MountRow = own.row in
       let there : mount_row t.mounts old.user old.node ≡ Some old =
       ap (λ (n : ℕ). mount_row t.mounts n old.node) own.user ∙ ap (mount_row t.mounts (asker_of call)) own.of_node ∙ own.there in
-      let path = path_named t (asker_of call) root spot.path own.node old sound (one_of spot itself) (sym (way_mount call spot) ∙ own.by) own.there in
+      let path = path_named t (asker_of call) root spot.path own.node old sound (one_of spot itself)
+      (sym (ap (λ (s : Seeker). mount_for t.nodes t.mounts s root spot.path) (itself_seeks call spot itself)) ∙ sym (way_mount call spot) ∙ own.by)
+      own.there in
       let rows = λ (u n : ℕ). map (λ (other : MountRow). if is_mount_of u n other then change old else other) t.mounts in
       let put_there : mount_row t.mounts (change old).user (change old).node ≡ Some old =
       (λ i. mount_row t.mounts (user old i) (node old i)) ∙ there in
@@ -398,19 +400,6 @@ module _ (call : Call) (row : UserRow) (sound : AreSound call.state.tables) (is 
   stored_fits by name size (Missing depth) needs = same_fits t needs (OneOther call) sound
   stored_fits by name size place needs = same_fits t needs (OneOther call) sound
 
-  -- a free name is at the end of no mount's own path
-  free_other : (spot : Spot) (folder : ℕ) → found call spot ≡ Free folder → (way_of call spot).itself ≡ false
-  free_other spot folder leads = here (mount_of call spot) leads
-    where
-      one : (path : List (List ℕ)) (mount : ℕ) → (way_by t.nodes root path (Some mount)).place ≡ Free folder → is_one path ≡ false
-      one [] mount leads = refl
-      one (name ∷ []) mount leads = absurd (cc)
-      one (name ∷ other ∷ names) mount leads = refl
-
-      here : (mount : Option ℕ) → (way_by t.nodes root spot.path mount).place ≡ Free folder → (way_by t.nodes root spot.path mount).itself ≡ false
-      here None leads = refl
-      here (Some mount) leads = one spot.path mount leads
-
   made_fits : (spot : Spot) (place : Found) → Reached spot → found call spot ≡ place
       → FitsCall (needs_in t.nodes root (way_of call spot)) (changed t call.now (made_folder t call.now (last_name spot) (Some place)))
   made_fits spot (Free folder) reached leads =
@@ -418,8 +407,8 @@ module _ (call : Call) (row : UserRow) (sound : AreSound call.state.tables) (is 
       let made = changed t call.now (made_folder t call.now name (Some (Free folder))) in
       let way = way_of call spot in
       let need = need_of act.Create folder way.mount in
-      let slot = slot_known call spot row sound is folder reached leads in
-      let asked : needs_in t.nodes root way ≡ need ∷ [] = rw (free_other spot folder leads, leads) refl in
+      let slot = slot_known call spot sound is folder reached leads in
+      let asked : needs_in t.nodes root way ≡ need ∷ [] = rw (free_no_mount call spot sound is folder leads, leads) refl in
       subst (λ (needs : List Need). FitsCall needs made) (sym asked)
       (added_fits t made call.now folder name Folder [] (need ∷ []) (OneOther call) sound
       (added_rows t call.now folder name Folder [] None sound slot.folds slot.free (omega arith)) (first_needed need []))
@@ -428,7 +417,7 @@ module _ (call : Call) (row : UserRow) (sound : AreSound call.state.tables) (is 
   deletes_fit : (spot : Spot) (place : Found) → Reached spot → found call spot ≡ place
       → FitsCall (needs_at act.Delete (way_of call spot) ++ []) (changed t call.now (deleted (node_found place)))
   deletes_fit spot (At top) reached leads =
-      let there = way_there call spot row sound is top reached leads in
+      let there = way_there call spot sound is top reached leads in
       let need = need_of act.Delete top (way_of call spot).mount in
       let asked : needs_at act.Delete (way_of call spot) ++ [] ≡ need ∷ [] = rw leads refl in
       subst (λ (needs : List Need). FitsCall needs (changed t call.now (allowed.Delete top))) (sym asked)
@@ -463,14 +452,14 @@ module _ (call : Call) (row : UserRow) (sound : AreSound call.state.tables) (is 
     name = last_name target
 
     abbrev target_other : (way_of call target).itself ≡ false
-    target_other = no_mount call source target row sound is from_reached to_reached fits
+    target_other = no_mount call source target sound is from_reached to_reached fits
 
     abbrev copies : Transfer → List NodeRow
     copies transfer = copies_to t call.now transfer name
 
     abbrev copies_are : (transfer : Transfer) → transfer_of t.nodes places ≡ Some transfer → copy_limit t transfer ≡ None
         → KnownCopies t call.now (copies transfer) transfer.replaced
-    copies_are transfer e some = copies_known call source target row sound is from_reached to_reached transfer e fits some
+    copies_are transfer e some = copies_known call source target sound is from_reached to_reached transfer e fits some
 
     copied_fits : (transfer : Transfer) → transfer_of t.nodes places ≡ Some transfer → copy_limit t transfer ≡ None
         → FitsCall (copied_needs from to transfer) (changed t call.now (copied t call.now name (Some transfer)))
@@ -518,15 +507,17 @@ module _ (call : Call) (row : UserRow) (sound : AreSound call.state.tables) (is 
     unfolding copies_known
     carried_fits transfer b false other e inside owner some =
         let deep = (within t 0 (deepest_in t.nodes transfer.node transfer.folder) 0 0 some).deep in
-        let known = transfer_known call source target row sound is from_reached to_reached transfer e fits deep in
+        let known = transfer_known call source target sound is from_reached to_reached transfer e fits deep in
         let it = between t.nodes (found call source) (found call target) transfer e in
         moved_fits transfer name known from to b (λ same.
-        within_folder t root (way_of call source) (way_of call target) transfer sound known.outside it other target_other (inside ∙ same))
+        within_folder t root (way_of call source) (way_of call target) transfer sound known.outside it other target_other
+        (no_starts call source target sound is from_reached to_reached transfer.node it.source fits) (inside ∙ same))
     carried_fits transfer false true other e inside owner some = crossed_fits transfer e some
     carried_fits transfer true true other e inside owner some =
         let known = (copies_are transfer e some).known in
         let it = between t.nodes (found call source) (found call target) transfer e in
-        let above = within_folder t root (way_of call source) (way_of call target) transfer sound known.outside it other target_other inside in
+        let above = within_folder t root (way_of call source) (way_of call target) transfer sound known.outside it other target_other
+        (no_starts call source target sound is from_reached to_reached transfer.node it.source fits) inside in
         absurd (both_ways (crosses t.nodes transfer) (within_owner t transfer known.source.0 sound known.source.1 above) owner)
 
     moves_fit : (overwrite : Bool) → (way_of call source).itself ≡ false → option_and_then (carry_limit t) (transfer_of t.nodes places) ≡ None
@@ -549,7 +540,8 @@ module _ (call : Call) (row : UserRow) (sound : AreSound call.state.tables) (is 
         here (Some transfer) e some =
             let it = between t.nodes (found call source) (found call target) transfer e in
             subst (λ (needs : List Need). FitsCall needs (changed t call.now (moved t call.now name (Some transfer))))
-            (sym (move_needs t.nodes root source target overwrite (way_of call source) (way_of call target) transfer within it target_other refl))
+            (sym (move_needs t.nodes root source target overwrite (way_of call source) (way_of call target) transfer within it target_other
+            (no_starts call source target sound is from_reached to_reached transfer.node it.source fits).1 refl))
             (carried_fits transfer within (crosses t.nodes transfer) other e refl refl some)
 
     copies_fit : (overwrite : Bool) → option_and_then (copy_limit t) (transfer_of t.nodes places) ≡ None
@@ -562,7 +554,8 @@ module _ (call : Call) (row : UserRow) (sound : AreSound call.state.tables) (is 
         here (Some transfer) e some =
             let it = between t.nodes (found call source) (found call target) transfer e in
             subst (λ (needs : List Need). FitsCall needs (changed t call.now (copied t call.now name (Some transfer))))
-            (sym (copy_needs t.nodes root source target overwrite (way_of call source) (way_of call target) transfer it target_other))
+            (sym (copy_needs t.nodes root source target overwrite (way_of call source) (way_of call target) transfer it target_other
+            (no_starts call source target sound is from_reached to_reached transfer.node it.source fits).1))
             (copied_fits transfer e some)
 
   move_fits : (source target : Spot) (overwrite b : Bool) → call.request.wanted ≡ Move source target overwrite → (way_of call source).itself ≡ b
@@ -677,8 +670,8 @@ begin_allowed : (s : State) (e : Entry) (words : Words) (request : Request) (act
 begin_allowed s e words request act begins sound may is other =
     let call = call_of s e.seat e.moment words request in
     let passes = call_passes call act is in
-    let row = has_row call passes.0.token in
-    let fits = begin_fits call row.0 sound.rows row.1 request.wanted refl other (wanted_passes call may passes.0) in
+    let wants = wanted_passes call may passes.0 in
+    let fits = begin_fits call sound.rows (has_asker call passes.0.token wants.place.linked) request.wanted refl other wants in
     allowed_so s e (Begin words request) (seeker_of call) (OneOther call) (changed s.tables e.moment act) refl
     (acts_pass (access_of s) call passes.0.acts)
     (subst (λ (a : Allowed). Fits s.tables (needed call) (OneOther call) (changed s.tables e.moment a)) passes.1 fits)

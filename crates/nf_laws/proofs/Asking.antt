@@ -10,7 +10,7 @@ use Rattle.std.proofs.lemmas.Option.{none-some, same_Some}
 use Rattle.nf_access.proofs.Granted.{any_is, granted_allows}
 use Rattle.nf_access.proofs.LookUps.{find_among, map_some}
 use Rattle.nf_access.specs.Access.{by_chains}
-use Rattle.nf_access.specs.Making.{is_again, is_part, is_self_share, passes_on}
+use Rattle.nf_access.specs.Making.{is_again, is_part, is_self_share, is_token_taken, passes_on}
 use Rattle.nf_access.specs.Mounts.{is_mounted}
 use Rattle.nf_access.specs.Shares.{ground_of, is_before, mask_of, names, receives, share_row}
 use Rattle.nf_base.specs.declared.perms.Act.TheVariants as act
@@ -34,6 +34,7 @@ use Rattle.nf_words.proofs.Asks.{live_is, named_there, none_broken}
 use Rattle.nf_words.proofs.Ensured.{each_new, each_of}
 use Rattle.nf_words.proofs.Ways.{bounded}
 use Rattle.nf_words.specs.Prelude.{access_of, AreSound, asker_of, Call, changed, ended_row, fault_of_ask, found, is_long, is_own, is_past, is_steered_by, is_widened, IsShareSound, kind_to, mount_of, mounts_for, new_share, node_found, nothing_done, offer_fault, offer_of, offered, parent_for, perms_after, put_mounts, raised, receiver_named, same_end, seeker_of, set_row, share_ended, share_line, share_made, share_set, share_shown, share_steered, share_told, shared, until_after, users_for, way_of, set_fault}
+use Rattle.nf_words.specs.Tokens.{link_token}
 use Rattle.nf_words.specs.declared.answer.Allowed.{Allowed}
 use Rattle.nf_words.specs.declared.answer.Allowed.TheVariants as allowed
 use Rattle.nf_words.specs.declared.answer.Report.{Report}
@@ -100,7 +101,7 @@ module _ (call : Call) (sound : AreSound call.state.tables) where
 
   passed_on : (spot : Spot) (offer : Offer) → offer.mount ≡ mount_of call spot → offer_fault access call offer ≡ None
       → IsPassedOn call spot (new_share access call offer) (new_share access call offer).parent
-  passed_on spot offer goes fits = here (is_own call offer) refl (none_broken _ _ _ _ _ _ fits).4
+  passed_on spot offer goes fits = here (is_own call offer) refl (none_broken _ _ _ _ _ _ _ fits).4
     where
       from : (o : Option ℕ) → parent_for access call offer ≡ o → is_none o ≡ false → IsPassedOn call spot (new_share access call offer) o
       from None e some = absurd (cc)
@@ -124,7 +125,7 @@ module _ (call : Call) (sound : AreSound call.state.tables) where
       (not_from_false (row.owner == user) other)
 
   -- a new share names the user to whom it is made, or the members of the group but for the owner
-  all_receive : (node : ℕ) (to : Receiver) (row : ShareRow) → row.kind ≡ kind_to to → is_self_share row row.kind ≡ false
+  all_receive : (node : ℕ) (to : Receiver) (row : ShareRow) → row.kind ≡ kind_to (link_token call.words) to → is_self_share row row.kind ≡ false
       → row.owner ≡ owner_of t.nodes node → ((user : ℕ) → to ≡ receiver.User user → is_some (user_row t.users user) ≡ true)
       → All (HasIt row) (users_for t.members (owner_of t.nodes node) to)
   all_receive node (receiver.User user) row is self owner there =
@@ -149,9 +150,10 @@ module _ (call : Call) (sound : AreSound call.state.tables) where
             (All-map (λ (user : ℕ). is_some (user_row t.users user) ≡ true) (λ (r : MemberRow). r.user) (filter (λ r. r.group == group) t.members)
             (All-filter (λ (r : MemberRow). r.group == group) (λ (r : MemberRow). is_some (user_row t.users r.user) ≡ true) t.members sound.members_there)) k d within,
       )
+  all_receive node receiver.Link row is self owner there = All-nil (HasIt row)
 
   -- and whoever receives it is one of them
-  each_receiver : (P : ℕ → Type 0) (node : ℕ) (to : Receiver) (row : ShareRow) (user : ℕ) → row.kind ≡ kind_to to → row.owner ≡ owner_of t.nodes node
+  each_receiver : (P : ℕ → Type 0) (node : ℕ) (to : Receiver) (row : ShareRow) (user : ℕ) → row.kind ≡ kind_to (link_token call.words) to → row.owner ≡ owner_of t.nodes node
       → All P (users_for t.members (owner_of t.nodes node) to) → receives t.members (User user) row ≡ true → P user
   each_receiver P node (receiver.User to) row user of owner all is =
       let parts = and_parts (names t.members row.kind user) (not (row.owner == user)) is in
@@ -162,21 +164,24 @@ module _ (call : Call) (sound : AreSound call.state.tables) where
       (ap (λ (k : ShareKind). names t.members k user) (sym of) ∙ parts.0)
       (not_from_false (user == owner_of t.nodes node) (ne_eqb user (owner_of t.nodes node) (λ same.
       both_ways (row.owner == user) (not-true (row.owner == user) parts.1) (eq-eqb row.owner user (owner ∙ sym same)))))
+  each_receiver P node receiver.Link row user of owner all is =
+      let parts = and_parts (names t.members row.kind user) (not (row.owner == user)) is in
+      absurd (both_ways (names t.members row.kind user) (ap (λ (k : ShareKind). names t.members k user) of) parts.0)
 
   -- what is offered makes a share, and mounts for all whom it names
   module _ (spot : Spot) (to : Sharee) (wanted until : Option ℕ) (asked : call.request.wanted ≡ Share (ask.New spot to wanted until))
       (node : ℕ) (leads : found call spot ≡ At node) (who : Receiver) (named : receiver_named t to ≡ Some who)
-      (fits : offer_fault access call (offer_of t.nodes (way_of call spot).mount wanted until node who) ≡ None) where
+      (fits : offer_fault access call (offer_of t.nodes (link_token call.words) (way_of call spot).mount wanted until node who) ≡ None) where
     abbrev offer : Offer
-    offer = offer_of t.nodes (way_of call spot).mount wanted until node who
+    offer = offer_of t.nodes (link_token call.words) (way_of call spot).mount wanted until node who
 
     abbrev row : ShareRow
     row = new_share access call offer
 
     abbrev faults : (is_root t.nodes node ≡ false) × (is_self_share row row.kind ≡ false) × (is_past call.now until ≡ false)
         × (list_any (is_again row call.now) t.shares ≡ false)
-        × (is_widened access call offer ≡ false) × (is_long t.shares row.parent ≡ false)
-    faults = none_broken _ _ _ _ _ _ fits
+        × (is_widened access call offer ≡ false) × (is_long t.shares row.parent ≡ false) × (is_token_taken t.shares row.kind ≡ false)
+    faults = none_broken _ _ _ _ _ _ _ fits
 
     one : SharesOne call row
     one =
@@ -189,6 +194,7 @@ module _ (call : Call) (sound : AreSound call.state.tables) where
           receiver = who;
           named = named;
           kind = refl;
+          token = faults.6;
           allowed = refl;
           passed_on = passed_on spot offer (way_mount call spot) fits;
           ends = refl;
@@ -245,6 +251,10 @@ module _ (call : Call) (sound : AreSound call.state.tables) where
               where
                 apart : (a : ℕ) → receiver.Group a ≢ receiver.User user
                 apart a e = cc
+        named_user sharee.Link is user same = absurd (apart (same_Some receiver.Link who is ∙ same))
+          where
+            apart : receiver.Link ≢ receiver.User user
+            apart e = cc
 
         all_named : All Named pairs
         all_named =
@@ -273,7 +283,7 @@ module _ (call : Call) (sound : AreSound call.state.tables) where
   offers spot to wanted until asked fits = here (found call spot) (receiver_named t to) refl refl fits
     where
       of : Found → Option Receiver → Option Offer
-      of place to = option_and_then (λ node. option_map (offer_of t.nodes (way_of call spot).mount wanted until node) to) (node_found place)
+      of place to = option_and_then (λ node. option_map (offer_of t.nodes (link_token call.words) (way_of call spot).mount wanted until node) to) (node_found place)
 
       here : (place : Found) (receiver : Option Receiver) → found call spot ≡ place → receiver_named t to ≡ receiver
           → option_and_then (offer_fault access call) (of place receiver) ≡ None

@@ -19,6 +19,7 @@ pub mod Given
 pub mod Gone
 pub mod Held
 pub mod Lines
+pub mod Links
 pub mod Leaning
 pub mod Lists
 pub mod Locking

@@ -31,17 +31,18 @@ use Rattle.nf_defs.proofs.Sorted.{lt_trans}
 use Rattle.nf_defs.proofs.Walks.{children_are, is_of_inside}
 use Rattle.nf_defs.specs.Prelude.{Access, child_of, children_of, folder_of, is_in, node_row, Tables, user_row}
 use Rattle.nf_defs.specs.declared.Grant.{Grant}
-use Rattle.nf_defs.specs.declared.Seeker.TheVariants.{User}
+use Rattle.nf_defs.specs.declared.Seeker.{Seeker}
+use Rattle.nf_defs.specs.declared.Seeker.TheVariants.{User, Link}
 use Rattle.nf_laws.proofs.Children.{children_by_name}
 use Rattle.nf_laws.proofs.Climbs.{some_there}
 use Rattle.nf_laws.proofs.Rows.{each_fails, folder_there, found_is, row_id, row_is}
 use Rattle.nf_laws.proofs.Upwards.{owners_there}
 use Rattle.nf_laws.specs.Listings.{ChildrenAreListed, IsMountShown, LinesAreByName, LinesAreThese, MountsAreListed, PermissionsAreActs}
 use Rattle.nf_laws.specs.Tree.{name_of}
-use Rattle.nf_words.proofs.Starts.{row_of_caller}
+use Rattle.nf_words.proofs.Starts.{row_of_caller, unlinked_root}
 use Rattle.nf_words.proofs.Ways.{bounded, reached_there}
 use Rattle.nf_words.specs.Listing.{size_of}
-use Rattle.nf_words.specs.Prelude.{access_of, AreMountsApart, AreSound, asker_of, bits_by, Call, caller_row, child_line, child_lines, granted_by, is_line_before, is_owner, IsMountSound, IsPlaceSound, IsSound, line_of, listing_of, may_by, mount_line, mount_lines, put_line, put_lines, root_of, State, user_of}
+use Rattle.nf_words.specs.Prelude.{access_of, AreMountsApart, AreSound, asker_of, bits_by, Call, caller_row, child_line, child_lines, granted_by, is_by_link, is_line_before, is_ones_own, is_owner, IsMountSound, IsPlaceSound, IsSound, line_of, linked_of, listing_of, may_by, mount_line, mount_lines, put_line, put_lines, root_of, seeker_of, State, user_of}
 use Rattle.nf_words.specs.declared.listing.ListingLine.{ListingLine}
 
 -- ---- lines, one for one
@@ -69,38 +70,38 @@ module _ {X : Type 0} (lined : X → Option ListingLine) (number : X → ℕ) (n
       rw h.is (cc (h.named, rest))
 
 -- the line of a node that is there
-line_there : (t : Tables) (user granted node : ℕ) (name : List ℕ) (row : NodeRow) → AreSound t → node_row t.nodes node ≡ Some row
-    → HasLine (line_of t user granted name) (λ row. row.id) (λ row. name) row
-line_there t user granted node name row sound there =
+line_there : (t : Tables) (seeker : Seeker) (granted node : ℕ) (name : List ℕ) (row : NodeRow) → AreSound t → node_row t.nodes node ≡ Some row
+    → HasLine (line_of t seeker granted name) (λ row. row.id) (λ row. name) row
+line_there t seeker granted node name row sound there =
     let some = found_is (λ (row : NodeRow). IsSome (user_row t.users row.owner)) (λ row. row.id == node) t.nodes row (owners_there t sound) there in
     let owner = some_there (user_row t.users row.owner) some.1 in
     record { line = _; is = ap (option_map _) owner.1; id = refl; named = refl }
 
 -- ---- those of children
 
-module _ (t : Tables) (user granted folder : ℕ) (sound : AreSound t) where
-  children_lined : All (HasLine (child_line t user granted) (λ node. node) (name_of t.nodes)) (children_of t.nodes folder)
+module _ (t : Tables) (seeker : Seeker) (granted folder : ℕ) (sound : AreSound t) where
+  children_lined : All (HasLine (child_line t seeker granted) (λ node. node) (name_of t.nodes)) (children_of t.nodes folder)
   children_lined k d within =
       let is = children_are t.nodes folder sound.rising k d within in
       let node : ℕ = get_or (children_of t.nodes folder) k d in
-      let h = line_there t user granted node is.row.name is.row sound is.there in
+      let h = line_there t seeker granted node is.row.name is.row sound is.there in
       record {
         line = h.line;
-        is = ap (option_and_then (λ row. line_of t user granted row.name row)) is.there ∙ h.is;
+        is = ap (option_and_then (λ row. line_of t seeker granted row.name row)) is.there ∙ h.is;
         id = h.id ∙ row_id t.nodes node is.row is.there;
         named = h.named ∙ sym (ap (λ (o : Option NodeRow). option_map_or (λ row. row.name) o []) is.there);
       }
 
-  child_names : map (λ line. line.name) (child_lines t user granted folder) ≡ map (name_of t.nodes) (children_of t.nodes folder)
-  child_names = names_of (child_line t user granted) (λ node. node) (name_of t.nodes) (children_of t.nodes folder) children_lined
+  child_names : map (λ line. line.name) (child_lines t seeker granted folder) ≡ map (name_of t.nodes) (children_of t.nodes folder)
+  child_names = names_of (child_line t seeker granted) (λ node. node) (name_of t.nodes) (children_of t.nodes folder) children_lined
 
 same_each : (xs : List ℕ) → map (λ x. x) xs ≡ xs
 same_each [] = refl
 same_each (x ∷ xs) = ap (λ (ys : List ℕ). x ∷ ys) (same_each xs)
 
 pub children_listed : ChildrenAreListed
-children_listed t user granted folder sound =
-    ids_of (child_line t user granted) (λ node. node) (name_of t.nodes) (children_of t.nodes folder) (children_lined t user granted folder sound)
+children_listed t seeker granted folder sound =
+    ids_of (child_line t seeker granted) (λ node. node) (name_of t.nodes) (children_of t.nodes folder) (children_lined t seeker granted folder sound)
     ∙ same_each (children_of t.nodes folder)
 
 -- ---- those of mounts
@@ -155,18 +156,18 @@ module _ (s : State) (now user : ℕ) (sound : IsSound s) where
       let row : MountRow = get_or shown k d in
       let is = reached_mount row (filter_passes is_listed t.mounts k d within) in
       let there = reached_there t (User user) now row.node sound.rows (rw is.reached refl) in
-      let h = line_there t row.user (bits_by now (access_of s (User row.user) row.node)) row.node row.name there.row sound.rows there.there in
+      let h = line_there t (User row.user) (bits_by now (access_of s (User row.user) row.node)) row.node row.name there.row sound.rows there.there in
       record {
         line = h.line;
-        is = ap (option_and_then (line_of t row.user (bits_by now (access_of s (User row.user) row.node)) row.name)) there.there ∙ h.is;
+        is = ap (option_and_then (line_of t (User row.user) (bits_by now (access_of s (User row.user) row.node)) row.name)) there.there ∙ h.is;
         id = h.id ∙ row_id t.nodes row.node there.row there.there;
         named = h.named;
       }
 
-  mount_names : map (λ line. line.name) (mount_lines (access_of s) t now user) ≡ map (λ row. row.name) shown
+  mount_names : map (λ line. line.name) (mount_lines (access_of s) t now (User user)) ≡ map (λ row. row.name) shown
   mount_names = names_of (mount_line (access_of s) t now) (λ row. row.node) (λ row. row.name) shown mounts_lined
 
-  mount_nodes : map (λ line. line.id) (mount_lines (access_of s) t now user) ≡ map (λ row. row.node) shown
+  mount_nodes : map (λ line. line.id) (mount_lines (access_of s) t now (User user)) ≡ map (λ row. row.node) shown
   mount_nodes = ids_of (mount_line (access_of s) t now) (λ row. row.node) (λ row. row.name) shown mounts_lined
 
 pub mounts_listed : MountsAreListed
@@ -216,10 +217,10 @@ pub lines_these : LinesAreThese
 lines_these access call mount folder line = here (folder == root_of call) refl
   where
     children : List ListingLine
-    children = child_lines call.state.tables (asker_of call) (granted_by access (asker_of call) call.now mount) folder
+    children = child_lines call.state.tables (seeker_of call) (granted_by access (seeker_of call) call.now mount) folder
 
     mounts : List ListingLine
-    mounts = mount_lines access call.state.tables call.now (asker_of call)
+    mounts = mount_lines access call.state.tables call.now (seeker_of call)
 
     here : (b : Bool) → (folder == root_of call) ≡ b
         → Contains (put_lines (if b then mounts else []) children) line ↔ (Contains children line ⊎ ((folder ≡ root_of call) × Contains mounts line))
@@ -271,10 +272,10 @@ of_pairs R f xs pairs i j d before within =
     (pairs i j (f d) before (omega (arith, within, length-map xs f))))
 
 -- the lines of a folder's children are by name
-pub children_rise : (t : Tables) (user granted folder : ℕ) → AreSound t → AllPairs Before (child_lines t user granted folder)
-children_rise t user granted folder sound i j d before within =
-    ap is_lt (of_pairs (λ (a b : List ℕ). slice_cmp nat_cmp a b ≡ Less) (λ (line : ListingLine). line.name) (child_lines t user granted folder)
-    (subst (AllPairs (λ (a b : List ℕ). slice_cmp nat_cmp a b ≡ Less)) (sym (child_names t user granted folder sound))
+pub children_rise : (t : Tables) (seeker : Seeker) (granted folder : ℕ) → AreSound t → AllPairs Before (child_lines t seeker granted folder)
+children_rise t seeker granted folder sound i j d before within =
+    ap is_lt (of_pairs (λ (a b : List ℕ). slice_cmp nat_cmp a b ≡ Less) (λ (line : ListingLine). line.name) (child_lines t seeker granted folder)
+    (subst (AllPairs (λ (a b : List ℕ). slice_cmp nat_cmp a b ≡ Less)) (sym (child_names t seeker granted folder sound))
     (pairs_of (λ (a b : List ℕ). slice_cmp nat_cmp a b ≡ Less) (name_of t.nodes) (children_of t.nodes folder) (children_by_name.sorted t folder sound)))
     i j d before within)
 
@@ -357,27 +358,29 @@ module _ (call : Call) (sound : IsSound call.state) where
   all = call.state.tables
 
   -- the name of a mount of the caller's is that of no child of the root
-  mount_unnamed : (row : MountRow) → IsMountSound all row → row.user ≡ asker_of call → row.left ≡ false → IsUnnamed all (root_of call) row.name
-  mount_unnamed row fine mine shown = here (caller_row call) refl
+  mount_unnamed : is_by_link call.request.caller ≡ false → (row : MountRow) → IsMountSound all row → row.user ≡ asker_of call → row.left ≡ false
+      → IsUnnamed all (root_of call) row.name
+  mount_unnamed other row fine mine shown = here (caller_row call) refl
     where
       here : (o : Option UserRow) → caller_row call ≡ o → IsUnnamed all (root_of call) row.name
       here None none =
-          subst (λ (n : ℕ). IsUnnamed all n row.name) (sym (ap (λ (o : Option UserRow). option_map_or (λ row. row.root) o 0) none))
+          subst (λ (n : ℕ). IsUnnamed all n row.name) (sym (unlinked_root call other ∙ ap (λ (o : Option UserRow). option_map_or (λ row. row.root) o 0) none))
           (nothing_inside all row.name sound.rows)
       here (Some user) is =
           let asks : user.id ≡ asker_of call = sym (ap (λ (o : Option UserRow). option_map_or (λ row. row.id) o 0) is) in
           let known = (row_of_caller all.users (user_of call) user is).1 in
           let root : root_of call ≡ root_folder all.users row.user =
-          ap (λ (o : Option UserRow). option_map_or (λ row. row.root) o 0) (is ∙ sym known) ∙ ap (root_folder all.users) (asks ∙ sym mine) in
+          unlinked_root call other ∙ ap (λ (o : Option UserRow). option_map_or (λ row. row.root) o 0) (is ∙ sym known) ∙ ap (root_folder all.users) (asks ∙ sym mine) in
           subst (λ (n : ℕ). IsUnnamed all n row.name) (sym root)
           (free_unnamed all (root_folder all.users row.user) row.name sound.rows (fine.free shown))
 
-  module _ (granted folder : ℕ) where
+  -- the lines of a user who asks
+  module _ (unlinked : is_by_link call.request.caller ≡ false) (granted folder : ℕ) where
     abbrev children : List ListingLine
-    children = child_lines all (asker_of call) granted folder
+    children = child_lines all (User (asker_of call)) granted folder
 
     abbrev mounts : List ListingLine
-    mounts = mount_lines (access_of call.state) all call.now (asker_of call)
+    mounts = mount_lines (access_of call.state) all call.now (User (asker_of call))
 
     abbrev rows : List MountRow
     rows = listed (access_of call.state) call.now all.mounts (asker_of call)
@@ -404,7 +407,7 @@ module _ (call : Call) (sound : IsSound call.state) where
     unnamed_apart : (name : List ℕ) → IsUnnamed all folder name → IsApart name
     unnamed_apart name unnamed =
         all_of (λ (other : List ℕ). name ≢ other) (λ (line : ListingLine). line.name) children
-        (subst (All (λ (other : List ℕ). name ≢ other)) (sym (child_names all (asker_of call) granted folder sound.rows))
+        (subst (All (λ (other : List ℕ). name ≢ other)) (sym (child_names all (User (asker_of call)) granted folder sound.rows))
         (All-map (λ (other : List ℕ). name ≢ other) (name_of all.nodes) (children_of all.nodes folder) unnamed))
 
     mounts_apart : folder ≡ root_of call → All (λ (line : ListingLine). IsApart line.name) mounts
@@ -416,21 +419,41 @@ module _ (call : Call) (sound : IsSound call.state) where
         let one = is_own k d within in
         let fine = All-filter (is_listed call.state call.now (asker_of call) sound) (IsMountSound all) all.mounts sound.rows.others.mounts k d within in
         unnamed_apart (get_or rows k d).name
-        (subst (λ (n : ℕ). IsUnnamed all n (get_or rows k d).name) (sym root) (mount_unnamed (get_or rows k d) fine one.of_user one.left)))))
+        (subst (λ (n : ℕ). IsUnnamed all n (get_or rows k d).name) (sym root) (mount_unnamed unlinked (get_or rows k d) fine one.of_user one.left)))))
 
     rises : (b : Bool) → (folder == root_of call) ≡ b → AllPairs Before (put_lines (if b then mounts else []) children)
     rises true e =
-        puts_rise mounts children (children_rise all (asker_of call) granted folder sound.rows) mounts_differ
+        puts_rise mounts children (children_rise all (User (asker_of call)) granted folder sound.rows) mounts_differ
         (λ a b mount child.
         All-contains (λ (line : ListingLine). a.name ≢ line.name) children b
         (All-contains (λ (line : ListingLine). IsApart line.name) mounts a (mounts_apart (eqb-true folder (root_of call) e)) mount) child)
-    rises false e = children_rise all (asker_of call) granted folder sound.rows
+    rises false e = children_rise all (User (asker_of call)) granted folder sound.rows
+
+  -- the lines of whoever it is; whoever asks by a link has no mounts
+  abbrev lines_for : Option ℕ → ℕ → Seeker → List ListingLine
+  lines_for mount folder seeker =
+      put_lines (if folder == root_of call then mount_lines (access_of call.state) all call.now seeker else [])
+      (child_lines all seeker (granted_by (access_of call.state) seeker call.now mount) folder)
+
+  all_rise : (mount : Option ℕ) (folder : ℕ) (linked : Bool) → is_by_link call.request.caller ≡ linked
+      → AllPairs Before (lines_for mount folder (if linked then Link (linked_of call) else User (asker_of call)))
+  all_rise mount folder false unlinked =
+      rises unlinked (granted_by (access_of call.state) (User (asker_of call)) call.now mount) folder (folder == root_of call) refl
+  all_rise mount folder true linked = here (folder == root_of call)
+    where
+      children : List ListingLine
+      children =
+          child_lines all (Link (linked_of call)) (granted_by (access_of call.state) (Link (linked_of call)) call.now mount) folder
+
+      here : (b : Bool) → AllPairs Before (put_lines (if b then [] else []) children)
+      here true = children_rise all (Link (linked_of call)) (granted_by (access_of call.state) (Link (linked_of call)) call.now mount) folder sound.rows
+      here false = children_rise all (Link (linked_of call)) (granted_by (access_of call.state) (Link (linked_of call)) call.now mount) folder sound.rows
 
 pub lines_by_name : LinesAreByName
 lines_by_name call mount folder sound i j d before within =
     let lines = listing_of (access_of call.state) call mount folder in
     is_less (slice_cmp nat_cmp (get_or lines i d).name (get_or lines j d).name)
-    (rises call sound (granted_by (access_of call.state) (asker_of call) call.now mount) folder (folder == root_of call) refl i j d before within)
+    (all_rise call sound mount folder (is_by_link call.request.caller) refl i j d before within)
 
 -- ---- what may be done
 
@@ -515,28 +538,32 @@ none_have Create = refl
 none_have Delete = refl
 none_have Share = refl
 
-module _ (access : Access) (t : Tables) (user now : ℕ) (act : Act) where
-  abbrev granted : Option ℕ → Bool
-  granted mount = option_map_or (λ shared. list_any (allows now act) (access (User user) shared)) mount false
+-- the node of a row is the seeker's own exactly where the row says so
+own_is : (nodes : List NodeRow) (seeker : Seeker) (row : NodeRow) → node_row nodes row.id ≡ Some row
+    → is_owner nodes seeker row.id ≡ is_ones_own seeker row
+own_is nodes (User user) row there = ap (λ (o : Option NodeRow). option_map_or (λ row. row.owner == user) o false) there
+own_is nodes (Link share) row there = refl
 
-  granted_have : (mount : Option ℕ) → has (granted_by access user now mount) act ≡ granted mount
+module _ (access : Access) (t : Tables) (seeker : Seeker) (now : ℕ) (act : Act) where
+  abbrev granted : Option ℕ → Bool
+  granted mount = option_map_or (λ shared. list_any (allows now act) (access seeker shared)) mount false
+
+  granted_have : (mount : Option ℕ) → has (granted_by access seeker now mount) act ≡ granted mount
   granted_have None = none_have act
-  granted_have (Some shared) = grants_have now (access (User user) shared) act
+  granted_have (Some shared) = grants_have now (access seeker shared) act
 
   abbrev IsActs : Option ℕ → ListingLine → Type 0
-  IsActs mount line = has line.permissions act ≡ may_by access t.nodes (User user) now act line.id mount
+  IsActs mount line = has line.permissions act ≡ may_by access t.nodes seeker now act line.id mount
 
-  -- the line of a node has what the user may do by a mount, where it has that of what others own
+  -- the line of a node has what the seeker may do by a mount, where it has that of what others own
   line_acts : (node granted_bits : ℕ) (mount : Option ℕ) (name : List ℕ) (row : NodeRow) (line : ListingLine) → node_row t.nodes node ≡ Some row
-      → has granted_bits act ≡ granted mount → line_of t user granted_bits name row ≡ Some line → IsActs mount line
+      → has granted_bits act ≡ granted mount → line_of t seeker granted_bits name row ≡ Some line → IsActs mount line
   line_acts node granted_bits mount name row line there grants is = here (user_row t.users row.owner) is
     where
-      own : is_owner t.nodes (User user) row.id ≡ (row.owner == user)
-      own =
-          ap (λ (o : Option NodeRow). option_map_or (λ row. row.owner == user) o false)
-          (ap (node_row t.nodes) (row_id t.nodes node row there) ∙ there)
+      own : is_owner t.nodes seeker row.id ≡ is_ones_own seeker row
+      own = own_is t.nodes seeker row (ap (node_row t.nodes) (row_id t.nodes node row there) ∙ there)
 
-      by_owner : (b : Bool) → (row.owner == user) ≡ b → has (if b then 31 else granted_bits) act ≡ (b || granted mount)
+      by_owner : (b : Bool) → is_ones_own seeker row ≡ b → has (if b then 31 else granted_bits) act ≡ (b || granted mount)
       by_owner true e = all_have act
       by_owner false e = grants
 
@@ -546,24 +573,24 @@ module _ (access : Access) (t : Tables) (user now : ℕ) (act : Act) where
         kind = row.kind;
         name = name;
         owner = owner.name;
-        permissions = if row.owner == user then 31 else granted_bits;
+        permissions = if is_ones_own seeker row then 31 else granted_bits;
         size = size_of t.nodes row.id;
       }) o ≡ Some line → IsActs mount line
       here None is = absurd (cc)
       here (Some owner) is =
           subst (IsActs mount) (same_Some _ line is)
-          (by_owner (row.owner == user) refl ∙ ap (λ (b : Bool). b || granted mount) (sym own))
+          (by_owner (is_ones_own seeker row) refl ∙ ap (λ (b : Bool). b || granted mount) (sym own))
 
-  child_acts : (mount : Option ℕ) (node : ℕ) (line : ListingLine) → child_line t user (granted_by access user now mount) node ≡ Some line
+  child_acts : (mount : Option ℕ) (node : ℕ) (line : ListingLine) → child_line t seeker (granted_by access seeker now mount) node ≡ Some line
       → IsActs mount line
   child_acts mount node line is = here (node_row t.nodes node) refl is
     where
       here : (o : Option NodeRow) → node_row t.nodes node ≡ o
-          → option_and_then (λ row. line_of t user (granted_by access user now mount) row.name row) o ≡ Some line → IsActs mount line
+          → option_and_then (λ row. line_of t seeker (granted_by access seeker now mount) row.name row) o ≡ Some line → IsActs mount line
       here None e is = absurd (cc)
-      here (Some row) e is = line_acts node (granted_by access user now mount) mount row.name row line e (granted_have mount) is
+      here (Some row) e is = line_acts node (granted_by access seeker now mount) mount row.name row line e (granted_have mount) is
 
-  line_id : (granted_bits : ℕ) (name : List ℕ) (row : NodeRow) (line : ListingLine) → line_of t user granted_bits name row ≡ Some line
+  line_id : (granted_bits : ℕ) (name : List ℕ) (row : NodeRow) (line : ListingLine) → line_of t seeker granted_bits name row ≡ Some line
       → line.id ≡ row.id
   line_id granted_bits name row line is = here (user_row t.users row.owner) is
     where
@@ -573,40 +600,47 @@ module _ (access : Access) (t : Tables) (user now : ℕ) (act : Act) where
         kind = row.kind;
         name = name;
         owner = owner.name;
-        permissions = if row.owner == user then 31 else granted_bits;
+        permissions = if is_ones_own seeker row then 31 else granted_bits;
         size = size_of t.nodes row.id;
       }) o ≡ Some line → line.id ≡ row.id
       here None is = absurd (cc)
       here (Some owner) is = sym (ap (λ (line : ListingLine). line.id) (same_Some _ line is))
 
-  -- of a mount of the user's
-  mount_acts : (mount : MountRow) (line : ListingLine) → mount.user ≡ user → mount_line access t now mount ≡ Some line → IsActs (Some line.id) line
+  -- of a mount of the seeker's
+  mount_acts : (mount : MountRow) (line : ListingLine) → User mount.user ≡ seeker → mount_line access t now mount ≡ Some line
+      → IsActs (Some line.id) line
   mount_acts mount line mine is = here (node_row t.nodes mount.node) refl is
     where
       here : (o : Option NodeRow) → node_row t.nodes mount.node ≡ o
-          → option_and_then (line_of t mount.user (bits_by now (access (User mount.user) mount.node)) mount.name) o ≡ Some line
+          → option_and_then (line_of t (User mount.user) (bits_by now (access (User mount.user) mount.node)) mount.name) o ≡ Some line
           → IsActs (Some line.id) line
       here None e is = absurd (cc)
       here (Some row) e is =
-          let given = bits_by now (access (User user) mount.node) in
-          let lined : line_of t user given mount.name row ≡ Some line =
-          subst (λ (n : ℕ). line_of t n (bits_by now (access (User n) mount.node)) mount.name row ≡ Some line) mine is in
+          let given = bits_by now (access seeker mount.node) in
+          let lined : line_of t seeker given mount.name row ≡ Some line =
+          subst (λ (s : Seeker). line_of t s (bits_by now (access s mount.node)) mount.name row ≡ Some line) mine is in
           let id : line.id ≡ mount.node = line_id given mount.name row line lined ∙ row_id t.nodes mount.node row e in
           subst (λ (n : ℕ). IsActs (Some n) line) (sym id)
-          (line_acts mount.node given (Some mount.node) mount.name row line e (grants_have now (access (User user) mount.node) act) lined)
+          (line_acts mount.node given (Some mount.node) mount.name row line e (grants_have now (access seeker mount.node) act) lined)
+
+-- of all mounts that are listed; a link has none
+mounts_act : (access : Access) (t : Tables) (seeker : Seeker) (now : ℕ) (act : Act)
+    → All (λ (line : ListingLine). IsActs access t seeker now act (Some line.id) line) (mount_lines access t now seeker)
+mounts_act access t (Link share) now act = All-nil (λ (line : ListingLine). IsActs access t (Link share) now act (Some line.id) line)
+mounts_act access t (User user) now act =
+    each_had (λ (row : MountRow). User row.user ≡ User user) (λ (line : ListingLine). IsActs access t (User user) now act (Some line.id) line)
+    (mount_line access t now) (mount_acts access t (User user) now act) (listed access now t.mounts user)
+    (λ k d within.
+    let row : MountRow = get_or (listed access now t.mounts user) k d in
+    let reached = list_any (is_open now) (access (User user) row.node) in
+    let passes = and_parts (is_shown_to user row) reached
+    (filter_passes (λ row. is_shown_to user row && list_any (is_open now) (access (User user) row.node)) t.mounts k d within) in
+    ap User (eqb-true row.user user (and_parts (row.user == user) (not row.left) passes.0).0))
 
 pub permissions_acts : PermissionsAreActs
 permissions_acts = record {
-  children = λ access t user now folder mount act.
-      each_had (λ (node : ℕ). Unit {0}) (IsActs access t user now act mount) (child_line t user (granted_by access user now mount))
-      (λ node line some is. child_acts access t user now act mount node line is) (children_of t.nodes folder) (λ k d within. tt);
-  mounts = λ access t user now act.
-      each_had (λ (row : MountRow). row.user ≡ user) (λ (line : ListingLine). IsActs access t user now act (Some line.id) line)
-      (mount_line access t now) (mount_acts access t user now act) (listed access now t.mounts user)
-      (λ k d within.
-      let row : MountRow = get_or (listed access now t.mounts user) k d in
-      let reached = list_any (is_open now) (access (User user) row.node) in
-      let passes = and_parts (is_shown_to user row) reached
-      (filter_passes (λ row. is_shown_to user row && list_any (is_open now) (access (User user) row.node)) t.mounts k d within) in
-      eqb-true row.user user (and_parts (row.user == user) (not row.left) passes.0).0);
+  children = λ access t seeker now folder mount act.
+      each_had (λ (node : ℕ). Unit {0}) (IsActs access t seeker now act mount) (child_line t seeker (granted_by access seeker now mount))
+      (λ node line some is. child_acts access t seeker now act mount node line is) (children_of t.nodes folder) (λ k d within. tt);
+  mounts = mounts_act;
 }

@@ -14,8 +14,8 @@ use Rattle.nf_laws.proofs.Climbs.{holds_some}
 use Rattle.nf_laws.proofs.Paths.{leads_own, root_own}
 use Rattle.nf_laws.proofs.Rows.{folder_there, row_is}
 use Rattle.nf_laws.specs.Access.{Owns}
-use Rattle.nf_words.proofs.Starts.{row_of_caller}
-use Rattle.nf_words.specs.Prelude.{AreSound, asker_of, Call, caller_row, is_owner, may_by, root_of, seeker_of, user_of}
+use Rattle.nf_words.proofs.Starts.{row_of_caller, unlinked_root, user_root, user_seeks}
+use Rattle.nf_words.specs.Prelude.{AreSound, asker_of, Call, caller_row, is_by_link, is_owner, may_by, root_of, seeker_of, user_of}
 
 -- ---- who may
 
@@ -46,26 +46,27 @@ none_led t _ _ _ row sound zero (stays at) there = none_zero t row sound (ap (no
 none_led t _ _ _ row sound zero (leads_on at name names child node folds is place named led) there =
     let folder = folder_there t.nodes at folds in none_zero t folder.0 sound (ap (node_row t.nodes) (sym zero) ∙ folder.1)
 
--- what a path leads to from the caller's root is there, and so is the caller's row
+-- what a path leads to from the root of who doesn't ask by a link is there, and so is the caller's row
 pub led_row : (call : Call) (names : List (List ℕ)) (node : ℕ) (row : NodeRow) → AreSound call.state.tables
     → Leads call.state.tables.nodes (root_of call) names node → node_row call.state.tables.nodes node ≡ Some row
-    → (user : UserRow) × (caller_row call ≡ Some user)
-led_row call names node row sound led there = here (caller_row call) refl
+    → is_by_link call.request.caller ≡ false → (user : UserRow) × (caller_row call ≡ Some user)
+led_row call names node row sound led there other = here (caller_row call) refl
   where
     here : (o : Option UserRow) → caller_row call ≡ o → (user : UserRow) × (caller_row call ≡ Some user)
     here (Some user) is = (user, is)
     here None is =
-        absurd (none_led call.state.tables (root_of call) names node row sound (ap (λ (o : Option UserRow). option_map_or (λ row. row.root) o 0) is) led there)
+        absurd (none_led call.state.tables (root_of call) names node row sound
+        (unlinked_root call other ∙ ap (λ (o : Option UserRow). option_map_or (λ row. row.root) o 0) is) led there)
 
 -- and the caller owns it
 pub led_own : (call : Call) (names : List (List ℕ)) (node : ℕ) (row : NodeRow) → AreSound call.state.tables
     → Leads call.state.tables.nodes (root_of call) names node → node_row call.state.tables.nodes node ≡ Some row
-    → Owns call.state.tables.nodes (seeker_of call) node
-led_own call names node row sound led there =
+    → is_by_link call.request.caller ≡ false → Owns call.state.tables.nodes (seeker_of call) node
+led_own call names node row sound led there other =
     let t = call.state.tables in
-    let user = led_row call names node row sound led there in
+    let user = led_row call names node row sound led there other in
     let known = row_of_caller t.users (user_of call) user.0 user.1 in
-    let root : root_of call ≡ user.0.root = ap (λ (o : Option UserRow). option_map_or (λ row. row.root) o 0) user.1 in
+    let root : root_of call ≡ user.0.root = user_root call user.0 user.1 in
     let asker : asker_of call ≡ user.0.id = ap (λ (o : Option UserRow). option_map_or (λ row. row.id) o 0) user.1 in
     let own = leads_own t user.0.id (root_of call) names node sound led (rw root (root_own t user.0 sound known.1)) in
-    record { row = own.row; there = own.there; owner = ap User (asker ∙ sym own.owner) }
+    record { row = own.row; there = own.there; owner = user_seeks call user.0 user.1 ∙ ap User (asker ∙ sym own.owner) }

@@ -279,7 +279,7 @@ module _ (gone : ℕ → Bool) where
   abbrev end_some : ShareRow → ShareRow
   end_some = unless_gone gone
 
-  same_field : {X : Type 0} (field : ShareRow → X) → ((share : ShareRow) → field (ended_row share) ≡ field share) → (share : ShareRow)
+  pub same_field : {X : Type 0} (field : ShareRow → X) → ((share : ShareRow) → field (ended_row share) ≡ field share) → (share : ShareRow)
       → field (end_some share) ≡ field share
   same_field field same share = here (gone share.node)
     where

@@ -311,6 +311,9 @@ people_alone t change is = absurd is
 pub people_nodes : (t : Tables) (change : Change) → IsOfPeople t change → (made t change).nodes ≡ t.nodes
 people_nodes t change is = ap (λ (u : Tables). u.nodes) (people_alone t change is)
 
+pub people_shares : (t : Tables) (change : Change) → IsOfPeople t change → (made t change).shares ≡ t.shares
+people_shares t change is = ap (λ (u : Tables). u.shares) (people_alone t change is)
+
 -- ---- a new user
 
 -- the tables with a new user, and its root behind the other nodes

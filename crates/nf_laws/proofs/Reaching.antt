@@ -1,5 +1,5 @@
 -- What who asks is served is what may be read, and what may be read is served: the own, and what a mount leads to.
-use Rattle.std.proofs.Common.{ℕ, ◌≡◌, ◌≢◌, drop, false, subst, true, Bool, List, [], Option, None, Some, Result, Ok, refl, sym, ap, ◌∙◌}
+use Rattle.std.proofs.Common.{ℕ, ◌≡◌, ◌≢◌, false, subst, true, Bool, List, [], Option, None, Some, Result, Ok, refl, sym, ap, ◌∙◌}
 use Rattle.std.specs.Prelude.{if◌then◌else◌}
 use Rattle.std.specs.List.{list_any}
 use Rattle.std.specs.Option.{option_map_or}
@@ -22,10 +22,10 @@ use Rattle.nf_laws.specs.Access.{IsReachedBy, IsReadable, LeadsBy, ListsWhatMayB
 use Rattle.nf_laws.specs.Reads.{IsFreeToRead}
 use Rattle.nf_words.proofs.Begins.{places_at, wanted_passes, WantedPasses}
 use Rattle.nf_words.proofs.Passing.{Passes, call_passes, if_none}
-use Rattle.nf_words.proofs.Starts.{has_row}
+use Rattle.nf_words.proofs.Starts.{has_asker}
 use Rattle.nf_words.proofs.Steps.{ok_reply, put_grants_nothing, reports_nothing}
 use Rattle.nf_words.proofs.Ways.{bounded, way_there}
-use Rattle.nf_words.specs.Prelude.{access_of, allowed_of, answered_by, AreSound, broken_by, by_of, Call, call_decision, call_of, copied, copies_to, crosses, deleted, found, given, last_name, listing_of, made_folder, may_by, MayWant, mount_left, mount_of, mount_renamed, moved, Need, node_at, node_found, nothing_done, offered, people_changed, perms_after, reply_by, reported, root_of, seeker_of, served, share_ended, share_made, share_set, share_shown, share_steered, until_after, share_told, shared, stored, transfer_of, unreached, way_by, way_of}
+use Rattle.nf_words.specs.Prelude.{access_of, allowed_of, answered_by, AreSound, behind, broken_by, by_of, Call, call_decision, call_of, copied, copies_to, crosses, deleted, found, given, last_name, listing_of, made_folder, may_by, MayWant, mount_left, mount_of, mount_renamed, moved, Need, node_at, node_found, nothing_done, offered, people_changed, perms_after, reply_by, reported, root_of, seeker_of, served, share_ended, share_made, share_set, share_shown, share_steered, until_after, share_told, shared, stored, transfer_of, unreached, way_by, way_of}
 use Rattle.nf_words.specs.declared.answer.Allowed.{Allowed}
 use Rattle.nf_words.specs.declared.answer.Allowed.TheVariants as allowed
 use Rattle.nf_words.specs.declared.answer.Report.TheVariants as report
@@ -209,7 +209,7 @@ list_at call mount (Missing depth) listing is = absurd (cc)
 pub way_mount : (call : Call) (spot : Spot) → (way_of call spot).mount ≡ mount_of call spot
 way_mount call spot = here (mount_of call spot)
   where
-    here : (mount : Option ℕ) → (way_by call.state.tables.nodes (root_of call) spot.path mount).mount ≡ mount
+    here : (mount : Option ℕ) → (way_by call.state.tables.nodes (seeker_of call) (root_of call) spot.path mount).mount ≡ mount
     here None = refl
     here (Some mount) = refl
 
@@ -221,7 +221,7 @@ reached_by call spot sound reached = here (mount_of call spot) reached
     t : Tables
     t = call.state.tables
 
-    here : (mount : Option ℕ) → unreached (access_of call.state) call (way_by t.nodes (root_of call) spot.path mount) ≡ None → IsReachedBy call mount
+    here : (mount : Option ℕ) → unreached (access_of call.state) call (way_by t.nodes (seeker_of call) (root_of call) spot.path mount) ≡ None → IsReachedBy call mount
     here None passes = tt
     here (Some mount) passes =
         (reach_is_a_chain_lem (ground_of t) call.now (seeker_of call) mount (bounded t sound)).0
@@ -235,7 +235,7 @@ chain_reaches call spot sound reached = here (mount_of call spot) reached
     t : Tables
     t = call.state.tables
 
-    here : (mount : Option ℕ) → IsReachedBy call mount → unreached (access_of call.state) call (way_by t.nodes (root_of call) spot.path mount) ≡ None
+    here : (mount : Option ℕ) → IsReachedBy call mount → unreached (access_of call.state) call (way_by t.nodes (seeker_of call) (root_of call) spot.path mount) ≡ None
     here None reached = refl
     here (Some mount) reached =
         ap (λ (b : Bool). if b then None else Some (broken_by (ground_of t) (seeker_of call) call.now None mount))
@@ -247,9 +247,9 @@ leads_by call spot node sound at = here (mount_of call spot) at
     t : Tables
     t = call.state.tables
 
-    here : (mount : Option ℕ) → (way_by t.nodes (root_of call) spot.path mount).place ≡ At node → LeadsBy call spot mount node
+    here : (mount : Option ℕ) → (way_by t.nodes (seeker_of call) (root_of call) spot.path mount).place ≡ At node → LeadsBy call spot mount node
     here None at = found_leads t (root_of call) spot.path node sound at
-    here (Some mount) at = found_leads t mount (drop 1 spot.path) node sound at
+    here (Some mount) at = found_leads t mount (behind (seeker_of call) spot.path) node sound at
 
 -- ---- what is served may be read
 
@@ -265,10 +265,9 @@ reads : (call : Call) (spot : Spot) (node : ℕ) → AreSound call.state.tables 
     → call.request.wanted ≡ Get spot → found call spot ≡ At node → Reads call spot node
 reads call spot node sound may passes wanted at =
     let t = call.state.tables in
-    let user = has_row call passes.token in
     let p = subst (WantedPasses call) wanted (wanted_passes call may passes) in
     let reached = p.place.source refl in
-    let of = way_there call spot user.0 sound user.1 node reached at in
+    let of = way_there call spot sound (has_asker call passes.token p.place.linked) node reached at in
     let id = row_id t.nodes node of.0 of.1 in
     let back : node ≡ of.0.id = sym id in
     let read = λ (n : ℕ) (mount : Option ℕ). may_by (access_of call.state) t.nodes (seeker_of call) call.now Read n mount in
@@ -282,7 +281,7 @@ reads call spot node sound may passes wanted at =
       readable = record {
         spot = spot;
         asked = wanted;
-        well = record { token = passes.token; not_you = passes.not_you; forbidden = passes.forbidden };
+        well = record { token = passes.token; not_you = passes.not_you; forbidden = passes.forbidden; linked = p.place.linked };
         there = ap (node_row t.nodes) id ∙ of.1;
         led = leads_by call spot of.0.id sound (at ∙ ap At back);
         reached = reached_by call spot sound reached;
@@ -333,9 +332,9 @@ at_readable call row sound is = here (mount_of call is.spot) is.led
     t : Tables
     t = call.state.tables
 
-    here : (mount : Option ℕ) → LeadsBy call is.spot mount row.id → (way_by t.nodes (root_of call) is.spot.path mount).place ≡ At row.id
+    here : (mount : Option ℕ) → LeadsBy call is.spot mount row.id → (way_by t.nodes (seeker_of call) (root_of call) is.spot.path mount).place ≡ At row.id
     here None led = leads_found t 0 (root_of call) is.spot.path row.id sound led
-    here (Some mount) led = leads_found t 0 mount (drop 1 is.spot.path) row.id sound led
+    here (Some mount) led = leads_found t 0 mount (behind (seeker_of call) is.spot.path) row.id sound led
 
 readable_let : (call : Call) (row : NodeRow) → AreSound call.state.tables → (is : IsReadable call row) → IsLet call is.spot row.id
 readable_let call row sound is = record {

@@ -1,10 +1,13 @@
 -- What a PUT stored is what a later GET of the path is granted.
-use Rattle.std.proofs.Common.{ℕ, suc, ◌+◌, ◌==◌, ◌&&◌, ◌≡◌, true, false, not, List, [], ◌∷◌, ◌++◌, Option, None, Some, Result, Ok, length, take, option_map, refl, sym, ap, subst, ◌∙◌, arith, le_refl, ◌≢◌, ◌<◌, get_or}
+use Rattle.std.proofs.Common.{ℕ, Bool, suc, ◌+◌, ◌==◌, ◌&&◌, ◌≡◌, true, false, not, List, [], ◌∷◌, ◌++◌, Option, None, Some, Result, Ok, length, take, option_map, refl, sym, ap, subst, ◌∙◌, arith, le_refl, ◌≢◌, ◌<◌, get_or}
 use Rattle.std.specs.Prelude.{IsOk, is_some, if◌then◌else◌}
 use Rattle.std.specs.Option.{option_map_or, IfSome}
 use Rattle.std.proofs.Math.Seq.{take-length}
-use Rattle.std.proofs.lemmas.Bool.{and_parts, cond_both, false≢true, not-true}
+use Rattle.std.proofs.lemmas.Bool.{and_parts, cond_both, false≢true, not-true, or_right}
+use Rattle.nf_access.proofs.Granted.{grants_are_chains_lem, reach_is_a_chain_lem}
+use Rattle.nf_access.specs.Access.{Allows, allows, is_open}
 use Rattle.nf_access.specs.Mounts.{mount_at}
+use Rattle.nf_access.specs.Shares.{Ground, ground_of}
 use Rattle.nf_base.specs.Content.{content_eq}
 use Rattle.nf_base.specs.declared.changes.Change.{Change}
 use Rattle.nf_base.specs.declared.changes.Change.TheVariants.{Put}
@@ -13,10 +16,13 @@ use Rattle.nf_base.specs.declared.rows.NodeKind.TheVariants.{File}
 use Rattle.nf_base.specs.declared.rows.NodeRow.{NodeRow}
 use Rattle.nf_base.specs.declared.rows.Place.TheVariants.{Inside}
 use Rattle.nf_base.specs.declared.rows.Row.TheVariants as rows
+use Rattle.nf_base.specs.declared.rows.ShareRow.{ShareRow}
 use Rattle.nf_defs.specs.Prelude.{child_of, filled, is_folder, is_folder_kind, Leads, leads_on, node_key, node_row, put, stays, Tables, with_node}
 use Rattle.nf_base.specs.declared.perms.Act.TheVariants.{Read}
 use Rattle.nf_defs.specs.declared.Found.{Found}
 use Rattle.nf_defs.specs.declared.Found.TheVariants.{At}
+use Rattle.nf_defs.specs.declared.Seeker.{Seeker}
+use Rattle.nf_defs.specs.declared.Seeker.TheVariants.{Link, User}
 use Rattle.nf_laws.proofs.Added.{new_there}
 use Rattle.nf_laws.proofs.Climbs.{holds_some}
 use Rattle.nf_laws.proofs.Entries.{step_changed}
@@ -28,12 +34,14 @@ use Rattle.nf_laws.proofs.Replaced.{kept_replaced}
 use Rattle.nf_laws.proofs.Rows.{AreKept, folder_kept, kept_joined, row_id}
 use Rattle.nf_laws.proofs.Stays as states
 use Rattle.nf_laws.specs.Access.{Owns}
-use Rattle.nf_laws.specs.Reads.{IsStored, IsWellAsked, LeadsToKey, PathStays, StoredIsRead, IsFreeToRead}
+use Rattle.nf_laws.specs.Reads.{IsLetRead, IsStored, IsWellAsked, LeadsToKey, PathStays, StoredIsRead, IsFreeToRead}
 use Rattle.nf_words.proofs.Bodies.{content_decides}
 use Rattle.nf_words.proofs.Fits.{newest}
 use Rattle.nf_words.proofs.Orders.{none_of}
 use Rattle.nf_words.proofs.Passing.{Passes, in_order}
-use Rattle.nf_words.specs.Prelude.{access_of, acts_rule, after, after_mark, allowed_of, answered_by, AreSound, asker_of, blob_for, Call, call_decision, call_of, changed, content_in, decision_of, end_refusal, ends_at, exists_rule, found, IsSound, IsHeld, IsStorable, limit_rule, makes, may_by, mounted, new_node, overwrite_rule, place_rule, refilled, replay, root_of, rules, seeker_of, shown, State, stored_at, stores, target_rule, unless_refused, unreached, way_of, AreApartHolds, HoldsFor, IsTicketSound, step, ticket_of, without_ticket, Way, way_by, named_rule, sharing_rule, room_rule}
+use Rattle.nf_words.proofs.Starts.{by_link, by_user, has_asker, IsAsking, link_mount, link_seeks, user_no_link, user_seeks}
+use Rattle.nf_words.proofs.Ways.{bounded}
+use Rattle.nf_words.specs.Prelude.{access_of, acts_rule, after, after_mark, allowed_of, answered_by, AreSound, asker_of, blob_for, broken_by, Call, call_decision, call_of, caller_row, changed, content_in, decision_of, end_refusal, ends_at, exists_rule, found, IsSound, IsHeld, IsStorable, is_by_link, is_owner, limit_rule, link_of, linked_of, makes, may_by, mount_for, mount_of, mounted, new_node, overwrite_rule, place_rule, refilled, replay, root_of, rules, seeker_of, shown, State, stored_at, stores, target_rule, unless_refused, unreached, way_of, AreApartHolds, HoldsFor, IsTicketSound, step, ticket_of, without_ticket, Way, way_by, named_rule, sharing_rule, room_rule}
 use Rattle.nf_words.specs.declared.answer.Allowed.{Allowed}
 use Rattle.nf_words.specs.declared.answer.Allowed.TheVariants as allowed
 use Rattle.nf_words.specs.declared.answer.Denial.{Denial}
@@ -60,7 +68,7 @@ use Rattle.nf_words.specs.declared.history.Event.{Event}
 use Rattle.nf_words.specs.declared.history.Ticket.{Ticket}
 use Rattle.std.proofs.lemmas.List.Elements.{All-filter, filter_passes}
 use Rattle.std.proofs.lemmas.Option.{none-some, same_Some}
-use Rattle.std.specs.List.{All}
+use Rattle.std.specs.List.{All, list_any}
 
 -- ---- paths that stay
 
@@ -198,8 +206,8 @@ pub record IsLet (call : Call) (spot : Spot) (node : ℕ) : Type 0 where
   pub reached : unreached (access_of call.state) call (way_of call spot) ≡ None
   pub reads : may_by (access_of call.state) call.state.tables.nodes (seeker_of call) call.now Read node (way_of call spot).mount ≡ true
 
--- names that lead from a root go by no mount: the first, if there is one, is that of a child
-pub led_unmounted : (t : Tables) (user root : ℕ) (names : List (List ℕ)) (node : ℕ) → AreSound t → Leads t.nodes root names node
+-- a user's names that lead from a root go by no mount: the first, if there is one, is that of a child
+led_unmounted : (t : Tables) (user root : ℕ) (names : List (List ℕ)) (node : ℕ) → AreSound t → Leads t.nodes root names node
     → mounted t.nodes t.mounts user root names ≡ None
 led_unmounted t user _ _ _ sound (stays at) = refl
 led_unmounted t user _ _ _ sound (leads_on at name names child node folds there place named led) =
@@ -207,21 +215,83 @@ led_unmounted t user _ _ _ sound (leads_on at name names child node folds there 
     subst (λ (n : List ℕ). child_of t.nodes at n ≡ Some child.id) named (child_there t.nodes at child sound.names there place) in
     ap (λ (o : Option ℕ). if is_some o then None else mount_at t.mounts user name) is
 
--- so the way of such a path is from the root
-pub led_way : (call : Call) (spot : Spot) (node : ℕ) → AreSound call.state.tables → Leads call.state.tables.nodes (root_of call) spot.path node
-    → way_of call spot ≡ record { mount = None; itself = false; place = At node }
-led_way call spot node sound led =
-    let t = call.state.tables in
-    ap (way_by t.nodes (root_of call) spot.path) (led_unmounted t (asker_of call) (root_of call) spot.path node sound led)
-    ∙ ap (λ (place : Found). record { mount = None; itself = false; place = place }) (leads_found t 0 (root_of call) spot.path node sound led)
+-- what is at the end of a path is found there, and who asks may read it
+record IsShown (call : Call) (spot : Spot) (node : ℕ) : Type 0 where
+  at : found call spot ≡ At node
+  lets : IsLet call spot node
 
--- what leads from the caller's root is the caller's, who may read it
-pub owner_let : (call : Call) (spot : Spot) (node : ℕ) → AreSound call.state.tables → Leads call.state.tables.nodes (root_of call) spot.path node
-    → Owns call.state.tables.nodes (seeker_of call) node → IsLet call spot node
-owner_let call spot node sound led own = record {
-  reached = ap (unreached (access_of call.state) call) (led_way call spot node sound led);
-  reads = own_may (access_of call.state) call.state.tables.nodes (seeker_of call) call.now Read node (way_of call spot).mount own;
+-- so the way of such a path is from the user's root, and what it leads to is the user's own
+owner_shown : (call : Call) (spot : Spot) (node : ℕ) → AreSound call.state.tables → seeker_of call ≡ User (asker_of call)
+    → Leads call.state.tables.nodes (root_of call) spot.path node → Owns call.state.tables.nodes (seeker_of call) node → IsShown call spot node
+owner_shown call spot node sound seeks led own = record {
+  at = ap (λ (way : Way). way.place) way;
+  lets = record {
+    reached = ap (unreached (access_of call.state) call) way;
+    reads = own_may (access_of call.state) t.nodes (seeker_of call) call.now Read node (way_of call spot).mount own;
+  };
 }
+  where
+    t : Tables
+    t = call.state.tables
+
+    mount : mount_of call spot ≡ None
+    mount =
+        ap (λ (s : Seeker). mount_for t.nodes t.mounts s (root_of call) spot.path) seeks
+        ∙ led_unmounted t (asker_of call) (root_of call) spot.path node sound led
+
+    way : way_of call spot ≡ record { mount = None; itself = false; place = At node }
+    way =
+        ap (way_by t.nodes (seeker_of call) (root_of call) spot.path) mount
+        ∙ ap (λ (place : Found). record { mount = None; itself = false; place = place }) (leads_found t 0 (root_of call) spot.path node sound led)
+
+-- all paths of a link go by what that is of, where a chain lets who knows it read
+link_shown : (call : Call) (spot : Spot) (node : ℕ) (share : ShareRow) (up : List ShareRow) → AreSound call.state.tables
+    → is_by_link call.request.caller ≡ true → Leads call.state.tables.nodes (root_of call) spot.path node
+    → Allows (ground_of call.state.tables) call.now (seeker_of call) (root_of call) Read share up → IsShown call spot node
+link_shown call spot node share up sound by led allowed = record {
+  at = ap (λ (way : Way). way.place) way;
+  lets = record {
+    reached = ap (unreached (access_of call.state) call) way
+        ∙ ap (λ (b : Bool). if b then None else Some (broken_by g (seeker_of call) call.now None (root_of call))) opens;
+    reads = ap (λ (way : Way). may_by (access_of call.state) t.nodes (seeker_of call) call.now Read node way.mount) way
+        ∙ or_right (is_owner t.nodes (seeker_of call) node) (list_any (allows call.now Read) (access_of call.state (seeker_of call) (root_of call))) reads;
+  };
+}
+  where
+    t : Tables
+    t = call.state.tables
+
+    g : Ground
+    g = ground_of t
+
+    way : way_of call spot ≡ record { mount = Some (root_of call); itself = false; place = At node }
+    way =
+        ap (λ (s : Seeker). way_by t.nodes s (root_of call) spot.path (mount_of call spot)) (link_seeks call by)
+        ∙ ap (way_by t.nodes (Link (linked_of call)) (root_of call) spot.path) (link_mount call spot by)
+        ∙ ap (λ (place : Found). record { mount = Some (root_of call); itself = false; place = place })
+        (leads_found t 0 (root_of call) spot.path node sound led)
+
+    opens : list_any (is_open call.now) (access_of call.state (seeker_of call) (root_of call)) ≡ true
+    opens = (reach_is_a_chain_lem g call.now (seeker_of call) (root_of call) (bounded t sound)).1 (share, up, allowed.reaches)
+
+    reads : list_any (allows call.now Read) (access_of call.state (seeker_of call) (root_of call)) ≡ true
+    reads = (grants_are_chains_lem g call.now (seeker_of call) Read (root_of call) (bounded t sound)).1 (share, up, allowed)
+
+-- whoever of the two asks is shown what a path leads to
+led_shown : (call : Call) (spot : Spot) (node : ℕ) (row : NodeRow) → AreSound call.state.tables → IsWellAsked call → IsLetRead call (link_of call)
+    → Leads call.state.tables.nodes (root_of call) spot.path node → node_row call.state.tables.nodes node ≡ Some row → IsShown call spot node
+led_shown call spot node row sound asked reads led there = here (has_asker call asked.token asked.linked)
+  where
+    here : IsAsking call → IsShown call spot node
+    here (by_user user is) =
+        owner_shown call spot node sound (user_seeks call user is) led
+        (led_own call spot.path node row sound led there (user_no_link call user is).0)
+    here (by_link link by is) =
+        let let_read : IsLetRead call (Some link) = subst (IsLetRead call) is reads in
+        let root : root_of call ≡ link.node =
+        ap (λ (o : Option ShareRow). option_map_or (λ row. row.node) o (option_map_or (λ row. row.root) (caller_row call) 0)) is in
+        link_shown call spot node let_read.0 let_read.1 sound by led
+        (subst (λ (n : ℕ). Allows (ground_of call.state.tables) call.now (seeker_of call) n Read let_read.0 let_read.1) (sym root) let_read.2)
 
 -- a call of a GET that the rules of who asks, of names and of access pass is shown what its path leads to
 pub shows : (call : Call) (spot : Spot) (node : ℕ) → call.request.wanted ≡ Get spot → found call spot ≡ At node → IsWellAsked call
@@ -233,7 +303,7 @@ shows call spot node wanted at asked lets free =
       token = asked.token;
       not_you = asked.not_you;
       forbidden = asked.forbidden;
-      place = rw (wanted, at, lets.reached) refl;
+      place = rw (wanted, asked.linked, at, lets.reached) refl;
       named = rw wanted refl;
       acts = rw (wanted, at, lets.reads) refl;
       exists = rw wanted refl;
@@ -271,9 +341,8 @@ stored_is_read n s e es root path content seat now words request is legal same r
     let from : Leads last.tables.nodes (root_of call) reads.spot.path node =
     subst (λ (from : ℕ). Leads last.tables.nodes from reads.spot.path node) (sym reads.from)
     (subst (λ (names : List (List ℕ)). Leads last.tables.nodes root names node) (sym reads.of_path) led) in
-    let at : found call reads.spot ≡ At node = ap (λ (way : Way). way.place) (led_way call reads.spot node sound.rows from) in
-    let lets = owner_let call reads.spot node sound.rows from (led_own call reads.spot.path node file.row sound.rows from there) in
-    granted call reads.spot node file.row reads.wanted at there file.file reads.asked lets (reads.free node led)
+    let shown = led_shown call reads.spot node file.row sound.rows reads.asked reads.reads from there in
+    granted call reads.spot node file.row reads.wanted shown.at there file.file reads.asked shown.lets (reads.free node led)
     ∙ ap (λ (c : List Piece). answered_by (Ok (allowed.Get node c))) file.filled
 
 -- ---- who stores over it

@@ -13,6 +13,7 @@ use Rattle.nf_laws.proofs.Counters.{changed_up}
 use Rattle.nf_laws.proofs.Entries.{entry_has, tickets_left, tickets_with}
 use Rattle.nf_laws.proofs.Gone.{left_sound}
 use Rattle.nf_laws.proofs.Held.{act_stays, held_on}
+use Rattle.nf_laws.proofs.Links.{KeepsShares, link_stays, shares_kept}
 use Rattle.nf_laws.proofs.Lists.{changes_sound}
 use Rattle.nf_laws.proofs.Moved.{transferred_sound}
 use Rattle.nf_laws.proofs.Owned.{KeepsOwners, owners_kept}
@@ -52,9 +53,9 @@ altered_sound t now act sound before known = stamp_sound t now sound before
 -- ---- the tickets
 
 goal_stays : (t made : Tables) (goal : Goal) → t.meta.next_node ≤ made.meta.next_node → t.meta.next_blob ≤ made.meta.next_blob
-    → KeepsOwners t made → IsGoalSound t goal → IsGoalSound made goal
-goal_stays t made (Serve content) nodes blobs owners h = pieces_kept t made content blobs h
-goal_stays t made (Store by key length) nodes blobs owners h = (h.0, may_store by.seeker by.mount h.1)
+    → KeepsOwners t made → KeepsShares t made → IsGoalSound t goal → IsGoalSound made goal
+goal_stays t made (Serve content) nodes blobs owners shares h = pieces_kept t made content blobs h
+goal_stays t made (Store by key length) nodes blobs owners shares h = (h.0, may_store by.seeker by.mount h.1)
   where
     may_store : (who : Seeker) (mount : Option ℕ) → MayStoreBy t who mount (node_of_key key) → MayStoreBy made who mount (node_of_key key)
     may_store (seeker.User user) None own = record {
@@ -63,7 +64,8 @@ goal_stays t made (Store by key length) nodes blobs owners h = (h.0, may_store b
           let old = owners (node_of_key key) row own.given there in old.2 ∙ own.owner old.0 old.1;
     }
     may_store (seeker.User user) (Some mount) may = tt
-    may_store (seeker.Link share) mount own = absurd own
+    may_store (seeker.Link share) None own = absurd own
+    may_store (seeker.Link share) (Some mount) is = link_stays t made share mount shares is
 
 granted_sound : (t : Tables) (now : ℕ) (act : Allowed)
     → AreSound t → Known t now act → IfSome (goal_of act) (IsGoalSound (changed t now act))
@@ -150,7 +152,7 @@ act_holds t tickets seat now act known h spares =
     let left : All (IsTicketSound made) tickets = λ k d within.
     let is = h.2 k d within in
     record {
-      goal = goal_stays t made (get_or tickets k d).goal up.nodes up.blobs (owners_kept t now act h.0 known) is.goal;
+      goal = goal_stays t made (get_or tickets k d).goal up.nodes up.blobs (owners_kept t now act h.0 known) (shares_kept t now act h.0 known) is.goal;
       hold = is.hold;
       held = spared_held t now act (get_or tickets k d).hold h.0 known is.held (spares k d within);
     } in (

@@ -1,8 +1,8 @@
 -- What who acts may read is served, and what they may change is changed, and nothing else.
-use Rattle.std.specs.Prelude.{◌≡◌, ◌≢◌, ◌↔◌, ◌⊎◌, ℕ, ◌&&◌, not, All, Bool, Contains, true, false, drop, List, [], ◌∷◌, ◌++◌, map, Option, None, Some, is_some, Ok, option_and_then, if◌then◌else◌, unwrap_or}
+use Rattle.std.specs.Prelude.{◌≡◌, ◌≢◌, ◌↔◌, ◌⊎◌, ℕ, ◌&&◌, not, All, Bool, Contains, true, false, List, [], ◌∷◌, ◌++◌, map, Option, None, Some, is_some, Ok, option_and_then, if◌then◌else◌, unwrap_or}
 use Rattle.std.specs.Option.{option_map_or}
 use Rattle.nf_access.specs.Access.{Allows, Reaches}
-use Rattle.nf_access.specs.Making.{is_part}
+use Rattle.nf_access.specs.Making.{is_part, is_token_taken}
 use Rattle.nf_access.specs.Mounts.{is_mount_of, is_mounted, mount_row, free_name_of, name_of, names_in_root}
 use Rattle.nf_access.specs.Shares.{ground_of, is_before, mask_of, perms_of_share, receives, share_row}
 use Rattle.nf_base.specs.declared.content.Piece.{Piece}
@@ -21,8 +21,8 @@ use Rattle.nf_defs.specs.declared.Seeker.{Seeker}
 use Rattle.nf_defs.specs.declared.Seeker.TheVariants.{User}
 use Rattle.nf_laws.specs.Reads.{IsFreeToRead, IsWellAsked}
 use Rattle.nf_laws.specs.Tree.{Under}
-use Rattle.nf_words.specs.Listing.{all_permissions}
-use Rattle.nf_words.specs.Prelude.{access_of, after, answer_to, asker_of, Call, call_of, ended_row, goal_at, is_joined, is_member, IsModest, IsSound, kind_of, kind_to, last_name, listing_of, may_by, MayCome, MayWant, membership, mount_of, Need, needed, needed_by, new_root, new_user, people_limit, perms_after, receiver_named, root_of, row_named, seeker_of, set_fault, set_row, State, until_after}
+use Rattle.nf_words.specs.Prelude.{access_of, after, answer_to, asker_of, behind, Call, call_of, ended_row, goal_at, is_joined, is_member, IsModest, IsSound, kind_of, kind_to, last_name, listing_of, may_by, MayCome, MayWant, membership, mount_of, Need, needed, needed_by, new_root, new_user, people_limit, perms_after, receiver_named, root_of, row_named, seeker_of, set_fault, set_row, State, until_after, usual_perms}
+use Rattle.nf_words.specs.Tokens.{link_token}
 use Rattle.nf_words.specs.declared.answer.Goal.{Goal}
 use Rattle.nf_words.specs.declared.answer.Goal.TheVariants.{Serve, Store}
 use Rattle.nf_words.specs.declared.answer.Reply.TheVariants.{Granted, Listing}
@@ -64,10 +64,10 @@ OwnersAndReachedMay =
 
 -- ---- what is read
 
--- a path leads from the caller's root, or behind its first name from the node of the mount that it goes by
+-- a path leads from the caller's root, or from the node of the mount that it goes by: a user's behind its first name, and a link's whole
 abbrev pub LeadsBy : Call → Spot → Option ℕ → ℕ → Type 0
 LeadsBy call spot None node = Leads call.state.tables.nodes (root_of call) spot.path node
-LeadsBy call spot (Some mount) node = Leads call.state.tables.nodes mount (drop 1 spot.path) node
+LeadsBy call spot (Some mount) node = Leads call.state.tables.nodes mount (behind (seeker_of call) spot.path) node
 
 -- where the path goes by a mount, a chain of live shares reaches who asks on its node
 abbrev pub IsReachedBy : Call → Option ℕ → Type 0
@@ -233,7 +233,8 @@ IsPassedOn call spot row (Some parent) =
     × Allows (ground_of call.state.tables) call.now (seeker_of call) mount act.Share share up
     × (is_part row.perms (mask_of (share ∷ up)) ≡ true))
 
--- a new share of what a path of the caller's leads to, with the user or the group of that name, and to that end, which is to come
+-- a new share of what a path of the caller's leads to, with the user or the group of that name, or by a link whose token is no other's,
+-- and to that end, which is to come
 pub record IsMadeBy (call : Call) (spot : Spot) (to : Sharee) (perms until : Option ℕ) (row : ShareRow) : Type 0 where
   pub number : row.id ≡ call.state.tables.meta.next_share
   pub led : LeadsBy call spot (mount_of call spot) row.node
@@ -241,8 +242,9 @@ pub record IsMadeBy (call : Call) (spot : Spot) (to : Sharee) (perms until : Opt
   pub owner : row.owner ≡ owner_of call.state.tables.nodes row.node
   pub receiver : Receiver
   pub named : receiver_named call.state.tables to ≡ Some receiver
-  pub kind : row.kind ≡ kind_to receiver
-  pub allowed : row.perms ≡ perms_of_share (kind_of call.state.tables.nodes row.node) row.kind (unwrap_or perms all_permissions)
+  pub kind : row.kind ≡ kind_to (link_token call.words) receiver
+  pub token : is_token_taken call.state.tables.shares row.kind ≡ false
+  pub allowed : row.perms ≡ perms_of_share (kind_of call.state.tables.nodes row.node) row.kind (unwrap_or perms (usual_perms receiver))
   pub passed_on : IsPassedOn call spot row row.parent
   pub ends : row.until ≡ until
   pub later : is_before call.now until ≡ true

@@ -1,5 +1,5 @@
 -- What a DELETE, a MKCOL, a PUT and a MOVE change, and that they change nothing else.
-use Rattle.std.specs.Prelude.{◌≡◌, ◌≢◌, ◌⊎◌, ℕ, ◌+◌, ◌<◌, Bool, true, false, drop, List, [], length, Option, None, Some, Ok, IsOk, IfSome, slice_get}
+use Rattle.std.specs.Prelude.{◌≡◌, ◌≢◌, ◌⊎◌, ℕ, ◌+◌, ◌<◌, Bool, true, false, List, [], length, Option, None, Some, Ok, IsOk, IfSome, slice_get}
 use Rattle.nf_access.specs.Mounts.{mount_row}
 use Rattle.nf_access.specs.Shares.{share_row}
 use Rattle.nf_base.specs.declared.content.Piece.{Piece}
@@ -10,13 +10,12 @@ use Rattle.nf_base.specs.declared.rows.NodeRow.{NodeRow}
 use Rattle.nf_base.specs.declared.rows.Place.TheVariants.{Inside}
 use Rattle.nf_base.specs.declared.rows.ShareRow.{ShareRow}
 use Rattle.nf_defs.specs.Prelude.{child_of, is_folder, is_folder_kind, is_under, node_row, owner_of, Tables}
-use Rattle.nf_defs.specs.declared.Seeker.TheVariants.{User}
 use Rattle.nf_laws.specs.Access.{LeadsBy}
 use Rattle.nf_laws.specs.Reads.{LeadsToKey}
 use Rattle.nf_laws.specs.Transfers.{is_replaced, Mirrors}
 use Rattle.nf_laws.specs.Tree.{Under}
 use Rattle.nf_laws.specs.Wholes.{blob_in}
-use Rattle.nf_words.specs.Prelude.{after, answer_to, blob_for, Call, call_of, content_in, decision_of, ended_row, goal_at, IsSound, last_name, left_row, MayAsk, mount_of, named_row, root_of, State, step, user_of, way_of, without_ticket}
+use Rattle.nf_words.specs.Prelude.{after, answer_to, behind, blob_for, Call, call_of, content_in, decision_of, ended_row, goal_at, IsSound, last_name, left_row, MayAsk, mount_of, named_row, root_of, seeker_of, State, step, user_of, way_of, without_ticket}
 use Rattle.nf_words.specs.declared.answer.Allowed.TheVariants as allowed
 use Rattle.nf_words.specs.declared.answer.By.{By}
 use Rattle.nf_words.specs.declared.answer.Goal.TheVariants.{Store}
@@ -33,11 +32,11 @@ use Rattle.nf_words.specs.declared.request.Transfer.{Transfer}
 use Rattle.nf_words.specs.declared.request.Wanted.TheVariants.{Delete, Mkcol, Move, Put}
 use Rattle.nf_words.specs.declared.request.Words.{Words}
 
--- a path leads to the file that is stored over, or to the folder and the name that is free in it: from the caller's root, or behind its
--- first name from the node of the mount that it goes by
+-- a path leads to the file that is stored over, or to the folder and the name that is free in it: from the caller's root, or from the node
+-- of the mount that it goes by, a user's behind its first name and a link's whole
 abbrev pub LeadsToKeyBy : Call → Spot → Option ℕ → LockKey → Type 0
 LeadsToKeyBy call spot None key = LeadsToKey call.state.tables.nodes (root_of call) spot.path key
-LeadsToKeyBy call spot (Some mount) key = LeadsToKey call.state.tables.nodes mount (drop 1 spot.path) key
+LeadsToKeyBy call spot (Some mount) key = LeadsToKey call.state.tables.nodes mount (behind (seeker_of call) spot.path) key
 
 -- the shares of what is gone are ended, and no other share is another
 pub record AreEnded (before after : List ShareRow) (IsGone : ℕ → Type 0) : Type 0 where
@@ -180,16 +179,14 @@ FoldersAreMade =
 
 -- ---- PUT
 
--- a PUT is granted to its caller, by the mount that its path goes by, for the file to which the path leads or for the free name at its
+-- a PUT is granted to who asks, by the mount that its path goes by, for the file to which the path leads or for the free name at its
 -- end, and changes no row yet
 pub record IsGranted (s : State) (seat now : ℕ) (words : Words) (request : Request) (spot : Spot) (size : ℕ) : Type 0 where
-  pub user : ℕ
-  pub caller : user_of (call_of s seat now words request) ≡ Some user
   pub mount : Option ℕ
   pub by : mount_of (call_of s seat now words request) spot ≡ mount
   pub key : LockKey
   pub led : LeadsToKeyBy (call_of s seat now words request) spot mount key
-  pub granted : answer_to s seat now (Begin words request) ≡ Ok (Granted (Store (record { seeker = User user; mount = mount }) key size))
+  pub granted : answer_to s seat now (Begin words request) ≡ Ok (Granted (Store (record { seeker = seeker_of (call_of s seat now words request); mount = mount }) key size))
   pub rows : (step s seat now (Begin words request)).tables ≡ s.tables
 
 abbrev pub PutsAreGranted : Type 0

@@ -11,7 +11,6 @@ pub fn deletes_keep()
 {}
 
 /// A MOVE of a mount's own path gives the mount the target's last name, and touches no other row.
-#[tactic(auto, using(crate::proofs::Acting::mounts_renamed))]
 pub fn mounts_are_renamed()
     ensures { MountsAreRenamed }
 {}

@@ -22,6 +22,7 @@ use Rattle.nf_words.specs.declared.answer.Parameter.{Parameter}
 use Rattle.nf_words.specs.declared.answer.Parameter.TheVariants as parameter
 use Rattle.nf_words.specs.declared.request.ShareAsk.{ShareAsk}
 use Rattle.nf_words.specs.declared.request.ShareAsk.TheVariants as ask
+use Rattle.nf_words.specs.declared.request.Sharee.{Sharee}
 use Rattle.nf_words.specs.declared.request.Sharee.TheVariants as sharee
 use Rattle.nf_words.specs.declared.request.PeopleAsk.{PeopleAsk}
 use Rattle.nf_words.specs.declared.request.PeopleAsk.TheVariants as people
@@ -33,7 +34,7 @@ use Rattle.nf_words.specs.declared.request.Spot.{Spot}
 use Rattle.nf_words.specs.declared.route.Route.{Route}
 use Rattle.nf_ocs.specs.Asked.{Giving, about_people, about_shares, ask_of, end_of, is_true, list_of, new_of, ocs_request_of, offered, set_of, show_of, topic_of}
 use Rattle.nf_ocs.specs.Bodies.{body_of, is_form, is_json, media_type, object_or_refusal, says_ocs}
-use Rattle.nf_ocs.specs.Parameters.{id_of, is_empty, is_token, modest, name_in, name_of, names_in, needed, no_password, number_in, optional, permissions_in, permissions_of, permitted, quota_in, quota_of, recipient_of, spot_in, spot_of, token_in, token_of, type_in, type_of, until_in, until_of, user_of}
+use Rattle.nf_ocs.specs.Parameters.{id_of, is_empty, is_token, modest, name_in, name_of, names_in, needed, no_password, number_in, optional, permissions_in, permissions_of, permitted, quota_in, quota_of, sharee_of, spot_in, spot_of, token_in, token_of, type_in, type_of, until_in, until_of, user_of}
 use Rattle.nf_ocs.specs.People.{add_member_of, drop_member_of, key_in, key_of, member_of, new_group_of, new_user_of, set_user_of, value_for}
 use Rattle.nf_ocs.specs.Read.{and_then}
 use Rattle.nf_ocs.specs.Sent.{Fields, given_in, object_in}
@@ -52,7 +53,6 @@ is_of_ocs denial.OcsHeader = true
 is_of_ocs denial.Body = true
 is_of_ocs (denial.BadParameter parameter) = true
 is_of_ocs (denial.BadName fault) = true
-is_of_ocs denial.NotBuilt = true
 is_of_ocs other = false
 
 -- a part is as it has to be, or is refused for one of those
@@ -126,15 +126,15 @@ fine_user target = here (name_fault (user_segment target))
     here None = tt
     here (Some fault) = refl
 
-fine_recipient : (kind : ShareType) (given : Given) → IsFine Any (recipient_of kind given)
-fine_recipient kind given = here kind
+fine_sharee : (kind : ShareType) (given : Given) → IsFine Any (sharee_of kind given)
+fine_sharee kind given = here kind
   where
-    there : IsFine Any (and_then (name_of parameter.ShareWith given) (λ name. Ok (Some name)))
-    there = fine_then Any Any (name_of parameter.ShareWith given) (λ name. Ok (Some name)) (fine_name parameter.ShareWith given) (λ name any. tt)
+    named : (to : List ℕ → Sharee) → IsFine Any (and_then (name_of parameter.ShareWith given) (λ name. Ok (to name)))
+    named to = fine_then Any Any (name_of parameter.ShareWith given) (λ name. Ok (to name)) (fine_name parameter.ShareWith given) (λ name any. tt)
 
-    here : (kind : ShareType) → IsFine Any (recipient_of kind given)
-    here User = there
-    here Group = there
+    here : (kind : ShareType) → IsFine Any (sharee_of kind given)
+    here User = named sharee.User
+    here Group = named sharee.Group
     here Link = tt
 
 fine_token : (p : Parameter) (given : Given) → IsFine Any (token_of p given)
@@ -225,36 +225,28 @@ fine_permitted given last fine =
     fine_then Any AsksOwn (permissions_of (given (codes "permissions"))) (λ perms. to_until given (last perms))
     (fine_permissions (given (codes "permissions"))) (λ perms any. fine_ended given (last perms) (fine perms))
 
-abbrev offer : List ℕ → ShareType → Option (List ℕ) → Option ℕ → Until → Result ShareAsk Denial
-offer path kind to perms until = offered path kind to perms (end_in until)
+abbrev offer : List ℕ → Sharee → Option ℕ → Until → Result ShareAsk Denial
+offer path to perms until = offered path to perms (end_in until)
 
-fine_offer : (path : List ℕ) (kind : ShareType) (to : Option (List ℕ)) (perms : Option ℕ) (until : Until) → EndsWell until
-    → IsFine AsksOwn (offer path kind to perms until)
-fine_offer path User (Some to) perms until well =
-    fine_then NamesNobody AsksOwn (spot_of path) (λ spot. Ok (ask.New spot (sharee.User to) perms (end_in until))) (fine_spot path)
+fine_offer : (path : List ℕ) (to : Sharee) (perms : Option ℕ) (until : Until) → EndsWell until → IsFine AsksOwn (offer path to perms until)
+fine_offer path to perms until well =
+    fine_then NamesNobody AsksOwn (spot_of path) (λ spot. Ok (ask.New spot to perms (end_in until))) (fine_spot path)
     (λ spot nobody. (well, nobody))
-fine_offer path Group (Some to) perms until well =
-    fine_then NamesNobody AsksOwn (spot_of path) (λ spot. Ok (ask.New spot (sharee.Group to) perms (end_in until))) (fine_spot path)
-    (λ spot nobody. (well, nobody))
-fine_offer path User None perms until well = refl
-fine_offer path Group None perms until well = refl
-fine_offer path Link to perms until well = refl
 
-abbrev to_recipient : Giving → List ℕ → ShareType → Result ShareAsk Denial
-to_recipient given path kind =
-    and_then (recipient_of kind (given (codes "shareWith"))) (λ to. to_permissions given (offer path kind to))
+abbrev to_sharee : Giving → List ℕ → ShareType → Result ShareAsk Denial
+to_sharee given path kind = and_then (sharee_of kind (given (codes "shareWith"))) (λ to. to_permissions given (offer path to))
 
-fine_for : (given : Giving) (path : List ℕ) (kind : ShareType) → IsFine AsksOwn (to_recipient given path kind)
+fine_for : (given : Giving) (path : List ℕ) (kind : ShareType) → IsFine AsksOwn (to_sharee given path kind)
 fine_for given path kind =
-    fine_then Any AsksOwn (recipient_of kind (given (codes "shareWith"))) (λ to. to_permissions given (offer path kind to))
-    (fine_recipient kind (given (codes "shareWith"))) (λ to any. fine_permitted given (offer path kind to) (fine_offer path kind to))
+    fine_then Any AsksOwn (sharee_of kind (given (codes "shareWith"))) (λ to. to_permissions given (offer path to))
+    (fine_sharee kind (given (codes "shareWith"))) (λ to any. fine_permitted given (offer path to) (fine_offer path to))
 
 abbrev to_type : Giving → List ℕ → Result ShareAsk Denial
-to_type given path = and_then (type_of (given (codes "shareType"))) (to_recipient given path)
+to_type given path = and_then (type_of (given (codes "shareType"))) (to_sharee given path)
 
 fine_typed : (given : Giving) (path : List ℕ) → IsFine AsksOwn (to_type given path)
 fine_typed given path =
-    fine_then Any AsksOwn (type_of (given (codes "shareType"))) (to_recipient given path) (fine_type (given (codes "shareType")))
+    fine_then Any AsksOwn (type_of (given (codes "shareType"))) (to_sharee given path) (fine_type (given (codes "shareType")))
     (λ kind any. fine_for given path kind)
 
 fine_new : (given : Giving) → IsFine AsksOwn (new_of given)

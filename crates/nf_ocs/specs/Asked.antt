@@ -1,5 +1,5 @@
 -- What is asked about shares (Nextcloud developer manual, OCS Share API), and which request a message is.
-use Rattle.std.specs.Prelude.{ℕ, Bool, true, false, not, List, bytes_eq, codes, Option, Some, Result, Ok, Err, if◌then◌else◌}
+use Rattle.std.specs.Prelude.{ℕ, Bool, true, false, not, List, bytes_eq, codes, Option, Result, Ok, Err, if◌then◌else◌}
 use Rattle.nf_http.specs.Head.{Head}
 use Rattle.nf_routes.specs.Targets.{query_of}
 use Rattle.nf_routes.specs.declared.methods.Method.{Method}
@@ -10,21 +10,19 @@ use Rattle.nf_words.specs.declared.answer.Denial.TheVariants as denial
 use Rattle.nf_words.specs.declared.answer.Parameter.TheVariants as parameter
 use Rattle.nf_words.specs.declared.request.ShareAsk.{ShareAsk}
 use Rattle.nf_words.specs.declared.request.ShareAsk.TheVariants as ask
-use Rattle.nf_words.specs.declared.request.Sharee.TheVariants as sharee
+use Rattle.nf_words.specs.declared.request.Sharee.{Sharee}
 use Rattle.nf_words.specs.declared.request.PeopleAsk.{PeopleAsk}
 use Rattle.nf_words.specs.declared.request.Wanted.{Wanted}
 use Rattle.nf_words.specs.declared.request.Wanted.TheVariants as wanted
 use Rattle.nf_words.specs.declared.route.Route.{Route}
 use Rattle.nf_words.specs.declared.route.Route.TheVariants as route
 use Rattle.nf_ocs.specs.Bodies.{body_of, says_ocs}
-use Rattle.nf_ocs.specs.Parameters.{id_of, needed, no_password, optional, permissions_of, recipient_of, spot_in, spot_of, type_of, until_of}
+use Rattle.nf_ocs.specs.Parameters.{id_of, needed, no_password, optional, permissions_of, sharee_of, spot_in, spot_of, type_of, until_of}
 use Rattle.nf_ocs.specs.People.{add_member_of, drop_member_of, new_group_of, new_user_of, set_user_of}
 use Rattle.nf_ocs.specs.Read.{and_then}
 use Rattle.nf_ocs.specs.Sent.{given_in}
 use Rattle.nf_ocs.specs.declared.asked.Topic.{Topic}
 use Rattle.nf_ocs.specs.declared.asked.Topic.TheVariants as topic
-use Rattle.nf_ocs.specs.declared.parameters.ShareType.{ShareType}
-use Rattle.nf_ocs.specs.declared.parameters.ShareType.TheVariants.{User, Group}
 use Rattle.nf_ocs.specs.declared.sent.Given.{Given}
 use Rattle.nf_ocs.specs.declared.sent.Given.TheVariants.{Text}
 
@@ -34,20 +32,17 @@ Giving = List ℕ → Given
 
 -- ---- a new share
 
--- links aren't built yet
-abbrev pub offered : List ℕ → ShareType → Option (List ℕ) → Option ℕ → Option ℕ → Result ShareAsk Denial
-offered path User (Some to) perms until = and_then (spot_of path) (λ spot. Ok (ask.New spot (sharee.User to) perms until))
-offered path Group (Some to) perms until = and_then (spot_of path) (λ spot. Ok (ask.New spot (sharee.Group to) perms until))
-offered path kind to perms until = Err denial.NotBuilt
+abbrev pub offered : List ℕ → Sharee → Option ℕ → Option ℕ → Result ShareAsk Denial
+offered path to perms until = and_then (spot_of path) (λ spot. Ok (ask.New spot to perms until))
 
 abbrev pub new_of : Giving → Result ShareAsk Denial
 new_of given =
     and_then (needed parameter.Path (given (codes "path"))) (λ path.
     and_then (type_of (given (codes "shareType"))) (λ kind.
-    and_then (recipient_of kind (given (codes "shareWith"))) (λ to.
+    and_then (sharee_of kind (given (codes "shareWith"))) (λ to.
     and_then (permissions_of (given (codes "permissions"))) (λ perms.
     and_then (until_of (given (codes "expireDate"))) (λ until.
-    and_then (no_password (given (codes "password"))) (λ none. offered path kind to perms (end_in until)))))))
+    and_then (no_password (given (codes "password"))) (λ none. offered path to perms (end_in until)))))))
 
 -- ---- shares that are there
 
@@ -118,8 +113,7 @@ ask_of topic.AddMember target given = about_people (add_member_of target given)
 ask_of topic.DropMember target given = about_people (drop_member_of target given)
 ask_of topic.NewGroup target given = about_people (new_group_of given)
 
--- what is asked by the head and the body of a message on a route; or its first refusal: `ocs-header`, `body`, `bad-parameter`, not built,
--- `bad-name`
+-- what is asked by the head and the body of a message on a route; or its first refusal: `ocs-header`, `body`, `bad-parameter`, `bad-name`
 unfoldable pub ocs_request_of : Route → Method → Head → List ℕ → Result Wanted Denial
 ocs_request_of route m head body =
     if not (says_ocs head) then Err denial.OcsHeader

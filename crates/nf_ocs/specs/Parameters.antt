@@ -14,6 +14,8 @@ use Rattle.nf_words.specs.declared.answer.Denial.{Denial}
 use Rattle.nf_words.specs.declared.answer.Denial.TheVariants.{BadName, BadParameter}
 use Rattle.nf_words.specs.declared.answer.Parameter.{Parameter}
 use Rattle.nf_words.specs.declared.answer.Parameter.TheVariants as parameter
+use Rattle.nf_words.specs.declared.request.Sharee.{Sharee}
+use Rattle.nf_words.specs.declared.request.Sharee.TheVariants as sharee
 use Rattle.nf_words.specs.declared.request.Spot.{Spot}
 use Rattle.nf_words.specs.declared.request.Until.{Until}
 use Rattle.nf_words.specs.declared.request.Until.TheVariants as until
@@ -97,11 +99,11 @@ name_in parameter text = if is_some (name_fault text) then unread parameter else
 abbrev pub name_of : Parameter → Given → Result (List ℕ) Denial
 name_of parameter given = and_then (needed parameter given) (name_in parameter)
 
--- `shareWith`: whom a share is for; a link is for nobody
-abbrev pub recipient_of : ShareType → Given → Result (Option (List ℕ)) Denial
-recipient_of User given = and_then (name_of parameter.ShareWith given) (λ name. Ok (Some name))
-recipient_of Group given = and_then (name_of parameter.ShareWith given) (λ name. Ok (Some name))
-recipient_of Link given = Ok None
+-- `shareWith`: whom a share is for; for a link it isn't looked at
+abbrev pub sharee_of : ShareType → Given → Result Sharee Denial
+sharee_of User given = and_then (name_of parameter.ShareWith given) (λ name. Ok (sharee.User name))
+sharee_of Group given = and_then (name_of parameter.ShareWith given) (λ name. Ok (sharee.Group name))
+sharee_of Link given = Ok sharee.Link
 
 -- `permissions`: 1 to 31
 abbrev pub permitted : ℕ → Option ℕ

@@ -9,12 +9,11 @@ ghost use Rattle.nf_ocs.specs.Sent.{fields_of, given_in};
 use crate::Unread;
 use crate::bodies::{body, says_ocs};
 use crate::parameters::{
-    ShareType, id, needed, no_password, optional, permissions, recipient, share_type, spot,
-    spot_in, until,
+    id, needed, no_password, optional, permissions, share_type, sharee, spot, spot_in, until,
 };
 use crate::people::{add_member, drop_member, new_group, new_user, set_user};
 use crate::sent::{Given, Sent, Text};
-use nf_base::{Moment, Name, Perms};
+use nf_base::{Moment, Perms};
 use nf_http::Message;
 use nf_routes::{Method, query};
 use nf_words::{Denial, Parameter, Route, ShareAsk, Sharee, Until, Wanted};
@@ -111,11 +110,11 @@ fn new(alloc: Global, sent: &Sent<'_>) -> Result<ShareAsk, Unread>
 {
     let path = needed(Parameter::Path, sent.given(alloc, "path")?)?;
     let kind = share_type(sent.given(alloc, "shareType")?)?;
-    let to = recipient(alloc, kind, sent.given(alloc, "shareWith")?)?;
+    let to = sharee(alloc, kind, sent.given(alloc, "shareWith")?)?;
     let perms = permissions(sent.given(alloc, "permissions")?)?;
     let until = until(sent.given(alloc, "expireDate")?)?;
     no_password(sent.given(alloc, "password")?)?;
-    offered(alloc, &path, kind, to, perms, end_in(until))
+    offered(alloc, &path, to, perms, end_in(until))
 }
 
 fn end_in(until: Until) -> Option<Moment>
@@ -130,28 +129,18 @@ fn end_in(until: Until) -> Option<Moment>
 fn offered(
     alloc: Global,
     path: &Text,
-    kind: ShareType,
-    to: Option<Name>,
+    to: Sharee,
     perms: Option<Perms>,
     until: Option<Moment>,
 ) -> Result<ShareAsk, Unread>
-    ensures { Gives (is_offered path.now kind to perms until) result }
+    ensures { Gives (is_offered path.now to perms until) result }
 {
-    match (kind, to) {
-        (ShareType::User, Some(to)) => Ok(ShareAsk::New {
-            spot: spot(alloc, path)?,
-            to: Sharee::User(to),
-            perms,
-            until,
-        }),
-        (ShareType::Group, Some(to)) => Ok(ShareAsk::New {
-            spot: spot(alloc, path)?,
-            to: Sharee::Group(to),
-            perms,
-            until,
-        }),
-        _ => Err(Unread::Refused(Denial::NotBuilt)),
-    }
+    Ok(ShareAsk::New {
+        spot: spot(alloc, path)?,
+        to,
+        perms,
+        until,
+    })
 }
 
 fn list(alloc: Global, sent: &Sent<'_>) -> Result<ShareAsk, Unread>

@@ -4,7 +4,7 @@ ghost use Rattle.std.specs.Prelude.{◌≡◌, IfOk, map, option_and_then};
 ghost use Rattle.std.specs.Char.{is_ascii_graphic};
 ghost use Rattle.std.specs.List.{list_all, slice_split};
 ghost use Rattle.nf_dates.specs.Dates.{end_written};
-ghost use Rattle.nf_ocs.specs.Parameters.{begins_with_zero as begins_with_a_zero, id_of, is_empty as says_nothing, is_token as may_be_token, modest as may_be_quota, name_in as name_of_text, name_of, names_in, needed as is_needed, no_password as has_no_password, number_in as number_of, optional as may_be, permissions_in as permissions_of_text, permissions_of, permitted as may_be_permitted, quota_in as quota_of_text, quota_of, recipient_of, spot_in as spot_of_text, spot_of, token_in as token_of_text, token_of, type_in as type_of_text, type_of, until_in as until_of_text, until_of, user_of, without_front as behind_front};
+ghost use Rattle.nf_ocs.specs.Parameters.{begins_with_zero as begins_with_a_zero, id_of, is_empty as says_nothing, is_token as may_be_token, modest as may_be_quota, name_in as name_of_text, name_of, names_in, needed as is_needed, no_password as has_no_password, number_in as number_of, optional as may_be, permissions_in as permissions_of_text, permissions_of, permitted as may_be_permitted, quota_in as quota_of_text, quota_of, sharee_of, spot_in as spot_of_text, spot_of, token_in as token_of_text, token_of, type_in as type_of_text, type_of, until_in as until_of_text, until_of, user_of, without_front as behind_front};
 ghost use Rattle.nf_ocs.specs.Read.{Gives};
 ghost use Rattle.nf_ocs.specs.declared.Unread.TheVariants.{Refused};
 ghost use Rattle.nf_words.specs.declared.answer.Denial.TheVariants.{BadParameter};
@@ -16,7 +16,7 @@ use nf_base::{Digest, MAX_QUOTA, Name, NameFault, Path, Perms, ShareId};
 use nf_dates::read_end;
 use nf_http::read_length;
 use nf_routes::{pieces, share_segment, user_segment};
-use nf_words::{Denial, Parameter, Spot, Until};
+use nf_words::{Denial, Parameter, Sharee, Spot, Until};
 use std::alloc::{AllocError, Global};
 
 /// What kind of recipient a share has.
@@ -173,19 +173,14 @@ fn type_in(text: &[u8]) -> Result<ShareType, Unread>
     }
 }
 
-/// The name of the user or the group that a share is for; none of a link.
-pub(crate) fn recipient(
-    alloc: Global,
-    kind: ShareType,
-    given: Given,
-) -> Result<Option<Name>, Unread>
-    ensures { Gives (recipient_of kind given) result }
+/// Whom a share is for. Of a link what is given for that isn't looked at.
+pub(crate) fn sharee(alloc: Global, kind: ShareType, given: Given) -> Result<Sharee, Unread>
+    ensures { Gives (sharee_of kind given) result }
 {
     match kind {
-        ShareType::User | ShareType::Group => {
-            Ok(Some(name(alloc, Parameter::ShareWith, given)?))
-        }
-        ShareType::Link => Ok(None),
+        ShareType::User => Ok(Sharee::User(name(alloc, Parameter::ShareWith, given)?)),
+        ShareType::Group => Ok(Sharee::Group(name(alloc, Parameter::ShareWith, given)?)),
+        ShareType::Link => Ok(Sharee::Link),
     }
 }
 

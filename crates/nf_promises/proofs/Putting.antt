@@ -1,5 +1,5 @@
 -- What a PUT that was stored makes of the state, and of a GET of its path behind it.
-use Rattle.std.proofs.Common.{ℕ, ◌-◌, ◌≡◌, inl, inr, ◌&&◌, false, true, List, [], ◌∷◌, ◌++◌, length, Option, None, Some, Result, Ok, is_some, slice_get, unwrap_or, get_or, if◌then◌else◌, refl, sym, ap, subst, ◌∙◌, arith, length-append}
+use Rattle.std.proofs.Common.{ℕ, ◌-◌, ◌≡◌, inl, inr, ◌&&◌, ◌||◌, false, true, List, [], ◌∷◌, ◌++◌, length, Option, None, Some, Result, Ok, is_some, slice_get, unwrap_or, get_or, if◌then◌else◌, refl, sym, ap, subst, ◌∙◌, arith, length-append}
 use Rattle.std.specs.Prelude.{IsOk, bytes_eq}
 use Rattle.std.specs.List.{list_all}
 use Rattle.std.specs.Option.{option_and_then, option_map_or}
@@ -17,11 +17,13 @@ use Rattle.nf_laws.proofs.Paths.{found_free, found_leads}
 use Rattle.nf_laws.proofs.Reading.{stored_free, stored_is_read}
 use Rattle.nf_laws.proofs.Stays.{sound_after}
 use Rattle.nf_laws.specs.Access.{ChangesAllowed, NodesAllowed}
-use Rattle.nf_laws.specs.Reads.{IsFreeToRead, IsReadBy, IsStored, LeadsToKey}
+use Rattle.nf_laws.specs.Reads.{IsFreeToRead, IsLetRead, IsReadBy, IsStored, LeadsToKey}
 use Rattle.nf_words.proofs.Passing.{Passes, call_passes}
+use Rattle.nf_words.proofs.Starts.{no_link_shown, none_unlinked, unlinked_root}
 use Rattle.nf_words.proofs.Steps.{granted_step, put_grants_nothing, reports_nothing}
-use Rattle.nf_words.specs.Prelude.{access_of, after, after_mark, answer_at, answer_to, answered_by, AreSound, blob_by, blob_for, blob_of, blob_to, by_of, call_of, content_in, decided, decision_of, end_refusal, ends_at, forbidden_rule, found, goal_at, is_caller, IsSound, last_name, MayAsk, MayCome, named_in, not_you_rule, refusal_of, reply_to, root_of, State, way_by, step, stored, stored_at, stores, token_rule, unless_refused}
+use Rattle.nf_words.specs.Prelude.{access_of, after, after_mark, answer_at, answer_to, answered_by, AreSound, blob_by, blob_for, blob_of, blob_to, by_of, call_of, content_in, decided, decision_of, end_refusal, ends_at, forbidden_rule, found, goal_at, is_by_link, is_caller, IsSound, last_name, MayAsk, MayCome, named_in, not_you_rule, refusal_of, reply_to, root_of, seeker_of, State, way_by, step, stored, stored_at, stores, token_rule, unless_refused}
 use Rattle.nf_words.specs.Calls.{caller_of}
+use Rattle.nf_words.specs.Reached.{unlinked_by}
 use Rattle.nf_words.specs.declared.answer.Allowed.{Allowed}
 use Rattle.nf_words.specs.declared.answer.Allowed.TheVariants as allowed
 use Rattle.nf_words.specs.declared.answer.By.{By}
@@ -40,7 +42,7 @@ use Rattle.nf_words.specs.declared.history.Mark.TheVariants as mark
 use Rattle.nf_words.specs.declared.history.Outcome.{Outcome}
 use Rattle.nf_words.specs.declared.history.Outcome.TheVariants.{Body}
 use Rattle.nf_words.specs.declared.request.Caller.{Caller}
-use Rattle.nf_words.specs.declared.request.Caller.TheVariants.{Absent, Token}
+use Rattle.nf_words.specs.declared.request.Caller.TheVariants.{Absent, Link, Token}
 use Rattle.nf_words.specs.declared.request.Request.{Request}
 use Rattle.nf_words.specs.declared.request.Spot.{Spot}
 use Rattle.nf_words.specs.declared.request.Words.{Words}
@@ -162,7 +164,7 @@ put_granted count s e words caller spot n by key size sound own may event_is is 
       tables = ap (λ (x : State). x.tables) becomes ∙ ap (λ (d : Result Allowed Denial). (decided s e.seat e.moment d).tables) decides;
       goal = ap (λ (x : State). goal_at x e.seat) becomes ∙ granted_step s e.seat e.moment event (Store by key size) asked.0 h.1;
       led = put_key s.tables (root_of call) n spot (found call spot) (by_of call spot) by key size sound.rows
-          (sym (ap (λ (mount : Option ℕ). (way_by s.tables.nodes (root_of call) spot.path mount).place) own)) passes.1;
+          (sym (ap (λ (mount : Option ℕ). (way_by s.tables.nodes (seeker_of call) (root_of call) spot.path mount).place) own)) passes.1;
       passes = passes.0;
     }
 
@@ -188,21 +190,28 @@ stores_blob access t now by key digest size ok = here (end_refusal access t now 
 callers_same : (a b : State) (caller : Caller) → b.tables.tokens ≡ a.tables.tokens → caller_of b caller ≡ caller_of a caller
 callers_same a b Absent same = refl
 callers_same a b (Token digest) same = λ i. holder_of (same i) digest
+callers_same a b (Link token) same = refl
+
+-- who asks by no link needs none
+none_linked : (s : State) (caller : Caller) → is_by_link caller ≡ false → unlinked_by s caller ≡ None
+none_linked s Absent other = refl
+none_linked s (Token digest) other = refl
+none_linked s (Link token) other = absurd (cc)
 
 get_reads : (a b : State) (seat now : ℕ) (words : Words) (caller : Caller) (spot : Spot) (n later moment : ℕ) (others : Words)
-    → b.tables.users ≡ a.tables.users → b.tables.tokens ≡ a.tables.tokens
+    → is_by_link caller ≡ false → b.tables.users ≡ a.tables.users → b.tables.tokens ≡ a.tables.tokens
     → Passes (access_of a) (call_of a seat now words (put_of caller spot n))
     → ((node : ℕ) → Leads b.tables.nodes (root_of (call_of a seat now words (put_of caller spot n))) spot.path node → IsFreeToRead b later node)
     → IsReadBy b later moment others (get_of caller spot) (root_of (call_of a seat now words (put_of caller spot n))) spot.path
 unfolding token_rule not_you_rule forbidden_rule
-get_reads a b seat now words caller spot n later moment others users tokens passes free =
+get_reads a b seat now words caller spot n later moment others other users tokens passes free =
     let who : caller_of b caller ≡ caller_of a caller = callers_same a b caller tokens in
     let row : option_and_then (user_row b.tables.users) (caller_of b caller) ≡ option_and_then (user_row a.tables.users) (caller_of a caller) =
     λ i. option_and_then (user_row (users i)) (who i) in
     let before = call_of a seat now words (put_of caller spot n) in
     let behind = call_of b later moment others (get_of caller spot) in
     let token : token_rule (access_of b) behind ≡ token_rule (access_of a) before =
-    ap (λ (o : Option UserRow). if is_some o then None else Some denial.Token) row in
+    ap (λ (o : Option UserRow). if is_some o || (is_by_link caller && true) then None else Some denial.Token) row in
     let not_you : not_you_rule (access_of b) behind ≡ not_you_rule (access_of a) before =
     ap (λ (names : List (List ℕ)). if list_all (is_caller behind) names && true then None else Some denial.NotYou) (append-nil (named_in spot.user))
     ∙ ap (λ (o : Option UserRow).
@@ -212,8 +221,14 @@ get_reads a b seat now words caller spot n later moment others users tokens pass
       spot = spot;
       wanted = refl;
       of_path = refl;
-      from = ap (λ (o : Option UserRow). option_map_or (λ row. row.root) o 0) row;
-      asked = record { token = token ∙ passes.token; not_you = not_you ∙ passes.not_you; forbidden = passes.forbidden };
+      from = unlinked_root behind other ∙ ap (λ (o : Option UserRow). option_map_or (λ row. row.root) o 0) row ∙ sym (unlinked_root before other);
+      asked = record {
+        token = token ∙ passes.token;
+        not_you = not_you ∙ passes.not_you;
+        forbidden = passes.forbidden;
+        linked = none_linked b caller other;
+      };
+      reads = subst (IsLetRead behind) (sym (no_link_shown behind other)) tt;
       free = free;
     }
 
@@ -278,7 +293,8 @@ put_is_got count more s first second words caller spot n by key size body sound 
     record {
       got = λ later moment others. stored_is_read more middle second [] root spot.path (content_of_body middle body) later moment others (get_of caller spot)
           is_stored tt (λ k node few led. refl)
-          (get_reads s (after middle second) first.seat first.moment words caller spot n later moment others users tokens granted.passes
+          (get_reads s (after middle second) first.seat first.moment words caller spot n later moment others
+          (none_unlinked (call_of s first.seat first.moment words (put_of caller spot n)) spot own) users tokens granted.passes
           (λ node. stored_free more middle second root spot.path (content_of_body middle body) is_stored node later));
       blob = ap blob_by goes ∙ stores_blob (access_of middle) t second.moment by key (sha256 body) (length body)
           (subst (λ (d : Result Allowed Denial). IsOk (answered_by d)) goes accepted);

@@ -5,7 +5,6 @@ use Rattle.std.specs.Option.{option_or}
 use Rattle.std.specs.Prelude.{find, if◌then◌else◌}
 use Rattle.std.proofs.lemmas.List.Folds.{find-append}
 use Rattle.nf_access.specs.Access.{by_chains}
-use Rattle.nf_defs.specs.declared.Seeker.TheVariants.{User}
 use Rattle.nf_words.specs.Needed.{Need}
 use Rattle.nf_words.specs.Reached.{is_refused, need_broken}
 use Rattle.nf_words.specs.declared.answer.Denial.{Denial}
@@ -27,10 +26,10 @@ first_of_both a xs ys =
     ap (option_map told) (find-append refused xs ys) ∙ mapped (find refused xs) (find refused ys)
   where
     refused : Need → Bool
-    refused need = is_refused (by_chains a.base) a.base.nodes (User a.user) a.moment need
+    refused need = is_refused (by_chains a.base) a.base.nodes a.seeker a.moment need
 
     told : Need → Denial
-    told need = need_broken a.base (User a.user) a.moment need
+    told need = need_broken a.base a.seeker a.moment need
 
     mapped : (o p : Option Need) → option_map told (option_or o p) ≡ option_or (option_map told o) (option_map told p)
     mapped None p = refl

@@ -7,13 +7,14 @@ ghost use Rattle.nf_access.specs.Laws.{IsBounded, IsRefused};
 ghost use Rattle.nf_access.specs.Making.{passes_on};
 ghost use Rattle.nf_access.specs.Shares.{chain_of, mask_of, receives};
 ghost use Rattle.nf_defs.specs.declared.Seeker.TheVariants.{User};
-ghost use Rattle.nf_reach.specs.Asking.{refusal_for, way_for};
-ghost use Rattle.nf_words.specs.Calls.{mounted};
+ghost use Rattle.nf_reach.specs.Asking.{refusal_for, user_in, way_for};
+ghost use Rattle.nf_words.specs.Calls.{behind, is_itself, mount_for, mounted};
 ghost use Rattle.nf_words.specs.Needed.{is_owner};
 ghost use Rattle.nf_words.specs.Reached.{broken_by, unreached_by};
 
 use crate::ways::{Way, is_one};
 use nf_base::{Act, Moment, Name, NodeId, Perms, ShareId, ShareRow, UserId};
+use nf_defs::Seeker;
 use nf_grants::{Broken, Ground};
 use nf_mounts::Mounts;
 use nf_people::People;
@@ -22,13 +23,13 @@ use nf_tree::Tree;
 use nf_words::Denial;
 use std::marker::Model;
 
-/// A user who asks at a moment, with its root, and the rows that access goes by.
+/// Who asks at a moment, what its paths lead from, and the rows that access goes by.
 #[derive(Drop)]
 pub struct Asker<'a> {
     base: Ground<'a>,
     tree: &'a Tree,
     mounts: &'a Mounts,
-    user: UserId,
+    seeker: Seeker,
     root: NodeId,
     moment: Moment,
 }
@@ -40,7 +41,7 @@ impl<'a> Model for Asker<'a> {
 
     ghost Value = { Asking };
 
-    ghost view = { λ a. record { base = a.base; mounts = a.mounts.now.rows; user = a.user; root = a.root; moment = a.moment } };
+    ghost view = { λ a. record { base = a.base; mounts = a.mounts.now.rows; seeker = a.seeker; root = a.root; moment = a.moment } };
 
     ghost invariant = { λ a. (a.tree.now.rows ≡ a.base.nodes) × IsBounded a.base };
 }
@@ -51,14 +52,14 @@ impl<'a> Asker<'a> {
         tree: &'a Tree,
         shares: &'a Shares,
         mounts: &'a Mounts,
-        user: UserId,
+        seeker: Seeker,
         root: NodeId,
         moment: Moment,
     ) -> Self
         requires { IsBounded (record { members = people.now.members; nodes = tree.now.rows; shares = shares.now.rows }) }
         ensures base { result.base ≡ record { members = people.now.members; nodes = tree.now.rows; shares = shares.now.rows } }
         ensures mounts { result.mounts ≡ mounts.now.rows }
-        ensures user { result.user ≡ user }
+        ensures seeker { result.seeker ≡ seeker }
         ensures root { result.root ≡ root }
         ensures moment { result.moment ≡ moment }
     {
@@ -66,7 +67,7 @@ impl<'a> Asker<'a> {
             base: Ground::new(people, tree, shares),
             tree,
             mounts,
-            user,
+            seeker,
             root,
             moment,
         }
@@ -78,17 +79,27 @@ impl<'a> Asker<'a> {
         self.tree
     }
 
-    /// The user's root.
+    /// What the paths lead from: the root of a user, and what a link is of.
     pub fn root(&self) -> NodeId
         ensures { result ≡ self.now.root }
     {
         self.root
     }
 
-    pub fn user(&self) -> UserId
-        ensures { result ≡ self.now.user }
+    pub fn seeker(&self) -> Seeker
+        ensures { result ≡ self.now.seeker }
     {
-        self.user
+        self.seeker
+    }
+
+    /// The user who asks. By a link none does, and no user has the number 0.
+    pub fn user(&self) -> UserId
+        ensures { result ≡ user_in self.now.seeker }
+    {
+        match self.seeker {
+            Seeker::User(user) => user,
+            Seeker::Link(_) => UserId::new(0),
+        }
     }
 
     pub(crate) fn all_mounts(&self) -> &Mounts
@@ -103,11 +114,11 @@ impl<'a> Asker<'a> {
     pub fn way(&self, names: &[Name]) -> Way
         ensures { result ≡ way_for self.now names.now }
     {
-        match self.mounted(names) {
+        match self.mount_for(names) {
             Some(mount) => Way {
                 mount: Some(mount),
-                itself: is_one(names),
-                place: self.tree().find(mount, &names[1..]),
+                itself: self.is_itself(names),
+                place: self.tree().find(mount, self.behind(names)),
             },
             None => Way {
                 mount: None,
@@ -117,39 +128,78 @@ impl<'a> Asker<'a> {
         }
     }
 
-    /// The node of the mount that a path goes by.
-    fn mounted(&self, names: &[Name]) -> Option<NodeId>
-        ensures { result ≡ mounted self.now.base.nodes self.now.mounts self.now.user self.now.root names.now }
+    /// The node of the mount that a path goes by: all paths of a link go by what it is of.
+    fn mount_for(&self, names: &[Name]) -> Option<NodeId>
+        ensures { result ≡ mount_for self.now.base.nodes self.now.mounts self.now.seeker self.now.root names.now }
+    {
+        match self.seeker {
+            Seeker::User(user) => self.mounted(user, names),
+            Seeker::Link(_) => Some(self.root),
+        }
+    }
+
+    /// The same of a user's path.
+    fn mounted(&self, user: UserId, names: &[Name]) -> Option<NodeId>
+        ensures { result ≡ mounted self.now.base.nodes self.now.mounts user self.now.root names.now }
     {
         let first = names.first()?;
         if self.tree().child(self.root, first).is_some() {
             return None;
         }
-        self.all_mounts().at(self.user, first)
+        self.all_mounts().at(user, first)
+    }
+
+    /// Whether the path is that of the user's mount itself.
+    fn is_itself(&self, names: &[Name]) -> bool
+        ensures { result ≡ is_itself self.now.seeker names.now }
+    {
+        match self.seeker {
+            Seeker::User(_) => is_one(names),
+            Seeker::Link(_) => false,
+        }
+    }
+
+    /// The names behind the mount that a path goes by.
+    fn behind<'b>(&self, names: &'b [Name]) -> &'b [Name]
+        ensures { result.now ≡ behind self.now.seeker names.now }
+    {
+        match self.seeker {
+            Seeker::User(_) => names.get(1..).unwrap_or(&[]),
+            Seeker::Link(_) => names,
+        }
     }
 
     // ---- access
 
-    /// Whether the user owns the node.
+    /// Whether a user asks who owns the node.
     pub fn owns(&self, node: NodeId) -> bool
-        ensures { result ≡ is_owner self.now.base.nodes (User self.now.user) node }
+        ensures { result ≡ is_owner self.now.base.nodes self.now.seeker node }
+    {
+        match self.seeker {
+            Seeker::User(user) => self.is_owner(user, node),
+            Seeker::Link(_) => false,
+        }
+    }
+
+    fn is_owner(&self, user: UserId, node: NodeId) -> bool
+        ensures { result ≡ is_owner self.now.base.nodes (User user) node }
     {
         match self.tree().node(node) {
-            Some(row) => row.owner == self.user,
+            Some(row) => row.owner == user,
             None => false,
         }
     }
 
-    /// Whether a grant of the user on the mount's node is open.
+    /// Whether a grant on the mount's node is open.
     pub(crate) fn is_reached(&self, mount: NodeId) -> bool
-        ensures { result ≡ list_any (is_open self.now.moment) (by_chains self.now.base (User self.now.user) mount) }
+        ensures { result ≡ list_any (is_open self.now.moment) (by_chains self.now.base self.now.seeker mount) }
     {
-        self.base.reaches(self.user, mount, self.moment)
+        self.base.reaches(self.seeker, mount, self.moment)
     }
 
-    /// Why the user isn't reached by the mount of a node, where that is so.
+    /// Why who asks isn't reached by the mount of a node, where that is so.
     pub fn unreached(&self, mount: NodeId) -> Option<Denial>
-        ensures { result ≡ unreached_by (by_chains self.now.base) self.now.base (User self.now.user) self.now.moment mount }
+        ensures { result ≡ unreached_by (by_chains self.now.base) self.now.base self.now.seeker self.now.moment mount }
     {
         if self.is_reached(mount) {
             None
@@ -158,26 +208,26 @@ impl<'a> Asker<'a> {
         }
     }
 
-    /// What is told where the user may not do the act by the mount, or isn't reached where none is asked.
+    /// What is told where the act may not be done by the mount, or who asks isn't reached where none is asked for.
     fn broken_by(&self, act: Option<Act>, mount: NodeId) -> Denial
-        requires { IsRefused self.now.base self.now.moment (User self.now.user) act mount }
-        ensures { result ≡ broken_by self.now.base (User self.now.user) self.now.moment act mount }
+        requires { IsRefused self.now.base self.now.moment self.now.seeker act mount }
+        ensures { result ≡ broken_by self.now.base self.now.seeker self.now.moment act mount }
     {
-        match self.base.broken(self.user, mount, act, self.moment) {
+        match self.base.broken(self.seeker, mount, act, self.moment) {
             Broken::NoShare => Denial::NoShare,
             Broken::Link { share, cause } => Denial::BrokenLink { share, cause },
         }
     }
 
-    /// Whether a grant on the mount's node lets the user do the act.
+    /// Whether a grant on the mount's node lets who asks do the act.
     pub(crate) fn is_granted(&self, act: Act, mount: NodeId) -> bool
-        ensures { result ≡ list_any (allows self.now.moment act) (by_chains self.now.base (User self.now.user) mount) }
+        ensures { result ≡ list_any (allows self.now.moment act) (by_chains self.now.base self.now.seeker mount) }
     {
-        let share = self.base.allows(self.user, mount, act, self.moment);
+        let share = self.base.allows(self.seeker, mount, act, self.moment);
         share.is_some()
     }
 
-    /// Why the user may not do the act at a node by that mount, where that is so.
+    /// Why the act may not be done at a node by that mount, where that is so.
     pub fn refused(&self, act: Act, node: NodeId, mount: Option<NodeId>) -> Option<Denial>
         ensures { result ≡ refusal_for self.now (record { act = act; node = node; mount = mount } ∷ []) }
     {
@@ -190,13 +240,14 @@ impl<'a> Asker<'a> {
             None => Some(Denial::NoShare),
         }
     }
+
     // ---- shares
 
-    /// The least share by which the user may share the node of a mount with those permissions.
+    /// The least share by which who asks may share the node of a mount with those permissions.
     pub fn passes_on(&self, perms: Perms, mount: NodeId) -> Option<ShareId>
-        ensures { result ≡ option_map (λ grant. grant.share) (find (passes_on self.now.moment perms) (by_chains self.now.base (User self.now.user) mount)) }
+        ensures { result ≡ option_map (λ grant. grant.share) (find (passes_on self.now.moment perms) (by_chains self.now.base self.now.seeker mount)) }
     {
-        self.base.passes_on(self.user, mount, perms, self.moment)
+        self.base.passes_on(self.seeker, mount, perms, self.moment)
     }
 
     /// What every share of the share's chain allows, whether or not the chain stands; nothing where there is none.
@@ -206,10 +257,10 @@ impl<'a> Asker<'a> {
         self.base.mask(share)
     }
 
-    /// Whether the share is for the user.
+    /// Whether the share is for the user who asks.
     pub fn receives(&self, row: &ShareRow) -> bool
-        ensures { result ≡ receives self.now.base.members (User self.now.user) row.now }
+        ensures { result ≡ receives self.now.base.members (User (user_in self.now.seeker)) row.now }
     {
-        receives(&self.base, self.user, row)
+        receives(&self.base, Seeker::User(self.user()), row)
     }
 }

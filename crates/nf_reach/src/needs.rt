@@ -60,6 +60,7 @@ impl<'a> Asker<'a> {
             return Some(self.root());
         }
         match &way.place {
+            Found::At(node) if *node == self.root() => Some(*node),
             Found::At(node) => Some(folder_or_own(self.tree(), *node)),
             Found::Free { folder } => Some(*folder),
             Found::Missing { .. } => None,
@@ -131,7 +132,7 @@ impl<'a> Asker<'a> {
         }
     }
 
-    /// Why the user may not do what a request needs, by where its paths lead: the first act that is refused.
+    /// Why what a request needs may not be done, by where its paths lead: the first act that is refused.
     pub fn acts(&self, asked: &Asked<'_>, ways: &Ways) -> Option<Denial>
         ensures { result ≡ refusal_for self.now (needs_between self.now.base.nodes self.now.root asked.now ways.now.source ways.now.target) }
     {

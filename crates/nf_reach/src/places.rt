@@ -31,7 +31,7 @@ fn target_lost(place: &Found) -> Option<Denial>
 }
 
 impl<'a> Asker<'a> {
-    /// Why the user isn't reached by the mount of a way, if it goes by one.
+    /// Why who asks isn't reached by the mount of a way, if it goes by one.
     fn unreached_on(&self, way: &Way) -> Option<Denial>
         ensures { result ≡ unreached_for self.now way.now }
     {

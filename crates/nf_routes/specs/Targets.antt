@@ -39,10 +39,13 @@ target_path target = option_map without_slash (whole_path target)
 abbrev pub decoded_segments : List ℕ → List (List ℕ)
 decoded_segments path = map percent_decode (slice_split is_slash path)
 
--- the decoded segments of the path of a user's file, the user's first; none of any other target
+-- what is behind the words of the two mounts where files are
+abbrev pub behind_files : List ℕ → Option (List ℕ)
+behind_files path = option_or (behind (codes "/remote.php/dav/files/") path) (behind (codes "/public.php/dav/files/") path)
+
+-- the decoded segments of the path of a file, the name of a user or the token of a link first; none of any other target
 abbrev pub segments_of : List ℕ → List (List ℕ)
-segments_of target =
-    option_map_or decoded_segments (option_and_then (behind (codes "/remote.php/dav/files/")) (target_path target)) []
+segments_of target = option_map_or decoded_segments (option_and_then behind_files (target_path target)) []
 
 -- whether the path of a target, as it was sent, is in the part of the site that speaks of shares and people
 abbrev pub is_ocs : List ℕ → Bool

@@ -3,11 +3,13 @@
 ghost use Rattle.std.specs.Prelude.{◌≡◌, ◌<◌, IfOk, IfSome, codes, length, map, option_and_then, option_copied, position};
 ghost use Rattle.std.specs.List.{before_first, slice_split};
 ghost use Rattle.percent_encoding.specs.Percent.{percent_decode};
-ghost use Rattle.nf_routes.specs.Targets.{behind, from_slash, is_ocs as begins_with_ocs, is_question, is_slash, path_in, query_of, segments_of, share_segment as segment_of_share, target_path, user_segment as segment_of_user, whole_path, without_slash};
+ghost use Rattle.nf_routes.specs.Targets.{behind, behind_files as in_files, from_slash, is_ocs as begins_with_ocs, is_question, is_slash, path_in, query_of, segments_of, share_segment as segment_of_share, target_path, user_segment as segment_of_user, whole_path, without_slash};
 
 use std::alloc::{AllocError, Global};
 
 const FILES: &[u8] = b"/remote.php/dav/files/";
+
+const PUBLIC: &[u8] = b"/public.php/dav/files/";
 
 const SHARES: &[u8] = b"/ocs/v2.php/apps/files_sharing/api/v1/shares/";
 
@@ -15,7 +17,7 @@ const USERS: &[u8] = b"/ocs/v2.php/cloud/users/";
 
 const OCS: &[u8] = b"/ocs/v2.php/";
 
-/// The segments of the path of a user's file, the user's first; none of any other target.
+/// The segments of the path of a file, the name of a user or the token of a link first; none of any other target.
 /// They are decoded, so that a segment may hold any byte, a slash too.
 pub fn segments(alloc: Global, target: &[u8]) -> Result<Vec<Vec<u8>>, AllocError>
     ensures { IfOk result (λ segments. map (λ segment. segment.items) segments.items ≡ segments_of target.now) }
@@ -71,11 +73,15 @@ pub fn is_ocs(target: &[u8]) -> bool
     }
 }
 
-// What is behind the words of the files' mount.
+// What is behind the words of the two mounts where files are.
 fn behind_files(target: &[u8]) -> Option<&[u8]>
-    ensures { option_copied result ≡ option_and_then (behind (codes "/remote.php/dav/files/")) (target_path target.now) }
+    ensures { option_copied result ≡ option_and_then in_files (target_path target.now) }
 {
-    target_path(target)?.strip_prefix(FILES)
+    let path = target_path(target)?;
+    match path.strip_prefix(FILES) {
+        Some(rest) => Some(rest),
+        None => path.strip_prefix(PUBLIC),
+    }
 }
 
 // What is behind the words of the mount of shares.

@@ -1,14 +1,15 @@
 -- Shares of which one is made, has other permissions, or is ended.
-use Rattle.std.proofs.Common.{◌≡◌, ◌≢◌, ℕ, ◌==◌, ◌≤◌, inl, inr, true, false, List, get_or, refl, sym, ap, ◌∙◌, subst, arith}
+use Rattle.std.proofs.Common.{◌≡◌, ◌≢◌, ℕ, ◌==◌, ◌≤◌, inl, inr, Bool, true, false, List, get_or, refl, sym, ap, ◌∙◌, subst, arith}
 use Rattle.std.specs.Prelude.{None, Some, Option, is_some}
 use Rattle.std.specs.List.{All, AllPairs, list_any}
 use Rattle.std.specs.Option.{IfSome, option_map_or}
-use Rattle.std.proofs.lemmas.Bool.{and_from, and_parts, cases_order, eqb-true, le-ltb, not_from_false}
+use Rattle.std.proofs.lemmas.Bool.{and_from, and_parts, both_ways, cases_order, eqb-true, le-ltb, not_from_false}
 use Rattle.nf_access.proofs.LookUps.{find_among}
 use Rattle.nf_access.proofs.Kept.{share_row_each}
 use Rattle.std.proofs.lemmas.List.Elements.{All-contains, All-weaker}
 use Rattle.std.proofs.lemmas.List.Folds.{Any-from_list_any}
 use Rattle.std.proofs.lemmas.List.{get_or_default}
+use Rattle.std.proofs.lemmas.Slice.Eq.{bytes_eq-Decides}
 use Rattle.nf_base.specs.declared.limits.TheConstants.{MAX_CHAIN}
 use Rattle.nf_base.specs.declared.rows.GroupRow.{GroupRow}
 use Rattle.nf_base.specs.declared.rows.MetaRow.{MetaRow}
@@ -19,23 +20,22 @@ use Rattle.nf_base.specs.declared.rows.ShareRow.{ShareRow}
 use Rattle.nf_base.specs.declared.rows.UserRow.{UserRow}
 use Rattle.nf_defs.proofs.Puts.{all_put}
 use Rattle.nf_defs.specs.Prelude.{node_row, share_key, Tables, user_row}
-use Rattle.nf_laws.proofs.Rows.{found_is}
+use Rattle.nf_laws.proofs.Rows.{each_fails, found_is}
 use Rattle.nf_laws.specs.Access.{IsSharing, IsSteered, is_ended, is_made, is_set, SharesOne}
 use Rattle.nf_laws.specs.Numbers.{AreHigher}
 use Rattle.nf_words.proofs.Asks.{share_found}
 use Rattle.nf_words.proofs.Found.{found_has}
 use Rattle.nf_words.specs.History.{end_in, IsEnd, IsInBounds}
-use Rattle.nf_words.specs.Prelude.{AreSound, Call, call_of, ended_row, is_end_moment, IsKindSound, IsNodeSound, IsShareSound, kind_to, perms_after, set_row, State, until_after}
+use Rattle.nf_words.specs.Prelude.{AreSound, Call, call_of, ended_row, is_end_moment, IsKindSound, IsNodeSound, IsShareSound, perms_after, set_row, State, until_after}
 use Rattle.nf_words.specs.declared.history.Entry.{Entry}
-use Rattle.nf_words.specs.declared.request.Receiver.{Receiver}
-use Rattle.nf_words.specs.declared.request.Receiver.TheVariants as receiver
 use Rattle.nf_words.specs.declared.request.ShareAsk.TheVariants as ask
 use Rattle.nf_words.specs.declared.request.Sharee.{Sharee}
 use Rattle.nf_words.specs.declared.request.Spot.{Spot}
 use Rattle.nf_words.specs.declared.request.Until.{Until}
 use Rattle.nf_words.specs.declared.request.Until.TheVariants as until
 use Rattle.nf_words.specs.declared.request.Wanted.TheVariants.{Share}
-use Rattle.nf_access.specs.Shares.{share_row}
+use Rattle.nf_access.specs.Making.{is_token_taken}
+use Rattle.nf_access.specs.Shares.{is_link, link_row, share_row}
 use Rattle.nf_rules.specs.Ruled.{AreRuled, AreTokensApart, IsGiven, IsGroupRuled, IsMountRuled, IsShareRuled, IsUserRuled}
 use Rattle.nf_rules.specs.Rules.{are_share_numbers, is_given, is_recipient_given}
 use Rattle.nf_rules.proofs.After.{chain_above, IsAbove, numbers_up, share_ruled, still_given}
@@ -67,7 +67,7 @@ numbers_ending meta row perms until is ends =
 module _ (t : Tables) (users : All (λ (user : UserRow). IsGiven t.meta.next_user user.id) t.users)
     (groups : All (λ (group : GroupRow). IsGiven t.meta.next_group group.id) t.groups) (sound : AreSound t) (row : ShareRow)
     (fine : IsShareSound t row) (there : share_row t.shares row.id ≡ Some row) (lasts : row.ended ≡ false)
-    (ends : option_map_or is_end_moment row.until true ≡ true) (no_link : (token : List ℕ) → row.kind ≢ to.Link token) where
+    (ends : option_map_or is_end_moment row.until true ≡ true) where
   user_given : (user : ℕ) → is_some (user_row t.users user) ≡ true → is_given t.meta.next_user user ≡ true
   user_given user is = here (user_row t.users user) refl is
     where
@@ -83,10 +83,10 @@ module _ (t : Tables) (users : All (λ (user : UserRow). IsGiven t.meta.next_use
       is_given_from t.meta.next_group group
       (subst (IsGiven t.meta.next_group) (eqb-true any.1.id group any.4) (subst (λ (g : GroupRow). IsGiven t.meta.next_group g.id) any.3 (groups any.0 any.1 any.2)))
 
-  recipient_is : (kind : ShareKind) → IsKindSound t kind → ((token : List ℕ) → kind ≢ to.Link token) → is_recipient_given t.meta kind ≡ true
-  recipient_is (to.User user) is none = user_given user is
-  recipient_is (to.Group group) is none = group_given group is
-  recipient_is (to.Link token) is none = absurd (none token refl)
+  recipient_is : (kind : ShareKind) → IsKindSound t kind → is_recipient_given t.meta kind ≡ true
+  recipient_is (to.User user) is = user_given user is
+  recipient_is (to.Group group) is = group_given group is
+  recipient_is (to.Link token) is = refl
 
   node_there : is_some (node_row t.nodes row.node) ≡ true → is_given t.meta.next_node row.node ≡ true
   node_there is = here (node_row t.nodes row.node) refl is
@@ -121,10 +121,22 @@ module _ (t : Tables) (users : All (λ (user : UserRow). IsGiven t.meta.next_use
       (node_there (fine.present lasts)))
       (user_given row.owner fine.owner))
       (user_given row.initiator fine.initiator))
-      (recipient_is row.kind fine.kind no_link))
+      (recipient_is row.kind fine.kind))
       (parent_given row.parent (chain_above MAX_CHAIN t.shares row there fine.chained)))
       ends)
       (not_from_false _ (le-ltb t.meta.last row.made fine.made))
+
+-- no share has the token of a link that none has
+no_other : (shares : List ShareRow) (token : List ℕ) → is_some (link_row shares token) ≡ false
+    → All (λ (other : ShareRow). other.kind ≢ to.Link token) shares
+no_other shares token free k d within link =
+    let has : ShareRow → Bool = λ row. is_link token row.kind in
+    both_ways (has (get_or shares k d)) (each_fails has shares (not_some (link_row shares token) free) k d within)
+    (ap (is_link token) link ∙ (bytes_eq-Decides token token).1 refl)
+  where
+    not_some : (o : Option ShareRow) → is_some o ≡ false → o ≡ None
+    not_some None free = refl
+    not_some (Some row) free = absurd (cc)
 
 -- ---- a share that is asked about
 
@@ -185,22 +197,11 @@ module _ (s : State) (e : Entry) (made : Tables) (h : AreRuled s.tables) (sound 
       here until.Never ends = refl
       here (until.At moment) ends = ends
 
-  no_link : (by : Receiver) (kind : ShareKind) → kind ≡ kind_to by → (token : List ℕ) → kind ≢ to.Link token
-  no_link (receiver.User user) kind same token link = absurd (user_link user token (sym same ∙ link))
-    where
-      user_link : (user : ℕ) (token : List ℕ) → to.User user ≡ to.Link token → ⊥
-      user_link user token same = cc
-  no_link (receiver.Group group) kind same token link = absurd (group_link group token (sym same ∙ link))
-    where
-      group_link : (group : ℕ) (token : List ℕ) → to.Group group ≡ to.Link token → ⊥
-      group_link group token same = cc
-
   of_one : (row : ShareRow) → SharesOne call row → is.row ≡ row → Numbered row
   of_one row (is_made spot name perms until _ asked by) same =
       λ before. new_numbers made users_given groups_given sound row (subst (IsShareSound made) same fine)
       (subst (λ (r : ShareRow). share_row made.shares r.id ≡ Some r) same there) by.lasts
       (ap (λ (o : Option ℕ). option_map_or is_end_moment o true) by.ends ∙ end_is until (new_end spot name perms until asked))
-      (no_link by.receiver row.kind by.kind)
   of_one row (is_set share perms until old _ asked steered like fits) same =
       let own = (old_of share old steered).numbers in
       let until_own = (and_parts _ _ (and_parts _ _ own).0).1 in
@@ -239,9 +240,10 @@ module _ (s : State) (e : Entry) (made : Tables) (h : AreRuled s.tables) (sound 
       (numbered k d within (sound.others.shares k d within).made)
       (sound.others.shares k d within) (share_row_each made.shares sound.others.shares_rise k d within)
 
-  -- links keep their tokens, and what is new is none
+  -- links keep their tokens, and what is new has the token of none
   apart_from : (row : ShareRow) → SharesOne call row → All (λ (other : ShareRow). other.id ≢ row.id → AreTokensApart row other) t.shares
-  apart_from row (is_made spot name perms until _ asked by) k d within other token link = absurd (no_link by.receiver row.kind by.kind token link)
+  apart_from row (is_made spot name perms until _ asked by) k d within other token link =
+      no_other t.shares token (subst (λ (kind : ShareKind). is_token_taken t.shares kind ≡ false) link by.token) k d within
   apart_from row (is_set share perms until old _ asked steered like fits) k d within other token link =
       of_old share old steered k d within (λ same. other (same ∙ sym (ap (λ (r : ShareRow). r.id) like))) token
       (sym (ap (λ (r : ShareRow). r.kind) like) ∙ link)

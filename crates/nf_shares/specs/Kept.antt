@@ -1,9 +1,7 @@
 -- The shares as the program holds them.
-use Rattle.std.specs.Prelude.{◌≡◌, ℕ, Bool, true, false, ◌==◌, bytes_eq, ◌+◌, ◌-◌, ◌≤◌, List, [], ◌∷◌, filter, find, length, map, min, Option, None, Some, option_map, if◌then◌else◌}
+use Rattle.std.specs.Prelude.{◌≡◌, ℕ, Bool, true, false, ◌==◌, ◌+◌, ◌-◌, ◌≤◌, List, [], ◌∷◌, filter, length, map, min, Option, None, Some, if◌then◌else◌}
 use Rattle.std.specs.Option.{option_map_or}
 use Rattle.nf_access.specs.Shares.{share_row}
-use Rattle.nf_base.specs.declared.rows.ShareKind.{ShareKind}
-use Rattle.nf_base.specs.declared.rows.ShareKind.TheVariants as kind
 use Rattle.nf_base.specs.declared.rows.ShareRow.{ShareRow}
 use Rattle.nf_defs.specs.Prelude.{IsRising, put, share_key}
 use Rattle.nf_shares.specs.declared.nodes.NodeShare.{NodeShare}
@@ -21,15 +19,6 @@ FitsShare shares = length shares.rows + 1 ≤ shares.room
 -- the numbers of the rows that pass a test
 abbrev pub ids_of : (ShareRow → Bool) → List ShareRow → List ℕ
 ids_of test rows = map (λ row. row.id) (filter test rows)
-
-abbrev pub is_link : List ℕ → ShareKind → Bool
-is_link token (kind.User user) = false
-is_link token (kind.Group group) = false
-is_link token (kind.Link own) = bytes_eq own token
-
--- the share whose link has that token
-abbrev pub link_of : List ShareRow → List ℕ → Option ℕ
-link_of rows token = option_map (λ row. row.id) (find (λ row. is_link token row.kind) rows)
 
 abbrev pub is_child_of : ℕ → Option ℕ → Bool
 is_child_of id None = false

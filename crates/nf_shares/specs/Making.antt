@@ -2,13 +2,12 @@
 use Rattle.std.specs.Prelude.{◌≡◌, ℕ, Bool, false, nat_le, List, find, length, Option, None, Some, option_map, Result, Ok, Err, if◌then◌else◌}
 use Rattle.std.specs.Option.{option_or, option_map_or}
 use Rattle.nf_access.specs.Making.{is_again, is_self_share}
-use Rattle.nf_access.specs.Shares.{chain_of}
+use Rattle.nf_access.specs.Shares.{chain_of, is_link}
 use Rattle.nf_base.specs.declared.limits.TheConstants.{MAX_CHAIN}
 use Rattle.nf_base.specs.declared.rows.ShareKind.{ShareKind}
 use Rattle.nf_base.specs.declared.rows.ShareKind.TheVariants as kind
 use Rattle.nf_base.specs.declared.rows.ShareRow.{ShareRow}
 use Rattle.nf_defs.specs.Prelude.{put, share_key}
-use Rattle.nf_shares.specs.Kept.{is_link}
 use Rattle.nf_base.specs.declared.limits.TheConstants.{MAX_SHARES}
 use Rattle.nf_shares.specs.declared.faults.ShareFault.{ShareFault}
 use Rattle.nf_shares.specs.declared.faults.ShareFault.TheVariants as fault

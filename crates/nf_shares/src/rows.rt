@@ -1,17 +1,28 @@
 //! What is asked of one row of a share.
 
 ghost use Rattle.std.specs.Prelude.{◌≡◌, ◌==◌, find, option_copied};
-ghost use Rattle.nf_access.specs.Shares.{receives, is_before};
+ghost use Rattle.nf_access.specs.Shares.{is_before, is_link, receives};
 ghost use Rattle.nf_defs.specs.declared.Seeker.TheVariants as seeker;
-ghost use Rattle.nf_shares.specs.Kept.{is_link, is_child_of};
+ghost use Rattle.nf_shares.specs.Kept.{is_child_of};
 ghost use Rattle.nf_access.specs.Making.{is_again, is_self_share, is_same_recipient};
 ghost use Rattle.nf_shares.specs.Making.{has_token_of};
 
 use nf_access::Facts;
-use nf_base::{Moment, Name, ShareId, ShareKind, ShareRow, UserId};
+use nf_base::{Moment, ShareId, ShareKind, ShareRow, UserId};
+use nf_defs::Seeker;
+
+/// Whether the seeker receives the share.
+pub fn receives<F: Facts>(facts: &F, seeker: Seeker, row: &ShareRow) -> bool
+    ensures { result ≡ receives (F.members facts.now) seeker row.now }
+{
+    match seeker {
+        Seeker::User(user) => is_for(facts, user, row),
+        Seeker::Link(link) => row.id == link,
+    }
+}
 
 /// Whether the user receives the share.
-pub fn receives<F: Facts>(facts: &F, user: UserId, row: &ShareRow) -> bool
+fn is_for<F: Facts>(facts: &F, user: UserId, row: &ShareRow) -> bool
     ensures { result ≡ receives (F.members facts.now) (seeker.User user) row.now }
 {
     let named = match &row.kind {
@@ -22,11 +33,12 @@ pub fn receives<F: Facts>(facts: &F, user: UserId, row: &ShareRow) -> bool
     named && row.owner != user
 }
 
-pub(crate) fn is_link(token: &Name, kind: &ShareKind) -> bool
+/// Whether it is the link of that token.
+pub(crate) fn is_link(token: &[u8], kind: &ShareKind) -> bool
     ensures { result ≡ is_link token.now kind.now }
 {
     match kind {
-        ShareKind::Link(own) => own.as_bytes() == token.as_bytes(),
+        ShareKind::Link(own) => own.as_bytes() == token,
         _ => false,
     }
 }
@@ -88,7 +100,9 @@ pub(crate) fn token_of<'a>(rows: &'a [ShareRow], row: &ShareRow) -> Option<&'a S
     ensures { option_copied result ≡ find (has_token_of row.now.kind) rows.now }
 {
     match &row.kind {
-        ShareKind::Link(token) => rows.iter().find(|other| is_link(token, &other.kind)),
+        ShareKind::Link(token) => rows
+            .iter()
+            .find(|other| is_link(token.as_bytes(), &other.kind)),
         ShareKind::User(_) | ShareKind::Group(_) => None,
     }
 }

@@ -5,10 +5,9 @@ ghost use Rattle.std.specs.Fn.{FnOnceReturnsAtMut};
 ghost use Rattle.std.specs.Option.{option_map_or};
 ghost use Rattle.nf_base.specs.declared.rows.ShareRow.{ShareRow};
 ghost use Rattle.nf_access.specs.Broken.{first_received};
-ghost use Rattle.nf_access.specs.Shares.{chain_of, chain_within, mask_of, receives, share_row};
+ghost use Rattle.nf_access.specs.Shares.{chain_of, chain_within, link_row, mask_of, receives, share_row};
 ghost use Rattle.nf_defs.specs.Prelude.{IsRising, is_under, put, share_key};
-ghost use Rattle.nf_defs.specs.declared.Seeker.TheVariants as seeker;
-ghost use Rattle.nf_shares.specs.Kept.{FitsShare, StaysInPlace, changed, ended_where, ids_of, is_child_of, link_of};
+ghost use Rattle.nf_shares.specs.Kept.{FitsShare, StaysInPlace, changed, ended_where, ids_of, is_child_of};
 ghost use Rattle.nf_access.specs.Making.{is_again};
 ghost use Rattle.nf_shares.specs.Making.{IsFirstFault, Makes, fault_of};
 ghost use Rattle.nf_table.specs.Rows.{Changes};
@@ -18,7 +17,8 @@ use crate::faults::ShareFault;
 use crate::nodes::{NodeShare, node_index, renew};
 use crate::rows::{is_again, is_child_of, is_link, is_self_share, receives, token_of};
 use nf_access::{Facts, nothing};
-use nf_base::{MAX_CHAIN, MAX_SHARES, Moment, Name, NodeId, Perms, ShareId, ShareRow, UserId};
+use nf_base::{MAX_CHAIN, MAX_SHARES, Moment, NodeId, Perms, ShareId, ShareRow, UserId};
+use nf_defs::Seeker;
 use nf_table::{ShareKey, Table};
 use nf_tree::Tree;
 use std::alloc::{AllocError, Global};
@@ -98,11 +98,10 @@ impl Shares {
     }
 
     /// The share whose link has that token.
-    pub fn by_link(&self, token: &Name) -> Option<ShareId>
-        ensures { result ≡ link_of self.now.rows token.now }
+    pub fn by_link(&self, token: &[u8]) -> Option<&ShareRow>
+        ensures { option_copied result ≡ link_row self.now.rows token.now }
     {
-        let row = self.rows().iter().find(|row| is_link(token, &row.kind))?;
-        Some(row.id)
+        self.rows().iter().find(|row| is_link(token, &row.kind))
     }
 
     /// How many shares the share's chain has; 0 where there is none.
@@ -125,11 +124,16 @@ impl Shares {
         self.rows.count()
     }
 
-    /// The first share on the node that the user receives, ended ones included.
-    pub fn first_received<F: Facts>(&self, facts: &F, user: UserId, node: NodeId) -> Option<ShareId>
-        ensures { result ≡ option_map (λ row. row.id) (first_received (F.members facts.now) self.now.rows (seeker.User user) node) }
+    /// The first share on the node that the seeker receives, ended ones included.
+    pub fn first_received<F: Facts>(
+        &self,
+        facts: &F,
+        seeker: Seeker,
+        node: NodeId,
+    ) -> Option<ShareId>
+        ensures { result ≡ option_map (λ row. row.id) (first_received (F.members facts.now) self.now.rows seeker node) }
     {
-        self.first_of(facts, user, self.entries(node))
+        self.first_of(facts, seeker, self.entries(node))
     }
 
     /// The entries of a node's shares.
@@ -172,18 +176,18 @@ impl Shares {
             .collect(alloc)
     }
 
-    /// The shares that the user receives.
+    /// The shares that the seeker receives.
     pub fn received<F: Facts>(
         &self,
         alloc: Global,
         facts: &F,
-        user: UserId,
+        seeker: Seeker,
     ) -> Result<Vec<ShareId>, AllocError>
-        ensures { IfOk result (λ ids. ids.items ≡ ids_of (receives (F.members facts.now) (seeker.User user)) self.now.rows) }
+        ensures { IfOk result (λ ids. ids.items ≡ ids_of (receives (F.members facts.now) seeker) self.now.rows) }
     {
         self.rows()
             .iter()
-            .filter(|row| receives(facts, user, row))
+            .filter(|row| receives(facts, seeker, row))
             .map(|row| row.id)
             .collect(alloc)
     }
@@ -300,22 +304,27 @@ impl Shares {
         }
     }
 
-    /// The first of these entries' shares that the user receives.
-    fn first_of<F: Facts>(&self, facts: &F, user: UserId, entries: &[NodeShare]) -> Option<ShareId>
-        ensures { result ≡ find (λ id. option_map_or (receives (F.members facts.now) (seeker.User user)) (share_row self.now.rows id) false) (map (λ entry. entry.share) entries.now) }
+    /// The first of these entries' shares that the seeker receives.
+    fn first_of<F: Facts>(
+        &self,
+        facts: &F,
+        seeker: Seeker,
+        entries: &[NodeShare],
+    ) -> Option<ShareId>
+        ensures { result ≡ find (λ id. option_map_or (receives (F.members facts.now) seeker) (share_row self.now.rows id) false) (map (λ entry. entry.share) entries.now) }
     {
         entries
             .iter()
             .map(|entry| entry.share)
-            .find(|id| self.is_received(facts, user, *id))
+            .find(|id| self.is_received(facts, seeker, *id))
     }
 
-    /// Whether there is a share of that number, which the user receives.
-    fn is_received<F: Facts>(&self, facts: &F, user: UserId, id: ShareId) -> bool
-        ensures { result ≡ option_map_or (receives (F.members facts.now) (seeker.User user)) (share_row self.now.rows id) false }
+    /// Whether there is a share of that number, which the seeker receives.
+    fn is_received<F: Facts>(&self, facts: &F, seeker: Seeker, id: ShareId) -> bool
+        ensures { result ≡ option_map_or (receives (F.members facts.now) seeker) (share_row self.now.rows id) false }
     {
         match self.row(id) {
-            Some(row) => receives(facts, user, row),
+            Some(row) => receives(facts, seeker, row),
             None => false,
         }
     }

@@ -1,5 +1,5 @@
 -- What is known of what is asked about shares.
-use Rattle.std.proofs.Common.{◌≡◌, ◌≢◌, ◌⊎◌, ℕ, zero, suc, ◌+◌, ◌<◌, ◌≤◌, ◌==◌, ◌&&◌, ◌||◌, not, inl, inr, min, max, Bool, true, false, List, [], ◌∷◌, filter, find, get_or, length, map, Option, option_map, if◌then◌else◌, refl, ap, sym, subst, ◌∙◌, arith, le_refl}
+use Rattle.std.proofs.Common.{◌≡◌, ◌≢◌, ℕ, ◌+◌, ◌<◌, ◌≤◌, ◌==◌, ◌&&◌, ◌||◌, not, inl, inr, min, max, Bool, true, false, List, [], ◌∷◌, filter, find, get_or, length, map, Option, option_map, if◌then◌else◌, refl, ap, sym, subst, ◌∙◌, arith, le_refl}
 use Rattle.std.specs.Prelude.{None, Some, bit_and, bit_or, bytes_eq, is_none, is_some, nat_lt}
 use Rattle.std.specs.Int.{bit_at}
 use Rattle.std.specs.List.{All, AllPairs, list_any}
@@ -15,7 +15,7 @@ use Rattle.nf_access.proofs.Chains.{own_row}
 use Rattle.nf_access.proofs.Granted.{any_is}
 use Rattle.nf_access.proofs.LookUps.{find_among}
 use Rattle.nf_access.specs.Access.{by_chains}
-use Rattle.nf_access.specs.Making.{is_again, is_self_share, passes_on}
+use Rattle.nf_access.specs.Making.{is_again, is_self_share, is_token_taken, passes_on}
 use Rattle.nf_access.specs.Mounts.{ensured_all, is_mount_of, is_mounted, mount_row}
 use Rattle.nf_access.specs.Shares.{chain_of, ground_of, most_of_node, most_of_share, perms_of_share, share_row}
 use Rattle.nf_base.specs.declared.changes.Change.{Change}
@@ -36,14 +36,17 @@ use Rattle.nf_defs.specs.Prelude.{Access, group_named, is_root, is_root_place, m
 use Rattle.nf_defs.specs.declared.Found.{Found}
 use Rattle.nf_defs.specs.declared.Found.TheVariants.{At, Free, Missing}
 use Rattle.nf_defs.specs.declared.Grant.{Grant}
+use Rattle.nf_defs.specs.declared.Seeker.{Seeker}
 use Rattle.nf_words.proofs.Ensured.{each_new, each_once, ensured_known, IsGivenNew, IsMountable, new_count}
 use Rattle.nf_words.proofs.Fits.{KnownChange, no_more, none_lean, one_more}
 use Rattle.nf_words.proofs.Found.{found_has, found_passes, put_is_found}
 use Rattle.nf_words.proofs.Known.{Known}
 use Rattle.nf_words.proofs.Mounting.{mount_found}
-use Rattle.nf_words.proofs.Starts.{row_of_caller}
+use Rattle.nf_words.proofs.Starts.{row_of_caller, user_seeks}
+use Rattle.nf_words.proofs.Starts.IsAsking.{by_user}
 use Rattle.nf_words.proofs.Ways.{bounded, way_there}
-use Rattle.nf_words.specs.Prelude.{access_of, AreSound, asked_about, asker_of, Call, caller_row, changed_key, counted, ended_row, fault_of_ask, found, is_long, is_own, is_steered_by, is_widened, IsKindSound, IsLean, IsNewShare, IsOfNode, IsOtherShare, is_past, IsShareSound, kind_of, kind_to, last_number, limit_of_ask, live_share, mount_limit, new_share, offer_fault, offer_limit, offer_of, parent_by, parent_for, node_found, nothing_done, offered, perms_after, put_mounts, raised, receiver_named, same_end, seeker_of, set_row, share_ended, share_made, share_set, share_shown, share_steered, share_told, shared, StandsOn, unreached, until_after, user_of, users_for, way_of}
+use Rattle.nf_words.specs.Prelude.{access_of, AreSound, asked_about, asker_of, Call, caller_row, changed_key, counted, ended_row, fault_of_ask, found, is_long, is_own, is_owner, is_steered_by, is_widened, IsKindSound, IsLean, IsNewShare, IsOfNode, IsOtherShare, is_past, IsShareSound, kind_of, kind_to, last_number, limit_of_ask, live_share, mount_limit, new_share, offer_fault, offer_limit, offer_of, parent_by, parent_for, node_found, nothing_done, offered, perms_after, put_mounts, raised, receiver_named, same_end, seeker_of, set_row, share_ended, share_made, share_set, share_shown, share_steered, share_told, shared, StandsOn, unreached, until_after, user_of, users_for, way_of}
+use Rattle.nf_words.specs.Tokens.{link_token}
 use Rattle.nf_words.specs.declared.answer.Limit.{Limit}
 use Rattle.nf_words.specs.declared.answer.Limit.TheVariants as limit
 use Rattle.nf_words.specs.declared.answer.Breach.TheVariants as rule
@@ -309,12 +312,13 @@ group_there groups name group is = here (find (λ (row : GroupRow). bytes_eq row
         list_any-from_Any (λ (x : GroupRow). x.id == group) groups
         (among.0, row, among.1, among.2, eq-eqb row.id group (same_Some row.id group is))
 
-pub none_broken : (a b p c d e : Bool)
+pub none_broken : (a b p c d e f : Bool)
     → (if a then Some rule.Root else if b then Some rule.SelfShare else if p then Some rule.Past else if c then Some rule.Already
-    else if d then Some rule.Widened else if e then Some rule.Chain else None) ≡ None
-    → (a ≡ false) × (b ≡ false) × (p ≡ false) × (c ≡ false) × (d ≡ false) × (e ≡ false)
-none_broken false false false false false false none = (refl, refl, refl, refl, refl, refl)
-none_broken a b p c d e none = absurd (cc)
+    else if d then Some rule.Widened else if e then Some rule.Chain
+    else if f then Some rule.TokenTaken else None) ≡ None
+    → (a ≡ false) × (b ≡ false) × (p ≡ false) × (c ≡ false) × (d ≡ false) × (e ≡ false) × (f ≡ false)
+none_broken false false false false false false false none = (refl, refl, refl, refl, refl, refl, refl)
+none_broken a b p c d e f none = absurd (cc)
 
 none_passed : (a b : Bool) (o : Option Limit) → (if a || b then Some limit.Shares else o) ≡ None → (a ≡ false) × (b ≡ false) × (o ≡ None)
 none_passed false false o none = (refl, refl, none)
@@ -370,7 +374,8 @@ module _ (call : Call) (user : UserRow) (sound : AreSound call.state.tables) (is
       access = access_of call.state
 
       own : is_own call offer ≡ true → asker_of call ≡ owner_of t.nodes offer.node
-      own holds = by_row (node_row t.nodes offer.node) holds
+      own holds = by_row (node_row t.nodes offer.node)
+          (subst (λ (s : Seeker). is_owner t.nodes s offer.node ≡ true) (user_seeks call user is) holds)
         where
           by_row : (o : Option NodeRow) → option_map_or (λ row. row.owner == asker_of call) o false ≡ true
               → asker_of call ≡ option_map_or (λ row. row.owner) o 0
@@ -392,11 +397,14 @@ module _ (call : Call) (user : UserRow) (sound : AreSound call.state.tables) (is
   -- ---- a new share, with the mounts that are put with it
 
   module _ (mount wanted until : Option ℕ) (node : ℕ) (to : Receiver) (of : NodeRow) (there : node_row t.nodes node ≡ Some of)
-      (known : IsKindSound t (kind_to to))
-      (fits : offer_fault (access_of call.state) call (offer_of t.nodes mount wanted until node to) ≡ None)
-      (few : offer_limit t (offer_of t.nodes mount wanted until node to) ≡ None) where
+      (known : IsKindSound t (kind_to (link_token call.words) to))
+      (fits : offer_fault (access_of call.state) call (offer_of t.nodes (link_token call.words) mount wanted until node to) ≡ None)
+      (few : offer_limit t (offer_of t.nodes (link_token call.words) mount wanted until node to) ≡ None) where
+    abbrev token : List ℕ
+    token = link_token call.words
+
     abbrev offer : Offer
-    offer = offer_of t.nodes mount wanted until node to
+    offer = offer_of t.nodes token mount wanted until node to
 
     abbrev row : ShareRow
     row = new_share (access_of call.state) call offer
@@ -409,8 +417,8 @@ module _ (call : Call) (user : UserRow) (sound : AreSound call.state.tables) (is
 
     faults : (is_root t.nodes node ≡ false) × (is_self_share row row.kind ≡ false) × (is_past call.now until ≡ false)
         × (list_any (is_again row call.now) t.shares ≡ false) × (is_widened (access_of call.state) call offer ≡ false)
-        × (is_long t.shares row.parent ≡ false)
-    faults = none_broken _ _ _ _ _ _ fits
+        × (is_long t.shares row.parent ≡ false) × (is_token_taken t.shares row.kind ≡ false)
+    faults = none_broken _ _ _ _ _ _ _ fits
 
     limits : (nat_lt MAX_SHARES (length t.shares + 1) ≡ false) × (nat_lt last_number (t.meta.next_share + 1) ≡ false)
         × (mount_limit t.mounts mounts ≡ None)
@@ -430,7 +438,7 @@ module _ (call : Call) (user : UserRow) (sound : AreSound call.state.tables) (is
     abbrev IsOther : ℕ → Type 0
     IsOther user = (of.owner ≢ user) × (is_some (user_row t.users user) ≡ true)
 
-    others_of : (to : Receiver) → IsKindSound t (kind_to to) → is_self_share row (kind_to to) ≡ false
+    others_of : (to : Receiver) → IsKindSound t (kind_to token to) → is_self_share row (kind_to token to) ≡ false
         → All IsOther (users_for t.members (owner_of t.nodes node) to)
     others_of (receiver.User user) there other =
         All-cons IsOther user [] (
@@ -455,6 +463,7 @@ module _ (call : Call) (user : UserRow) (sound : AreSound call.state.tables) (is
               (All-filter (λ (m : MemberRow). m.group == group) (λ (m : MemberRow). is_some (user_row t.users m.user) ≡ true) t.members
               sound.members_there)) k d within,
         )
+    others_of receiver.Link there other = All-nil IsOther
 
     mountable : (u : Tables) → u.nodes ≡ t.nodes → u.users ≡ t.users → All (IsMountable u) pairs
     mountable u nodes users =
@@ -480,6 +489,7 @@ module _ (call : Call) (user : UserRow) (sound : AreSound call.state.tables) (is
       of_node = of_node;
       initiator = rw users asker_there;
       kind = kind_in to known;
+      token = rw shares faults.6;
       on = rw shares on;
       few = rw shares (ltb-false _ _ limits.0);
     }
@@ -487,9 +497,10 @@ module _ (call : Call) (user : UserRow) (sound : AreSound call.state.tables) (is
         on : StandsOn t row row.parent
         on = stands_on offer faults.4 faults.5
 
-        kind_in : (to : Receiver) → IsKindSound t (kind_to to) → IsKindSound up (kind_to to)
+        kind_in : (to : Receiver) → IsKindSound t (kind_to token to) → IsKindSound up (kind_to token to)
         kind_in (receiver.User user) is = rw users is
         kind_in (receiver.Group group) is = rw groups is
+        kind_in receiver.Link is = tt
 
     fresh : share_row t.shares row.id ≢ Some row
     fresh same =
@@ -527,19 +538,21 @@ module _ (call : Call) (user : UserRow) (sound : AreSound call.state.tables) (is
   -- ---- what is asked
 
   -- who has that name is there
-  receiver_there : (to : Sharee) (by : Receiver) → receiver_named t to ≡ Some by → IsKindSound t (kind_to by)
+  receiver_there : (to : Sharee) (by : Receiver) → receiver_named t to ≡ Some by → IsKindSound t (kind_to (link_token call.words) by)
   receiver_there (sharee.User name) by is = here (user_named t.users name) refl is
     where
-      here : (o : Option ℕ) → user_named t.users name ≡ o → option_map receiver.User o ≡ Some by → IsKindSound t (kind_to by)
+      here : (o : Option ℕ) → user_named t.users name ≡ o → option_map receiver.User o ≡ Some by → IsKindSound t (kind_to (link_token call.words) by)
       here None e is = absurd (none-some by is)
       here (Some user) e is =
-          subst (λ (r : Receiver). IsKindSound t (kind_to r)) (same_Some (receiver.User user) by is) (named_there t.users name user e)
+          subst (λ (r : Receiver). IsKindSound t (kind_to (link_token call.words) r)) (same_Some (receiver.User user) by is) (named_there t.users name user e)
   receiver_there (sharee.Group name) by is = here (group_named t.groups name) refl is
     where
-      here : (o : Option ℕ) → group_named t.groups name ≡ o → option_map receiver.Group o ≡ Some by → IsKindSound t (kind_to by)
+      here : (o : Option ℕ) → group_named t.groups name ≡ o → option_map receiver.Group o ≡ Some by → IsKindSound t (kind_to (link_token call.words) by)
       here None e is = absurd (none-some by is)
       here (Some group) e is =
-          subst (λ (r : Receiver). IsKindSound t (kind_to r)) (same_Some (receiver.Group group) by is) (group_there t.groups name group e)
+          subst (λ (r : Receiver). IsKindSound t (kind_to (link_token call.words) r)) (same_Some (receiver.Group group) by is) (group_there t.groups name group e)
+  receiver_there sharee.Link by is =
+      subst (λ (r : Receiver). IsKindSound t (kind_to (link_token call.words) r)) (same_Some receiver.Link by is) tt
 
   offer_known : (spot : Spot) (name : Sharee) (wanted until : Option ℕ) → unreached (access_of call.state) call (way_of call spot) ≡ None
       → option_and_then (offer_fault (access_of call.state) call) (offered call spot name wanted until) ≡ None
@@ -549,13 +562,13 @@ module _ (call : Call) (user : UserRow) (sound : AreSound call.state.tables) (is
     where
       of : Found → Option Receiver → Option Offer
       of place to =
-          option_and_then (λ node. option_map (offer_of t.nodes (way_of call spot).mount wanted until node) to) (node_found place)
+          option_and_then (λ node. option_map (offer_of t.nodes (link_token call.words) (way_of call spot).mount wanted until node) to) (node_found place)
 
       here : (place : Found) (to : Option Receiver) → found call spot ≡ place → receiver_named t name ≡ to
           → option_and_then (offer_fault (access_of call.state) call) (of place to) ≡ None → option_and_then (offer_limit t) (of place to) ≡ None
           → Known t call.now (option_map_or (share_made (access_of call.state) call) (of place to) nothing_done)
       here (At node) (Some to) leads named fits few =
-          let row = way_there call spot user sound is node reached leads in
+          let row = way_there call spot sound (by_user user is) node reached leads in
           made_known (way_of call spot).mount wanted until node to row.0 row.1 (receiver_there name to named) fits few
       here (At node) None leads named fits few = nothing_known t call.now
       here (Free folder) to leads named fits few = nothing_known t call.now

@@ -3,30 +3,39 @@ use Rattle.std.proofs.Common.{◌≡◌, ℕ, ◌+◌, ◌<◌, ◌≤◌, ◌==
 use Rattle.std.specs.Prelude.{None, Some, is_some}
 use Rattle.std.specs.List.{All}
 use Rattle.std.specs.Option.{IfSome, option_map_or, option_or}
-use Rattle.std.proofs.lemmas.Bool.{eqb-true}
+use Rattle.std.proofs.lemmas.Bool.{both_ways, eqb-true}
 use Rattle.std.proofs.lemmas.List.Elements.{All-head}
-use Rattle.std.proofs.lemmas.Option.{same_Some}
+use Rattle.std.proofs.lemmas.Option.{none-some, same_Some}
+use Rattle.nf_access.proofs.LookUps.{find_among}
 use Rattle.nf_access.specs.Mounts.{mount_at, root_folder}
+use Rattle.nf_access.specs.Shares.{is_link, share_row}
 use Rattle.nf_base.specs.declared.limits.TheConstants.{MAX_BODY}
 use Rattle.nf_base.specs.declared.perms.Act.{Act}
 use Rattle.nf_base.specs.declared.perms.Act.TheVariants.{Create, Update}
 use Rattle.nf_base.specs.declared.rows.NodeKind.TheVariants.{Folder}
 use Rattle.nf_base.specs.declared.rows.NodeRow.{NodeRow}
+use Rattle.nf_base.specs.declared.rows.ShareRow.{ShareRow}
 use Rattle.nf_base.specs.declared.rows.UserRow.{UserRow}
 use Rattle.nf_defs.specs.Prelude.{child_of, content_of, depth, is_folder, is_folder_kind, is_root, is_root_place, node_row, owner_of, Tables}
 use Rattle.nf_defs.specs.declared.Found.{Found}
 use Rattle.nf_defs.specs.declared.Found.TheVariants.{At, Free, Missing}
+use Rattle.nf_defs.specs.declared.Seeker.{Seeker}
+use Rattle.nf_defs.specs.declared.Seeker.TheVariants.{User}
 use Rattle.nf_words.proofs.Fits.{new_known, within}
 use Rattle.nf_words.proofs.Found.{found_has, found_passes}
 use Rattle.nf_words.proofs.Known.{Known}
 use Rattle.nf_words.proofs.Mounting.{IsFreeName, left_known, renamed_known}
 use Rattle.nf_words.proofs.Passing.{acts_pass, call_passes, no_fault, no_limit, Passes, PlacePasses, place_passes, no_rule}
-use Rattle.nf_words.proofs.Starts.{has_row, root_is, row_of_caller}
-use Rattle.nf_words.proofs.Transfers.{copied_known, fit_parts, moved_known}
-use Rattle.nf_words.proofs.Ways.{slot_known, way_there}
+use Rattle.nf_words.proofs.Starts.{has_asker, IsAsking, itself_asker, link_found, link_mount, link_seeks, only_files, root_is, row_of_caller, user_root, user_seeks}
+use Rattle.nf_words.proofs.Starts.IsAsking.{by_link, by_user}
+use Rattle.nf_words.proofs.Transfers.{copied_known, fit_parts, moved_known, off}
+use Rattle.nf_words.proofs.Ways.{bounded, free_no_mount, slot_known, way_there}
 use Rattle.nf_words.specs.Asked.{asked_about}
+use Rattle.nf_words.specs.Calls.{link_by}
+use Rattle.nf_words.specs.declared.request.Caller.{Caller}
+use Rattle.nf_words.specs.declared.request.Caller.TheVariants.{Link}
 use Rattle.nf_words.specs.History.{IsShort}
-use Rattle.nf_words.specs.Prelude.{access_of, AreSound, asked_of, asker_of, by_of, Call, call_decision, caller_row, deleted, exists_rule, folder_at, found, given, is_free_in, IsNodeSound, is_off_mount, is_owner, is_root_at, is_within, IsSound, is_there, last_name, limit_at, limit_rule, limited, listing_of, made_folder, may_by, MayWant, mount_left, mount_of, mount_renamed, moved, Need, needs, needs_between, needs_in, node_at, node_found, places_by, root_of, seeker_of, served, stored, taken, target_rule, transfer_between, transfer_of, unfit, unfit_between, unreached, user_of, Way, way_by, way_of, ways_for, fault_by, sharing_rule, limit_by, room_rule}
+use Rattle.nf_words.specs.Prelude.{access_of, AreSound, asked_of, asker_of, by_of, Call, call_decision, caller_row, deleted, exists_rule, folder_seen, found, given, is_about_files, is_by_link, is_free_in, IsNodeSound, is_off_mount, is_owner, is_root_at, is_within, IsSound, is_there, last_name, limit_at, limit_rule, limited, link_of, linked_of, listing_of, IsLinkTo, made_folder, may_by, MayWant, mount_left, mount_of, mount_renamed, moved, Need, needs, needs_between, needs_in, node_at, node_found, places_by, root_of, seeker_of, served, stored, taken, target_rule, transfer_between, transfer_of, unfit, unfit_between, unreached, user_of, way_by, way_of, ways_for, fault_by, sharing_rule, limit_by, room_rule}
 use Rattle.nf_words.specs.Needed.{target_needs}
 use Rattle.nf_words.specs.Sound.{MayStoreBy}
 use Rattle.nf_words.specs.declared.answer.Allowed.{Allowed}
@@ -55,8 +64,8 @@ unless false refusal none = refl
 
 -- ---- one path
 
--- a call by a caller whose row is there, and a path by whose mount the caller is reached
-module _ (call : Call) (spot : Spot) (row : UserRow) (sound : AreSound call.state.tables) (is : caller_row call ≡ Some row)
+-- a call by who is there, and a path by whose mount who asks is reached
+module _ (call : Call) (spot : Spot) (sound : AreSound call.state.tables) (is : IsAsking call)
     (reached : unreached (access_of call.state) call (way_of call spot) ≡ None) where
   abbrev t : Tables
   t = call.state.tables
@@ -69,21 +78,21 @@ module _ (call : Call) (spot : Spot) (row : UserRow) (sound : AreSound call.stat
           → Known t call.now (if folds then allowed.List (listing_of (access_of call.state) call (way_of call spot).mount node)
           else allowed.Get node (content_of t.nodes node))
       here true folds = tt
-      here false folds = record { no_folder = folds; of_node = refl; there = way_there call spot row sound is node reached leads }
+      here false folds = record { no_folder = folds; of_node = refl; there = way_there call spot sound is node reached leads }
   served_known nowhere leads = tt
 
-  -- who stores by no mount may do so as the owner
+  -- a user who stores by no mount may do so as the owner
   owner_may : (act : Act) (node : ℕ) (mount : Option ℕ)
-      → may_by (access_of call.state) t.nodes (seeker_of call) call.now act node mount ≡ true → MayStoreBy t (seeker_of call) mount node
+      → may_by (access_of call.state) t.nodes (User (asker_of call)) call.now act node mount ≡ true → MayStoreBy t (User (asker_of call)) mount node
   owner_may act node (Some mount) may = tt
-  owner_may act node None may = here (node_row t.nodes node) refl (alone (is_owner t.nodes (seeker_of call) node) may)
+  owner_may act node None may = here (node_row t.nodes node) refl (alone (is_owner t.nodes (User (asker_of call)) node) may)
     where
       alone : (b : Bool) → (b || false) ≡ true → b ≡ true
       alone true may = refl
       alone false may = absurd (cc)
 
       here : (o : Option NodeRow) → node_row t.nodes node ≡ o → option_map_or (λ row. row.owner == asker_of call) o false ≡ true
-          → MayStoreBy t (seeker_of call) None node
+          → MayStoreBy t (User (asker_of call)) None node
       here None e own = absurd (cc)
       here (Some of) e own =
           let fine = subst (λ (o : Option NodeRow). IfSome o (IsNodeSound t)) e
@@ -94,6 +103,22 @@ module _ (call : Call) (spot : Spot) (row : UserRow) (sound : AreSound call.stat
             owner = λ row there. ap (λ (r : NodeRow). r.owner) (same_Some row of (sym there ∙ e)) ∙ eqb-true of.owner (asker_of call) own;
           }
 
+  -- whoever stores by a link does so by what that is of
+  link_to : (share : ShareRow) → is_by_link call.request.caller ≡ true → link_of call ≡ Some share → IsLinkTo t (linked_of call) (root_of call)
+  link_to share by there = here call.request.caller there
+    where
+      here : (who : Caller) → link_by call.state who ≡ Some share → IsLinkTo t (linked_of call) (root_of call)
+      here (Link token) found =
+          let among = (find_among (λ (row : ShareRow). is_link token row.kind) t.shares share found).0 in
+          let number : linked_of call ≡ share.id = ap (λ (o : Option ShareRow). option_map_or (λ row. row.id) o 0) there in
+          record {
+            row = share;
+            there = ap (share_row t.shares) number ∙ (bounded t sound).numbered share among;
+            link = link_found t.shares token share found;
+            leads = sym (ap (λ (o : Option ShareRow). option_map_or (λ row. row.node) o (option_map_or (λ row. row.root) (caller_row call) 0)) there);
+          }
+      here other found = absurd (none-some share found)
+
   -- each of some needs may be met
   abbrev May : Need → Type 0
   May need = may_by (access_of call.state) t.nodes (seeker_of call) call.now need.act need.node need.mount ≡ true
@@ -101,59 +126,76 @@ module _ (call : Call) (spot : Spot) (row : UserRow) (sound : AreSound call.stat
   abbrev MayAll : List Need → Type 0
   MayAll needs = All May needs
 
+  -- who may do what storing needs may store
+  storer_may : (act : Act) (node : ℕ) → MayAll (needs act (Some node) (way_of call spot).mount)
+      → MayStoreBy t (seeker_of call) (way_of call spot).mount node
+  storer_may act node may = here is
+    where
+      mount : Option ℕ
+      mount = (way_of call spot).mount
+
+      of : (o : Option ℕ) → (way_by t.nodes (seeker_of call) (root_of call) spot.path o).mount ≡ o
+      of None = refl
+      of (Some other) = refl
+
+      here : IsAsking call → MayStoreBy t (seeker_of call) mount node
+      here (by_user row asks) =
+          let user = user_seeks call row asks in
+          subst (λ (s : Seeker). MayStoreBy t s mount node) (sym user)
+          (owner_may act node mount
+          (subst (λ (s : Seeker). may_by (access_of call.state) t.nodes s call.now act node mount ≡ true) user
+          (All-head May (record { act = act; node = node; mount = mount }) [] may)))
+      here (by_link share by there) =
+          let goes : mount ≡ Some (root_of call) = of (mount_of call spot) ∙ link_mount call spot by in
+          subst (λ (o : Option ℕ). MayStoreBy t (seeker_of call) o node) (sym goes)
+          (subst (λ (s : Seeker). MayStoreBy t s (Some (root_of call)) node) (sym (link_seeks call by)) (link_to share by there))
+
   granted_known : (length : ℕ) (inside : Bool) (place : Found) → length ≤ MAX_BODY → found call spot ≡ place
       → is_there (is_folder t.nodes) (Some place) ≡ false
       → MayAll (target_needs (making.File length) t.nodes (root_of call) inside (way_of call spot))
       → Known t call.now (stored (by_of call spot) (last_name spot) length (Some place))
   granted_known length inside (Missing found) short leads file may = tt
   granted_known length inside (At node) short leads file may =
-      let there = way_there call spot row sound is node reached leads in
+      let there = way_there call spot sound is node reached leads in
       let asked : target_needs (making.File length) t.nodes (root_of call) inside (way_of call spot) ≡ needs Update (Some node) (way_of call spot).mount =
       ap (λ (place : Found). if is_some (node_found place) then needs Update (node_found place) (way_of call spot).mount
       else needs_in t.nodes (root_of call) (way_of call spot)) leads in
       record {
         short = short;
         held = rw there.1 (no_file there.0 (subst (λ (o : Option NodeRow). option_map_or (λ row. is_folder_kind row.kind) o false ≡ false) there.1 file));
-        storer = owner_may Update node (way_of call spot).mount
-            (All-head May (record { act = Update; node = node; mount = (way_of call spot).mount }) [] (subst MayAll asked may));
+        storer = storer_may Update node (subst MayAll asked may);
       }
     where
       no_file : (row : NodeRow) → is_folder_kind row.kind ≡ false → not (is_folder_kind row.kind) ≡ true
       no_file row none = ap not none
   granted_known length inside (Free folder) short leads file may =
-      let slot = slot_known call spot row sound is folder reached leads in
-      record { short = short; held = (slot.folds, slot.free); storer = stores (mount_of call spot) refl }
+      let slot = slot_known call spot sound is folder reached leads in
+      record { short = short; held = (slot.folds, slot.free); storer = storer_may Create folder (subst MayAll (made ∙ in_folder) may) }
     where
-      way : Option ℕ → Way
-      way mount = way_by t.nodes (root_of call) spot.path mount
-
       made : target_needs (making.File length) t.nodes (root_of call) inside (way_of call spot) ≡ needs_in t.nodes (root_of call) (way_of call spot)
       made =
           ap (λ (place : Found). if is_some (node_found place) then needs Update (node_found place) (way_of call spot).mount
           else needs_in t.nodes (root_of call) (way_of call spot)) leads
 
-      stores : (mount : Option ℕ) → mount_of call spot ≡ mount → MayStoreBy t (seeker_of call) (way_of call spot).mount folder
-      stores (Some mount) by = subst (λ (o : Option ℕ). MayStoreBy t (seeker_of call) (way o).mount folder) (sym by) tt
-      stores None none =
-          let at : (way None).place ≡ Free folder = sym (ap (λ (o : Option ℕ). (way o).place) none) ∙ leads in
-          let alone : needs_in t.nodes (root_of call) (way_of call spot) ≡ needs Create (Some folder) None =
-          ap (λ (o : Option ℕ). needs_in t.nodes (root_of call) (way o)) none
-          ∙ ap (λ (place : Found). needs Create (option_or (folder_at t.nodes place) (node_found place)) None) at in
-          subst (λ (o : Option ℕ). MayStoreBy t (seeker_of call) (way o).mount folder) (sym none)
-          (owner_may Create folder None (All-head May (record { act = Create; node = folder; mount = None }) [] (subst MayAll (made ∙ alone) may)))
+      in_folder : needs_in t.nodes (root_of call) (way_of call spot) ≡ needs Create (Some folder) (way_of call spot).mount
+      in_folder =
+          ap (λ (b : Bool). needs Create
+          (if b then Some (root_of call) else option_or (folder_seen t.nodes (root_of call) (found call spot)) (node_found (found call spot)))
+          (if b then None else (way_of call spot).mount)) (free_no_mount call spot sound is folder leads)
+          ∙ ap (λ (place : Found). needs Create (option_or (folder_seen t.nodes (root_of call) place) (node_found place)) (way_of call spot).mount) leads
 
   folder_known : (place : Found) → found call spot ≡ place → limit_at t 0 place ≡ None
       → Known t call.now (made_folder t call.now (last_name spot) (Some place))
   folder_known (At node) leads some = tt
   folder_known (Free folder) leads some =
-      let slot = slot_known call spot row sound is folder reached leads in
+      let slot = slot_known call spot sound is folder reached leads in
       new_known t call.now folder (last_name spot) Folder [] None 0 sound slot.folds slot.free slot.unmounted
       (within t 1 (depth t.nodes folder + 1) 0 0 some) (omega arith) refl (λ _. refl)
   folder_known (Missing found) leads some = tt
 
-  deleted_known : (place : Found) → found call spot ≡ place → is_there (is_root t.nodes) (Some place) ≡ false
+  deleted_known : (place : Found) → found call spot ≡ place → is_there (λ node. node == root_of call || is_root t.nodes node) (Some place) ≡ false
       → Known t call.now (deleted (node_at (Some place)))
-  deleted_known (At node) leads fits = record { no_root = fits; there = way_there call spot row sound is node reached leads }
+  deleted_known (At node) leads fits = record { no_root = off (node == root_of call) (is_root t.nodes node) fits; there = way_there call spot sound is node reached leads }
   deleted_known nowhere leads fits = tt
 
 -- ---- a mount that gets another name
@@ -177,13 +219,13 @@ free_name call source target row sound is reached fits =
 
     here : (place : Found) → found call target ≡ place → is_free_in (root_of call) place ≡ true → IsFreeName t (asker_of call) (last_name target)
     here (Free folder) leads free =
-        let slot = slot_known call target row sound is folder reached leads in
+        let slot = slot_known call target sound (by_user row is) folder reached leads in
         let root = root_is call row sound is in
         let same : folder ≡ root_of call = eqb-true folder (root_of call) free in
         let asks : row.id ≡ asker_of call = sym (ap (λ (o : Option UserRow). option_map_or (λ row. row.id) o 0) is) in
         let known = (row_of_caller t.users (user_of call) row is).1 in
         let of_user : root_of call ≡ root_folder t.users (asker_of call) =
-        ap (λ (o : Option UserRow). option_map_or (λ row. row.root) o 0) (is ∙ sym known) ∙ ap (root_folder t.users) asks in
+        user_root call row is ∙ sym (ap (λ (o : Option UserRow). option_map_or (λ row. row.root) o 0) known) ∙ ap (root_folder t.users) asks in
         let owner : owner_of t.nodes folder ≡ asker_of call =
         ap (owner_of t.nodes) same ∙ ap (λ (o : Option NodeRow). option_map_or (λ row. row.owner) o 0) root.there ∙ root.owner ∙ asks in
         let rooted : is_root t.nodes folder ≡ true =
@@ -207,6 +249,7 @@ only_at itself place = if itself then record { source = None; target = None } el
 
 -- what passes the rules, by what is wanted
 pub record WantedPasses (call : Call) (wanted : Wanted) : Type 0 where
+  pub files : is_by_link call.request.caller ≡ true → is_about_files wanted ≡ true
   pub short : IsShort (asked_of wanted).makes
   pub place : PlacePasses (access_of call.state) call (asked_of wanted)
   pub may : All (λ (need : Need). may_by (access_of call.state) call.state.tables.nodes (seeker_of call) call.now need.act need.node need.mount ≡ true)
@@ -218,7 +261,7 @@ pub record WantedPasses (call : Call) (wanted : Wanted) : Type 0 where
   pub sharing : fault_by (access_of call.state) call wanted ≡ None
   pub room : limit_by call wanted ≡ None
 
-module _ (call : Call) (row : UserRow) (sound : AreSound call.state.tables) (is : caller_row call ≡ Some row) where
+module _ (call : Call) (sound : AreSound call.state.tables) (is : IsAsking call) where
   abbrev all : Tables
   all = call.state.tables
 
@@ -227,11 +270,11 @@ module _ (call : Call) (row : UserRow) (sound : AreSound call.state.tables) (is 
 
   delete_known : (spot : Spot) (b : Bool) → (way_of call spot).itself ≡ b
       → (b ≡ false → unreached (access_of call.state) call (way_of call spot) ≡ None)
-      → (if not b && is_root_at all.nodes (Some (way_of call spot)) then Some target.Root else None) ≡ None
+      → (if not b && is_root_at all.nodes (root_of call) (Some (way_of call spot)) then Some target.Root else None) ≡ None
       → IsKnown (if b then mount_left call (way_of call spot)
       else deleted (node_at (only_at b (found call spot)).source))
   delete_known spot true itself reached fits = left_known call spot sound itself
-  delete_known spot false itself reached fits = deleted_known call spot row sound is (reached refl) (found call spot) refl (passed _ _ fits)
+  delete_known spot false itself reached fits = deleted_known call spot sound is (reached refl) (found call spot) refl (passed _ _ fits)
 
   move_known : (source to : Spot) (b : Bool) → (way_of call source).itself ≡ b
       → (b ≡ false → unreached (access_of call.state) call (way_of call source) ≡ None)
@@ -243,9 +286,10 @@ module _ (call : Call) (row : UserRow) (sound : AreSound call.state.tables) (is 
       else moved all call.now (last_name to)
       (transfer_of all.nodes (if b then record { source = None; target = None } else record { source = Some (found call source); target = Some (found call to) })))
   move_known source to true itself from_reached to_reached fits some =
-      renamed_known call source sound (last_name to) itself (free_name call source to row sound is to_reached fits)
+      let asker = itself_asker call source is itself in
+      renamed_known call source sound (last_name to) itself (free_name call source to asker.0 sound asker.1 to_reached fits)
   move_known source to false itself from_reached to_reached fits some =
-      moved_known call source to row sound is (from_reached refl) to_reached fits some
+      moved_known call source to sound is (from_reached refl) to_reached fits some
 
   -- what is asked about shares leaves what is at its path, so that its mount is tested
   of_place : (asked : ShareAsk) → PlacePasses (access_of call.state) call (asked_about asked)
@@ -257,24 +301,34 @@ module _ (call : Call) (row : UserRow) (sound : AreSound call.state.tables) (is 
       subst (λ (s : Spot). unreached (access_of call.state) call (way_of call s) ≡ None) (same_Some spot other same) (p.source refl)
   of_place asked p other same = absurd (cc)
 
+  -- what isn't about files is asked by a user
+  not_files : (wanted : Wanted) → WantedPasses call wanted → is_about_files wanted ≡ false → (row : UserRow) × (caller_row call ≡ Some row)
+  not_files wanted p other = here is
+    where
+      here : IsAsking call → (row : UserRow) × (caller_row call ≡ Some row)
+      here (by_user row asks) = (row, asks)
+      here (by_link share by there) = absurd (both_ways (is_about_files wanted) other (p.files by))
+
   pub wanted_known : (wanted : Wanted) → WantedPasses call wanted → IsKnown (given (access_of call.state) call (places_at call wanted) wanted)
-  wanted_known (Get spot) p = served_known call spot row sound is (p.place.source refl) (found call spot) refl
+  wanted_known (Get spot) p = served_known call spot sound is (p.place.source refl) (found call spot) refl
   wanted_known (Put spot length) p =
-      granted_known call spot row sound is p.place.target length
+      granted_known call spot sound is p.place.target length
       (is_within all.nodes (root_of call) None (Some (way_of call spot))) (found call spot) p.short refl (unless _ _ p.free) p.may
-  wanted_known (Mkcol spot) p = folder_known call spot row sound is p.place.target (found call spot) refl p.few
+  wanted_known (Mkcol spot) p = folder_known call spot sound is p.place.target (found call spot) refl p.few
   wanted_known (Delete spot) p = delete_known spot (way_of call spot).itself refl p.place.source p.fits
   wanted_known (Move source to overwrite) p =
       move_known source to (way_of call source).itself refl p.place.source p.place.target p.fits p.few
   wanted_known (Copy source to overwrite) p =
-      copied_known call source to row sound is (p.place.source refl) p.place.target p.fits p.few
+      copied_known call source to sound is (p.place.source refl) p.place.target p.fits p.few
   wanted_known (Share asked) p =
-      asks_known call row sound is (places_at call (Share asked)) asked (of_place asked p.place) p.sharing p.room
+      let asker = not_files (Share asked) p refl in
+      asks_known call asker.0 sound asker.1 (places_at call (Share asked)) asked (of_place asked p.place) p.sharing p.room
   wanted_known (People asked) p = people_known all call.now asked sound (not_taken _ rule.Taken p.sharing) p.room
 
 pub wanted_passes : (call : Call) → MayWant call.request → Passes (access_of call.state) call → WantedPasses call call.request.wanted
 unfolding exists_rule target_rule limit_rule sharing_rule room_rule
 wanted_passes call may p = record {
+  files = only_files call p.token;
   short = may.short;
   place = place_passes (access_of call.state) call p.place;
   may = acts_pass (access_of call.state) call p.acts;
@@ -289,6 +343,6 @@ pub call_known : (call : Call) (act : Allowed) → IsSound call.state → MayWan
     → Known call.state.tables call.now act
 call_known call act sound may is =
     let h = call_passes call act is in
-    let row = has_row call h.0.token in
+    let asker = has_asker call h.0.token (place_passes (access_of call.state) call h.0.place).linked in
     subst (λ (a : Allowed). Known call.state.tables call.now a) h.1
-    (wanted_known call row.0 sound.rows row.1 call.request.wanted (wanted_passes call may h.0))
+    (wanted_known call sound.rows asker call.request.wanted (wanted_passes call may h.0))

@@ -1,14 +1,12 @@
 -- Mounts that are ensured one after the other.
-use Rattle.std.proofs.Common.{◌≡◌, ◌≢◌, ◌⊎◌, inl, inr, ℕ, zero, suc, ◌+◌, ◌<◌, ◌≤◌, ◌==◌, ◌&&◌, ◌||◌, not, filter, length, Bool, true, false, List, [], ◌∷◌, find, get_or, Option, option_map, ◌∙◌, if◌then◌else◌, refl, sym, ap, subst, arith}
+use Rattle.std.proofs.Common.{◌≡◌, ◌≢◌, ◌⊎◌, inl, inr, ℕ, zero, suc, ◌+◌, ◌≤◌, ◌==◌, ◌||◌, not, filter, length, Bool, true, false, List, [], ◌∷◌, get_or, Option, ◌∙◌, if◌then◌else◌, refl, sym, ap, subst, arith}
 use Rattle.std.specs.Prelude.{None, Some, is_none, is_some}
 use Rattle.std.specs.List.{All, AllPairs}
 use Rattle.std.specs.Option.{IfSome, option_map_or}
-use Rattle.std.proofs.lemmas.Bool.{and_from, and_parts, both_ways, eq-eqb, eqb-true, false_from_ne_true}
+use Rattle.std.proofs.lemmas.Bool.{and_from, and_parts, both_ways, eq-eqb, eqb-true}
 use Rattle.std.proofs.lemmas.List.Elements.{All-cons, All-head, All-nil, All-tail, All-weaker}
-use Rattle.std.proofs.lemmas.Option.{none-some, same_Some}
 use Rattle.nf_access.proofs.Naming.{free_is_free, names_few, taken_in_root}
 use Rattle.nf_access.specs.Mounts.{ensured, ensured_all, free_name_of, is_mount_of, is_mounted, mount_at, mount_row, name_of, names_in_root, root_folder, then_ensured}
-use Rattle.nf_base.specs.declared.changes.Change.{Change}
 use Rattle.nf_base.specs.declared.changes.Change.TheVariants.{Put}
 use Rattle.nf_base.specs.declared.limits.TheConstants.{MAX_MOUNTS, MAX_NODES}
 use Rattle.nf_base.specs.declared.rows.MountRow.{MountRow}
@@ -16,7 +14,7 @@ use Rattle.nf_base.specs.declared.rows.NodeRow.{NodeRow}
 use Rattle.nf_base.specs.declared.rows.Row.TheVariants as rows
 use Rattle.nf_base.specs.declared.rows.UserRow.{UserRow}
 use Rattle.nf_defs.proofs.Puts.{put_length, put_rising}
-use Rattle.nf_defs.specs.Prelude.{child_of, IsRising, made, mount_key, node_row, put, Tables, user_row}
+use Rattle.nf_defs.specs.Prelude.{child_of, IsRising, mount_key, node_row, put, Tables, user_row}
 use Rattle.nf_words.proofs.Fits.{KnownRows, no_more, one_more}
 use Rattle.nf_words.proofs.Found.{found_passes, put_length_over}
 use Rattle.nf_words.proofs.Mounting.{mount_found, mount_left_so, not_mount, same_key}

@@ -1,5 +1,5 @@
 -- A step is never answered as failed.
-use Rattle.std.proofs.Common.{◌≡◌, ◌↔◌, ℕ, ◌&&◌, Bool, true, false, inl, inr, List, [], ◌∷◌, ◌++◌, Result, Ok, Err, refl, subst}
+use Rattle.std.proofs.Common.{◌≡◌, ◌↔◌, ℕ, ◌&&◌, ◌||◌, Bool, true, false, inl, inr, List, [], ◌∷◌, ◌++◌, Result, Ok, Err, refl, subst}
 use Rattle.std.specs.Prelude.{Option, None, Some, find, option_map, option_and_then, is_some, if◌then◌else◌}
 use Rattle.std.specs.List.{list_all, list_any}
 use Rattle.std.proofs.lemmas.Bool.{both_ways, cases_Bool}
@@ -8,7 +8,7 @@ use Rattle.std.specs.Option.{IfSome, option_map_or, option_or}
 use Rattle.nf_access.specs.Access.{is_open}
 use Rattle.nf_access.specs.Broken.{broken_in, first_received}
 use Rattle.nf_access.specs.Mounts.{mount_at}
-use Rattle.nf_access.specs.Shares.{Ground, chain_of, ground_of}
+use Rattle.nf_access.specs.Shares.{link_row, Ground, chain_of, ground_of}
 use Rattle.nf_access.specs.declared.Cause.{Cause}
 use Rattle.nf_base.specs.declared.perms.Act.{Act}
 use Rattle.nf_base.specs.declared.rows.NodeRow.{NodeRow}
@@ -18,9 +18,12 @@ use Rattle.nf_words.specs.declared.request.Spot.{Spot}
 use Rattle.nf_defs.specs.Prelude.{Access, is_root, owner_of, Tables}
 use Rattle.nf_defs.specs.declared.Found.{Found}
 use Rattle.nf_defs.specs.declared.Found.TheVariants.{At, Missing}
-use Rattle.nf_words.specs.Prelude.{access_of, acts_rule, allowed_of, answer_at, answer_to, answered_by, asked_by, broken_by, Call, call_of, decision_of, earlier_rules, end_lost, end_refusal, end_unallowed, end_unreached, ends_at, ends_goal, exists_rule, first_refused, first_that_holds, forbidden_rule, goal_at, has_forbidden, is_caller, is_kept, is_owner, is_refused, is_transfer, key_in_way, later_rules, limit_at, limit_rule, limited, locked_rule, Need, need_broken, needed, needed_by, node_of_key, not_you_rule, overwrite_rule, Pass, pieces_of, place_of, paths_of, place_rule, places_of, refusal_of, root_of, Rule, seeker_of, source_lost, source_refused, State, stored_at, taken, target_lost, target_refused, target_rule, told_broken, token_rule, touches, unfit, unless_refused, unreached, unreached_by, users_of, Way, way_of, ways_of, caller_row, named_rule, sharing_rule, room_rule, unnamed, fault_by, limit_by, unnamed_by, may_ask}
+use Rattle.nf_words.specs.Prelude.{access_of, acts_rule, allowed_of, asks_by_link, answer_at, answer_to, answered_by, asked_by, broken_by, Call, call_of, decision_of, earlier_rules, end_lost, end_refusal, end_unallowed, end_unreached, ends_at, ends_goal, exists_rule, first_refused, first_that_holds, forbidden_rule, goal_at, has_forbidden, is_caller, is_kept, is_owner, is_refused, is_transfer, key_in_way, later_rules, limit_at, limit_rule, limited, locked_rule, Need, need_broken, needed, needed_by, node_of_key, not_you_rule, overwrite_rule, Pass, pieces_of, place_of, paths_of, place_rule, places_of, refusal_of, root_of, Rule, seeker_of, source_lost, source_refused, State, stored_at, taken, target_lost, target_refused, target_rule, told_broken, token_rule, touches, unfit, unless_refused, unlinked, unreached, unreached_by, users_of, Way, way_of, ways_of, caller_row, named_rule, sharing_rule, room_rule, unnamed, fault_by, limit_by, unnamed_by, may_ask}
 use Rattle.nf_words.specs.declared.answer.Allowed.{Allowed}
 use Rattle.nf_words.specs.declared.answer.Denial.{Denial}
+use Rattle.nf_words.specs.Reached.{unlinked_by}
+use Rattle.nf_words.specs.declared.request.Caller.{Caller}
+use Rattle.nf_words.specs.declared.request.Caller.TheVariants.{Link}
 use Rattle.nf_words.specs.declared.answer.Denial.TheVariants as denial
 use Rattle.nf_words.specs.declared.answer.Goal.{Goal}
 use Rattle.nf_words.specs.declared.answer.Goal.TheVariants.{Store}
@@ -126,7 +129,7 @@ early_pass (rule ∷ others) behind access call refusal early later is =
 
 token_fine : (access : Access) (call : Call) → IsEarly (token_rule access call)
 unfolding token_rule
-token_fine access call = unless_test (is_some (caller_row call)) denial.Token refl
+token_fine access call = unless_test (is_some (caller_row call) || asks_by_link call) denial.Token refl
 
 not_you_fine : (access : Access) (call : Call) → IsEarly (not_you_rule access call)
 unfolding not_you_rule
@@ -160,9 +163,15 @@ reach_fine access call way = unreached_fine access (ground_of call.state.tables)
 place_fine : (access : Access) (call : Call) → IsEarly (place_rule access call)
 unfolding place_rule
 place_fine access call =
-    either (option_and_then of_source (asked_by call).source) (option_and_then of_target (asked_by call).target)
-    (sources (asked_by call).source) (targets (asked_by call).target)
+    either (unlinked call) (option_or (option_and_then of_source (asked_by call).source) (option_and_then of_target (asked_by call).target))
+    (linked call.request.caller)
+    (either (option_and_then of_source (asked_by call).source) (option_and_then of_target (asked_by call).target)
+    (sources (asked_by call).source) (targets (asked_by call).target))
   where
+    linked : (who : Caller) → IsEarly (unlinked_by call.state who)
+    linked (Link token) = unless_test (is_some (link_row call.state.tables.shares token)) denial.NotFound refl
+    linked other = tt
+
     of_source : Spot → Option Denial
     of_source spot = source_refused access call (way_of call spot)
 

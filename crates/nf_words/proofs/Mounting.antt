@@ -15,11 +15,14 @@ use Rattle.nf_base.specs.declared.changes.Change.TheVariants.{Put}
 use Rattle.nf_base.specs.declared.rows.MountRow.{MountRow}
 use Rattle.nf_base.specs.declared.rows.Row.TheVariants as rows
 use Rattle.nf_defs.specs.Prelude.{child_of, key_cmp, made, mount_key, put, Tables}
+use Rattle.nf_defs.specs.declared.Seeker.{Seeker}
+use Rattle.nf_defs.specs.declared.Seeker.TheVariants.{User}
 use Rattle.nf_defs.proofs.Puts.{key_total}
 use Rattle.nf_words.proofs.Fits.{KnownChange, no_more, one_more}
 use Rattle.nf_words.proofs.Known.{Known}
 use Rattle.nf_words.proofs.Found.{found_has, found_passes, put_is_found, put_leaves}
-use Rattle.nf_words.specs.Prelude.{AreSound, asker_of, Call, IsLean, IsRemounted, left_row, mount_left, mount_of, mount_renamed, mounted, named_row, own_mount, raised, root_of, way_by, way_of, with_mount_row}
+use Rattle.nf_words.proofs.Starts.{itself_seeks}
+use Rattle.nf_words.specs.Prelude.{AreSound, asker_of, Call, IsLean, IsRemounted, left_row, mount_for, mount_left, mount_of, mount_renamed, mounted, named_row, own_mount, raised, root_of, seeker_of, way_by, way_of, with_mount_row}
 use Rattle.nf_words.specs.declared.answer.Report.TheVariants as report
 use Rattle.nf_words.specs.declared.request.Spot.{Spot}
 
@@ -177,6 +180,9 @@ module _ (call : Call) (spot : Spot) (sound : AreSound call.state.tables) where
   pub own_known : (way_of call spot).itself ≡ true → IsOwnMount
   own_known itself = here (mount_of call spot) refl itself
     where
+      seeks : seeker_of call ≡ User (asker_of call)
+      seeks = itself_seeks call spot itself
+
       at_name : (path : List (List ℕ)) (node : ℕ) → mounted t.nodes t.mounts (asker_of call) (root_of call) path ≡ Some node
           → (name : List ℕ) × (mount_at t.mounts (asker_of call) name ≡ Some node)
       at_name [] node is = absurd (none-some node is)
@@ -186,17 +192,18 @@ module _ (call : Call) (spot : Spot) (sound : AreSound call.state.tables) where
           unless true is = absurd (none-some node is)
           unless false is = is
 
-      here : (mount : Option ℕ) → mount_of call spot ≡ mount → (way_by t.nodes (root_of call) spot.path mount).itself ≡ true → IsOwnMount
+      here : (mount : Option ℕ) → mount_of call spot ≡ mount → (way_by t.nodes (seeker_of call) (root_of call) spot.path mount).itself ≡ true → IsOwnMount
       here None by itself = absurd (cc)
       here (Some node) by itself =
-          let named = at_name spot.path node by in
+          let named = at_name spot.path node
+          (sym (ap (λ (s : Seeker). mount_for t.nodes t.mounts s (root_of call) spot.path) seeks) ∙ by) in
           let shown = shown_mount t (asker_of call) named.0 node sound named.1 in
           let passes = and_parts (shown.0.user == asker_of call) (shown.0.node == node)
           (found_passes (is_mount_of (asker_of call) node) t.mounts shown.0 shown.1) in
           record {
             node = node;
             row = shown.0;
-            by = ap (λ (o : Option ℕ). (way_by t.nodes (root_of call) spot.path o).mount) by;
+            by = ap (λ (o : Option ℕ). (way_by t.nodes (seeker_of call) (root_of call) spot.path o).mount) by;
             there = shown.1;
             user = shown.2;
             of_node = eqb-true shown.0.node node passes.1;

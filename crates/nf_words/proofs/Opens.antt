@@ -110,17 +110,17 @@ open_copied t now name (Some transfer) some = λ is. cc
 fits_some : (rows : List NodeRow) (root : ℕ) (from to : Way) → source_lost from.place ≡ None
     → unfit_between rows root false (record { source = Some from; target = Some to }) ≡ None
     → is_some (transfer_of rows (record { source = Some from.place; target = Some to.place })) ≡ true
-fits_some rows root from to there fits = here from.place refl there (fit_parts rows (is_root_at rows (Some from)) (is_off_mount root false to)
+fits_some rows root from to there fits = here from.place refl there (fit_parts rows (is_root_at rows root (Some from)) (is_off_mount root false to)
     (transfer_between rows root (record { source = Some from; target = Some to })) fits)
   where
     here : (place : Found) → from.place ≡ place → source_lost place ≡ None
-        → FitParts rows (is_root_at rows (Some from)) (is_off_mount root false to)
+        → FitParts rows (is_root_at rows root (Some from)) (is_off_mount root false to)
         (transfer_between rows root (record { source = Some from; target = Some to }))
         → is_some (option_and_then (λ node. transfer_to rows node to.place) (node_found place)) ≡ true
     here (At node) e there fit =
         let between : transfer_between rows root (record { source = Some from; target = Some to }) ≡ transfer_by rows root node to =
         ap (λ (place : Found). option_and_then (λ node. transfer_by rows root node to) (node_found place)) e in
-        ap is_some (sym (same_transfer rows root node to fit.on) ∙ sym between ∙ fit.is)
+        ap is_some (sym (same_transfer rows root node to fit.transfer fit.on (sym between ∙ fit.is)) ∙ sym between ∙ fit.is)
     here place e there fit = absurd (cc)
 
 only_source : (o : Option Denial) → option_or o None ≡ None → o ≡ None

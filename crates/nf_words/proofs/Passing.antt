@@ -8,7 +8,7 @@ use Rattle.nf_access.specs.Shares.{Ground, ground_of}
 use Rattle.nf_defs.specs.Prelude.{Access, Tables}
 use Rattle.nf_defs.specs.declared.Seeker.{Seeker}
 use Rattle.nf_words.specs.Asked.{Asked}
-use Rattle.nf_words.specs.Prelude.{access_of, acts_rule, allowed_of, asked_by, Call, call_decision, end_lost, end_refusal, end_unallowed, end_unreached, exists_rule, first_refused, first_that_holds, forbidden_rule, found, is_refused, limit_at, limit_rule, locked_rule, may_by, named_rule, Need, need_broken, needed, node_of_key, not_you_rule, overwrite_rule, Pass, pieces_of, place_of, place_rule, refusal_of, room_rule, Rule, rules, seeker_of, sharing_rule, source_lost, source_refused, target_lost, target_refused, target_rule, token_rule, unless_refused, unreached, Way, way_of}
+use Rattle.nf_words.specs.Prelude.{access_of, acts_rule, allowed_of, asked_by, Call, call_decision, end_lost, end_refusal, end_unallowed, end_unreached, exists_rule, first_refused, first_that_holds, forbidden_rule, found, is_refused, limit_at, limit_rule, locked_rule, may_by, named_rule, Need, need_broken, needed, node_of_key, not_you_rule, overwrite_rule, Pass, pieces_of, place_of, place_rule, refusal_of, room_rule, Rule, rules, seeker_of, sharing_rule, source_lost, source_refused, target_lost, target_refused, target_rule, token_rule, unless_refused, unlinked, unreached, Way, way_of}
 use Rattle.nf_words.specs.declared.answer.Allowed.{Allowed}
 use Rattle.nf_words.specs.declared.answer.By.{By}
 use Rattle.nf_words.specs.declared.answer.Denial.{Denial}
@@ -96,8 +96,9 @@ each_passes [] access call none = tt
 each_passes (rule ∷ others) access call none =
     let h = both_none (rule access call) (first_that_holds others access call) none in (h.0, each_passes others access call h.1)
 
--- what isn't refused of the paths is reached, where it isn't a mount that is asked for itself, and isn't lost
+-- what isn't refused of the paths is of a link that is there, is reached, where it isn't a mount that is asked for itself, and isn't lost
 pub record PlacePasses (access : Access) (call : Call) (asked : Asked) : Type 0 where
+  pub linked : unlinked call ≡ None
   pub source : IfSome asked.source (λ (spot : Spot). (asked.removes && (way_of call spot).itself) ≡ false → unreached access call (way_of call spot) ≡ None)
   pub there : option_and_then source_lost (option_map (found call) asked.source) ≡ None
   pub target : IfSome asked.target (λ (spot : Spot). unreached access call (way_of call spot) ≡ None)
@@ -108,12 +109,14 @@ unfolding place_rule
 place_passes access call none = here (asked_by call) refl none
   where
     here : (asked : Asked) → asked_by call ≡ asked
-        → option_or (option_and_then (λ spot. source_refused access call (way_of call spot)) asked.source)
-        (option_and_then (λ spot. target_refused access call (way_of call spot)) asked.target) ≡ None
+        → option_or (unlinked call) (option_or (option_and_then (λ spot. source_refused access call (way_of call spot)) asked.source)
+        (option_and_then (λ spot. target_refused access call (way_of call spot)) asked.target)) ≡ None
         → PlacePasses access call asked
     here asked same none =
-        let both = both_none (option_and_then (λ spot. source_refused access call (way_of call spot)) asked.source) _ none in
+        let first = both_none (unlinked call) _ none in
+        let both = both_none (option_and_then (λ spot. source_refused access call (way_of call spot)) asked.source) _ first.1 in
         record {
+          linked = first.0;
           source = (sources asked.source both.0).0;
           there = (sources asked.source both.0).1;
           target = (targets asked.target both.1).0;

@@ -1,7 +1,7 @@
 -- What is known of what is asked about users and groups.
-use Rattle.std.proofs.Common.{◌≡◌, ◌≢◌, ◌⊎◌, ℕ, zero, suc, ◌+◌, ◌<◌, ◌≤◌, ◌==◌, ◌&&◌, ◌||◌, not, max, filter, find, get_or, length, map, bytes_eq, Bool, true, false, List, [], ◌∷◌, Option, option_map, if◌then◌else◌, refl, ap, sym, subst, ◌∙◌, arith, le_refl}
+use Rattle.std.proofs.Common.{◌≡◌, ◌≢◌, ℕ, ◌+◌, ◌<◌, ◌==◌, ◌&&◌, ◌||◌, not, filter, find, get_or, length, map, bytes_eq, Bool, true, false, List, [], ◌∷◌, Option, option_map, if◌then◌else◌, refl, ap, sym, subst, ◌∙◌, arith, le_refl}
 use Rattle.std.specs.Prelude.{None, Some, is_some, nat_lt}
-use Rattle.std.specs.List.{All, AllPairs, list_any}
+use Rattle.std.specs.List.{All}
 use Rattle.std.specs.Option.{IfSome, option_and_then, option_map_or}
 use Rattle.std.proofs.lemmas.Bool.{and_from, and_parts, both_ways, eq-eqb, eqb-true, ltb-false, not-true}
 use Rattle.std.proofs.lemmas.List.Elements.{All-cons, All-filter, All-map, All-nil, All-weaker, filter_passes}
@@ -10,16 +10,14 @@ use Rattle.std.proofs.lemmas.List.Folds.{list_any-from_Any}
 use Rattle.std.proofs.lemmas.Option.{none-some, same_Some}
 use Rattle.std.proofs.lemmas.Slice.Eq.{bytes_eq-Decides}
 use Rattle.nf_access.proofs.LookUps.{find_among}
-use Rattle.nf_access.specs.Mounts.{ensured_all, mount_row}
 use Rattle.nf_base.specs.declared.changes.Change.{Change}
 use Rattle.nf_base.specs.declared.changes.Change.TheVariants.{Drop, Put}
 use Rattle.nf_base.specs.declared.changes.RowKey.TheVariants as keys
-use Rattle.nf_base.specs.declared.limits.TheConstants.{MAX_GROUPS, MAX_MEMBERS, MAX_NODES, MAX_TOKENS, MAX_USERS}
+use Rattle.nf_base.specs.declared.limits.TheConstants.{MAX_MEMBERS, MAX_TOKENS}
 use Rattle.nf_base.specs.declared.rows.GroupRow.{GroupRow}
 use Rattle.nf_base.specs.declared.rows.MemberRow.{MemberRow}
 use Rattle.nf_base.specs.declared.rows.MetaRow.{MetaRow}
 use Rattle.nf_base.specs.declared.rows.MountRow.{MountRow}
-use Rattle.nf_base.specs.declared.rows.NodeRow.{NodeRow}
 use Rattle.nf_base.specs.declared.rows.Row.TheVariants as rows
 use Rattle.nf_base.specs.declared.rows.ShareRow.{ShareRow}
 use Rattle.nf_base.specs.declared.rows.TokenRow.{TokenRow}
@@ -27,9 +25,9 @@ use Rattle.nf_base.specs.declared.rows.UserRow.{UserRow}
 use Rattle.nf_defs.specs.Prelude.{dropped, group_key, group_named, group_row, holder_of, is_member_of, made, member_key, node_row, put, Tables, token_key, user_key, user_named, user_row}
 use Rattle.nf_words.proofs.Asks.{Differs, ensured_lean, found_any, lean_with, mounts_fit, named_there, nothing_known, Once}
 use Rattle.nf_words.proofs.Ensured.{ensured_known, IsMountable}
-use Rattle.nf_words.proofs.Fits.{KnownChange, newest, no_more, none_lean, not_there, one_more, put_found, user_more}
+use Rattle.nf_words.proofs.Fits.{KnownChange, newest, no_more, not_there, one_more, put_found, user_more}
 use Rattle.nf_words.proofs.Found.{found_has, found_passes, put_is_found}
-use Rattle.nf_words.specs.Prelude.{AreSound, changed_key, counted, is_joined, is_member, is_taken, IsLean, IsMountSound, IsNodeSound, IsShareSound, join_limit, joined_by, last_number, last_short, left_by, membership, mount_limit, mounts_joined, new_root, new_user, people_changed, people_limit, put_mounts, raised, requoted, row_named, user_made}
+use Rattle.nf_words.specs.Prelude.{AreSound, counted, is_joined, is_member, is_taken, IsLean, IsMountSound, IsShareSound, join_limit, joined_by, left_by, membership, mount_limit, mounts_joined, new_root, new_user, people_changed, people_limit, put_mounts, raised, requoted, row_named, user_made}
 use Rattle.nf_words.specs.declared.answer.Breach.{Breach}
 use Rattle.nf_words.specs.declared.answer.Limit.{Limit}
 use Rattle.nf_words.specs.declared.answer.Limit.TheVariants as limit

@@ -7,7 +7,6 @@ use Rattle.std.proofs.lemmas.Bool.{both_ways, eq-eqb, eqb-true, not-true}
 use Rattle.std.proofs.lemmas.List.Elements.{All-cons, All-filter, All-head, All-map, All-nil, All-tail, filter_passes}
 use Rattle.std.proofs.lemmas.Option.{none-some, same_Some}
 use Rattle.std.proofs.lemmas.Slice.Eq.{bytes_eq-Decides}
-use Rattle.nf_access.specs.Mounts.{ensured}
 use Rattle.nf_base.specs.Content.{content_eq}
 use Rattle.nf_base.specs.declared.changes.Change.{Change}
 use Rattle.nf_base.specs.declared.changes.Change.TheVariants.{Drop, Put}
@@ -27,11 +26,11 @@ use Rattle.nf_defs.specs.declared.Found.TheVariants.{At, Free, Missing}
 use Rattle.nf_words.proofs.Begins.{only_at, places_at, wanted_passes, WantedPasses}
 use Rattle.nf_words.proofs.Found.{found_has, found_passes}
 use Rattle.nf_words.proofs.Known.{KnownCopies}
-use Rattle.nf_words.proofs.Passing.{call_passes, no_key, not_refused}
-use Rattle.nf_words.proofs.Starts.{has_row}
+use Rattle.nf_words.proofs.Passing.{place_passes, call_passes, no_key, not_refused}
+use Rattle.nf_words.proofs.Starts.{has_asker, IsAsking}
 use Rattle.nf_words.proofs.Steps.{fails_each}
 use Rattle.nf_words.proofs.Transfers.{copies_known}
-use Rattle.nf_words.specs.Prelude.{access_of, AreApartHolds, AreKeysApart, AreSound, asked_by, asked_of, blob_for, blocks, by_of, Call, call_decision, call_of, caller_row, carry_limit, clashes, content_in, copied, copies_to, copy_limit, crosses, decision_of, deleted, end_decision, end_refusal, ends_at, ends_goal, found, given, HoldsFor, is_exclusive, IsNodeSound, IsSound, IsTicketSound, key_in_way, last_name, least, left_row, lesser, limited, listing_of, locked_rule, made_folder, makes, MayAsk, MayWant, mount_left, mount_renamed, move_limit, moved, named_row, new_node, node_at, node_of_key, own_mount, places_of, refilled, root_of, same_key, served, source_touches, State, stored, stored_at, target_touches, ticket_of, Touch, touch_key, touch_under, touched, touches, transfer_of, transfer_touches, unfit_between, unreached, way_of, with_mount_row, without, without_ticket, share_made, shared, new_share, nothing_done, mounting, offered, share_told, share_shown, share_set, perms_after, share_steered, share_ended, ended_row, put_mounts, until_after, mounts_for, same_end, set_row, new_user, new_root, membership, mounts_joined, joined_by, left_by, is_member, row_named, requoted, people_changed}
+use Rattle.nf_words.specs.Prelude.{access_of, AreApartHolds, AreKeysApart, AreSound, asked_by, asked_of, blob_for, blocks, by_of, Call, call_decision, call_of, carry_limit, clashes, content_in, copied, copies_to, copy_limit, crosses, decision_of, deleted, end_decision, end_refusal, ends_at, ends_goal, found, given, HoldsFor, is_exclusive, IsNodeSound, IsSound, IsTicketSound, key_in_way, last_name, least, left_row, lesser, limited, listing_of, locked_rule, made_folder, makes, MayAsk, MayWant, mount_left, mount_renamed, move_limit, moved, named_row, new_node, node_at, node_of_key, own_mount, places_of, refilled, root_of, same_key, served, source_touches, State, stored, stored_at, target_touches, ticket_of, Touch, touch_key, touch_under, touched, touches, transfer_of, transfer_touches, unfit_between, unreached, way_of, with_mount_row, without, without_ticket, share_made, shared, new_share, nothing_done, offered, share_told, share_shown, share_set, perms_after, share_steered, share_ended, ended_row, put_mounts, until_after, mounts_for, same_end, set_row, new_user, new_root, membership, mounts_joined, joined_by, left_by, is_member, row_named, requoted, people_changed}
 use Rattle.nf_words.specs.declared.answer.Allowed.{Allowed}
 use Rattle.nf_words.specs.declared.answer.Allowed.TheVariants as allowed
 use Rattle.nf_words.specs.declared.answer.By.{By}
@@ -230,7 +229,7 @@ mount_spares t now hold None told = All-nil (SparesChange t hold.key)
 mount_spares t now hold (Some row) told =
     All-cons (SparesChange t hold.key) (Put (rows.Mount row)) [] tt (All-nil (SparesChange t hold.key))
 
-module _ (call : Call) (row : UserRow) (hold : Hold) (sound : AreSound call.state.tables) (is : caller_row call ≡ Some row) where
+module _ (call : Call) (hold : Hold) (sound : AreSound call.state.tables) (is : IsAsking call) where
   abbrev t : Tables
   t = call.state.tables
 
@@ -293,7 +292,7 @@ module _ (call : Call) (row : UserRow) (hold : Hold) (sound : AreSound call.stat
       mount_spares t call.now hold (option_map (named_row (last_name to)) (own_mount call (way_of call from).mount)) report.Made
   move_spares from to false itself from_reached to_reached fits few clear =
       carried_spares to (transfer_of t.nodes (led from to)) few
-      (λ one e some. (copies_known call from to row sound is (from_reached refl) to_reached one e fits some, refl, refl)) clear
+      (λ one e some. (copies_known call from to sound is (from_reached refl) to_reached one e fits some, refl, refl)) clear
 
   copy_spares : (from to : Spot) → unreached (access_of call.state) call (way_of call from) ≡ None
       → unreached (access_of call.state) call (way_of call to) ≡ None
@@ -304,7 +303,7 @@ module _ (call : Call) (row : UserRow) (hold : Hold) (sound : AreSound call.stat
   unfolding copies_known
   copy_spares from to from_reached to_reached fits None e some clear = tt
   copy_spares from to from_reached to_reached fits (Some transfer) e some clear = (
-    copies_known call from to row sound is from_reached to_reached transfer e fits some,
+    copies_known call from to sound is from_reached to_reached transfer e fits some,
     transfer_spared t hold Shared (last_name to) transfer clear,
   )
 
@@ -465,9 +464,9 @@ call_spares : (call : Call) (act : Allowed) (hold : Hold) → IsSound call.state
     → Spares call.state.tables call.now hold act
 call_spares call act hold sound may is clear =
     let h = call_passes call act is in
-    let row = has_row call h.0.token in
+    let asker = has_asker call h.0.token (place_passes (access_of call.state) call h.0.place).linked in
     subst (λ (a : Allowed). Spares call.state.tables call.now hold a) h.1
-    (wanted_spares call row.0 hold sound.rows row.1 call.request.wanted (wanted_passes call may h.0) clear)
+    (wanted_spares call hold sound.rows asker call.request.wanted (wanted_passes call may h.0) clear)
 
 -- and what no other seat's hold is
 begin_spares : (call : Call) (act : Allowed) → IsSound call.state → MayWant call.request → IsNone (ticket_of call.state call.seat)

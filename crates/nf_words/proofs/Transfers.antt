@@ -1,18 +1,18 @@
 -- What is known of a MOVE or a COPY that no rule refuses.
-use Rattle.std.proofs.Common.{◌≡◌, ℕ, ◌≤◌, ◌||◌, Bool, true, false, List, length, ◌∙◌, Option, option_map, if◌then◌else◌, refl, sym, ap, subst, arith}
+use Rattle.std.proofs.Common.{◌≡◌, ℕ, ◌≤◌, ◌==◌, ◌||◌, Bool, true, false, List, length, ◌∙◌, Option, option_map, if◌then◌else◌, refl, sym, ap, subst, arith}
 use Rattle.std.specs.Prelude.{None, Some}
 use Rattle.std.specs.Option.{option_and_then, option_map_or, option_or}
 use Rattle.std.proofs.lemmas.Option.{none-some, same_Some}
 use Rattle.nf_base.specs.declared.limits.TheConstants.{MAX_DEPTH}
 use Rattle.nf_base.specs.declared.rows.NodeRow.{NodeRow}
-use Rattle.nf_base.specs.declared.rows.UserRow.{UserRow}
 use Rattle.nf_defs.specs.Prelude.{child_of, is_folder, is_root, Tables, walk_of}
 use Rattle.nf_defs.specs.declared.Found.{Found}
 use Rattle.nf_defs.specs.declared.Found.TheVariants.{At, Free, Missing}
 use Rattle.nf_words.proofs.Fits.{within}
 use Rattle.nf_words.proofs.Known.{Known, KnownCopies, KnownTransfer}
+use Rattle.nf_words.proofs.Starts.{IsAsking}
 use Rattle.nf_words.proofs.Ways.{at_in, HasRow, slot_known, taken_unmounted, way_there}
-use Rattle.nf_words.specs.Prelude.{access_of, AreSound, Call, caller_row, carry_limit, copied, copies_to, copy_limit, crosses, deepest_in, folder_at, found, is_off_mount, is_root_at, IsUnmounted, last_name, misplaced, misplaced_by, move_limit, moved, node_found, pieces_in, root_of, transfer_between, transfer_by, transfer_of, transfer_to, unfit_between, unreached, Way, Ways, way_of}
+use Rattle.nf_words.specs.Prelude.{access_of, AreSound, Call, carry_limit, copied, copies_to, copy_limit, crosses, deepest_in, folder_at, folder_seen, found, is_off_mount, is_root_at, is_start, is_there, IsUnmounted, last_name, misplaced, misplaced_by, move_limit, moved, node_found, pieces_in, root_of, transfer_between, transfer_by, transfer_of, transfer_to, unfit_between, unreached, Way, Ways, way_of}
 use Rattle.nf_words.specs.declared.answer.Allowed.TheVariants as allowed
 use Rattle.nf_words.specs.declared.answer.TargetFault.{TargetFault}
 use Rattle.nf_words.specs.declared.answer.TargetFault.TheVariants as target
@@ -41,34 +41,38 @@ record KnownTarget (t : Tables) (transfer : Transfer) (name : List ℕ) : Type 0
   there : child_of t.nodes transfer.folder name ≡ transfer.replaced
   unmounted : IsUnmounted t transfer.folder name
 
-target_known : (call : Call) (spot : Spot) (place : Found) (row : UserRow) (transfer : Transfer)
-    → AreSound call.state.tables → caller_row call ≡ Some row → unreached (access_of call.state) call (way_of call spot) ≡ None
-    → (way_of call spot).itself ≡ false → found call spot ≡ place
+target_known : (call : Call) (spot : Spot) (place : Found) (transfer : Transfer)
+    → AreSound call.state.tables → IsAsking call → unreached (access_of call.state) call (way_of call spot) ≡ None
+    → (way_of call spot).itself ≡ false → is_start (root_of call) (found call spot) ≡ false → found call spot ≡ place
     → node_found place ≡ transfer.replaced → folder_at call.state.tables.nodes place ≡ Some transfer.folder
     → KnownTarget call.state.tables transfer (last_name spot)
-target_known call spot (At node) row transfer sound is reached other leads replaced above =
+target_known call spot (At node) transfer sound is reached other no_start leads replaced above =
     let t = call.state.tables in
-    let step = at_in call spot row sound is node transfer.folder other leads above in
+    let step = at_in call spot sound is node transfer.folder other no_start leads above in
     record {
       in_folder = step.0;
       there = step.1 ∙ replaced;
       unmounted = taken_unmounted t transfer.folder node (last_name spot) sound step.1;
     }
-target_known call spot (Free folder) row transfer sound is reached other leads replaced above =
+target_known call spot (Free folder) transfer sound is reached other no_start leads replaced above =
     let t = call.state.tables in
     let same = same_Some folder transfer.folder above in
-    let slot = slot_known call spot row sound is folder reached leads in
+    let slot = slot_known call spot sound is folder reached leads in
     record {
       in_folder = subst (λ (n : ℕ). is_folder t.nodes n ≡ true) same slot.folds;
       there = subst (λ (n : ℕ). child_of t.nodes n (last_name spot) ≡ None) same slot.free ∙ replaced;
       unmounted = subst (λ (n : ℕ). IsUnmounted t n (last_name spot)) same slot.unmounted;
     }
-target_known call spot (Missing depth) row transfer sound is reached other leads replaced above = absurd (none-some transfer.folder above)
+target_known call spot (Missing depth) transfer sound is reached other no_start leads replaced above = absurd (none-some transfer.folder above)
 
 none_misplaced : (a b c : Bool)
     → (if a then Some target.Same else if b || c then Some target.Inside else None) ≡ None → (a ≡ false) × (b ≡ false) × (c ≡ false)
 none_misplaced false false false none = (refl, refl, refl)
 none_misplaced a b c none = absurd (cc)
+
+pub off : (a b : Bool) → (a || b) ≡ false → b ≡ false
+off false b none = none
+off true b none = absurd (cc)
 
 none_off : (o : Option TargetFault) (off : Bool) → option_or o (if off then Some target.Mount else None) ≡ None → (o ≡ None) × (off ≡ false)
 none_off None false none = (refl, refl)
@@ -90,14 +94,34 @@ fit_parts rows false off (Some transfer) fits =
     let parts = none_off (misplaced rows transfer) off fits in
     record { transfer = transfer; is = refl; no_root = refl; placed = parts.0; on = parts.1 }
 
--- from a node to the end of a way that isn't a mount itself
-pub same_transfer : (rows : List NodeRow) (root node : ℕ) (way : Way) → way.itself ≡ false → transfer_by rows root node way ≡ transfer_to rows node way.place
-same_transfer rows root node way other =
-    ap (λ (b : Bool). option_map (λ folder. record { node = node; folder = folder; replaced = node_found way.place })
-    (if b then Some root else folder_at rows way.place)) other
+-- the transfer to a folder, where there is one
+abbrev into : ℕ → Way → Option ℕ → Option Transfer
+into node way folder = option_map (λ folder. record { node = node; folder = folder; replaced = node_found way.place }) folder
 
--- what is moved or copied, by a caller whose row is there and who is reached
-module _ (call : Call) (source target : Spot) (row : UserRow) (sound : AreSound call.state.tables) (is : caller_row call ≡ Some row)
+-- to the end of a way that isn't a mount itself, by whether that is what the paths lead from
+transfer_seen : (rows : List NodeRow) (root node : ℕ) (way : Way) → way.itself ≡ false
+    → transfer_by rows root node way ≡ into node way (folder_seen rows root way.place)
+transfer_seen rows root node way other = ap (λ (b : Bool). into node way (if b then Some root else folder_seen rows root way.place)) other
+
+-- which it isn't, where there is a transfer
+pub not_start : (rows : List NodeRow) (root node : ℕ) (way : Way) (transfer : Transfer) → way.itself ≡ false
+    → transfer_by rows root node way ≡ Some transfer → is_start root way.place ≡ false
+not_start rows root node way transfer other is =
+    here (is_start root way.place) (sym (transfer_seen rows root node way other) ∙ is)
+  where
+    here : (b : Bool) → into node way (if b then None else folder_at rows way.place) ≡ Some transfer → b ≡ false
+    here false is = refl
+    here true is = absurd (none-some transfer is)
+
+-- then it is that to the place
+pub same_transfer : (rows : List NodeRow) (root node : ℕ) (way : Way) (transfer : Transfer) → way.itself ≡ false
+    → transfer_by rows root node way ≡ Some transfer → transfer_by rows root node way ≡ transfer_to rows node way.place
+same_transfer rows root node way transfer other is =
+    transfer_seen rows root node way other
+    ∙ ap (λ (b : Bool). into node way (if b then None else folder_at rows way.place)) (not_start rows root node way transfer other is)
+
+-- what is moved or copied, by a caller who is there and is reached
+module _ (call : Call) (source target : Spot) (sound : AreSound call.state.tables) (is : IsAsking call)
     (from_reached : unreached (access_of call.state) call (way_of call source) ≡ None)
     (to_reached : unreached (access_of call.state) call (way_of call target) ≡ None) where
   abbrev t : Tables
@@ -115,8 +139,26 @@ module _ (call : Call) (source target : Spot) (row : UserRow) (sound : AreSound 
   -- it doesn't end at a mount itself
   pub no_mount : unfit_between t.nodes (root_of call) false ways ≡ None → (way_of call target).itself ≡ false
   no_mount fits =
-      (fit_parts t.nodes (is_root_at t.nodes (Some (way_of call source))) (is_off_mount (root_of call) false (way_of call target))
+      (fit_parts t.nodes (is_root_at t.nodes (root_of call) (Some (way_of call source))) (is_off_mount (root_of call) false (way_of call target))
       (transfer_between t.nodes (root_of call) ways) fits).on
+
+  -- neither what is moved or copied nor what has to go is what the paths lead from
+  pub no_starts : (node : ℕ) → found call source ≡ At node → unfit_between t.nodes (root_of call) false ways ≡ None
+      → (is_start (root_of call) (found call source) ≡ false) × (is_start (root_of call) (found call target) ≡ false)
+  no_starts node leads fits =
+      let fit = fit_parts t.nodes (is_root_at t.nodes (root_of call) (Some (way_of call source))) (is_off_mount (root_of call) false (way_of call target))
+      (transfer_between t.nodes (root_of call) ways) fits in
+      let between : transfer_between t.nodes (root_of call) ways ≡ transfer_by t.nodes (root_of call) node (way_of call target) =
+      ap (λ (place : Found). option_and_then (λ node. transfer_by t.nodes (root_of call) node (way_of call target)) (node_found place)) leads in
+      let root : (node == root_of call || is_root t.nodes node) ≡ false =
+      sym (ap (λ (place : Found). is_there (λ node. node == root_of call || is_root t.nodes node) (Some place)) leads) ∙ fit.no_root in (
+        ap (is_start (root_of call)) leads ∙ on (node == root_of call) (is_root t.nodes node) root,
+        not_start t.nodes (root_of call) node (way_of call target) fit.transfer (no_mount fits) (sym between ∙ fit.is),
+      )
+    where
+      on : (a b : Bool) → (a || b) ≡ false → a ≡ false
+      on false b none = refl
+      on true b none = absurd (cc)
 
   pub transfer_known : (transfer : Transfer) → transfer_of t.nodes places ≡ Some transfer → unfit_between t.nodes (root_of call) false ways ≡ None
       → deepest_in t.nodes transfer.node transfer.folder ≤ MAX_DEPTH → KnownTransfer t transfer (last_name target)
@@ -127,19 +169,21 @@ module _ (call : Call) (source target : Spot) (row : UserRow) (sound : AreSound 
       here (At node) leads led fits =
           let parts = transfer_parts t.nodes node (found call target) transfer led in
           let other = no_mount fits in
-          let at = target_known call target (found call target) row transfer sound is to_reached other refl parts.1 parts.2 in
-          let fit = fit_parts t.nodes (is_root_at t.nodes (Some (way_of call source))) (is_off_mount (root_of call) false (way_of call target))
+          let fit = fit_parts t.nodes (is_root_at t.nodes (root_of call) (Some (way_of call source))) (is_off_mount (root_of call) false (way_of call target))
           (transfer_between t.nodes (root_of call) ways) fits in
           let between : transfer_between t.nodes (root_of call) ways ≡ transfer_by t.nodes (root_of call) node (way_of call target) =
           ap (λ (place : Found). option_and_then (λ node. transfer_by t.nodes (root_of call) node (way_of call target)) (node_found place)) leads in
+          let by : transfer_by t.nodes (root_of call) node (way_of call target) ≡ Some fit.transfer = sym between ∙ fit.is in
           let it : fit.transfer ≡ transfer =
-          same_Some fit.transfer transfer (sym fit.is ∙ between ∙ same_transfer t.nodes (root_of call) node (way_of call target) other ∙ led) in
+          same_Some fit.transfer transfer (sym by ∙ same_transfer t.nodes (root_of call) node (way_of call target) fit.transfer other by ∙ led) in
+          let at = target_known call target (found call target) transfer sound is to_reached other
+          (not_start t.nodes (root_of call) node (way_of call target) fit.transfer other by) refl parts.1 parts.2 in
           let placed = none_misplaced _ _ _ (subst (λ (x : Transfer). misplaced t.nodes x ≡ None) it fit.placed) in
-          let there = way_there call source row sound is node from_reached leads in
+          let there = way_there call source sound is node from_reached leads in
           record {
             source = subst (HasRow t.nodes) parts.0 there;
             no_root = subst (λ (n : ℕ). is_root t.nodes n ≡ false) parts.0
-                (sym (ap (λ (place : Found). option_map_or (is_root t.nodes) (node_found place) false) leads) ∙ fit.no_root);
+                (off (node == root_of call) (is_root t.nodes node) (sym (ap (λ (place : Found). is_there (λ node. node == root_of call || is_root t.nodes node) (Some place)) leads) ∙ fit.no_root));
             in_folder = at.in_folder;
             there = at.there;
             unmounted = at.unmounted;

@@ -1,9 +1,9 @@
 -- Where the ways of a call lead by whose mounts it is reached.
-use Rattle.std.proofs.Common.{◌≡◌, ◌⊎◌, ℕ, ◌+◌, ◌<◌, ◌==◌, ◌&&◌, inl, inr, bytes_eq, drop, find, not, sym, Bool, true, false, List, [], ◌∷◌, ◌∙◌, Option, option_map, if◌then◌else◌, refl, ap, subst}
+use Rattle.std.proofs.Common.{◌≡◌, ◌⊎◌, ℕ, ◌+◌, ◌<◌, ◌==◌, ◌&&◌, inl, inr, bytes_eq, find, not, sym, Bool, true, false, List, [], ◌∷◌, ◌∙◌, Option, option_map, if◌then◌else◌, refl, ap, subst}
 use Rattle.std.specs.Prelude.{None, Some, is_some}
 use Rattle.std.specs.List.{AllPairs, list_any}
 use Rattle.std.specs.Option.{IfSome, option_and_then, option_map_or}
-use Rattle.std.proofs.lemmas.Bool.{and_parts, both_ways, eqb-true, not-true}
+use Rattle.std.proofs.lemmas.Bool.{and_parts, both_ways, eq-eqb, eqb-true, not-true}
 use Rattle.std.proofs.lemmas.List.Elements.{All-weaker}
 use Rattle.std.proofs.lemmas.Option.{none-some, same_Some}
 use Rattle.std.proofs.lemmas.Slice.Eq.{bytes_eq-Decides}
@@ -24,10 +24,11 @@ use Rattle.nf_defs.specs.Prelude.{child_of, folder_of, found_from, is_folder, is
 use Rattle.nf_defs.specs.declared.Found.{Found}
 use Rattle.nf_defs.specs.declared.Found.TheVariants.{At, Free, Missing}
 use Rattle.nf_defs.specs.declared.Seeker.{Seeker}
+use Rattle.nf_defs.specs.declared.Seeker.TheVariants as seeker
 use Rattle.nf_words.proofs.Found.{at_known, child_parent, found_has, found_passes, free_known, last_more, last_of, last_step}
 use Rattle.nf_words.proofs.Passing.{if_none}
-use Rattle.nf_words.proofs.Starts.{root_is, root_known}
-use Rattle.nf_words.specs.Prelude.{access_of, AreSound, asker_of, Call, caller_row, found, IsMountSound, IsNodeSound, is_one, IsShareSound, IsUnmounted, IsPlaceSound, last_name, mount_of, mounted, root_of, root_of_user, seeker_of, unreached, unreached_by, Way, way_by, way_of}
+use Rattle.nf_words.proofs.Starts.{IsAsking, none_of_user, root_is, root_known, user_seeks}
+use Rattle.nf_words.specs.Prelude.{access_of, AreSound, asker_of, behind, Call, caller_row, found, is_itself, is_start, IsMountSound, IsNodeSound, IsShareSound, IsUnmounted, IsPlaceSound, last_name, mount_for, mount_of, mounted, root_of, root_of_user, seeker_of, unreached, unreached_by, Way, way_by, way_of}
 use Rattle.nf_words.specs.declared.request.Spot.{Spot}
 
 -- the node is there
@@ -187,12 +188,12 @@ taken_unmounted t folder node name sound child root = here (find test t.mounts) 
 
 -- ---- where a way leads
 
-module _ (call : Call) (spot : Spot) (row : UserRow) (sound : AreSound call.state.tables) (is : caller_row call ≡ Some row) where
+module _ (call : Call) (spot : Spot) (sound : AreSound call.state.tables) (is : IsAsking call) where
   abbrev t : Tables
   t = call.state.tables
 
   abbrev way : Option ℕ → Way
-  way mount = way_by t.nodes (root_of call) spot.path mount
+  way mount = way_by t.nodes (seeker_of call) (root_of call) spot.path mount
 
   abbrev lead : Option ℕ → Found
   lead mount = (way mount).place
@@ -202,16 +203,17 @@ module _ (call : Call) (spot : Spot) (row : UserRow) (sound : AreSound call.stat
 
   -- what a way leads to is there, where it is reached by its mount
   pub way_there : (node : ℕ) → unreached (access_of call.state) call (way_of call spot) ≡ None → found call spot ≡ At node → HasRow t.nodes node
-  way_there node reached leads = here (mount_of call spot) reached leads
+  way_there node reached leads = here (mount_of call spot) refl reached leads
     where
-      here : (mount : Option ℕ) → Reached mount → lead mount ≡ At node → HasRow t.nodes node
-      here None reached leads =
+      here : (mount : Option ℕ) → mount_of call spot ≡ mount → Reached mount → lead mount ≡ At node → HasRow t.nodes node
+      here None none reached leads =
+          let user = none_of_user call spot is none in
           elim (at_above t.nodes 0 (root_of call) spot.path node sound.rising leads) [
-            | inl same ↦ (let root = root_is call row sound is in (root.row, ap (node_row t.nodes) (sym same.0) ∙ root.there))
+            | inl same ↦ (let root = root_is call user.0 sound user.1 in (root.row, ap (node_row t.nodes) (sym same.0) ∙ root.there))
             | inr above ↦ inside_there t.nodes node above.0 above.1
           ]
-      here (Some mount) reached leads =
-          elim (at_above t.nodes 0 mount (drop 1 spot.path) node sound.rising leads) [
+      here (Some mount) by reached leads =
+          elim (at_above t.nodes 0 mount (behind (seeker_of call) spot.path) node sound.rising leads) [
             | inl same ↦
                 (let shared = reached_there t (seeker_of call) call.now mount sound reached in
                 (shared.row, ap (node_row t.nodes) (sym same.0) ∙ shared.there))
@@ -228,9 +230,9 @@ module _ (call : Call) (spot : Spot) (row : UserRow) (sound : AreSound call.stat
   no_root_unmounted folder name no_root root = absurd (both_ways (is_root t.nodes folder) no_root root)
 
   -- the name is no mount's, where it is the only one in the caller's root
-  root_unmounted : (folder : ℕ) (path : List (List ℕ)) (name : List ℕ) → path ≡ name ∷ [] → mounted t.nodes t.mounts (asker_of call) (root_of call) path ≡ None
+  root_unmounted : (row : UserRow) → caller_row call ≡ Some row → (folder : ℕ) (path : List (List ℕ)) (name : List ℕ) → path ≡ name ∷ [] → mounted t.nodes t.mounts (asker_of call) (root_of call) path ≡ None
       → root_of call ≡ folder → child_of t.nodes folder name ≡ None → mount_at t.mounts (owner_of t.nodes folder) name ≡ None
-  root_unmounted folder path name alone none same free =
+  root_unmounted row is folder path name alone none same free =
       let root = root_is call row sound is in
       let owner : owner_of t.nodes folder ≡ asker_of call =
       ap (λ (n : ℕ). owner_of t.nodes n) (sym same) ∙ ap (λ (o : Option NodeRow). option_map_or (λ row. row.owner) o 0) root.there ∙ root.owner
@@ -245,14 +247,19 @@ module _ (call : Call) (spot : Spot) (row : UserRow) (sound : AreSound call.stat
       → IsSlot folder (last_name spot)
   slot_known folder reached leads = here (mount_of call spot) refl reached leads
     where
-      rest_of : (path : List (List ℕ)) (mount folder : ℕ) → found_from t.nodes 0 mount (drop 1 path) ≡ Free folder → last_of (drop 1 path) ≡ last_of path
-      rest_of [] mount folder leads = refl
-      rest_of (first ∷ []) mount folder leads = absurd (cc)
-      rest_of (first ∷ second ∷ rest) mount folder leads = sym (last_more first second rest)
+      rest_of : (who : Seeker) (path : List (List ℕ)) (mount folder : ℕ) → found_from t.nodes 0 mount (behind who path) ≡ Free folder
+          → last_of (behind who path) ≡ last_of path
+      rest_of (seeker.Link share) path mount folder leads = refl
+      rest_of (seeker.User user) [] mount folder leads = refl
+      rest_of (seeker.User user) (first ∷ []) mount folder leads = absurd (cc)
+      rest_of (seeker.User user) (first ∷ second ∷ rest) mount folder leads = sym (last_more first second rest)
 
       here : (mount : Option ℕ) → mount_of call spot ≡ mount → Reached mount → lead mount ≡ Free folder → IsSlot folder (last_name spot)
       here None none reached leads =
           let known = free_known t.nodes 0 (root_of call) spot.path folder leads in
+          let user = none_of_user call spot is none in
+          let unmounted : mounted t.nodes t.mounts (asker_of call) (root_of call) spot.path ≡ None =
+          sym (ap (λ (s : Seeker). mount_for t.nodes t.mounts s (root_of call) spot.path) (user_seeks call user.0 user.1)) ∙ none in
           record {
             folds = known.0;
             free = known.1;
@@ -260,43 +267,73 @@ module _ (call : Call) (spot : Spot) (row : UserRow) (sound : AreSound call.stat
               | inl alone ↦
                   (let last : last_name spot ≡ alone.1.0 = ap last_of alone.1.1 in
                   λ root. ap (mount_at t.mounts (owner_of t.nodes folder)) last
-                  ∙ root_unmounted folder spot.path alone.1.0 alone.1.1 none alone.0 (ap (child_of t.nodes folder) (sym last) ∙ known.1))
+                  ∙ root_unmounted user.0 user.1 folder spot.path alone.1.0 alone.1.1 unmounted alone.0 (ap (child_of t.nodes folder) (sym last) ∙ known.1))
               | inr above ↦ no_root_unmounted folder (last_name spot) (inside_no_root t.nodes folder above.0 above.1)
             ];
           }
       here (Some mount) by reached leads =
-          let known = free_known t.nodes 0 mount (drop 1 spot.path) folder leads in
+          let known = free_known t.nodes 0 mount (behind (seeker_of call) spot.path) folder leads in
           record {
             folds = known.0;
-            free = ap (child_of t.nodes folder) (sym (rest_of spot.path mount folder leads)) ∙ known.1;
-            unmounted = no_root_unmounted folder (last_name spot) (elim (free_above t.nodes 0 mount (drop 1 spot.path) folder sound.rising leads) [
+            free = ap (child_of t.nodes folder) (sym (rest_of (seeker_of call) spot.path mount folder leads)) ∙ known.1;
+            unmounted = no_root_unmounted folder (last_name spot) (elim (free_above t.nodes 0 mount (behind (seeker_of call) spot.path) folder sound.rising leads) [
               | inl alone ↦
                   ap (is_root t.nodes) (sym alone.0) ∙ shared_no_root t mount (reached_there t (seeker_of call) call.now mount sound reached)
               | inr above ↦ inside_no_root t.nodes folder above.0 above.1
             ]);
           }
 
-  -- what is at the end of a way, and isn't a mount itself, is its folder's child of the last name
-  pub at_in : (node folder : ℕ) → (way_of call spot).itself ≡ false → found call spot ≡ At node → parent_of t.nodes node ≡ Some folder
-      → (is_folder t.nodes folder ≡ true) × (child_of t.nodes folder (last_name spot) ≡ Some node)
-  at_in node folder other leads above = here (mount_of call spot) refl other leads
+  -- the way of a free name is none of a mount itself
+  pub free_no_mount : (folder : ℕ) → found call spot ≡ Free folder → (way_of call spot).itself ≡ false
+  free_no_mount folder leads = here (mount_of call spot) leads
     where
-      by_mount : (path : List (List ℕ)) (mount : ℕ) → is_one path ≡ false → (path ≡ [] → ⊥) → found_from t.nodes 0 mount (drop 1 path) ≡ At node
-          → (is_folder t.nodes folder ≡ true) × (child_of t.nodes folder (last_of path) ≡ Some node)
-      by_mount [] mount other some leads = absurd (some refl)
-      by_mount (first ∷ []) mount other some leads = absurd (cc)
-      by_mount (first ∷ second ∷ rest) mount other some leads =
-          let step = last_step t.nodes 0 mount (second ∷ rest) node leads in
+      by_mount : (who : Seeker) (path : List (List ℕ)) (mount : ℕ) → found_from t.nodes 0 mount (behind who path) ≡ Free folder
+          → is_itself who path ≡ false
+      by_mount (seeker.Link share) path mount leads = refl
+      by_mount (seeker.User user) [] mount leads = refl
+      by_mount (seeker.User user) (first ∷ []) mount leads = absurd (cc)
+      by_mount (seeker.User user) (first ∷ second ∷ rest) mount leads = refl
+
+      here : (mount : Option ℕ) → lead mount ≡ Free folder → (way mount).itself ≡ false
+      here None leads = refl
+      here (Some mount) leads = by_mount (seeker_of call) spot.path mount leads
+
+  -- what is at the end of a way, and is neither a mount itself nor what the paths lead from, is its folder's child of the last name
+  pub at_in : (node folder : ℕ) → (way_of call spot).itself ≡ false → is_start (root_of call) (found call spot) ≡ false → found call spot ≡ At node
+      → parent_of t.nodes node ≡ Some folder
+      → (is_folder t.nodes folder ≡ true) × (child_of t.nodes folder (last_name spot) ≡ Some node)
+  at_in node folder other no_start leads above = here (mount_of call spot) refl other leads
+    where
+      started : is_start (root_of call) (At node) ≡ false
+      started = sym (ap (is_start (root_of call)) leads) ∙ no_start
+
+      InFolder : List (List ℕ) → Type 0
+      InFolder path = (is_folder t.nodes folder ≡ true) × (child_of t.nodes folder (last_of path) ≡ Some node)
+
+      -- some names lead into a folder
+      stepped : (mount : ℕ) (first : List ℕ) (rest : List (List ℕ)) → found_from t.nodes 0 mount (first ∷ rest) ≡ At node → InFolder (first ∷ rest)
+      stepped mount first rest leads =
+          let step = last_step t.nodes 0 mount (first ∷ rest) node leads in
           let same : step.folder ≡ folder =
-          same_Some step.folder folder (sym (child_parent t.nodes step.folder (last_of (second ∷ rest)) node sound.rising step.child) ∙ above) in (
+          same_Some step.folder folder (sym (child_parent t.nodes step.folder (last_of (first ∷ rest)) node sound.rising step.child) ∙ above) in (
             subst (λ (n : ℕ). is_folder t.nodes n ≡ true) same step.folds,
-            ap (child_of t.nodes folder) (last_more first second rest) ∙ subst (λ (n : ℕ). child_of t.nodes n (last_of (second ∷ rest)) ≡ Some node) same step.child,
+            subst (λ (n : ℕ). child_of t.nodes n (last_of (first ∷ rest)) ≡ Some node) same step.child,
           )
+
+      by_mount : (who : Seeker) (path : List (List ℕ)) (mount : ℕ) → mount_for t.nodes t.mounts who (root_of call) path ≡ Some mount
+          → is_itself who path ≡ false → found_from t.nodes 0 mount (behind who path) ≡ At node → InFolder path
+      by_mount (seeker.User user) [] mount by other leads = absurd (none-some mount by)
+      by_mount (seeker.User user) (first ∷ []) mount by other leads = absurd (cc)
+      by_mount (seeker.User user) (first ∷ second ∷ rest) mount by other leads =
+          let is = stepped mount second rest leads in (is.0, ap (child_of t.nodes folder) (last_more first second rest) ∙ is.1)
+      by_mount (seeker.Link share) [] mount by other leads =
+          let same : mount ≡ node = last_step t.nodes 0 mount [] node leads in
+          absurd (both_ways (node == root_of call) started (eq-eqb node (root_of call) (sym (same_Some (root_of call) mount by ∙ same))))
+      by_mount (seeker.Link share) (first ∷ rest) mount by other leads = stepped mount first rest leads
 
       here : (mount : Option ℕ) → mount_of call spot ≡ mount → (way mount).itself ≡ false → lead mount ≡ At node
           → (is_folder t.nodes folder ≡ true) × (child_of t.nodes folder (last_name spot) ≡ Some node)
       here None none other leads =
-          at_known t.nodes (root_of call) spot.path node folder sound.rising (root_known call row sound is) leads above
-      here (Some mount) there other leads =
-          by_mount spot.path mount other
-          (λ none. none-some mount (sym (ap (mounted t.nodes t.mounts (asker_of call) (root_of call)) none) ∙ there)) leads
+          let user = none_of_user call spot is none in
+          at_known t.nodes (root_of call) spot.path node folder sound.rising (root_known call user.0 sound user.1) leads above
+      here (Some mount) there other leads = by_mount (seeker_of call) spot.path mount there other leads

@@ -81,3 +81,9 @@ is_about_shares other = false
 abbrev pub is_about_people : Wanted → Bool
 is_about_people (People ask) = true
 is_about_people other = false
+
+-- something is asked about files and folders
+abbrev pub is_about_files : Wanted → Bool
+is_about_files (Share ask) = false
+is_about_files (People ask) = false
+is_about_files other = true

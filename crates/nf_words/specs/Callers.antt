@@ -4,14 +4,18 @@ use Rattle.std.specs.List.{list_all}
 use Rattle.std.specs.Option.{option_map_or}
 use Rattle.nf_defs.specs.Access.{Access}
 use Rattle.nf_defs.specs.People.{is_admin}
-use Rattle.nf_words.specs.Asked.{is_about_people, users_of}
-use Rattle.nf_words.specs.Calls.{Call, asked_by, asker_of, caller_row}
+use Rattle.nf_words.specs.Asked.{is_about_files, is_about_people, users_of}
+use Rattle.nf_words.specs.Calls.{Call, asked_by, asker_of, caller_row, is_by_link}
 use Rattle.nf_words.specs.declared.answer.Denial.{Denial}
 use Rattle.nf_words.specs.declared.answer.Denial.TheVariants as denial
 
--- `token`: nobody whose row is there asks
+-- by a link, files alone are asked about
+abbrev pub asks_by_link : Call → Bool
+asks_by_link call = is_by_link call.request.caller && is_about_files call.request.wanted
+
+-- `token`: neither a user whose row is there asks nor somebody by a link
 unfoldable pub token_rule : Access → Call → Option Denial
-token_rule access call = if is_some (caller_row call) then None else Some denial.Token
+token_rule access call = if is_some (caller_row call) || asks_by_link call then None else Some denial.Token
 
 -- the caller has that name
 abbrev pub is_caller : Call → List ℕ → Bool

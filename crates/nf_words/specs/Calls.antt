@@ -2,17 +2,19 @@
 use Rattle.std.specs.Prelude.{ℕ, ◌-◌, ◌&&◌, Bool, true, false, List, [], ◌∷◌, drop, length, Option, None, Some, is_some, option_map, option_and_then, slice_get, unwrap_or, if◌then◌else◌}
 use Rattle.std.specs.Option.{option_map_or}
 use Rattle.nf_access.specs.Mounts.{mount_at}
+use Rattle.nf_access.specs.Shares.{link_row}
 use Rattle.nf_base.specs.declared.rows.MountRow.{MountRow}
 use Rattle.nf_base.specs.declared.rows.NodeRow.{NodeRow}
+use Rattle.nf_base.specs.declared.rows.ShareRow.{ShareRow}
 use Rattle.nf_base.specs.declared.rows.UserRow.{UserRow}
 use Rattle.nf_defs.specs.Prelude.{child_of, found_from, holder_of, user_row}
 use Rattle.nf_defs.specs.declared.Found.{Found}
 use Rattle.nf_defs.specs.declared.Seeker.{Seeker}
-use Rattle.nf_defs.specs.declared.Seeker.TheVariants.{User}
+use Rattle.nf_defs.specs.declared.Seeker.TheVariants as seeker
 use Rattle.nf_words.specs.Asked.{Asked, asked_of}
 use Rattle.nf_words.specs.State.{State}
 use Rattle.nf_words.specs.declared.request.Caller.{Caller}
-use Rattle.nf_words.specs.declared.request.Caller.TheVariants.{Absent, Token}
+use Rattle.nf_words.specs.declared.request.Caller.TheVariants.{Absent, Token, Link}
 use Rattle.nf_words.specs.declared.request.Places.{Places}
 use Rattle.nf_words.specs.declared.request.Request.{Request}
 use Rattle.nf_words.specs.declared.request.Spot.{Spot}
@@ -40,6 +42,7 @@ last_name spot = unwrap_or (slice_get spot.path (length spot.path - 1)) []
 abbrev pub caller_of : State → Caller → Option ℕ
 caller_of s Absent = None
 caller_of s (Token digest) = holder_of s.tables.tokens digest
+caller_of s (Link token) = None
 
 abbrev pub user_of : Call → Option ℕ
 user_of call = caller_of call.state call.request.caller
@@ -51,12 +54,32 @@ caller_row call = option_and_then (user_row call.state.tables.users) (user_of ca
 abbrev pub asker_of : Call → ℕ
 asker_of call = option_map_or (λ row. row.id) (caller_row call) 0
 
-abbrev pub seeker_of : Call → Seeker
-seeker_of call = User (asker_of call)
+-- who asks comes by a link, whether or not there is one of that token
+abbrev pub is_by_link : Caller → Bool
+is_by_link Absent = false
+is_by_link (Token digest) = false
+is_by_link (Link token) = true
 
--- the caller's root folder
+-- the share whose token the caller shows
+abbrev pub link_by : State → Caller → Option ShareRow
+link_by s Absent = None
+link_by s (Token digest) = None
+link_by s (Link token) = link_row s.tables.shares token
+
+abbrev pub link_of : Call → Option ShareRow
+link_of call = link_by call.state call.request.caller
+
+-- the number of the share by whose link somebody asks
+abbrev pub linked_of : Call → ℕ
+linked_of call = option_map_or (λ row. row.id) (link_of call) 0
+
+-- who seeks access: a user, or whoever knows a link
+abbrev pub seeker_of : Call → Seeker
+seeker_of call = if is_by_link call.request.caller then seeker.Link (linked_of call) else seeker.User (asker_of call)
+
+-- what the caller's paths lead from: the root folder of a user, and what a link is of
 abbrev pub root_of : Call → ℕ
-root_of call = option_map_or (λ row. row.root) (caller_row call) 0
+root_of call = option_map_or (λ row. row.node) (link_of call) (option_map_or (λ row. row.root) (caller_row call) 0)
 
 -- ---- where its paths lead
 
@@ -77,18 +100,33 @@ abbrev pub mounted : List NodeRow → List MountRow → ℕ → ℕ → List (Li
 mounted rows mounts user root [] = None
 mounted rows mounts user root (name ∷ names) = if is_some (child_of rows root name) then None else mount_at mounts user name
 
+-- the same for whoever seeks access; all paths of a link go by what it is of
+abbrev pub mount_for : List NodeRow → List MountRow → Seeker → ℕ → List (List ℕ) → Option ℕ
+mount_for rows mounts (seeker.User user) root names = mounted rows mounts user root names
+mount_for rows mounts (seeker.Link share) root names = Some root
+
 -- the node of the mount that a place's path goes by
 abbrev pub mount_of : Call → Spot → Option ℕ
-mount_of call spot = mounted call.state.tables.nodes call.state.tables.mounts (asker_of call) (root_of call) spot.path
+mount_of call spot = mount_for call.state.tables.nodes call.state.tables.mounts (seeker_of call) (root_of call) spot.path
 
--- names lead from a root, or, behind the first of them, from the node of a mount
-abbrev pub way_by : List NodeRow → ℕ → List (List ℕ) → Option ℕ → Way
-way_by rows root names None = record { mount = None; itself = false; place = found_from rows 0 root names }
-way_by rows root names (Some node) =
-    record { mount = Some node; itself = is_one names; place = found_from rows 0 node (drop 1 names) }
+-- the names behind the mount that a path goes by: a user's path names its mount first, and that of a link names none
+abbrev pub behind : Seeker → List (List ℕ) → List (List ℕ)
+behind (seeker.User user) names = drop 1 names
+behind (seeker.Link share) names = names
+
+-- the path is that of the mount itself
+abbrev pub is_itself : Seeker → List (List ℕ) → Bool
+is_itself (seeker.User user) names = is_one names
+is_itself (seeker.Link share) names = false
+
+-- names lead from a root, or from the node of a mount
+abbrev pub way_by : List NodeRow → Seeker → ℕ → List (List ℕ) → Option ℕ → Way
+way_by rows seeker root names None = record { mount = None; itself = false; place = found_from rows 0 root names }
+way_by rows seeker root names (Some node) =
+    record { mount = Some node; itself = is_itself seeker names; place = found_from rows 0 node (behind seeker names) }
 
 abbrev pub way_of : Call → Spot → Way
-way_of call spot = way_by call.state.tables.nodes (root_of call) spot.path (mount_of call spot)
+way_of call spot = way_by call.state.tables.nodes (seeker_of call) (root_of call) spot.path (mount_of call spot)
 
 -- what a place's path leads to
 abbrev pub found : Call → Spot → Found

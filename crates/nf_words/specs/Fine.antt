@@ -1,6 +1,7 @@
 -- What a changed row keeps in the tables that it meets, by what becomes of it, whatever the act. The tables know its numbers already.
 use Rattle.std.specs.Prelude.{◌≡◌, ◌≢◌, ◌⊎◌, List, ℕ, ◌+◌, ◌<◌, ◌≤◌, All, false, true, [], length, Option, None, Some, is_some}
 use Rattle.nf_access.specs.Mounts.{mount_at, mount_row, root_folder}
+use Rattle.nf_access.specs.Making.{is_token_taken}
 use Rattle.nf_access.specs.Shares.{chain_of, share_row}
 use Rattle.nf_base.specs.declared.limits.TheConstants.{MAX_CHAIN, MAX_DEPTH, MAX_GROUPS, MAX_MEMBERS, MAX_MOUNTS, MAX_NODES, MAX_SHARES, MAX_STORED_PIECES, MAX_TOKENS, MAX_USERS}
 use Rattle.nf_base.specs.declared.changes.Change.{Change}
@@ -79,7 +80,7 @@ abbrev pub StandsOn : Tables → ShareRow → Option ℕ → Type 0
 StandsOn t row None = row.initiator ≡ row.owner
 StandsOn t row (Some parent) = (is_some (share_row t.shares parent) ≡ true) × (length (chain_of t.shares parent) < MAX_CHAIN)
 
--- a new share of a node that is there, whose number is above all others
+-- a new share of a node that is there, whose number is above all others; the token of a link is no other's
 pub record IsNewShare (t : Tables) (row : ShareRow) : Type 0 where
   pub newest : All (λ (old : ShareRow). old.id < row.id) t.shares
   pub given : row.id < t.meta.next_share
@@ -90,6 +91,7 @@ pub record IsNewShare (t : Tables) (row : ShareRow) : Type 0 where
   pub of_node : IsOfNode row node
   pub initiator : is_some (user_row t.users row.initiator) ≡ true
   pub kind : IsKindSound t row.kind
+  pub token : is_token_taken t.shares row.kind ≡ false
   pub on : StandsOn t row row.parent
   pub few : length t.shares + 1 ≤ MAX_SHARES
 

@@ -1,7 +1,8 @@
 -- Legal histories: lists of entries, each of which may come in the state that those before it made.
-use Rattle.std.specs.Prelude.{◌≡◌, ◌≢◌, ℕ, ◌+◌, ◌≤◌, ◌&&◌, Bool, true, false, not, List, [], ◌∷◌, length, Option, None, Some, IsNone, IfSome, is_some, Result, Err}
+use Rattle.std.specs.Prelude.{◌≡◌, ◌≢◌, ℕ, ◌+◌, ◌≤◌, ◌&&◌, true, not, List, [], ◌∷◌, length, Option, None, Some, IsNone, IfSome, is_some, Result, Err}
 use Rattle.nf_base.specs.declared.limits.TheConstants.{MAX_BODY, MAX_ENTRIES, MAX_QUOTA}
 use Rattle.nf_words.specs.Asked.{asked_of, is_about_shares}
+use Rattle.nf_words.specs.Calls.{is_by_link}
 use Rattle.nf_words.specs.State.{State, goal_at, ticket_of}
 use Rattle.nf_words.specs.Step.{step, answer_to, changes_to, without}
 use Rattle.nf_words.specs.declared.answer.Denial.{Denial}
@@ -16,8 +17,6 @@ use Rattle.nf_words.specs.declared.history.Outcome.{Outcome}
 use Rattle.nf_words.specs.declared.history.Outcome.TheVariants.{Sent, Gone, Body}
 use Rattle.nf_words.specs.declared.answer.Goal.{Goal}
 use Rattle.nf_words.specs.declared.answer.Goal.TheVariants.{Serve, Store}
-use Rattle.nf_words.specs.declared.request.Caller.{Caller}
-use Rattle.nf_words.specs.declared.request.Caller.TheVariants.{Absent, Token}
 use Rattle.nf_words.specs.declared.request.Making.{Making}
 use Rattle.nf_words.specs.declared.request.Making.TheVariants as making
 use Rattle.nf_words.specs.declared.request.PeopleAsk.{PeopleAsk}
@@ -68,14 +67,9 @@ IsShort making.Copied = Unit {0}
 IsShort making.Shared = Unit {0}
 IsShort making.Told = Unit {0}
 
--- who asks by a link; nobody does yet
-abbrev pub is_link : Caller → Bool
-is_link Absent = false
-is_link (Token digest) = false
-
 -- a place names its user exactly where the caller isn't a link and nothing is asked about shares
 abbrev pub NamesUser : Request → Spot → Type 0
-NamesUser request spot = is_some spot.user ≡ (not (is_link request.caller) && not (is_about_shares request.wanted))
+NamesUser request spot = is_some spot.user ≡ (not (is_by_link request.caller) && not (is_about_shares request.wanted))
 
 -- an end is one that a date tells
 abbrev pub IsEnd : Option ℕ → Type 0

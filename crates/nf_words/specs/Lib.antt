@@ -16,7 +16,6 @@ pub mod Rules
 pub mod Changes
 pub mod Endings
 pub mod Step
-pub mod Actors
 pub mod History
 pub mod Laws
 pub mod Later
@@ -26,3 +25,4 @@ pub mod Fine
 pub mod Lean
 pub mod Prelude
 pub mod Reached
+pub mod Tokens

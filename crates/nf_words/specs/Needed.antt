@@ -11,7 +11,7 @@ use Rattle.nf_defs.specs.declared.Seeker.{Seeker}
 use Rattle.nf_defs.specs.declared.Seeker.TheVariants.{User, Link}
 use Rattle.nf_words.specs.Asked.{Asked}
 use Rattle.nf_words.specs.Calls.{Call, Way, asked_by, is_mount_asked, root_of, way_of}
-use Rattle.nf_words.specs.Places.{folder_at, node_found}
+use Rattle.nf_words.specs.Places.{folder_seen, node_found}
 use Rattle.nf_words.specs.declared.answer.By.{By}
 use Rattle.nf_words.specs.declared.answer.LockKey.{LockKey}
 use Rattle.nf_words.specs.declared.answer.LockKey.TheVariants.{Node, Slot}
@@ -47,9 +47,10 @@ needs act (Some node) mount = record { act = act; node = node; mount = mount } �
 abbrev pub needs_at : Act → Way → List Need
 needs_at act way = needs act (node_found way.place) way.mount
 
--- the folder of what is at a place or is put there: a root stands for its own, and a mount is in the caller's root
+-- the folder of what is at a place or is put there: a root stands for its own, and so does what the paths lead from; a mount is in the
+-- caller's root
 abbrev pub folder_for : List NodeRow → ℕ → Way → Option ℕ
-folder_for rows root way = if way.itself then Some root else option_or (folder_at rows way.place) (node_found way.place)
+folder_for rows root way = if way.itself then Some root else option_or (folder_seen rows root way.place) (node_found way.place)
 
 -- that something is made there; the mount of a path that is the mount's own isn't on the way
 abbrev pub needs_in : List NodeRow → ℕ → Way → List Need

@@ -5,7 +5,6 @@ use Rattle.nf_access.specs.Mounts.{ensured_all}
 use Rattle.nf_base.specs.declared.changes.Change.{Change}
 use Rattle.nf_base.specs.declared.changes.Change.TheVariants.{Put, Drop}
 use Rattle.nf_base.specs.declared.changes.RowKey.TheVariants as keys
-use Rattle.nf_base.specs.declared.rows.GroupRow.{GroupRow}
 use Rattle.nf_base.specs.declared.rows.MemberRow.{MemberRow}
 use Rattle.nf_base.specs.declared.rows.MountRow.{MountRow}
 use Rattle.nf_base.specs.declared.rows.NodeKind.TheVariants.{Folder}
@@ -15,7 +14,6 @@ use Rattle.nf_base.specs.declared.rows.Row.TheVariants as rows
 use Rattle.nf_base.specs.declared.rows.ShareKind.{ShareKind}
 use Rattle.nf_base.specs.declared.rows.ShareKind.TheVariants as kind
 use Rattle.nf_base.specs.declared.rows.ShareRow.{ShareRow}
-use Rattle.nf_base.specs.declared.rows.TokenRow.{TokenRow}
 use Rattle.nf_base.specs.declared.rows.UserRow.{UserRow}
 use Rattle.nf_defs.specs.Prelude.{group_named, holder_of, is_member_of, Tables, user_named, user_row}
 use Rattle.nf_words.specs.Limits.{count_of, last_number, last_short, mount_limit}

@@ -81,6 +81,16 @@ folder_at rows (At node) = parent_of rows node
 folder_at rows (Free folder) = Some folder
 folder_at rows (Missing depth) = None
 
+-- what a place has is what the paths lead from
+abbrev pub is_start : ℕ → Found → Bool
+is_start root (At node) = node == root
+is_start root (Free folder) = false
+is_start root (Missing depth) = false
+
+-- the folder at a place, as who asks sees it: what the paths lead from is in none
+abbrev pub folder_seen : List NodeRow → ℕ → Found → Option ℕ
+folder_seen rows root place = if is_start root place then None else folder_at rows place
+
 -- from a node to a place that is in a folder
 abbrev pub transfer_to : List NodeRow → ℕ → Found → Option Transfer
 transfer_to rows node place =
@@ -105,7 +115,7 @@ misplaced rows transfer = if is_same transfer then Some target.Same else if is_i
 
 -- the folder of what is at the end of a way or is put there: a mount is in the root of its user
 abbrev pub folder_in : List NodeRow → ℕ → Way → Option ℕ
-folder_in rows root way = if way.itself then Some root else folder_at rows way.place
+folder_in rows root way = if way.itself then Some root else folder_seen rows root way.place
 
 -- from a node to the end of a way that is in a folder
 abbrev pub transfer_by : List NodeRow → ℕ → ℕ → Way → Option Transfer
@@ -129,13 +139,14 @@ is_off_mount root renames way = if renames then not (is_free_in root way.place) 
 abbrev pub misplaced_by : List NodeRow → Bool → Transfer → Option TargetFault
 misplaced_by rows off transfer = option_or (misplaced rows transfer) (if off then Some target.Mount else None)
 
-abbrev pub is_root_at : List NodeRow → Option Way → Bool
-is_root_at rows way = is_there (is_root rows) (place_at way)
+-- a user's root, or what the paths lead from
+abbrev pub is_root_at : List NodeRow → ℕ → Option Way → Bool
+is_root_at rows root way = is_there (λ node. node == root || is_root rows node) (place_at way)
 
 -- what may not be done between two places: the first of root, same, inside and mount. What is there but in no folder is a root
 abbrev pub unfit_between : List NodeRow → ℕ → Bool → Ways → Option TargetFault
 unfit_between rows root renames ways =
-    if not renames && is_root_at rows ways.source then Some target.Root
+    if not renames && is_root_at rows root ways.source then Some target.Root
     else option_map_or (misplaced_by rows (option_map_or (is_off_mount root renames) ways.target false)) (transfer_between rows root ways)
     (Some target.Root)
 
@@ -144,7 +155,7 @@ abbrev pub unfit : List NodeRow → ℕ → Asked → Ways → Option TargetFaul
 unfit rows root asked ways =
     let renames = is_mount_asked asked ways.source in
     if is_transfer asked.makes then unfit_between rows root renames ways
-    else if asked.removes && not renames && is_root_at rows ways.source then Some target.Root
+    else if asked.removes && not renames && is_root_at rows root ways.source then Some target.Root
     else None
 
 -- `bad-target`

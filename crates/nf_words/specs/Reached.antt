@@ -1,10 +1,10 @@
 -- The rules of access: what a path's mount reaches who asks by, and what may be done by it. What is told of a refusal.
-use Rattle.std.specs.Prelude.{ℕ, ◌&&◌, not, Bool, find, List, Option, None, Some, option_map, option_and_then, if◌then◌else◌}
+use Rattle.std.specs.Prelude.{ℕ, ◌&&◌, is_some, not, Bool, find, List, Option, None, Some, option_map, option_and_then, if◌then◌else◌}
 use Rattle.std.specs.List.{list_any}
 use Rattle.std.specs.Option.{option_map_or, option_or}
 use Rattle.nf_access.specs.Access.{is_open}
 use Rattle.nf_access.specs.Broken.{broken_in, first_received}
-use Rattle.nf_access.specs.Shares.{Ground, chain_of, ground_of}
+use Rattle.nf_access.specs.Shares.{Ground, chain_of, ground_of, link_row}
 use Rattle.nf_access.specs.declared.Cause.{Cause}
 use Rattle.nf_base.specs.declared.perms.Act.{Act}
 use Rattle.nf_base.specs.declared.rows.NodeRow.{NodeRow}
@@ -13,8 +13,11 @@ use Rattle.nf_defs.specs.declared.Seeker.{Seeker}
 use Rattle.nf_words.specs.Calls.{Call, Way, asked_by, seeker_of, way_of}
 use Rattle.nf_words.specs.Needed.{Need, may_by, needed}
 use Rattle.nf_words.specs.Places.{source_lost, target_lost}
+use Rattle.nf_words.specs.State.{State}
 use Rattle.nf_words.specs.declared.answer.Denial.{Denial}
 use Rattle.nf_words.specs.declared.answer.Denial.TheVariants as denial
+use Rattle.nf_words.specs.declared.request.Caller.{Caller}
+use Rattle.nf_words.specs.declared.request.Caller.TheVariants.{Link}
 
 -- ---- what is told
 
@@ -41,6 +44,14 @@ unreached access call way = option_and_then (unreached_by access (ground_of call
 
 -- ---- what isn't there, or isn't reached
 
+-- there is no link of that token
+abbrev pub unlinked_by : State → Caller → Option Denial
+unlinked_by s (Link token) = if is_some (link_row s.tables.shares token) then None else Some denial.NotFound
+unlinked_by s other = None
+
+abbrev pub unlinked : Call → Option Denial
+unlinked call = unlinked_by call.state call.request.caller
+
 -- the mount is tested before any further name; not where it is to be left or renamed itself
 abbrev pub source_refused : Access → Call → Way → Option Denial
 source_refused access call way =
@@ -49,12 +60,13 @@ source_refused access call way =
 abbrev pub target_refused : Access → Call → Way → Option Denial
 target_refused access call way = option_or (unreached access call way) (target_lost way.place)
 
--- `no-share`, `broken-link`, `not-found` and `no-parent`: of the source, then of the target
+-- `no-share`, `broken-link`, `not-found` and `no-parent`: of the link, then of the source, then of the target
 unfoldable pub place_rule : Access → Call → Option Denial
 place_rule access call =
     let asked = asked_by call in
-    option_or (option_and_then (λ spot. source_refused access call (way_of call spot)) asked.source)
-    (option_and_then (λ spot. target_refused access call (way_of call spot)) asked.target)
+    option_or (unlinked call)
+    (option_or (option_and_then (λ spot. source_refused access call (way_of call spot)) asked.source)
+    (option_and_then (λ spot. target_refused access call (way_of call spot)) asked.target))
 
 -- ---- the acts
 

@@ -2,10 +2,12 @@
 use Rattle.std.specs.Prelude.{ℕ, ◌+◌, ◌==◌, ◌%◌, ◌&&◌, ◌||◌, nat_le, nat_lt, not, Bool, true, false, List, [], ◌∷◌, find, filter, filter_map, length, map, Option, None, Some, is_none, is_some, option_map, option_and_then, unwrap_or, if◌then◌else◌}
 use Rattle.std.specs.List.{list_any}
 use Rattle.std.specs.Option.{option_map_or}
-use Rattle.nf_access.specs.Making.{is_again, is_part, is_self_share, passes_on}
+use Rattle.nf_access.specs.Making.{is_again, is_part, is_self_share, is_token_taken, passes_on}
 use Rattle.nf_access.specs.Mounts.{ensured_all}
 use Rattle.nf_access.specs.Shares.{chain_of, is_before, mask_of, perms_of_share, receives, share_row}
+use Rattle.nf_base.specs.Perms.{bit_of}
 use Rattle.nf_base.specs.declared.limits.TheConstants.{MAX_CHAIN}
+use Rattle.nf_base.specs.declared.perms.Act.TheVariants as act
 use Rattle.nf_base.specs.declared.rows.MemberRow.{MemberRow}
 use Rattle.nf_base.specs.declared.rows.MountRow.{MountRow}
 use Rattle.nf_base.specs.declared.rows.NodeKind.{NodeKind}
@@ -22,6 +24,7 @@ use Rattle.nf_words.specs.Listing.{all_permissions}
 use Rattle.nf_words.specs.Needed.{is_owner}
 use Rattle.nf_words.specs.People.{are_named, is_taken, people_limit}
 use Rattle.nf_words.specs.Places.{node_found}
+use Rattle.nf_words.specs.Tokens.{link_token}
 use Rattle.nf_words.specs.declared.answer.Denial.{Denial}
 use Rattle.nf_words.specs.declared.answer.Denial.TheVariants as denial
 use Rattle.nf_words.specs.declared.answer.Limit.{Limit}
@@ -53,30 +56,44 @@ is_end_moment moment = nat_lt 0 moment && moment % 86400 == 0 && not (nat_lt 253
 abbrev pub kind_of : List NodeRow → ℕ → NodeKind
 kind_of rows node = option_map_or (λ row. row.kind) (node_row rows node) File
 
-abbrev pub kind_to : Receiver → ShareKind
-kind_to (receiver.User user) = kind.User user
-kind_to (receiver.Group group) = kind.Group group
+-- a link has that token
+abbrev pub kind_to : List ℕ → Receiver → ShareKind
+kind_to token (receiver.User user) = kind.User user
+kind_to token (receiver.Group group) = kind.Group group
+kind_to token receiver.Link = kind.Link token
 
--- the user or the group of that name
+-- the user or the group of that name, or whoever will know a link
 abbrev pub receiver_named : Tables → Sharee → Option Receiver
 receiver_named t (sharee.User name) = option_map receiver.User (user_named t.users name)
 receiver_named t (sharee.Group name) = option_map receiver.Group (group_named t.groups name)
+receiver_named t sharee.Link = Some receiver.Link
+
+-- the permissions that are asked for where none are named: all, and of a link to read alone
+abbrev pub usual_perms : Receiver → ℕ
+usual_perms (receiver.User user) = all_permissions
+usual_perms (receiver.Group group) = all_permissions
+usual_perms receiver.Link = bit_of act.Read
+
+-- the permissions of a new share of a node
+abbrev pub perms_to : List NodeRow → List ℕ → ℕ → Option ℕ → Receiver → ℕ
+perms_to rows token node perms to = perms_of_share (kind_of rows node) (kind_to token to) (unwrap_or perms (usual_perms to))
 
 -- of a node that is there
-abbrev pub offer_of : List NodeRow → Option ℕ → Option ℕ → Option ℕ → ℕ → Receiver → Offer
-offer_of rows mount perms until node to = record {
+abbrev pub offer_of : List NodeRow → List ℕ → Option ℕ → Option ℕ → Option ℕ → ℕ → Receiver → Offer
+offer_of rows token mount perms until node to = record {
   node = node;
   mount = mount;
   to = to;
-  perms = perms_of_share (kind_of rows node) (kind_to to) (unwrap_or perms all_permissions);
+  perms = perms_to rows token node perms to;
   until = until;
 }
 
 abbrev pub offered_by : Call → Way → Option ℕ → Option ℕ → Option Receiver → Option Offer
 offered_by call way perms until to =
-    option_and_then (λ node. option_map (offer_of call.state.tables.nodes way.mount perms until node) to) (node_found way.place)
+    option_and_then (λ node. option_map (offer_of call.state.tables.nodes (link_token call.words) way.mount perms until node) to)
+    (node_found way.place)
 
--- where its path leads, with the user or the group of that name
+-- where its path leads, for whom it names
 abbrev pub offered : Call → Spot → Sharee → Option ℕ → Option ℕ → Option Offer
 offered call spot to perms until = offered_by call (way_of call spot) perms until (receiver_named call.state.tables to)
 
@@ -98,7 +115,7 @@ parent_by access call offer = if is_own call offer then None else parent_for acc
 abbrev pub new_share : Access → Call → Offer → ShareRow
 new_share access call offer = record {
   id = call.state.tables.meta.next_share;
-  kind = kind_to offer.to;
+  kind = kind_to (link_token call.words) offer.to;
   node = offer.node;
   owner = owner_of call.state.tables.nodes offer.node;
   initiator = asker_of call;
@@ -172,6 +189,7 @@ offer_fault access call offer =
     else if list_any (is_again row call.now) t.shares then Some rule.Already
     else if is_widened access call offer then Some rule.Widened
     else if is_long t.shares row.parent then Some rule.Chain
+    else if is_token_taken t.shares row.kind then Some rule.TokenTaken
     else None
 
 -- the permissions that a share has once some are asked for
@@ -218,10 +236,11 @@ sharing_rule access call = option_map denial.Rule (fault_by access call call.req
 
 -- ---- the limits of shares and mounts
 
--- the users who are to have a mount by a share: the one that it names, or the members of the group but for the owner
+-- the users who are to have a mount by a share: the one that it names, or the members of the group but for the owner; a link has none
 abbrev pub users_for : List MemberRow → ℕ → Receiver → List ℕ
 users_for members owner (receiver.User user) = user ∷ []
 users_for members owner (receiver.Group group) = filter (λ user. not (user == owner)) (members_of members group)
+users_for members owner receiver.Link = []
 
 -- the mounts that they get
 abbrev pub mounts_for : Tables → Offer → List MountRow

@@ -2,6 +2,7 @@
 use Rattle.std.specs.Prelude.{◌≡◌, ◌≢◌, ℕ, ◌<◌, ◌≤◌, All, true, List, [], length, Option, None, Some, IfSome, is_some}
 use Rattle.std.specs.List.{AllPairs}
 use Rattle.std.specs.Option.{option_map_or}
+use Rattle.nf_access.specs.Shares.{is_link_kind, share_row}
 use Rattle.nf_base.specs.declared.limits.TheConstants.{MAX_BODY}
 use Rattle.nf_base.specs.declared.rows.GroupRow.{GroupRow}
 use Rattle.nf_base.specs.declared.rows.MemberRow.{MemberRow}
@@ -9,6 +10,7 @@ use Rattle.nf_base.specs.declared.rows.MetaRow.{MetaRow}
 use Rattle.nf_base.specs.declared.rows.NodeRow.{NodeRow}
 use Rattle.nf_base.specs.declared.rows.Place.{Place}
 use Rattle.nf_base.specs.declared.rows.Place.TheVariants.{Root, Inside, Trash}
+use Rattle.nf_base.specs.declared.rows.ShareRow.{ShareRow}
 use Rattle.nf_base.specs.declared.rows.UserRow.{UserRow}
 use Rattle.nf_defs.specs.Prelude.{climb, folder_of, is_folder, is_folder_kind, item_row, node_row, owner_of, Tables, user_row}
 use Rattle.nf_defs.specs.declared.Seeker.{Seeker}
@@ -102,11 +104,19 @@ pub record IsOwn (t : Tables) (user node : ℕ) : Type 0 where
   pub given : node < t.meta.next_node
   pub owner : (row : NodeRow) → node_row t.nodes node ≡ Some row → row.owner ≡ user
 
--- who stores by no mount owns what is stored over; nobody stores by a link yet
+-- the share is there, and is a link to that node
+pub record IsLinkTo (t : Tables) (share node : ℕ) : Type 0 where
+  pub row : ShareRow
+  pub there : share_row t.shares share ≡ Some row
+  pub link : is_link_kind row.kind ≡ true
+  pub leads : row.node ≡ node
+
+-- who stores by no mount owns what is stored over; and who stores by a link does so by the mount of what that is of
 abbrev pub MayStoreBy : Tables → Seeker → Option ℕ → ℕ → Type 0
 MayStoreBy t (seeker.User user) None node = IsOwn t user node
 MayStoreBy t (seeker.User user) (Some mount) node = Unit {0}
-MayStoreBy t (seeker.Link share) mount node = ⊥
+MayStoreBy t (seeker.Link share) None node = ⊥
+MayStoreBy t (seeker.Link share) (Some mount) node = IsLinkTo t share mount
 
 abbrev pub MayStoreAt : Tables → By → ℕ → Type 0
 MayStoreAt t by node = MayStoreBy t by.seeker by.mount node

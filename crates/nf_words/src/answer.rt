@@ -23,7 +23,7 @@ pub enum Denial {
     BadName(NameFault),
     /// 400: a field that the request goes by can't be read, or isn't there.
     BadParameter(Parameter),
-    /// 401: the caller shows no token that is known.
+    /// 401: the caller shows no token that is known, or asks by a link for something else than files.
     Token,
     /// 403: the user in the path isn't the caller; or users and groups are asked about by who isn't a member of the group `admin`.
     NotYou,
@@ -38,7 +38,7 @@ pub enum Denial {
     BadTarget(TargetFault),
     /// 403: what is asked breaks a rule of sharing, or of new names and tokens.
     Rule(Breach),
-    /// 404: there is no such file, folder, user, group or share, or no such route.
+    /// 404: there is no such file, folder, user, group, share or link, or no such route.
     NotFound,
     /// 405: the route doesn't have the method.
     Method(Route),
@@ -127,6 +127,8 @@ pub enum Breach {
     Widened,
     /// No chain has more than `MAX_CHAIN` shares.
     Chain,
+    /// The token that a new link would have is another link's.
+    TokenTaken,
     /// A user or a group of that name, or that token, is there already.
     Taken,
 }

@@ -2,10 +2,9 @@
 
 ghost use Rattle.std.specs.Prelude.{◌≡◌};
 ghost use Rattle.nf_words.specs.Asked.{asked_about, asked_of, asks_nothing};
-ghost use Rattle.nf_words.specs.Sharing.{kind_to};
 ghost use Rattle.nf_words.specs.declared.request.Wanted.TheVariants as wanted;
 
-use nf_base::{Digest, GroupId, Moment, Name, NodeId, Path, Perms, ShareId, ShareKind, UserId};
+use nf_base::{Digest, GroupId, Moment, Name, NodeId, Path, Perms, ShareId, UserId};
 use nf_defs::Found;
 use std::marker::Model;
 
@@ -16,6 +15,8 @@ pub enum Caller {
     Absent,
     /// Whoever holds the token with this SHA-256 digest.
     Token(Digest),
+    /// Whoever knows a link by this token.
+    Link(Name),
 }
 
 /// A place in a user's files. There is no user on the public route, where a link leads to the place, nor in what is asked about shares,
@@ -61,7 +62,8 @@ pub enum Wanted {
 /// What is asked about shares.
 #[derive(Drop)]
 pub enum ShareAsk {
-    /// A new share of what is there. Where no permissions are named, all are asked for, and where no end is, it has none.
+    /// A new share of what is there. Where no permissions are named, all are asked for, and for a link read alone; where no end is named,
+    /// it has none.
     New {
         spot: Spot,
         to: Sharee,
@@ -93,6 +95,8 @@ pub enum Sharee {
     User(Name),
     /// All members of the group of that name, whoever they are at the time.
     Group(Name),
+    /// Whoever knows the token that it is given.
+    Link,
 }
 
 /// What becomes of the end of a share.
@@ -289,7 +293,7 @@ pub struct Request {
     pub wanted: Wanted,
 }
 
-/// Two words of chance, which are drawn at every Begin.
+/// Two words of chance, which are drawn at every Begin; a new link's token is made of them.
 #[derive(Clone, Copy)]
 pub struct Words {
     pub first: u64,
@@ -318,18 +322,8 @@ pub struct Transfer {
 pub enum Receiver {
     User(UserId),
     Group(GroupId),
-}
-
-impl Receiver {
-    /// The same as a row tells it.
-    pub fn kind(self) -> ShareKind
-        ensures { result ≡ kind_to self }
-    {
-        match self {
-            Receiver::User(user) => ShareKind::User(user),
-            Receiver::Group(group) => ShareKind::Group(group),
-        }
-    }
+    /// Whoever will know its token.
+    Link,
 }
 
 /// A share that is asked for.

@@ -2,7 +2,7 @@
 
 use crate::rows::put_in;
 use nf_base::{
-    Act, MAX_CHAIN, MAX_SHARES, Moment, NodeId, Perms, ShareId, ShareKind, ShareRow, UserId,
+    Act, MAX_CHAIN, MAX_SHARES, Moment, Name, NodeId, Perms, ShareId, ShareKind, ShareRow, UserId,
 };
 use nf_defs::{Grant, Seeker};
 use nf_grants::Ground;
@@ -72,7 +72,9 @@ fn grant_on_seven(alloc: Global, shares: &Shares, user: u32) -> Result<Grant, Fa
     let (user, node) = (UserId::new(user), NodeId::new(7));
     let grants = ground.grants(alloc, Seeker::User(user), node)?;
     let grant = grants.first().ok_or("nothing is granted")?;
-    if ground.allows(user, node, Act::Share, Moment::new(1_000)) != Some(grant.share) {
+    if ground.allows(Seeker::User(user), node, Act::Share, Moment::new(1_000))
+        != Some(grant.share)
+    {
         return Err("it isn't allowed")?;
     }
     Ok(*grant)
@@ -138,7 +140,53 @@ fn what_is_received(rt: HostRuntime) -> Result<(), Fail> {
     let alloc = rt.alloc();
     let (people, tree, shares) = (People::new(alloc), Tree::new(alloc), a_few(alloc)?);
     let ground = Ground::new(&people, &tree, &shares);
-    assert!(rt; are(shares.received(alloc, &ground, UserId::new(3)), &[2])?);
-    assert!(rt; are(shares.received(alloc, &ground, UserId::new(1)), &[])?);
+    let (third, owner) = (Seeker::User(UserId::new(3)), Seeker::User(UserId::new(1)));
+    assert!(rt; are(shares.received(alloc, &ground, third), &[2])?);
+    assert!(rt; are(shares.received(alloc, &ground, owner), &[])?);
+    Ok(())
+}
+
+// ---- links
+
+/// Share 1 of node 7, and share 2, a link to it of the token `abc`, which lets its nodes be read.
+fn with_a_link(alloc: Global) -> Result<Shares, Fail> {
+    let token = Name::read(alloc, b"abc").ok().ok_or("no name")?;
+    let link = ShareRow {
+        kind: ShareKind::Link(token),
+        perms: Perms::read(1).ok_or("no permissions")?,
+        ..share(2, 7, false)?
+    };
+    let mut rows = Vec::new(alloc);
+    put_in(&mut rows, share(1, 7, false)?)?;
+    put_in(&mut rows, link)?;
+    Ok(Shares::load(alloc, rows)?)
+}
+
+/// The number of the link of that token.
+fn link_of(shares: &Shares, token: &[u8]) -> Option<ShareId> {
+    Some(shares.by_link(token)?.id)
+}
+
+#[test]
+fn a_link_is_found_by_its_token(rt: HostRuntime) -> Result<(), Fail> {
+    let shares = with_a_link(rt.alloc())?;
+    assert!(rt; link_of(&shares, b"abc") == Some(ShareId::new(2)));
+    assert!(rt; link_of(&shares, b"abd").is_none() && link_of(&shares, b"ab").is_none());
+    Ok(())
+}
+
+#[test]
+fn a_link_receives_its_own_share(rt: HostRuntime) -> Result<(), Fail> {
+    let alloc = rt.alloc();
+    let (people, tree, shares) = (People::new(alloc), Tree::new(alloc), with_a_link(alloc)?);
+    let ground = Ground::new(&people, &tree, &shares);
+    let (link, node) = (Seeker::Link(ShareId::new(2)), NodeId::new(7));
+    assert!(rt; are(shares.received(alloc, &ground, link), &[2])?);
+    let grants = ground.grants(alloc, link, node)?;
+    let grant = grants.first().ok_or("nothing is granted")?;
+    assert!(rt; grants.len() == 1 && grant.share == ShareId::new(2) && grant.mask.bits() == 1);
+    let now = Moment::new(1_000);
+    assert!(rt; ground.allows(link, node, Act::Read, now) == Some(ShareId::new(2)));
+    assert!(rt; ground.allows(link, node, Act::Update, now).is_none());
     Ok(())
 }

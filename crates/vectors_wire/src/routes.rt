@@ -54,6 +54,9 @@ fn segments_are_decoded(rt: HostRuntime) -> Result<(), Fail> {
     assert!(rt; all.len() == 2);
     assert!(rt; all[0].as_slice() == b"".as_slice());
     assert!(rt; all[1].as_slice() == b"a/b+c%zz".as_slice());
+    let by_link = segments(rt.alloc(), b"http://host/public.php/dav/files/%61a7/x/")?;
+    assert!(rt; by_link.len() == 2);
+    assert!(rt; by_link[0].as_slice() == b"aa7".as_slice());
     Ok(())
 }
 

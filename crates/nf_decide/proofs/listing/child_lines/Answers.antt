@@ -7,7 +7,7 @@ use Rattle.nf_decide.proofs.listing.child_lines.Goals as goal
 
 pub loop-child-preserved : goal.loop-child-preserved
 loop-child-preserved c =
-    let line : (ℕ → Option ListingLine) = child_line c.args.view.now.tables c.args.user c.args.granted in
+    let line : (ℕ → Option ListingLine) = child_line c.args.view.now.tables c.args.asker.now.seeker c.args.granted in
     let items = c.deref-child-items.result.now in
     let so_far = take c.loop-child.child-index items in
     let child = c.child-item.result in

@@ -3,6 +3,7 @@ use Rattle.std.proofs.lemmas.List.{take_all, take_more}
 use Rattle.std.proofs.lemmas.List.Elements.{filter-append, filter_map-append}
 use Rattle.nf_base.specs.declared.rows.MemberRow.{MemberRow}
 use Rattle.nf_base.specs.declared.rows.ShareRow.{ShareRow}
+use Rattle.nf_reach.specs.Asking.{user_in}
 use Rattle.nf_words.specs.Sharing.{is_listed_for, share_line}
 use Rattle.nf_words.specs.declared.sharing.ShareLine.{ShareLine}
 use Rattle.nf_decide.proofs.shared.share_lines.Goals as goal
@@ -11,7 +12,7 @@ pub loop-row-preserved : goal.loop-row-preserved
 loop-row-preserved c =
     let a = c.args.asker.now in
     let line : (ShareRow → Option ShareLine) = share_line c.args.view.now.tables in
-    let is_listed : (ShareRow → Bool) = is_listed_for a.base.members a.user c.args.node.now c.args.with_me in
+    let is_listed : (ShareRow → Bool) = is_listed_for a.base.members (user_in a.seeker) c.args.node.now c.args.with_me in
     let items = c.rows-row-items.result.now in
     let so_far = take c.loop-row.row-index items in
     let row = c.row-item.result in
@@ -29,5 +30,5 @@ returns c =
     let line : (ShareRow → Option ShareLine) = share_line t in
     let all = take_all c.loop-row.row-index c.rows-row-items.result.now c.loop-row-test.false ∙ c.rows-row-items.ensures.rows ∙ c.shares.ensures in
     c.loop-row.invariant
-    ∙ ap (λ (list : List ShareRow). filter_map line (filter (is_listed_for a.base.members a.user c.args.node.now c.args.with_me) list)) all
-    ∙ ap (λ (members : List MemberRow). filter_map line (filter (is_listed_for members a.user c.args.node.now c.args.with_me) t.shares)) c.requires
+    ∙ ap (λ (list : List ShareRow). filter_map line (filter (is_listed_for a.base.members (user_in a.seeker) c.args.node.now c.args.with_me) list)) all
+    ∙ ap (λ (members : List MemberRow). filter_map line (filter (is_listed_for members (user_in a.seeker) c.args.node.now c.args.with_me) t.shares)) c.requires

@@ -6,7 +6,7 @@ use Rattle.nf_decide.specs.Deciding.{IsThere}
 use Rattle.nf_decide.proofs.deciding.Call.judge.Goals as goal
 
 pub returns-clause-named : goal.returns-clause-named
-returns-clause-named c = named c.args.self.now c.requires c.in_ok-places_fit.ensures.target
+returns-clause-named c = named c.args.self.now c.in_ok-places_fit.ensures.target
 
 pub returns-clause-there : goal.returns-clause-there
 returns-clause-there c =

@@ -4,17 +4,19 @@ use Rattle.std.proofs.lemmas.List.Elements.{filter-append, filter_map-append}
 use Rattle.nf_access.specs.Access.{by_chains}
 use Rattle.nf_access.specs.Mounts.{listed}
 use Rattle.nf_base.specs.declared.rows.MountRow.{MountRow}
+use Rattle.nf_defs.specs.declared.Seeker.TheVariants.{User}
 use Rattle.nf_words.specs.Listing.{mount_line}
 use Rattle.nf_words.specs.declared.listing.ListingLine.{ListingLine}
 use Rattle.nf_decide.proofs.Lines.{all_of_user, listed_of_user}
 use Rattle.nf_decide.specs.Listed.{is_listed}
-use Rattle.nf_decide.proofs.listing.mount_lines.Goals as goal
+use Rattle.nf_decide.proofs.listing.lines_of.Goals as goal
 
 pub push_mount-requires : goal.push_mount-requires
 push_mount-requires c =
-    let a = c.args.asker.now in
-    let own = subst (All (λ (row : MountRow). row.user ≡ a.user)) (sym c.mounts-mount-items.ensures) (all_of_user a.user a.mounts) in
-    ap (λ (row : MountRow). row.user) c.mount-item.is ∙ own c.loop-mount.mount-index c.mount-item.result c.loop-mount-test.true
+    let user = c.args.user in
+    let own = subst (All (λ (row : MountRow). row.user ≡ user)) (sym c.mounts-mount-items.ensures) (all_of_user user c.args.asker.now.mounts) in
+    let owned = ap (λ (row : MountRow). row.user) c.mount-item.is ∙ own c.loop-mount.mount-index c.mount-item.result c.loop-mount-test.true in
+    c.requires.user ∙ ap User (sym owned)
 
 pub loop-mount-preserved : goal.loop-mount-preserved
 loop-mount-preserved c =
@@ -38,4 +40,4 @@ returns c =
     let all = take_all c.loop-mount.mount-index c.mounts-mount-items.result.now c.loop-mount-test.false ∙ c.mounts-mount-items.ensures in
     c.loop-mount.invariant
     ∙ ap (λ (list : List MountRow). filter_map line (filter (is_listed a) list)) all
-    ∙ ap (filter_map line) (listed_of_user a a.mounts ∙ ap (λ (rows : List MountRow). listed (by_chains a.base) a.moment rows a.user) c.requires)
+    ∙ ap (filter_map line) (listed_of_user a c.args.user a.mounts c.requires.user ∙ ap (λ (rows : List MountRow). listed (by_chains a.base) a.moment rows c.args.user) c.requires.mounts)

@@ -4,7 +4,7 @@ use Rattle.std.proofs.lemmas.Nat.{and_le_l}
 use Rattle.std.specs.Int.Bits.{or_add_and}
 use Rattle.std.specs.Option.{IsSome}
 use Rattle.std.specs.Prelude.{MatchOption}
-use Rattle.nf_access.proofs.perms.perms_of_share.Goals as goal
+use Rattle.nf_access.proofs.perms.perms_within.Goals as goal
 
 few : (a : ℕ) → a < 32 → bit_or a 1 < 32
 few a small = elim (cases_lt a 31) [
@@ -18,6 +18,6 @@ there (Some perms) bits is small = refl
 
 pub unwrap-requires : goal.unwrap-requires
 unwrap-requires c =
-    let most = bit_and c.most_of_node.result c.most_of_share.result in
+    let most = bit_and c.most_of_node.result c.args.most in
     let less = and_le_l c.bits.result most in
     there c.read.result _ c.read.ensures (few (bit_and c.bits.result most) (let same = c.bits.ensures.bits in omega (arith, c.bits.ensures.few)))

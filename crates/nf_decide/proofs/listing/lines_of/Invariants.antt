@@ -3,7 +3,7 @@ use Rattle.std.specs.Prelude.{filter_map}
 use Rattle.nf_access.specs.Access.{by_chains}
 use Rattle.nf_words.specs.Listing.{mount_line}
 use Rattle.nf_decide.specs.Listed.{is_listed}
-use Rattle.nf_decide.proofs.listing.mount_lines.Given as goal
+use Rattle.nf_decide.proofs.listing.lines_of.Given as goal
 
 -- the lines of the mounts so far
 abbrev pub invariant-loop-mount : goal.invariant-loop-mount
