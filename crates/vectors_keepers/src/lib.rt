@@ -6,4 +6,6 @@ mod calls;
 #[cfg(test)]
 mod database;
 #[cfg(test)]
+mod extents;
+#[cfg(test)]
 mod memory;
