@@ -26,11 +26,15 @@ class Server:
 
     def __init__(self, program, store, workers):
         self.process = self.begin(program, store, workers)
-        line = self.process.stderr.readline()
-        found = re.search(r"listening on 127\.0\.0\.1:(\d+)", line)
-        if not found:
-            raise SystemExit(f"the server said: {line}{self.process.stderr.read()}, and ended with status {self.process.wait()}")
-        self.port, self.said = int(found[1]), []
+        self.said = []
+        # Before it listens it may say what it finds of the store.
+        for line in self.process.stderr:
+            if found := re.search(r"listening on 127\.0\.0\.1:(\d+)", line):
+                break
+            self.said.append(line)
+        else:
+            raise SystemExit(f"the server said: {''.join(self.said)}, and ended with status {self.process.wait()}")
+        self.port = int(found[1])
         threading.Thread(target=lambda: self.said.extend(self.process.stderr), daemon=True).start()
 
     def runs(self):

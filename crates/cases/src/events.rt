@@ -6,7 +6,7 @@ ghost use Rattle.nf_hub.specs.Seats.{IsSeat, book};
 ghost use Rattle.nf_session.specs.Book.{held};
 
 use crate::connection::{Answered, Message, SeatClock, SeatDice, Sent};
-use crate::keeping::left_in;
+use crate::keeping::{TestKeeper, left_in};
 use crate::stage::Stage;
 use crate::transcript::output_of;
 use case_files::{Outcome, Run, StepKind, Written};
@@ -14,7 +14,7 @@ use filesd::demonstration;
 use nf_base::MAX_SEATS;
 use nf_desk::{Opening, Unopened};
 use nf_hub::Hub;
-use nf_keeper::MemKeeper;
+use nf_keeper::Keeper;
 use nf_outside::{MemSink, MemSource};
 use nf_server::{Link, MemDoor, Worker, serve};
 use std::alloc::{AllocError, Global};
@@ -40,13 +40,13 @@ const SKIPPED: (&str, &str) = ("Content-Length: 1\r\n", "-");
 const LENGTH: &str = "Content-Length:";
 
 /// What the steps came to, and the keeper that is left. Heads are read in such pieces.
-pub fn serve_events<R: Threads + Wait + Sync>(
+pub fn serve_events<R: Threads + Wait + Sync, K: TestKeeper>(
     rt: &R,
     alloc: Global,
     case: &Run,
-    keeper: MemKeeper,
+    keeper: K,
     pieces: &[usize],
-) -> Result<(Outcome, MemKeeper), AllocError> {
+) -> Result<(Outcome, K), AllocError> {
     let stage = Stage::new(alloc, case)?;
     let mut workers = workers_of(alloc, case, &stage, pieces)?;
     let (status, mut keeper) = serve_seats(rt, alloc, keeper, &mut workers)?;
@@ -62,12 +62,12 @@ pub fn serve_events<R: Threads + Wait + Sync>(
 }
 
 // Serves the seats' messages over one hub: the status, and the keeper that is left.
-fn serve_seats<R: Threads + Wait + Sync>(
+fn serve_seats<R: Threads + Wait + Sync, K: Keeper + Drop + Send>(
     rt: &R,
     alloc: Global,
-    keeper: MemKeeper,
+    keeper: K,
     workers: &mut [SeatWorker<'_>],
-) -> Result<(u8, MemKeeper), AllocError> {
+) -> Result<(u8, K), AllocError> {
     let first = demonstration(alloc)?;
     let (hub, seat) = match Hub::start(alloc, keeper, Opening::Either(first), MAX_SEATS) {
         Ok(made) => made,

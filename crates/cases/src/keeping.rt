@@ -5,17 +5,41 @@ use nf_base::BlobId;
 use nf_keeper::{BlobList, KeepFault, Keeper, MemKeeper, RawRows};
 use nf_rows::RawRow;
 use std::alloc::{AllocError, Global};
+use std::io;
 
 /// The numbers of blobs that are looked for are smaller.
-const MOST_BLOBS: u64 = 65_536;
+pub const MOST_BLOBS: u64 = 65_536;
 
 /// How often a call is made again that is listed as one that fails.
 const MOST_CALLS: u32 = 1_000;
 
-pub fn keeper_of(alloc: Global, start: &Start) -> Result<MemKeeper, AllocError> {
-    let rows = raws_of(alloc, &start.holds.rows)?;
-    let blobs = blobs_of(alloc, &start.holds.blobs)?;
-    MemKeeper::holding(alloc, rows, blobs, &start.failing)
+/// A keeper that cases are run over.
+pub trait TestKeeper: Keeper + Drop + Send {
+    /// A keeper that begins like that. None of its calls was made yet.
+    fn beginning(alloc: Global, start: &Start) -> io::Result<Self>;
+
+    /// Puts other bytes under a number. This counts as no call.
+    fn put_blob(&mut self, alloc: Global, blob: &Blob) -> io::Result<()>;
+
+    /// The numbers of all blobs that it may have are smaller.
+    fn blob_limit(&self) -> u64;
+}
+
+impl TestKeeper for MemKeeper {
+    fn beginning(alloc: Global, start: &Start) -> io::Result<MemKeeper> {
+        let rows = raws_of(alloc, &start.holds.rows)?;
+        let blobs = blobs_of(alloc, &start.holds.blobs)?;
+        Ok(MemKeeper::holding(alloc, rows, blobs, &start.failing)?)
+    }
+
+    fn put_blob(&mut self, alloc: Global, blob: &Blob) -> io::Result<()> {
+        self.set_blob(BlobId::new(blob.number()), blob.bytes().to_vec(alloc)?)?;
+        Ok(())
+    }
+
+    fn blob_limit(&self) -> u64 {
+        MOST_BLOBS
+    }
 }
 
 fn raws_of(alloc: Global, rows: &[KeptRow]) -> Result<RawRows, AllocError> {
@@ -37,7 +61,11 @@ fn blobs_of(alloc: Global, blobs: &[Blob]) -> Result<BlobList, AllocError> {
 }
 
 /// What the keeper has, where the case says what it should have. It is asked for that by calls, which are counted.
-pub fn left_in(alloc: Global, case: &Run, keeper: &mut MemKeeper) -> Result<Kept, AllocError> {
+pub fn left_in<K: TestKeeper>(
+    alloc: Global,
+    case: &Run,
+    keeper: &mut K,
+) -> Result<Kept, AllocError> {
     if case.leaves.is_none() {
         return Ok(Kept::nothing(alloc));
     }
@@ -47,7 +75,7 @@ pub fn left_in(alloc: Global, case: &Run, keeper: &mut MemKeeper) -> Result<Kept
     })
 }
 
-fn rows_in(alloc: Global, keeper: &mut MemKeeper) -> Result<Vec<KeptRow>, AllocError> {
+fn rows_in<K: TestKeeper>(alloc: Global, keeper: &mut K) -> Result<Vec<KeptRow>, AllocError> {
     let raws = load(keeper)?;
     let mut rows = Vec::new(alloc);
     for raw in raws.rows() {
@@ -58,9 +86,9 @@ fn rows_in(alloc: Global, keeper: &mut MemKeeper) -> Result<Vec<KeptRow>, AllocE
     Ok(rows)
 }
 
-fn blobs_in(alloc: Global, keeper: &mut MemKeeper) -> Result<Vec<Blob>, AllocError> {
+fn blobs_in<K: TestKeeper>(alloc: Global, keeper: &mut K) -> Result<Vec<Blob>, AllocError> {
     let mut blobs = Vec::new(alloc);
-    for number in 0..MOST_BLOBS {
+    for number in 0..keeper.blob_limit() {
         if let Some(bytes) = blob(keeper, BlobId::new(number))? {
             blobs.push(Blob::new(number, bytes))?;
         }
@@ -68,7 +96,7 @@ fn blobs_in(alloc: Global, keeper: &mut MemKeeper) -> Result<Vec<Blob>, AllocErr
     Ok(blobs)
 }
 
-fn load(keeper: &mut MemKeeper) -> Result<RawRows, AllocError> {
+fn load<K: Keeper>(keeper: &mut K) -> Result<RawRows, AllocError> {
     for _ in 0..MOST_CALLS {
         match keeper.load() {
             Ok(raws) => return Ok(raws),
@@ -79,7 +107,7 @@ fn load(keeper: &mut MemKeeper) -> Result<RawRows, AllocError> {
     Err(AllocError)
 }
 
-fn blob(keeper: &mut MemKeeper, id: BlobId) -> Result<Option<Vec<u8>>, AllocError> {
+fn blob<K: Keeper>(keeper: &mut K, id: BlobId) -> Result<Option<Vec<u8>>, AllocError> {
     for _ in 0..MOST_CALLS {
         match keeper.blob(id) {
             Ok(bytes) => return Ok(bytes),

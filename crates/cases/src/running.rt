@@ -2,30 +2,30 @@
 
 use crate::events::serve_events;
 use crate::faults::fault_of;
-use crate::keeping::{keeper_of, left_in};
+use crate::keeping::{TestKeeper, left_in};
 use crate::seats::serve_by_seats;
 use case_files::{Blob, Kept, Outcome, Run, Start, Written};
 use filesd::{Finished, run};
-use nf_base::{BlobId, MAX_MESSAGES};
-use nf_keeper::MemKeeper;
+use nf_base::MAX_MESSAGES;
 use nf_outside::{ListClock, ListDice, MemSink, MemSource};
 use nf_server::{MemDoor, Worker};
 use std::alloc::{AllocError, Global};
+use std::io;
 use std::sync::Wait;
 use std::thread::Threads;
 
 /// What a case's next run is over: what the runs before it left, where all input was read whole, where it was read byte by byte, and
 /// where two seats took turns.
 #[derive(Drop)]
-pub struct Keepers {
-    whole: MemKeeper,
-    cut: MemKeeper,
-    seats: MemKeeper,
+pub struct Keepers<K: TestKeeper> {
+    whole: K,
+    cut: K,
+    seats: K,
 }
 
-impl Keepers {
+impl<K: TestKeeper> Keepers<K> {
     /// Keepers with nothing in them.
-    pub fn new(alloc: Global) -> Result<Keepers, AllocError> {
+    pub fn new(alloc: Global) -> io::Result<Keepers<K>> {
         Keepers::over(
             alloc,
             &Start {
@@ -35,16 +35,16 @@ impl Keepers {
         )
     }
 
-    fn over(alloc: Global, start: &Start) -> Result<Keepers, AllocError> {
+    fn over(alloc: Global, start: &Start) -> io::Result<Keepers<K>> {
         Ok(Keepers {
-            whole: keeper_of(alloc, start)?,
-            cut: keeper_of(alloc, start)?,
-            seats: keeper_of(alloc, start)?,
+            whole: K::beginning(alloc, start)?,
+            cut: K::beginning(alloc, start)?,
+            seats: K::beginning(alloc, start)?,
         })
     }
 
     // Those that the run is over: new ones where it has any, and else these.
-    fn before(self, alloc: Global, run: &Run) -> Result<Keepers, AllocError> {
+    fn before(self, alloc: Global, run: &Run) -> io::Result<Keepers<K>> {
         match &run.start {
             Some(start) => Keepers::over(alloc, start),
             None => Ok(self),
@@ -55,20 +55,20 @@ impl Keepers {
 /// What a run gave, with its input and its output whole and cut into single bytes; what two seats wrote in its place; and the keepers
 /// after it.
 #[derive(Drop)]
-pub struct Served {
+pub struct Served<K: TestKeeper> {
     pub whole: Outcome,
     pub cut: Outcome,
     pub seats: Written,
-    pub keepers: Keepers,
+    pub keepers: Keepers<K>,
 }
 
 /// Runs it with its input and its output whole, cut into single bytes, and by two seats: the answers may not depend on that.
-pub fn serve<R: Threads + Wait + Sync>(
+pub fn serve<R: Threads + Wait + Sync, K: TestKeeper>(
     rt: &R,
     alloc: Global,
     run: &Run,
-    keepers: Keepers,
-) -> Result<Served, AllocError> {
+    keepers: Keepers<K>,
+) -> io::Result<Served<K>> {
     let Keepers { whole, cut, seats } = keepers.before(alloc, run)?;
     let (whole, whole_left) = serve_in_pieces(rt, alloc, run, whole, &[])?;
     let (cut, cut_left) = serve_in_pieces(rt, alloc, run, cut, &[1])?;
@@ -86,12 +86,12 @@ pub fn serve<R: Threads + Wait + Sync>(
 }
 
 // Two seats serve what a `batch` has to serve. Any other words are run as they are, and so are as many messages as end a session.
-fn serve_in_turn<R: Threads + Wait + Sync>(
+fn serve_in_turn<R: Threads + Wait + Sync, K: TestKeeper>(
     rt: &R,
     alloc: Global,
     case: &Run,
-    mut keeper: MemKeeper,
-) -> Result<(Written, MemKeeper), AllocError> {
+    mut keeper: K,
+) -> io::Result<(Written, K)> {
     if is_batch(&case.words) && case.steps.is_empty() && case.exchanges.len() < MAX_MESSAGES {
         put_damage(alloc, &mut keeper, &case.damage)?;
         let (output, mut keeper) = serve_by_seats(rt, alloc, case, keeper)?;
@@ -102,16 +102,16 @@ fn serve_in_turn<R: Threads + Wait + Sync>(
     Ok((outcome.written, keeper))
 }
 
-fn serve_in_pieces<R: Threads + Wait + Sync>(
+fn serve_in_pieces<R: Threads + Wait + Sync, K: TestKeeper>(
     rt: &R,
     alloc: Global,
     case: &Run,
-    mut keeper: MemKeeper,
+    mut keeper: K,
     pieces: &[usize],
-) -> Result<(Outcome, MemKeeper), AllocError> {
+) -> io::Result<(Outcome, K)> {
     put_damage(alloc, &mut keeper, &case.damage)?;
     if !case.steps.is_empty() {
-        return serve_events(rt, alloc, case, keeper, pieces);
+        return Ok(serve_events(rt, alloc, case, keeper, pieces)?);
     }
     let mut ends = ends_of(alloc, case, pieces)?;
     let finished = run_between(rt, alloc, case, keeper, &mut ends);
@@ -152,13 +152,13 @@ fn ends_of(alloc: Global, case: &Run, pieces: &[usize]) -> Result<RunEnds, Alloc
     })
 }
 
-fn run_between<R: Threads + Wait + Sync>(
+fn run_between<R: Threads + Wait + Sync, K: TestKeeper>(
     rt: &R,
     alloc: Global,
     case: &Run,
-    keeper: MemKeeper,
+    keeper: K,
     ends: &mut RunEnds,
-) -> Finished<MemKeeper> {
+) -> Finished<K> {
     let mut nobody: [Worker<MemDoor<MemSource, MemSink>, ListClock, ListDice>; 0] = [];
     run(
         rt,
@@ -177,9 +177,9 @@ fn is_batch(words: &[String]) -> bool {
     words.len() == 1 && words[0].as_str() == "batch"
 }
 
-fn put_damage(alloc: Global, keeper: &mut MemKeeper, damage: &[Blob]) -> Result<(), AllocError> {
+fn put_damage<K: TestKeeper>(alloc: Global, keeper: &mut K, damage: &[Blob]) -> io::Result<()> {
     for blob in damage {
-        keeper.set_blob(BlobId::new(blob.number()), blob.bytes().to_vec(alloc)?)?;
+        keeper.put_blob(alloc, blob)?;
     }
     Ok(())
 }

@@ -8,7 +8,7 @@ use case_files::Run;
 use filesd::demonstration;
 use nf_desk::{Opening, Unopened};
 use nf_hub::{Hub, Seat};
-use nf_keeper::{Keeper, MemKeeper};
+use nf_keeper::Keeper;
 use nf_outside::{ListClock, ListDice, MemSink, MemSource};
 use nf_routes::Routes;
 use nf_server::{MemLink, serve_link};
@@ -16,12 +16,12 @@ use std::alloc::{AllocError, Global};
 use std::sync::Wait;
 
 /// What was written, and the keeper that is left.
-pub fn serve_by_seats<R: Wait>(
+pub fn serve_by_seats<R: Wait, K: Keeper + Drop>(
     rt: &R,
     alloc: Global,
     case: &Run,
-    keeper: MemKeeper,
-) -> Result<(Vec<u8>, MemKeeper), AllocError> {
+    keeper: K,
+) -> Result<(Vec<u8>, K), AllocError> {
     let first = demonstration(alloc)?;
     let routes = Routes::new(alloc)?;
     let (hub, mut seat) = match Hub::start(alloc, keeper, Opening::Either(first), 2) {

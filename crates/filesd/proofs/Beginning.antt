@@ -11,7 +11,7 @@ use Rattle.nf_site.proofs.DemoRows.{demo_unbroken}
 use Rattle.nf_site.specs.Demo.{demo_rows}
 use Rattle.nf_site.specs.Held.{Held}
 use Rattle.sha2.specs.Sha256.{sha256}
-use Rattle.filesd.specs.Init.{Inits, IsSomeDigest, Writes}
+use Rattle.filesd.specs.Init.{Inits, IsSomeDigest, Writes, ready}
 use Rattle.filesd.specs.Outside.{Outside}
 use Rattle.filesd.specs.declared.status.Status.{Status}
 use Rattle.filesd.specs.declared.status.Status.TheVariants as exit
@@ -42,11 +42,11 @@ beside left faults lent a = record {
   faults = a.faults;
 }
 
-writes_beside : {C : Type 0} (left : Option (List ℕ)) (faults : ℕ) (lent : C) (a b : Outside (Unit {0})) (status : Status)
-    → Writes a b status → Writes (beside left faults lent a) (beside left faults lent b) status
-writes_beside left faults lent a b exit.Done writes = writes
-writes_beside left faults lent a b exit.WriteFault writes = writes
-writes_beside left faults lent a b other writes = absurd writes
+pub writes_beside : {C : Type 0} (left : Option (List ℕ)) (faults : ℕ) (lent : C) (text : List ℕ) (a b : Outside (Unit {0})) (status : Status)
+    → Writes text a b status → Writes text (beside left faults lent a) (beside left faults lent b) status
+writes_beside left faults lent text a b exit.Done writes = writes
+writes_beside left faults lent text a b exit.WriteFault writes = writes
+writes_beside left faults lent text a b other writes = absurd writes
 
 -- what `init` does with them it does with all
 pub inits_beside : {C : Type 0} (left : Option (List ℕ)) (faults : ℕ) (lent : C) (rows : List Row) (a b : Outside (Unit {0}))
@@ -59,7 +59,7 @@ inits_beside left faults lent rows a b status (Some site) begins = record {
   told = begins.told;
   faults = begins.faults;
   site = begins.site;
-  writes = writes_beside left faults lent a b status begins.writes;
+  writes = writes_beside left faults lent ready a b status begins.writes;
   left = refl;
   begun = begins.begun;
   read_faults = refl;

@@ -27,12 +27,13 @@ use Rattle.nf_session.specs.declared.ended.Ended.TheVariants as ended
 use Rattle.nf_site.specs.Held.{Held}
 use Rattle.nf_told.specs.Told.{Told}
 use Rattle.filesd.specs.Doors.{OneRose, RunsDoors, ServesDesk, status_of_work}
-use Rattle.filesd.specs.Ending.{BatchEndsWell, InitEndsWell, IsEmptyStore, IsSafeStore, IsWell, NothingFails, ServeEndsWell}
-use Rattle.filesd.specs.Init.{Inits, Writes}
+use Rattle.filesd.specs.Ending.{BatchEndsWell, InitEndsWell, IsEmptyStore, IsSafeStore, IsWell, NothingFails, ServeEndsWell, SweepEndsWell}
+use Rattle.filesd.specs.Init.{Inits, Writes, ready}
 use Rattle.filesd.specs.Opening.{IsBad, WhyUnopened, over_any, over_none, status_of_fault, told_opened}
 use Rattle.filesd.specs.Outside.{Outside}
 use Rattle.filesd.specs.Seat.{book_of}
 use Rattle.filesd.specs.Session.{Runs, first_book, scene_of, status_of}
+use Rattle.filesd.specs.Sweep.{Drops, Sweeps}
 use Rattle.filesd.specs.declared.status.RowsFault.{RowsFault}
 use Rattle.filesd.specs.declared.status.RowsFault.TheVariants as bad
 use Rattle.filesd.specs.declared.status.Status.{Status}
@@ -114,10 +115,34 @@ init_well rows a b status None unopened = λ empty nothing. here empty status un
     here empty other never nothing = absurd never
 init_well rows a b status (Some site) begins = λ empty nothing. here status begins.writes nothing
   where
-    here : (s : Status) → Writes a b s → NothingFails a b → (s ≡ exit.Done) ⊎ (s ≡ exit.Memory)
+    here : (s : Status) → Writes ready a b s → NothingFails a b → (s ≡ exit.Done) ⊎ (s ≡ exit.Memory)
     here exit.Done is nothing = inl refl
     here exit.WriteFault (rose, part) nothing = absurd (unrisen a.write_faults b.write_faults nothing.write rose)
     here other never nothing = absurd never
+
+pub sweep_well : {C : Type 0} (a b : Outside C) (status : Status) (site : Option Held) → Sweeps a b status site → SweepEndsWell a b status
+sweep_well a b status None unopened = λ good nothing. here good status unopened.why nothing
+  where
+    here : IsSafeStore a.told → (s : Status) → WhyUnopened Kept a.told a.faults b.faults s → NothingFails a b
+        → (s ≡ exit.Done) ⊎ (s ≡ exit.Memory)
+    here good exit.StoreFault rose nothing = absurd (unrisen a.faults b.faults nothing.keeper rose)
+    here good exit.Memory is nothing = inr refl
+    here good (exit.BadRows (bad.Unread index why)) (same, (may, (raws, loaded, is))) nothing =
+        absurd (not_unread a.told (inr good) raws index why loaded is)
+    here good (exit.BadRows (bad.Broken index rule)) (same, (may, (raws, loaded, is))) nothing =
+        absurd (not_broken a.told (inr good) raws (record { rule = rule; index = index }) loaded is)
+    here good (exit.BadRows bad.Found) (same, (fresh, is)) nothing = absurd fresh
+    here good (exit.BadRows bad.Missing) (same, (kept, (raws, loaded, none))) nothing =
+        absurd (missing_never a.told good.it good.rows good.tells good.spelled good.unbroken raws loaded none)
+    here good other never nothing = absurd never
+sweep_well a b status (Some site) sweeps = λ good nothing. here status sweeps.drops nothing
+  where
+    here : (s : Status) → Drops site.kept.opening a b s → NothingFails a b → (s ≡ exit.Done) ⊎ (s ≡ exit.Memory)
+    here exit.Done drops nothing = inl refl
+    here exit.Memory drops nothing = inr refl
+    here exit.StoreFault drops nothing = absurd (unrisen a.faults b.faults nothing.keeper drops.0)
+    here exit.WriteFault drops nothing = absurd (unrisen a.write_faults b.write_faults nothing.write drops.1.0)
+    here other drops nothing = absurd drops.1
 
 module _ {K I A C Q D : Type 0} (k : KeeperOf K) (i : EndsOf I) (a : EndsOf A) (reads : Lent C Q → Taken → Lent C Q → Type 0) (door : DoorOf D I A) where
   serve_status : (keeper left : K) (before after : List (Worker D C Q)) (status : Status) (site : Option Held) (connections : ℕ)

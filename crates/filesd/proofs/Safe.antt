@@ -1,6 +1,6 @@
 -- A run over a safe store leaves a safe one, and nothing is damaged at any of its messages.
 use Rattle.std.proofs.Common.{◌≡◌, ◌≢◌, ℕ, List, [], ◌∷◌, refl, sym, ◌∙◌, ap, subst, inl, inr}
-use Rattle.std.specs.Prelude.{All, Option, None, Some, IfSome, IsSome}
+use Rattle.std.specs.Prelude.{All, Option, None, Some, IfSome, IsSome, option_map}
 use Rattle.std.specs.declared.snapshot.Snapshot.{Snapshot}
 use Rattle.std.proofs.lemmas.List.Elements.{All-nil}
 use Rattle.std.proofs.lemmas.Option.{same_Some}
@@ -10,12 +10,15 @@ use Rattle.nf_base.specs.declared.rows.Row.{Row}
 use Rattle.nf_command.specs.First.{first_rows}
 use Rattle.nf_defs.specs.Prelude.{Blobs}
 use Rattle.nf_desk.specs.Desk.{Served, TellsSite, blobs_in, meanings}
-use Rattle.nf_desk.specs.Opened.{first_of, told_first}
+use Rattle.nf_desk.specs.Opened.{Opens, first_of, told_first}
 use Rattle.nf_desk.specs.declared.first.First.{First}
 use Rattle.nf_desk.specs.declared.first.Opening.TheVariants.{Kept as OverKept}
 use Rattle.nf_hub.specs.Seats.{book_in}
 use Rattle.nf_keeper.specs.declared.keeper.Keeper.{Ghosts as KeeperOf}
+use Rattle.nf_keeper.specs.Keeping.{swept}
 use Rattle.nf_laws.specs.Wholes.{IsDamaged, IsNamed, IsSafe, IsThere}
+use Rattle.nf_named.proofs.Staying.{named_stay}
+use Rattle.nf_named.specs.Named.{named_blobs}
 use Rattle.nf_outside.specs.Lent.{Lent, Taken}
 use Rattle.nf_outside.specs.declared.traits.Ends.{Ghosts as EndsOf}
 use Rattle.nf_rows.specs.Spelling.{Raw}
@@ -39,7 +42,9 @@ use Rattle.filesd.specs.Outside.{Outside}
 use Rattle.filesd.specs.Reopening.{Leaves}
 use Rattle.filesd.specs.Seat.{book_of}
 use Rattle.filesd.specs.Session.{Runs, first_book, scene_of}
+use Rattle.filesd.specs.Sweep.{Drops, Sweeps}
 use Rattle.filesd.specs.declared.status.Status.{Status}
+use Rattle.filesd.specs.declared.status.Status.TheVariants as exit
 use Rattle.filesd.proofs.Closing.{closing_tells}
 use Rattle.filesd.proofs.Spelled.{loaded_is, missing_never, opened_so}
 use Rattle.filesd.proofs.Whole.{each_has, has_safe, left_is_safe, opened_safe, stay_whole, tells_some, undamaged}
@@ -117,6 +122,36 @@ init_keeps name digest quota a b status (Some site) begins leaves = record {
         (subst (λ (o : Option Blobs). IsSome o) (sym blobs) refl) it.blobs blobs
         (λ piece damaged. init_undamaged name digest quota it.blobs piece
         (subst (λ (k : Kept). IsDamaged k.opening it.blobs piece) begins.site damaged))
+
+-- ---- `sweep`
+
+swept_safe : (told after : Option Told) (rows : List Row) → after ≡ option_map (swept (named_blobs rows)) told → (good : IsSafeStore told)
+    → rows ≡ good.rows → IsSafeStore after
+swept_safe told after rows is good same = record {
+  it = swept (named_blobs rows) good.it;
+  tells = is ∙ ap (λ (t : Option Told). option_map (swept (named_blobs rows)) t) good.tells;
+  rows = good.rows;
+  spelled = good.spelled;
+  unbroken = good.unbroken;
+  safe = λ piece named.
+      named_stay rows good.it piece (subst (λ (these : List Row). IsNamed these piece) (sym same) named) (good.safe piece named);
+}
+
+drops_keep : {C : Type 0} (a b : Outside C) (site : Held) → Opens OverKept a.told a.told site.kept → (status : Status)
+    → Drops site.kept.opening a b status → KeepsSafe a.told b.told
+drops_keep {C} a b site opens exit.StoreFault drops = same_keeps a.told b.told (ap (λ (o : Outside C). o.told) drops.1)
+drops_keep {C} a b site opens exit.Memory same = same_keeps a.told b.told (ap (λ (o : Outside C). o.told) same)
+drops_keep {C} a b site opens other drops = record {
+  safe = λ good.
+      swept_safe a.told b.told site.kept.opening (ap (λ (o : Outside C). o.told) drops.0) good
+      (opened_so a.told good.it good.rows good.tells good.spelled good.unbroken (first_of OverKept).rows opens.raws site.kept.opening
+      opens.loaded opens.rows);
+  empty = λ none. absurd (opens.kept tt (loaded_is a.told none.0 opens.raws none.1 opens.loaded ∙ none.2));
+}
+
+pub sweep_keeps : {C : Type 0} (a b : Outside C) (status : Status) (site : Option Held) → Sweeps a b status site → KeepsSafe a.told b.told
+sweep_keeps {C} a b status None unopened = same_keeps a.told b.told (ap (λ (o : Outside C). o.told) unopened.untouched)
+sweep_keeps a b status (Some site) sweeps = drops_keep a b site sweeps.opens status sweeps.drops
 
 -- ---- `serve`
 

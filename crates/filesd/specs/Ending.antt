@@ -49,7 +49,11 @@ BatchEndsWell a b status = IsEmptyStore a.told ⊎ IsSafeStore a.told → Nothin
 abbrev pub InitEndsWell : {C : Type 0} → Outside C → Outside C → Status → Type 0
 InitEndsWell a b status = IsEmptyStore a.told → NothingFails a b → (status ≡ exit.Done) ⊎ (status ≡ exit.Memory)
 
--- a run of `serve`, where there are some: of a keeper that told that and failed so often before and after, and of the workers
+-- a run of `sweep`, where there are some
+abbrev pub SweepEndsWell : {C : Type 0} → Outside C → Outside C → Status → Type 0
+SweepEndsWell a b status = IsSafeStore a.told → NothingFails a b → (status ≡ exit.Done) ⊎ (status ≡ exit.Memory)
+
+-- a run of `serve`, where there are some, too: of a keeper that told that and failed so often before and after, and of the workers
 abbrev pub ServeEndsWell : {I A C Q D : Type 0} → DoorOf D I A → Option Told → ℕ → ℕ → List (Worker D C Q) → List (Worker D C Q) → Status → Type 0
 ServeEndsWell door told faults now before after status =
     IsSafeStore told → IsUnrisen faults now → (OneRose door before after → ⊥)

@@ -20,12 +20,12 @@ IsSomeDigest digest = (token : List ℕ) × (digest ≡ sha256 token)
 abbrev pub ready : List ℕ
 ready = codes "ready\n"
 
--- all of it was written, or the output failed and only a front of it was
-abbrev pub Writes : {C : Type 0} → Outside C → Outside C → Status → Type 0
-Writes a b exit.Done = (b.write_faults ≡ a.write_faults) × Appends a.written b.written ready
-Writes a b exit.WriteFault =
-    Rose a.write_faults b.write_faults × ((n : ℕ) × (n < length ready) × Appends a.written b.written (take n ready))
-Writes a b other = ⊥
+-- all of the text was written, or the output failed and only a front of it was
+abbrev pub Writes : {C : Type 0} → List ℕ → Outside C → Outside C → Status → Type 0
+Writes text a b exit.Done = (b.write_faults ≡ a.write_faults) × Appends a.written b.written text
+Writes text a b exit.WriteFault =
+    Rose a.write_faults b.write_faults × ((n : ℕ) × (n < length text) × Appends a.written b.written (take n text))
+Writes text a b other = ⊥
 
 -- these rows were stored, and the site is opened over them
 pub record Begins {C : Type 0} (rows : List Row) (a b : Outside C) (status : Status) (held : Held) : Type 0 where
@@ -33,7 +33,7 @@ pub record Begins {C : Type 0} (rows : List Row) (a b : Outside C) (status : Sta
   pub told : b.told ≡ told_first rows None a.told
   pub faults : b.faults ≡ a.faults
   pub site : held.kept ≡ opened_over rows
-  pub writes : Writes a b status
+  pub writes : Writes ready a b status
   pub left : b.left ≡ a.left
   pub begun : b.begun ≡ a.begun
   pub read_faults : b.read_faults ≡ a.read_faults

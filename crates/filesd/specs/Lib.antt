@@ -5,6 +5,7 @@ pub mod Outside
 pub mod Opening
 pub mod Session
 pub mod Init
+pub mod Sweep
 pub mod Reopening
 pub mod OneFile
 pub mod Ending

@@ -6,6 +6,7 @@ pub mod laws;
 mod opening;
 mod running;
 mod status;
+mod sweeping;
 
 pub use opening::demonstration;
 pub use running::{Finished, run};

@@ -4,7 +4,7 @@ ghost use Rattle.std.specs.Prelude.{◌≡◌, ◌≢◌, ◌<◌, ◌≤◌, �
 ghost use Rattle.std.specs.String.{string_bytes};
 ghost use Rattle.nf_base.specs.declared.limits.TheConstants.{MAX_QUOTA};
 ghost use Rattle.nf_base.specs.Naming.{IsName};
-ghost use Rattle.nf_command.specs.Command.{IsBatch, IsCommand, IsInit, IsServe, IsSomeServe};
+ghost use Rattle.nf_command.specs.Command.{IsBatch, IsCommand, IsInit, IsServe, IsSomeServe, IsSweep};
 ghost use Rattle.nf_command.specs.First.{first_rows, init_rows};
 ghost use Rattle.nf_command.specs.Reading.{IsNearlyInit};
 ghost use Rattle.nf_desk.specs.Desk.{meanings, shown};
@@ -12,7 +12,7 @@ ghost use Rattle.nf_outside.specs.Causes.{Rose};
 ghost use Rattle.nf_outside.specs.Lent.{lent, takes};
 ghost use Rattle.nf_turn.specs.Book.{IsFresh};
 ghost use Rattle.filesd.specs.Doors.{OneRose, RunsDoors};
-ghost use Rattle.filesd.specs.Ending.{BatchEndsWell, InitEndsWell, ServeEndsWell};
+ghost use Rattle.filesd.specs.Ending.{BatchEndsWell, InitEndsWell, ServeEndsWell, SweepEndsWell};
 ghost use Rattle.filesd.specs.Init.{Inits, IsSomeDigest};
 ghost use Rattle.filesd.specs.Next.{KeepsSafe};
 ghost use Rattle.filesd.specs.OneFile.{ServesOneFile};
@@ -20,11 +20,13 @@ ghost use Rattle.filesd.specs.Outside.{outlet, outside};
 ghost use Rattle.filesd.specs.Reopening.{Leaves, Pays};
 ghost use Rattle.filesd.specs.Seat.{AreOwn};
 ghost use Rattle.filesd.specs.Session.{DoesNothing, Runs, ServesDesk};
+ghost use Rattle.filesd.specs.Sweep.{Sweeps};
 ghost use Rattle.filesd.specs.declared.status.Status.TheVariants as exit;
 
 use crate::doors::serve_doors;
 use crate::opening::{demonstration, status_of as status_of_fault};
 use crate::status::{Status, status_of};
+use crate::sweeping::sweep;
 use nf_base::MAX_SEATS;
 use nf_command::{Command, Init, command_of, init_rows};
 use nf_desk::{Desk, First, Opening, Unopened};
@@ -49,7 +51,7 @@ pub struct Finished<K: Drop> {
 
 /// What the program does by its words: `batch` serves the input and the output as one session over the rows that the keeper has, or over
 /// the demonstration rows, which it stores first where the keeper has none. `init` stores the rows of one administrator. `serve` serves
-/// the connections of the workers' doors over the rows that the keeper has.
+/// the connections of the workers' doors over the rows that the keeper has. `sweep` drops the blobs that no row names.
 ///
 /// The site after the run is handed out with its history, but where none was opened.
 pub fn run<R, S, O, K, C, Q, D, W, V>(
@@ -88,6 +90,9 @@ where
         (outside S.Ends O.Ends K.Keeper input.new output.new result.keeper (lent clock.new dice.new)) result.status result.site }
     ensures serve { (n : ℕ) → IsServe (map string_bytes words.now) n
         → RunsDoors K.Keeper D.Source.Ends D.Sink.Ends (takes W.reads V.draws) D.Door n keeper result.keeper workers.old workers.new result.status result.site }
+    ensures sweep { IsSweep (map string_bytes words.now) → Sweeps
+        (outside S.Ends O.Ends K.Keeper input.old output.old keeper (lent clock.old dice.old))
+        (outside S.Ends O.Ends K.Keeper input.new output.new result.keeper (lent clock.new dice.new)) result.status result.site }
     // A `serve` uses neither the input, nor the output, nor the clock, nor the dice; and no other command uses the workers.
     ensures apart { IsSomeServe (map string_bytes words.now)
         → outside S.Ends O.Ends K.Keeper input.new output.new result.keeper (lent clock.new dice.new)
@@ -115,6 +120,9 @@ where
         (outside S.Ends O.Ends K.Keeper input.new output.new result.keeper (lent clock.new dice.new)) result.status }
     ensures serve_well { IsSomeServe (map string_bytes words.now)
         → ServeEndsWell D.Door (K.told keeper) (K.faults keeper) (K.faults result.keeper) workers.old workers.new result.status }
+    ensures sweep_well { IsSweep (map string_bytes words.now) → SweepEndsWell
+        (outside S.Ends O.Ends K.Keeper input.old output.old keeper (lent clock.old dice.old))
+        (outside S.Ends O.Ends K.Keeper input.new output.new result.keeper (lent clock.new dice.new)) result.status }
 
     // One GET of a file, said without the session.
     ensures one_file { IsBatch (map string_bytes words.now) → ServesOneFile
@@ -136,6 +144,7 @@ where
             workers,
             connections,
         ),
+        Ok(Some(Command::Sweep)) => sweep(alloc, output, keeper),
         Ok(None) => unopened(Status::Words, keeper),
         Err(_) => unopened(Status::Memory, keeper),
     }

@@ -2,6 +2,7 @@
 
 ghost use Rattle.std.specs.Prelude.{◌≡◌, None};
 
+use crate::sweeping::Sweeping;
 use crate::version::VERSION;
 use jiff::Timestamp;
 use log_lines::line;
@@ -26,21 +27,28 @@ impl Greeting {
     }
 }
 
-/// A door that says its greeting when it is first asked, if it has one, and whose connections are logged, where there is a runtime to
-/// log them by.
+/// A door that says its greeting when it is first asked, if it has one, looks whether the store is to be swept, if it ever is, and whose
+/// connections are logged, where there is a runtime to log them by.
 #[derive(Drop)]
 pub struct LoggedDoor<D: Drop> {
     inner: D,
     log: Option<HostRuntime>,
     greeting: Option<Greeting>,
+    sweeping: Option<Sweeping>,
 }
 
 impl<D: Drop> LoggedDoor<D> {
-    pub fn new(inner: D, log: Option<HostRuntime>, greeting: Option<Greeting>) -> LoggedDoor<D> {
+    pub fn new(
+        inner: D,
+        log: Option<HostRuntime>,
+        greeting: Option<Greeting>,
+        sweeping: Option<Sweeping>,
+    ) -> LoggedDoor<D> {
         LoggedDoor {
             inner,
             log,
             greeting,
+            sweeping,
         }
     }
 }
@@ -61,6 +69,9 @@ impl<D: Door + Drop> Door for LoggedDoor<D> {
     fn next(&mut self) -> Result<Option<Link<D::Source, LoggedSink<D::Sink>>>, Failed> {
         if let Some(greeting) = self.greeting.take() {
             greeting.say();
+        }
+        if let Some(sweeping) = &self.sweeping {
+            sweeping.look();
         }
         match self.inner.next()? {
             Some(link) => {

@@ -2,6 +2,7 @@
 
 use crate::access_log::{Greeting, LoggedDoor};
 use crate::settings::Serving;
+use crate::sweeping::Sweeping;
 use filesd::Status;
 use nf_dice::RealDice;
 use nf_outside::RealClock;
@@ -27,9 +28,10 @@ pub fn workers(
     rt: &HostRuntime,
     serving: &Option<Serving>,
     closing: &Closing,
+    sweeping: &Option<Sweeping>,
 ) -> Result<Vec<SocketWorker>, Status> {
     match serving {
-        Some(serving) => listen(rt, serving, closing),
+        Some(serving) => listen(rt, serving, closing, sweeping),
         None => Ok(Vec::new(rt.alloc())),
     }
 }
@@ -38,6 +40,7 @@ fn listen(
     rt: &HostRuntime,
     serving: &Serving,
     closing: &Closing,
+    sweeping: &Option<Sweeping>,
 ) -> Result<Vec<SocketWorker>, Status> {
     let address = serving.address.as_str();
     let listener = match bind(rt, serving) {
@@ -60,7 +63,7 @@ fn listen(
         };
         let door = TcpDoor::new(rt.alloc(), listener, terms, serving.connections);
         let worker = Worker {
-            door: LoggedDoor::new(door, log(rt, serving), greeting.take()),
+            door: LoggedDoor::new(door, log(rt, serving), greeting.take(), shared(sweeping)),
             clock: RealClock::new(clock),
             dice: dice(rt)?,
         };
@@ -95,6 +98,10 @@ fn greeting_of(rt: &HostRuntime, listener: &TcpListener) -> Option<Greeting> {
         rt: same(rt)?,
         address,
     })
+}
+
+fn shared(sweeping: &Option<Sweeping>) -> Option<Sweeping> {
+    sweeping.as_ref()?.share()
 }
 
 // The runtime to log by, where answers are logged.

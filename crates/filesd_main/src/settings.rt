@@ -26,6 +26,11 @@ const PACE: u64 = 16_384;
 /// The most bytes that may be.
 const MOST_PACE: u64 = 1_000_000_000;
 
+/// How many hours are between two sweeps of the store, where nothing is said, and at most.
+const SWEEP: u64 = 24;
+
+const MOST_SWEEP: u64 = 8_760;
+
 /// How `serve` works.
 #[derive(Drop)]
 pub struct Serving {
@@ -33,6 +38,8 @@ pub struct Serving {
     pub workers: u64,
     pub pace: Pace,
     pub is_logged: bool,
+    /// How many hours are between two sweeps of the store; 0 for none.
+    pub sweep: u64,
     /// How many connections each thread serves.
     pub connections: u64,
 }
@@ -57,6 +64,7 @@ pub fn read_serving(rt: &HostRuntime, connections: u64) -> Result<Serving, Statu
         workers: number(rt, "FILESD_WORKERS", 1, MOST_WORKERS, WORKERS)?,
         pace: pace(rt)?,
         is_logged: number(rt, "FILESD_LOG", 0, 1, 0)? == 1,
+        sweep: number(rt, "FILESD_SWEEP", 0, MOST_SWEEP, SWEEP)?,
         connections,
     })
 }

@@ -9,6 +9,7 @@ const USAGE: &str = "
 usage: filesd serve [--connections M]   answers over TCP, M connections of each thread (1 to 1000000; 1000)
        filesd init NAME TOKEN QUOTA     begins a store with one administrator; QUOTA is in bytes
        filesd batch                     answers the requests of standard input on standard output
+       filesd sweep                     drops the bodies that nothing names any more
 
 What the environment says:
   FILESD_STORE     the file of the store; without it the store is in memory, and ends with the program
@@ -18,6 +19,7 @@ What the environment says:
   FILESD_MESSAGE_TIME, FILESD_PACE
                    how many seconds a whole message or answer may take, 1 to 3600 (30), and how many of its bytes
                    are a second more, 1 to 1000000000 (16384)
+  FILESD_SWEEP     how many hours are between two sweeps of the store by serve, 1 to 8760, or 0 for none (24)
   FILESD_LOG       1: a line on standard error for each answer (0)";
 
 /// How the program is used.

@@ -1,14 +1,13 @@
-//! The store of a server: the file and its log, which are looked at, and what fails of them is told.
+//! The store of a server: its files, which are looked at, and what fails of them is told.
 
 use crate::listening::same;
 use filesd::Status;
 use nf_base::Row;
-use nf_keeper_file::FileKeeper;
+use nf_keeper_file::{FileKeeper, Mover, OpenFault, Opened, Paths, open};
 use nf_outside::{Clock, RealClock};
 use nf_rows::{RawRow, read_raw};
 use nf_server::{Cause, Closing};
 use nf_watch::{Call, Watch, WatchedKeeper};
-use sqlite::{Connection, Error, ErrorCode};
 use std::fs::{Metadata, metadata};
 use std::os::unix::fs::MetadataExt;
 
@@ -18,12 +17,12 @@ const DAY: u64 = 86_400;
 /// A keeper in a file that is watched.
 pub type Store = WatchedKeeper<FileKeeper, StoreWatch>;
 
-/// Who looks at a store: whether its two files are those that were opened, and what fails. Where the store refuses everything, the run is
+/// Who looks at a store: whether its files are those that were opened, and what fails. Where the store refuses everything, the run is
 /// to end.
 #[derive(Drop)]
 pub struct StoreWatch {
     rt: HostRuntime,
-    files: [SameFile; 2],
+    files: [SameFile; 3],
     closing: Closing,
     /// Whether a call went well: a store that never did is no other once it is opened anew.
     was_well: bool,
@@ -63,10 +62,18 @@ impl SameFile {
 
 impl StoreWatch {
     fn of(rt: &HostRuntime, path: &str, closing: &Closing) -> Option<StoreWatch> {
-        let file = format!(in rt.alloc(); "{path}").ok()?;
-        let log = format!(in rt.alloc(); "{path}-wal").ok()?;
+        let Paths {
+            rows,
+            log,
+            pieces,
+            ..
+        } = Paths::of(rt, path).ok()?;
         Some(StoreWatch {
-            files: [SameFile::of(rt, file)?, SameFile::of(rt, log)?],
+            files: [
+                SameFile::of(rt, rows)?,
+                SameFile::of(rt, log)?,
+                SameFile::of(rt, pieces)?,
+            ],
             rt: same(rt)?,
             closing: closing.share().ok()?,
             was_well: false,
@@ -92,7 +99,7 @@ impl StoreWatch {
     fn tell_gone(&self) {
         let path = self.files[0].path.as_str();
         let _ = eprintln!(self.rt;
-            "filesd: {path}, or its log, isn't the file any more that was opened"
+            "filesd: {path}, its log or its pieces aren't the files any more that were opened"
         );
     }
 }
@@ -131,6 +138,10 @@ impl Watch for StoreWatch {
         }
     }
 
+    fn noticed(&mut self, notice: &str) {
+        let _ = eprintln!(self.rt; "filesd: {notice}");
+    }
+
     fn went_well(&mut self, call: Call) {
         self.was_well = true;
         if call == Call::Apply {
@@ -148,19 +159,39 @@ fn word_of(call: Call) -> &'static str {
     }
 }
 
-/// The store at that path, which is made where it is missing.
+/// The store at that path, which is made where it is missing, and moved where it is one of before.
 pub fn open_store(rt: &HostRuntime, path: &str, closing: &Closing) -> Result<Store, Status> {
-    let connection = match Connection::open(rt, path) {
-        Ok(connection) => connection,
-        Err(error) => return Err(status_of(rt, error)),
-    };
-    let Ok(keeper) = FileKeeper::over(rt.alloc(), connection) else {
-        return Err(Status::Memory);
-    };
+    let keeper = open_keeper(rt, path).map_err(|fault| status_of(rt, fault))?;
     match StoreWatch::of(rt, path, closing) {
         Some(watch) => Ok(WatchedKeeper::over(rt.alloc(), keeper, watch)),
         None => Err(Status::StoreFault),
     }
+}
+
+fn open_keeper(rt: &HostRuntime, path: &str) -> Result<FileKeeper, OpenFault> {
+    match open(rt, path)? {
+        Opened::Ready(keeper) => Ok(keeper),
+        Opened::Old(mover) => move_over(rt, path, mover),
+    }
+}
+
+// Copies a store of before, and says how far it is.
+fn move_over(rt: &HostRuntime, path: &str, mover: Mover) -> Result<FileKeeper, OpenFault> {
+    let mut mover = mover;
+    let bodies = mover.bodies();
+    let _ = eprintln!(rt;
+        "filesd: {path} has the form of an earlier release, and its {bodies} bodies are moved into {path}.pieces. Until that is done it stays as it is"
+    );
+    for _ in 0..u64::MAX {
+        if !mover.step()? {
+            break;
+        }
+        let moved = mover.moved();
+        let _ = eprintln!(rt; "filesd: {moved} of {bodies} bodies are moved");
+    }
+    let keeper = mover.finish(rt)?;
+    let _ = eprintln!(rt; "filesd: {path} is moved");
+    Ok(keeper)
 }
 
 /// The same store again, which isn't made.
@@ -173,7 +204,7 @@ pub fn open_again(rt: &HostRuntime, path: &str, closing: &Closing) -> Result<Sto
     open_store(rt, path, closing)
 }
 
-/// Copies the log back, and closes the file.
+/// Copies the log back, and closes the files.
 pub fn close_store(rt: &HostRuntime, store: Store) {
     // Whatever was answered is in the log already, from which the next opening takes it.
     if let Err(error) = store.into_inner().close() {
@@ -181,12 +212,10 @@ pub fn close_store(rt: &HostRuntime, store: Store) {
     }
 }
 
-fn status_of(rt: &HostRuntime, error: Error) -> Status {
-    match error {
-        Error::SqliteFailure(ErrorCode::OutOfMemory) => Status::Memory,
-        error => {
-            let _ = eprintln!(rt; "filesd: the store can't be opened: {error}");
-            Status::StoreFault
-        }
+fn status_of(rt: &HostRuntime, fault: OpenFault) -> Status {
+    if matches!(fault, OpenFault::Memory) {
+        return Status::Memory;
     }
+    let _ = eprintln!(rt; "filesd: the store can't be opened: {fault}");
+    Status::StoreFault
 }

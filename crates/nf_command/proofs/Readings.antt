@@ -1,15 +1,15 @@
 -- The words of a command are read as that command.
-use Rattle.std.proofs.Common.{◌≡◌, ◌≤◌, ◌∙◌, ℕ, List, [], ◌∷◌, get_or, codes, Option, None, Some, Result, Ok, Err, MatchResult, refl, sym, ap, arith, inl, inr}
+use Rattle.std.proofs.Common.{◌≡◌, ◌⊎◌, ◌≤◌, ◌∙◌, ℕ, List, [], ◌∷◌, get_or, codes, Option, None, Some, Result, Ok, Err, MatchResult, refl, sym, ap, arith, inl, inr}
 use Rattle.std.specs.Prelude.{decimal}
 use Rattle.std.specs.declared.alloc.AllocError.{AllocError}
 use Rattle.std.proofs.lemmas.Fmt.{decimal_injective}
 use Rattle.sha2.specs.Sha256.{sha256}
 use Rattle.nf_base.specs.declared.limits.TheConstants.{MAX_QUOTA}
-use Rattle.nf_command.specs.Command.{IsBatch, IsCommand, IsInit, IsServe, IsSomeInit, IsSomeServe}
+use Rattle.nf_command.specs.Command.{IsBatch, IsCommand, IsInit, IsServe, IsSomeInit, IsSomeServe, IsSweep}
 use Rattle.nf_command.specs.Reading.{GivesInit, GivesServe, IsNearlyInit, ReadsCommand}
 use Rattle.nf_command.specs.declared.command.Command.{Command}
 use Rattle.nf_command.specs.declared.command.Command.TheVariants as commands
-use Rattle.nf_command.proofs.Words.{begins, is_said, serve_begins}
+use Rattle.nf_command.proofs.Words.{begins, goes_on, is_said, serve_begins, serve_goes_on}
 
 pub batch_is_read : (words : List (List ℕ)) (read : Result (Option Command) AllocError) → IsBatch words → ReadsCommand words read
     → read ≡ Ok (Some commands.Batch)
@@ -17,6 +17,7 @@ batch_is_read words (Ok (Some commands.Batch)) batch reads = refl
 batch_is_read words (Ok (Some (commands.Init init))) batch reads = absurd (cc (sym batch ∙ reads.1.spelled))
 batch_is_read words (Ok (Some (commands.Serve n))) batch reads =
     absurd (omega (arith, serve_begins words n reads.spelled, ap begins batch))
+batch_is_read words (Ok (Some commands.Sweep)) batch reads = absurd (omega (arith, ap begins batch, ap begins reads))
 batch_is_read words (Ok None) batch reads = absurd (reads (inl batch))
 batch_is_read words (Err error) batch reads = absurd (cc (sym batch ∙ reads.3))
 
@@ -38,6 +39,7 @@ init_is_read words name token quota (Ok (Some (commands.Init init))) is reads =
     (same.0, reads.2 ∙ ap sha256 same.1, same.2)
 init_is_read words name token quota (Ok (Some (commands.Serve n))) is reads =
     absurd (omega (arith, serve_begins words n reads.spelled, ap begins is.spelled))
+init_is_read words name token quota (Ok (Some commands.Sweep)) is reads = absurd (cc (sym is.spelled ∙ reads))
 init_is_read words name token quota (Ok None) is reads = reads (inr (inl (name, token, quota, is)))
 init_is_read words name token quota (Err error) is reads = tt
 
@@ -49,16 +51,35 @@ serve_is_read words n (Ok (Some (commands.Init init))) is reads =
     absurd (omega (arith, serve_begins words n is.spelled, ap begins reads.1.spelled))
 serve_is_read words n (Ok (Some (commands.Serve m))) is reads =
     decimal_injective m n (omega (arith, reads.few)) (omega (arith, is.few)) (is_said words m reads.spelled ∙ sym (is_said words n is.spelled))
-serve_is_read words n (Ok None) is reads = reads (inr (inr (n, is)))
+serve_is_read words n (Ok (Some commands.Sweep)) is reads =
+    absurd (omega (arith, serve_goes_on words n is.spelled, ap goes_on reads))
+serve_is_read words n (Ok None) is reads = reads (inr (inr (inl (n, is))))
 serve_is_read words n (Err error) is reads =
     absurd (omega (arith, serve_begins words n is.spelled, ap begins reads.3))
 
+pub sweep_is_read : (words : List (List ℕ)) (read : Result (Option Command) AllocError) → IsSweep words → ReadsCommand words read
+    → read ≡ Ok (Some commands.Sweep)
+sweep_is_read words (Ok (Some commands.Batch)) sweep reads = absurd (omega (arith, ap begins sweep, ap begins reads))
+sweep_is_read words (Ok (Some (commands.Init init))) sweep reads = absurd (cc (sym sweep ∙ reads.1.spelled))
+sweep_is_read words (Ok (Some (commands.Serve n))) sweep reads =
+    absurd (omega (arith, serve_goes_on words n reads.spelled, ap goes_on sweep))
+sweep_is_read words (Ok (Some commands.Sweep)) sweep reads = refl
+sweep_is_read words (Ok None) sweep reads = absurd (reads (inr (inr (inr sweep))))
+sweep_is_read words (Err error) sweep reads = absurd (cc (sym sweep ∙ reads.3))
+
+no_other : (words : List (List ℕ)) → IsSweep words → IsBatch words ⊎ (IsSomeInit words ⊎ IsSomeServe words) → ⊥
+no_other words sweep (inl batch) = omega (arith, ap begins sweep, ap begins batch)
+no_other words sweep (inr (inl init)) = omega (arith, ap begins sweep, ap begins init.3.spelled)
+no_other words sweep (inr (inr serve)) = omega (arith, serve_goes_on words serve.0 serve.1.spelled, ap goes_on sweep)
+
 pub commands_exclude : (words : List (List ℕ))
     → (IsBatch words → IsSomeInit words → ⊥) × (IsBatch words → IsSomeServe words → ⊥) × (IsSomeInit words → IsSomeServe words → ⊥)
+    × (IsSweep words → IsBatch words ⊎ (IsSomeInit words ⊎ IsSomeServe words) → ⊥)
 commands_exclude words = (
   λ batch init. init_is_read words init.0 init.1 init.2 (Ok (Some commands.Batch)) init.3 batch,
   λ batch serve. serve_is_read words serve.0 (Ok (Some commands.Batch)) serve.1 batch,
   λ init serve. init_is_read words init.0 init.1 init.2 (Ok (Some (commands.Serve serve.0))) init.3 serve.1,
+  no_other words,
 )
 
 pub others_are_refused : (words : List (List ℕ)) (read : Result (Option Command) AllocError) → (IsCommand words → ⊥)
@@ -66,6 +87,7 @@ pub others_are_refused : (words : List (List ℕ)) (read : Result (Option Comman
 others_are_refused words (Ok (Some commands.Batch)) none reads = absurd (none (inl reads))
 others_are_refused words (Ok (Some (commands.Init init))) none reads =
     absurd (none (inr (inl (init.name, reads.0, init.quota, reads.1))))
-others_are_refused words (Ok (Some (commands.Serve n))) none reads = absurd (none (inr (inr (n, reads))))
+others_are_refused words (Ok (Some (commands.Serve n))) none reads = absurd (none (inr (inr (inl (n, reads)))))
+others_are_refused words (Ok (Some commands.Sweep)) none reads = absurd (none (inr (inr (inr reads))))
 others_are_refused words (Ok None) none reads = refl
 others_are_refused words (Err error) none reads = reads

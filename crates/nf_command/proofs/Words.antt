@@ -3,7 +3,7 @@ use Rattle.std.proofs.Common.{◌≡◌, ◌≢◌, ◌≤◌, ◌<◌, ◌-◌,
 use Rattle.std.specs.Prelude.{decimal}
 use Rattle.std.proofs.lemmas.List.{take_all}
 use Rattle.nf_command.specs.declared.command.TheConstants.{DEFAULT_CONNECTIONS, MAX_CONNECTIONS}
-use Rattle.nf_command.specs.Command.{IsBatch, IsCommand, IsServe, SaysServe}
+use Rattle.nf_command.specs.Command.{IsBatch, IsCommand, IsServe, IsSweep, SaysServe}
 
 -- ---- a slice, by its length and what its items read
 
@@ -39,6 +39,15 @@ pub serve_begins : (words : List (List ℕ)) (n : ℕ) → SaysServe words n →
 serve_begins words n (inl says) = ap begins says.0
 serve_begins words n (inr (inl says)) = ap begins says
 serve_begins words n (inr (inr says)) = ap begins says
+
+-- the second byte of the first
+abbrev pub goes_on : List (List ℕ) → ℕ
+goes_on words = get_or (get_or words 0 []) 1 0
+
+pub serve_goes_on : (words : List (List ℕ)) (n : ℕ) → SaysServe words n → goes_on words ≡ 101
+serve_goes_on words n (inl says) = ap goes_on says.0
+serve_goes_on words n (inr (inl says)) = ap goes_on says
+serve_goes_on words n (inr (inr says)) = ap goes_on says
 
 -- the digits that they say
 abbrev said : List (List ℕ) → List ℕ
@@ -80,7 +89,9 @@ only_joined words option n is (inl says) = absurd (omega (arith, ap (λ (w : Lis
 only_joined words option n is (inr (inl says)) = absurd (omega (arith, ap (λ (w : List (List ℕ)). length w) (sym is ∙ says)))
 only_joined words option n is (inr (inr says)) = ap (λ (w : List (List ℕ)). get_or w 1 []) (sym is ∙ says)
 
-pub no_command : (words : List (List ℕ)) → (IsBatch words → ⊥) → length words ≢ 4 → ((n : ℕ) → IsServe words n → ⊥) → IsCommand words → ⊥
-no_command words batch init serve (inl is) = batch is
-no_command words batch init serve (inr (inl is)) = init (ap (λ (w : List (List ℕ)). length w) is.3.spelled)
-no_command words batch init serve (inr (inr is)) = serve is.0 is.1
+pub no_command : (words : List (List ℕ)) → (IsBatch words → ⊥) → (IsSweep words → ⊥) → length words ≢ 4 → ((n : ℕ) → IsServe words n → ⊥)
+    → IsCommand words → ⊥
+no_command words batch sweep init serve (inl is) = batch is
+no_command words batch sweep init serve (inr (inl is)) = init (ap (λ (w : List (List ℕ)). length w) is.3.spelled)
+no_command words batch sweep init serve (inr (inr (inl is))) = serve is.0 is.1
+no_command words batch sweep init serve (inr (inr (inr is))) = sweep is

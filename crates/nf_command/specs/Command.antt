@@ -43,5 +43,8 @@ pub record IsServe (words : List (List ℕ)) (n : ℕ) : Type 0 where
 abbrev pub IsSomeServe : List (List ℕ) → Type 0
 IsSomeServe words = (n : ℕ) × IsServe words n
 
+abbrev pub IsSweep : List (List ℕ) → Type 0
+IsSweep words = words ≡ codes "sweep" ∷ []
+
 abbrev pub IsCommand : List (List ℕ) → Type 0
-IsCommand words = IsBatch words ⊎ (IsSomeInit words ⊎ IsSomeServe words)
+IsCommand words = IsBatch words ⊎ (IsSomeInit words ⊎ (IsSomeServe words ⊎ IsSweep words))

@@ -4,7 +4,7 @@ ghost use Rattle.std.specs.Prelude.{◌≡◌, ℕ, ◌∷◌, [], ◌↔◌, Is
 ghost use Rattle.std.specs.Char.{is_ascii_graphic};
 ghost use Rattle.std.specs.List.{list_all};
 ghost use Rattle.std.specs.String.{string_bytes};
-ghost use Rattle.nf_command.specs.Command.{IsBatch, IsOption, IsSecret, IsServe};
+ghost use Rattle.nf_command.specs.Command.{IsOption, IsSecret, IsServe};
 ghost use Rattle.nf_command.specs.Reading.{ReadsCommand};
 
 use crate::number::number_of;
@@ -29,6 +29,8 @@ pub enum Command {
     Init(Init),
     /// To serve the connections of doors, by each worker at most so many.
     Serve { connections: u64 },
+    /// To drop the bodies that no row names.
+    Sweep,
 }
 
 /// The first administrator of a store.
@@ -45,8 +47,11 @@ pub struct Init {
 pub fn command_of(alloc: Global, words: &[String]) -> Result<Option<Command>, AllocError>
     ensures { ReadsCommand (map string_bytes words.now) result }
 {
-    if is_batch(words) {
+    if is_only(words, "batch") {
         return Ok(Some(Command::Batch));
+    }
+    if is_only(words, "sweep") {
+        return Ok(Some(Command::Sweep));
     }
     if let Some(connections) = serve_of(words) {
         return Ok(Some(Command::Serve { connections }));
@@ -63,11 +68,12 @@ pub fn command_of(alloc: Global, words: &[String]) -> Result<Option<Command>, Al
     }
 }
 
-fn is_batch(words: &[String]) -> bool
-    ensures { IsTrue result ↔ IsBatch (map string_bytes words.now) }
+// Whether there is no word but that one.
+fn is_only(words: &[String], text: &str) -> bool
+    ensures { IsTrue result ↔ map string_bytes words.now ≡ text.now ∷ [] }
 {
     match words {
-        [word] => word.as_str() == "batch",
+        [word] => word.as_str() == text,
         _ => false,
     }
 }

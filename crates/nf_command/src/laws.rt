@@ -1,6 +1,6 @@
 //! What follows from the definitions. Each function does nothing, and its clause is the law.
 
-ghost use Rattle.std.specs.Prelude.{◌≡◌, ◌≤◌, ◌∷◌, ℕ, List, Option, None, Some, Result, Ok, MatchResult};
+ghost use Rattle.std.specs.Prelude.{◌≡◌, ◌≤◌, ◌⊎◌, ◌∷◌, ℕ, List, Option, None, Some, Result, Ok, MatchResult};
 ghost use Rattle.std.specs.declared.alloc.AllocError.{AllocError};
 ghost use Rattle.nf_base.specs.declared.limits.TheConstants.{MAX_QUOTA};
 ghost use Rattle.nf_base.specs.Naming.{IsName};
@@ -8,11 +8,11 @@ ghost use Rattle.nf_base.specs.declared.rows.MetaRow.{MetaRow};
 ghost use Rattle.nf_base.specs.declared.rows.Row.{Row};
 ghost use Rattle.nf_base.specs.declared.rows.Row.TheVariants.{Meta};
 ghost use Rattle.nf_rules.specs.Rules.{AreUnbroken};
-ghost use Rattle.nf_command.specs.Command.{IsBatch, IsCommand, IsInit, IsServe, IsSomeInit, IsSomeServe};
+ghost use Rattle.nf_command.specs.Command.{IsBatch, IsCommand, IsInit, IsServe, IsSomeInit, IsSomeServe, IsSweep};
 ghost use Rattle.nf_command.specs.First.{init_rows};
 ghost use Rattle.nf_command.specs.Reading.{GivesInit, GivesServe, IsNearlyInit, ReadsCommand};
 ghost use Rattle.nf_command.specs.declared.command.Command.{Command};
-ghost use Rattle.nf_command.specs.declared.command.Command.TheVariants.{Batch};
+ghost use Rattle.nf_command.specs.declared.command.Command.TheVariants.{Batch, Sweep};
 
 /// The words of a `batch` are always read as one.
 pub fn batch_is_read()
@@ -29,9 +29,14 @@ pub fn serve_is_read()
     ensures { (words : List (List ℕ)) (n : ℕ) (read : Result (Option Command) AllocError) → IsServe words n → ReadsCommand words read → GivesServe read n }
 {}
 
+/// Those of a `sweep` are always read as one.
+pub fn sweep_is_read()
+    ensures { (words : List (List ℕ)) (read : Result (Option Command) AllocError) → IsSweep words → ReadsCommand words read → read ≡ Ok (Some Sweep) }
+{}
+
 /// No words are two commands.
 pub fn commands_exclude()
-    ensures { (words : List (List ℕ)) → (IsBatch words → IsSomeInit words → ⊥) × (IsBatch words → IsSomeServe words → ⊥) × (IsSomeInit words → IsSomeServe words → ⊥) }
+    ensures { (words : List (List ℕ)) → (IsBatch words → IsSomeInit words → ⊥) × (IsBatch words → IsSomeServe words → ⊥) × (IsSomeInit words → IsSomeServe words → ⊥) × (IsSweep words → IsBatch words ⊎ (IsSomeInit words ⊎ IsSomeServe words) → ⊥) }
 {}
 
 /// Words that are no command are told so, or they are those of an `init` but for the name, and memory was wanting.

@@ -100,7 +100,7 @@ impl Gaps {
         self.end
     }
 
-    /// Takes so many bytes of the first gap that has them, or else at the end; or nothing, where the file would be too long.
+    /// Takes so many bytes of a gap, where one has them, or else at the end; or nothing, where the file would be too long.
     pub fn take(&mut self, size: u64) -> Option<Extent>
         requires { 0 < size }
         ensures none { IsNone result ↔ LacksRoom self.old size }

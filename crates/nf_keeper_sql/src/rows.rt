@@ -12,7 +12,8 @@ use sqlite::{Alter, Connection, Error, ErrorCode, Row, Transaction, params};
 use std::alloc::Global;
 use std::cmp::Ordering;
 
-const ROWS: &str = "SELECT kind, key, body FROM rows ORDER BY kind, key";
+// The row of kind 255 is the store's own.
+const ROWS: &str = "SELECT kind, key, body FROM rows WHERE kind <> 255 ORDER BY kind, key";
 
 const PUT_ROW: &str =
     "INSERT INTO rows (kind, key, body) VALUES (?1, ?2, ?3) ON CONFLICT (kind, key) DO UPDATE SET body = excluded.body";
@@ -37,7 +38,7 @@ pub(crate) fn rows_of<S: Alter>(
     Ok(raws)
 }
 
-fn raw_of(row: &Row) -> Result<RawRow, Error> {
+pub(crate) fn raw_of(row: &Row) -> Result<RawRow, Error> {
     let kind: u32 = row.get(0)?;
     let Ok(kind) = u8::try_from(kind) else {
         return Err(Error::IntegralValueOutOfRange(0));

@@ -19,9 +19,12 @@ pub enum Call {
     Sweep,
 }
 
-/// What can say in words why it failed last.
+/// What can say in words why it failed last, and what else is to be known of it.
 pub trait Explains {
     fn explain(&self, alloc: Global) -> Result<String, AllocError>;
+
+    /// What has come up since this was asked last, if anything.
+    fn notice(&mut self) -> Option<&'static str>;
 }
 
 /// Who looks at a keeper.
@@ -37,6 +40,9 @@ pub trait Watch {
 
     /// These rows were loaded.
     fn loaded(&mut self, rows: &[RawRow]);
+
+    /// This came up in a call, whatever that answered.
+    fn noticed(&mut self, notice: &str);
 
     /// A call did what it was asked.
     fn went_well(&mut self, call: Call);
@@ -80,6 +86,9 @@ impl<K: Keeper + Explains + Drop, W: Watch + Drop> WatchedKeeper<K, W> {
         ensures same { result ≡ answer }
         ensures count { Counts self.old.faults self.new.faults result }
     {
+        if let Some(notice) = self.inner.notice() {
+            self.watch.noticed(notice);
+        }
         match &answer {
             Ok(_) => self.watch.went_well(call),
             Err(KeepFault::Failed) => {

@@ -3,16 +3,28 @@
 use crate::calls::{drops, has, puts, stores, tells};
 use nf_base::BlobId;
 use nf_keeper::{KeepFault, Keeper};
-use nf_keeper_sql::SqlKeeper;
+use nf_keeper_sql::{Sizes, SqlKeeper};
 use sqlite::{Connection, MemStore};
+use sqlite_disk::{Files, Memory};
 use std::alloc::Global;
 use std::process::Abort;
 use std::test::Fail;
 
-fn keeper_after(alloc: Global, sql: &str) -> Result<SqlKeeper<MemStore>, Fail> {
+// A body of five bytes lies in the file, and two of three bytes are too many for the database.
+const SIZES: Sizes = Sizes {
+    small: 4,
+    together: 5,
+    reserve: 100,
+};
+
+fn keeper_after(alloc: Global, sql: &str) -> Result<SqlKeeper<MemStore, Memory>, Fail> {
     let mut connection = Connection::open_in_memory(alloc)?;
+    let files = Files {
+        log: Memory::new(alloc),
+        db: Memory::new(alloc),
+    };
     match connection.execute_batch(sql) {
-        Ok(()) => Ok(SqlKeeper::over(alloc, connection)),
+        Ok(()) => Ok(SqlKeeper::over(alloc, connection, files, SIZES)),
         Err(_) => Err(Fail::from("refused")),
     }
 }
@@ -56,7 +68,7 @@ fn keeps_what_is_short<K: Keeper>(
     keeper: &mut K,
 ) -> Result<(), Fail> {
     assert!(rt; tells(alloc, keeper, &[])?);
-    assert!(rt; !stores(alloc, keeper, &[1], 7, b"seven")?);
+    assert!(rt; !stores(alloc, keeper, &[1], 7, b"four")?);
     assert!(rt; tells(alloc, keeper, &[])?);
     assert!(rt; stores(alloc, keeper, &[1], 7, b"7")?);
     assert!(rt; tells(alloc, keeper, &[(1, 1)])?);

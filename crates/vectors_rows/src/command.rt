@@ -19,6 +19,7 @@ fn kind(alloc: Global, line: &str) -> Result<&'static str, AllocError> {
         Some(Command::Init(_)) => "init",
         Some(Command::Serve { connections: 1_000 }) => "serve 1000",
         Some(Command::Serve { .. }) => "serve",
+        Some(Command::Sweep) => "sweep",
         None => "none",
     })
 }
@@ -63,6 +64,14 @@ none:init|alice|alice-1|1_000
 none:init|alice|alice-1|0x1
 none:init|alice|alice-1|1099511627777
 none:init|alice|alice-1|18446744073709551616
+sweep:sweep
+none:Sweep
+none:sweep\x20
+none:sweep|
+none:sweep|sweep
+none:sweep|x
+none:sweep|--
+none:sweep|alice|alice-1|5
 serve 1000:serve
 serve 1000:serve|--connections|1000
 serve 1000:serve|--connections=1000

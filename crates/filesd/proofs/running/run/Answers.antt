@@ -1,9 +1,10 @@
-use Rattle.std.proofs.Common.{List, subst, ℕ}
+use Rattle.std.proofs.Common.{◌≡◌, ◌∙◌, ap, inr, List, subst, ℕ}
 use Rattle.std.specs.Prelude.{Option, Some, Result, Ok, map}
 use Rattle.std.specs.String.{string_bytes}
 use Rattle.std.specs.declared.alloc.AllocError.{AllocError}
 use Rattle.nf_base.specs.declared.rows.Row.{Row}
-use Rattle.nf_command.proofs.Readings.{init_is_read, serve_is_read}
+use Rattle.nf_command.proofs.Readings.{init_is_read, serve_is_read, sweep_is_read}
+use Rattle.nf_command.specs.Command.{IsBatch, IsServe, IsSweep}
 use Rattle.nf_command.specs.First.{init_rows}
 use Rattle.nf_command.specs.Reading.{ReadsCommand}
 use Rattle.nf_command.specs.declared.command.Command.{Command}
@@ -14,12 +15,27 @@ use Rattle.filesd.specs.Init.{Inits}
 use Rattle.filesd.specs.Outside.{outlet}
 use Rattle.filesd.specs.declared.status.Status.{Status}
 use Rattle.filesd.proofs.Beginning.{inits_beside, rows_are}
-use Rattle.filesd.proofs.Ending.{batch_well, init_well, serve_well}
+use Rattle.filesd.proofs.Ending.{batch_well, init_well, serve_well, sweep_well}
 use Rattle.filesd.proofs.Working.{Says, runs_say}
 use Rattle.filesd.proofs.OneFile.{serves_one}
-use Rattle.filesd.proofs.Safe.{batch_keeps, init_keeps, serve_keeps}
+use Rattle.filesd.proofs.Safe.{batch_keeps, init_keeps, serve_keeps, sweep_keeps}
 use Rattle.filesd.proofs.Serving.{runs_read, runs_store, runs_write}
+use Rattle.filesd.proofs.Unnamed.{SweepSays, sweep_says, sweeps_beside}
 use Rattle.filesd.proofs.running.run.Goals as goal
+
+-- the words are those of the command that was read
+reads_as : (words : List (List ℕ)) (read : Result (Option Command) AllocError) (some : Option Command) (command is : Command)
+    → ReadsCommand words read → read ≡ Ok some → some ≡ Some command → command ≡ is → ReadsCommand words (Ok (Some is))
+reads_as words read some command is reads first second third =
+    subst (λ (r : Result (Option Command) AllocError). ReadsCommand words r)
+    (first ∙ ap (λ (o : Option Command). Ok o) (second ∙ ap (λ (k : Command). Some k) third)) reads
+
+-- words are of one command alone
+batch_or_sweep : (words : List (List ℕ)) → IsBatch words → IsSweep words → ⊥
+batch_or_sweep words batch sweep = cc (sweep_is_read words (Ok (Some commands.Batch)) sweep batch)
+
+serve_or_sweep : (words : List (List ℕ)) (n : ℕ) → IsServe words n → IsSweep words → ⊥
+serve_or_sweep words n serve sweep = cc (sweep_is_read words (Ok (Some (commands.Serve n))) sweep serve)
 
 pub returns-in-Ok-Some-Batch-clause-one_file : goal.returns-in-Ok-Some-Batch-clause-one_file
 returns-in-Ok-Some-Batch-clause-one_file g c = λ batch.
@@ -103,3 +119,157 @@ returns-in-Ok-Some-Serve-clause-safe g c =
     serve_keeps g.K.Keeper g.D.Source.Ends g.D.Sink.Ends (takes g.W.Clock.reads g.V.Dice.draws) g.D.Door c.in-Ok-Some-Serve.connections c.args.keeper
     c.serve_doors.result.keeper c.args.workers.now c.serve_doors.new.workers c.serve_doors.result.status c.serve_doors.result.site
     c.serve_doors.ensures.runs c.serve_doors.ensures.leaves
+
+-- ---- `sweep`
+
+pub returns-in-Ok-Some-Batch-clause-sweep : goal.returns-in-Ok-Some-Batch-clause-sweep
+returns-in-Ok-Some-Batch-clause-sweep g c = λ sweep.
+    let words = map string_bytes c.args.words.now in
+    let read = reads_as words c.command_of.result _ _ commands.Batch c.command_of.ensures c.in-Ok-Some-Batch.is
+    c.in-Ok-Some-Batch.field-0-is c.in-Ok-Some-Batch.field-0-0-is in
+    absurd (batch_or_sweep words read sweep)
+
+pub returns-in-Ok-Some-Batch-clause-sweep_well : goal.returns-in-Ok-Some-Batch-clause-sweep_well
+returns-in-Ok-Some-Batch-clause-sweep_well g c = λ sweep.
+    let words = map string_bytes c.args.words.now in
+    let read = reads_as words c.command_of.result _ _ commands.Batch c.command_of.ensures c.in-Ok-Some-Batch.is
+    c.in-Ok-Some-Batch.field-0-is c.in-Ok-Some-Batch.field-0-0-is in
+    absurd (batch_or_sweep words read sweep)
+
+pub returns-in-Ok-Some-Serve-clause-sweep : goal.returns-in-Ok-Some-Serve-clause-sweep
+returns-in-Ok-Some-Serve-clause-sweep g c = λ sweep.
+    let words = map string_bytes c.args.words.now in
+    let read = reads_as words c.command_of.result _ _ (commands.Serve c.in-Ok-Some-Serve.connections) c.command_of.ensures c.in-Ok-Some-Serve.is
+    c.in-Ok-Some-Serve.field-0-is c.in-Ok-Some-Serve.field-0-0-is in
+    absurd (serve_or_sweep words c.in-Ok-Some-Serve.connections read sweep)
+
+pub returns-in-Ok-Some-Serve-clause-sweep_well : goal.returns-in-Ok-Some-Serve-clause-sweep_well
+returns-in-Ok-Some-Serve-clause-sweep_well g c = λ sweep.
+    let words = map string_bytes c.args.words.now in
+    let read = reads_as words c.command_of.result _ _ (commands.Serve c.in-Ok-Some-Serve.connections) c.command_of.ensures c.in-Ok-Some-Serve.is
+    c.in-Ok-Some-Serve.field-0-is c.in-Ok-Some-Serve.field-0-0-is in
+    absurd (serve_or_sweep words c.in-Ok-Some-Serve.connections read sweep)
+
+pub returns-in-Ok-Some-Sweep-clause-no_command : goal.returns-in-Ok-Some-Sweep-clause-no_command
+returns-in-Ok-Some-Sweep-clause-no_command g c = λ none.
+    let words = map string_bytes c.args.words.now in
+    let read = reads_as words c.command_of.result _ _ commands.Sweep c.command_of.ensures c.in-Ok-Some-Sweep.is
+    c.in-Ok-Some-Sweep.field-0-is c.in-Ok-Some-Sweep.field-0-0-is in
+    absurd (none (inr (inr (inr read))))
+
+pub returns-in-Ok-Some-Sweep-clause-batch : goal.returns-in-Ok-Some-Sweep-clause-batch
+returns-in-Ok-Some-Sweep-clause-batch g c = λ batch.
+    let words = map string_bytes c.args.words.now in
+    let read = reads_as words c.command_of.result _ _ commands.Sweep c.command_of.ensures c.in-Ok-Some-Sweep.is
+    c.in-Ok-Some-Sweep.field-0-is c.in-Ok-Some-Sweep.field-0-0-is in
+    absurd (batch_or_sweep words batch read)
+
+pub returns-in-Ok-Some-Sweep-clause-init : goal.returns-in-Ok-Some-Sweep-clause-init
+returns-in-Ok-Some-Sweep-clause-init g c = λ name token quota init.
+    let words = map string_bytes c.args.words.now in
+    let read = reads_as words c.command_of.result _ _ commands.Sweep c.command_of.ensures c.in-Ok-Some-Sweep.is
+    c.in-Ok-Some-Sweep.field-0-is c.in-Ok-Some-Sweep.field-0-0-is in
+    absurd (init_is_read words name token quota (Ok (Some commands.Sweep)) init read)
+
+pub returns-in-Ok-Some-Sweep-clause-serve : goal.returns-in-Ok-Some-Sweep-clause-serve
+returns-in-Ok-Some-Sweep-clause-serve g c = λ n serve.
+    let words = map string_bytes c.args.words.now in
+    let read = reads_as words c.command_of.result _ _ commands.Sweep c.command_of.ensures c.in-Ok-Some-Sweep.is
+    c.in-Ok-Some-Sweep.field-0-is c.in-Ok-Some-Sweep.field-0-0-is in
+    absurd (serve_or_sweep words n serve read)
+
+pub returns-in-Ok-Some-Sweep-clause-apart : goal.returns-in-Ok-Some-Sweep-clause-apart
+returns-in-Ok-Some-Sweep-clause-apart g c = λ serve.
+    let words = map string_bytes c.args.words.now in
+    let read = reads_as words c.command_of.result _ _ commands.Sweep c.command_of.ensures c.in-Ok-Some-Sweep.is
+    c.in-Ok-Some-Sweep.field-0-is c.in-Ok-Some-Sweep.field-0-0-is in
+    absurd (serve_or_sweep words serve.0 serve.1 read)
+
+pub returns-in-Ok-Some-Sweep-clause-nothing : goal.returns-in-Ok-Some-Sweep-clause-nothing
+returns-in-Ok-Some-Sweep-clause-nothing g c = λ none.
+    let words = map string_bytes c.args.words.now in
+    let read = reads_as words c.command_of.result _ _ commands.Sweep c.command_of.ensures c.in-Ok-Some-Sweep.is
+    c.in-Ok-Some-Sweep.field-0-is c.in-Ok-Some-Sweep.field-0-0-is in
+    absurd (none (inr (inr (inr read))))
+
+pub returns-in-Ok-Some-Sweep-clause-room : goal.returns-in-Ok-Some-Sweep-clause-room
+returns-in-Ok-Some-Sweep-clause-room g c = λ batch.
+    let words = map string_bytes c.args.words.now in
+    let read = reads_as words c.command_of.result _ _ commands.Sweep c.command_of.ensures c.in-Ok-Some-Sweep.is
+    c.in-Ok-Some-Sweep.field-0-is c.in-Ok-Some-Sweep.field-0-0-is in
+    absurd (batch_or_sweep words batch read)
+
+pub returns-in-Ok-Some-Sweep-clause-batch_well : goal.returns-in-Ok-Some-Sweep-clause-batch_well
+returns-in-Ok-Some-Sweep-clause-batch_well g c = λ batch.
+    let words = map string_bytes c.args.words.now in
+    let read = reads_as words c.command_of.result _ _ commands.Sweep c.command_of.ensures c.in-Ok-Some-Sweep.is
+    c.in-Ok-Some-Sweep.field-0-is c.in-Ok-Some-Sweep.field-0-0-is in
+    absurd (batch_or_sweep words batch read)
+
+pub returns-in-Ok-Some-Sweep-clause-init_well : goal.returns-in-Ok-Some-Sweep-clause-init_well
+returns-in-Ok-Some-Sweep-clause-init_well g c = λ name token quota init.
+    let words = map string_bytes c.args.words.now in
+    let read = reads_as words c.command_of.result _ _ commands.Sweep c.command_of.ensures c.in-Ok-Some-Sweep.is
+    c.in-Ok-Some-Sweep.field-0-is c.in-Ok-Some-Sweep.field-0-0-is in
+    absurd (init_is_read words name token quota (Ok (Some commands.Sweep)) init read)
+
+pub returns-in-Ok-Some-Sweep-clause-serve_well : goal.returns-in-Ok-Some-Sweep-clause-serve_well
+returns-in-Ok-Some-Sweep-clause-serve_well g c = λ serve.
+    let words = map string_bytes c.args.words.now in
+    let read = reads_as words c.command_of.result _ _ commands.Sweep c.command_of.ensures c.in-Ok-Some-Sweep.is
+    c.in-Ok-Some-Sweep.field-0-is c.in-Ok-Some-Sweep.field-0-0-is in
+    absurd (serve_or_sweep words serve.0 serve.1 read)
+
+pub returns-in-Ok-Some-Sweep-clause-one_file : goal.returns-in-Ok-Some-Sweep-clause-one_file
+returns-in-Ok-Some-Sweep-clause-one_file g c = λ batch.
+    let words = map string_bytes c.args.words.now in
+    let read = reads_as words c.command_of.result _ _ commands.Sweep c.command_of.ensures c.in-Ok-Some-Sweep.is
+    c.in-Ok-Some-Sweep.field-0-is c.in-Ok-Some-Sweep.field-0-0-is in
+    absurd (batch_or_sweep words batch read)
+
+pub returns-in-Ok-Some-Sweep-clause-sweep : goal.returns-in-Ok-Some-Sweep-clause-sweep
+returns-in-Ok-Some-Sweep-clause-sweep g c = λ sweep.
+    sweeps_beside (g.S.Ends.left c.args.input.now) (g.S.Ends.read_faults c.args.input.now) (lent c.args.clock.now c.args.dice.now) _ _
+    c.sweep.result.status c.sweep.result.site c.sweep.ensures.sweeps
+
+pub returns-in-Ok-Some-Sweep-clause-sweep_well : goal.returns-in-Ok-Some-Sweep-clause-sweep_well
+returns-in-Ok-Some-Sweep-clause-sweep_well g c = λ sweep.
+    sweep_well _ _ c.sweep.result.status c.sweep.result.site
+    (sweeps_beside (g.S.Ends.left c.args.input.now) (g.S.Ends.read_faults c.args.input.now) (lent c.args.clock.now c.args.dice.now)
+    (outlet g.O.Ends g.K.Keeper c.args.output.now c.args.keeper) (outlet g.O.Ends g.K.Keeper c.sweep.new.output c.sweep.result.keeper)
+    c.sweep.result.status c.sweep.result.site c.sweep.ensures.sweeps)
+
+pub returns-in-Ok-Some-Sweep-clause-safe : goal.returns-in-Ok-Some-Sweep-clause-safe
+returns-in-Ok-Some-Sweep-clause-safe g c =
+    sweep_keeps (outlet g.O.Ends g.K.Keeper c.args.output.now c.args.keeper) (outlet g.O.Ends g.K.Keeper c.sweep.new.output c.sweep.result.keeper)
+    c.sweep.result.status c.sweep.result.site c.sweep.ensures.sweeps
+
+pub returns-in-Ok-Some-Sweep-clause-words : goal.returns-in-Ok-Some-Sweep-clause-words
+returns-in-Ok-Some-Sweep-clause-words g c = λ is command.
+    subst (λ (s : Status). SweepSays (outlet g.O.Ends g.K.Keeper c.args.output.now c.args.keeper) (outlet g.O.Ends g.K.Keeper c.sweep.new.output c.sweep.result.keeper) s) is
+    (sweep_says (outlet g.O.Ends g.K.Keeper c.args.output.now c.args.keeper) (outlet g.O.Ends g.K.Keeper c.sweep.new.output c.sweep.result.keeper)
+    c.sweep.result.status c.sweep.result.site c.sweep.ensures.sweeps)
+
+pub returns-in-Ok-Some-Sweep-clause-read : goal.returns-in-Ok-Some-Sweep-clause-read
+returns-in-Ok-Some-Sweep-clause-read g c = λ is.
+    absurd (subst (λ (s : Status). SweepSays (outlet g.O.Ends g.K.Keeper c.args.output.now c.args.keeper) (outlet g.O.Ends g.K.Keeper c.sweep.new.output c.sweep.result.keeper) s) is
+    (sweep_says (outlet g.O.Ends g.K.Keeper c.args.output.now c.args.keeper) (outlet g.O.Ends g.K.Keeper c.sweep.new.output c.sweep.result.keeper)
+    c.sweep.result.status c.sweep.result.site c.sweep.ensures.sweeps))
+
+pub returns-in-Ok-Some-Sweep-clause-write : goal.returns-in-Ok-Some-Sweep-clause-write
+returns-in-Ok-Some-Sweep-clause-write g c = λ is.
+    subst (λ (s : Status). SweepSays (outlet g.O.Ends g.K.Keeper c.args.output.now c.args.keeper) (outlet g.O.Ends g.K.Keeper c.sweep.new.output c.sweep.result.keeper) s) is
+    (sweep_says (outlet g.O.Ends g.K.Keeper c.args.output.now c.args.keeper) (outlet g.O.Ends g.K.Keeper c.sweep.new.output c.sweep.result.keeper)
+    c.sweep.result.status c.sweep.result.site c.sweep.ensures.sweeps)
+
+pub returns-in-Ok-Some-Sweep-clause-store : goal.returns-in-Ok-Some-Sweep-clause-store
+returns-in-Ok-Some-Sweep-clause-store g c = λ is.
+    subst (λ (s : Status). SweepSays (outlet g.O.Ends g.K.Keeper c.args.output.now c.args.keeper) (outlet g.O.Ends g.K.Keeper c.sweep.new.output c.sweep.result.keeper) s) is
+    (sweep_says (outlet g.O.Ends g.K.Keeper c.args.output.now c.args.keeper) (outlet g.O.Ends g.K.Keeper c.sweep.new.output c.sweep.result.keeper)
+    c.sweep.result.status c.sweep.result.site c.sweep.ensures.sweeps)
+
+pub returns-in-Ok-Some-Sweep-clause-door : goal.returns-in-Ok-Some-Sweep-clause-door
+returns-in-Ok-Some-Sweep-clause-door g c = λ is.
+    absurd (subst (λ (s : Status). SweepSays (outlet g.O.Ends g.K.Keeper c.args.output.now c.args.keeper) (outlet g.O.Ends g.K.Keeper c.sweep.new.output c.sweep.result.keeper) s) is
+    (sweep_says (outlet g.O.Ends g.K.Keeper c.args.output.now c.args.keeper) (outlet g.O.Ends g.K.Keeper c.sweep.new.output c.sweep.result.keeper)
+    c.sweep.result.status c.sweep.result.site c.sweep.ensures.sweeps))
