@@ -6,7 +6,7 @@ ghost use Rattle.nf_base.specs.declared.limits.TheConstants.{MAX_QUOTA};
 ghost use Rattle.nf_base.specs.Naming.{IsName};
 ghost use Rattle.nf_command.specs.Command.{IsBatch, IsCommand, IsInit, IsServe, IsSomeServe, IsSweep};
 ghost use Rattle.nf_command.specs.First.{first_rows, init_rows};
-ghost use Rattle.nf_command.specs.Reading.{IsNearlyInit};
+ghost use Rattle.nf_command.specs.Reading.{MayTakeMemory};
 ghost use Rattle.nf_desk.specs.Desk.{meanings, shown};
 ghost use Rattle.nf_outside.specs.Causes.{Rose};
 ghost use Rattle.nf_outside.specs.Lent.{lent, takes};
@@ -79,9 +79,9 @@ where
     D::Sink: Send,
     requires workers { length workers.old < MAX_SEATS }
     ensures words { result.status ≡ exit.Words → IsCommand (map string_bytes words.now) → ⊥ }
-    // Memory can be wanting for the name of an `init` that is right but for its name.
+    // Memory can be wanting for the name of an `init` that is right but for its name, and for the words behind `serve`.
     ensures no_command { (IsCommand (map string_bytes words.now) → ⊥)
-        → (result.status ≡ exit.Words) ⊎ ((result.status ≡ exit.Memory) × IsNearlyInit (map string_bytes words.now)) }
+        → (result.status ≡ exit.Words) ⊎ ((result.status ≡ exit.Memory) × MayTakeMemory (map string_bytes words.now)) }
     ensures batch { IsBatch (map string_bytes words.now) → Runs (takes C.reads Q.draws)
         (outside S.Ends O.Ends K.Keeper input.old output.old keeper (lent clock.old dice.old))
         (outside S.Ends O.Ends K.Keeper input.new output.new result.keeper (lent clock.new dice.new)) result.status result.site }

@@ -1,4 +1,8 @@
+mod Numbered
 mod Numbers
+mod Parses
 pub mod Readings
+mod Refusals
+mod Three
 pub mod Unbroken
 mod Words

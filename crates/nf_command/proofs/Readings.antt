@@ -6,7 +6,7 @@ use Rattle.std.proofs.lemmas.Fmt.{decimal_injective}
 use Rattle.sha2.specs.Sha256.{sha256}
 use Rattle.nf_base.specs.declared.limits.TheConstants.{MAX_QUOTA}
 use Rattle.nf_command.specs.Command.{IsBatch, IsCommand, IsInit, IsServe, IsSomeInit, IsSomeServe, IsSweep}
-use Rattle.nf_command.specs.Reading.{GivesInit, GivesServe, IsNearlyInit, ReadsCommand}
+use Rattle.nf_command.specs.Reading.{GivesInit, GivesServe, MayTakeMemory, ReadsCommand}
 use Rattle.nf_command.specs.declared.command.Command.{Command}
 use Rattle.nf_command.specs.declared.command.Command.TheVariants as commands
 use Rattle.nf_command.proofs.Words.{begins, goes_on, is_said, serve_begins, serve_goes_on}
@@ -19,7 +19,8 @@ batch_is_read words (Ok (Some (commands.Serve n))) batch reads =
     absurd (omega (arith, serve_begins words n reads.spelled, ap begins batch))
 batch_is_read words (Ok (Some commands.Sweep)) batch reads = absurd (omega (arith, ap begins batch, ap begins reads))
 batch_is_read words (Ok None) batch reads = absurd (reads (inl batch))
-batch_is_read words (Err error) batch reads = absurd (cc (sym batch ∙ reads.3))
+batch_is_read words (Err error) batch (inl reads) = absurd (cc (sym batch ∙ reads.3))
+batch_is_read words (Err error) batch (inr reads) = absurd (omega (arith, ap begins batch, ap begins reads.1))
 
 -- the words say one name, one token and one quota
 same_init : (name token : List ℕ) (quota : ℕ) (other secret : List ℕ) (number : ℕ) → quota ≤ MAX_QUOTA → number ≤ MAX_QUOTA
@@ -54,8 +55,7 @@ serve_is_read words n (Ok (Some (commands.Serve m))) is reads =
 serve_is_read words n (Ok (Some commands.Sweep)) is reads =
     absurd (omega (arith, serve_goes_on words n is.spelled, ap goes_on reads))
 serve_is_read words n (Ok None) is reads = reads (inr (inr (inl (n, is))))
-serve_is_read words n (Err error) is reads =
-    absurd (omega (arith, serve_begins words n is.spelled, ap begins reads.3))
+serve_is_read words n (Err error) is reads = tt
 
 pub sweep_is_read : (words : List (List ℕ)) (read : Result (Option Command) AllocError) → IsSweep words → ReadsCommand words read
     → read ≡ Ok (Some commands.Sweep)
@@ -65,7 +65,8 @@ sweep_is_read words (Ok (Some (commands.Serve n))) sweep reads =
     absurd (omega (arith, serve_goes_on words n reads.spelled, ap goes_on sweep))
 sweep_is_read words (Ok (Some commands.Sweep)) sweep reads = refl
 sweep_is_read words (Ok None) sweep reads = absurd (reads (inr (inr (inr sweep))))
-sweep_is_read words (Err error) sweep reads = absurd (cc (sym sweep ∙ reads.3))
+sweep_is_read words (Err error) sweep (inl reads) = absurd (cc (sym sweep ∙ reads.3))
+sweep_is_read words (Err error) sweep (inr reads) = absurd (omega (arith, ap goes_on sweep, ap goes_on reads.1))
 
 no_other : (words : List (List ℕ)) → IsSweep words → IsBatch words ⊎ (IsSomeInit words ⊎ IsSomeServe words) → ⊥
 no_other words sweep (inl batch) = omega (arith, ap begins sweep, ap begins batch)
@@ -83,7 +84,7 @@ commands_exclude words = (
 )
 
 pub others_are_refused : (words : List (List ℕ)) (read : Result (Option Command) AllocError) → (IsCommand words → ⊥)
-    → ReadsCommand words read → MatchResult read (λ command. command ≡ None) (λ error. IsNearlyInit words)
+    → ReadsCommand words read → MatchResult read (λ command. command ≡ None) (λ error. MayTakeMemory words)
 others_are_refused words (Ok (Some commands.Batch)) none reads = absurd (none (inl reads))
 others_are_refused words (Ok (Some (commands.Init init))) none reads =
     absurd (none (inr (inl (init.name, reads.0, init.quota, reads.1))))

@@ -1,6 +1,7 @@
 -- The words of the command line: what is a command, and what isn't.
 use Rattle.std.specs.Prelude.{◌≡◌, ◌⊎◌, ℕ, ◌≤◌, All, List, [], ◌∷◌, ◌++◌, codes, decimal, length, slice_index}
-use Rattle.nf_command.specs.declared.command.TheConstants.{DEFAULT_CONNECTIONS, MAX_CONNECTIONS, MAX_TOKEN}
+use Rattle.nf_command.specs.declared.command.TheConstants.{MAX_TOKEN}
+use Rattle.nf_command.specs.declared.options.TheConstants.{DEFAULT_CONNECTIONS, MAX_CONNECTIONS}
 use Rattle.nf_base.specs.declared.limits.TheConstants.{MAX_QUOTA}
 use Rattle.nf_base.specs.Naming.{IsName}
 

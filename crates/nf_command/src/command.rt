@@ -1,24 +1,21 @@
 //! The words of the command line.
 
-ghost use Rattle.std.specs.Prelude.{◌≡◌, ℕ, ◌∷◌, [], ◌↔◌, IsTrue, MatchOption, map};
+ghost use Rattle.std.specs.Prelude.{◌≡◌, ℕ, ◌∷◌, [], ◌↔◌, IsTrue, MatchOption, codes, map, true};
 ghost use Rattle.std.specs.Char.{is_ascii_graphic};
 ghost use Rattle.std.specs.List.{list_all};
 ghost use Rattle.std.specs.String.{string_bytes};
-ghost use Rattle.nf_command.specs.Command.{IsOption, IsSecret, IsServe};
-ghost use Rattle.nf_command.specs.Reading.{ReadsCommand};
+ghost use Rattle.nf_command.specs.Behind.{IsQuota, is_operand};
+ghost use Rattle.nf_command.specs.Command.{IsOption, IsSecret};
+ghost use Rattle.nf_command.specs.Reading.{IsNearlyInit, ReadsCommand};
 
 use crate::number::number_of;
+use crate::operands::{Operands, operands_of};
+use crate::options::connections_of;
 use nf_base::{Digest, MAX_QUOTA, Name, NameFault};
 use std::alloc::{AllocError, Global};
 
 /// The most bytes of a token.
 const MAX_TOKEN: usize = 128;
-
-/// The most connections of a worker where the words don't say it.
-const DEFAULT_CONNECTIONS: u64 = 1_000;
-
-/// The most that they may say.
-const MAX_CONNECTIONS: u64 = 1_000_000;
 
 /// What the words of the command line ask for.
 #[derive(Drop)]
@@ -53,17 +50,9 @@ pub fn command_of(alloc: Global, words: &[String]) -> Result<Option<Command>, Al
     if is_only(words, "sweep") {
         return Ok(Some(Command::Sweep));
     }
-    if let Some(connections) = serve_of(words) {
-        return Ok(Some(Command::Serve { connections }));
-    }
     match words {
-        [word, name, token, quota] => init_of(
-            alloc,
-            word.as_str(),
-            name.as_str(),
-            token.as_str(),
-            quota.as_str(),
-        ),
+        [word, others @ ..] if word.as_str() == "init" => init_of(alloc, others),
+        [word, others @ ..] if word.as_str() == "serve" => serve_of(alloc, others),
         _ => Ok(None),
     }
 }
@@ -78,56 +67,74 @@ fn is_only(words: &[String], text: &str) -> bool
     }
 }
 
-// How many connections a `serve` says.
-fn serve_of(words: &[String]) -> Option<u64>
-    ensures { MatchOption result
-        ((n : ℕ) → IsServe (map string_bytes words.now) n → ⊥)
-        (λ n. IsServe (map string_bytes words.now) n) }
+// The `serve` that the words behind it say.
+fn serve_of(alloc: Global, words: &[String]) -> Result<Option<Command>, AllocError>
+    ensures { ReadsCommand (codes "serve" ∷ map string_bytes words.now) result }
 {
-    let [word, options @ ..] = words else {
-        return None;
-    };
-    if word.as_str() != "serve" {
-        return None;
-    }
-    match options {
-        [] => Some(DEFAULT_CONNECTIONS),
-        [option] => number_of(
-            option.as_str().strip_prefix("--connections=")?,
-            1,
-            MAX_CONNECTIONS,
-        ),
-        [option, number] if option.as_str() == "--connections" => {
-            number_of(number.as_str(), 1, MAX_CONNECTIONS)
-        }
-        _ => None,
+    match connections_of(alloc, words)? {
+        Some(connections) => Ok(Some(Command::Serve { connections })),
+        None => Ok(None),
     }
 }
 
-fn init_of(
-    alloc: Global,
-    word: &str,
-    name: &str,
-    token: &str,
-    quota: &str,
-) -> Result<Option<Command>, AllocError>
-    ensures { ReadsCommand (word.now ∷ name.now ∷ token.now ∷ quota.now ∷ []) result }
+// The `init` that the words behind it say.
+fn init_of(alloc: Global, words: &[String]) -> Result<Option<Command>, AllocError>
+    ensures { ReadsCommand (codes "init" ∷ map string_bytes words.now) result }
 {
-    if word != "init" || is_option(name) || is_option(token) || !is_secret(token.as_bytes()) {
-        return Ok(None);
+    match operands_of(alloc, words) {
+        Ok(Some(operands)) => judged(alloc, &operands),
+        Ok(None) => Ok(None),
+        // Memory was wanting, and clap has said nothing of the words.
+        Err(error) if is_nearly_init(words) => Err(error),
+        Err(_) => Ok(None),
     }
-    let Some(quota) = number_of(quota, 0, MAX_QUOTA) else {
+}
+
+// The same of three operands.
+fn judged(alloc: Global, operands: &Operands<'_>) -> Result<Option<Command>, AllocError>
+    requires name { is_operand operands.now.name.now ≡ true }
+    requires token { is_operand operands.now.token.now ≡ true }
+    ensures { ReadsCommand (codes "init" ∷ operands.now.name.now ∷ operands.now.token.now ∷ operands.now.quota.now ∷ []) result }
+{
+    let token = operands.token.as_bytes();
+    let Some(quota) = quota_of(token, operands.quota) else {
         return Ok(None);
     };
-    match Name::read(alloc, name.as_bytes()) {
+    match Name::read(alloc, operands.name.as_bytes()) {
         Ok(name) => Ok(Some(Command::Init(Init {
             name,
-            token: Digest::of(token.as_bytes()),
+            token: Digest::of(token),
             quota,
         }))),
         Err(NameFault::Memory) => Err(AllocError),
         Err(_) => Ok(None),
     }
+}
+
+// Whether they are those of an `init`, but for the name.
+fn is_nearly_init(words: &[String]) -> bool
+    ensures { IsTrue result ↔ IsNearlyInit (codes "init" ∷ map string_bytes words.now) }
+{
+    match words {
+        [name, token, quota] => {
+            !is_option(name.as_str())
+                && !is_option(token.as_str())
+                && quota_of(token.as_bytes(), quota.as_str()).is_some()
+        }
+        _ => false,
+    }
+}
+
+// The quota, where it and the token are right.
+fn quota_of(token: &[u8], quota: &str) -> Option<u64>
+    ensures { MatchOption result
+        ((n : ℕ) → IsQuota token.now quota.now n → ⊥)
+        (λ n. IsQuota token.now quota.now n) }
+{
+    if !is_secret(token) {
+        return None;
+    }
+    number_of(quota, 0, MAX_QUOTA)
 }
 
 // Whether it begins as an option does. There is none.

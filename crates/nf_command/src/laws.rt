@@ -10,7 +10,7 @@ ghost use Rattle.nf_base.specs.declared.rows.Row.TheVariants.{Meta};
 ghost use Rattle.nf_rules.specs.Rules.{AreUnbroken};
 ghost use Rattle.nf_command.specs.Command.{IsBatch, IsCommand, IsInit, IsServe, IsSomeInit, IsSomeServe, IsSweep};
 ghost use Rattle.nf_command.specs.First.{init_rows};
-ghost use Rattle.nf_command.specs.Reading.{GivesInit, GivesServe, IsNearlyInit, ReadsCommand};
+ghost use Rattle.nf_command.specs.Reading.{GivesInit, GivesServe, MayTakeMemory, ReadsCommand};
 ghost use Rattle.nf_command.specs.declared.command.Command.{Command};
 ghost use Rattle.nf_command.specs.declared.command.Command.TheVariants.{Batch, Sweep};
 
@@ -24,7 +24,7 @@ pub fn init_is_read()
     ensures { (words : List (List ℕ)) (name : List ℕ) (token : List ℕ) (quota : ℕ) (read : Result (Option Command) AllocError) → IsInit words name token quota → ReadsCommand words read → GivesInit read name token quota }
 {}
 
-/// Those of a `serve` are always read as one, of as many connections.
+/// Those of a `serve` are read as one, of as many connections, but for want of memory.
 pub fn serve_is_read()
     ensures { (words : List (List ℕ)) (n : ℕ) (read : Result (Option Command) AllocError) → IsServe words n → ReadsCommand words read → GivesServe read n }
 {}
@@ -39,9 +39,9 @@ pub fn commands_exclude()
     ensures { (words : List (List ℕ)) → (IsBatch words → IsSomeInit words → ⊥) × (IsBatch words → IsSomeServe words → ⊥) × (IsSomeInit words → IsSomeServe words → ⊥) × (IsSweep words → IsBatch words ⊎ (IsSomeInit words ⊎ IsSomeServe words) → ⊥) }
 {}
 
-/// Words that are no command are told so, or they are those of an `init` but for the name, and memory was wanting.
+/// Words that are no command are told so, or they are those of an `init` but for the name or begin as a `serve`, and memory was wanting.
 pub fn others_are_refused()
-    ensures { (words : List (List ℕ)) (read : Result (Option Command) AllocError) → (IsCommand words → ⊥) → ReadsCommand words read → MatchResult read (λ command. command ≡ None) (λ error. IsNearlyInit words) }
+    ensures { (words : List (List ℕ)) (read : Result (Option Command) AllocError) → (IsCommand words → ⊥) → ReadsCommand words read → MatchResult read (λ command. command ≡ None) (λ error. MayTakeMemory words) }
 {}
 
 /// The rows that a store begins with break no rule.

@@ -5,6 +5,9 @@ mod command;
 mod first;
 pub mod laws;
 mod number;
+mod operands;
+mod options;
+mod parsers;
 
 pub use command::{Command, Init, command_of};
 pub use first::init_rows;

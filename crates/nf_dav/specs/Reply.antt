@@ -15,6 +15,7 @@ use Rattle.nf_words.specs.declared.answer.Denial.TheVariants as denial
 use Rattle.nf_routes.specs.Methods.{allow_of}
 use Rattle.nf_words.specs.declared.answer.Limit.{Limit}
 use Rattle.nf_words.specs.declared.answer.Limit.TheVariants as limit
+use Rattle.nf_words.specs.declared.answer.Excess.{Excess}
 use Rattle.nf_words.specs.declared.answer.LockKey.{LockKey}
 use Rattle.nf_words.specs.declared.answer.LockKey.TheVariants.{Node, Slot}
 use Rattle.nf_words.specs.declared.answer.Parameter.{Parameter}
@@ -58,6 +59,7 @@ status_of denial.Coding = codes "501 Not Implemented"
 status_of denial.NotBuilt = codes "501 Not Implemented"
 status_of denial.Memory = codes "503 Service Unavailable"
 status_of (denial.Limit limit) = codes "507 Insufficient Storage"
+status_of (denial.Quota excess) = codes "507 Insufficient Storage"
 
 -- its reason
 abbrev pub reason_of : Denial → List ℕ
@@ -88,6 +90,7 @@ reason_of denial.Coding = codes "coding"
 reason_of denial.NotBuilt = codes "not-built"
 reason_of denial.Memory = codes "memory"
 reason_of (denial.Limit limit) = codes "limit"
+reason_of (denial.Quota excess) = codes "quota"
 
 -- the word of a bad name's fault
 abbrev pub fault_word : NameFault → List ℕ
@@ -207,6 +210,13 @@ limit_object count which =
     (member (codes "count") (number (unsigned count))
     (member (codes "reason") (string (codes "limit")) (member (codes "which") (string which) no_members)))
 
+abbrev pub quota_object : Excess → Data
+quota_object excess =
+    object
+    (member (codes "charge") (number (unsigned excess.charge))
+    (member (codes "quota") (number (unsigned excess.quota))
+    (member (codes "reason") (string (codes "quota")) (member (codes "size") (number (unsigned excess.size)) no_members))))
+
 abbrev pub locked_object : LockKey → Data
 locked_object (Node node) = object (member (codes "node") (number (unsigned node)) (member (codes "reason") (string (codes "locked")) no_members))
 locked_object (Slot folder name) =
@@ -227,6 +237,7 @@ refusal_object (denial.Rule rule) = rule_object (rule_word rule)
 refusal_object (denial.Damaged damage) = damage_object damage.blob
 refusal_object (denial.Locked key) = locked_object key
 refusal_object (denial.Limit l) = limit_object (count_of l) (limit_word l)
+refusal_object (denial.Quota excess) = quota_object excess
 refusal_object other = reason_object (reason_of other)
 
 -- the number of its status
@@ -258,6 +269,7 @@ code_of denial.Coding = 501
 code_of denial.NotBuilt = 501
 code_of denial.Memory = 503
 code_of (denial.Limit limit) = 507
+code_of (denial.Quota excess) = 507
 
 -- the envelope of an answer to an OCS request that is refused
 abbrev pub meta_object : List ℕ → ℕ → Data

@@ -3,13 +3,13 @@
 ghost use Rattle.std.specs.Prelude.{◌≡◌, IfOk};
 ghost use Rattle.std.specs.String.{string_bytes};
 ghost use Rattle.serde_json.specs.View.{view};
-ghost use Rattle.nf_dav.specs.Reply.{envelope as envelope_of, locked_object, meta_object, refusal_body, refusal_object};
+ghost use Rattle.nf_dav.specs.Reply.{envelope as envelope_of, locked_object, meta_object, quota_object, refusal_body, refusal_object};
 
 use crate::words::{
     cause_word, code, fault_word, field_word, limit_word, link_word, reason, rule_word,
 };
 use nf_json::{Said, object_of, text_of};
-use nf_words::{Denial, LockKey};
+use nf_words::{Denial, Excess, LockKey};
 use serde_json::{Map, Value, put};
 use std::alloc::{AllocError, Global};
 
@@ -91,8 +91,24 @@ fn refusal_value(alloc: Global, denial: &Denial) -> Result<Value, AllocError>
             let which = Said::Text(limit_word(*limit));
             object_of(alloc, &[("count", count), reason, ("which", which)])
         }
+        Denial::Quota(excess) => quota_value(alloc, excess),
         _ => object_of(alloc, &[reason]),
     }
+}
+
+/// What would pass a quota.
+fn quota_value(alloc: Global, excess: &Excess) -> Result<Value, AllocError>
+    ensures { IfOk result (λ value. view value ≡ quota_object excess.now) }
+{
+    object_of(
+        alloc,
+        &[
+            ("charge", Said::Number(excess.charge)),
+            ("quota", Said::Number(excess.quota)),
+            ("reason", Said::Text("quota")),
+            ("size", Said::Number(excess.size)),
+        ],
+    )
 }
 
 /// What is held: a node, or a name in a folder.

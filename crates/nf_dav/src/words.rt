@@ -31,7 +31,7 @@ pub fn status(denial: &Denial) -> &'static str
         Denial::Store | Denial::Damaged(_) | Denial::RunFull => "500 Internal Server Error",
         Denial::Coding | Denial::NotBuilt => "501 Not Implemented",
         Denial::Memory => "503 Service Unavailable",
-        Denial::Limit(_) => "507 Insufficient Storage",
+        Denial::Limit(_) | Denial::Quota(_) => "507 Insufficient Storage",
     }
 }
 
@@ -59,7 +59,7 @@ pub fn code(denial: &Denial) -> u16
         Denial::Store | Denial::Damaged(_) | Denial::RunFull => 500,
         Denial::Coding | Denial::NotBuilt => 501,
         Denial::Memory => 503,
-        Denial::Limit(_) => 507,
+        Denial::Limit(_) | Denial::Quota(_) => 507,
     }
 }
 
@@ -95,6 +95,7 @@ pub fn reason(denial: &Denial) -> &'static str
         Denial::NotBuilt => "not-built",
         Denial::Memory => "memory",
         Denial::Limit(_) => "limit",
+        Denial::Quota(_) => "quota",
     }
 }
 

@@ -12,3 +12,4 @@ pub mod Joining
 pub mod Askers
 pub mod Faults
 pub mod Letters
+pub mod Leaves

@@ -1,13 +1,15 @@
 -- Tests that answer exactly as rules do.
+use Rattle.std.specs.Option.{option_or}
 use Rattle.std.specs.Prelude.{◌≡◌, ◌≢◌, true, List, [], ◌∷◌, Option, None, Some, IsSome, IfSome, option_map, Result, Ok, Err}
 use Rattle.nf_access.specs.Shares.{ground_of}
 use Rattle.nf_defs.specs.Access.{Access}
 use Rattle.nf_defs.specs.Prelude.{node_row, Tables}
 use Rattle.nf_reach.specs.Asking.{Asking}
-use Rattle.nf_words.specs.Prelude.{asked_by, Call, earlier_rules, exists_rule, first_that_holds, is_mount_asked, key_in_way, later_rules, overwrite_rule, places_of, root_of, Rule, seeker_of, sharing_rule, target_rule, touches, transfer_of, ways_of}
+use Rattle.nf_words.specs.Prelude.{asked_by, Call, earlier_rules, exists_rule, first_that_holds, is_mount_asked, key_in_way, later_rules, limited, overwrite_rule, places_of, root_of, Rule, seeker_of, sharing_rule, target_rule, touches, transfer_of, ways_of}
 use Rattle.nf_words.specs.declared.answer.Denial.{Denial}
 use Rattle.nf_words.specs.declared.answer.Denial.TheVariants as denial
-use Rattle.nf_words.specs.Sharing.{offered}
+use Rattle.nf_words.specs.declared.answer.Limit.{Limit}
+use Rattle.nf_words.specs.Sharing.{limit_by, offered}
 use Rattle.nf_words.specs.declared.request.Offer.{Offer}
 use Rattle.nf_words.specs.declared.request.Places.{Places}
 use Rattle.nf_words.specs.declared.request.ShareAsk.{ShareAsk}
@@ -40,6 +42,10 @@ abbrev pub locked_at : Call → Places → Option Denial
 locked_at call places =
     option_map denial.Locked
     (key_in_way call.state.tables.nodes call.seat (touches call.state.tables.nodes (asked_by call) places) call.state.tickets)
+
+-- the limit that is passed, by where the paths were found to lead: of nodes and pieces, or else of shares, mounts and people
+abbrev pub passed_at : Call → Places → Option Limit
+passed_at call places = option_or (limited call.state.tables places (asked_by call).makes) (limit_by call call.request.wanted)
 
 -- who asks, with the rows that access goes by
 abbrev pub asking_of : Call → Asking

@@ -1,15 +1,16 @@
 //! The rules that refuse a request, and what a request that none of them refuses may do.
 
-ghost use Rattle.std.specs.Prelude.{◌≡◌, ◌≤◌, IfOk, IfSome, OnOk, None, Some, false, length, option_and_then, option_copied};
+ghost use Rattle.std.specs.Prelude.{◌≡◌, ◌≤◌, IfOk, IfSome, OnOk, None, Some, false, length, option_and_then, option_copied, option_map};
 ghost use Rattle.std.specs.Option.{option_map_or, option_or};
 ghost use Rattle.nf_base.specs.declared.limits.TheConstants.{MAX_DEPTH};
 ghost use Rattle.nf_defs.specs.Prelude.{found_from, is_folder, user_row};
-ghost use Rattle.nf_words.specs.Prelude.{access_of, acts_rule, allowed_of, AreSound, asked_by, call_decision, exists_rule, forbidden_rule, is_there, limit_at, limited, link_of, overwrite_rule, place_rule, places_of, root_of, seeker_of, served, shared, target_rule, ways_of};
+ghost use Rattle.nf_words.specs.Prelude.{access_of, acts_rule, allowed_of, AreSound, asked_by, call_decision, exceeded, excess_at, exists_rule, forbidden_rule, is_there, limit_at, limited, link_of, overwrite_rule, place_rule, places_of, root_of, seeker_of, served, shared, target_rule, ways_of};
 ghost use Rattle.nf_words.specs.People.{people_changed};
 ghost use Rattle.nf_words.specs.Sharing.{limit_by, offer_limit};
 ghost use Rattle.nf_words.specs.declared.answer.Allowed.TheVariants as allowed;
+ghost use Rattle.nf_words.specs.declared.answer.Denial.TheVariants.{Limit as TheLimit, Quota};
 ghost use Rattle.nf_words.specs.declared.answer.Report.TheVariants as report;
-ghost use Rattle.nf_decide.specs.Deciding.{Follows, IsNamed, IsThere, asking_of, early_refusal, late_refusal, locked_at, offer_by, offer_in, place_refusal};
+ghost use Rattle.nf_decide.specs.Deciding.{Follows, IsNamed, IsThere, asking_of, early_refusal, late_refusal, locked_at, offer_by, offer_in, passed_at, place_refusal};
 
 use crate::acting::{copied, deleted, made_folder, moved, stored};
 use crate::asked::{is_forbidden, is_kept, is_transfer, node_at};
@@ -18,6 +19,7 @@ use crate::locking::locked;
 use crate::mounting::mount_itself;
 use crate::nodes::is_folder;
 use crate::people::{people_changed, people_limit};
+use crate::quotas::{carry_excess, copy_excess, excess_at};
 use crate::transferring::{transfer_of, unfit};
 use crate::view::View;
 use nf_base::{Moment, NodeId, ShareRow};
@@ -25,8 +27,8 @@ use nf_defs::{Found, Seeker};
 use nf_reach::{Asker, Way, Ways};
 use nf_tree::Tree;
 use nf_words::{
-    Allowed, By, Denial, Limit, Making, Offer, PeopleAsk, Places, Report, Request, Route, ShareAsk,
-    Wanted, Words,
+    Allowed, By, Denial, Excess, Limit, Making, Offer, PeopleAsk, Places, Report, Request, Route,
+    ShareAsk, Wanted, Words,
 };
 use std::alloc::{AllocError, Global};
 use std::marker::Model;
@@ -81,7 +83,7 @@ impl<'a> Call<'a> {
         }
     }
 
-    /// The rules behind those that are judged: the locks, then the limits. These alone take memory.
+    /// The rules behind those that are judged: the locks, then the limits, then the quotas. These alone take memory.
     fn late(
         &self,
         alloc: Global,
@@ -96,8 +98,26 @@ impl<'a> Call<'a> {
     {
         match self.locked(alloc, places)? {
             Some(refusal) => Ok(Some(refusal)),
-            None => match self.passed(alloc, places, offer)? {
-                Some(limit) => Ok(Some(Denial::Limit(limit))),
+            None => self.beyond(alloc, places, offer),
+        }
+    }
+
+    /// The limit that the step would pass, or else how it would pass a quota.
+    fn beyond(
+        &self,
+        alloc: Global,
+        places: &Places,
+        offer: &Option<Offer>,
+    ) -> Result<Option<Denial>, AllocError>
+        requires sound { AreSound self.now.state.tables }
+        requires offer { offer.now ≡ offer_in self.now self.now.request.wanted }
+        requires there { IsThere self.now.state.tables offer.now }
+        ensures { IfOk result (λ refusal. refusal ≡ option_or (option_map TheLimit (passed_at self.entry.now places.now)) (option_map Quota (exceeded self.entry.now.state.tables places.now (asked_by self.entry.now).makes))) }
+    {
+        match self.passed(alloc, places, offer)? {
+            Some(limit) => Ok(Some(Denial::Limit(limit))),
+            None => match self.exceeded(alloc, places)? {
+                Some(excess) => Ok(Some(Denial::Quota(excess))),
                 None => Ok(None),
             },
         }
@@ -113,7 +133,7 @@ impl<'a> Call<'a> {
         requires sound { AreSound self.now.state.tables }
         requires offer { offer.now ≡ offer_in self.now self.now.request.wanted }
         requires there { IsThere self.now.state.tables offer.now }
-        ensures { IfOk result (λ limit. limit ≡ option_or (limited self.entry.now.state.tables places.now (asked_by self.entry.now).makes) (limit_by self.entry.now self.entry.now.request.wanted)) }
+        ensures { IfOk result (λ limit. limit ≡ passed_at self.entry.now places.now) }
     {
         match self.limit(alloc, places)? {
             Some(limit) => Ok(Some(limit)),
@@ -319,6 +339,26 @@ impl<'a> Call<'a> {
         }
     }
 
+    /// How the step would pass the quota of who is charged for it.
+    fn exceeded(&self, alloc: Global, places: &Places) -> Result<Option<Excess>, AllocError>
+        requires { AreSound self.now.state.tables }
+        ensures { IfOk result (λ excess. excess ≡ exceeded self.entry.now.state.tables places.now (asked_by self.entry.now).makes) }
+    {
+        let view = &self.view;
+        match self.request.wanted.asked().makes {
+            Making::Nothing | Making::Folder | Making::Shared | Making::Told => Ok(None),
+            Making::File { length } => Ok(excess_there(view, places.target, length)),
+            Making::Moved => match transfer_of(view.tree(), places) {
+                Some(transfer) => carry_excess(alloc, view, &transfer),
+                None => Ok(None),
+            },
+            Making::Copied => match transfer_of(view.tree(), places) {
+                Some(transfer) => copy_excess(alloc, view, &transfer),
+                None => Ok(None),
+            },
+        }
+    }
+
     /// What the act does where its paths lead. It copies what the step keeps.
     fn allowed(&self, alloc: Global, seen: &Seen) -> Result<Allowed, AllocError>
         requires sound { AreSound self.now.state.tables }
@@ -467,4 +507,11 @@ fn limit_there(view: &View<'_>, place: Option<Found>, pieces: u64) -> Option<Lim
     ensures { result ≡ option_and_then (limit_at view.now.tables pieces) place }
 {
     limit_at(view, &place?, pieces)
+}
+
+fn excess_there(view: &View<'_>, place: Option<Found>, length: u64) -> Option<Excess>
+    requires { AreSound view.now.tables }
+    ensures { result ≡ option_and_then (excess_at view.now.tables length) place }
+{
+    excess_at(view, &place?, length)
 }

@@ -8,15 +8,16 @@ ghost use Rattle.nf_base.specs.declared.rows.NodeKind.TheVariants.{File};
 ghost use Rattle.nf_defs.specs.Tree.{filled, is_file, is_folder_kind, node_row};
 ghost use Rattle.nf_words.specs.declared.answer.Allowed.TheVariants.{Change};
 ghost use Rattle.nf_words.specs.declared.answer.Report.TheVariants.{Done};
-ghost use Rattle.nf_words.specs.Prelude.{access_of, AreSound, blob_for, content_in, end_lost, end_refusal, ends_goal, IsGoalSound, IsHeld, IsStorable, limit_at, makes, MayBring, needed_by, new_node, node_of_key, pieces_of, place_of, refilled, stored_at, stores};
+ghost use Rattle.nf_words.specs.Prelude.{access_of, AreSound, blob_for, content_in, end_lost, end_refusal, end_unfit, ends_goal, excess_at, IsGoalSound, IsHeld, IsStorable, limit_at, makes, MayBring, needed_by, new_node, node_of_key, pieces_of, place_of, refilled, stored_at, stores};
 ghost use Rattle.nf_words.specs.declared.answer.By.{By as TheBy};
-ghost use Rattle.nf_words.specs.declared.answer.Denial.TheVariants.{Limit, NotFound};
+ghost use Rattle.nf_words.specs.declared.answer.Denial.TheVariants.{Limit, NotFound, Quota};
 ghost use Rattle.nf_reach.specs.Asking.{refusal_for};
 ghost use Rattle.nf_decide.specs.Ending.{unreached_unless_owner};
 
 use crate::acting::{makes, new_node, only};
 use crate::limits::{limit_at, pieces_of};
 use crate::nodes::{is_root, owner_of};
+use crate::quotas::excess_at;
 use crate::view::View;
 use nf_base::{
     Act, BlobId, Changes, Content, Digest, Moment, Name, NodeId, NodeKind, NodeRow, Piece,
@@ -70,7 +71,7 @@ fn store(
     }
 }
 
-/// The first rule that refuses the End of a PUT: those of access, of a name that a mount took, and of the limits.
+/// The first rule that refuses the End of a PUT: those of access, of a name that a mount took, of the limits and of the quotas.
 fn end_refusal(
     view: &View<'_>,
     moment: Moment,
@@ -87,7 +88,7 @@ fn end_refusal(
         Some(refusal) => Some(refusal),
         None => match end_unallowed(&asker, by.mount, key) {
             Some(refusal) => Some(refusal),
-            None => end_unfit(view, key, length),
+            None => end_lost(view, key, length),
         },
     }
 }
@@ -122,15 +123,27 @@ fn end_unallowed(asker: &Asker<'_>, mount: Option<NodeId>, key: &LockKey) -> Opt
     }
 }
 
-/// What doesn't fit any more: a mount took the name meanwhile, or a limit would be passed.
-fn end_unfit(view: &View<'_>, key: &LockKey, length: u64) -> Option<Denial>
-    ensures { result ≡ option_or (end_lost view.now.tables key.now) (option_map Limit (limit_at view.now.tables (pieces_of length) (place_of key.now))) }
+/// What isn't so any more: a mount took the name meanwhile, or the body doesn't fit.
+fn end_lost(view: &View<'_>, key: &LockKey, length: u64) -> Option<Denial>
+    requires { AreSound view.now.tables }
+    ensures { result ≡ option_or (end_lost view.now.tables key.now) (end_unfit view.now.tables key.now length) }
 {
     if is_mounted(view, key) {
-        return Some(Denial::NotFound);
+        Some(Denial::NotFound)
+    } else {
+        end_unfit(view, &place_of(key), length)
     }
-    let limit = limit_at(view, &place_of(key), pieces_of(length))?;
-    Some(Denial::Limit(limit))
+}
+
+/// The limit that a body would pass there, or else how it would pass a quota.
+fn end_unfit(view: &View<'_>, place: &Found, length: u64) -> Option<Denial>
+    requires { AreSound view.now.tables }
+    ensures { result ≡ option_or (option_map Limit (limit_at view.now.tables (pieces_of length) place.now)) (option_map Quota (excess_at view.now.tables length place.now)) }
+{
+    match limit_at(view, place, pieces_of(length)) {
+        Some(limit) => Some(Denial::Limit(limit)),
+        None => Some(Denial::Quota(excess_at(view, place, length)?)),
+    }
 }
 
 /// Whether a mount took the name.

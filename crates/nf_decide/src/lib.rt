@@ -15,6 +15,7 @@ mod mounting;
 mod nodes;
 mod people;
 mod people_put;
+mod quotas;
 mod shared;
 mod sharing;
 mod state;

@@ -4,7 +4,7 @@ ghost use Rattle.std.specs.Prelude.{◌≡◌, count_by, [], ◌∷◌, ◌++◌
 ghost use Rattle.nf_base.specs.declared.changes.Change.TheVariants as change;
 ghost use Rattle.nf_base.specs.declared.changes.RowKey.TheVariants as keys;
 ghost use Rattle.nf_base.specs.declared.rows.Row.TheVariants as kinds;
-ghost use Rattle.nf_defs.specs.Tree.{node_row, relinked};
+ghost use Rattle.nf_defs.specs.Tree.{is_leaf, is_under, node_row, relinked};
 ghost use Rattle.nf_words.specs.Changes.{blob_of, changes_of, closed_under, ended_row, gone_for, gone_under, hold_of, is_closing, meta_after, told, transferred_row, with_meta};
 ghost use Rattle.nf_words.specs.declared.answer.LockKey.TheVariants as lock_keys;
 ghost use Rattle.nf_words.specs.declared.answer.Mode.TheVariants.{Exclusive, Shared};
@@ -199,8 +199,9 @@ fn drop_all(changes: &mut Changes, nodes: &[NodeId]) -> Result<(), AllocError>
 fn close_under(changes: &mut Changes, view: &View<'_>, top: NodeId) -> Result<(), AllocError>
     ensures { OnOk result (changes.new ≡ changes.old ++ closed_under view.now.tables.nodes view.now.tables.shares top) }
 {
+    let is_empty = view.tree().is_leaf(top);
     for share in view.shares().rows() {
-        push_closed(changes, view.tree(), top, share)?;
+        push_closed(changes, view.tree(), is_empty, top, share)?;
     }
     Ok(())
 }
@@ -209,21 +210,37 @@ fn close_under(changes: &mut Changes, view: &View<'_>, top: NodeId) -> Result<()
 fn push_closed(
     changes: &mut Changes,
     tree: &Tree,
+    is_empty: bool,
     top: NodeId,
     share: &ShareRow,
 ) -> Result<(), AllocError>
+    requires { is_empty ≡ is_leaf tree.now.rows top }
     ensures { OnOk result (changes.new ≡ changes.old ++ closed_under tree.now.rows (share.now ∷ []) top) }
 {
-    if is_closing(tree, top, share) {
+    if is_closing(tree, is_empty, top, share) {
         changes.push(Change::Put(Row::Share(ended(share)?)))?;
     }
     Ok(())
 }
 
-fn is_closing(tree: &Tree, top: NodeId, share: &ShareRow) -> bool
+fn is_closing(tree: &Tree, is_empty: bool, top: NodeId, share: &ShareRow) -> bool
+    requires { is_empty ≡ is_leaf tree.now.rows top }
     ensures { result ≡ is_closing tree.now.rows top share.now }
 {
-    !share.ended && tree.under(share.node, top)
+    !share.ended && is_under(tree, is_empty, share.node, top)
+}
+
+/// Whether a node is under the top. Where nothing is in that, no climb is needed, of which there would be one from each share of the site.
+#[tactic(auto, using(nf_defs::proofs::Climbs::under_leaf))]
+fn is_under(tree: &Tree, is_empty: bool, node: NodeId, top: NodeId) -> bool
+    requires { is_empty ≡ is_leaf tree.now.rows top }
+    ensures { result ≡ is_under tree.now.rows node top }
+{
+    if is_empty {
+        node == top
+    } else {
+        tree.under(node, top)
+    }
 }
 
 /// The row of a share that ended.

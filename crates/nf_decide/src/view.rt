@@ -3,10 +3,11 @@
 ghost use Rattle.std.specs.Prelude.{◌≡◌};
 ghost use Rattle.nf_tree.specs.Order.{AreRisingNodes};
 ghost use Rattle.nf_access.specs.Shares.{ground_of};
+ghost use Rattle.nf_words.specs.Charges.{charge_of};
 ghost use Rattle.nf_words.specs.Contents.{stored_pieces};
 ghost use Rattle.nf_words.specs.Sound.{AreSound};
 
-use nf_base::{MetaRow, Moment, NodeId};
+use nf_base::{MetaRow, Moment, NodeId, UserId};
 use nf_defs::Seeker;
 use nf_mounts::Mounts;
 use nf_people::People;
@@ -95,6 +96,15 @@ impl<'a> View<'a> {
         ensures { result.now ≡ self.now.tickets }
     {
         self.tickets
+    }
+
+    /// How many bytes the user's files take up.
+    #[tactic(auto, using(nf_laws::proofs::Charging::charge_owned, nf_laws::proofs::Charging::charge_few))]
+    pub(crate) fn charge(&self, user: UserId) -> u64
+        requires { AreSound self.now.tables }
+        ensures { result ≡ charge_of self.now.tables user }
+    {
+        self.tree.charge(user) as u64
     }
 
     /// How many pieces the rows name, with repeats.

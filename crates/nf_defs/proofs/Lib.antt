@@ -5,4 +5,5 @@ pub mod Tables
 pub mod Lookups
 pub mod ByName
 pub mod Walks
+pub mod Climbs
 pub mod Sorted

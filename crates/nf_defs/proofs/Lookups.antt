@@ -37,7 +37,7 @@ module _ {X : Type 0} (p : X → Bool) where
   position_none (x ∷ xs) fail = position_nowhere (x ∷ xs) x (λ k within. fail k x within)
 
   -- without a first, all fail
-  fail_nowhere : (xs : List X) → None ≡ position p xs → All (λ x. p x ≡ false) xs
+  pub fail_nowhere : (xs : List X) → None ≡ position p xs → All (λ x. p x ≡ false) xs
   fail_nowhere xs none k d within = fails_before_first p xs k d (grind (arith, nat_tests))
 
   pub find_nowhere : (xs : List X) → None ≡ position p xs → None ≡ find p xs

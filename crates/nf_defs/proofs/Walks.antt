@@ -19,7 +19,7 @@ abbrev pub AreRising : List NodeRow → Type 0
 AreRising rows = AllPairs (λ (a b : NodeRow). a.id < b.id) rows
 
 -- what is found is among them, and passes the test
-found_among : (test : NodeRow → Bool) (rows : List NodeRow) (row : NodeRow) → find test rows ≡ Some row
+pub found_among : (test : NodeRow → Bool) (rows : List NodeRow) (row : NodeRow) → find test rows ≡ Some row
     → Contains rows row × (test row ≡ true)
 found_among test [] row is = absurd (none-some row is)
 found_among test (x ∷ rows) row is = here (test x) refl is (λ is. found_among test rows row is)
@@ -94,7 +94,7 @@ climb_more (suc j) rows node child top is above =
     option_and_then_some (climb rows j) (parent_of rows node) child is
     (λ parent e up. ap (option_and_then (climb rows (suc j))) e ∙ climb_more j rows parent child top up above)
 
-climb_split : (j : ℕ) (rows : List NodeRow) (node top : ℕ) → climb rows (suc j) node ≡ Some top
+pub climb_split : (j : ℕ) (rows : List NodeRow) (node top : ℕ) → climb rows (suc j) node ≡ Some top
     → (child : ℕ) × (climb rows j node ≡ Some child) × (parent_of rows child ≡ Some top)
 climb_split zero rows node top is =
     option_and_then_some (climb rows zero) (parent_of rows node) top is (λ parent e up. (node, refl, e ∙ up))

@@ -15,7 +15,7 @@ use Rattle.nf_words.proofs.Orders.{first_of}
 use Rattle.nf_words.specs.Places.{has_forbidden, taken}
 use Rattle.nf_words.specs.Reached.{unlinked_by}
 use Rattle.nf_words.specs.Sharing.{unnamed_by}
-use Rattle.nf_words.specs.Prelude.{access_of, acts_rule, allowed_of, answered_by, are_named, asked_by, asks_by_link, Call, call_of, caller_row, exists_rule, forbidden_rule, is_caller, is_itself, IsSound, limit_rule, locked_rule, may_ask, mount_of, named_rule, needed, not_you_rule, receiver_named, overwrite_rule, paths_of, place_rule, places_of, refusal_of, room_rule, root_of, seeker_of, share_shown, share_steered, sharing_rule, source_lost, source_refused, State, target_lost, target_refused, target_rule, token_rule, unless_refused, unlinked, unreached, unreached_by, users_of, Way, way_by, way_of}
+use Rattle.nf_words.specs.Prelude.{access_of, acts_rule, allowed_of, answered_by, are_named, asked_by, asks_by_link, Call, call_of, caller_row, exists_rule, forbidden_rule, is_caller, is_itself, IsSound, limit_rule, locked_rule, may_ask, mount_of, named_rule, needed, not_you_rule, receiver_named, overwrite_rule, paths_of, place_rule, places_of, refusal_of, room_rule, root_of, seeker_of, share_shown, share_steered, sharing_rule, source_lost, source_refused, State, target_lost, target_refused, target_rule, token_rule, unless_refused, unlinked, unreached, unreached_by, users_of, Way, way_by, way_of, quota_rule}
 use Rattle.nf_words.specs.declared.answer.Allowed.{Allowed}
 use Rattle.nf_words.specs.declared.answer.Denial.{Denial}
 use Rattle.nf_words.specs.declared.answer.Denial.TheVariants as denial
@@ -82,19 +82,20 @@ behind access call =
     (option_or (target_rule access call)
     (option_or (overwrite_rule access call)
     (option_or (sharing_rule access call)
-    (option_or (locked_rule access call) (option_or (limit_rule access call) (option_or (room_rule access call) None))))))
+    (option_or (locked_rule access call) (option_or (limit_rule access call) (option_or (room_rule access call) (option_or (quota_rule access call) None)))))))
 
 none_behind : (access : Access) (call : Call) (refusal : Denial) → is_of_shares refusal ≡ true → behind access call ≡ Some refusal → ⊥
-unfolding exists_rule target_rule overwrite_rule sharing_rule locked_rule limit_rule room_rule
+unfolding exists_rule target_rule overwrite_rule sharing_rule locked_rule limit_rule room_rule quota_rule
 none_behind access call refusal shares is =
     none-some refusal
-    (skip (room_rule access call) None refusal (told_by denial.Limit _ (λ limit. refl)) shares
+    (skip (quota_rule access call) None refusal (told_by denial.Quota _ (λ excess. refl)) shares
+    (skip (room_rule access call) _ refusal (told_by denial.Limit _ (λ limit. refl)) shares
     (skip (limit_rule access call) _ refusal (told_by denial.Limit _ (λ limit. refl)) shares
     (skip (locked_rule access call) _ refusal (told_by denial.Locked _ (λ key. refl)) shares
     (skip (sharing_rule access call) _ refusal (told_by denial.Rule _ (λ fault. refl)) shares
     (skip (overwrite_rule access call) _ refusal (if_test _ denial.Overwrite refl) shares
     (skip (target_rule access call) _ refusal (told_by denial.BadTarget _ (λ fault. refl)) shares
-    (skip (exists_rule access call) _ refusal (taken_other call.state.tables.nodes (places_of call) (asked_by call).makes) shares is)))))))
+    (skip (exists_rule access call) _ refusal (taken_other call.state.tables.nodes (places_of call) (asked_by call).makes) shares is))))))))
 
 -- nor do those of who asks and of names
 by_rules : (access : Access) (call : Call) (refusal : Denial) → is_of_shares refusal ≡ true → refusal_of access call ≡ Some refusal
@@ -258,5 +259,5 @@ unreached_refused s seat now words request mount refusal well stop is =
     let access = access_of s in
     ap (λ (o : Option Denial). answered_by (unless_refused o (allowed_of access call)))
     (first_of (token_rule ∷ not_you_rule ∷ forbidden_rule ∷ []) place_rule
-    (named_rule ∷ acts_rule ∷ exists_rule ∷ target_rule ∷ overwrite_rule ∷ sharing_rule ∷ locked_rule ∷ limit_rule ∷ room_rule ∷ []) access call refusal
+    (named_rule ∷ acts_rule ∷ exists_rule ∷ target_rule ∷ overwrite_rule ∷ sharing_rule ∷ locked_rule ∷ limit_rule ∷ room_rule ∷ quota_rule ∷ []) access call refusal
     (well.token, (well.not_you, (well.forbidden, tt))) (stopped call mount refusal well.linked stop is))

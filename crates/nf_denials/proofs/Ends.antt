@@ -3,7 +3,7 @@ use Rattle.std.proofs.Common.{◌≡◌, ◌⊎◌, inl, inr, ℕ, Bool, true, f
 use Rattle.std.specs.Prelude.{option_and_then, option_map}
 use Rattle.std.specs.Option.{option_or}
 use Rattle.nf_access.specs.Shares.{ground_of}
-use Rattle.nf_words.specs.Prelude.{access_of, answered_by, end_lost, end_refusal, end_unallowed, end_unreached, ends_at, goal_at, is_owner, IsSound, limit_at, needed_by, node_of_key, pieces_of, place_of, State, stored_at, unless_refused, unreached_by}
+use Rattle.nf_words.specs.Prelude.{access_of, answered_by, end_lost, end_refusal, end_unallowed, end_unreached, ends_at, goal_at, is_owner, IsSound, limit_at, needed_by, node_of_key, pieces_of, place_of, State, stored_at, unless_refused, unreached_by, end_unfit}
 use Rattle.nf_words.specs.declared.answer.By.{By}
 use Rattle.nf_words.specs.declared.answer.Denial.{Denial}
 use Rattle.nf_words.specs.declared.answer.Denial.TheVariants as denial
@@ -36,10 +36,10 @@ revoked_refused = record {
       ∙ ap (option_and_then (unreached_by access (ground_of s.tables) by.seeker now)) mounted ∙ shut in
       refused s seat now by key wanted length digest refusal goal
       (ap (λ (o : Option Denial). option_or o (option_or (end_unallowed access s.tables now by key)
-      (option_or (end_lost s.tables key) (option_map denial.Limit (limit_at s.tables (pieces_of length) (place_of key)))))) out);
+      (option_or (end_lost s.tables key) (end_unfit s.tables key length)))) out);
   acts = λ s seat now by key wanted length digest refusal goal reached unmet.
       let access = access_of s in
-      let behind : Option Denial = option_or (end_lost s.tables key) (option_map denial.Limit (limit_at s.tables (pieces_of length) (place_of key))) in
+      let behind : Option Denial = option_or (end_lost s.tables key) (end_unfit s.tables key length) in
       refused s seat now by key wanted length digest refusal goal
       (ap (λ (o : Option Denial). option_or o (option_or (end_unallowed access s.tables now by key) behind)) reached
       ∙ ap (λ (o : Option Denial). option_or o behind) unmet);
@@ -66,10 +66,7 @@ end_told s now by key length refusal sound shares is = elim (either _ _ refusal 
       (first_one (end_unallowed (access_of s) s.tables now by key) _ refusal lost shares rest))
 ]
   where
-    limits : Option Denial
-    limits = option_map denial.Limit (limit_at s.tables (pieces_of length) (place_of key))
-
-    -- that the name was taken isn't of shares, nor is a limit
+    -- that the name was taken isn't of shares, nor is a limit, nor a quota
     lost_other : (key : LockKey) → IsOther (end_lost s.tables key)
     lost_other (Node node) = tt
     lost_other (Slot folder name) = if_test _ denial.NotFound refl
@@ -78,8 +75,12 @@ end_told s now by key length refusal sound shares is = elim (either _ _ refusal 
     or_other None b fine more = more
     or_other (Some first) b fine more = fine
 
-    lost : IsOther (option_or (end_lost s.tables key) limits)
-    lost = or_other (end_lost s.tables key) limits (lost_other key) (told_by denial.Limit _ (λ limit. refl))
+    unfit : IsOther (end_unfit s.tables key length)
+    unfit = or_other (option_map denial.Limit (limit_at s.tables (pieces_of length) (place_of key))) _ (told_by denial.Limit _ (λ limit. refl))
+        (told_by denial.Quota _ (λ excess. refl))
+
+    lost : IsOther (option_or (end_lost s.tables key) (end_unfit s.tables key length))
+    lost = or_other (end_lost s.tables key) (end_unfit s.tables key length) (lost_other key) unfit
 
     by_mount : (mount : Option ℕ) → by.mount ≡ mount → is_owner s.tables.nodes by.seeker (node_of_key key) ≡ false
         → option_and_then (unreached_by (access_of s) (ground_of s.tables) by.seeker now) mount ≡ Some refusal

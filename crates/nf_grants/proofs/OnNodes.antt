@@ -14,7 +14,7 @@ use Rattle.nf_defs.specs.declared.Seeker.{Seeker}
 use Rattle.nf_grants.specs.Grants.{grant_to}
 use Rattle.nf_access.proofs.Kept.{share_row_each}
 use Rattle.nf_shares.specs.Kept.{ids_of}
-use Rattle.nf_shares.specs.declared.nodes.NodeShare.{NodeShare}
+use Rattle.nf_shares.specs.declared.entries.Entry.{Entry}
 
 of_mapped : {X Y Z : Type 0} (f : Y → Option Z) (h : X → Y) (xs : List X) → filter_map (λ x. f (h x)) xs ≡ filter_map f (map h xs)
 of_mapped f h [] = refl
@@ -34,7 +34,7 @@ of_numbers f h p (row ∷ rows) agree =
     here false is rest = rw is rest
 
 -- what the entries of a node give is what the chains of all shares give there
-pub by_entries : (g : Ground) (who : Seeker) (node : ℕ) (entries : List NodeShare) → IsRising share_key g.shares
+pub by_entries : (g : Ground) (who : Seeker) (node : ℕ) (entries : List (Entry ℕ)) → IsRising share_key g.shares
     → map (λ entry. entry.share) entries ≡ ids_of (λ row. row.node == node) g.shares
     → filter_map (λ entry. grant_to g who entry.share) entries ≡ by_chains g who node
 by_entries g who node entries rising same =

@@ -11,7 +11,7 @@ use nf_access::Facts;
 use nf_base::{Act, GroupId, NodeId, ShareId, ShareRow, UserId};
 use nf_defs::Seeker;
 use nf_people::People;
-use nf_shares::{NodeShare, Shares, receives};
+use nf_shares::{Entry, Shares, receives};
 use nf_tree::Tree;
 use std::marker::Model;
 
@@ -49,7 +49,7 @@ impl<'a> Ground<'a> {
     }
 
     /// The entries of a node's shares: they give what all shares give there.
-    pub(crate) fn entries(&self, node: NodeId) -> &[NodeShare]
+    pub(crate) fn entries(&self, node: NodeId) -> &[Entry<NodeId>]
         ensures { (who : _) → filter_map (λ entry. grant_to self.now who entry.share) result.now ≡ by_chains self.now who node }
     {
         let shares = self.shares;

@@ -55,24 +55,44 @@ impl fmt::Display for Fault {
 }
 
 impl From<Error> for Fault {
+    ghost use Rattle.nf_keeper_sql.specs.declared.fault.Fault.TheVariants.{Rows};
+
+    ghost from_gives = { λ error fault. fault ≡ Rows error };
+
     fn from(error: Error) -> Fault {
         Fault::Rows(error)
     }
 }
 
 impl From<io::Error> for Fault {
+    ghost use Rattle.nf_keeper_sql.specs.declared.fault.Fault.TheVariants.{Pieces};
+
+    ghost from_gives = { λ error fault. fault ≡ Pieces error };
+
     fn from(error: io::Error) -> Fault {
         Fault::Pieces(error)
     }
 }
 
 impl From<AllocError> for Fault {
+    ghost use Rattle.nf_keeper_sql.specs.declared.fault.Fault.TheVariants.{Rows};
+    ghost use Rattle.sqlite.specs.declared.error.Error.TheVariants.{SqliteFailure};
+    ghost use Rattle.sqlite.specs.declared.error.ErrorCode.TheVariants.{OutOfMemory};
+
+    ghost from_gives = { λ _ fault. fault ≡ Rows (SqliteFailure OutOfMemory) };
+
     fn from(_: AllocError) -> Fault {
         Fault::Rows(Error::SqliteFailure(ErrorCode::OutOfMemory))
     }
 }
 
 impl<T: Drop> From<AllocFailed<T>> for Fault {
+    ghost use Rattle.nf_keeper_sql.specs.declared.fault.Fault.TheVariants.{Rows};
+    ghost use Rattle.sqlite.specs.declared.error.Error.TheVariants.{SqliteFailure};
+    ghost use Rattle.sqlite.specs.declared.error.ErrorCode.TheVariants.{OutOfMemory};
+
+    ghost from_gives = { λ _ fault. fault ≡ Rows (SqliteFailure OutOfMemory) };
+
     fn from(_: AllocFailed<T>) -> Fault {
         Fault::Rows(Error::SqliteFailure(ErrorCode::OutOfMemory))
     }

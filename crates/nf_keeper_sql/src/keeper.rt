@@ -66,13 +66,18 @@ impl<S: Alter, D: Disk> SqlKeeper<S, D> {
     }
 
     /// Makes the tables of a store that has none.
-    pub fn make(&mut self) -> Result<(), Fault> {
+    pub fn make(&mut self) -> Result<(), Fault>
+        ensures kept { Keeps self.new.store.pieces.room (D.seen self.old.store.pieces.disk) (D.seen self.new.store.pieces.disk) }
+        ensures crash { Follows (Keeps self.new.store.pieces.room) (D.may_leave self.old.store.pieces.disk) (D.may_leave self.new.store.pieces.disk) }
+    {
         self.store.load()?;
         Ok(())
     }
 
     /// Takes all rows of a store of before. It has none itself yet.
-    pub fn take_rows(&mut self, other: &mut Connection<S>) -> Result<(), Fault> {
+    pub fn take_rows(&mut self, other: &mut Connection<S>) -> Result<(), Fault>
+        ensures pieces { self.new.store.pieces ≡ self.old.store.pieces }
+    {
         self.store.take_rows(other)
     }
 
@@ -82,7 +87,9 @@ impl<S: Alter, D: Disk> SqlKeeper<S, D> {
         other: &mut Connection<S>,
         ids: &[i64],
         enough: u64,
-    ) -> Result<usize, Fault> {
+    ) -> Result<usize, Fault>
+        ensures spares { SparesUsed D.seen D.may_leave self.old.store.pieces self.new.store.pieces }
+    {
         self.store.take(other, ids, enough)
     }
 

@@ -167,7 +167,7 @@ impl<S: Alter, D: Disk> Store<S, D> {
         ensures fits { OnOk result (All FitsChange changes.now) }
         ensures spares { SparesUsed D.seen D.may_leave self.old.pieces self.new.pieces }
     {
-        self.reserve.fill(self.alloc)?;
+        self.reserve.fill_in_turn(self.alloc)?;
         if blob.bytes.len() > self.sizes.small {
             return self.apply_large(changes, blob);
         }
@@ -279,7 +279,9 @@ impl<S: Alter, D: Disk> Store<S, D> {
     }
 
     /// Takes all rows of another database.
-    pub(crate) fn take_rows(&mut self, other: &mut Connection<S>) -> Result<(), Fault> {
+    pub(crate) fn take_rows(&mut self, other: &mut Connection<S>) -> Result<(), Fault>
+        ensures pieces { self.new.pieces ≡ self.old.pieces }
+    {
         old::copy_rows(self.alloc, other, &mut self.connection)
     }
 

@@ -1,26 +1,21 @@
 -- Rows by their numbers, and the folders that a climb passes.
-use Rattle.std.proofs.Common.{sym, option_map, if◌then◌else◌, ℕ, suc, zero, ◌+◌, ◌==◌, ◌≡◌, ◌≤◌, Bool, true, false, List, [], ◌∷◌, Option, None, Some, filter, get_or, refl, ap, ◌∙◌, ⊎_elim, arith}
+use Rattle.std.proofs.Common.{sym, option_map, if◌then◌else◌, ℕ, suc, zero, ◌+◌, ◌==◌, ◌≡◌, ◌≤◌, Bool, true, List, [], ◌∷◌, Option, None, Some, filter, get_or, refl, ap, ◌∙◌, arith}
 use Rattle.std.specs.Prelude.{is_some}
 use Rattle.std.specs.List.{All}
-use Rattle.std.specs.Option.{option_and_then, option_map_or}
-use Rattle.std.proofs.lemmas.Bool.{both_ways, cond_both, eq-eqb, eqb-true, false≢true, ne_eqb, or_cases, or_left, or_right}
+use Rattle.std.specs.Option.{option_and_then}
+use Rattle.std.proofs.lemmas.Bool.{both_ways, cond_both, eq-eqb, false≢true, ne_eqb}
 use Rattle.std.proofs.lemmas.Option.{none-some, option_and_then_some, same_Some}
 use Rattle.nf_base.specs.declared.limits.TheConstants.{MAX_DEPTH}
 use Rattle.nf_base.specs.declared.rows.NodeRow.{NodeRow}
 use Rattle.nf_base.specs.declared.rows.Place.TheVariants.{Inside}
 pub use Rattle.nf_defs.proofs.Walks.{node_row_each}
-use Rattle.nf_defs.specs.Tree.{climb, depth, depth_within, folder_of, is_under, is_under_within, node_row, parent_of}
+use Rattle.nf_defs.specs.Tree.{climb, depth, depth_within, folder_of, node_row, parent_of}
 
 -- ---- what is there
 
 pub some_there : {X : Type 0} (o : Option X) → is_some o ≡ true → (x : X) × (o ≡ Some x)
 some_there None is = absurd (false≢true is)
 some_there (Some x) is = (x, refl)
-
--- where what is there passes the test, it is there
-pub holds_some : {X : Type 0} (test : X → Bool) (o : Option X) → option_map_or test o false ≡ true → (x : X) × (o ≡ Some x) × (test x ≡ true)
-holds_some test None is = absurd (false≢true is)
-holds_some test (Some x) is = (x, refl, is)
 
 pub map_some : {X Y : Type 0} (f : X → Y) (o : Option X) (y : Y) → option_map f o ≡ Some y → (x : X) × (o ≡ Some x) × (f x ≡ y)
 map_some f None y is = absurd (none-some y is)
@@ -40,40 +35,6 @@ row_there (x ∷ rows) (suc k) d within =
 pub parent_at : (rows : List NodeRow) (node folder : ℕ) (row : NodeRow) → node_row rows node ≡ Some row → row.place ≡ Inside folder
     → parent_of rows node ≡ Some folder
 parent_at rows node folder row there place = rw there (ap folder_of place)
-
--- ---- under, as a climb
-
-under_climbs : (m : ℕ) (rows : List NodeRow) (node top : ℕ)
-    → is_under_within m rows node top ≡ true → (j : ℕ) × (j ≤ m) × (climb rows j node ≡ Some top)
-unfolding is_under_within
-under_climbs zero rows node top is = (0, omega arith, ap Some (eqb-true node top is))
-under_climbs (suc m) rows node top is =
-    ⊎_elim (λ e. (0, omega arith, ap Some (eqb-true node top e)))
-    (λ up.
-    let parent = holds_some (λ parent. is_under_within m rows parent top) (parent_of rows node) up in
-    let r = under_climbs m rows parent.0 top parent.2 in
-    (suc r.0, omega arith, ap (option_and_then (climb rows r.0)) parent.1 ∙ r.2))
-    (or_cases (node == top) _ is)
-
-climbs_under : (j m : ℕ) (rows : List NodeRow) (node top : ℕ) → j ≤ m → climb rows j node ≡ Some top → is_under_within m rows node top ≡ true
-unfolding is_under_within
-climbs_under zero zero rows node top few is = eq-eqb node top (same_Some node top is)
-climbs_under zero (suc m) rows node top few is = or_left (node == top) _ (eq-eqb node top (same_Some node top is))
-climbs_under (suc j) zero rows node top few is = absurd (omega arith)
-climbs_under (suc j) (suc m) rows node top few is =
-    or_right (node == top) _
-    (option_and_then_some (climb rows j) (parent_of rows node) top is
-    (λ parent above is. rw above (climbs_under j m rows parent top (omega arith) is)))
-
-pub under_climb : (rows : List NodeRow) (node top : ℕ) → is_under rows node top ≡ true
-    → (j : ℕ) × (j ≤ MAX_DEPTH) × (climb rows j node ≡ Some top)
-unfolding is_under
-under_climb rows node top is = under_climbs MAX_DEPTH rows node top is
-
-pub climb_under : (j : ℕ) (rows : List NodeRow) (node top : ℕ) → j ≤ MAX_DEPTH → climb rows j node ≡ Some top
-    → is_under rows node top ≡ true
-unfolding is_under
-climb_under j rows node top few is = climbs_under j MAX_DEPTH rows node top few is
 
 -- no climb goes further than one that ends where no folder is above
 pub climbs_no_further : (k i : ℕ) (rows : List NodeRow) (node root top : ℕ)

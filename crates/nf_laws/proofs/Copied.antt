@@ -33,7 +33,7 @@ use Rattle.nf_words.specs.declared.request.Transfer.{Transfer}
 -- ---- lists
 
 -- where two lists have the same numbers in turn, they have one sum
-same_sum : {X Y : Type 0} (f : X → ℕ) (g : Y → ℕ) (xs : List X) (ys : List Y) → length xs ≡ length ys
+pub same_sum : {X Y : Type 0} (f : X → ℕ) (g : Y → ℕ) (xs : List X) (ys : List Y) → length xs ≡ length ys
     → ((k : ℕ) (d : X) (e : Y) → k < length xs → f (get_or xs k d) ≡ g (get_or ys k e)) → sum_by f xs ≡ sum_by g ys
 same_sum f g [] [] long each = refl
 same_sum f g [] (y ∷ ys) long each = absurd (omega arith)

@@ -11,6 +11,7 @@ use Rattle.nf_base.specs.declared.limits.TheConstants.{MAX_DEPTH}
 use Rattle.nf_base.specs.declared.rows.NodeRow.{NodeRow}
 use Rattle.nf_base.specs.declared.rows.Row.TheVariants.{Share}
 use Rattle.nf_base.specs.declared.rows.ShareRow.{ShareRow}
+use Rattle.nf_defs.proofs.Climbs.{walk_among}
 use Rattle.nf_defs.specs.Prelude.{by_name, children_of, climb, is_in, is_place_in, is_under, Tables, walk_of}
 use Rattle.nf_laws.proofs.Copied.{copy_at, copy_in, joined_rises}
 use Rattle.nf_laws.proofs.Mirrored.{mirrored}
@@ -18,7 +19,6 @@ use Rattle.nf_laws.proofs.Others.{unless_gone}
 use Rattle.nf_laws.proofs.Sources.{in_cleared, source_stays, under_differs, under_given}
 use Rattle.nf_laws.proofs.Sources.{walk_by}
 use Rattle.nf_laws.proofs.Upwards.{climbs_is_under}
-use Rattle.nf_laws.proofs.Walked.{walk_among}
 use Rattle.nf_laws.specs.Transfers.{is_replaced}
 use Rattle.nf_words.proofs.Known.{KnownCopies, KnownCross}
 use Rattle.nf_words.specs.Prelude.{AreSound, cleared, closed_under, dropped_under, ended_for, ended_row, gone_under, is_closing, joined}

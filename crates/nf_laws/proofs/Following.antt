@@ -13,8 +13,9 @@ use Rattle.nf_base.specs.declared.perms.Act.TheVariants.{Create, Delete, Update}
 use Rattle.nf_base.specs.declared.rows.NodeKind.{NodeKind}
 use Rattle.nf_base.specs.declared.rows.NodeRow.{NodeRow}
 use Rattle.nf_base.specs.declared.rows.ShareRow.{ShareRow}
+use Rattle.nf_defs.proofs.Climbs.{climb_under, under_climb}
 use Rattle.nf_defs.specs.Prelude.{child_of, climb, folder_of, is_under, node_row, parent_of, Tables}
-use Rattle.nf_laws.proofs.Climbs.{climb_same, climb_under, some_there, under_climb}
+use Rattle.nf_laws.proofs.Climbs.{climb_same, some_there}
 use Rattle.nf_laws.proofs.Gone.{folder_left, folder_stays, kept_cleared, row_cleared, row_gone}
 use Rattle.nf_laws.proofs.Mirrored.{mirrored}
 use Rattle.nf_laws.proofs.Puts.{under_there}

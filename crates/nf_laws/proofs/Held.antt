@@ -8,9 +8,9 @@ use Rattle.std.proofs.lemmas.List.Elements.{All-append, All-cons, All-nil}
 use Rattle.std.proofs.lemmas.Slice.Eq.{bytes_eq-Decides}
 use Rattle.nf_base.specs.declared.rows.NodeRow.{NodeRow}
 use Rattle.nf_base.specs.declared.rows.Place.TheVariants.{Inside, Root}
+use Rattle.nf_defs.proofs.Climbs.{climb_under}
 use Rattle.nf_defs.proofs.Walks.{inside_of}
 use Rattle.nf_defs.specs.Prelude.{child_of, filled, is_folder_kind, is_in, is_under, node_row, relinked, Tables}
-use Rattle.nf_laws.proofs.Climbs.{climb_under}
 use Rattle.nf_laws.proofs.Crossed.{crossed_under}
 use Rattle.nf_laws.proofs.Copied.{copy_at}
 use Rattle.nf_laws.proofs.Gone.{all_cleared, row_cleared}

@@ -1,9 +1,11 @@
 pub mod Acting
 pub mod Added
+pub mod Affording
 pub mod Allowing
 pub mod Asking
 pub mod Blobs
 pub mod Chained
+pub mod Charging
 pub mod Children
 pub mod Climbs
 pub mod Contents
@@ -13,6 +15,7 @@ pub mod Crossed
 pub mod Crossing
 pub mod Ended
 pub mod Entries
+pub mod Exceeding
 pub mod Following
 pub mod Free
 pub mod Given
@@ -37,6 +40,7 @@ pub mod Paths
 pub mod Presence
 pub mod Providing
 pub mod Puts
+pub mod Quotas
 pub mod Reached
 pub mod Reaching
 pub mod Reading
@@ -46,7 +50,9 @@ pub mod Sharing
 pub mod Sizes
 pub mod Sources
 pub mod Stays
+pub mod Stored
 pub mod Telling
 pub mod Transferred
 pub mod Upwards
 pub mod Walked
+pub mod Weighing

@@ -18,11 +18,12 @@ use Rattle.nf_words.proofs.Known.{Known}
 use Rattle.nf_words.proofs.Marks.{early, early_pass}
 use Rattle.nf_words.proofs.Spared.{found_apart, holds_turned, least_has, none_least, Spares, step_spares}
 use Rattle.nf_words.proofs.Steps.{other_without}
-use Rattle.nf_words.specs.Prelude.{access_of, allowed_of, answered_by, AreApartHolds, AreSound, asked_by, blocks, Call, call_of, changed, clashes, decision_of, earlier_rules, first_that_holds, IsHeld, IsSound, IsTicketSound, key_in_way, later_rules, least, lesser, limit_by, limit_rule, limited, locked_rule, Pass, places_of, refusal_of, room_rule, Rule, State, ticket_of, Touch, touches, unless_refused, without}
+use Rattle.nf_words.specs.Prelude.{access_of, allowed_of, answered_by, AreApartHolds, AreSound, asked_by, blocks, Call, call_of, changed, clashes, decision_of, earlier_rules, first_that_holds, IsHeld, IsSound, IsTicketSound, key_in_way, later_rules, least, lesser, limit_by, limit_rule, limited, locked_rule, Pass, places_of, refusal_of, room_rule, Rule, State, ticket_of, Touch, touches, unless_refused, without, quota_rule, exceeded}
 use Rattle.nf_words.specs.declared.answer.Allowed.{Allowed}
 use Rattle.nf_words.specs.declared.answer.Denial.{Denial}
 use Rattle.nf_words.specs.declared.answer.Denial.TheVariants as denial
 use Rattle.nf_words.specs.declared.answer.Hold.{Hold}
+use Rattle.nf_words.specs.declared.answer.Excess.{Excess}
 use Rattle.nf_words.specs.declared.answer.Limit.{Limit}
 use Rattle.nf_words.specs.declared.answer.LockKey.{LockKey}
 use Rattle.nf_words.specs.declared.history.Ticket.{Ticket}
@@ -240,25 +241,29 @@ module _ (call : Call) where
 
   -- what later rules answer
   locked_is : (key : LockKey) → first_that_holds later_rules (access_of call.state) call ≡ Some (denial.Locked key) → way ≡ Some key
-  unfolding locked_rule limit_rule room_rule
-  locked_is key is = here way (limited call.state.tables (places_of call) (asked_by call).makes) (limit_by call call.request.wanted) is
+  unfolding locked_rule limit_rule room_rule quota_rule
+  locked_is key is =
+      let t = call.state.tables in
+      here way (limited t (places_of call) (asked_by call).makes) (limit_by call call.request.wanted) (exceeded t (places_of call) (asked_by call).makes) is
     where
-      here : (o : Option LockKey) (limit room : Option Limit)
-          → option_or (option_map denial.Locked o) (option_or (option_map denial.Limit limit) (option_or (option_map denial.Limit room) None)) ≡ Some (denial.Locked key) → o ≡ Some key
-      here None None None is = absurd (cc)
-      here None None (Some limit) is = absurd (cc)
-      here None (Some limit) room is = absurd (cc)
-      here (Some other) limit room is = cc
+      here : (o : Option LockKey) (limit room : Option Limit) (excess : Option Excess)
+          → option_or (option_map denial.Locked o) (option_or (option_map denial.Limit limit)
+          (option_or (option_map denial.Limit room) (option_or (option_map denial.Quota excess) None))) ≡ Some (denial.Locked key) → o ≡ Some key
+      here None None None None is = absurd (cc)
+      here None None None (Some excess) is = absurd (cc)
+      here None None (Some limit) excess is = absurd (cc)
+      here None (Some limit) room excess is = absurd (cc)
+      here (Some other) limit room excess is = cc
 
   is_locked : (key : LockKey) → way ≡ Some key → first_that_holds later_rules (access_of call.state) call ≡ Some (denial.Locked key)
   unfolding locked_rule
   is_locked key is = rw is refl
 
-refused : (o : Option Denial) (act : Allowed) (refusal : Denial) → answered_by (unless_refused o act) ≡ Err refusal → o ≡ Some refusal
+pub refused : (o : Option Denial) (act : Allowed) (refusal : Denial) → answered_by (unless_refused o act) ≡ Err refusal → o ≡ Some refusal
 refused None act refusal is = absurd (cc)
 refused (Some other) act refusal is = let e : other ≡ refusal = cc in ap Some e
 
-all_pass : (all : List Rule) (access : Access) (call : Call) → Pass all access call → (behind : List Rule)
+pub all_pass : (all : List Rule) (access : Access) (call : Call) → Pass all access call → (behind : List Rule)
     → first_that_holds (all ++ behind) access call ≡ first_that_holds behind access call
 all_pass [] access call passes behind = refl
 all_pass (rule ∷ others) access call passes behind = rw passes.0 (all_pass others access call passes.1 behind)

@@ -7,10 +7,10 @@ use Rattle.nf_access.specs.Access.{allows}
 use Rattle.nf_base.specs.declared.perms.Act.{Act}
 use Rattle.nf_base.specs.declared.rows.NodeRow.{NodeRow}
 use Rattle.nf_base.specs.declared.rows.UserRow.{UserRow}
+use Rattle.nf_defs.proofs.Climbs.{holds_some}
 use Rattle.nf_defs.specs.Prelude.{Access, Leads, leads_on, node_row, stays, Tables}
 use Rattle.nf_defs.specs.declared.Seeker.{Seeker}
 use Rattle.nf_defs.specs.declared.Seeker.TheVariants.{Link, User}
-use Rattle.nf_laws.proofs.Climbs.{holds_some}
 use Rattle.nf_laws.proofs.Paths.{leads_own, root_own}
 use Rattle.nf_laws.proofs.Rows.{folder_there, row_is}
 use Rattle.nf_laws.specs.Access.{Owns}

@@ -9,8 +9,9 @@ use Rattle.std.proofs.lemmas.List.Folds.{Any-from_list_any}
 use Rattle.std.proofs.lemmas.Option.{option_and_then_some, same_Some}
 use Rattle.nf_base.specs.declared.limits.TheConstants.{MAX_DEPTH}
 use Rattle.nf_base.specs.declared.rows.NodeRow.{NodeRow}
+use Rattle.nf_defs.proofs.Climbs.{holds_some, under_climb}
 use Rattle.nf_defs.specs.Prelude.{climb, folder_of, is_present, is_root, is_root_place, is_rooted, is_rooted_within, is_under, node_row, parent_of, Tables}
-use Rattle.nf_laws.proofs.Climbs.{climbs_no_further, holds_some, some_there, under_climb}
+use Rattle.nf_laws.proofs.Climbs.{climbs_no_further, some_there}
 use Rattle.nf_laws.proofs.Puts.{under_there}
 use Rattle.nf_laws.proofs.Rows.{found_is}
 use Rattle.nf_laws.proofs.Upwards.{climb_short, climbs_is_under, inside_no_root, nodes_present}

@@ -16,12 +16,12 @@ use Rattle.nf_base.specs.declared.changes.RowKey.TheVariants as keys
 use Rattle.nf_base.specs.declared.rows.NodeRow.{NodeRow}
 use Rattle.nf_base.specs.declared.rows.Row.TheVariants.{Node, Share}
 use Rattle.nf_base.specs.declared.rows.ShareRow.{ShareRow}
+use Rattle.nf_defs.proofs.Climbs.{under_climb, walk_among}
 use Rattle.nf_defs.proofs.Puts.{below_one, below_rest, compared, put_last, put_rising, tail_rising}
 use Rattle.nf_defs.specs.Prelude.{by_order, climb, dropped, folder_of, is_under, IsRising, key_cmp, node_key, node_row, parent_of, put, put_all, share_key, Tables, walk_of, with_node, without_under}
-use Rattle.nf_laws.proofs.Climbs.{some_there, those, under_climb}
+use Rattle.nf_laws.proofs.Climbs.{some_there, those}
 use Rattle.nf_laws.proofs.Others.{others_ended}
 use Rattle.nf_laws.proofs.Rows.{found_is}
-use Rattle.nf_laws.proofs.Walked.{walk_among}
 use Rattle.nf_words.specs.Prelude.{AreSound, cleared, closed_under, dropped_under, ended_for, ended_row, ended_under, gone_for, gone_under, is_closing, removed}
 use Rattle.nf_words.proofs.Found.{put_is_found, put_leaves}
 

@@ -14,8 +14,9 @@ use Rattle.nf_base.specs.declared.rows.NodeRow.{NodeRow}
 use Rattle.nf_base.specs.declared.rows.Place.{Place}
 use Rattle.nf_base.specs.declared.rows.Place.TheVariants.{Inside, Root, Trash}
 use Rattle.nf_base.specs.declared.rows.UserRow.{UserRow}
+use Rattle.nf_defs.proofs.Climbs.{holds_some}
 use Rattle.nf_defs.specs.Prelude.{climb, content_of, folder_of, is_folder, is_folder_kind, node_row, owner_of, parent_of, Tables}
-use Rattle.nf_laws.proofs.Climbs.{climb_same, holds_some}
+use Rattle.nf_laws.proofs.Climbs.{climb_same}
 use Rattle.nf_laws.specs.Numbers.{AreHigher}
 use Rattle.nf_words.proofs.Found.{found_has, found_passes}
 use Rattle.nf_words.specs.Prelude.{AreCounters, AreSound, blob_after, HasRoot, IsNodeSound, IsPieceSound, IsPlaceSound, IsTop, stamped}

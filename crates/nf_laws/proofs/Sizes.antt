@@ -16,18 +16,18 @@ use Rattle.nf_words.specs.Prelude.{AreSound, bytes_of, IsNodeSound, IsPieceSound
 -- ---- sums over some nodes
 
 -- the bytes of a row
-abbrev weight : NodeRow → ℕ
+abbrev pub weight : NodeRow → ℕ
 weight row = sum_by (λ piece. piece.size) row.content
 
 -- those of a node, if it is that one
-abbrev weight_if : ℕ → ℕ → ℕ → ℕ
+abbrev pub weight_if : ℕ → ℕ → ℕ → ℕ
 weight_if w id node = if id == node then w else 0
 
-nothing : (f : ℕ → ℕ) (nodes : List ℕ) → All (λ (node : ℕ). f node ≡ 0) nodes → sum_by f nodes ≡ 0
+pub nothing : {X : Type 0} (f : X → ℕ) (xs : List X) → All (λ (x : X). f x ≡ 0) xs → sum_by f xs ≡ 0
 nothing f [] none = refl
-nothing f (n ∷ nodes) none =
-    let rest = nothing f nodes (All-tail (λ (node : ℕ). f node ≡ 0) n nodes none) in
-    omega (arith, sum_by-cons f n nodes, All-head (λ (node : ℕ). f node ≡ 0) n nodes none, rest)
+nothing f (x ∷ xs) none =
+    let rest = nothing f xs (All-tail (λ x. f x ≡ 0) x xs none) in
+    omega (arith, sum_by-cons f x xs, All-head (λ x. f x ≡ 0) x xs none, rest)
 
 -- one node counts once
 counts_once : (w id : ℕ) (nodes : List ℕ) → AreDistinct nodes → sum_by (weight_if w id) nodes ≤ w
@@ -80,13 +80,13 @@ within_all (row ∷ rows) nodes distinct =
 abbrev HasFew : NodeRow → Type 0
 HasFew row = weight row ≤ length row.content * MAX_BODY
 
-few_each : (t : Tables) → AreSound t → All HasFew t.nodes
+pub few_each : (t : Tables) → AreSound t → All HasFew t.nodes
 few_each t sound =
     All-weaker (IsNodeSound t) HasFew (λ row is.
     sum_by-le (λ piece. piece.size) MAX_BODY row.content
     (All-weaker (IsPieceSound t) (λ (piece : Piece). piece.size ≤ MAX_BODY) (λ piece h. h.few) row.content is.pieces)) t.nodes sound.nodes
 
-few_all : (rows : List NodeRow) → All HasFew rows → sum_by weight rows ≤ piece_count rows * MAX_BODY
+pub few_all : (rows : List NodeRow) → All HasFew rows → sum_by weight rows ≤ piece_count rows * MAX_BODY
 few_all [] few = omega arith
 few_all (row ∷ rows) few =
     omega (

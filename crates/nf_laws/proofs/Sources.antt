@@ -7,9 +7,10 @@ use Rattle.std.proofs.lemmas.Bool.{cases_lt, cond_both, false_from_ne_true, fals
 use Rattle.std.proofs.lemmas.List.Elements.{All-head, All-tail, All-weaker}
 use Rattle.std.proofs.lemmas.Option.{option_and_then_some}
 use Rattle.nf_base.specs.declared.rows.NodeRow.{NodeRow}
+use Rattle.nf_defs.proofs.Climbs.{under_climb}
 use Rattle.nf_defs.proofs.Walks.{IsChildOf, children_are, inside_of}
 use Rattle.nf_defs.specs.Prelude.{child_of, children_of, climb, folder_of, is_in, is_under, node_row, parent_of, Tables, walk_within}
-use Rattle.nf_laws.proofs.Climbs.{climb_rest, node_row_each, parent_at, some_there, under_climb}
+use Rattle.nf_laws.proofs.Climbs.{climb_rest, node_row_each, parent_at, some_there}
 use Rattle.nf_laws.proofs.Puts.{under_there}
 use Rattle.nf_laws.proofs.Rows.{row_is}
 use Rattle.nf_laws.proofs.Upwards.{climbs_is_under, never_climbs}

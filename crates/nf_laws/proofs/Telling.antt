@@ -17,9 +17,9 @@ use Rattle.nf_base.specs.declared.rows.Place.TheVariants.{Inside}
 use Rattle.nf_base.specs.declared.rows.Row.{Row}
 use Rattle.nf_base.specs.declared.rows.Row.TheVariants as rows
 use Rattle.nf_base.specs.declared.rows.ShareRow.{ShareRow}
+use Rattle.nf_defs.proofs.Climbs.{climb_under}
 use Rattle.nf_defs.specs.Prelude.{Access, child_of, content_of, is_folder, is_under, IsDroppable, made, node_row, put, put_all, relinked, share_key, Tables, walk_of, with_node, without_under}
 use Rattle.nf_laws.proofs.Blobs.{Alters, given_alters, of_nodes, refilled_of}
-use Rattle.nf_laws.proofs.Climbs.{climb_under}
 use Rattle.nf_laws.proofs.Copied.{joined_rises, walk_first}
 use Rattle.nf_laws.proofs.Crossed.{crossed_gone}
 use Rattle.nf_laws.proofs.Entries.{step_has}

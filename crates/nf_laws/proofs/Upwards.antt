@@ -15,11 +15,12 @@ use Rattle.nf_base.specs.declared.rows.Place.{Place}
 use Rattle.nf_base.specs.declared.rows.Place.TheVariants.{Inside, Root, Trash}
 use Rattle.nf_base.specs.FreeNames.{is_taken}
 use Rattle.nf_base.specs.declared.rows.UserRow.{UserRow}
+use Rattle.nf_defs.proofs.Climbs.{climb_under, under_climb}
 use Rattle.nf_defs.specs.Prelude.{child_of, climb, depth, folder_of, is_in, is_root, is_root_place, is_under, item_row, node_row, parent_of, Tables, taken_names, user_row}
-use Rattle.nf_laws.proofs.Climbs.{climb_under, climbs_no_further, depth_is, node_row_each, some_there, under_climb}
+use Rattle.nf_laws.proofs.Climbs.{climbs_no_further, depth_is, node_row_each, some_there}
 use Rattle.nf_laws.proofs.Paths.{IsOf, climb_own}
 use Rattle.nf_laws.proofs.Rows.{IsRooted, found_is, none_over, parent_there, row_is}
-use Rattle.nf_laws.specs.Tree.{ClimbsByDepth, DepthIsClimbed, NamesAreTaken, NoRings, NodesArePresent, NothingIsTrashed, Under, UnderIsDerived, inside, itself}
+use Rattle.nf_laws.specs.Tree.{ClimbsByDepth, DepthIsClimbed, IsTrashed, NamesAreTaken, NoRings, NodesArePresent, NothingIsTrashed, Under, UnderIsDerived, inside, itself}
 use Rattle.nf_words.specs.Prelude.{AreSound, deepest, HasNoLater, IsPlaceSound, IsTop, root_of_user}
 
 -- ---- climbs
@@ -170,6 +171,17 @@ owners_there t sound k d within =
     here None some = absurd (omega arith)
     here (Some user) some = refl
 
+-- one that climbs to a top in the trash is there
+pub trashed_by : (t : Tables) (row : NodeRow) → node_row t.nodes row.id ≡ Some row → (c : ClimbsByDepth t row) → c.top.place ≡ Trash
+    → IsTrashed t.nodes row.id
+trashed_by t row there c trash = record {
+  top = c.top;
+  there = c.there;
+  place = trash;
+  owner = c.owner ∙ sym (ap (λ (o : Option NodeRow). option_map_or (λ row. row.owner) o 0) there);
+  under = climb_under (depth t.nodes row.id) t.nodes row.id c.top.id c.shallow c.climbs;
+}
+
 pub nodes_present : NodesArePresent
 nodes_present t sound k d within =
     let row : NodeRow = get_or t.nodes k d in
@@ -183,14 +195,7 @@ nodes_present t sound k d within =
           (λ k d within is. list_any_at passes t.users k d within is) user.1).1
           (climb_under (depth t.nodes row.id) t.nodes row.id user.0.root c.shallow
           (c.climbs ∙ ap Some (root.1 ∙ ap (λ (o : Option UserRow). option_map_or (λ user. user.root) o 0) user.1))))
-      | inr trash ↦
-          inr (record {
-            top = c.top;
-            there = c.there;
-            place = trash;
-            owner = c.owner ∙ sym (ap (λ (o : Option NodeRow). option_map_or (λ row. row.owner) o 0) there);
-            under = climb_under (depth t.nodes row.id) t.nodes row.id c.top.id c.shallow c.climbs;
-          })
+      | inr trash ↦ inr (trashed_by t row there c trash)
     ]
 
 -- a top there would have a row of a kind that isn't built

@@ -1,17 +1,16 @@
 -- What a walk takes: all that is under its top, and nothing twice.
-use Rattle.std.proofs.Common.{ℕ, zero, suc, ◌+◌, ◌-◌, ◌==◌, ◌<◌, ◌≡◌, ◌≢◌, true, List, [], ◌∷◌, ◌++◌, Some, get_or, map, filter, inl, inr, refl, sym, ap, subst, ◌∙◌, arith}
-use Rattle.std.specs.List.{All, AllPairs, Contains, flat_map, list_any}
-use Rattle.std.proofs.lemmas.Bool.{both_ways, cases_Bool, cases_order, eq-eqb, eqb-true, false_from_ne_true}
+use Rattle.std.proofs.Common.{ℕ, zero, suc, ◌+◌, ◌-◌, ◌<◌, ◌≡◌, ◌≢◌, List, [], ◌∷◌, ◌++◌, Some, get_or, map, filter, inl, inr, refl, sym, ap, subst, ◌∙◌, arith}
+use Rattle.std.specs.List.{All, AllPairs, Contains, flat_map}
+use Rattle.std.proofs.lemmas.Bool.{cases_order}
 use Rattle.std.proofs.lemmas.List.Elements.{All-append, All-contains, All-contains_itself, All-head, All-map, All-tail}
-use Rattle.std.proofs.lemmas.List.Folds.{Any-from_list_any, list_any_at}
 use Rattle.std.proofs.lemmas.List.Kept.{AllPairs-cons, AllPairs-filter}
 use Rattle.std.proofs.lemmas.Option.{same_Some}
 use Rattle.nf_base.specs.declared.limits.TheConstants.{MAX_DEPTH}
 use Rattle.nf_base.specs.declared.rows.NodeRow.{NodeRow}
 use Rattle.nf_defs.proofs.ByName.{AllPairs-by_name}
 use Rattle.nf_defs.proofs.Walks.{Contains-from_flat, children_are, climbs_walk, walk_climbs, walk_within_climbs}
-use Rattle.nf_defs.specs.Prelude.{by_name, children_of, climb, is_in, is_under, parent_of, Tables, walk_of, walk_within}
-use Rattle.nf_laws.proofs.Climbs.{climb_on, climb_rest, climb_under, parent_at, under_climb}
+use Rattle.nf_defs.specs.Prelude.{by_name, children_of, climb, is_in, parent_of, Tables, walk_of, walk_within}
+use Rattle.nf_laws.proofs.Climbs.{climb_on, climb_rest, parent_at}
 use Rattle.nf_laws.proofs.Upwards.{climb_short, climbed, depth_climb, derived}
 use Rattle.nf_laws.specs.Tree.{WalksTakeAllUnder}
 use Rattle.nf_words.specs.Sound.{AreSound}
@@ -21,32 +20,6 @@ use Rattle.nf_words.specs.Sound.{AreSound}
 -- none comes back
 pub no_ring : (t : Tables) (j node : ℕ) → AreSound t → climb t.nodes (suc j) node ≡ Some node → ⊥
 no_ring t j node sound is = absurd (omega (arith, depth_climb (suc j) t node node sound is))
-
--- ---- those under the top
-
-pub walk_under : (rows : List NodeRow) (top node : ℕ) → AllPairs (λ (a b : NodeRow). a.id < b.id) rows → Contains (walk_of rows top) node
-    → is_under rows node top ≡ true
-walk_under rows top node rising h =
-    let c = walk_climbs rows top node rising h in climb_under c.0 rows node top c.1 c.2
-
-pub under_walk : (rows : List NodeRow) (top node : ℕ) → is_under rows node top ≡ true → Contains (walk_of rows top) node
-under_walk rows top node is = let c = under_climb rows node top is in climbs_walk c.0 rows top node c.1 c.2
-
--- the test of a walk is that of its top
-pub walk_among : (rows : List NodeRow) (top node : ℕ) → AllPairs (λ (a b : NodeRow). a.id < b.id) rows
-    → list_any (λ other. other == node) (walk_of rows top) ≡ is_under rows node top
-walk_among rows top node rising =
-    elim (cases_Bool (is_under rows node top)) [
-      | inl under ↦
-          (let h = under_walk rows top node under in
-          list_any_at (λ other. other == node) (walk_of rows top) h.0 node h.1 (eq-eqb _ node h.2) ∙ sym under)
-      | inr outside ↦
-          false_from_ne_true (list_any (λ other. other == node) (walk_of rows top)) (λ any.
-          let h = Any-from_list_any (λ other. other == node) (walk_of rows top) any in
-          let has : Contains (walk_of rows top) node =
-          subst (λ (n : ℕ). Contains (walk_of rows top) n) (eqb-true h.1 node h.4) (h.0, h.2, h.3) in
-          both_ways (is_under rows node top) outside (walk_under rows top node rising has)) ∙ sym outside
-    ]
 
 -- ---- none twice
 

@@ -11,8 +11,9 @@ use Rattle.nf_base.specs.declared.rows.NodeRow.{NodeRow}
 use Rattle.nf_base.specs.declared.rows.ShareKind.{ShareKind}
 use Rattle.nf_base.specs.declared.rows.ShareKind.TheVariants as to
 use Rattle.nf_base.specs.declared.rows.ShareRow.{ShareRow}
+use Rattle.nf_defs.proofs.Climbs.{climb_under}
 use Rattle.nf_defs.specs.Prelude.{depth, is_root_place, node_row, Tables}
-use Rattle.nf_laws.proofs.Climbs.{climb_under, some_there}
+use Rattle.nf_laws.proofs.Climbs.{some_there}
 use Rattle.nf_words.proofs.Found.{found_passes}
 use Rattle.nf_laws.proofs.Upwards.{climbs_own, nothing_trashed}
 use Rattle.nf_laws.specs.Numbers.{AreHigher}

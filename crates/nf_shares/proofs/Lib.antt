@@ -1,4 +1,5 @@
 pub mod Along
-pub mod Entries
+pub mod Indexes
 pub mod Sorted
 pub mod Ending
+pub mod Moves

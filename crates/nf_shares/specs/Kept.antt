@@ -1,10 +1,13 @@
 -- The shares as the program holds them.
-use Rattle.std.specs.Prelude.{◌≡◌, ℕ, Bool, true, false, ◌==◌, ◌+◌, ◌-◌, ◌≤◌, List, [], ◌∷◌, filter, length, map, min, Option, None, Some, if◌then◌else◌}
+use Rattle.std.specs.Prelude.{◌≡◌, ℕ, Bool, true, false, ◌==◌, ◌+◌, ◌-◌, ◌≤◌, List, [], ◌∷◌, ◌++◌, drop, filter, length, map, max, min, take, Option, None, Some, if◌then◌else◌}
+use Rattle.std.specs.Int.{from_be_bytes, w64}
 use Rattle.std.specs.Option.{option_map_or}
 use Rattle.nf_access.specs.Shares.{share_row}
 use Rattle.nf_base.specs.declared.rows.ShareRow.{ShareRow}
 use Rattle.nf_defs.specs.Prelude.{IsRising, put, share_key}
-use Rattle.nf_shares.specs.declared.nodes.NodeShare.{NodeShare}
+use Rattle.nf_base.specs.declared.rows.ShareKind.{ShareKind}
+use Rattle.nf_base.specs.declared.rows.ShareKind.TheVariants as kind
+use Rattle.nf_shares.specs.declared.entries.Entry.{Entry}
 use Rattle.nf_table.specs.Rows.{TableValue}
 
 -- the rows of shares, and how many fit without more memory
@@ -36,25 +39,48 @@ ended row = record row { ended = true }
 abbrev pub ended_where : (ShareRow → Bool) → List ShareRow → List ShareRow
 ended_where test rows = map (λ row. if test row then ended row else row) rows
 
--- the same share, of the same node
+-- the same share, of the same node and of the same kind
 abbrev pub StaysInPlace : ShareRow → ShareRow → Type 0
-StaysInPlace row row' = (row'.id ≡ row.id) × (row'.node ≡ row.node)
+StaysInPlace row row' = (row'.id ≡ row.id) × (row'.node ≡ row.node) × (row'.kind ≡ row.kind)
 
--- ---- shares by their nodes
+-- ---- shares by a number that each row has
 
-abbrev pub entry_key : NodeShare → List ℕ
-entry_key entry = entry.node ∷ entry.share ∷ []
+abbrev pub entry_key : {K : Type 0} → (K → ℕ) → Entry K → List ℕ
+entry_key number entry = number entry.by ∷ entry.share ∷ []
 
 -- the entry of a row
-abbrev pub entry_of : ShareRow → NodeShare
-entry_of row = record { node = row.node; share = row.id }
+abbrev pub entry_of : {K : Type 0} → (ShareRow → K) → ShareRow → Entry K
+entry_of of_row row = record { by = of_row row; share = row.id }
 
--- both are by rising key; and of each node, the entries have the numbers of the rows, in their order
-pub record IsNodeIndex (index : List NodeShare) (rows : List ShareRow) : Type 0 where
-  pub entries_rise : IsRising entry_key index
+-- both are by rising key; and of each number, the entries have the shares of the rows, in their order
+pub record IsIndex {K : Type 0} (number : K → ℕ) (of_row : ShareRow → K) (index : List (Entry K)) (rows : List ShareRow) : Type 0 where
+  pub entries_rise : IsRising (entry_key number) index
   pub rows_rise : IsRising share_key rows
-  pub numbers : (node : ℕ) → map (λ entry. entry.share) (filter (λ entry. entry.node == node) index) ≡ ids_of (λ row. row.node == node) rows
+  pub numbers : (n : ℕ) → map (λ entry. entry.share) (filter (λ entry. number entry.by == n) index) ≡ ids_of (λ row. number (of_row row) == n) rows
 
--- how many rows fit, if each has an entry
-abbrev pub room_of : TableValue ShareRow → TableValue NodeShare → ℕ
-room_of rows index = length rows.rows + min (rows.room - length rows.rows) (index.room - length index.rows)
+-- ---- links by the fronts of their tokens
+
+-- the first bytes as one number, followed by zeros where they are fewer than eight; no front is 0
+unfoldable pub front_of : List ℕ → ℕ
+front_of token =
+    max 1 (from_be_bytes w64 (take (min (length token) 8) token ++ drop (min (length token) 8) (0 ∷ 0 ∷ 0 ∷ 0 ∷ 0 ∷ 0 ∷ 0 ∷ 0 ∷ [])))
+
+abbrev pub front_of_kind : ShareKind → ℕ
+front_of_kind (kind.User user) = 0
+front_of_kind (kind.Group group) = 0
+front_of_kind (kind.Link token) = front_of token
+
+-- ---- the indexes of the site's shares
+
+-- how many more rows fit
+abbrev free : {R : Type 0} → TableValue R → ℕ
+free table = table.room - length table.rows
+
+-- how many rows fit, if each has an entry in each index
+abbrev pub room_of : {A B : Type 0} → TableValue ShareRow → TableValue A → TableValue B → ℕ
+room_of rows by_node by_token = length rows.rows + min (free rows) (min (free by_node) (free by_token))
+
+-- the indexes by node and by token are those of the rows
+pub record AreIndexed (rows : List ShareRow) (by_node : List (Entry ℕ)) (by_token : List (Entry ℕ)) : Type 0 where
+  pub nodes : IsIndex (λ node. node) (λ row. row.node) by_node rows
+  pub tokens : IsIndex (λ front. front) (λ row. front_of_kind row.kind) by_token rows

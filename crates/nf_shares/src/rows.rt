@@ -1,11 +1,10 @@
 //! What is asked of one row of a share.
 
-ghost use Rattle.std.specs.Prelude.{◌≡◌, ◌==◌, find, option_copied};
+ghost use Rattle.std.specs.Prelude.{◌≡◌, ◌==◌};
 ghost use Rattle.nf_access.specs.Shares.{is_before, is_link, receives};
 ghost use Rattle.nf_defs.specs.declared.Seeker.TheVariants as seeker;
 ghost use Rattle.nf_shares.specs.Kept.{is_child_of};
 ghost use Rattle.nf_access.specs.Making.{is_again, is_self_share, is_same_recipient};
-ghost use Rattle.nf_shares.specs.Making.{has_token_of};
 
 use nf_access::Facts;
 use nf_base::{Moment, ShareId, ShareKind, ShareRow, UserId};
@@ -93,16 +92,4 @@ pub(crate) fn is_again(row: &ShareRow, now: Moment, other: &ShareRow) -> bool
         && other.node == row.node
         && other.initiator == row.initiator
         && is_same_recipient(&other.kind, &row.kind)
-}
-
-/// The first share whose link has the same token.
-pub(crate) fn token_of<'a>(rows: &'a [ShareRow], row: &ShareRow) -> Option<&'a ShareRow>
-    ensures { option_copied result ≡ find (has_token_of row.now.kind) rows.now }
-{
-    match &row.kind {
-        ShareKind::Link(token) => rows
-            .iter()
-            .find(|other| is_link(token.as_bytes(), &other.kind)),
-        ShareKind::User(_) | ShareKind::Group(_) => None,
-    }
 }

@@ -5,40 +5,42 @@ ghost use Rattle.std.specs.Fn.{FnOnceReturnsAtMut};
 ghost use Rattle.std.specs.Option.{option_map_or};
 ghost use Rattle.nf_base.specs.declared.rows.ShareRow.{ShareRow};
 ghost use Rattle.nf_access.specs.Broken.{first_received};
-ghost use Rattle.nf_access.specs.Shares.{chain_of, chain_within, link_row, mask_of, receives, share_row};
+ghost use Rattle.nf_access.specs.Shares.{chain_of, chain_within, is_link, link_row, mask_of, receives, share_row};
 ghost use Rattle.nf_defs.specs.Prelude.{IsRising, is_under, put, share_key};
 ghost use Rattle.nf_shares.specs.Kept.{FitsShare, StaysInPlace, changed, ended_where, ids_of, is_child_of};
 ghost use Rattle.nf_access.specs.Making.{is_again};
-ghost use Rattle.nf_shares.specs.Making.{IsFirstFault, Makes, fault_of};
+ghost use Rattle.nf_shares.specs.Making.{IsFirstFault, Makes, fault_of, has_token_of};
 ghost use Rattle.nf_table.specs.Rows.{Changes};
 ghost use Rattle.nf_shares.specs.declared.faults.ShareFault.TheVariants as fault;
 
+use crate::entries::{Entry, index_of, renew};
 use crate::faults::ShareFault;
-use crate::nodes::{NodeShare, node_index, renew};
-use crate::rows::{is_again, is_child_of, is_link, is_self_share, receives, token_of};
+use crate::rows::{is_again, is_child_of, is_link, is_self_share, receives};
+use crate::tokens::TokenFront;
 use nf_access::{Facts, nothing};
-use nf_base::{MAX_CHAIN, MAX_SHARES, Moment, NodeId, Perms, ShareId, ShareRow, UserId};
+use nf_base::{MAX_CHAIN, MAX_SHARES, Moment, NodeId, Perms, ShareId, ShareKind, ShareRow, UserId};
 use nf_defs::Seeker;
 use nf_table::{ShareKey, Table};
 use nf_tree::Tree;
 use std::alloc::{AllocError, Global};
 use std::marker::Model;
 
-/// The shares, by rising number, and by their nodes. None of them ever goes.
+/// The shares, by rising number, by their nodes, and by the fronts of their tokens. None of them ever goes.
 #[derive(Drop)]
 pub struct Shares {
     rows: Table<ShareRow>,
-    by_node: Table<NodeShare>,
+    by_node: Table<Entry<NodeId>>,
+    by_token: Table<Entry<TokenFront>>,
 }
 
 impl Model for Shares {
-    ghost use Rattle.nf_shares.specs.Kept.{IsNodeIndex, KeptShares, room_of};
+    ghost use Rattle.nf_shares.specs.Kept.{AreIndexed, KeptShares, room_of};
 
     ghost Value = { KeptShares };
 
-    ghost view = { λ shares. record { rows = shares.rows.rows; room = room_of shares.rows shares.by_node } };
+    ghost view = { λ shares. record { rows = shares.rows.rows; room = room_of shares.rows shares.by_node shares.by_token } };
 
-    ghost invariant = { λ shares. IsNodeIndex shares.by_node.rows shares.rows.rows };
+    ghost invariant = { λ shares. AreIndexed shares.rows.rows shares.by_node.rows shares.by_token.rows };
 }
 
 impl Shares {
@@ -48,6 +50,7 @@ impl Shares {
         Shares {
             rows: Table::new(alloc),
             by_node: Table::new(alloc),
+            by_token: Table::new(alloc),
         }
     }
 
@@ -56,10 +59,12 @@ impl Shares {
         requires { IsRising share_key rows.items }
         ensures { IfOk result (λ shares. shares.rows ≡ rows.items) }
     {
-        let by_node = node_index(alloc, &rows)?;
+        let by_node = index_of(alloc, &rows)?;
+        let by_token = index_of(alloc, &rows)?;
         Ok(Shares {
             rows: Table::of(rows),
             by_node,
+            by_token,
         })
     }
 
@@ -79,9 +84,14 @@ impl Shares {
         ensures kept { self.old.room ≤ self.new.room }
     {
         // That what is there fits has to be known for a count of 0.
-        let _ = (self.rows.count(), self.by_node.count());
+        let _ = (
+            self.rows.count(),
+            self.by_node.count(),
+            self.by_token.count(),
+        );
         self.rows.reserve(count)?;
-        self.by_node.reserve(count)
+        self.by_node.reserve(count)?;
+        self.by_token.reserve(count)
     }
 
     /// Tells callers that the rows fit; it does nothing.
@@ -101,7 +111,8 @@ impl Shares {
     pub fn by_link(&self, token: &[u8]) -> Option<&ShareRow>
         ensures { option_copied result ≡ link_row self.now.rows token.now }
     {
-        self.rows().iter().find(|row| is_link(token, &row.kind))
+        let id = self.first_linked(token, self.by_token.front(&TokenFront::of(token)))?;
+        self.row(id)
     }
 
     /// How many shares the share's chain has; 0 where there is none.
@@ -137,7 +148,7 @@ impl Shares {
     }
 
     /// The entries of a node's shares.
-    pub fn entries(&self, node: NodeId) -> &[NodeShare]
+    pub fn entries(&self, node: NodeId) -> &[Entry<NodeId>]
         ensures numbers { map (λ entry. entry.share) result.now ≡ ids_of (λ row. row.node == node) self.now.rows }
         ensures rising { IsRising share_key self.now.rows }
     {
@@ -220,6 +231,7 @@ impl Shares {
         ensures count { length self.new.rows ≤ length self.old.rows + 1 }
     {
         renew(&mut self.by_node, &self.rows, &row);
+        renew(&mut self.by_token, &self.rows, &row);
         self.rows.put(row);
     }
 
@@ -237,12 +249,10 @@ impl Shares {
         ensures rows { self.new.rows ≡ ended_where (λ row. is_under tree.now.rows row.node top) self.old.rows }
         ensures room { self.new.room ≡ self.old.room }
     {
-        for place in 0..self.count() {
-            let row = &self.rows()[place];
-            let (id, node) = (row.id, row.node);
-            if tree.under(node, top) {
-                self.end(id);
-            }
+        if tree.is_leaf(top) {
+            self.end_on(top);
+        } else {
+            self.end_below(tree, top);
         }
     }
 
@@ -266,6 +276,31 @@ impl Shares {
 }
 
 impl Shares {
+    /// Ends the shares of a node, which are found by it. It takes no memory.
+    fn end_on(&mut self, node: NodeId)
+        ensures rows { self.new.rows ≡ ended_where (λ row. row.node == node) self.old.rows }
+        ensures room { self.new.room ≡ self.old.room }
+    {
+        for place in 0..self.entries(node).len() {
+            let id = self.entries(node)[place].share;
+            self.end(id);
+        }
+    }
+
+    /// Ends the shares of the nodes under a top, whatever is in it: it looks at each share of the site. It takes no memory.
+    fn end_below(&mut self, tree: &Tree, top: NodeId)
+        ensures rows { self.new.rows ≡ ended_where (λ row. is_under tree.now.rows row.node top) self.old.rows }
+        ensures room { self.new.room ≡ self.old.room }
+    {
+        for place in 0..self.count() {
+            let row = &self.rows()[place];
+            let (id, node) = (row.id, row.node);
+            if tree.under(node, top) {
+                self.end(id);
+            }
+        }
+    }
+
     /// How many shares the share's chain has, where they are at most so many.
     fn depth_within(&self, id: ShareId, most: usize) -> Option<usize>
         requires { most ≤ MAX_CHAIN }
@@ -309,7 +344,7 @@ impl Shares {
         &self,
         facts: &F,
         seeker: Seeker,
-        entries: &[NodeShare],
+        entries: &[Entry<NodeId>],
     ) -> Option<ShareId>
         ensures { result ≡ find (λ id. option_map_or (receives (F.members facts.now) seeker) (share_row self.now.rows id) false) (map (λ entry. entry.share) entries.now) }
     {
@@ -330,7 +365,7 @@ impl Shares {
     }
 
     /// The first of these entries' shares that gives the same already.
-    fn again_of(&self, row: &ShareRow, now: Moment, entries: &[NodeShare]) -> Option<ShareId>
+    fn again_of(&self, row: &ShareRow, now: Moment, entries: &[Entry<NodeId>]) -> Option<ShareId>
         ensures { result ≡ find (λ id. option_map_or (is_again row.now now) (share_row self.now.rows id) false) (map (λ entry. entry.share) entries.now) }
     {
         entries
@@ -349,7 +384,37 @@ impl Shares {
         }
     }
 
-    /// Changes the share of that number by a change that leaves its number and its node. It takes no memory.
+    /// The first of these entries' shares that is the link of the token.
+    fn first_linked(&self, token: &[u8], entries: &[Entry<TokenFront>]) -> Option<ShareId>
+        ensures { result ≡ find (λ id. option_map_or (λ row. is_link token.now row.kind) (share_row self.now.rows id) false) (map (λ entry. entry.share) entries.now) }
+    {
+        entries
+            .iter()
+            .map(|entry| entry.share)
+            .find(|id| self.is_linked(token, *id))
+    }
+
+    /// Whether there is a share of that number, which is the link of the token.
+    fn is_linked(&self, token: &[u8], id: ShareId) -> bool
+        ensures { result ≡ option_map_or (λ row. is_link token.now row.kind) (share_row self.now.rows id) false }
+    {
+        match self.row(id) {
+            Some(row) => is_link(token, &row.kind),
+            None => false,
+        }
+    }
+
+    /// The first share whose link has the same token.
+    fn token_of(&self, row: &ShareRow) -> Option<&ShareRow>
+        ensures { option_copied result ≡ find (has_token_of row.now.kind) self.now.rows }
+    {
+        match &row.kind {
+            ShareKind::Link(token) => self.by_link(token.as_bytes()),
+            ShareKind::User(_) | ShareKind::Group(_) => None,
+        }
+    }
+
+    /// Changes the share of that number by a change that leaves its number, its node and its kind. It takes no memory.
     fn change<F: FnOnce(&mut ShareRow)>(&mut self, id: ShareId, change: F)
         requires calls { F.IsAlwaysCallable change }
         requires place { (row : ShareRow) (row' : ShareRow) → FnOnceReturnsAtMut F.FnOnce change row tt row' → StaysInPlace row row' }
@@ -374,7 +439,7 @@ impl Shares {
         {
             return Err(ShareFault::Chain);
         }
-        if token_of(self.rows(), row).is_some() {
+        if self.token_of(row).is_some() {
             return Err(ShareFault::TokenTaken);
         }
         if self.count() >= MAX_SHARES {

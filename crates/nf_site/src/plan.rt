@@ -2,23 +2,25 @@
 
 ghost use Rattle.std.specs.Prelude.{◌≡◌, [], IfOk, Ok};
 ghost use Rattle.nf_site.specs.Held.{added_in};
+ghost use Rattle.nf_site.specs.Beside.{DoesSame, beside, beside_report};
 ghost use Rattle.nf_words.specs.Prelude.{blob_by, hold_of, reply_by, reply_to, reported};
 ghost use Rattle.nf_words.specs.declared.answer.Allowed.TheVariants.{Close};
 
-use crate::copies::{copy_listing, copy_share, copy_shares};
+use crate::copies::copy_share;
 use nf_base::{BlobId, Changes, Moment, NodeId};
 use nf_decide::{RowCounts, View, added_by, blob_of, hold_of};
 use nf_words::{Allowed, Denial, Event, Goal, Hold, Reply, Report};
 use std::alloc::{AllocError, Global};
 use std::marker::Model;
 
-/// An act with its reply, and what its seat holds for it.
+/// An act with what is answered beside it, and what its seat holds for it. A long list that is answered stays in the act until it is
+/// done: a copy would take its time while everybody waits.
 #[derive(Drop)]
 pub(crate) struct Deed {
     pub(crate) act: Allowed,
     pub(crate) reply: Reply,
     pub(crate) hold: Option<Hold>,
-    ghost replies: { reply ≡ reply_to act },
+    ghost replies: { reply ≡ beside act },
     ghost holds: { hold ≡ hold_of act },
 }
 
@@ -111,7 +113,7 @@ impl Plan {
 }
 
 impl Deed {
-    /// It copies what the reply hands out, and what is held.
+    /// It copies what the reply hands out beside the act, and what is held.
     pub(crate) fn new(alloc: Global, act: Allowed) -> Result<Deed, AllocError>
         ensures { IfOk result (λ deed. deed.act ≡ act) }
     {
@@ -120,45 +122,78 @@ impl Deed {
     }
 }
 
-/// The reply of an act, and what is held for it.
+/// The act that is left to do, and the reply, to which a list that is answered is handed over.
+pub(crate) fn parted(act: Allowed, reply: Reply) -> (Allowed, Reply)
+    requires { reply ≡ beside act }
+    ensures reply { result.1 ≡ reply_to act }
+    ensures same { DoesSame act result.0 }
+{
+    match act {
+        Allowed::List(listing) => (Allowed::Close, Reply::Listing(listing)),
+        Allowed::Change {
+            changes,
+            blob,
+            report,
+        } => {
+            let act = Allowed::Change {
+                changes,
+                blob,
+                report: Report::Plain,
+            };
+            (act, handed_over(report, reply))
+        }
+        act => (act, reply),
+    }
+}
+
+/// The reply of a report.
+fn handed_over(report: Report, reply: Reply) -> Reply
+    requires { reply ≡ beside_report report }
+    ensures { result ≡ reported report }
+{
+    match report {
+        Report::Shares(lines) => Reply::Shares(lines),
+        Report::Made | Report::Done | Report::Share(_) | Report::Plain => reply,
+    }
+}
+
+/// What is answered beside an act, and what is held for it.
 fn copied(alloc: Global, act: &Allowed) -> Result<(Reply, Option<Hold>), AllocError>
-    ensures reply { IfOk result (λ made. made.0 ≡ reply_to act.now) }
+    ensures reply { IfOk result (λ made. made.0 ≡ beside act.now) }
     ensures hold { IfOk result (λ made. made.1 ≡ hold_of act.now) }
 {
-    let reply = reply_to(alloc, act)?;
+    let reply = beside(alloc, act)?;
     let hold = hold_of(act)?;
     Ok((reply, hold))
 }
 
-/// The reply of an act.
-fn reply_to(alloc: Global, act: &Allowed) -> Result<Reply, AllocError>
-    ensures { IfOk result (λ reply. reply ≡ reply_to act.now) }
+fn beside(alloc: Global, act: &Allowed) -> Result<Reply, AllocError>
+    ensures { IfOk result (λ reply. reply ≡ beside act.now) }
 {
     match act {
         Allowed::Get { node: _, content } => Ok(Reply::Granted(Goal::Serve(content.clone()?))),
-        Allowed::List(listing) => Ok(Reply::Listing(copy_listing(alloc, listing)?)),
         Allowed::Put { by, key, length } => Ok(Reply::Granted(Goal::Store {
             by: *by,
             key: key.copy()?,
             length: *length,
         })),
-        Allowed::Change { report, .. } => reported(alloc, report),
+        Allowed::Change { report, .. } => beside_report(report),
         Allowed::Delete(_) => Ok(Reply::Done),
         Allowed::Move { transfer, name: _ } => Ok(reply_by(transfer.replaced)),
         Allowed::Copy { rows: _, replaced } => Ok(reply_by(*replaced)),
         Allowed::Cross { replaced, .. } => Ok(reply_by(*replaced)),
-        Allowed::Close => Ok(Reply::Closed),
+        Allowed::List(_) | Allowed::Close => Ok(Reply::Closed),
     }
 }
 
-fn reported(alloc: Global, report: &Report) -> Result<Reply, AllocError>
-    ensures { IfOk result (λ reply. reply ≡ reported report.now) }
+fn beside_report(report: &Report) -> Result<Reply, AllocError>
+    ensures { IfOk result (λ reply. reply ≡ beside_report report.now) }
 {
     match report {
         Report::Made => Ok(Reply::Made),
         Report::Done => Ok(Reply::Done),
         Report::Share(line) => Ok(Reply::Share(copy_share(line)?)),
-        Report::Shares(shares) => Ok(Reply::Shares(copy_shares(alloc, shares)?)),
+        Report::Shares(_) => Ok(Reply::Closed),
         Report::Plain => Ok(Reply::Plain),
     }
 }

@@ -14,7 +14,7 @@ ghost use Rattle.nf_words.specs.declared.history.Mark.TheVariants.{Answered};
 ghost use Rattle.nf_site.specs.declared.site.RoomFault.TheVariants.{Full};
 
 use crate::Plan;
-use crate::plan::Deed;
+use crate::plan::{Deed, parted};
 use nf_base::{Changes, MAX_ENTRIES, Moment, RowList};
 use nf_decide::{Call, State, changes, decide_end};
 use nf_opening::{SiteFault, judge};
@@ -215,10 +215,10 @@ impl Site {
             changes: _,
         } = plan;
         let answer = match decided {
-            Ok(deed) => {
-                self.current
-                    .change(seat, moment, &event, deed.act, deed.hold);
-                Ok(deed.reply)
+            Ok(Deed { act, reply, hold }) => {
+                let (act, reply) = parted(act, reply);
+                self.current.change(seat, moment, &event, act, hold);
+                Ok(reply)
             }
             Err(refusal) => {
                 self.current.pass(seat, moment, &event);

@@ -1,17 +1,18 @@
 -- The children of a folder stand together in the index.
-use Rattle.std.proofs.Common.{ℕ, ◌+◌, ◌-◌, ◌<◌, ◌≤◌, ◌≡◌, true, false, List, [], ◌∷◌, ◌++◌, Some, refl, sym, ap, ◌∙◌, subst, inl, inr, arith, length, get_or, map, nat_cmp}
+use Rattle.std.proofs.Common.{ℕ, ◌+◌, ◌-◌, ◌<◌, ◌≤◌, ◌≡◌, true, false, List, [], ◌∷◌, ◌++◌, Some, refl, sym, ap, ◌∙◌, subst, inl, inr, arith, length, get_or, map, not, nat_cmp}
 use Rattle.std.specs.Cmp.Lexicographic.{slice_cmp, options_total}
 use Rattle.std.specs.List.{AllPairs, Contains, AllWithin, between}
 use Rattle.std.specs.Option.{option_cmp}
 use Rattle.std.specs.Ordering.{is_lt, ordering_then}
-use Rattle.std.proofs.lemmas.Bool.{cases_lt, cases_order}
+use Rattle.std.proofs.lemmas.Bool.{cases_lt, cases_order, false_from_ne_true}
 use Rattle.std.proofs.lemmas.Bool.Decides.{nat_tests}
 use Rattle.std.proofs.lemmas.Cmp.{nat_cmp_total, tied_itself}
 use Rattle.std.proofs.lemmas.List.{get_or_default, get_or-map, length-map, get_or_read, map_push}
 use Rattle.std.proofs.lemmas.List.Edits.{length-between, get_or-between, between_more}
 use Rattle.std.proofs.lemmas.List.Elements.{Contains-get_or}
+use Rattle.std.proofs.lemmas.List.Folds.{list_any_at, list_any_none}
 use Rattle.nf_base.specs.declared.rows.NodeRow.{NodeRow}
-use Rattle.nf_defs.specs.Prelude.{children_of, comes_before, folder_of, is_in}
+use Rattle.nf_defs.specs.Prelude.{children_of, comes_before, folder_of, is_in, is_leaf}
 use Rattle.nf_tree.specs.Order.{Key, key_lt, key_at, key_of, AreRisingNodes, IsIndex, IsCut}
 use Rattle.nf_tree.proofs.Positions.{no_row}
 use Rattle.nf_tree.proofs.Keys.{weak, squeezed_folder}
@@ -162,3 +163,19 @@ all_more rows order folder from at row start high is child all = λ k d low less
       subst (λ j. is_in folder (row_at rows (get_or order j d)) ≡ true) (sym e)
       (subst (λ p. is_in folder (row_at rows p) ≡ true) (get_or_default order at 0 d high) (subst (λ r. is_in folder r ≡ true) is child))
 ]
+
+-- ---- leaves
+
+-- where the first place that a child could have is another's, no row is in the folder
+pub no_child : (rows : List NodeRow) (order : List ℕ) (folder from : ℕ) → AreRisingNodes rows → IsIndex rows order → IsCut rows order (record { folder = Some folder; name = []; id = 0 }) from
+    → (from < length order → is_in folder (row_at rows (get_or order from 0)) ≡ false) → is_leaf rows folder ≡ true
+no_child rows order folder from rising index cuts stop =
+    ap not (list_any_none (is_in folder) rows (λ k d within. false_from_ne_true _ (λ child.
+    let inside = back rows order folder from from rising index cuts (omega arith) cuts.bound (λ i d low less. absurd (omega arith)) stop (get_or rows k d) (Contains-get_or rows k d within) child in
+    let long = length-part rows order folder from from rising index cuts (omega arith) cuts.bound (λ i d low less. absurd (omega arith)) in
+    absurd (omega (arith, inside.1, long)))))
+
+pub has_child : (rows : List NodeRow) (order : List ℕ) (folder at : ℕ) (row : NodeRow) → IsIndex rows order → at < length order → row ≡ row_at rows (get_or order at 0) → is_in folder row ≡ true
+    → is_leaf rows folder ≡ false
+has_child rows order folder at row index high is child =
+    ap not (list_any_at (is_in folder) rows (get_or order at 0) no_row (index.within at 0 high) (subst (λ r. is_in folder r ≡ true) is child))

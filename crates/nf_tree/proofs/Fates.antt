@@ -1,12 +1,12 @@
 -- Where rows go when some are dropped, and the index of those that are left.
-use Rattle.std.proofs.Common.{ℕ, zero, suc, ◌+◌, ◌<◌, ◌≤◌, ◌≡◌, Bool, true, false, List, [], ◌∷◌, ◌++◌, refl, sym, ap, ◌∙◌, subst, inl, inr, arith, length, get_or, take, drop, map, filter, nat_eq, nat_lt, cond}
+use Rattle.std.proofs.Common.{ℕ, zero, suc, ◌+◌, ◌<◌, ◌≤◌, ◌≡◌, ◌≢◌, Bool, true, false, List, [], ◌∷◌, ◌++◌, refl, sym, ap, ◌∙◌, subst, arith, length, get_or, take, drop, drop-cons, map, filter, nat_eq, nat_lt, not, cond}
 use Rattle.std.specs.List.{All, AllPairs, Contains, list_any}
-use Rattle.std.proofs.lemmas.Bool.{cases_lt, false_from_ne_true, true_from_ne_false}
+use Rattle.std.proofs.lemmas.Bool.{false_from_ne_true, true_from_ne_false}
 use Rattle.std.proofs.lemmas.Bool.Decides.{Decides-eqb, nat_tests}
-use Rattle.std.proofs.lemmas.List.{get_or_default, get_or-drop, get_or-map, get_or_push, get_or_append_left, length-map, length_push}
-use Rattle.std.proofs.lemmas.List.Elements.{All-contains, All-filter, filter_passes}
-use Rattle.std.proofs.lemmas.List.Filters.{FiltersInPlace, length-filter_more}
-use Rattle.std.proofs.lemmas.List.Sums.{count_by-le-length, length-filter}
+use Rattle.std.proofs.lemmas.List.{get_or_default, get_or-drop, get_or-map, length-map, append-nil, append_assoc, drop_all, take_all}
+use Rattle.std.proofs.lemmas.List.Elements.{All-contains, All-filter, filter_more, filter_passes}
+use Rattle.std.proofs.lemmas.List.Filters.{FiltersInPlace, length-filter_more, sum_by-filter_both}
+use Rattle.std.proofs.lemmas.List.Sums.{count_by-le-length, length-filter, sum_by_push}
 use Rattle.std.proofs.lemmas.List.Folds.{list_any_at}
 use Rattle.std.proofs.lemmas.List.Kept.{AllPairs-filter}
 use Rattle.std.proofs.lemmas.Map.Made.{IsDistinct-from_AllPairs}
@@ -63,31 +63,6 @@ came p (row ∷ rows) to low = here (p row) refl to low (λ k less. came p rows 
     here true e zero low rest = (0, omega arith, e, refl)
     here true e (suc to) low rest = later (rest to (let h = rw e at low in omega arith)) (rw e (omega arith))
     here false e to low rest = later (rest to (rw e at low)) (rw e (omega arith))
-
--- ---- one fate more
-
-pub none_yet : (p : NodeRow → Bool) (rows : List NodeRow) → AreFates p rows 0 []
-none_yet p rows = record { long = refl; stay = λ at d less. absurd (omega arith); go = λ at d less. absurd (omega arith) }
-
-pub fates_more : (p : NodeRow → Bool) (rows : List NodeRow) (n to : ℕ) (fates : List ℕ) (row : NodeRow) → AreFates p rows n fates → n < length rows → row ≡ get_or rows n row
-    → (p row ≡ true → to ≡ length (filter p (take n rows))) → (p row ≡ false → to ≡ length rows) → AreFates p rows (n + 1) (fates ++ to ∷ [])
-fates_more p rows n to fates row so_far within is stay go = record {
-  long = length_push fates to ∙ (let e = so_far.long in omega arith);
-  stay = λ at d less passes. elim (cases_lt at n) [
-    | inl below ↦ get_or_append_left fates (to ∷ []) 0 at (let e = so_far.long in omega arith) ∙ so_far.stay at d below passes
-    | inr past ↦ (let e : n ≡ at = omega arith in last at e ∙ stay (this at d e passes) ∙ ap (λ k. length (filter p (take k rows))) e)
-  ];
-  go = λ at d less passes. elim (cases_lt at n) [
-    | inl below ↦ get_or_append_left fates (to ∷ []) 0 at (let e = so_far.long in omega arith) ∙ so_far.go at d below passes
-    | inr past ↦ (let e : n ≡ at = omega arith in last at e ∙ go (this at d e passes))
-  ];
-}
-  where
-    last : (at : ℕ) → n ≡ at → get_or (fates ++ to ∷ []) at 0 ≡ to
-    last at e = get_or_push fates to 0 at (so_far.long ∙ e)
-
-    this : {b : Bool} (at : ℕ) (d : NodeRow) → n ≡ at → p (get_or rows at d) ≡ b → p row ≡ b
-    this {b} at d e passes = ap p (is ∙ get_or_default rows n row d within ∙ ap (λ k. get_or rows k d) e) ∙ passes
 
 -- ---- what is left of an index
 
@@ -174,27 +149,98 @@ module _ (p : NodeRow → Bool) (rows : List NodeRow) (order fates : List ℕ) (
   renumbered = record { within = left_within; long = left_long; in_order = left_in_order }
 
 -- what is left to filter is as it was
-still : (p : NodeRow → Bool) (xs ys : List NodeRow) (k at : ℕ) (d : NodeRow) → FiltersInPlace p xs ys k at → get_or ys at d ≡ get_or xs at d
+pub still : (p : NodeRow → Bool) (xs ys : List NodeRow) (k at : ℕ) (d : NodeRow) → FiltersInPlace p xs ys k at → get_or ys at d ≡ get_or xs at d
 still p xs ys k at d filtered =
     let e : at + 0 ≡ at = omega arith in
     ap (λ n. get_or ys n d) (sym e) ∙ sym (get_or-drop at ys 0 d) ∙ ap (λ list. get_or list 0 d) filtered.rest ∙ get_or-drop at xs 0 d ∙ ap (λ n. get_or xs n d) e
 
--- the fate that is read tells whether the row stays
+-- a fate tells whether the row stays
+module _ (p : NodeRow → Bool) (rows : List NodeRow) (fates : List ℕ) (at : ℕ) (are : AreFates p rows (length rows) fates) (within : at < length rows) where
+  low_stays : p (get_or rows at no_row) ≡ true → get_or fates at 0 < length rows
+  low_stays stays =
+      let g = are.stay at no_row within stays in
+      let h = (stays_behind p rows at no_row within stays).0 in
+      let few = fewer p rows in
+      omega arith
+
+  pub stays_at : get_or fates at 0 ≢ length rows → p (get_or rows at no_row) ≡ true
+  stays_at other = true_from_ne_false _ (λ goes. other (are.go at no_row within goes))
+
+  pub goes_at : length rows ≤ get_or fates at 0 → p (get_or rows at no_row) ≡ false
+  goes_at high = false_from_ne_true _ (λ stays. let low = low_stays stays in absurd (omega arith))
+
+-- so does the fate that is read where the rows before it are filtered
 module _ (p : NodeRow → Bool) (rows ys : List NodeRow) (fates : List ℕ) (kept at fate : ℕ) (are : AreFates p rows (length rows) fates) (filtered : FiltersInPlace p rows ys kept at)
     (within : at < length rows) (is : fate ≡ get_or fates at fate) where
   fate_is : fate ≡ get_or fates at 0
   fate_is = is ∙ get_or_default fates at fate 0 (let e = are.long in omega arith)
 
   pub stays_by : fate < length rows → p (get_or ys at no_row) ≡ true
-  stays_by low = ap p (still p rows ys kept at no_row filtered) ∙ true_from_ne_false _ (λ goes. let g = are.go at no_row within goes in let f = fate_is in absurd (omega arith))
+  stays_by low = ap p (still p rows ys kept at no_row filtered) ∙ stays_at p rows fates at are within (λ same. let f = fate_is in absurd (omega arith))
 
   pub goes_by : length rows ≤ fate → p (get_or ys at no_row) ≡ false
-  goes_by high = ap p (still p rows ys kept at no_row filtered) ∙ false_from_ne_true _ (λ stays.
-      let g = are.stay at no_row within stays in
-      let f = fate_is in
-      let h = (stays_behind p rows at no_row within stays).0 in
-      let few = fewer p rows in
-      absurd (omega arith))
+  goes_by high = ap p (still p rows ys kept at no_row filtered) ∙ goes_at p rows fates at are within (subst (λ n. length rows ≤ n) fate_is high)
+
+-- ---- the rows without those before a place that go
+
+abbrev pub released : (NodeRow → Bool) → List NodeRow → ℕ → List NodeRow
+released p rows at = filter p (take at rows) ++ drop at rows
+
+next : (rows : List NodeRow) (at : ℕ) (d : NodeRow) → at < length rows → drop at rows ≡ get_or rows at d ∷ drop (at + 1) rows
+next rows at d within = let more : suc at ≡ at + 1 = omega arith in drop-cons rows at d within ∙ ap (λ n. get_or rows at d ∷ drop n rows) more
+
+-- the row at the place is between those that stayed and those behind it
+pub released_here : (p : NodeRow → Bool) (rows : List NodeRow) (at : ℕ) (row : NodeRow) → at < length rows → row ≡ get_or rows at row
+    → released p rows at ≡ filter p (take at rows) ++ row ∷ drop (at + 1) rows
+released_here p rows at row within is =
+    ap (λ list. filter p (take at rows) ++ list) (next rows at row within ∙ ap (λ r. r ∷ drop (at + 1) rows) (sym is))
+
+pub released_stays : (p : NodeRow → Bool) (rows : List NodeRow) (at : ℕ) (d : NodeRow) → at < length rows → p (get_or rows at d) ≡ true → released p rows (at + 1) ≡ released p rows at
+released_stays p rows at d within passes =
+    ap (λ list. list ++ drop (at + 1) rows) (filter_more p rows at d within ∙ ap (λ b. filter p (take at rows) ++ cond b (get_or rows at d ∷ []) []) passes)
+    ∙ append_assoc (filter p (take at rows)) (get_or rows at d ∷ []) (drop (at + 1) rows)
+    ∙ ap (λ list. filter p (take at rows) ++ list) (sym (next rows at d within))
+
+pub released_goes : (p : NodeRow → Bool) (rows : List NodeRow) (at : ℕ) (d : NodeRow) → at < length rows → p (get_or rows at d) ≡ false
+    → released p rows (at + 1) ≡ filter p (take at rows) ++ drop (at + 1) rows
+released_goes p rows at d within fails =
+    ap (λ list. list ++ drop (at + 1) rows)
+    (filter_more p rows at d within ∙ ap (λ b. filter p (take at rows) ++ cond b (get_or rows at d ∷ []) []) fails ∙ append-nil (filter p (take at rows)))
+
+pub released_all : (p : NodeRow → Bool) (rows : List NodeRow) (n : ℕ) → length rows ≤ n → released p rows n ≡ filter p rows
+released_all p rows n all =
+    ap (λ list. filter p list ++ drop n rows) (take_all n rows all) ∙ ap (λ list. filter p rows ++ list) (drop_all n rows all) ∙ append-nil (filter p rows)
+
+-- ---- the pieces of the rows that go
+
+abbrev pub gone_pieces : (NodeRow → Bool) → List NodeRow → ℕ
+gone_pieces p rows = piece_count (filter (λ row. not (p row)) rows)
+
+pub gone_kept : (p : NodeRow → Bool) (rows : List NodeRow) (n : ℕ) (d : NodeRow) → n < length rows → p (get_or rows n d) ≡ true
+    → gone_pieces p (take (n + 1) rows) ≡ gone_pieces p (take n rows)
+gone_kept p rows n d within passes =
+    ap piece_count
+    (filter_more (λ row. not (p row)) rows n d within
+    ∙ ap (λ b. filter (λ row. not (p row)) (take n rows) ++ cond (not b) (get_or rows n d ∷ []) []) passes
+    ∙ append-nil (filter (λ row. not (p row)) (take n rows)))
+
+pub gone_more : (p : NodeRow → Bool) (rows : List NodeRow) (n : ℕ) (d : NodeRow) → n < length rows → p (get_or rows n d) ≡ false
+    → gone_pieces p (take (n + 1) rows) ≡ gone_pieces p (take n rows) + length (get_or rows n d).content
+gone_more p rows n d within fails =
+    ap piece_count
+    (filter_more (λ row. not (p row)) rows n d within
+    ∙ ap (λ b. filter (λ row. not (p row)) (take n rows) ++ cond (not b) (get_or rows n d ∷ []) []) fails)
+    ∙ sum_by_push (λ (row : NodeRow). length row.content) (filter (λ row. not (p row)) (take n rows)) (get_or rows n d)
+
+-- with those of the rows that stay they are all
+pub gone_rest : (p : NodeRow → Bool) (rows : List NodeRow) (n : ℕ) → length rows ≤ n → gone_pieces p (take n rows) + piece_count (filter p rows) ≡ piece_count rows
+gone_rest p rows n all =
+    ap (λ list. gone_pieces p list + piece_count (filter p rows)) (take_all n rows all)
+    ∙ sum_by-filter_both (λ row. not (p row)) p (λ row. twice (p row)) (λ (row : NodeRow). length row.content) rows
+  where
+    twice : (b : Bool) → b ≡ not (not b)
+    twice true = refl
+    twice false = refl
 
 -- all of a list is mapped
 pub mapped : (f : ℕ → ℕ) (xs : List ℕ) (n : ℕ) → length xs ≡ n → map f (take n xs) ++ drop n xs ≡ map f xs

@@ -8,3 +8,5 @@ pub mod Children
 pub mod Trees
 pub mod Walks
 pub mod Fates
+pub mod Marks
+pub mod Removed

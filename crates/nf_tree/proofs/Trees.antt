@@ -7,10 +7,12 @@ use Rattle.std.proofs.lemmas.List.{get_or-set_same, get_or-set_other, length-set
 use Rattle.std.proofs.lemmas.List.Elements.{All-push, All-set}
 use Rattle.std.proofs.lemmas.List.Quantifiers.{all_pairs_push, position-Some}
 use Rattle.std.proofs.lemmas.List.Sums.{sum_by_push, sum_by-set, sum_by-le, get_or-le-sum_by}
+use Rattle.nf_base.specs.Content.{size_of}
 use Rattle.nf_base.specs.declared.limits.TheConstants.{MAX_NODES, MAX_PIECES}
 use Rattle.nf_base.specs.declared.rows.NodeRow.{NodeRow}
 use Rattle.nf_base.specs.declared.content.Piece.{Piece}
-use Rattle.nf_defs.specs.Tree.{node_row, is_file, is_folder_kind, content_of, piece_count, with_node}
+use Rattle.nf_charge.specs.Charges.{IsRefill}
+use Rattle.nf_defs.specs.Tree.{node_row, is_file, is_folder_kind, content_of, piece_count, filled, with_node}
 use Rattle.nf_tree.specs.Held.{AreSmall, Held, IsTree}
 use Rattle.nf_tree.specs.Order.{key_at, key_of, AreRisingNodes, IsIndex}
 use Rattle.nf_tree.proofs.Orders.{key_of_row, key_at_set}
@@ -136,6 +138,21 @@ changed_held held rows room at node old row change view there is new =
     let e = ap (set rows at) new ∙ changed_node rows at old node change (rw (← same) at there) is ∙ ap (λ list. with_node list node change) same in
     let f = ap (λ (h : Held). h.room) view in
     cc
+
+-- a file's row with another content is a refill of the owner's
+pub refills : (rows : List NodeRow) (at node : ℕ) (old read row : NodeRow) (content : List Piece) (changed owner less more : ℕ) → Some at ≡ position (λ row. row.id == node) rows
+    → old ≡ get_or rows at old → read ≡ get_or rows at read → row ≡ filled content changed old → owner ≡ read.owner → less ≡ size_of old.content → more ≡ size_of content
+    → IsRefill rows at row owner less more
+refills rows at node old read row content changed owner less more position is same new own was now =
+    let there = node_within rows at node old position in
+    let first = get_or_read rows at old there is in
+    record {
+      there = there;
+      own = ap (λ (r : NodeRow). r.owner) new ∙ ap (λ (r : NodeRow). r.owner) (first read ∙ sym same) ∙ sym own;
+      filled = ap (λ (r : NodeRow). size_of r.content) new ∙ sym now;
+      was_own = ap (λ (r : NodeRow). r.owner) (sym (first row) ∙ first read ∙ sym same) ∙ sym own;
+      was_filled = ap (λ (r : NodeRow). size_of r.content) (sym (first row)) ∙ sym was;
+    }
 
 pub pieces_few : (rows : List NodeRow) (order : List ℕ) (pieces room : ℕ) → IsTree rows order pieces room → pieces ≤ MAX_NODES * MAX_PIECES
 pieces_few rows order pieces room tree =

@@ -1,6 +1,6 @@
 -- The order of the nodes by folder, then name, then number, and a list of places that is in it.
-use Rattle.std.specs.Prelude.{ℕ, ◌+◌, ◌<◌, ◌≤◌, ◌≡◌, ◌≢◌, Bool, true, false, not, List, [], length, take, filter, Option, None, All, AllPairs, slice_get, slice_index, slice_index_or, unwrap_or}
-use Rattle.std.specs.List.{AllWithin}
+use Rattle.std.specs.Prelude.{ℕ, ◌+◌, ◌-◌, ◌<◌, ◌≤◌, ◌≡◌, ◌≢◌, ◌==◌, Bool, true, false, not, List, [], length, take, filter, Option, None, All, AllPairs, slice_get, slice_index, slice_index_or, unwrap_or, nat_lt, if◌then◌else◌}
+use Rattle.std.specs.List.{AllWithin, list_any}
 use Rattle.std.specs.Option.{option_map_or, option_cmp}
 use Rattle.std.specs.Ordering.{nat_cmp, ordering_then, is_lt}
 use Rattle.std.specs.Cmp.Lexicographic.{slice_cmp}
@@ -65,6 +65,16 @@ placed place name row = record row { place = place; name = unwrap_or name row.na
 -- the row stays where the nodes under a top go
 abbrev pub stays : List NodeRow → ℕ → NodeRow → Bool
 stays rows top row = not (is_under rows row.id top)
+
+-- a place when the row at another is gone
+abbrev pub lowered : ℕ → ℕ → ℕ
+lowered gone at = if nat_lt gone at then at - 1 else at
+
+-- the rows of those nodes are marked by the number of all rows, and the marks of the others are as before
+pub record AreMarked (rows : List NodeRow) (nodes before after : List ℕ) : Type 0 where
+  pub long : length after ≡ length before
+  pub each : (at : ℕ) (d : NodeRow) → at < length rows
+      → slice_index after at ≡ (if list_any (λ node. node == (slice_index_or rows at d).id) nodes then length rows else slice_index before at)
 
 -- where each of the first n rows goes when only those that stay are left: behind those before it, or past the end
 pub record AreFates (kept : NodeRow → Bool) (rows : List NodeRow) (n : ℕ) (fates : List ℕ) : Type 0 where

@@ -3,6 +3,7 @@
 
 mod nodes;
 mod order;
+mod removal;
 mod tree;
 
 pub use tree::{Tree, TreeFault};

@@ -1,11 +1,11 @@
 //! Look-ups and walks in rows by rising number.
 
-ghost use Rattle.std.specs.Prelude.{◌≡◌, false, ◌==◌, ◌≤◌, ◌<◌, length, vec_len, vec_capacity, option_copied, IfOk};
+ghost use Rattle.std.specs.Prelude.{◌≡◌, false, ◌==◌, ◌≤◌, ◌<◌, length, option_copied, IfOk};
 ghost use Rattle.std.specs.List.{position};
 ghost use Rattle.nf_base.specs.declared.limits.TheConstants.{MAX_NODES, MAX_PIECES};
-ghost use Rattle.nf_defs.specs.Tree.{node_row, is_folder, is_root, folder_of, parent_of, is_under, is_rooted, depth, piece_count, is_folder_kind, filled, without_under};
+ghost use Rattle.nf_defs.specs.Tree.{node_row, is_folder, is_root, folder_of, parent_of, is_under, is_rooted, depth, piece_count, is_folder_kind, filled};
 ghost use Rattle.nf_tree.specs.Held.{AreSmall};
-ghost use Rattle.nf_tree.specs.Order.{AreRisingNodes, AreFates, placed, stays};
+ghost use Rattle.nf_tree.specs.Order.{AreRisingNodes, placed};
 
 use crate::order::folder_of;
 use nf_base::{Content, MAX_DEPTH, Moment, Name, NodeId, NodeKind, NodeRow, Place};
@@ -85,46 +85,6 @@ pub(crate) fn copy_row(row: &NodeRow) -> Result<NodeRow, AllocError>
     ensures { IfOk result (λ copy. copy ≡ row.now) }
 {
     row.clone()
-}
-
-/// Drops the rows of the nodes under a top, and tells where each row goes.
-pub(crate) fn drop_under(rows: &mut Vec<NodeRow>, fates: &mut Vec<usize>, top: NodeId)
-    requires rising { AreRisingNodes rows.old.items }
-    requires room { vec_len rows.old ≤ vec_capacity fates.old }
-    ensures rows { rows.new.items ≡ without_under rows.old.items top }
-    ensures rows_room { vec_capacity rows.new ≡ vec_capacity rows.old }
-    ensures fates { AreFates (stays rows.old.items top) rows.old.items (vec_len rows.old) fates.new.items }
-    ensures fates_room { vec_capacity fates.new ≡ vec_capacity fates.old }
-{
-    settle(rows, fates, top);
-    let end = rows.len();
-    let mut kept = 0;
-    for at in 0..end {
-        if fates[at] < end {
-            rows.swap(kept, at);
-            kept += 1;
-        }
-    }
-    rows.truncate(kept);
-}
-
-/// Finds out where each row goes.
-fn settle(rows: &[NodeRow], fates: &mut Vec<usize>, top: NodeId)
-    requires rising { AreRisingNodes rows.now }
-    requires room { length rows.now ≤ vec_capacity fates.old }
-    ensures fates { AreFates (stays rows.now top) rows.now (length rows.now) fates.new.items }
-    ensures room { vec_capacity fates.new ≡ vec_capacity fates.old }
-{
-    fates.clear();
-    let mut kept = 0;
-    for row in rows {
-        if is_under(rows, row.id, top) {
-            fates.push_reserved(rows.len());
-        } else {
-            fates.push_reserved(kept);
-            kept += 1;
-        }
-    }
 }
 
 /// How many pieces a row has.

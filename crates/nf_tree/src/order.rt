@@ -1,9 +1,9 @@
 //! The places of the rows in the order of their keys: by folder, then name, then number.
 
-ghost use Rattle.std.specs.Prelude.{◌≡◌, ◌<◌, ◌≤◌, ◌+◌, ◌&&◌, bytes_eq, length, All, IfOk, map, filter, nat_lt, option_copied, slice_get, slice_index, vec_len, vec_capacity};
+ghost use Rattle.std.specs.Prelude.{◌≡◌, [], Some, ◌<◌, ◌≤◌, ◌+◌, ◌&&◌, bytes_eq, length, All, IfOk, map, filter, nat_lt, option_copied, slice_get, slice_index, vec_len, vec_capacity};
 ghost use Rattle.std.specs.List.{range_with_len};
-ghost use Rattle.nf_defs.specs.Tree.{child_of, children_of, is_in, folder_of};
-ghost use Rattle.nf_tree.specs.Order.{AreRisingNodes, AreInOrder, IsCut, IsIndex, LacksOnly, key_cmp, key_of, key_at};
+ghost use Rattle.nf_defs.specs.Tree.{child_of, children_of, is_in, is_leaf, folder_of};
+ghost use Rattle.nf_tree.specs.Order.{AreRisingNodes, AreInOrder, IsCut, IsIndex, LacksOnly, key_cmp, key_of, key_at, lowered};
 
 use nf_base::{NodeId, NodeRow, Place};
 use std::alloc::{AllocError, Global};
@@ -71,6 +71,14 @@ fn cut(rows: &[NodeRow], order: &[usize], folder: &Option<NodeId>, name: &[u8], 
     order.partition_point(|at| compare(rows, *at, folder, name, id).is_lt())
 }
 
+/// The place in the order where the children of a folder begin.
+pub(crate) fn first_in(rows: &[NodeRow], order: &[usize], folder: NodeId) -> usize
+    requires { AreInOrder rows.now order.now }
+    ensures { IsCut rows.now order.now (record { folder = Some folder; name = []; id = 0 }) result }
+{
+    cut(rows, order, &Some(folder), b"", NodeId::new(0))
+}
+
 /// How many places have keys before that of a row.
 fn cut_at(rows: &[NodeRow], order: &[usize], row: &NodeRow) -> usize
     requires { AreInOrder rows.now order.now }
@@ -109,6 +117,23 @@ pub(crate) fn take(rows: &[NodeRow], order: &mut Vec<usize>, at: usize)
 {
     let from = cut_at(rows, order, &rows[at]);
     order.remove(from);
+}
+
+/// Lowers the places above one whose row is gone.
+pub(crate) fn lower(order: &mut Vec<usize>, gone: usize)
+    ensures order { order.new.items ≡ map (lowered gone) order.old.items }
+    ensures room { vec_capacity order.new ≡ vec_capacity order.old }
+{
+    for at in 0..order.len() {
+        order[at] = lowered(gone, order[at]);
+    }
+}
+
+/// A place when the row at another is gone.
+fn lowered(gone: usize, at: usize) -> usize
+    ensures { result ≡ lowered gone at }
+{
+    if gone < at { at - 1 } else { at }
 }
 
 /// Which of the rows at two places comes first.
@@ -184,6 +209,16 @@ pub(crate) fn child_of(
     None
 }
 
+/// Whether no row is in the node.
+pub(crate) fn is_leaf(rows: &[NodeRow], order: &[usize], node: NodeId) -> bool
+    requires rising { AreRisingNodes rows.now }
+    requires index { IsIndex rows.now order.now }
+    ensures { result ≡ is_leaf rows.now node }
+{
+    let at = first_in(rows, order, node);
+    at == order.len() || !is_in(node, &rows[order[at]])
+}
+
 /// The children of a folder, by name.
 pub(crate) fn children_of(
     alloc: Global,
@@ -196,7 +231,7 @@ pub(crate) fn children_of(
     ensures { IfOk result (λ children. children.items ≡ children_of rows.now folder) }
 {
     let mut children = Vec::new(alloc);
-    let mut at = cut(rows, order, &Some(folder), b"", NodeId::new(0));
+    let mut at = first_in(rows, order, folder);
     while at < order.len() {
         let row = &rows[order[at]];
         if !is_in(folder, row) {

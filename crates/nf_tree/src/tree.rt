@@ -1,14 +1,18 @@
 //! The tree as callers see it.
 
-ghost use Rattle.std.specs.Prelude.{◌≡◌, ◌==◌, ◌<◌, ◌≤◌, ◌+◌, ◌*◌, ◌↔◌, All, IfOk, OnOk, IsSome, true, Some, map, [], ◌∷◌, ◌++◌, Err, length, option_copied, vec_len, vec_capacity};
+ghost use Rattle.std.specs.Prelude.{◌≡◌, ◌==◌, ◌<◌, ◌≤◌, ◌+◌, ◌*◌, ◌↔◌, All, IfOk, OnOk, IsSome, true, Some, map, [], ◌∷◌, ◌++◌, Err, length, option_copied, sum_by, if◌then◌else◌, vec_len, vec_capacity};
 ghost use Rattle.std.specs.List.{position};
 ghost use Rattle.nf_base.specs.declared.limits.TheConstants.{MAX_PIECES};
+ghost use Rattle.nf_base.specs.Content.{size_of};
 ghost use Rattle.nf_base.specs.declared.rows.Row.TheVariants.{Node};
-ghost use Rattle.nf_defs.specs.Tree.{node_row, child_of, is_folder, is_file, content_of, piece_count, is_under, depth, found_from, children_of, walk_of, walk_within, is_rooted, with_node, filled, relinked, trashed, without_under};
+ghost use Rattle.nf_defs.specs.Tree.{node_row, child_of, is_folder, is_file, is_leaf, content_of, piece_count, is_under, depth, found_from, children_of, walk_of, walk_within, is_rooted, with_node, filled, relinked, trashed, without_under};
 ghost use Rattle.nf_tree.specs.Order.{AreRisingNodes, placed};
 
-use crate::{nodes, order};
-use nf_base::{Content, MAX_DEPTH, MAX_NODES, Moment, Name, NodeId, NodeRow, Place, Row, RowList};
+use crate::{nodes, order, removal};
+use nf_base::{
+    Content, MAX_DEPTH, MAX_NODES, Moment, Name, NodeId, NodeRow, Place, Row, RowList, UserId,
+};
+use nf_charge::Charges;
 use nf_defs::Found;
 use std::alloc::{AllocError, Global};
 use std::marker::Model;
@@ -56,6 +60,8 @@ pub struct Tree {
     order: Vec<usize>,
     /// Room in which a purge notes where each row goes.
     fates: Vec<usize>,
+    /// What each user's rows take up.
+    charges: Charges,
     /// How many pieces the rows have.
     pieces: usize,
     /// How many rows fit without more memory.
@@ -64,13 +70,14 @@ pub struct Tree {
 
 impl Model for Tree {
     ghost use Rattle.std.specs.Prelude.{vec_capacity};
+    ghost use Rattle.nf_charge.specs.Charges.{AreCharged};
     ghost use Rattle.nf_tree.specs.Held.{HaveRoom, Held, IsTree};
 
     ghost Value = { Held };
 
     ghost view = { λ tree. record { rows = tree.rows.items; room = tree.room } };
 
-    ghost invariant = { λ tree. IsTree tree.rows.items tree.order.items tree.pieces tree.room × HaveRoom tree.room (vec_capacity tree.rows) (vec_capacity tree.order) (vec_capacity tree.fates) };
+    ghost invariant = { λ tree. IsTree tree.rows.items tree.order.items tree.pieces tree.room × HaveRoom tree.room (vec_capacity tree.rows) (vec_capacity tree.order) (vec_capacity tree.fates) tree.charges.room × AreCharged tree.rows.items tree.charges.sums };
 }
 
 impl Tree {
@@ -83,6 +90,7 @@ impl Tree {
             rows: Vec::new(alloc),
             order: Vec::new(alloc),
             fates: Vec::new(alloc),
+            charges: Charges::new(alloc),
             pieces: 0,
             room: 0,
         }
@@ -100,10 +108,12 @@ impl Tree {
         let order = order::of(alloc, &rows)?;
         let mut fates = Vec::new(alloc);
         fates.reserve(room)?;
+        let charges = Charges::of(alloc, &rows)?;
         Ok(Tree {
             rows,
             order,
             fates,
+            charges,
             pieces,
             room,
         })
@@ -126,6 +136,7 @@ impl Tree {
             self.order.reserve(more)?;
             self.fates.clear();
             self.fates.reserve(many + more)?;
+            self.charges.reserve(many + more)?;
             self.room = many + more;
         }
         Ok(())
@@ -153,6 +164,14 @@ impl Tree {
         ensures few { result ≤ MAX_NODES * MAX_PIECES }
     {
         self.pieces
+    }
+
+    /// How many bytes the user's files take up: those of all rows, present or not. So what is in the trash still counts;
+    /// nothing is put there yet.
+    pub fn charge(&self, user: UserId) -> u128
+        ensures { result ≡ sum_by (λ row. if row.owner == user then size_of row.content else 0) self.now.rows }
+    {
+        self.charges.charge(user)
     }
 
     /// The nodes' rows, by rising number.
@@ -199,6 +218,13 @@ impl Tree {
         ensures { result ≡ is_under self.now.rows node top }
     {
         nodes::is_under(&self.rows, node, top)
+    }
+
+    /// Whether no node is in it, so that only itself is under it.
+    pub fn is_leaf(&self, node: NodeId) -> bool
+        ensures { result ≡ is_leaf self.now.rows node }
+    {
+        order::is_leaf(&self.rows, &self.order, node)
     }
 
     /// Whether the node is a root, or under one.
@@ -278,6 +304,7 @@ impl Tree {
     {
         let last = self.rows.len();
         self.pieces += nodes::pieces_of(&row);
+        self.charges.come(&row);
         self.rows.push_reserved(row);
         order::put(&self.rows, &mut self.order, last);
     }
@@ -289,9 +316,12 @@ impl Tree {
         ensures content { result ≡ content_of self.old.rows file }
     {
         let at = self.place_of(file);
+        let owner = self.rows[at].owner;
+        let size = content.size();
         let more = content.pieces().len();
         let old = nodes::refill(&mut self.rows[at], content, changed);
         self.pieces = self.pieces - old.pieces().len() + more;
+        self.charges.refill(owner, old.size(), size);
         old
     }
 
@@ -334,9 +364,39 @@ impl Tree {
     pub fn purge(&mut self, node: NodeId)
         ensures { self.new ≡ record self.old { rows = without_under self.old.rows node } }
     {
-        nodes::drop_under(&mut self.rows, &mut self.fates, node);
+        if self.is_leaf(node) {
+            self.purge_leaf(node);
+        } else {
+            self.purge_folder(node);
+        }
+    }
+
+    /// Takes out a node that nothing is in.
+    fn purge_leaf(&mut self, leaf: NodeId)
+        requires { is_leaf self.old.rows leaf ≡ true }
+        ensures { self.new ≡ record self.old { rows = without_under self.old.rows leaf } }
+    {
+        if let Some(at) = nodes::index_of(&self.rows, leaf) {
+            order::take(&self.rows, &mut self.order, at);
+            order::lower(&mut self.order, at);
+            let row = self.rows.remove(at);
+            self.pieces -= nodes::pieces_of(&row);
+            self.charges.go(&row);
+        }
+    }
+
+    /// Takes out a node and all under it, whatever is in it.
+    fn purge_folder(&mut self, node: NodeId)
+        ensures { self.new ≡ record self.old { rows = without_under self.old.rows node } }
+    {
+        self.pieces -= removal::drop_under(
+            &mut self.rows,
+            &self.order,
+            &mut self.fates,
+            &mut self.charges,
+            node,
+        );
         order::renumber(&mut self.order, &self.fates);
-        self.pieces = nodes::piece_count(&self.rows);
     }
 
     fn place_of(&self, node: NodeId) -> usize

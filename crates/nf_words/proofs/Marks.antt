@@ -18,13 +18,15 @@ use Rattle.nf_words.specs.declared.request.Spot.{Spot}
 use Rattle.nf_defs.specs.Prelude.{Access, is_root, owner_of, Tables}
 use Rattle.nf_defs.specs.declared.Found.{Found}
 use Rattle.nf_defs.specs.declared.Found.TheVariants.{At, Missing}
-use Rattle.nf_words.specs.Prelude.{access_of, acts_rule, allowed_of, asks_by_link, answer_at, answer_to, answered_by, asked_by, broken_by, Call, call_of, decision_of, earlier_rules, end_lost, end_refusal, end_unallowed, end_unreached, ends_at, ends_goal, exists_rule, first_refused, first_that_holds, forbidden_rule, goal_at, has_forbidden, is_caller, is_kept, is_owner, is_refused, is_transfer, key_in_way, later_rules, limit_at, limit_rule, limited, locked_rule, Need, need_broken, needed, needed_by, node_of_key, not_you_rule, overwrite_rule, Pass, pieces_of, place_of, paths_of, place_rule, places_of, refusal_of, root_of, Rule, seeker_of, source_lost, source_refused, State, stored_at, taken, target_lost, target_refused, target_rule, told_broken, token_rule, touches, unfit, unless_refused, unlinked, unreached, unreached_by, users_of, Way, way_of, ways_of, caller_row, named_rule, sharing_rule, room_rule, unnamed, fault_by, limit_by, unnamed_by, may_ask}
+use Rattle.nf_words.specs.Prelude.{access_of, acts_rule, allowed_of, asks_by_link, answer_at, answer_to, answered_by, asked_by, broken_by, Call, call_of, decision_of, earlier_rules, exceeded, excess_at, end_lost, end_refusal, end_unallowed, end_unreached, ends_at, ends_goal, exists_rule, first_refused, first_that_holds, forbidden_rule, goal_at, has_forbidden, is_caller, is_kept, is_owner, is_refused, is_transfer, key_in_way, later_rules, limit_at, limit_rule, limited, locked_rule, Need, need_broken, needed, needed_by, node_of_key, not_you_rule, overwrite_rule, Pass, pieces_of, place_of, paths_of, place_rule, places_of, quota_rule, refusal_of, root_of, Rule, seeker_of, source_lost, source_refused, State, stored_at, taken, target_lost, target_refused, target_rule, told_broken, token_rule, touches, unfit, unless_refused, unlinked, unreached, unreached_by, users_of, Way, way_of, ways_of, caller_row, named_rule, sharing_rule, room_rule, unnamed, fault_by, limit_by, unnamed_by, may_ask}
 use Rattle.nf_words.specs.declared.answer.Allowed.{Allowed}
+use Rattle.nf_words.specs.declared.answer.By.{By}
 use Rattle.nf_words.specs.declared.answer.Denial.{Denial}
 use Rattle.nf_words.specs.Reached.{unlinked_by}
 use Rattle.nf_words.specs.declared.request.Caller.{Caller}
 use Rattle.nf_words.specs.declared.request.Caller.TheVariants.{Link}
 use Rattle.nf_words.specs.declared.answer.Denial.TheVariants as denial
+use Rattle.nf_words.specs.declared.answer.Excess.{Excess}
 use Rattle.nf_words.specs.declared.answer.Goal.{Goal}
 use Rattle.nf_words.specs.declared.answer.Goal.TheVariants.{Store}
 use Rattle.nf_words.specs.declared.answer.Limit.{Limit}
@@ -59,11 +61,13 @@ is_failure other = false
 abbrev pub is_later : Denial → Bool
 is_later (denial.Locked key) = true
 is_later (denial.Limit limit) = true
+is_later (denial.Quota excess) = true
 is_later refusal = is_failure refusal
 
 later_failure : (refusal : Denial) → is_later refusal ≡ false → is_failure refusal ≡ false
 later_failure (denial.Locked key) h = refl
 later_failure (denial.Limit limit) h = refl
+later_failure (denial.Quota excess) h = refl
 later_failure refusal h = h
 
 -- none, or a refusal by a rule
@@ -71,7 +75,7 @@ abbrev IsRefusal : Option Denial → Type 0
 IsRefusal o = IfSome o (λ (refusal : Denial). is_failure refusal ≡ false)
 
 -- none, or a refusal by a rule that is tried first
-abbrev IsEarly : Option Denial → Type 0
+abbrev pub IsEarly : Option Denial → Type 0
 IsEarly o = IfSome o (λ (refusal : Denial). is_later refusal ≡ false)
 
 unless_test : (b : Bool) (refusal : Denial) → is_later refusal ≡ false → IsEarly (if b then None else Some refusal)
@@ -93,6 +97,14 @@ faults (Some fault) = refl
 limits : (o : Option Limit) → IsRefusal (option_map denial.Limit o)
 limits None = tt
 limits (Some limit) = refl
+
+quotas : (o : Option Excess) → IsRefusal (option_map denial.Quota o)
+quotas None = tt
+quotas (Some excess) = refl
+
+unfit_fine : (limit : Option Limit) (excess : Option Excess) → IsRefusal (option_or (option_map denial.Limit limit) (option_map denial.Quota excess))
+unfit_fine None excess = quotas excess
+unfit_fine (Some limit) excess = refl
 
 source_fine : (o : Option Found) → IsEarly (option_and_then source_lost o)
 source_fine None = tt
@@ -264,15 +276,21 @@ room_fine : (access : Access) (call : Call) → IsRefusal (room_rule access call
 unfolding room_rule
 room_fine access call = limits (limit_by call call.request.wanted)
 
+quota_fine : (access : Access) (call : Call) → IsRefusal (quota_rule access call)
+unfolding quota_rule
+quota_fine access call = quotas (exceeded call.state.tables (places_of call) (asked_by call).makes)
+
 pub early : AreEarly earlier_rules
 early =
     (token_fine, (not_you_fine, (forbidden_fine, (place_fine, (named_fine, (acts_fine, (exists_fine, (fit_fine, (overwrite_fine, (sharing_fine, tt))))))))))
 
-any_later : (a b c : Option Denial) → IsRefusal a → IsRefusal b → IsRefusal c → IsRefusal (option_or a (option_or b (option_or c None)))
-any_later None None None one two three = tt
-any_later None None (Some refusal) one two three = three
-any_later None (Some refusal) c one two three = two
-any_later (Some refusal) b c one two three = one
+any_later : (a b c d : Option Denial) → IsRefusal a → IsRefusal b → IsRefusal c → IsRefusal d
+    → IsRefusal (option_or a (option_or b (option_or c (option_or d None))))
+any_later None None None None one two three four = tt
+any_later None None None (Some refusal) one two three four = four
+any_later None None (Some refusal) d one two three four = three
+any_later None (Some refusal) c d one two three four = two
+any_later (Some refusal) b c d one two three four = one
 
 refusals : (access : Access) (call : Call) → IsRefusal (refusal_of access call)
 refusals access call = here (refusal_of access call) refl
@@ -283,8 +301,8 @@ refusals access call = here (refusal_of access call) refl
         elim (cases_Bool (is_later refusal)) [
           | inl later ↦
               (subst IsRefusal (early_pass earlier_rules later_rules access call refusal early later is).1
-              (any_later (locked_rule access call) (limit_rule access call) (room_rule access call) (locked_fine access call) (limit_fine access call)
-              (room_fine access call)))
+              (any_later (locked_rule access call) (limit_rule access call) (room_rule access call) (quota_rule access call) (locked_fine access call)
+              (limit_fine access call) (room_fine access call) (quota_fine access call)))
           | inr first ↦ later_failure refusal first
         ]
 
@@ -305,12 +323,11 @@ either_first : (a b : Option Denial) → IsEarly a → IsRefusal b → IsRefusal
 either_first None b fine more = more
 either_first (Some refusal) b fine more = early_refusal (Some refusal) fine
 
-goal_fine : (access : Access) (t : Tables) (now : ℕ) (outcome : Outcome) (goal : Goal) → IsDecided (ends_goal access t now outcome goal)
-goal_fine access t now (Body digest size) (Store by key wanted) =
-    unless_fine (end_refusal access t now by key size) (stored_at t now key digest size)
-    (either_first (end_unreached access t now by (node_of_key key)) _ (reached (is_owner t.nodes by.seeker (node_of_key key)))
-    (either_first (end_unallowed access t now by key) _ (needs_fine access (ground_of t) by.seeker now (needed_by by key))
-    (either_first (end_lost t key) _ (lost_fine key) (limits (limit_at t (pieces_of size) (place_of key))))))
+-- the rules of an End that are tried before what its body needs
+pub end_early : (access : Access) (t : Tables) (now : ℕ) (by : By) (key : LockKey)
+    → IsEarly (end_unreached access t now by (node_of_key key)) × IsEarly (end_unallowed access t now by key) × IsEarly (end_lost t key)
+end_early access t now by key =
+    (reached (is_owner t.nodes by.seeker (node_of_key key)), needs_fine access (ground_of t) by.seeker now (needed_by by key), lost_fine key)
   where
     of_mount : (mount : Option ℕ) → IsEarly (option_and_then (unreached_by access (ground_of t) by.seeker now) mount)
     of_mount mount = unreached_fine access (ground_of t) by.seeker now mount
@@ -322,6 +339,14 @@ goal_fine access t now (Body digest size) (Store by key wanted) =
     lost_fine : (key : LockKey) → IsEarly (end_lost t key)
     lost_fine (Node node) = tt
     lost_fine (Slot folder name) = if_test (is_root t.nodes folder && is_some (mount_at t.mounts (owner_of t.nodes folder) name)) denial.NotFound refl
+
+goal_fine : (access : Access) (t : Tables) (now : ℕ) (outcome : Outcome) (goal : Goal) → IsDecided (ends_goal access t now outcome goal)
+goal_fine access t now (Body digest size) (Store by key wanted) =
+    let fine = end_early access t now by key in
+    unless_fine (end_refusal access t now by key size) (stored_at t now key digest size)
+    (either_first (end_unreached access t now by (node_of_key key)) _ fine.0
+    (either_first (end_unallowed access t now by key) _ fine.1
+    (either_first (end_lost t key) _ fine.2 (unfit_fine (limit_at t (pieces_of size) (place_of key)) (excess_at t size (place_of key))))))
 goal_fine access t now outcome goal = tt
 
 at_fine : (access : Access) (t : Tables) (now : ℕ) (outcome : Outcome) (goal : Option Goal) → IsDecided (ends_at access t now outcome goal)

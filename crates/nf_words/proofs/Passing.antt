@@ -8,11 +8,12 @@ use Rattle.nf_access.specs.Shares.{Ground, ground_of}
 use Rattle.nf_defs.specs.Prelude.{Access, Tables}
 use Rattle.nf_defs.specs.declared.Seeker.{Seeker}
 use Rattle.nf_words.specs.Asked.{Asked}
-use Rattle.nf_words.specs.Prelude.{access_of, acts_rule, allowed_of, asked_by, Call, call_decision, end_lost, end_refusal, end_unallowed, end_unreached, exists_rule, first_refused, first_that_holds, forbidden_rule, found, is_refused, limit_at, limit_rule, locked_rule, may_by, named_rule, Need, need_broken, needed, node_of_key, not_you_rule, overwrite_rule, Pass, pieces_of, place_of, place_rule, refusal_of, room_rule, Rule, rules, seeker_of, sharing_rule, source_lost, source_refused, target_lost, target_refused, target_rule, token_rule, unless_refused, unlinked, unreached, Way, way_of}
+use Rattle.nf_words.specs.Prelude.{access_of, acts_rule, allowed_of, asked_by, Call, call_decision, end_lost, end_refusal, end_unallowed, end_unreached, excess_at, exists_rule, first_refused, first_that_holds, forbidden_rule, found, is_refused, limit_at, limit_rule, locked_rule, may_by, named_rule, Need, need_broken, needed, node_of_key, not_you_rule, overwrite_rule, Pass, pieces_of, place_of, place_rule, quota_rule, refusal_of, room_rule, Rule, rules, seeker_of, sharing_rule, source_lost, source_refused, target_lost, target_refused, target_rule, token_rule, unless_refused, unlinked, unreached, Way, way_of}
 use Rattle.nf_words.specs.declared.answer.Allowed.{Allowed}
 use Rattle.nf_words.specs.declared.answer.By.{By}
 use Rattle.nf_words.specs.declared.answer.Denial.{Denial}
 use Rattle.nf_words.specs.declared.answer.Denial.TheVariants as denial
+use Rattle.nf_words.specs.declared.answer.Excess.{Excess}
 use Rattle.nf_words.specs.declared.answer.Limit.{Limit}
 use Rattle.nf_words.specs.declared.answer.LockKey.{LockKey}
 use Rattle.nf_words.specs.declared.answer.Breach.{Breach}
@@ -34,9 +35,10 @@ pub record Passes (access : Access) (call : Call) : Type 0 where
   pub locked : locked_rule access call ≡ None
   pub limit : limit_rule access call ≡ None
   pub room : room_rule access call ≡ None
+  pub quota : quota_rule access call ≡ None
 
 named : (access : Access) (call : Call) → Pass rules access call → Passes access call
-named access call (token, (not_you, (forbidden, (place, (names, (acts, (exists, (target, (overwrite, (sharing, (locked, (limit, (room, end))))))))))))) = record {
+named access call (token, (not_you, (forbidden, (place, (names, (acts, (exists, (target, (overwrite, (sharing, (locked, (limit, (room, (quota, end)))))))))))))) = record {
   token = token;
   not_you = not_you;
   forbidden = forbidden;
@@ -50,6 +52,7 @@ named access call (token, (not_you, (forbidden, (place, (names, (acts, (exists, 
   locked = locked;
   limit = limit;
   room = room;
+  quota = quota;
 }
 
 pub in_order : (access : Access) (call : Call) → Passes access call → Pass rules access call
@@ -73,7 +76,7 @@ in_order access call p = (
                   p.overwrite,
                   (
                     p.sharing,
-                    (p.locked, (p.limit, (p.room, tt))),
+                    (p.locked, (p.limit, (p.room, (p.quota, tt)))),
                   ),
                 ),
               ),
@@ -204,6 +207,10 @@ pub no_limit : (passed : Option Limit) → option_map denial.Limit passed ≡ No
 no_limit None none = refl
 no_limit (Some passed) none = absurd (cc)
 
+pub no_excess : (excess : Option Excess) → option_map denial.Quota excess ≡ None → excess ≡ None
+no_excess None none = refl
+no_excess (Some excess) none = absurd (cc)
+
 pub if_none : (b : Bool) (refusal : Denial) → (if b then None else Some refusal) ≡ None → b ≡ true
 if_none true refusal none = refl
 if_none false refusal none = absurd (cc)
@@ -216,6 +223,7 @@ pub record EndPasses (access : Access) (t : Tables) (now : ℕ) (by : By) (key :
   pub allowed : end_unallowed access t now by key ≡ None
   pub there : end_lost t key ≡ None
   pub limit : limit_at t (pieces_of size) (place_of key) ≡ None
+  pub quota : excess_at t size (place_of key) ≡ None
 
 pub end_passes : (access : Access) (t : Tables) (now : ℕ) (by : By) (key : LockKey) (size : ℕ) → end_refusal access t now by key size ≡ None
     → EndPasses access t now by key size
@@ -223,4 +231,5 @@ end_passes access t now by key size none =
     let reached = both_none (end_unreached access t now by (node_of_key key)) _ none in
     let allowed = both_none (end_unallowed access t now by key) _ reached.1 in
     let there = both_none (end_lost t key) _ allowed.1 in
-    record { reached = reached.0; allowed = allowed.0; there = there.0; limit = no_limit _ there.1 }
+    let fits = both_none (option_map denial.Limit (limit_at t (pieces_of size) (place_of key))) _ there.1 in
+    record { reached = reached.0; allowed = allowed.0; there = there.0; limit = no_limit _ fits.0; quota = no_excess _ fits.1 }

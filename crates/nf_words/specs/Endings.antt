@@ -9,6 +9,7 @@ use Rattle.nf_defs.specs.Prelude.{Access, is_root, node_row, owner_of, Tables}
 use Rattle.nf_defs.specs.declared.Found.{Found}
 use Rattle.nf_defs.specs.declared.Found.TheVariants.{At, Free}
 use Rattle.nf_words.specs.Changes.{makes, new_node, refilled}
+use Rattle.nf_words.specs.Charges.{excess_at}
 use Rattle.nf_words.specs.Holds.{node_of_key}
 use Rattle.nf_words.specs.Limits.{limit_at, pieces_of}
 use Rattle.nf_words.specs.Needed.{is_owner, needed_by}
@@ -51,12 +52,18 @@ end_lost t (Node node) = None
 end_lost t (Slot folder name) =
     if is_root t.nodes folder && is_some (mount_at t.mounts (owner_of t.nodes folder) name) then Some denial.NotFound else None
 
--- the rules that refuse the End of a PUT, in their order; `limit` is the last
+-- `limit` and `quota`: the body doesn't fit
+abbrev pub end_unfit : Tables → LockKey → ℕ → Option Denial
+end_unfit t key length =
+    option_or (option_map denial.Limit (limit_at t (pieces_of length) (place_of key)))
+    (option_map denial.Quota (excess_at t length (place_of key)))
+
+-- the rules that refuse the End of a PUT, in their order
 abbrev pub end_refusal : Access → Tables → ℕ → By → LockKey → ℕ → Option Denial
 end_refusal access t now by key length =
     option_or (end_unreached access t now by (node_of_key key))
     (option_or (end_unallowed access t now by key)
-    (option_or (end_lost t key) (option_map denial.Limit (limit_at t (pieces_of length) (place_of key)))))
+    (option_or (end_lost t key) (end_unfit t key length)))
 
 -- the blob of a body: the next one, or none for an empty body
 abbrev pub blob_for : ℕ → ℕ → Option ℕ

@@ -7,6 +7,7 @@ pub mod Contents
 pub mod Needed
 pub mod Limits
 pub mod Listing
+pub mod Charges
 pub mod People
 pub mod Sharing
 pub mod Copies

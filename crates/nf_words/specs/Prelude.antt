@@ -4,10 +4,12 @@ pub use Rattle.nf_words.specs.Callers.{asks_by_link, is_caller, may_ask}
 unfoldable pub use Rattle.nf_words.specs.Callers.{not_you_rule, token_rule}
 pub use Rattle.nf_words.specs.Calls.{Call, Way, Ways, asked_by, asker_of, behind, caller_row, found, is_by_link, is_itself, is_mount_asked, is_one, last_name, link_of, linked_of, mount_for, mount_of, mounted, place_at, places_by, places_of, root_of, seeker_of, user_of, way_by, way_of, ways_for, ways_of}
 pub use Rattle.nf_words.specs.Changes.{above, allowed_of, altered, blob_after, blob_of, by_of, carried, changed, changes_of, cleared, closed_under, copied, counted, deleted, dropped_under, ended_for, ended_row, ended_under, given, goal_of, gone_for, gone_under, hold_of, is_closing, joined, left_row, made_folder, makes, meta_after, mount_left, mount_renamed, mounting, moved, named_row, new_node, nothing_done, own_mount, raised, refilled, removed, reply_by, reply_to, reported, same_end, served, set_row, share_ended, share_made, share_set, share_told, shared, shown, stamped, stored, told, transferred, transferred_row, with_goal, with_meta, with_mount_row}
+pub use Rattle.nf_words.specs.Charges.{carry_excess, copy_excess, counted_for, exceeded, excess, excess_at, is_over, quota_of}
+unfoldable pub use Rattle.nf_words.specs.Charges.{charge_of, quota_rule}
 pub use Rattle.nf_words.specs.Contents.{IsPieceSound, contents_of, row_content, stored_pieces}
 pub use Rattle.nf_words.specs.Copies.{copied_row, copies_of_all, copies_to, renamed}
 unfoldable pub use Rattle.nf_words.specs.Copies.{copies_within}
-pub use Rattle.nf_words.specs.Endings.{blob_for, content_in, end_decision, end_lost, end_refusal, end_unallowed, end_unreached, ends_at, ends_goal, place_of, stored_at, stores, unless_refused}
+pub use Rattle.nf_words.specs.Endings.{blob_for, content_in, end_decision, end_lost, end_refusal, end_unallowed, end_unfit, end_unreached, ends_at, ends_goal, place_of, stored_at, stores, unless_refused}
 pub use Rattle.nf_words.specs.Fine.{IsBorn, IsFilled, IsNewGroup, IsNewMember, IsNewMount, IsNewShare, IsNewToken, IsNewUser, IsOfPeople, IsOtherShare, IsRemounted, IsRequoted, IsUnmounted, StandsOn}
 pub use Rattle.nf_words.specs.History.{EndsAtDays, IsEnd, IsInBounds, IsLegal, IsLegalFrom, IsModest, LeavesRoom, MayAsk, MayBear, MayBring, MayCome, MayEnd, MayWant, NamesUser, after, after_mark, answer_at, failed, replay}
 pub use Rattle.nf_words.specs.Holds.{AreApartHolds, AreKeysApart, blocks, clashes, covers, IsHeld, is_exclusive, key_in_way, least, lesser, mode_of, node_of_key, same_key, Touch, touch_key, touch_under}

@@ -9,6 +9,7 @@ use Rattle.nf_words.specs.Reached.{acts_rule, place_rule}
 use Rattle.nf_words.specs.Limits.{limit_rule}
 use Rattle.nf_words.specs.Sharing.{named_rule, room_rule, sharing_rule}
 use Rattle.nf_words.specs.Locks.{locked_rule}
+use Rattle.nf_words.specs.Charges.{quota_rule}
 use Rattle.nf_words.specs.declared.answer.Denial.{Denial}
 
 -- a test of a call by what shares let their seekers do, which refuses it or passes
@@ -30,9 +31,9 @@ earlier_rules =
     ∷ sharing_rule
     ∷ []
 
--- those of what others hold and of limits
+-- those of what others hold, of limits and of quotas
 abbrev pub later_rules : List Rule
-later_rules = locked_rule ∷ limit_rule ∷ room_rule ∷ []
+later_rules = locked_rule ∷ limit_rule ∷ room_rule ∷ quota_rule ∷ []
 
 -- the order in which they are tried
 abbrev pub rules : List Rule

@@ -72,6 +72,8 @@ pub enum Denial {
     Memory,
     /// 507: the step would pass a limit of the site.
     Limit(Limit),
+    /// 507: the step would take what a user's files take up beyond the user's quota.
+    Quota(Excess),
 }
 
 /// A field that a request goes by.
@@ -148,6 +150,17 @@ pub struct Damage {
 pub struct Measure {
     pub length: u64,
     pub digest: Digest,
+}
+
+/// A charge that would pass its quota.
+#[derive(Clone, Copy, PartialEq, Eq)]
+pub struct Excess {
+    /// What the files of who would be charged take up now, in bytes.
+    pub charge: u64,
+    /// What they may take up, in bytes.
+    pub quota: u64,
+    /// What is to be put, in bytes.
+    pub size: u64,
 }
 
 /// A limit of the site.

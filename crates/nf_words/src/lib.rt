@@ -11,7 +11,7 @@ mod route;
 mod sharing;
 
 pub use answer::{
-    Allowed, Answer, Breach, By, Damage, Denial, Goal, Hold, Limit, LockKey, Measure, Mode,
+    Allowed, Answer, Breach, By, Damage, Denial, Excess, Goal, Hold, Limit, LockKey, Measure, Mode,
     NodeRows, Parameter, Reply, Report, TargetFault,
 };
 pub use history::{Entry, Event, Mark, Outcome, Ticket};

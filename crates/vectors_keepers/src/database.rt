@@ -96,6 +96,7 @@ fn other_tables_are_refused(rt: HostRuntime) -> Result<(), Fail> {
     for sql in OTHER_TABLES {
         let mut keeper = keeper_after(rt.alloc(), sql)?;
         assert!(rt; keeper.load().is_err(), "at {sql}");
+        assert!(rt; !keeper.is_reserve_given_up(), "at {sql}");
         assert!(rt; keeper.faults() == 1);
         assert!(rt; keeper.apply(&changes, None) == Err(KeepFault::Failed));
         assert!(rt; keeper.faults() == 2);

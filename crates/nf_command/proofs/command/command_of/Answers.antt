@@ -1,10 +1,24 @@
-use Rattle.std.proofs.Common.{◌≢◌, ◌∙◌, length, sym, rules}
+use Rattle.std.proofs.Common.{◌≡◌, ◌≤◌, ◌-◌, ◌∙◌, ℕ, true, List, ◌∷◌, map, take, drop, length, get_or, codes, sym, refl, subst}
 use Rattle.std.specs.String.{string_bytes}
-use Rattle.std.proofs.lemmas.List.{length-map}
-use Rattle.nf_command.proofs.Words.{no_command}
+use Rattle.std.specs.Str.{bytes_eq}
+use Rattle.std.proofs.lemmas.Slice.Eq.{bytes_eq-Decides}
+use Rattle.nf_command.specs.Reading.{ReadsCommand}
+use Rattle.nf_command.proofs.Words.{first_item}
 use Rattle.nf_command.proofs.command.command_of.Goals as goal
 
-pub returns-in_default-words : goal.returns-in_default-words
-returns-in_default-words c =
-    let others : length c.args.words.now ≢ 4 = search rules in
-    no_command _ (search rules) (search rules) (λ four. others (sym (length-map c.args.words.now string_bytes) ∙ four)) c.in_default.ensures
+begun : {S : Type 0} (f : S → List ℕ) (w : S) (ws : List S) (text word : List ℕ) → true ≡ bytes_eq text word
+    → 1 ≤ length ws → w ≡ get_or ws 0 w → text ≡ f w → word ∷ map f (take (length ws - 1) (drop 1 ws)) ≡ map f ws
+begun f w ws text word same some first reads =
+    sym (first_item f w ws word _ some first (sym ((bytes_eq-Decides text word).0 (sym same)) ∙ reads) refl)
+
+pub returns-in-len1-up : goal.returns-in-len1-up
+returns-in-len1-up c =
+    subst (λ (ws : List (List ℕ)). ReadsCommand ws c.init_of.result)
+    (begun string_bytes _ c.args.words.now _ (codes "init") c.if-eq.ensures c.in-len1-up.len_at_least c.word-item.is c.as_str.ensures.value)
+    c.init_of.ensures
+
+pub returns-in-len1-up-2 : goal.returns-in-len1-up-2
+returns-in-len1-up-2 c =
+    subst (λ (ws : List (List ℕ)). ReadsCommand ws c.serve_of.result)
+    (begun string_bytes _ c.args.words.now _ (codes "serve") c.if-eq-2.ensures c.in-len1-up.len_at_least c.word-item-2.is c.as_str-2.ensures.value)
+    c.serve_of.ensures

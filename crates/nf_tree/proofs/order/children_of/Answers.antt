@@ -19,16 +19,16 @@ loop-at-preserved c =
     record {
       start = omega arith;
       end = omega arith;
-      all = all_more c.args.rows.now c.args.order.now c.args.folder c.cut-at.result c.loop-at.at c.index-rows-order.result i.start c.loop-at-test.true read (sym c.is_in.ensures ∙ c.if-not-is_in.false) i.all;
+      all = all_more c.args.rows.now c.args.order.now c.args.folder c.first_in-at.result c.loop-at.at c.index-rows-order.result i.start c.loop-at-test.true read (sym c.is_in.ensures ∙ c.if-not-is_in.false) i.all;
       children = c.in_ok-push.ensures.items ∙ ap (λ (r : NodeValue). c.loop-at.children.items ++ r.id ∷ []) c.row.view_is
           ∙ ap (λ ids. ids ++ c.index-rows-order.result.id ∷ []) i.children
-          ∙ sym (part_more c.args.rows.now c.args.order.now c.cut-at.result c.loop-at.at c.index-rows-order.result i.start c.loop-at-test.true read);
+          ∙ sym (part_more c.args.rows.now c.args.order.now c.first_in-at.result c.loop-at.at c.index-rows-order.result i.start c.loop-at-test.true read);
     }
 
 pub returns : goal.returns
 returns c =
     let i = c.loop-at.invariant in
-    i.children ∙ children_all c.args.rows.now c.args.order.now c.args.folder c.cut-at.result c.loop-at.at c.requires.rising c.requires.index (rw c.new.ensures at c.cut-at.ensures) i.start i.end i.all
+    i.children ∙ children_all c.args.rows.now c.args.order.now c.args.folder c.first_in-at.result c.loop-at.at c.requires.rising c.requires.index c.first_in-at.ensures i.start i.end i.all
     (λ more. absurd (omega (arith, c.loop-at-test.false)))
 
 pub returns-then-not-is_in : goal.returns-then-not-is_in
@@ -36,5 +36,5 @@ returns-then-not-is_in c =
     let i = c.loop-at.invariant in
     let read = row_read c.args.rows.now c.args.order.now c.loop-at.at c.index-rows-order.result c.requires.index c.loop-at-test.true c.index-rows-order.is in
     let other = sym c.is_in.ensures ∙ c.if-not-is_in.true in
-    i.children ∙ children_all c.args.rows.now c.args.order.now c.args.folder c.cut-at.result c.loop-at.at c.requires.rising c.requires.index (rw c.new.ensures at c.cut-at.ensures) i.start i.end i.all
+    i.children ∙ children_all c.args.rows.now c.args.order.now c.args.folder c.first_in-at.result c.loop-at.at c.requires.rising c.requires.index c.first_in-at.ensures i.start i.end i.all
     (λ more. subst (λ row. is_in c.args.folder row ≡ false) read other)

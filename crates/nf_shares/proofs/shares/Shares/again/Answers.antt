@@ -3,7 +3,7 @@ use Rattle.std.specs.Option.{option_map_or}
 use Rattle.nf_access.specs.Shares.{share_row}
 use Rattle.nf_base.specs.declared.rows.ShareRow.{ShareRow}
 use Rattle.nf_access.specs.Making.{is_again}
-use Rattle.nf_shares.proofs.Entries.{again_there, first_of}
+use Rattle.nf_shares.proofs.Indexes.{again_there, first_of}
 use Rattle.nf_shares.proofs.shares.Shares.again.Goals as goal
 
 pub returns : goal.returns

@@ -1,7 +1,7 @@
 use Rattle.std.proofs.Common.{◌==◌, ℕ, Bool, List, false, find, ap, ◌∙◌}
 use Rattle.std.specs.Option.{option_map_or}
 use Rattle.nf_access.specs.Shares.{receives, share_row}
-use Rattle.nf_shares.proofs.Entries.{first_of}
+use Rattle.nf_shares.proofs.Indexes.{first_of}
 use Rattle.nf_shares.proofs.shares.Shares.first_received.Goals as goal
 
 pub returns : goal.returns

@@ -1,5 +1,6 @@
 use Rattle.std.proofs.Common.{sym, ap, subst, ◌∙◌, ◌++◌, ◌∷◌, [], vec_capacity, Result}
-use Rattle.nf_words.specs.Step.{stepped_by}
+use Rattle.nf_words.specs.State.{State}
+use Rattle.nf_words.specs.Step.{stepped_by, without}
 use Rattle.nf_words.specs.declared.answer.Denial.{Denial}
 use Rattle.nf_site.specs.Kept.{answered}
 use Rattle.nf_site.specs.PlanView.{decision_in}
@@ -12,15 +13,17 @@ use Rattle.nf_site.proofs.site.Site.adopt.Goals.{in-Ok, in-Err}
 
 pub change-requires-clause-bears : goal.change-requires-clause-bears
 change-requires-clause-bears c =
-    bears_plan c.self.inside c.args.self.now c.plan.inside c.in-Ok.deed.act c.self.view_is c.self.invariant
+    c.parted-act.ensures.same.bears c.self.inside.current.state.tables
+    (bears_plan c.self.inside c.args.self.now c.plan.inside c.in-Ok.field-0.act c.self.view_is c.self.invariant
     (subst (λ (p : Planned). IsReady c.args.self.now p) (sym c.plan.view_is) c.requires)
-    (ap decision_in c.in-Ok.is)
+    (ap decision_in c.in-Ok.is))
 
 pub change-requires-clause-fits : goal.change-requires-clause-fits
 change-requires-clause-fits c =
-    fits_plan c.self.inside c.args.self.now c.plan.inside c.in-Ok.deed.act c.self.view_is
+    c.parted-act.ensures.same.fits c.self.inside.current.state c.self.inside.current.room
+    (fits_plan c.self.inside c.args.self.now c.plan.inside c.in-Ok.field-0.act c.self.view_is
     (subst (λ (p : Planned). IsReady c.args.self.now p) (sym c.plan.view_is) c.requires)
-    (ap decision_in c.in-Ok.is)
+    (ap decision_in c.in-Ok.is))
 
 pub change-requires-clause-given : goal.change-requires-clause-given
 change-requires-clause-given c = given_held c.self.inside c.self.invariant
@@ -35,7 +38,10 @@ invariant_of-self c =
     elim c.match-decided.branch [
       | in-Ok w ↦ adopted old _ c.args.self.now plan c.self.view_is c.self.invariant ready
           (ap (λ (x : Inside). x.opening) w.self-inside-is)
-          (ap (λ (x : Inside). x.current.state) w.self-inside-is ∙ w.change.ensures ∙ ap step (sym w.in-Ok.is))
+          (ap (λ (x : Inside). x.current.state) w.self-inside-is ∙ w.change.ensures
+          ∙ ap (λ (s : State). record s { seen = plan.moment })
+          (w.parted-act.ensures.same.state (without old.current.state plan.seat plan.event) plan.seat plan.moment)
+          ∙ ap step (sym w.in-Ok.is))
           (c.push_reserved.ensures.items ∙ ap more w.self-inside-is)
           (c.push_reserved.ensures.capacity ∙ ap (λ (x : Inside). vec_capacity x.history) w.self-inside-is)
       | in-Err w ↦ adopted old _ c.args.self.now plan c.self.view_is c.self.invariant ready

@@ -1,5 +1,6 @@
 use Rattle.std.proofs.Common.{ap, subst}
 use Rattle.nf_base.specs.declared.rows.NodeRow.{NodeRow}
+use Rattle.nf_charge.proofs.Kept.{charged_set}
 use Rattle.nf_tree.specs.Held.{Held}
 use Rattle.nf_tree.specs.Order.{IsIndex, LacksOnly}
 use Rattle.nf_tree.proofs.Orders.{changed}
@@ -23,6 +24,8 @@ invariant_of-self c =
           c.self.invariant.0 (node_within rows at c.args.node old there) c.index_mut.ensures.value
           (ap (λ (row : NodeRow). row.id) c.place.ensures) (ap (λ (row : NodeRow). row.content) c.place.ensures) index,
       c.self.invariant.1,
+      charged_set rows at c.place.new.row old c.self.inside.charges.sums (node_within rows at c.args.node old there) c.index_mut.ensures.value
+          (ap (λ (row : NodeRow). row.owner) c.place.ensures) (ap (λ (row : NodeRow). row.content) c.place.ensures) c.self.invariant.2,
     )
 
 pub returns : goal.returns

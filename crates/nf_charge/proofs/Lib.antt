@@ -1,0 +1,4 @@
+pub mod Charged
+pub mod Kept
+pub mod Places
+pub mod Steps

@@ -1,0 +1,108 @@
+//! The quotas of users.
+
+ghost use Rattle.std.specs.Prelude.{◌≡◌, ◌+◌, ◌-◌, ◌&&◌, nat_lt, IfOk};
+ghost use Rattle.std.specs.Option.{option_map_or};
+ghost use Rattle.nf_words.specs.Charges.{carry_excess, copy_excess, excess, excess_at, quota_of};
+ghost use Rattle.nf_words.specs.Listing.{size_of};
+ghost use Rattle.nf_words.specs.Sound.{AreSound};
+
+use crate::listing::{bytes_of, size_of};
+use crate::nodes::owner_of;
+use crate::transferring::crosses;
+use crate::view::View;
+use nf_base::{NodeId, UserId};
+use nf_defs::Found;
+use nf_tree::Tree;
+use nf_words::{Excess, Transfer};
+use std::alloc::{AllocError, Global};
+
+/// How a body of so many bytes would pass the quota of the owner of what it replaces there, or of its folder.
+pub(crate) fn excess_at(view: &View<'_>, place: &Found, length: u64) -> Option<Excess>
+    requires { AreSound view.now.tables }
+    ensures { result ≡ excess_at view.now.tables length place.now }
+{
+    match place {
+        Found::At(node) => {
+            let old = bytes_of(view.tree(), *node);
+            excess(view, owner_of(view.tree(), *node), old, length)
+        }
+        Found::Free { folder } => excess(view, owner_of(view.tree(), *folder), 0, length),
+        Found::Missing { .. } => None,
+    }
+}
+
+/// How what is moved would pass a quota, where it comes to another owner.
+pub(crate) fn carry_excess(
+    alloc: Global,
+    view: &View<'_>,
+    transfer: &Transfer,
+) -> Result<Option<Excess>, AllocError>
+    requires { AreSound view.now.tables }
+    ensures { IfOk result (λ excess. excess ≡ carry_excess view.now.tables transfer.now) }
+{
+    if crosses(view.tree(), transfer) {
+        copy_excess(alloc, view, transfer)
+    } else {
+        Ok(None)
+    }
+}
+
+/// How copies would pass the quota of their folder's owner.
+pub(crate) fn copy_excess(
+    alloc: Global,
+    view: &View<'_>,
+    transfer: &Transfer,
+) -> Result<Option<Excess>, AllocError>
+    requires { AreSound view.now.tables }
+    ensures { IfOk result (λ excess. excess ≡ copy_excess view.now.tables transfer.now) }
+{
+    let old = size_replaced(alloc, view.tree(), &transfer.replaced)?;
+    let new = size_of(alloc, view.tree(), transfer.node)?;
+    let owner = owner_of(view.tree(), transfer.folder);
+    Ok(excess(view, owner, old, new))
+}
+
+/// The bytes of what has to go, if there is something.
+fn size_replaced(alloc: Global, tree: &Tree, replaced: &Option<NodeId>) -> Result<u64, AllocError>
+    ensures { IfOk result (λ size. size ≡ option_map_or (size_of tree.now.rows) replaced.now 0) }
+{
+    match replaced {
+        Some(node) => size_of(alloc, tree, *node),
+        None => Ok(0),
+    }
+}
+
+/// How a charge would pass the quota with so many bytes in the place of so many.
+fn excess(view: &View<'_>, user: UserId, old: u64, new: u64) -> Option<Excess>
+    requires { AreSound view.now.tables }
+    ensures { result ≡ excess view.now.tables user old new }
+{
+    let charge = view.charge(user);
+    let quota = quota_of(view, user);
+    if is_over(charge, quota, old, new) {
+        Some(Excess {
+            charge,
+            quota,
+            size: new,
+        })
+    } else {
+        None
+    }
+}
+
+fn is_over(charge: u64, quota: u64, old: u64, new: u64) -> bool
+    ensures { result ≡ (nat_lt old new && nat_lt quota (charge - old + new)) }
+{
+    let after = u128::from(charge.saturating_sub(old)) + u128::from(new);
+    old < new && u128::from(quota) < after
+}
+
+/// What the files of a user may take up, in bytes.
+fn quota_of(view: &View<'_>, user: UserId) -> u64
+    ensures { result ≡ quota_of view.now.tables user }
+{
+    match view.people().row(user) {
+        Some(row) => row.quota,
+        None => 0,
+    }
+}

@@ -1,0 +1,164 @@
+-- What a Begin that no rule refuses may do passes no quota.
+use Rattle.std.proofs.Common.{ℕ, ◌≡◌, Bool, true, false, List, [], Option, None, Some, Ok, if◌then◌else◌, refl, sym, subst}
+use Rattle.std.specs.Option.{option_and_then, option_map_or}
+use Rattle.std.proofs.lemmas.Bool.{cond_both}
+use Rattle.nf_base.specs.declared.rows.NodeRow.{NodeRow}
+use Rattle.nf_base.specs.declared.rows.ShareRow.{ShareRow}
+use Rattle.nf_defs.specs.Prelude.{content_of, is_folder, Tables}
+use Rattle.nf_defs.specs.declared.Found.{Found}
+use Rattle.nf_defs.specs.declared.Found.TheVariants.{At, Free, Missing}
+use Rattle.nf_words.proofs.Begins.{only_at, places_at, wanted_passes, WantedPasses}
+use Rattle.nf_words.proofs.Known.{KnownCopies}
+use Rattle.nf_words.proofs.Passing.{call_passes, no_excess, place_passes}
+use Rattle.nf_words.proofs.Starts.{has_asker, IsAsking}
+use Rattle.nf_words.proofs.Transfers.{copies_known}
+use Rattle.nf_words.specs.Prelude.{access_of, AreSound, asked_of, by_of, Call, call_decision, carry_excess, carry_limit, copied, copies_to, copy_excess, copy_limit, crosses, deleted, exceeded, found, given, IsSound, last_name, limited, listing_of, made_folder, MayWant, mount_left, mount_renamed, moved, move_limit, node_at, nothing_done, offered, perms_after, quota_rule, root_of, served, shared, share_ended, share_made, share_set, share_shown, share_steered, share_told, stored, transfer_of, unfit_between, unreached, until_after, way_of}
+use Rattle.nf_words.specs.declared.answer.Allowed.{Allowed}
+use Rattle.nf_words.specs.declared.answer.Allowed.TheVariants as allowed
+use Rattle.nf_words.specs.declared.answer.By.{By}
+use Rattle.nf_words.specs.declared.request.Making.TheVariants as making
+use Rattle.nf_words.specs.declared.request.Places.{Places}
+use Rattle.nf_words.specs.declared.request.ShareAsk.{ShareAsk}
+use Rattle.nf_words.specs.declared.request.ShareAsk.TheVariants as ask
+use Rattle.nf_words.specs.declared.request.Spot.{Spot}
+use Rattle.nf_words.specs.declared.request.Transfer.{Transfer}
+use Rattle.nf_words.specs.declared.request.Wanted.{Wanted}
+use Rattle.nf_words.specs.declared.request.Wanted.TheVariants as wanted
+
+-- the copies pass no quota
+pub record AffordsCopies (t : Tables) (now : ℕ) (rows : List NodeRow) (replaced : Option ℕ) : Type 0 where
+  pub known : KnownCopies t now rows replaced
+  pub within : copy_excess t known.transfer ≡ None
+
+-- no body is stored, and what is copied passes no quota
+abbrev pub Affords : Tables → ℕ → Allowed → Type 0
+Affords t now (allowed.Change changes blob report) = blob ≡ None
+Affords t now (allowed.Copy rows replaced) = AffordsCopies t now rows replaced
+Affords t now (allowed.Cross rows replaced node) = AffordsCopies t now rows replaced
+Affords t now act = Unit {0}
+
+-- ---- what is moved or copied
+
+module _ (call : Call) (source target : Spot) (sound : AreSound call.state.tables) (is : IsAsking call)
+    (from_reached : unreached (access_of call.state) call (way_of call source) ≡ None)
+    (to_reached : unreached (access_of call.state) call (way_of call target) ≡ None)
+    (fits : unfit_between call.state.tables.nodes (root_of call) false (record { source = Some (way_of call source); target = Some (way_of call target) }) ≡ None) where
+  abbrev t : Tables
+  t = call.state.tables
+
+  abbrev led : Option Transfer
+  led = transfer_of t.nodes (record { source = Some (found call source); target = Some (found call target) })
+
+  abbrev name : List ℕ
+  name = last_name target
+
+  copies_afford : (transfer : Transfer) → led ≡ Some transfer → copy_limit t transfer ≡ None → copy_excess t transfer ≡ None
+      → AffordsCopies t call.now (copies_to t call.now transfer name) transfer.replaced
+  unfolding copies_known
+  copies_afford transfer e few none = record {
+    known = copies_known call source target sound is from_reached to_reached transfer e fits few;
+    within = none;
+  }
+
+  copied_affords : option_and_then (copy_limit t) led ≡ None → option_and_then (copy_excess t) led ≡ None → Affords t call.now (copied t call.now name led)
+  copied_affords few none = here led refl few none
+    where
+      here : (o : Option Transfer) → led ≡ o → option_and_then (copy_limit t) o ≡ None → option_and_then (copy_excess t) o ≡ None
+          → Affords t call.now (copied t call.now name o)
+      here None e few none = tt
+      here (Some transfer) e few none = copies_afford transfer e few none
+
+  moved_affords : option_and_then (carry_limit t) led ≡ None → option_and_then (carry_excess t) led ≡ None → Affords t call.now (moved t call.now name led)
+  moved_affords few none = here led refl few none
+    where
+      carries : (transfer : Transfer) → led ≡ Some transfer → (across : Bool) → (if across then copy_limit t transfer else move_limit t transfer) ≡ None
+          → (if across then copy_excess t transfer else None) ≡ None
+          → Affords t call.now (if across then allowed.Cross (copies_to t call.now transfer name) transfer.replaced transfer.node else allowed.Move transfer name)
+      carries transfer e true few none = copies_afford transfer e few none
+      carries transfer e false few none = tt
+
+      here : (o : Option Transfer) → led ≡ o → option_and_then (carry_limit t) o ≡ None → option_and_then (carry_excess t) o ≡ None
+          → Affords t call.now (moved t call.now name o)
+      here None e few none = tt
+      here (Some transfer) e few none = carries transfer e (crosses t.nodes transfer) few none
+
+-- ---- what is wanted
+
+module _ (call : Call) (sound : AreSound call.state.tables) (is : IsAsking call) where
+  abbrev all : Tables
+  all = call.state.tables
+
+  abbrev IsAfforded : Allowed → Type 0
+  IsAfforded act = Affords all call.now act
+
+  -- what is done where something is there
+  where_there : {X : Type 0} (act : X → Allowed) (none : Allowed) (o : Option X) → IsAfforded none → ((x : X) → IsAfforded (act x))
+      → IsAfforded (option_map_or act o none)
+  where_there act none None nothing each = nothing
+  where_there act none (Some x) nothing each = each x
+
+  served_affords : (mount node : Option ℕ) → IsAfforded (served (access_of call.state) call mount node)
+  served_affords mount None = tt
+  served_affords mount (Some node) =
+      cond_both (is_folder all.nodes node) (allowed.List (listing_of (access_of call.state) call mount node))
+      (allowed.Get node (content_of all.nodes node)) IsAfforded (λ folder. tt) (λ file. tt)
+
+  stored_affords : (by : By) (last : List ℕ) (length : ℕ) (place : Found) → IsAfforded (stored by last length (Some place))
+  stored_affords by last length (At node) = tt
+  stored_affords by last length (Free folder) = tt
+  stored_affords by last length (Missing depth) = tt
+
+  folder_affords : (last : List ℕ) (place : Found) → IsAfforded (made_folder all call.now last (Some place))
+  folder_affords last (At node) = tt
+  folder_affords last (Free folder) = refl
+  folder_affords last (Missing depth) = tt
+
+  delete_affords : (spot : Spot) (itself : Bool) → IsAfforded (if itself then mount_left call (way_of call spot)
+      else deleted (node_at (only_at itself (found call spot)).source))
+  delete_affords spot true = refl
+  delete_affords spot false = where_there allowed.Delete allowed.Close (node_at (Some (found call spot))) tt (λ node. tt)
+
+  move_affords : (source to : Spot) (itself : Bool)
+      → (itself ≡ false → unreached (access_of call.state) call (way_of call source) ≡ None)
+      → unreached (access_of call.state) call (way_of call to) ≡ None
+      → unfit_between all.nodes (root_of call) itself (record { source = Some (way_of call source); target = Some (way_of call to) }) ≡ None
+      → (places : Places)
+      → places ≡ (if itself then record { source = None; target = None } else record { source = Some (found call source); target = Some (found call to) })
+      → limited all places making.Moved ≡ None → exceeded all places making.Moved ≡ None
+      → IsAfforded (if itself then mount_renamed call (way_of call source) (last_name to) else moved all call.now (last_name to) (transfer_of all.nodes places))
+  move_affords source to true from_reached to_reached fits places at few none = refl
+  move_affords source to false from_reached to_reached fits places at few none =
+      subst (λ (p : Places). limited all p making.Moved ≡ None → exceeded all p making.Moved ≡ None → IsAfforded (moved all call.now (last_name to) (transfer_of all.nodes p)))
+      (sym at) (moved_affords call source to sound is (from_reached refl) to_reached fits) few none
+
+  shared_affords : (places : Places) (asked : ShareAsk) → IsAfforded (shared (access_of call.state) call places asked)
+  shared_affords places (ask.New spot to perms until) =
+      where_there (share_made (access_of call.state) call) nothing_done (offered call spot to perms until) refl (λ offer. refl)
+  shared_affords places (ask.List spot with_me) = refl
+  shared_affords places (ask.Show share) = where_there (share_told all []) nothing_done (share_shown call share) refl (λ row. refl)
+  shared_affords places (ask.Set share perms until) =
+      where_there (λ (row : ShareRow). share_set all (perms_after all perms row) (until_after until row.until) row) nothing_done (share_steered call share)
+      refl (λ row. refl)
+  shared_affords places (ask.End share) = where_there share_ended nothing_done (share_steered call share) refl (λ row. refl)
+
+  wanted_affords : (wanted : Wanted) → WantedPasses call wanted → exceeded all (places_at call wanted) (asked_of wanted).makes ≡ None
+      → IsAfforded (given (access_of call.state) call (places_at call wanted) wanted)
+  wanted_affords (wanted.Get spot) p none = served_affords (way_of call spot).mount (node_at (Some (found call spot)))
+  wanted_affords (wanted.Put spot length) p none = stored_affords (by_of call spot) (last_name spot) length (found call spot)
+  wanted_affords (wanted.Mkcol spot) p none = folder_affords (last_name spot) (found call spot)
+  wanted_affords (wanted.Delete spot) p none = delete_affords spot (way_of call spot).itself
+  wanted_affords (wanted.Move source to overwrite) p none =
+      move_affords source to (way_of call source).itself p.place.source p.place.target p.fits (places_at call (wanted.Move source to overwrite)) refl p.few none
+  wanted_affords (wanted.Copy source to overwrite) p none =
+      copied_affords call source to sound is (p.place.source refl) p.place.target p.fits p.few none
+  wanted_affords (wanted.Share asked) p none = shared_affords (places_at call (wanted.Share asked)) asked
+  wanted_affords (wanted.People asked) p none = refl
+
+pub call_affords : (call : Call) (act : Allowed) → IsSound call.state → MayWant call.request → call_decision call ≡ Ok act
+    → Affords call.state.tables call.now act
+unfolding quota_rule
+call_affords call act sound may is =
+    let h = call_passes call act is in
+    let asker = has_asker call h.0.token (place_passes (access_of call.state) call h.0.place).linked in
+    subst (λ (a : Allowed). Affords call.state.tables call.now a) h.1
+    (wanted_affords call sound.rows asker call.request.wanted (wanted_passes call may h.0) (no_excess _ h.0.quota))

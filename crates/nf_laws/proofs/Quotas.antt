@@ -1,0 +1,220 @@
+-- No act takes a charge beyond its quota.
+use Rattle.std.proofs.Common.{ℕ, ◌+◌, ◌-◌, ◌==◌, ◌&&◌, ◌≡◌, ◌≤◌, ◌⊎◌, Bool, true, false, List, [], ◌∷◌, ◌++◌, Option, None, Some, Result, Ok, if◌then◌else◌, inl, inr, refl, ap, subst, ◌∙◌, arith, le_refl}
+use Rattle.std.specs.Prelude.{sum_by}
+use Rattle.std.specs.Option.{IfSome, option_map_or}
+use Rattle.std.proofs.lemmas.Bool.{and_cases, cond_both, eqb-true, ltb-false}
+use Rattle.std.proofs.lemmas.List.Sums.{sum_by-append, sum_by-cons, sum_by_push}
+use Rattle.nf_base.specs.Content.{content_eq}
+use Rattle.nf_base.specs.declared.changes.Change.{Change}
+use Rattle.nf_base.specs.declared.changes.Change.TheVariants.{Put}
+use Rattle.nf_base.specs.declared.content.Piece.{Piece}
+use Rattle.nf_base.specs.declared.rows.MetaRow.{MetaRow}
+use Rattle.nf_base.specs.declared.rows.NodeRow.{NodeRow}
+use Rattle.nf_base.specs.declared.rows.Row.TheVariants as rows
+use Rattle.nf_defs.specs.Prelude.{Access, filled, node_row, owner_of, relinked, Tables, with_node}
+use Rattle.nf_laws.proofs.Affording.{Affords, call_affords}
+use Rattle.nf_laws.proofs.Charging.{alike, charge_owned}
+use Rattle.nf_laws.proofs.Entries.{entry_has}
+use Rattle.nf_laws.proofs.Lists.{nodes_have}
+use Rattle.nf_laws.proofs.Rows.{stamped_has}
+use Rattle.nf_laws.proofs.Stays.{sound_after}
+use Rattle.nf_laws.proofs.Stored.{Comes, stored_comes}
+use Rattle.nf_laws.proofs.Weighing.{cleared_fewer, cleared_owned, copies_owned, row_owned, without_fewer}
+use Rattle.nf_laws.specs.Charges.{bytes_at, bytes_owned, owned_bytes, QuotasAreKept}
+use Rattle.nf_words.proofs.Bodies.{IsOfBody}
+use Rattle.nf_words.proofs.Ends.{goal_held, known_change}
+use Rattle.nf_words.proofs.Fits.{KnownChange}
+use Rattle.nf_words.proofs.Known.{Known, KnownCopies}
+use Rattle.nf_words.proofs.Passing.{end_passes, not_refused}
+use Rattle.nf_words.specs.Listing.{size_of}
+use Rattle.nf_words.specs.Prelude.{access_of, after, call_of, decision_of, goal_at, IsHeld, IsSound, IsStorable, node_of_key, MayAsk, State, told, altered, AreSound, blob_for, cleared, content_in, copy_excess, end_refusal, ends_at, ends_goal, excess, excess_at, is_over, joined, place_of, quota_of, refilled, stored_at}
+use Rattle.nf_words.specs.declared.answer.Allowed.{Allowed}
+use Rattle.nf_words.specs.declared.answer.Allowed.TheVariants as allowed
+use Rattle.nf_words.specs.declared.answer.Denial.{Denial}
+use Rattle.nf_words.specs.declared.answer.Excess.{Excess}
+use Rattle.nf_words.specs.declared.answer.Goal.{Goal}
+use Rattle.nf_words.specs.declared.answer.Goal.TheVariants.{Serve, Store}
+use Rattle.nf_words.specs.declared.answer.LockKey.{LockKey}
+use Rattle.nf_words.specs.declared.answer.LockKey.TheVariants.{Node, Slot}
+use Rattle.nf_words.specs.declared.answer.Report.{Report}
+use Rattle.nf_words.specs.declared.answer.Report.TheVariants.{Done}
+use Rattle.nf_words.specs.declared.history.Event.{Event}
+use Rattle.nf_words.specs.declared.history.Event.TheVariants.{Begin, End}
+use Rattle.nf_words.specs.declared.history.Outcome.{Outcome}
+use Rattle.nf_words.specs.declared.history.Outcome.TheVariants.{Body}
+use Rattle.nf_words.specs.declared.request.Transfer.{Transfer}
+
+-- what is the user's is no more than before, or within the quota
+abbrev Keeps : Tables → ℕ → Tables → Type 0
+Keeps t user made = (bytes_owned made.nodes user ≤ bytes_owned t.nodes user) ⊎ (bytes_owned made.nodes user ≤ quota_of made user)
+
+-- where no quota is passed, what comes is no more than what goes, or within the quota with the rest
+fits : (t : Tables) (user old new : ℕ) → AreSound t → excess t user old new ≡ None
+    → (new ≤ old) ⊎ (bytes_owned t.nodes user - old + new ≤ quota_of t user)
+fits t user old new sound none =
+    elim (and_cases _ _ (never (is_over t user old new) _ none)) [
+      | inl fewer ↦ inl (ltb-false old new fewer)
+      | inr within ↦ inr (omega (arith, ltb-false (quota_of t user) _ within, charge_owned t user sound))
+    ]
+  where
+    never : (over : Bool) (excess : Excess) → (if over then Some excess else None) ≡ None → over ≡ false
+    never true excess none = absurd (cc)
+    never false excess none = refl
+
+-- what comes for one owner in the place of what goes, where that passes no quota
+owner_keeps : (t made : Tables) (user owner old new : ℕ) → AreSound t → quota_of made user ≡ quota_of t user → excess t owner old new ≡ None
+    → Comes t owner old new made → Keeps t user made
+owner_keeps t made user owner old new sound quota none comes = here (owner == user) refl (comes user)
+  where
+    here : (own : Bool) → (owner == user) ≡ own
+        → bytes_owned made.nodes user + (if own then old else 0) ≡ bytes_owned t.nodes user + (if own then new else 0) → Keeps t user made
+    here false other sum = inl (omega (arith, sum))
+    here true own sum =
+        elim (fits t user old new sound (subst (λ (n : ℕ). excess t n old new ≡ None) (eqb-true owner user own) none)) [
+          | inl fewer ↦ inl (omega (arith, sum, fewer))
+          | inr within ↦ inr (omega (arith, sum, within, quota))
+        ]
+
+-- ---- copies
+
+-- of copies in the place of what has to go
+copies_keep : (t : Tables) (now user : ℕ) (rows : List NodeRow) (replaced : Option ℕ) → AreSound t → (known : KnownCopies t now rows replaced)
+    → copy_excess t known.transfer ≡ None → Keeps t user (joined t rows replaced)
+copies_keep t now user rows replaced sound known none =
+    owner_keeps t (joined t rows replaced) user (owner_of t.nodes transfer.folder) (option_map_or (size_of t.nodes) transfer.replaced 0)
+    (size_of t.nodes transfer.node) sound refl none
+    (λ user.
+    omega (
+      arith,
+      ap (λ (o : Option ℕ). bytes_owned (cleared t.nodes o ++ rows) user) known.replaced_is,
+      sum_by-append (owned_bytes user) (cleared t.nodes transfer.replaced) rows,
+      cleared_owned t transfer known.name user sound known.known,
+      copies_owned t now user rows replaced sound known,
+    ))
+  where
+    transfer : Transfer
+    transfer = known.transfer
+
+-- ---- an End
+
+-- of a body that is stored
+stored_keeps : (t : Tables) (now user : ℕ) (key : LockKey) (digest : List ℕ) (size : ℕ) → AreSound t → IsHeld t key
+    → excess_at t size (place_of key) ≡ None → Keeps t user (altered t now (stored_at t now key digest size))
+stored_keeps t now user key digest size sound held none =
+    owner_keeps t (altered t now (stored_at t now key digest size)) user (owner_of t.nodes (node_of_key key)) (bytes_at t.nodes key) size sound
+    (same_quota key) (at_owner key none) (stored_comes t now key digest size sound held)
+  where
+    at_owner : (key : LockKey) → excess_at t size (place_of key) ≡ None → excess t (owner_of t.nodes (node_of_key key)) (bytes_at t.nodes key) size ≡ None
+    at_owner (Node node) none = none
+    at_owner (Slot folder name) none = none
+
+    refilled_quota : (o : Option NodeRow) (content : List Piece) (blob : Option ℕ)
+        → quota_of (altered t now (allowed.Change (refilled o now content) blob Done)) user ≡ quota_of t user
+    refilled_quota None content blob = refl
+    refilled_quota (Some row) content blob =
+        cond_both (content_eq row.content content && row.changed == now) [] (Put (rows.Node (filled content now row)) ∷ [])
+        (λ changes. quota_of (altered t now (allowed.Change changes blob Done)) user ≡ quota_of t user) (λ same. refl) (λ other. refl)
+
+    same_quota : (key : LockKey) → quota_of (altered t now (stored_at t now key digest size)) user ≡ quota_of t user
+    same_quota (Node node) =
+        let blob = blob_for t.meta.next_blob size in refilled_quota (node_row t.nodes node) (content_in blob digest size) blob
+    same_quota (Slot folder name) = refl
+
+closed_keeps : (t : Tables) (now user : ℕ) (act : Allowed) → ◌≡◌ {A = Result Allowed Denial} (Ok allowed.Close) (Ok act) → Keeps t user (altered t now act)
+closed_keeps t now user act is =
+    let same : allowed.Close ≡ act = cc in subst (λ (a : Allowed). Keeps t user (altered t now a)) same (inl (le_refl _))
+
+goal_keeps : (access : Access) (t : Tables) (now user : ℕ) (outcome : Outcome) (goal : Goal) (act : Allowed) → AreSound t
+    → IsStorable t goal → ends_goal access t now outcome goal ≡ Ok act → Keeps t user (altered t now act)
+goal_keeps access t now user (Body digest size) (Serve content) act sound held is = closed_keeps t now user act is
+goal_keeps access t now user (Body digest size) (Store by key wanted) act sound held is =
+    let h = not_refused (end_refusal access t now by key size) (stored_at t now key digest size) act is in
+    subst (λ (a : Allowed). Keeps t user (altered t now a)) h.1
+    (stored_keeps t now user key digest size sound held (end_passes access t now by key size h.0).quota)
+goal_keeps access t now user outcome goal act sound held is = closed_keeps t now user act is
+
+end_keeps : (access : Access) (t : Tables) (now user : ℕ) (outcome : Outcome) (goal : Option Goal) (act : Allowed) → AreSound t
+    → IfSome goal (IsStorable t) → ends_at access t now outcome goal ≡ Ok act → Keeps t user (altered t now act)
+end_keeps access t now user outcome None act sound held is = closed_keeps t now user act is
+end_keeps access t now user outcome (Some goal) act sound held is = goal_keeps access t now user outcome goal act sound held is
+
+-- ---- rows without bytes
+
+empty_owned : (user : ℕ) (row : NodeRow) → row.content ≡ [] → owned_bytes user row ≡ 0
+empty_owned user row empty = ap (λ (content : List Piece). if row.owner == user then sum_by (λ piece. piece.size) content else 0) empty ∙ alike (row.owner == user) 0
+
+no_body : (meta : MetaRow) (blob : Option ℕ) (content : List Piece) → blob ≡ None → IsOfBody meta blob content → content ≡ []
+no_body meta blob content none of = subst (λ (o : Option ℕ). IsOfBody meta o content) none of
+
+-- where no body is stored, nobody has more
+rows_keep : (t : Tables) (now user : ℕ) (changes : List Change) (blob : Option ℕ) (report : Report) → AreSound t → KnownChange t now changes blob
+    → blob ≡ None → Keeps t user (altered t now (allowed.Change changes blob report))
+rows_keep t now user changes blob report sound known none =
+    inl (nodes_have Fewer (λ change. Unit {0}) t now changes blob report sound.rising known (λ k d within. tt)
+    (λ u row fewer it any. pushed u.nodes row fewer (no_body t.meta blob row.content none it.body))
+    (λ u row fewer it any.
+    let old = it.filled.old in
+    let new = filled row.content row.changed old in
+    let lighter : owned_bytes user new ≤ owned_bytes user old = elim it.body [
+      | inl of ↦ omega (arith, empty_owned user new (no_body t.meta blob row.content none of))
+      | inr kept ↦ omega (arith, ap (λ (content : List Piece). owned_bytes user (filled content row.changed old)) kept.1)
+    ] in
+    omega (arith, fewer, lighter, row_owned u.nodes row.id user (filled row.content row.changed) old it.filled.there))
+    (λ u row root fewer it. pushed u.nodes root fewer it.1.empty) (le_refl _))
+  where
+    Fewer : List NodeRow → Type 0
+    Fewer all = bytes_owned all user ≤ bytes_owned t.nodes user
+
+    pushed : (all : List NodeRow) (row : NodeRow) → Fewer all → row.content ≡ [] → Fewer (all ++ row ∷ [])
+    pushed all row fewer empty = omega (arith, fewer, sum_by_push (owned_bytes user) all row, empty_owned user row empty)
+
+-- ---- a Begin
+
+-- a row that is changed, but not in its bytes
+same_owned : (all : List NodeRow) (node user : ℕ) (change : NodeRow → NodeRow) → ((row : NodeRow) → owned_bytes user (change row) ≡ owned_bytes user row)
+    → bytes_owned (with_node all node change) user ≡ bytes_owned all user
+same_owned [] node user change same = refl
+same_owned (row ∷ all) node user change same =
+    cond_both (row.id == node) (change row ∷ all) (row ∷ with_node all node change) (λ made. bytes_owned made user ≡ bytes_owned (row ∷ all) user)
+    (λ e. omega (arith, same row, sum_by-cons (owned_bytes user) (change row) all, sum_by-cons (owned_bytes user) row all))
+    (λ e.
+    let rest = same_owned all node user change same in
+    omega (arith, rest, sum_by-cons (owned_bytes user) row (with_node all node change), sum_by-cons (owned_bytes user) row all))
+
+begin_keeps : (t : Tables) (now user : ℕ) (act : Allowed) → AreSound t → Known t now act → Affords t now act → Keeps t user (altered t now act)
+begin_keeps t now user (allowed.Change changes blob report) sound known affords = rows_keep t now user changes blob report sound known affords
+begin_keeps t now user (allowed.Delete node) sound known affords = inl (without_fewer t.nodes node user)
+begin_keeps t now user (allowed.Move transfer name) sound known affords =
+    inl (omega (
+      arith,
+      same_owned (cleared t.nodes transfer.replaced) transfer.node user (relinked transfer.folder name) (λ row. refl),
+      cleared_fewer t.nodes transfer.replaced user,
+    ))
+begin_keeps t now user (allowed.Copy copies replaced) sound known affords = copies_keep t now user copies replaced sound affords.known affords.within
+begin_keeps t now user (allowed.Cross copies replaced node) sound known affords =
+    let fewer = without_fewer (joined t copies replaced).nodes node user in
+    elim (copies_keep t now user copies replaced sound affords.known affords.within) [
+      | inl no_more ↦ inl (omega (arith, fewer, no_more))
+      | inr within ↦ inr (omega (arith, fewer, within))
+    ]
+begin_keeps t now user allowed.Close sound known affords = inl (le_refl _)
+begin_keeps t now user act sound known affords = inl (le_refl _)
+
+-- ---- the law
+
+act_keeps : (s : State) (seat now user : ℕ) (event : Event) (act : Allowed) → IsSound s → MayAsk s seat event → decision_of s seat now event ≡ Ok act
+    → Keeps s.tables user (altered s.tables now act)
+act_keeps s seat now user (Begin words request) act sound asked is =
+    begin_keeps s.tables now user act sound.rows (known_change s seat now (Begin words request) act sound asked is)
+    (call_affords (call_of s seat now words request) act sound asked.1 is)
+act_keeps s seat now user (End outcome) act sound asked is = end_keeps (access_of s) s.tables now user outcome (goal_at s seat) act sound.rows (goal_held s seat sound) is
+
+pub quotas_kept : QuotasAreKept
+quotas_kept n s e user sound may =
+    let same : Keeps s.tables user s.tables = inl (le_refl _) in
+    let kept = entry_has (λ t tickets blob. Keeps s.tables user t) s e e.mark same (λ act is.
+    stamped_has (Keeps s.tables user) s.tables (altered s.tables e.moment act) e.moment (told s.tables act) same
+    (act_keeps s e.seat e.moment user e.event act sound may.asked is)) in
+    let before = charge_owned s.tables user sound.rows in
+    let later = charge_owned (after s e).tables user (sound_after n s e sound may).rows in
+    elim kept [ inl fewer ↦ inl (omega (arith, fewer, before, later)) | inr within ↦ inr (omega (arith, within, later)) ]

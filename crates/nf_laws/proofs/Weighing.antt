@@ -1,0 +1,274 @@
+-- What all under a node weighs: the bytes that its owner has less once it is gone, and that the owner of copies of it has more.
+use Rattle.std.proofs.Common.{ℕ, suc, ◌+◌, ◌==◌, ◌≡◌, ◌<◌, ◌≤◌, Bool, true, false, not, List, [], ◌∷◌, Option, None, Some, filter, if◌then◌else◌, get_or, inl, inr, refl, sym, ap, subst, ◌∙◌, arith}
+use Rattle.std.specs.Prelude.{sum_by}
+use Rattle.std.specs.List.{All, list_any}
+use Rattle.std.specs.Option.{option_map_or}
+use Rattle.std.specs.Cmp.{both_ways}
+use Rattle.std.proofs.lemmas.Bool.{cases_Bool, cond_both, eq-eqb, eqb-true, false≢true, ne_eqb}
+use Rattle.std.proofs.lemmas.List.Sums.{sum_by-cons}
+use Rattle.std.proofs.lemmas.Option.{get_or_from_slice_get, none-some, option_and_then_some, same_Some}
+use Rattle.nf_base.specs.declared.content.Piece.{Piece}
+use Rattle.nf_base.specs.declared.rows.NodeRow.{NodeRow}
+use Rattle.nf_base.specs.declared.rows.UserRow.{UserRow}
+use Rattle.nf_defs.proofs.Climbs.{climb_under, under_climb, walk_among}
+use Rattle.nf_defs.specs.Prelude.{child_of, depth, folder_of, is_under, node_row, owner_of, parent_of, Tables, user_row, walk_of, with_node, without_under}
+use Rattle.nf_laws.proofs.Charging.{alike, charge_owned, sums_agree}
+use Rattle.nf_laws.proofs.Climbs.{node_row_each}
+use Rattle.nf_laws.proofs.Copied.{copy_at, same_sum}
+use Rattle.nf_laws.proofs.Lists.{Rising}
+use Rattle.nf_laws.proofs.Mirrored.{mirrored}
+use Rattle.nf_laws.proofs.Paths.{climb_own, IsOf, root_own}
+use Rattle.nf_laws.proofs.Rows.{finds_none, parent_there}
+use Rattle.nf_laws.proofs.Sizes.{nothing, sizes_sum, weight, weight_if}
+use Rattle.nf_laws.proofs.Upwards.{climbs_own, nothing_trashed, trashed_by}
+use Rattle.nf_laws.proofs.Walked.{AreDistinct, walk_distinct}
+use Rattle.nf_laws.specs.Charges.{bytes_owned, ChargeIsSizeOfRoot, owned_bytes}
+use Rattle.nf_laws.specs.Transfers.{Mirrors}
+use Rattle.nf_words.proofs.Found.{child_parent, found_passes}
+use Rattle.nf_words.proofs.Known.{KnownCopies, KnownTransfer}
+use Rattle.nf_words.specs.Listing.{size_of}
+use Rattle.nf_words.specs.Prelude.{AreSound, bytes_of, cleared, root_of_user}
+use Rattle.nf_words.specs.declared.request.Transfer.{Transfer}
+
+-- ---- nodes that are each counted once
+
+-- a row weighs what it does where its node is among them, and nothing elsewhere
+weighs_once : (w id : ℕ) (nodes : List ℕ) → AreDistinct nodes → sum_by (weight_if w id) nodes ≡ (if list_any (λ node. node == id) nodes then w else 0)
+weighs_once w id [] distinct = refl
+weighs_once w id (n ∷ nodes) distinct =
+    elim (cases_Bool (n == id)) [
+      | inl same ↦
+          (let is = eqb-true n id same in
+          let others = nothing (weight_if w id) nodes (λ k d within.
+          rw (ne_eqb id _ (λ e. distinct 0 (suc k) d (omega arith) (omega arith) (is ∙ e))) refl) in
+          let first : weight_if w id n ≡ w = rw (eq-eqb id n (sym is)) refl in
+          simp same (omega (arith, sum_by-cons (weight_if w id) n nodes, others, first)))
+      | inr differs ↦
+          (let rest = weighs_once w id nodes (λ i j d before within. distinct (suc i) (suc j) d (omega arith) (omega arith)) in
+          let first : weight_if w id n ≡ 0 = rw (ne_eqb id n (λ e. false≢true (sym differs ∙ eq-eqb n id (sym e)))) refl in
+          simp differs (omega (arith, sum_by-cons (weight_if w id) n nodes, rest, first)))
+    ]
+
+-- with a row more, of a number that no other has, its node weighs that more
+row_adds : (row : NodeRow) (rows : List NodeRow) (node : ℕ) → All (λ (other : NodeRow). row.id < other.id) rows
+    → bytes_of (row ∷ rows) node ≡ weight_if (weight row) row.id node + bytes_of rows node
+row_adds row rows node above =
+    elim (cases_Bool (row.id == node)) [
+      | inl same ↦
+          (let none : node_row rows node ≡ None =
+          finds_none (λ other. other.id == node) rows (λ k d within.
+          ne_eqb _ node (λ e. absurd (omega (arith, above k d within, e, eqb-true row.id node same)))) in
+          let rest : bytes_of rows node ≡ 0 = rw none refl in
+          rw same (omega (arith, rest)))
+      | inr differs ↦ rw differs (omega arith)
+    ]
+
+rows_add : (row : NodeRow) (rows : List NodeRow) (nodes : List ℕ) → All (λ (other : NodeRow). row.id < other.id) rows
+    → sum_by (bytes_of (row ∷ rows)) nodes ≡ sum_by (weight_if (weight row) row.id) nodes + sum_by (bytes_of rows) nodes
+rows_add row rows [] above = omega arith
+rows_add row rows (n ∷ nodes) above =
+    omega (
+      arith,
+      sum_by-cons (bytes_of (row ∷ rows)) n nodes,
+      sum_by-cons (weight_if (weight row) row.id) n nodes,
+      sum_by-cons (bytes_of rows) n nodes,
+      row_adds row rows n above,
+      rows_add row rows nodes above,
+    )
+
+-- so the nodes weigh what their rows do
+nodes_weigh : (rows : List NodeRow) (nodes : List ℕ) → Rising rows → AreDistinct nodes
+    → sum_by (bytes_of rows) nodes ≡ sum_by (λ row. if list_any (λ node. node == row.id) nodes then weight row else 0) rows
+nodes_weigh [] nodes rising distinct = nothing (bytes_of []) nodes (λ k d within. refl)
+nodes_weigh (row ∷ rows) nodes rising distinct =
+    omega (
+      arith,
+      rows_add row rows nodes (λ k d within. rising 0 (suc k) d (omega arith) (omega arith)),
+      weighs_once (weight row) row.id nodes distinct,
+      nodes_weigh rows nodes (λ i j d before within. rising (suc i) (suc j) d (omega arith) (omega arith)) distinct,
+      sum_by-cons (λ (row : NodeRow). if list_any (λ node. node == row.id) nodes then weight row else 0) row rows,
+    )
+
+-- the bytes of a row, where it is under the top
+abbrev weight_under : List NodeRow → ℕ → NodeRow → ℕ
+weight_under rows top row = if is_under rows row.id top then weight row else 0
+
+-- a node's size is the sum of these
+pub size_under : (t : Tables) (top : ℕ) → AreSound t → size_of t.nodes top ≡ sum_by (weight_under t.nodes top) t.nodes
+size_under t top sound =
+    let walk = walk_of t.nodes top in
+    sizes_sum t top sound ∙ nodes_weigh t.nodes walk sound.rising (walk_distinct t top sound)
+    ∙ sums_agree (λ (row : NodeRow). if list_any (λ node. node == row.id) walk then weight row else 0) (weight_under t.nodes top) t.nodes
+    (λ k d within. ap (λ (among : Bool). if among then weight (get_or t.nodes k d) else 0) (walk_among t.nodes top (get_or t.nodes k d).id sound.rising))
+
+-- ---- what goes
+
+-- what passes a test and what doesn't are all
+parts_sum : (f : NodeRow → ℕ) (test : NodeRow → Bool) (rows : List NodeRow)
+    → sum_by f (filter (λ row. not (test row)) rows) + sum_by (λ row. if test row then f row else 0) rows ≡ sum_by f rows
+parts_sum f test [] = omega arith
+parts_sum f test (row ∷ rows) =
+    omega (
+      arith,
+      first (test row) (filter (λ row. not (test row)) rows),
+      parts_sum f test rows,
+      sum_by-cons f row rows,
+      sum_by-cons (λ (row : NodeRow). if test row then f row else 0) row rows,
+    )
+  where
+    first : (passes : Bool) (left : List NodeRow)
+        → sum_by f (if not passes then row ∷ left else left) + (if passes then f row else 0) ≡ f row + sum_by f left
+    first true left = omega arith
+    first false left = omega (arith, sum_by-cons f row left)
+
+-- what is counted or not, all of it
+sum_if : (counts : Bool) (f : NodeRow → ℕ) (rows : List NodeRow) → sum_by (λ row. if counts then f row else 0) rows ≡ (if counts then sum_by f rows else 0)
+sum_if true f rows = refl
+sum_if false f rows = nothing (λ (row : NodeRow). 0) rows (λ k d within. refl)
+
+-- all under a node is its owner's
+under_owned : (t : Tables) (top user : ℕ) (of : NodeRow) → AreSound t → node_row t.nodes top ≡ Some of
+    → All (λ (row : NodeRow). (if is_under t.nodes row.id top then owned_bytes user row else 0)
+    ≡ (if of.owner == user then weight_under t.nodes top row else 0)) t.nodes
+under_owned t top user of sound there k d within = here (is_under t.nodes row.id top) refl
+  where
+    row : NodeRow
+    row = get_or t.nodes k d
+
+    here : (under : Bool) → is_under t.nodes row.id top ≡ under
+        → (if under then owned_bytes user row else 0) ≡ (if of.owner == user then (if under then weight row else 0) else 0)
+    here true is =
+        let up = under_climb t.nodes row.id top is in
+        let of_owner : IsOf t of.owner top = record { row = of; there = there; owner = refl } in
+        ap (λ (owner : ℕ). if owner == user then weight row else 0)
+        (climb_own up.0 t of.owner row.id top row sound up.2 of_owner (node_row_each t.nodes sound.rising k d within))
+    here false is = sym (alike (of.owner == user) 0)
+
+-- so its owner has its size less without it, and no other has less
+pub without_owned : (t : Tables) (top user : ℕ) (of : NodeRow) → AreSound t → node_row t.nodes top ≡ Some of
+    → bytes_owned (without_under t.nodes top) user + (if of.owner == user then size_of t.nodes top else 0) ≡ bytes_owned t.nodes user
+without_owned t top user of sound there =
+    ap (λ (less : ℕ). bytes_owned (without_under t.nodes top) user + less)
+    (ap (λ (size : ℕ). if of.owner == user then size else 0) (size_under t top sound)
+    ∙ sym (sum_if (of.owner == user) (weight_under t.nodes top) t.nodes)
+    ∙ sym (sums_agree (λ (row : NodeRow). if is_under t.nodes row.id top then owned_bytes user row else 0)
+    (λ (row : NodeRow). if of.owner == user then weight_under t.nodes top row else 0) t.nodes (under_owned t top user of sound there)))
+    ∙ parts_sum (owned_bytes user) (λ row. is_under t.nodes row.id top) t.nodes
+
+-- nobody has more
+pub without_fewer : (rows : List NodeRow) (top user : ℕ) → bytes_owned (without_under rows top) user ≤ bytes_owned rows user
+without_fewer rows top user = omega (arith, parts_sum (owned_bytes user) (λ row. is_under rows row.id top) rows)
+
+pub cleared_fewer : (rows : List NodeRow) (replaced : Option ℕ) (user : ℕ) → bytes_owned (cleared rows replaced) user ≤ bytes_owned rows user
+cleared_fewer rows None user = omega arith
+cleared_fewer rows (Some top) user = without_fewer rows top user
+
+-- ---- what is put in a folder
+
+-- what is in a folder is its owner's
+inside_owned : (t : Tables) (node folder : ℕ) → AreSound t → parent_of t.nodes node ≡ Some folder
+    → (row : NodeRow) × (node_row t.nodes node ≡ Some row) × (row.owner ≡ owner_of t.nodes folder)
+inside_owned t node folder sound above =
+    option_and_then_some (λ row. folder_of row.place) (node_row t.nodes node) folder above (λ row there placed.
+    let in_folder = parent_there t node folder row sound there above in
+    (row, there, sym (ap (λ (o : Option NodeRow). option_map_or (λ row. row.owner) o 0) in_folder.1 ∙ in_folder.3)))
+
+-- so where something there has to go, the folder's owner has its size less
+pub cleared_owned : (t : Tables) (transfer : Transfer) (name : List ℕ) (user : ℕ) → AreSound t → KnownTransfer t transfer name
+    → bytes_owned (cleared t.nodes transfer.replaced) user
+    + (if owner_of t.nodes transfer.folder == user then option_map_or (size_of t.nodes) transfer.replaced 0 else 0) ≡ bytes_owned t.nodes user
+cleared_owned t transfer name user sound known = here transfer.replaced known.there
+  where
+    here : (replaced : Option ℕ) → child_of t.nodes transfer.folder name ≡ replaced
+        → bytes_owned (cleared t.nodes replaced) user
+        + (if owner_of t.nodes transfer.folder == user then option_map_or (size_of t.nodes) replaced 0 else 0) ≡ bytes_owned t.nodes user
+    here None is = omega (arith, alike (owner_of t.nodes transfer.folder == user) 0)
+    here (Some top) is =
+        let of = inside_owned t top transfer.folder sound (child_parent t.nodes transfer.folder name top sound.rising is) in
+        ap (λ (owner : ℕ). bytes_owned (without_under t.nodes top) user + (if owner == user then size_of t.nodes top else 0)) (sym of.2)
+        ∙ without_owned t top user of.0 sound of.1
+
+-- and of copies that are put there the folder's owner has the size of what they are copies of
+pub copies_owned : (t : Tables) (now user : ℕ) (rows : List NodeRow) (replaced : Option ℕ) → AreSound t → (known : KnownCopies t now rows replaced)
+    → bytes_owned rows user ≡ (if owner_of t.nodes known.transfer.folder == user then size_of t.nodes known.transfer.node else 0)
+copies_owned t now user rows replaced sound known =
+    sums_agree (owned_bytes user) (λ (row : NodeRow). if owner_of t.nodes transfer.folder == user then weight row else 0) rows
+    (λ k d within. ap (λ (owner : ℕ). if owner == user then weight (get_or rows k d) else 0) (copy_at t now transfer known.name rows mirrors k d within).owner)
+    ∙ sum_if (owner_of t.nodes transfer.folder == user) weight rows
+    ∙ ap (λ (size : ℕ). if owner_of t.nodes transfer.folder == user then size else 0) (same ∙ sym (sizes_sum t transfer.node sound))
+  where
+    transfer : Transfer
+    transfer = known.transfer
+
+    walk : List ℕ
+    walk = walk_of t.nodes transfer.node
+
+    mirrors : Mirrors t now transfer known.name rows
+    mirrors = mirrored t now rows replaced sound known
+
+    same : sum_by weight rows ≡ sum_by (bytes_of t.nodes) walk
+    same =
+        same_sum weight (bytes_of t.nodes) rows walk mirrors.all (λ k d e within.
+        let copy = copy_at t now transfer known.name rows mirrors k d within in
+        ap (sum_by (λ (piece : Piece). piece.size)) (copy.content ∙ sym (ap (λ (o : Option NodeRow). option_map_or (λ row. row.content) o []) copy.there))
+        ∙ ap (bytes_of t.nodes) (sym (get_or_from_slice_get walk k copy.node e copy.at_index)))
+
+-- ---- one row
+
+-- where a row becomes another, its bytes go and those of the other come
+pub row_owned : (rows : List NodeRow) (node user : ℕ) (change : NodeRow → NodeRow) (old : NodeRow) → node_row rows node ≡ Some old
+    → bytes_owned (with_node rows node change) user + owned_bytes user old ≡ bytes_owned rows user + owned_bytes user (change old)
+row_owned [] node user change old there = absurd (none-some old there)
+row_owned (row ∷ rows) node user change old there =
+    cond_both (row.id == node) (change row ∷ rows) (row ∷ with_node rows node change)
+    (λ made. bytes_owned made user + owned_bytes user old ≡ bytes_owned (row ∷ rows) user + owned_bytes user (change old))
+    (λ e.
+    let same : row ≡ old = same_Some row old (rw e at there) in
+    omega (
+      arith,
+      sum_by-cons (owned_bytes user) (change row) rows,
+      sum_by-cons (owned_bytes user) row rows,
+      ap (owned_bytes user) same,
+      ap (λ (r : NodeRow). owned_bytes user (change r)) same,
+    ))
+    (λ e.
+    let rest = row_owned rows node user change old (rw e at there) in
+    omega (arith, rest, sum_by-cons (owned_bytes user) row (with_node rows node change), sum_by-cons (owned_bytes user) row rows))
+
+-- ---- a user's root
+
+-- what is a user's is under the user's root, and nothing else
+owned_rooted : (t : Tables) (user : UserRow) → AreSound t → user_row t.users user.id ≡ Some user
+    → All (λ (row : NodeRow). owned_bytes user.id row ≡ weight_under t.nodes user.root row) t.nodes
+owned_rooted t user sound is k d within =
+    ap (λ (counts : Bool). if counts then weight row else 0)
+    (both_ways (row.owner == user.id) (is_under t.nodes row.id user.root) (λ own. under (eqb-true row.owner user.id own))
+    (λ under.
+    let up = under_climb t.nodes row.id user.root under in
+    eq-eqb row.owner user.id (climb_own up.0 t user.id row.id user.root row sound up.2 (root_own t user sound is) there)))
+  where
+    row : NodeRow
+    row = get_or t.nodes k d
+
+    there : node_row t.nodes row.id ≡ Some row
+    there = node_row_each t.nodes sound.rising k d within
+
+    under : row.owner ≡ user.id → is_under t.nodes row.id user.root ≡ true
+    under own =
+        let c = climbs_own t row sound there in
+        elim c.place [
+          | inl root ↦
+              (let same : c.top.id ≡ user.root =
+              root.1 ∙ ap (root_of_user t) own ∙ ap (λ (o : Option UserRow). option_map_or (λ user. user.root) o 0) is in
+              climb_under (depth t.nodes row.id) t.nodes row.id user.root c.shallow (c.climbs ∙ ap Some same))
+          | inr trash ↦ absurd (nothing_trashed t row.id sound (trashed_by t row there c trash))
+        ]
+
+pub charge_rooted : ChargeIsSizeOfRoot
+charge_rooted t user row sound is =
+    let id : row.id ≡ user = eqb-true row.id user (found_passes (λ (u : UserRow). u.id == user) t.users row is) in
+    charge_owned t user sound
+    ∙ sums_agree (owned_bytes user) (weight_under t.nodes row.root) t.nodes
+    (subst (λ (n : ℕ). user_row t.users n ≡ Some row → All (λ (r : NodeRow). owned_bytes n r ≡ weight_under t.nodes row.root r) t.nodes) id
+    (owned_rooted t row sound) is)
+    ∙ sym (size_under t row.root sound)

@@ -1,0 +1,94 @@
+-- What a user's files take up, and that no step takes that beyond the user's quota.
+use Rattle.std.specs.Prelude.{◌≡◌, ◌↔◌, ◌≤◌, ◌≢◌, ◌⊎◌, ℕ, ◌+◌, ◌==◌, if◌then◌else◌, List, [], ◌∷◌, ◌++◌, None, Some, Err, IsOk, sum_by}
+use Rattle.nf_base.specs.declared.rows.NodeRow.{NodeRow}
+use Rattle.nf_base.specs.declared.rows.UserRow.{UserRow}
+use Rattle.nf_defs.specs.Prelude.{owner_of, Tables, user_row}
+use Rattle.nf_words.specs.Listing.{size_of}
+use Rattle.nf_words.specs.Prelude.{access_of, after, answer_at, answer_to, AreSound, asked_of, bytes_of, call_of, charge_of, earlier_rules, end_lost, end_unallowed, end_unreached, exceeded, excess_at, goal_at, IsSound, last_number, limit_at, limit_rule, locked_rule, MayCome, node_of_key, Pass, pieces_of, place_of, places_of, quota_of, room_rule, Rule, State}
+use Rattle.nf_words.specs.declared.answer.By.{By}
+use Rattle.nf_words.specs.declared.answer.Denial.TheVariants as denial
+use Rattle.nf_words.specs.declared.answer.Excess.{Excess}
+use Rattle.nf_words.specs.declared.answer.Goal.TheVariants.{Store}
+use Rattle.nf_words.specs.declared.answer.LockKey.{LockKey}
+use Rattle.nf_words.specs.declared.answer.LockKey.TheVariants.{Node, Slot}
+use Rattle.nf_words.specs.declared.history.Entry.{Entry}
+use Rattle.nf_words.specs.declared.history.Event.TheVariants.{Begin, End}
+use Rattle.nf_words.specs.declared.history.Outcome.TheVariants.{Body}
+use Rattle.nf_words.specs.declared.request.Request.{Request}
+use Rattle.nf_words.specs.declared.request.Words.{Words}
+
+-- ---- what is charged
+
+-- the bytes of a row, where it is the user's
+abbrev pub owned_bytes : ℕ → NodeRow → ℕ
+owned_bytes user row = if row.owner == user then sum_by (λ piece. piece.size) row.content else 0
+
+-- those of all rows that are the user's
+abbrev pub bytes_owned : List NodeRow → ℕ → ℕ
+bytes_owned rows user = sum_by (owned_bytes user) rows
+
+-- a user is charged for all that is the user's: nothing is in the trash yet, so all of it is present
+abbrev pub ChargesAreOwned : Type 0
+ChargesAreOwned = (t : Tables) (user : ℕ) → AreSound t → charge_of t user ≡ bytes_owned t.nodes user
+
+-- a charge can be told, however large the site
+abbrev pub ChargesAreFew : Type 0
+ChargesAreFew = (t : Tables) (user : ℕ) → AreSound t → charge_of t user ≤ last_number
+
+-- so a user's charge is the size of the user's root
+abbrev pub ChargeIsSizeOfRoot : Type 0
+ChargeIsSizeOfRoot =
+    (t : Tables) (user : ℕ) (row : UserRow) → AreSound t → user_row t.users user ≡ Some row → charge_of t user ≡ size_of t.nodes row.root
+
+-- the bytes of what a body is stored over
+abbrev pub bytes_at : List NodeRow → LockKey → ℕ
+bytes_at rows (Node node) = bytes_of rows node
+bytes_at rows (Slot folder name) = 0
+
+-- the owner is charged for some bytes in the place of others, and no other charge is another
+pub record IsCharged (before after : Tables) (owner old new : ℕ) : Type 0 where
+  pub owned : charge_of after owner + old ≡ charge_of before owner + new
+  pub others : (user : ℕ) → user ≢ owner → charge_of after user ≡ charge_of before user
+
+-- whoever stores a body, the owner of what it is stored over, or of the folder that it is stored in, is charged for it, and no one else
+abbrev pub WritesAreCharged : Type 0
+WritesAreCharged =
+    (n : ℕ) (s : State) (e : Entry) (by : By) (key : LockKey) (digest : List ℕ) (size : ℕ) → IsSound s → MayCome n s e
+    → goal_at s e.seat ≡ Some (Store by key size) → e.event ≡ End (Body digest size) → IsOk (answer_at s e e.mark)
+    → IsCharged s.tables (after s e).tables (owner_of s.tables.nodes (node_of_key key)) (bytes_at s.tables.nodes key) size
+
+-- ---- what no step passes
+
+-- whatever step is taken, and however it is marked, a charge that rises stays within its quota. One that is above it already, since its
+-- quota was lowered, rises no further
+abbrev pub QuotasAreKept : Type 0
+QuotasAreKept =
+    (n : ℕ) (s : State) (e : Entry) (user : ℕ) → IsSound s → MayCome n s e
+    → (charge_of (after s e).tables user ≤ charge_of s.tables user)
+    ⊎ (charge_of (after s e).tables user ≤ quota_of (after s e).tables user)
+
+-- ---- who is refused
+
+-- every rule before that of quotas
+abbrev pub rules_before : List Rule
+rules_before = earlier_rules ++ locked_rule ∷ limit_rule ∷ room_rule ∷ []
+
+-- the End of a PUT passes every rule before that of quotas: who stores is reached and may, its name is still free, and no limit is passed
+pub record EndReaches (s : State) (now : ℕ) (by : By) (key : LockKey) (length : ℕ) : Type 0 where
+  pub reached : end_unreached (access_of s) s.tables now by (node_of_key key) ≡ None
+  pub allowed : end_unallowed (access_of s) s.tables now by key ≡ None
+  pub there : end_lost s.tables key ≡ None
+  pub few : limit_at s.tables (pieces_of length) (place_of key) ≡ None
+
+-- a request, and the End of a PUT, is refused for a quota exactly where every rule before passes it, and what it would put somewhere is more
+-- than what that replaces and takes the charge of the owner there beyond the quota; the refusal tells the charge, the quota, and the bytes
+-- that would come
+pub record QuotaExactly : Type 0 where
+  pub begin : (s : State) (seat now : ℕ) (words : Words) (request : Request) (excess : Excess)
+      → (answer_to s seat now (Begin words request) ≡ Err (denial.Quota excess))
+      ↔ (Pass rules_before (access_of s) (call_of s seat now words request)
+      × (exceeded s.tables (places_of (call_of s seat now words request)) (asked_of request.wanted).makes ≡ Some excess))
+  pub body : (s : State) (seat now : ℕ) (by : By) (key : LockKey) (wanted length : ℕ) (digest : List ℕ) (excess : Excess)
+      → goal_at s seat ≡ Some (Store by key wanted)
+      → (answer_to s seat now (End (Body digest length)) ≡ Err (denial.Quota excess))
+      ↔ (EndReaches s now by key length × (excess_at s.tables length (place_of key) ≡ Some excess))

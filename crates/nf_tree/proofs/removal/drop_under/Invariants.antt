@@ -1,0 +1,16 @@
+use Rattle.std.proofs.Common.{◌≡◌, ◌≤◌, ◌*◌, take, vec_len, vec_capacity}
+use Rattle.std.proofs.lemmas.List.Filters.{FiltersInPlace}
+use Rattle.nf_base.specs.declared.limits.TheConstants.{MAX_PIECES}
+use Rattle.nf_tree.specs.Order.{stays}
+use Rattle.nf_tree.proofs.Fates.{gone_pieces}
+use Rattle.nf_tree.proofs.removal.drop_under.Given as goal
+
+-- the rows so far are filtered, and the pieces of those that go are counted
+abbrev pub invariant-loop-at : goal.invariant-loop-at
+invariant-loop-at l = record {
+  filtered : FiltersInPlace (stays l.fn.rows.items l.fn.top) l.fn.rows.items l.rows.items l.kept l.at;
+  gone : l.gone ≡ gone_pieces (stays l.fn.rows.items l.fn.top) (take l.at l.fn.rows.items);
+  bound : l.gone ≤ MAX_PIECES * l.at;
+  same : vec_len l.rows ≡ vec_len l.fn.rows;
+  room : vec_capacity l.rows ≡ vec_capacity l.fn.rows;
+}

@@ -1,0 +1,45 @@
+use Rattle.std.proofs.Common.{◌+◌, ◌-◌, ◌≡◌, ◌==◌, Some, [], length, map, ap, subst, sym, ◌∙◌, arith}
+use Rattle.std.specs.List.{position, remove}
+use Rattle.nf_base.specs.declared.rows.NodeRow.{NodeRow}
+use Rattle.nf_charge.proofs.Kept.{charged_out}
+use Rattle.nf_tree.specs.Held.{Held}
+use Rattle.nf_tree.specs.Order.{LacksOnly, lowered}
+use Rattle.nf_tree.proofs.Removed.{leaf_held, lowered_index, no_leaf_held, removed_tree}
+use Rattle.nf_tree.proofs.Trees.{counted_there, node_within}
+use Rattle.nf_tree.proofs.tree.Tree.purge_leaf.Goals as goal
+
+pub go-requires : goal.go-requires
+go-requires c =
+    let rows = c.self.inside.rows.items in
+    let at = c.in-Some.at in
+    let there : Some at ≡ position (λ (row : NodeRow). row.id == c.args.leaf) rows = rw c.deref.ensures.value at (sym c.in-Some.is ∙ c.index_of.ensures) in
+    let row = c.remove-row.result in
+    ([], remove rows at, charged_out rows at row c.self.inside.charges.sums (node_within rows at c.args.leaf row there) c.remove-row.ensures.value c.self.invariant.2)
+
+pub invariant_of-self : goal.invariant_of-self
+invariant_of-self c =
+    let rows = c.self.inside.rows.items in
+    let at = c.in-Some.at in
+    let row = c.remove-row.result in
+    let there : Some at ≡ position (λ (row : NodeRow). row.id == c.args.leaf) rows = rw c.deref.ensures.value at (sym c.in-Some.is ∙ c.index_of.ensures) in
+    let within = node_within rows at c.args.leaf row there in
+    let lacks = subst (λ list. LacksOnly list c.take.new.order.items at) c.deref-in-Some.ensures.value c.take.ensures.lacks in
+    let counted = counted_there rows at row within c.remove-row.ensures.value in
+    let sums : c.self.inside.pieces - c.pieces_of.result + length row.content ≡ c.self.inside.pieces = omega (arith, counted, c.pieces_of.ensures.count, c.self.invariant.0.counted) in
+    rw (c.remove-row.ensures.items, c.lower.ensures.order, c.remove-row.ensures.capacity, c.lower.ensures.room, c.take.ensures.room, c.go.ensures.room) (
+      removed_tree rows at row c.self.inside.order.items (map (lowered at) c.take.new.order.items) c.self.inside.pieces (c.self.inside.pieces - c.pieces_of.result) c.self.inside.room
+          c.self.invariant.0 within c.remove-row.ensures.value sums (lowered_index rows at within c.take.new.order.items lacks),
+      c.self.invariant.1,
+      c.go.ensures.charged [] (remove rows at) (charged_out rows at row c.self.inside.charges.sums within c.remove-row.ensures.value c.self.invariant.2),
+    )
+
+pub returns-in-Some : goal.returns-in-Some
+returns-in-Some c =
+    let rows = c.self.inside.rows.items in
+    let there : Some c.in-Some.at ≡ position (λ (row : NodeRow). row.id == c.args.leaf) rows = rw c.deref.ensures.value at (sym c.in-Some.is ∙ c.index_of.ensures) in
+    rw c.remove-row.ensures.items (leaf_held c.args.self.now rows c.self.inside.room c.args.leaf c.in-Some.at c.self.view_is c.self.invariant.0.rising c.requires there)
+
+pub returns-in_default : goal.returns-in_default
+returns-in_default c =
+    let same = c.deref.ensures.value ∙ ap (λ (h : Held). h.rows) c.self.view_is in
+    no_leaf_held c.args.self.now c.args.leaf c.requires (rw same at (sym c.in_default.is ∙ c.index_of.ensures))
