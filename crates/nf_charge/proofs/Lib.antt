@@ -1,4 +1,10 @@
-pub mod Charged
-pub mod Kept
-pub mod Places
-pub mod Steps
+pub mod Carrying
+pub mod Changing
+pub mod Climbing
+pub mod Counting
+pub mod Filling
+pub mod Leading
+pub mod Leaving
+pub mod Lifting
+pub mod Positions
+pub mod Pushing

@@ -1,8 +1,7 @@
--- What the running sums are to callers.
+-- What the sums are to callers.
 use Rattle.std.specs.Prelude.{ℕ, List}
-use Rattle.nf_charge.specs.declared.charges.Sum.{Sum}
 
--- the sums by rising number of the user, and for how many there is room
+-- a sum for each row, by its place, and for how many there is room
 pub record Held : Type 0 where
-  pub sums : List Sum
+  pub sums : List ℕ
   pub room : ℕ

@@ -1,2 +1,2 @@
-pub mod Charges
+pub mod Sums
 pub mod Held

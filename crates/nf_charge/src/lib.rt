@@ -1,6 +1,7 @@
-//! What each user's files take up: running sums, by owner.
+//! What is under each node, in bytes: running sums, by the rows' places.
 #![tactic(auto)]
 
-mod charges;
+pub mod rows;
+mod sums;
 
-pub use charges::{Charges, Sum};
+pub use sums::Sums;

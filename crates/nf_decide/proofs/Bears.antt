@@ -1,5 +1,5 @@
 -- What sound tables can bear, where no rule refuses it.
-use Rattle.std.proofs.Common.{inl, inr, ◌⊎◌, cond, count_by, max, nat_lt, ◌∷◌, length-append, ℕ, ◌+◌, ◌<◌, ◌≤◌, ◌==◌, ◌≡◌, Bool, true, false, not, List, [], length, find, filter, is_some, Option, None, Some, IsSome, IfSome, if◌then◌else◌, refl, sym, ap, ◌∙◌, subst, arith}
+use Rattle.std.proofs.Common.{inl, inr, ◌⊎◌, cond, count_by, max, nat_lt, ◌∷◌, ◌++◌, length-append, ℕ, ◌+◌, ◌<◌, ◌≤◌, ◌==◌, ◌≡◌, Bool, true, false, not, List, [], length, find, filter, is_some, Option, None, Some, IsSome, IfSome, if◌then◌else◌, refl, sym, ap, ◌∙◌, subst, arith}
 use Rattle.std.specs.List.{All}
 use Rattle.std.specs.Option.{option_map_or}
 use Rattle.std.proofs.lemmas.List.Elements.{All-cons, All-nil, All-weaker}
@@ -10,26 +10,29 @@ use Rattle.nf_base.specs.declared.changes.RowKey.TheVariants as keys
 use Rattle.nf_base.specs.declared.rows.MetaRow.{MetaRow}
 use Rattle.nf_base.specs.declared.rows.Row.TheVariants as rows
 use Rattle.nf_laws.proofs.Lists.{counted_higher, Rising, rising_row}
+use Rattle.nf_laws.proofs.Moved.{transferred_sound}
 use Rattle.nf_laws.proofs.OneRow.{length_with}
 use Rattle.nf_laws.proofs.Puts.{put_changed, put_new}
 use Rattle.std.proofs.lemmas.Bool.{eqb-true, le-ltb, lt-ltb}
 use Rattle.std.proofs.lemmas.Option.{same_Some}
 use Rattle.nf_base.specs.declared.limits.TheConstants.{MAX_NODES}
 use Rattle.nf_access.specs.Shares.{share_row}
+use Rattle.nf_charge.specs.Sums.{LeadUp}
 use Rattle.nf_base.specs.declared.rows.NodeRow.{NodeRow}
 use Rattle.nf_base.specs.declared.rows.ShareRow.{ShareRow}
 use Rattle.nf_base.specs.declared.rows.UserRow.{UserRow}
 use Rattle.nf_defs.proofs.Puts.{all_put}
 use Rattle.nf_defs.specs.Prelude.{filled, is_under, made, node_key, node_row, put, Tables, user_key}
-use Rattle.nf_words.specs.Prelude.{AreSound, cleared, copies_to, IsNewShare, IsOtherShare, last_number, last_short, raised}
+use Rattle.nf_words.specs.Prelude.{AreSound, cleared, IsNewShare, IsNewUser, IsOtherShare, last_number, last_short, raised, transferred}
 use Rattle.nf_words.specs.declared.answer.Allowed.{Allowed}
 use Rattle.nf_words.specs.declared.answer.Allowed.TheVariants as allowed
 use Rattle.nf_words.proofs.Fits.{KnownChange, KnownRow, KnownRows, no_more, one_more, user_more, with_user}
 use Rattle.nf_words.proofs.Found.{found_has, found_passes}
 use Rattle.nf_words.proofs.Known.{Known, KnownCopies}
-use Rattle.nf_decide.specs.Current.{AreBorne, AreGiven, BearsAct, BearsChanges, HasNumbers, IsBorne, IsCounted, IsRequoted, added_by, is_fresh}
+use Rattle.nf_decide.specs.Current.{AreBorne, AreGiven, BearsAct, BearsChanges, BearsCopies, IsBorne, IsCounted, IsNew, IsRequoted, added_by, is_fresh}
 use Rattle.nf_decide.proofs.Putting.{count_by-cons, counts_none, counts_one}
 use Rattle.nf_decide.proofs.Copies.{AreNumbered, copies_count, copies_next}
+use Rattle.nf_decide.proofs.Leading.{copies_lead, leads_born, leads_rooted, leads_row, sound_leads}
 
 pub sound_given : (t : Tables) → AreSound t → AreGiven t
 sound_given t sound = record { rising = sound.rising; given = λ k d within. (sound.nodes k d within).given }
@@ -46,26 +49,26 @@ share_stays first t row (inr is) old there =
     ap node (same_Some old is.0.old (sym there ∙ is.0.there)) ∙ sym (ap node is.0.same)
 
 -- what is known of a changed row can be borne, also where the counters weren't raised yet
-row_borne : (t u : Tables) (blob : Option ℕ) (meta : MetaRow) (change : Change) → KnownRow t blob u change
+row_borne : (t u : Tables) (blob : Option ℕ) (meta : MetaRow) (change : Change) → LeadUp u.nodes → KnownRow t blob u change
     → IsBorne t.meta.next_node (record u { meta = meta }) change
-row_borne t u blob meta (Put (rows.Node row)) known =
+row_borne t u blob meta (Put (rows.Node row)) leads known =
     elim known [
-      | inl it ↦ inl (it.fresh, it.born.newest)
+      | inl it ↦ inl (it.fresh, record { newest = it.born.newest; leads = leads_born u row leads it.born })
       | inr it ↦
           inr (it.given, record { was = it.filled.old; there = it.filled.there; file = it.filled.file; same = it.filled.same })
     ]
-row_borne t u blob meta (Put (rows.Share row)) known = share_stays t u row known.1
-row_borne t u blob meta (Put (rows.Mount row)) known = tt
-row_borne t u blob meta (Put (rows.User row)) known =
+row_borne t u blob meta (Put (rows.Share row)) leads known = share_stays t u row known.1
+row_borne t u blob meta (Put (rows.Mount row)) leads known = tt
+row_borne t u blob meta (Put (rows.User row)) leads known =
     let it = known.1 in inr (record { was = it.old; there = it.there; same = it.same })
-row_borne t u blob meta (Put (rows.Token row)) known =
+row_borne t u blob meta (Put (rows.Token row)) leads known =
     let it = known.1 in record { fresh = it.fresh; user = it.user; few = it.few }
-row_borne t u blob meta (Put (rows.Group row)) known =
+row_borne t u blob meta (Put (rows.Group row)) leads known =
     let it = known.1 in record { newest = it.newest; unnamed = it.unnamed; few = it.few }
-row_borne t u blob meta (Put (rows.Member row)) known =
+row_borne t u blob meta (Put (rows.Member row)) leads known =
     let it = known.1 in record { fresh = it.fresh; group = it.group; user = it.user; few = it.few }
-row_borne t u blob meta (Drop (keys.Member group user)) known = tt
-row_borne t u blob meta change known = absurd known.1
+row_borne t u blob meta (Drop (keys.Member group user)) leads known = tt
+row_borne t u blob meta change leads known = absurd known.1
 
 -- no such change bears on the counters
 meta_last : (t u : Tables) (blob : Option ℕ) (meta : MetaRow) (change : Change) → KnownRow t blob u change
@@ -80,18 +83,26 @@ meta_last t u blob meta (Put (rows.Member row)) known = refl
 meta_last t u blob meta (Drop (keys.Member group user)) known = refl
 meta_last t u blob meta change known = absurd known.1
 
-rows_borne : (t : Tables) (blob : Option ℕ) (meta : MetaRow) (u : Tables) (changes : List Change) → KnownRows t blob u changes
-    → AreBorne t.meta.next_node (record u { meta = meta }) changes
-rows_borne t blob meta _ _ (no_more u) = tt
-rows_borne t blob meta _ _ (one_more u change changes known rest) = (
-  row_borne t u blob meta change known,
+-- with a new user's root the numbers still rise
+root_rises : (u : Tables) (row : UserRow) (root : NodeRow) → Rising u.nodes → IsNewUser u row root → Rising (with_user u row root).nodes
+root_rises u row root rising new =
+    subst Rising (sym (put_new root u.nodes new.newest_node))
+    (all_pairs_push (λ (a b : NodeRow). a.id < b.id) u.nodes root rising new.newest_node)
+
+rows_borne : (t : Tables) (blob : Option ℕ) (meta : MetaRow) (u : Tables) (changes : List Change) → Rising u.nodes → LeadUp u.nodes
+    → KnownRows t blob u changes → AreBorne t.meta.next_node (record u { meta = meta }) changes
+rows_borne t blob meta _ _ rising leads (no_more u) = tt
+rows_borne t blob meta _ _ rising leads (one_more u change changes known rest) = (
+  row_borne t u blob meta change leads known,
   subst (λ (after : Tables). AreBorne t.meta.next_node after changes) (meta_last t u blob meta change known)
-      (rows_borne t blob meta (made u change) changes rest),
+      (rows_borne t blob meta (made u change) changes (rising_row t blob u change rising known) (leads_row t u blob change rising leads known) rest),
 )
-rows_borne t blob meta _ _ (user_more u row root changes known rest) = (
-  inl (record { newest = known.1.newest; unnamed = known.1.unnamed; few = known.1.few }),
-  (inl (known.2, known.1.newest_node), rows_borne t blob meta (with_user u row root) changes rest),
-)
+rows_borne t blob meta _ _ rising leads (user_more u row root changes known rest) =
+    let new : IsNew u.nodes root = record { newest = known.1.newest_node; leads = leads_rooted u row root leads known.1 } in
+    let lead = subst LeadUp (sym (put_new root u.nodes new.newest)) new.leads in (
+      inl (record { newest = known.1.newest; unnamed = known.1.unnamed; few = known.1.few }),
+      (inl (known.2, new), rows_borne t blob meta (with_user u row root) changes (root_rises u row root rising known.1) lead rest),
+    )
 
 -- the raised counters pass the last number no more than they did before
 record AreWithin (meta up : MetaRow) : Type 0 where
@@ -174,7 +185,7 @@ changes_bear t now changes blob sound known =
     let given = All-weaker (λ (row : UserRow). row.id < t.meta.next_user) (λ (row : UserRow). row.id < up.meta.next_user)
     (λ row less. omega (arith, less, higher.users)) t.users sound.users_given in
     record {
-      rows = rows_borne t blob t.meta up changes known.rows;
+      rows = rows_borne t blob t.meta up changes sound.rising (sound_leads t sound) known.rows;
       numbers = rows_counted t blob up.meta up changes
           (record { users = known.next_user; groups = known.next_group; nodes = known.next_node; shares = known.next_share })
           refl given known.rows;
@@ -235,9 +246,7 @@ rows_few t blob _ _ rising few (one_more u change changes known rest) =
 rows_few t blob _ _ rising few (user_more u row root changes known rest) =
     let next = t.meta.next_node in
     let adds = born_few next u.nodes root known.2 known.1.newest_node known.1.few_nodes in
-    let rises = subst Rising (sym (put_new root u.nodes known.1.newest_node))
-    (all_pairs_push (λ (a b : NodeRow). a.id < b.id) u.nodes root rising known.1.newest_node) in
-    let others = rows_few t blob (with_user u row root) changes rises adds.few rest in
+    let others = rows_few t blob (with_user u row root) changes (root_rises u row root rising known.1) adds.few rest in
     omega (
       arith,
       others,
@@ -273,13 +282,15 @@ cleared_there rows node (Some top) there apart = here (node_row rows node) refl 
         ap (λ (o : Option NodeRow). is_some o) (kept_there (λ (row : NodeRow). row.id == node) (λ (row : NodeRow). not (is_under rows row.id top)) rows row e kept)
 
 copies_bear : (t : Tables) (now : ℕ) (rows : List NodeRow) (replaced : Option ℕ) → AreSound t
-    → KnownCopies t now rows replaced → HasNumbers t rows
+    → KnownCopies t now rows replaced → BearsCopies t rows replaced
 copies_bear t now rows replaced sound known =
-    let made = copies_to t now known.transfer known.name in
     let few = ap (λ (rows : List NodeRow). length rows) known.copies in
     record {
-      numbered = subst (λ (rows : List NodeRow). AreNumbered t.meta.next_node rows) (sym known.copies) (copies_next t now known.transfer known.name);
-      next_node = omega (arith, few, copies_count t now known.transfer known.name, known.next_node);
+      numbers = record {
+        numbered = subst (λ (rows : List NodeRow). AreNumbered t.meta.next_node rows) (sym known.copies) (copies_next t now known.transfer known.name);
+        next_node = omega (arith, few, copies_count t now known.transfer known.name, known.next_node);
+      };
+      leads = copies_lead t now rows replaced sound known;
     }
 
 pub known_bears : (t : Tables) (now : ℕ) (act : Allowed) → AreSound t → Known t now act → BearsAct t act
@@ -288,8 +299,11 @@ known_bears t now (allowed.List listing) sound known = tt
 known_bears t now (allowed.Put by key length) sound known = tt
 known_bears t now (allowed.Change changes blob report) sound known = changes_bear t now changes blob sound known
 known_bears t now (allowed.Delete node) sound known = tt
-known_bears t now (allowed.Move transfer name) sound known =
-    cleared_there t.nodes transfer.node transfer.replaced (ap (λ (o : Option NodeRow). is_some o) known.known.source.1) known.known.apart
+known_bears t now (allowed.Move transfer name) sound known = record {
+  there =
+      cleared_there t.nodes transfer.node transfer.replaced (ap (λ (o : Option NodeRow). is_some o) known.known.source.1) known.known.apart;
+  leads = sound_leads (transferred t transfer name) (transferred_sound t transfer name sound known);
+}
 known_bears t now (allowed.Copy rows replaced) sound known = copies_bear t now rows replaced sound known
 known_bears t now (allowed.Cross rows replaced node) sound known = copies_bear t now rows replaced sound known.copies
 known_bears t now allowed.Close sound known = tt

@@ -2,6 +2,7 @@ pub mod Putting
 pub mod Bears
 pub mod Copies
 pub mod Late
+pub mod Leading
 pub mod Lines
 pub mod Named
 pub mod Numbers
@@ -12,4 +13,4 @@ pub mod Joining
 pub mod Askers
 pub mod Faults
 pub mod Letters
-pub mod Leaves
+pub mod Sizes

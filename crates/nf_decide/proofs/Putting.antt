@@ -30,7 +30,7 @@ use Rattle.nf_decide.specs.declared.counts.RowCounts.{RowCounts}
 never_new : (old : List NodeRow) (row was : NodeRow) → IsNew old row → node_row old row.id ≡ Some was → ⊥
 never_new old row was new there =
     let less = subst (λ (o : Option NodeRow). IfSome o (λ (other : NodeRow). other.id < row.id)) there
-    (found_has (λ (other : NodeRow). other.id < row.id) (λ (other : NodeRow). other.id == row.id) old new) in
+    (found_has (λ (other : NodeRow). other.id < row.id) (λ (other : NodeRow). other.id == row.id) old new.newest) in
     let same = eqb-true was.id row.id (found_passes (λ (other : NodeRow). other.id == row.id) old was there) in
     absurd (omega (arith, less, same))
 
@@ -58,7 +58,7 @@ refilled_put old row rising it =
     ap (λ (r : NodeRow). put node_key r old) it.same ∙ put_changed old row.id (filled row.content row.changed) it.was refl rising it.there
 
 pub new_put : (old : List NodeRow) (row : NodeRow) → IsNew old row → put node_key row old ≡ old ++ row ∷ []
-new_put old row new = put_new row old new
+new_put old row new = put_new row old new.newest
 
 -- the counters are raised for one change more
 pub counted_more : (meta : MetaRow) (changes : List Change) (change : Change)
@@ -113,7 +113,7 @@ borne_has P next t change rising borne new refilled same = absurd borne
 pub borne_rising : (next : ℕ) (t : Tables) (change : Change) → Rising t.nodes → IsBorne next t change → Rising (made t change).nodes
 borne_rising next t change rising borne =
     borne_has Rising next t change rising borne
-    (λ row is fresh new. all_pairs_push (λ (a b : NodeRow). a.id < b.id) t.nodes row rising new)
+    (λ row is fresh new. all_pairs_push (λ (a b : NodeRow). a.id < b.id) t.nodes row rising new.newest)
     (λ row is old. rising_with t.nodes row.id (filled row.content row.changed) (λ r. refl) rising)
     rising
 

@@ -1,5 +1,5 @@
 -- The state of the site as the program holds it.
-use Rattle.std.specs.Prelude.{◌≡◌, ◌⊎◌, ℕ, ◌+◌, ◌<◌, ◌≤◌, nat_lt, All, AllPairs, Bool, true, false, not, List, [], ◌∷◌, count_by, length, max, slice_get, Option, None, Some, IsSome}
+use Rattle.std.specs.Prelude.{◌≡◌, ◌⊎◌, ℕ, ◌+◌, ◌<◌, ◌≤◌, nat_lt, All, AllPairs, Bool, true, false, not, List, [], ◌∷◌, ◌++◌, count_by, length, max, slice_get, take, Option, None, Some, IsSome}
 use Rattle.nf_access.specs.Shares.{share_row}
 use Rattle.nf_base.specs.declared.changes.Change.{Change}
 use Rattle.nf_base.specs.declared.changes.Change.TheVariants.{Put, Drop}
@@ -12,7 +12,8 @@ use Rattle.nf_base.specs.declared.rows.MetaRow.{MetaRow}
 use Rattle.nf_base.specs.declared.rows.NodeRow.{NodeRow}
 use Rattle.nf_base.specs.declared.rows.ShareRow.{ShareRow}
 use Rattle.nf_base.specs.declared.rows.UserRow.{UserRow}
-use Rattle.nf_defs.specs.Prelude.{filled, group_named, is_folder_kind, made, node_row, Tables, user_named, user_row}
+use Rattle.nf_charge.specs.Sums.{LeadUp}
+use Rattle.nf_defs.specs.Prelude.{filled, group_named, is_folder_kind, made, node_row, relinked, Tables, user_named, user_row, with_node}
 use Rattle.nf_words.specs.Prelude.{blob_after, cleared, goal_of, IsNewMember, IsNewToken, last_number, last_short, State}
 use Rattle.nf_words.specs.declared.answer.Allowed.{Allowed}
 use Rattle.nf_words.specs.declared.answer.Allowed.TheVariants as allowed
@@ -118,9 +119,10 @@ pub record HasNumbers (t : Tables) (rows : List NodeRow) : Type 0 where
 
 -- ---- rows that are put
 
--- a node's number is above all others
-abbrev pub IsNew : List NodeRow → NodeRow → Type 0
-IsNew old row = All (λ (other : NodeRow). other.id < row.id) old
+-- a node's number is above all others, and with it each node leads up
+pub record IsNew (old : List NodeRow) (row : NodeRow) : Type 0 where
+  pub newest : All (λ (other : NodeRow). other.id < row.id) old
+  pub leads : LeadUp (old ++ row ∷ [])
 
 -- a file that is there has another content
 pub record IsRefilled (old : List NodeRow) (row : NodeRow) : Type 0 where
@@ -185,9 +187,19 @@ pub record BearsChanges (t : Tables) (changes : List Change) (blob : Option ℕ)
   pub numbers : All (IsCounted t.meta) changes
   pub next_blob : blob_after t.meta.next_blob blob ≤ max t.meta.next_blob last_number
 
--- what is moved is there, also without what has to go
-abbrev pub IsThere : Tables → Transfer → Type 0
-IsThere t transfer = IsSome (node_row (cleared t.nodes transfer.replaced) transfer.node)
+-- what is moved is there, also without what has to go; and where it comes to each node leads up
+pub record BearsMove (t : Tables) (transfer : Transfer) (name : List ℕ) : Type 0 where
+  pub there : IsSome (node_row (cleared t.nodes transfer.replaced) transfer.node)
+  pub leads : LeadUp (with_node (cleared t.nodes transfer.replaced) transfer.node (relinked transfer.folder name))
+
+-- with each new node behind those before it, each leads up
+abbrev pub LeadUpBehind : List NodeRow → List NodeRow → Type 0
+LeadUpBehind old rows = (count : ℕ) → LeadUp (old ++ take count rows)
+
+-- and they have the next numbers
+pub record BearsCopies (t : Tables) (rows : List NodeRow) (replaced : Option ℕ) : Type 0 where
+  pub numbers : HasNumbers t rows
+  pub leads : LeadUpBehind (cleared t.nodes replaced) rows
 
 -- the tables can bear an act
 abbrev pub BearsAct : Tables → Allowed → Type 0
@@ -196,7 +208,7 @@ BearsAct t (allowed.List listing) = Unit {0}
 BearsAct t (allowed.Put by key length) = Unit {0}
 BearsAct t (allowed.Change changes blob report) = BearsChanges t changes blob
 BearsAct t (allowed.Delete node) = Unit {0}
-BearsAct t (allowed.Move transfer name) = IsThere t transfer
-BearsAct t (allowed.Copy rows replaced) = HasNumbers t rows
-BearsAct t (allowed.Cross rows replaced node) = HasNumbers t rows
+BearsAct t (allowed.Move transfer name) = BearsMove t transfer name
+BearsAct t (allowed.Copy rows replaced) = BearsCopies t rows replaced
+BearsAct t (allowed.Cross rows replaced node) = BearsCopies t rows replaced
 BearsAct t allowed.Close = Unit {0}

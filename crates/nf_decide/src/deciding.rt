@@ -116,7 +116,7 @@ impl<'a> Call<'a> {
     {
         match self.passed(alloc, places, offer)? {
             Some(limit) => Ok(Some(Denial::Limit(limit))),
-            None => match self.exceeded(alloc, places)? {
+            None => match self.exceeded(places) {
                 Some(excess) => Ok(Some(Denial::Quota(excess))),
                 None => Ok(None),
             },
@@ -340,22 +340,16 @@ impl<'a> Call<'a> {
     }
 
     /// How the step would pass the quota of who is charged for it.
-    fn exceeded(&self, alloc: Global, places: &Places) -> Result<Option<Excess>, AllocError>
+    fn exceeded(&self, places: &Places) -> Option<Excess>
         requires { AreSound self.now.state.tables }
-        ensures { IfOk result (λ excess. excess ≡ exceeded self.entry.now.state.tables places.now (asked_by self.entry.now).makes) }
+        ensures { result ≡ exceeded self.entry.now.state.tables places.now (asked_by self.entry.now).makes }
     {
         let view = &self.view;
         match self.request.wanted.asked().makes {
-            Making::Nothing | Making::Folder | Making::Shared | Making::Told => Ok(None),
-            Making::File { length } => Ok(excess_there(view, places.target, length)),
-            Making::Moved => match transfer_of(view.tree(), places) {
-                Some(transfer) => carry_excess(alloc, view, &transfer),
-                None => Ok(None),
-            },
-            Making::Copied => match transfer_of(view.tree(), places) {
-                Some(transfer) => copy_excess(alloc, view, &transfer),
-                None => Ok(None),
-            },
+            Making::Nothing | Making::Folder | Making::Shared | Making::Told => None,
+            Making::File { length } => excess_there(view, places.target, length),
+            Making::Moved => carry_excess(view, &transfer_of(view.tree(), places)?),
+            Making::Copied => copy_excess(view, &transfer_of(view.tree(), places)?),
         }
     }
 

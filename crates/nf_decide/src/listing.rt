@@ -1,12 +1,12 @@
 //! What is sent and listed.
 
-ghost use Rattle.std.specs.Prelude.{◌≡◌, ◌∷◌, ◌++◌, [], ◌==◌, if◌then◌else◌, min, sum_by, filter, filter_map, IfOk, OnOk};
+ghost use Rattle.std.specs.Prelude.{◌≡◌, ◌∷◌, ◌++◌, [], ◌==◌, if◌then◌else◌, filter, filter_map, IfOk, OnOk};
 ghost use Rattle.std.specs.Cmp.Lexicographic.{slice_cmp};
 ghost use Rattle.std.specs.Ordering.{nat_cmp};
 ghost use Rattle.nf_access.specs.Access.{by_chains};
 ghost use Rattle.nf_defs.specs.declared.Seeker.TheVariants.{User};
-ghost use Rattle.nf_words.specs.Prelude.{access_of, AreSound, bytes_of, child_line, child_lines, is_ones_own, last_number, line_of, listing_of, mount_line, mount_lines, put_lines, served, shown};
-ghost use Rattle.nf_words.specs.Listing.{all_permissions, size_of};
+ghost use Rattle.nf_words.specs.Prelude.{access_of, AreSound, bytes_of, child_line, child_lines, is_ones_own, line_of, listing_of, mount_line, mount_lines, put_lines, served, shown};
+ghost use Rattle.nf_words.specs.Listing.{all_permissions};
 ghost use Rattle.nf_decide.specs.Deciding.{asking_of};
 ghost use Rattle.nf_decide.specs.Listed.{AreByName, is_listed};
 
@@ -94,6 +94,7 @@ fn child_lines(
     granted: Perms,
     folder: NodeId,
 ) -> Result<Vec<ListingLine>, AllocError>
+    requires sound { AreSound view.now.tables }
     ensures { IfOk result (λ lines. lines.items ≡ child_lines view.now.tables asker.now.seeker granted folder) }
 {
     let mut lines = Vec::new(alloc);
@@ -113,6 +114,7 @@ fn push_child(
     node: NodeId,
     lines: &mut Vec<ListingLine>,
 ) -> Result<(), AllocError>
+    requires sound { AreSound view.now.tables }
     ensures { OnOk result (lines.new.items ≡ lines.old.items ++ filter_map (child_line view.now.tables asker.now.seeker granted) (node ∷ [])) }
 {
     let Some(row) = view.tree().node(node) else {
@@ -132,7 +134,8 @@ fn mount_lines(
     view: &View<'_>,
     asker: &Asker<'_>,
 ) -> Result<Vec<ListingLine>, AllocError>
-    requires { asker.now.mounts ≡ view.now.tables.mounts }
+    requires sound { AreSound view.now.tables }
+    requires mounts { asker.now.mounts ≡ view.now.tables.mounts }
     ensures { IfOk result (λ lines. lines.items ≡ mount_lines (by_chains asker.now.base) view.now.tables asker.now.moment asker.now.seeker) }
 {
     match asker.seeker() {
@@ -148,6 +151,7 @@ fn lines_of(
     asker: &Asker<'_>,
     user: UserId,
 ) -> Result<Vec<ListingLine>, AllocError>
+    requires sound { AreSound view.now.tables }
     requires mounts { asker.now.mounts ≡ view.now.tables.mounts }
     requires user { asker.now.seeker ≡ User user }
     ensures { IfOk result (λ lines. lines.items ≡ mount_lines (by_chains asker.now.base) view.now.tables asker.now.moment (User user)) }
@@ -167,7 +171,8 @@ fn push_mount(
     mount: &MountRow,
     lines: &mut Vec<ListingLine>,
 ) -> Result<(), AllocError>
-    requires { asker.now.seeker ≡ User mount.now.user }
+    requires sound { AreSound view.now.tables }
+    requires user { asker.now.seeker ≡ User mount.now.user }
     ensures { OnOk result (lines.new.items ≡ lines.old.items ++ filter_map (mount_line (by_chains asker.now.base) view.now.tables asker.now.moment) (filter (is_listed asker.now) (mount.now ∷ []))) }
 {
     if !asker.lists(mount) {
@@ -186,7 +191,8 @@ fn mount_line(
     asker: &Asker<'_>,
     mount: &MountRow,
 ) -> Result<Option<ListingLine>, AllocError>
-    requires { asker.now.seeker ≡ User mount.now.user }
+    requires sound { AreSound view.now.tables }
+    requires user { asker.now.seeker ≡ User mount.now.user }
     ensures { IfOk result (λ line. line ≡ mount_line (by_chains asker.now.base) view.now.tables asker.now.moment mount.now) }
 {
     let Some(row) = view.tree().node(mount.node) else {
@@ -228,6 +234,7 @@ fn line_of(
     name: &Name,
     row: &NodeRow,
 ) -> Result<Option<ListingLine>, AllocError>
+    requires sound { AreSound view.now.tables }
     ensures { IfOk result (λ line. line ≡ line_of view.now.tables seeker granted name.now row.now) }
 {
     let Some(owner) = view.people().row(row.owner) else {
@@ -240,7 +247,7 @@ fn line_of(
         name: name.copy()?,
         owner: owner.name.copy()?,
         permissions: permissions_of(seeker, granted, row),
-        size: size_of(alloc, view.tree(), row.id)?,
+        size: view.size(row.id),
     }))
 }
 
@@ -270,29 +277,6 @@ pub(crate) fn all_permissions() -> Perms
     ensures { result ≡ all_permissions }
 {
     Perms::read(31).unwrap()
-}
-
-/// The bytes of a file, or of all files under a folder, as far as they can be told.
-#[tactic(auto, using(crate::proofs::Leaves::leaf_size))]
-pub(crate) fn size_of(alloc: Global, tree: &Tree, node: NodeId) -> Result<u64, AllocError>
-    ensures { IfOk result (λ size. size ≡ size_of tree.now.rows node) }
-{
-    // Nothing is in a file, nor in an empty folder: so most lines of a listing need no list of nodes.
-    if tree.is_leaf(node) {
-        return Ok(bytes_of(tree, node));
-    }
-    let nodes = tree.subtree(alloc, node)?;
-    Ok(total(tree, &nodes))
-}
-
-fn total(tree: &Tree, nodes: &[NodeId]) -> u64
-    ensures { result ≡ min (sum_by (bytes_of tree.now.rows) nodes.now) last_number }
-{
-    let mut size = 0u64;
-    for node in nodes {
-        size = size.saturating_add(bytes_of(tree, *node));
-    }
-    size
 }
 
 /// The bytes of a node's own content.

@@ -1,20 +1,18 @@
 //! The quotas of users.
 
-ghost use Rattle.std.specs.Prelude.{◌≡◌, ◌+◌, ◌-◌, ◌&&◌, nat_lt, IfOk};
+ghost use Rattle.std.specs.Prelude.{◌≡◌, ◌+◌, ◌-◌, ◌&&◌, nat_lt};
 ghost use Rattle.std.specs.Option.{option_map_or};
 ghost use Rattle.nf_words.specs.Charges.{carry_excess, copy_excess, excess, excess_at, quota_of};
 ghost use Rattle.nf_words.specs.Listing.{size_of};
 ghost use Rattle.nf_words.specs.Sound.{AreSound};
 
-use crate::listing::{bytes_of, size_of};
+use crate::listing::bytes_of;
 use crate::nodes::owner_of;
 use crate::transferring::crosses;
 use crate::view::View;
 use nf_base::{NodeId, UserId};
 use nf_defs::Found;
-use nf_tree::Tree;
 use nf_words::{Excess, Transfer};
-use std::alloc::{AllocError, Global};
 
 /// How a body of so many bytes would pass the quota of the owner of what it replaces there, or of its folder.
 pub(crate) fn excess_at(view: &View<'_>, place: &Found, length: u64) -> Option<Excess>
@@ -32,43 +30,36 @@ pub(crate) fn excess_at(view: &View<'_>, place: &Found, length: u64) -> Option<E
 }
 
 /// How what is moved would pass a quota, where it comes to another owner.
-pub(crate) fn carry_excess(
-    alloc: Global,
-    view: &View<'_>,
-    transfer: &Transfer,
-) -> Result<Option<Excess>, AllocError>
+pub(crate) fn carry_excess(view: &View<'_>, transfer: &Transfer) -> Option<Excess>
     requires { AreSound view.now.tables }
-    ensures { IfOk result (λ excess. excess ≡ carry_excess view.now.tables transfer.now) }
+    ensures { result ≡ carry_excess view.now.tables transfer.now }
 {
     if crosses(view.tree(), transfer) {
-        copy_excess(alloc, view, transfer)
+        copy_excess(view, transfer)
     } else {
-        Ok(None)
+        None
     }
 }
 
 /// How copies would pass the quota of their folder's owner.
-pub(crate) fn copy_excess(
-    alloc: Global,
-    view: &View<'_>,
-    transfer: &Transfer,
-) -> Result<Option<Excess>, AllocError>
+pub(crate) fn copy_excess(view: &View<'_>, transfer: &Transfer) -> Option<Excess>
     requires { AreSound view.now.tables }
-    ensures { IfOk result (λ excess. excess ≡ copy_excess view.now.tables transfer.now) }
+    ensures { result ≡ copy_excess view.now.tables transfer.now }
 {
-    let old = size_replaced(alloc, view.tree(), &transfer.replaced)?;
-    let new = size_of(alloc, view.tree(), transfer.node)?;
+    let old = size_replaced(view, &transfer.replaced);
+    let new = view.size(transfer.node);
     let owner = owner_of(view.tree(), transfer.folder);
-    Ok(excess(view, owner, old, new))
+    excess(view, owner, old, new)
 }
 
 /// The bytes of what has to go, if there is something.
-fn size_replaced(alloc: Global, tree: &Tree, replaced: &Option<NodeId>) -> Result<u64, AllocError>
-    ensures { IfOk result (λ size. size ≡ option_map_or (size_of tree.now.rows) replaced.now 0) }
+fn size_replaced(view: &View<'_>, replaced: &Option<NodeId>) -> u64
+    requires { AreSound view.now.tables }
+    ensures { result ≡ option_map_or (size_of view.now.tables.nodes) replaced.now 0 }
 {
     match replaced {
-        Some(node) => size_of(alloc, tree, *node),
-        None => Ok(0),
+        Some(node) => view.size(*node),
+        None => 0,
     }
 }
 

@@ -10,7 +10,7 @@ ghost use Rattle.nf_defs.specs.Prelude.{made, node_key, node_row, put, put_all, 
 ghost use Rattle.nf_words.specs.Prelude.{above, blob_after, changed, cleared, counted, ended_for, goal_of, joined, last_number, removed};
 ghost use Rattle.nf_words.specs.declared.answer.Report.TheVariants.{Done};
 ghost use Rattle.nf_words.specs.declared.answer.Allowed.TheVariants as allowed;
-ghost use Rattle.nf_decide.specs.Current.{AreBorne, AreGiven, BearsAct, BearsChanges, HasNumbers, IsBorne, IsCounted, IsNew, IsRefilled, IsThere, added_by, added_of};
+ghost use Rattle.nf_decide.specs.Current.{AreBorne, AreGiven, BearsAct, BearsChanges, BearsCopies, BearsMove, IsBorne, IsCounted, IsNew, IsRefilled, LeadUpBehind, added_by, added_of};
 ghost use Rattle.nf_rules.specs.Ruled.{AreRuled};
 ghost use Rattle.nf_decide.specs.Counts.{FitsNodes, FitsRows, IsNoSmaller, only_nodes};
 
@@ -220,7 +220,7 @@ impl Tables {
 
     /// Puts a node into another folder, under that name. What is to be replaced there goes.
     fn transfer(&mut self, moment: Moment, transfer: &Transfer, name: Name)
-        requires { IsThere self.old.tables transfer.now }
+        requires { BearsMove self.old.tables transfer.now name }
         ensures { self.new.tables ≡ changed self.old.tables moment (allowed.Move transfer.now name) }
     {
         self.clear(&transfer.replaced);
@@ -232,7 +232,7 @@ impl Tables {
     fn join(&mut self, moment: Moment, rows: NodeRows, replaced: &Option<NodeId>)
         requires room { FitsNodes self.old.tables self.old.room.nodes (length rows) }
         requires given { AreGiven self.old.tables }
-        requires numbers { HasNumbers self.old.tables rows }
+        requires bears { BearsCopies self.old.tables rows replaced.now }
         ensures { self.new.tables ≡ changed self.old.tables moment (allowed.Copy rows replaced.now) }
     {
         if rows.rows().is_empty() && replaced.is_none() {
@@ -246,7 +246,7 @@ impl Tables {
     fn cross(&mut self, moment: Moment, rows: NodeRows, replaced: &Option<NodeId>, node: NodeId)
         requires room { FitsNodes self.old.tables self.old.room.nodes (length rows) }
         requires given { AreGiven self.old.tables }
-        requires numbers { HasNumbers self.old.tables rows }
+        requires bears { BearsCopies self.old.tables rows replaced.now }
         ensures { self.new.tables ≡ changed self.old.tables moment (allowed.Cross rows replaced.now node) }
     {
         self.enter(rows, replaced);
@@ -258,7 +258,7 @@ impl Tables {
     fn enter(&mut self, rows: NodeRows, replaced: &Option<NodeId>)
         requires room { FitsNodes self.old.tables self.old.room.nodes (length rows) }
         requires given { AreGiven self.old.tables }
-        requires numbers { HasNumbers self.old.tables rows }
+        requires bears { BearsCopies self.old.tables rows replaced.now }
         ensures { self.new.tables ≡ joined self.old.tables rows replaced.now }
     {
         self.clear(replaced);
@@ -342,6 +342,7 @@ fn add_all(tree: &mut Tree, next: NodeId, rows: NodeRows) -> NodeId
     requires given { All (λ (row : NodeRow). row.id < next) tree.old.rows }
     requires numbered { (k : ℕ) (row : NodeRow) → slice_get rows k ≡ Some row → row.id ≡ next + k }
     requires few { next + length rows ≤ last_number }
+    requires leads { LeadUpBehind tree.old.rows rows }
     ensures tree { tree.new ≡ record tree.old { rows = tree.old.rows ++ rows } }
     ensures next { result ≡ next + length rows }
 {

@@ -5,6 +5,7 @@ ghost use Rattle.nf_tree.specs.Order.{AreRisingNodes};
 ghost use Rattle.nf_access.specs.Shares.{ground_of};
 ghost use Rattle.nf_words.specs.Charges.{charge_of};
 ghost use Rattle.nf_words.specs.Contents.{stored_pieces};
+ghost use Rattle.nf_words.specs.Listing.{size_of};
 ghost use Rattle.nf_words.specs.Sound.{AreSound};
 
 use nf_base::{MetaRow, Moment, NodeId, UserId};
@@ -98,13 +99,23 @@ impl<'a> View<'a> {
         self.tickets
     }
 
-    /// How many bytes the user's files take up.
-    #[tactic(auto, using(nf_laws::proofs::Charging::charge_owned, nf_laws::proofs::Charging::charge_few))]
+    /// The bytes of a file, or of all files under a folder.
+    pub(crate) fn size(&self, node: NodeId) -> u64
+        requires { AreSound self.now.tables }
+        ensures { result ≡ size_of self.now.tables.nodes node }
+    {
+        self.tree.bytes_under(node) as u64
+    }
+
+    /// How many bytes the user's files take up: what the user's root has under it.
     pub(crate) fn charge(&self, user: UserId) -> u64
         requires { AreSound self.now.tables }
         ensures { result ≡ charge_of self.now.tables user }
     {
-        self.tree.charge(user) as u64
+        match self.people.row(user) {
+            Some(row) => self.size(row.root),
+            None => 0,
+        }
     }
 
     /// How many pieces the rows name, with repeats.

@@ -14,7 +14,7 @@ use Rattle.std.proofs.lemmas.List.Folds.{list_any_at, list_any_none}
 use Rattle.nf_base.specs.declared.rows.NodeRow.{NodeRow}
 use Rattle.nf_defs.specs.Prelude.{children_of, comes_before, folder_of, is_in, is_leaf}
 use Rattle.nf_tree.specs.Order.{Key, key_lt, key_at, key_of, AreRisingNodes, IsIndex, IsCut}
-use Rattle.nf_tree.proofs.Positions.{no_row}
+use Rattle.nf_charge.proofs.Positions.{no_row}
 use Rattle.nf_tree.proofs.Keys.{weak, squeezed_folder}
 use Rattle.nf_tree.proofs.Orders.{key_of_row, in_index}
 use Rattle.nf_defs.proofs.Walks.{is_of_inside}

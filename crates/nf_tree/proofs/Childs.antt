@@ -18,7 +18,7 @@ use Rattle.nf_defs.proofs.Lookups.{position_at, position_nowhere, find_there, fi
 use Rattle.nf_defs.proofs.Walks.{is_of_inside}
 use Rattle.nf_tree.specs.Order.{Key, key_lt, key_at, key_of, AreRisingNodes, IsIndex, IsCut}
 use Rattle.std.proofs.lemmas.List.{get_or_read}
-use Rattle.nf_tree.proofs.Positions.{no_row}
+use Rattle.nf_charge.proofs.Positions.{no_row}
 use Rattle.nf_tree.proofs.Keys.{weak, squeezed}
 use Rattle.nf_tree.proofs.Orders.{key_of_row, in_index}
 

@@ -1,9 +1,9 @@
 -- Where rows go when some are dropped, and the index of those that are left.
-use Rattle.std.proofs.Common.{ℕ, zero, suc, ◌+◌, ◌<◌, ◌≤◌, ◌≡◌, ◌≢◌, Bool, true, false, List, [], ◌∷◌, ◌++◌, refl, sym, ap, ◌∙◌, subst, arith, length, get_or, take, drop, drop-cons, map, filter, nat_eq, nat_lt, not, cond}
+use Rattle.std.proofs.Common.{ℕ, zero, suc, ◌+◌, ◌<◌, ◌≤◌, ◌≡◌, ◌≢◌, Bool, true, false, List, [], ◌∷◌, ◌++◌, refl, sym, ap, ◌∙◌, subst, arith, length, get_or, take, drop, map, filter, nat_eq, nat_lt, not, cond}
 use Rattle.std.specs.List.{All, AllPairs, Contains, list_any}
 use Rattle.std.proofs.lemmas.Bool.{false_from_ne_true, true_from_ne_false}
 use Rattle.std.proofs.lemmas.Bool.Decides.{Decides-eqb, nat_tests}
-use Rattle.std.proofs.lemmas.List.{get_or_default, get_or-drop, get_or-map, length-map, append-nil, append_assoc, drop_all, take_all}
+use Rattle.std.proofs.lemmas.List.{get_or_default, get_or-drop, get_or-map, length-map, append-nil, take_all}
 use Rattle.std.proofs.lemmas.List.Elements.{All-contains, All-filter, filter_more, filter_passes}
 use Rattle.std.proofs.lemmas.List.Filters.{FiltersInPlace, length-filter_more, sum_by-filter_both}
 use Rattle.std.proofs.lemmas.List.Sums.{count_by-le-length, length-filter, sum_by_push}
@@ -17,7 +17,7 @@ use Rattle.nf_base.specs.declared.rows.NodeRow.{NodeRow}
 use Rattle.nf_defs.specs.Tree.{piece_count}
 use Rattle.nf_tree.specs.Held.{IsTree}
 use Rattle.nf_tree.specs.Order.{key_lt, key_at, key_of, AreFates, AreInOrder, IsIndex}
-use Rattle.nf_tree.proofs.Positions.{no_row}
+use Rattle.nf_charge.proofs.Positions.{no_row}
 use Rattle.nf_tree.proofs.Orders.{key_of_row, in_index, no_place_twice}
 use Rattle.nf_defs.proofs.ByName.{Contains-map, Contains-filter}
 
@@ -180,36 +180,6 @@ module _ (p : NodeRow → Bool) (rows ys : List NodeRow) (fates : List ℕ) (kep
 
   pub goes_by : length rows ≤ fate → p (get_or ys at no_row) ≡ false
   goes_by high = ap p (still p rows ys kept at no_row filtered) ∙ goes_at p rows fates at are within (subst (λ n. length rows ≤ n) fate_is high)
-
--- ---- the rows without those before a place that go
-
-abbrev pub released : (NodeRow → Bool) → List NodeRow → ℕ → List NodeRow
-released p rows at = filter p (take at rows) ++ drop at rows
-
-next : (rows : List NodeRow) (at : ℕ) (d : NodeRow) → at < length rows → drop at rows ≡ get_or rows at d ∷ drop (at + 1) rows
-next rows at d within = let more : suc at ≡ at + 1 = omega arith in drop-cons rows at d within ∙ ap (λ n. get_or rows at d ∷ drop n rows) more
-
--- the row at the place is between those that stayed and those behind it
-pub released_here : (p : NodeRow → Bool) (rows : List NodeRow) (at : ℕ) (row : NodeRow) → at < length rows → row ≡ get_or rows at row
-    → released p rows at ≡ filter p (take at rows) ++ row ∷ drop (at + 1) rows
-released_here p rows at row within is =
-    ap (λ list. filter p (take at rows) ++ list) (next rows at row within ∙ ap (λ r. r ∷ drop (at + 1) rows) (sym is))
-
-pub released_stays : (p : NodeRow → Bool) (rows : List NodeRow) (at : ℕ) (d : NodeRow) → at < length rows → p (get_or rows at d) ≡ true → released p rows (at + 1) ≡ released p rows at
-released_stays p rows at d within passes =
-    ap (λ list. list ++ drop (at + 1) rows) (filter_more p rows at d within ∙ ap (λ b. filter p (take at rows) ++ cond b (get_or rows at d ∷ []) []) passes)
-    ∙ append_assoc (filter p (take at rows)) (get_or rows at d ∷ []) (drop (at + 1) rows)
-    ∙ ap (λ list. filter p (take at rows) ++ list) (sym (next rows at d within))
-
-pub released_goes : (p : NodeRow → Bool) (rows : List NodeRow) (at : ℕ) (d : NodeRow) → at < length rows → p (get_or rows at d) ≡ false
-    → released p rows (at + 1) ≡ filter p (take at rows) ++ drop (at + 1) rows
-released_goes p rows at d within fails =
-    ap (λ list. list ++ drop (at + 1) rows)
-    (filter_more p rows at d within ∙ ap (λ b. filter p (take at rows) ++ cond b (get_or rows at d ∷ []) []) fails ∙ append-nil (filter p (take at rows)))
-
-pub released_all : (p : NodeRow → Bool) (rows : List NodeRow) (n : ℕ) → length rows ≤ n → released p rows n ≡ filter p rows
-released_all p rows n all =
-    ap (λ list. filter p list ++ drop n rows) (take_all n rows all) ∙ ap (λ list. filter p rows ++ list) (drop_all n rows all) ∙ append-nil (filter p rows)
 
 -- ---- the pieces of the rows that go
 

@@ -1,4 +1,3 @@
-pub mod Positions
 pub mod Climbs
 pub mod Keys
 pub mod Orders
@@ -6,6 +5,7 @@ pub mod Childs
 pub mod ByName
 pub mod Children
 pub mod Trees
+pub mod Weights
 pub mod Walks
 pub mod Fates
 pub mod Marks

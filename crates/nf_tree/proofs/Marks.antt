@@ -12,7 +12,7 @@ use Rattle.nf_defs.proofs.Climbs.{walk_among}
 use Rattle.nf_defs.proofs.Lookups.{fail_nowhere}
 use Rattle.nf_tree.specs.Order.{AreFates, AreMarked, AreRisingNodes, stays}
 use Rattle.nf_tree.proofs.Children.{part_more, row_at}
-use Rattle.nf_tree.proofs.Positions.{no_row}
+use Rattle.nf_charge.proofs.Positions.{no_row}
 use Rattle.nf_tree.proofs.Walks.{flat_push, walk_all, walk_down, walk_none}
 use Rattle.nf_tree.proofs.Fates.{one_more}
 

@@ -19,7 +19,7 @@ use Rattle.std.proofs.lemmas.Map.Steps.{length-le_from_distinct_below}
 use Rattle.std.proofs.lemmas.Map.Views.{Contains-from_any}
 use Rattle.nf_base.specs.declared.rows.NodeRow.{NodeRow}
 use Rattle.nf_tree.specs.Order.{Key, key_lt, key_at, key_of, AreRisingNodes, AreInOrder, IsIndex, IsCut, LacksOnly, no_key}
-use Rattle.nf_tree.proofs.Positions.{no_row}
+use Rattle.nf_charge.proofs.Positions.{no_row}
 use Rattle.nf_defs.proofs.Sorted.{lt_itself, lt_trans}
 use Rattle.nf_tree.proofs.Keys.{weak, same_number}
 

@@ -15,7 +15,7 @@ use Rattle.nf_defs.proofs.Climbs.{under_leaf}
 use Rattle.nf_defs.proofs.Lookups.{fail_nowhere}
 use Rattle.nf_tree.specs.Held.{Held, IsTree}
 use Rattle.nf_tree.specs.Order.{key_at, key_of, lowered, AreRisingNodes, IsIndex, LacksOnly, stays}
-use Rattle.nf_tree.proofs.Positions.{no_row}
+use Rattle.nf_charge.proofs.Positions.{no_row}
 use Rattle.nf_tree.proofs.Orders.{key_of_row}
 
 -- ---- the index

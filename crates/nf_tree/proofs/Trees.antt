@@ -7,12 +7,10 @@ use Rattle.std.proofs.lemmas.List.{get_or-set_same, get_or-set_other, length-set
 use Rattle.std.proofs.lemmas.List.Elements.{All-push, All-set}
 use Rattle.std.proofs.lemmas.List.Quantifiers.{all_pairs_push, position-Some}
 use Rattle.std.proofs.lemmas.List.Sums.{sum_by_push, sum_by-set, sum_by-le, get_or-le-sum_by}
-use Rattle.nf_base.specs.Content.{size_of}
 use Rattle.nf_base.specs.declared.limits.TheConstants.{MAX_NODES, MAX_PIECES}
 use Rattle.nf_base.specs.declared.rows.NodeRow.{NodeRow}
 use Rattle.nf_base.specs.declared.content.Piece.{Piece}
-use Rattle.nf_charge.specs.Charges.{IsRefill}
-use Rattle.nf_defs.specs.Tree.{node_row, is_file, is_folder_kind, content_of, piece_count, filled, with_node}
+use Rattle.nf_defs.specs.Tree.{node_row, is_file, is_folder_kind, content_of, piece_count, with_node}
 use Rattle.nf_tree.specs.Held.{AreSmall, Held, IsTree}
 use Rattle.nf_tree.specs.Order.{key_at, key_of, AreRisingNodes, IsIndex}
 use Rattle.nf_tree.proofs.Orders.{key_of_row, key_at_set}
@@ -49,19 +47,26 @@ rising_push rows row rising newest = all_pairs_push (λ (x y : NodeRow). x.id < 
 
 -- ---- another row at a place
 
-number_kept : (rows : List NodeRow) (at k : ℕ) (row d : NodeRow) → at < length rows → row.id ≡ (get_or rows at d).id → (get_or (set rows at row) k d).id ≡ (get_or rows k d).id
+pub number_kept : (rows : List NodeRow) (at k : ℕ) (row d : NodeRow) → at < length rows → row.id ≡ (get_or rows at d).id
+    → (get_or (set rows at row) k d).id ≡ (get_or rows k d).id
 number_kept rows at k row d there same = elim (cases_eq k at) [
   | inl is ↦ subst (λ j. (get_or (set rows at row) j d).id ≡ (get_or rows j d).id) (sym is) (ap (λ (r : NodeRow). r.id) (get_or-set_same rows at row d there) ∙ same)
   | inr differ ↦ ap (λ (r : NodeRow). r.id) (get_or-set_other rows at k row d differ)
 ]
 
-pub rising_set : (rows : List NodeRow) (at : ℕ) (row : NodeRow) → AreRisingNodes rows → at < length rows → ((d : NodeRow) → row.id ≡ (get_or rows at d).id) → AreRisingNodes (set rows at row)
+rising_set : (rows : List NodeRow) (at : ℕ) (row : NodeRow) → AreRisingNodes rows → at < length rows → ((d : NodeRow) → row.id ≡ (get_or rows at d).id)
+    → AreRisingNodes (set rows at row)
 rising_set rows at row rising there same = λ i j d less within.
     let long = length-set rows at row in
     let e = number_kept rows at i row d there (same d) in
     let f = number_kept rows at j row d there (same d) in
     let h = rising i j d less (omega arith) in
     omega (arith, e, f, h)
+
+pub rising_moved : (rows : List NodeRow) (at : ℕ) (row old : NodeRow) → AreRisingNodes rows → at < length rows → old ≡ get_or rows at old → row.id ≡ old.id
+    → AreRisingNodes (set rows at row)
+rising_moved rows at row old rising there is same =
+    rising_set rows at row rising there (λ d. same ∙ ap (λ (r : NodeRow). r.id) (get_or_read rows at old there is d))
 
 -- a row at a place has few pieces
 pub small_there : (rows : List NodeRow) (at : ℕ) (old : NodeRow) → AreSmall rows → at < length rows → old ≡ get_or rows at old → length old.content ≤ MAX_PIECES
@@ -75,7 +80,7 @@ pub changed_tree : (rows : List NodeRow) (at : ℕ) (row old : NodeRow) (order m
     → old ≡ get_or rows at old → row.id ≡ old.id → length row.content ≤ MAX_PIECES → count + length old.content ≡ pieces + length row.content → IsIndex (set rows at row) more
     → IsTree (set rows at row) more count room
 changed_tree rows at row old order more pieces count room tree there is same small sums index = record {
-  rising = rising_set rows at row tree.rising there (λ d. same ∙ ap (λ (r : NodeRow). r.id) (get_or_read rows at old there is d));
+  rising = rising_moved rows at row old tree.rising there is same;
   index = index;
   small = All-set (λ (r : NodeRow). length r.content ≤ MAX_PIECES) rows at row small tree.small;
   counted =
@@ -129,30 +134,20 @@ changed_node rows at old node change there is =
 pub node_within : (rows : List NodeRow) (at node : ℕ) (d : NodeRow) → Some at ≡ position (λ row. row.id == node) rows → at < length rows
 node_within rows at node d there = (position-Some (λ (row : NodeRow). row.id == node) rows at d (sym there)).0
 
+-- the rows where the one at the node's place is another
+pub changed_rows : (held rows : List NodeRow) (at node : ℕ) (old row : NodeRow) (change : NodeRow → NodeRow) → rows ≡ held
+    → Some at ≡ position (λ row. row.id == node) held → old ≡ get_or rows at old → row ≡ change old → set rows at row ≡ with_node held node change
+changed_rows held rows at node old row change same there is new =
+    ap (set rows at) new ∙ changed_node rows at old node change (rw (← same) at there) is ∙ ap (λ list. with_node list node change) same
+
 -- the tree where the row at the node's place is another
 pub changed_held : (held : Held) (rows : List NodeRow) (room at node : ℕ) (old row : NodeRow) (change : NodeRow → NodeRow)
     → ◌≡◌ {A = Held} (record { rows = rows; room = room }) held → Some at ≡ position (λ row. row.id == node) held.rows → old ≡ get_or rows at old → row ≡ change old
     → ◌≡◌ {A = Held} (record { rows = set rows at row; room = room }) (record held { rows = with_node held.rows node change })
 changed_held held rows room at node old row change view there is new =
-    let same = ap (λ (h : Held). h.rows) view in
-    let e = ap (set rows at) new ∙ changed_node rows at old node change (rw (← same) at there) is ∙ ap (λ list. with_node list node change) same in
+    let e = changed_rows held.rows rows at node old row change (ap (λ (h : Held). h.rows) view) there is new in
     let f = ap (λ (h : Held). h.room) view in
     cc
-
--- a file's row with another content is a refill of the owner's
-pub refills : (rows : List NodeRow) (at node : ℕ) (old read row : NodeRow) (content : List Piece) (changed owner less more : ℕ) → Some at ≡ position (λ row. row.id == node) rows
-    → old ≡ get_or rows at old → read ≡ get_or rows at read → row ≡ filled content changed old → owner ≡ read.owner → less ≡ size_of old.content → more ≡ size_of content
-    → IsRefill rows at row owner less more
-refills rows at node old read row content changed owner less more position is same new own was now =
-    let there = node_within rows at node old position in
-    let first = get_or_read rows at old there is in
-    record {
-      there = there;
-      own = ap (λ (r : NodeRow). r.owner) new ∙ ap (λ (r : NodeRow). r.owner) (first read ∙ sym same) ∙ sym own;
-      filled = ap (λ (r : NodeRow). size_of r.content) new ∙ sym now;
-      was_own = ap (λ (r : NodeRow). r.owner) (sym (first row) ∙ first read ∙ sym same) ∙ sym own;
-      was_filled = ap (λ (r : NodeRow). size_of r.content) (sym (first row)) ∙ sym was;
-    }
 
 pub pieces_few : (rows : List NodeRow) (order : List ℕ) (pieces room : ℕ) → IsTree rows order pieces room → pieces ≤ MAX_NODES * MAX_PIECES
 pieces_few rows order pieces room tree =

@@ -21,9 +21,9 @@ pub record IsTree (rows : List NodeRow) (order : List ℕ) (pieces room : ℕ) :
   pub fits : length rows ≤ room
   pub few : room ≤ MAX_NODES
 
--- so many rows have room in each list, and so many users in the sums
-pub record HaveRoom (room rows order fates charges : ℕ) : Type 0 where
+-- so many rows have room in each list
+pub record HaveRoom (room rows order fates sums : ℕ) : Type 0 where
   pub in_rows : room ≤ rows
   pub in_order : room ≤ order
   pub in_fates : room ≤ fates
-  pub in_charges : room ≤ charges
+  pub in_sums : room ≤ sums

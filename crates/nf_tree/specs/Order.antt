@@ -8,10 +8,7 @@ use Rattle.std.specs.declared.cmp.Ordering.{Ordering}
 use Rattle.nf_base.specs.declared.rows.NodeRow.{NodeRow}
 use Rattle.nf_base.specs.declared.rows.Place.{Place}
 use Rattle.nf_defs.specs.Tree.{folder_of, is_under}
-
--- the numbers of the nodes rise
-abbrev pub AreRisingNodes : List NodeRow → Type 0
-AreRisingNodes rows = AllPairs (λ (older newer : NodeRow). older.id < newer.id) rows
+pub use Rattle.nf_charge.specs.Sums.{AreRisingNodes}
 
 -- a folder, a name and a number
 pub record Key : Type 0 where

@@ -1,26 +1,14 @@
 //! Look-ups and walks in rows by rising number.
 
-ghost use Rattle.std.specs.Prelude.{◌≡◌, false, ◌==◌, ◌≤◌, ◌<◌, length, option_copied, IfOk};
-ghost use Rattle.std.specs.List.{position};
+ghost use Rattle.std.specs.Prelude.{◌≡◌, false, ◌≤◌, ◌<◌, length, option_copied, IfOk};
 ghost use Rattle.nf_base.specs.declared.limits.TheConstants.{MAX_NODES, MAX_PIECES};
 ghost use Rattle.nf_defs.specs.Tree.{node_row, is_folder, is_root, folder_of, parent_of, is_under, is_rooted, depth, piece_count, is_folder_kind, filled};
 ghost use Rattle.nf_tree.specs.Held.{AreSmall};
 ghost use Rattle.nf_tree.specs.Order.{AreRisingNodes, placed};
 
-use crate::order::folder_of;
 use nf_base::{Content, MAX_DEPTH, Moment, Name, NodeId, NodeKind, NodeRow, Place};
+use nf_charge::rows::{folder_of, index_of};
 use std::alloc::AllocError;
-
-/// The place of a node's row.
-pub(crate) fn index_of(rows: &[NodeRow], node: NodeId) -> Option<usize>
-    requires { AreRisingNodes rows.now }
-    ensures { result ≡ position (λ row. row.id == node) rows.now }
-{
-    match rows.binary_search_by_key(&node, |row| row.id) {
-        Ok(at) => Some(at),
-        Err(_) => None,
-    }
-}
 
 pub(crate) fn node_row(rows: &[NodeRow], node: NodeId) -> Option<&NodeRow>
     requires { AreRisingNodes rows.now }

@@ -2,21 +2,13 @@
 
 ghost use Rattle.std.specs.Prelude.{◌≡◌, [], Some, ◌<◌, ◌≤◌, ◌+◌, ◌&&◌, bytes_eq, length, All, IfOk, map, filter, nat_lt, option_copied, slice_get, slice_index, vec_len, vec_capacity};
 ghost use Rattle.std.specs.List.{range_with_len};
-ghost use Rattle.nf_defs.specs.Tree.{child_of, children_of, is_in, is_leaf, folder_of};
+ghost use Rattle.nf_defs.specs.Tree.{child_of, children_of, is_in, is_leaf};
 ghost use Rattle.nf_tree.specs.Order.{AreRisingNodes, AreInOrder, IsCut, IsIndex, LacksOnly, key_cmp, key_of, key_at, lowered};
 
 use nf_base::{NodeId, NodeRow, Place};
+use nf_charge::rows::folder_of;
 use std::alloc::{AllocError, Global};
 use std::cmp::Ordering;
-
-pub(crate) fn folder_of(place: Place) -> Option<NodeId>
-    ensures { result ≡ folder_of place }
-{
-    match place {
-        Place::Inside(parent) => Some(parent),
-        Place::Root | Place::Trash => None,
-    }
-}
 
 pub(crate) fn is_in(folder: NodeId, row: &NodeRow) -> bool
     ensures { result ≡ is_in folder row.now }

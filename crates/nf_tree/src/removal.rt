@@ -1,40 +1,43 @@
 //! What goes with a node that is taken out, and where the rows that stay go.
 
-ghost use Rattle.std.specs.Prelude.{◌≡◌, ◌+◌, ◌≤◌, All, Bool, [], ◌∷◌, filter, length, vec_len, vec_capacity};
+ghost use Rattle.std.specs.Prelude.{◌≡◌, ◌+◌, ◌≤◌, All, [], ◌∷◌, length, vec_len, vec_capacity};
 ghost use Rattle.nf_base.specs.declared.limits.TheConstants.{MAX_NODES};
-ghost use Rattle.nf_base.specs.declared.rows.NodeRow.{NodeRow};
-ghost use Rattle.nf_charge.specs.Charges.{AreCharged};
+ghost use Rattle.nf_charge.specs.Sums.{AreSums, LeadUp};
 ghost use Rattle.nf_defs.specs.Tree.{piece_count, walk_within, without_under};
 ghost use Rattle.nf_tree.specs.Order.{AreFates, AreMarked, AreRisingNodes, IsIndex, stays};
 
 use crate::{nodes, order};
 use nf_base::{MAX_DEPTH, NodeId, NodeRow};
-use nf_charge::Charges;
+use nf_charge::Sums;
+use nf_charge::rows::index_of;
 
-/// Drops the rows of the nodes under a top, no longer counts them, and tells where each row goes. How many pieces they had
-/// is answered.
+/// Drops the rows of the nodes under a top and their sums, and tells where each row goes. How many pieces they had is
+/// answered.
 pub(crate) fn drop_under(
     rows: &mut Vec<NodeRow>,
     order: &[usize],
     fates: &mut Vec<usize>,
-    charges: &mut Charges,
+    sums: &mut Sums,
     top: NodeId,
 ) -> usize
     requires rising { AreRisingNodes rows.old.items }
     requires index { IsIndex rows.old.items order.now }
     requires room { vec_len rows.old ≤ vec_capacity fates.old }
     requires few { vec_len rows.old ≤ MAX_NODES }
-    requires charged { AreCharged rows.old.items charges.old.sums }
+    requires leads { LeadUp rows.old.items }
+    requires sums { AreSums rows.old.items sums.old.sums }
     ensures rows { rows.new.items ≡ without_under rows.old.items top }
     ensures rows_room { vec_capacity rows.new ≡ vec_capacity rows.old }
     ensures fates { AreFates (stays rows.old.items top) rows.old.items (vec_len rows.old) fates.new.items }
     ensures fates_room { vec_capacity fates.new ≡ vec_capacity fates.old }
-    ensures charged { AreCharged rows.new.items charges.new.sums }
-    ensures charges_room { charges.new.room ≡ charges.old.room }
+    ensures sums { AreSums rows.new.items sums.new.sums }
+    ensures sums_room { sums.new.room ≡ sums.old.room }
     ensures pieces { result + piece_count rows.new.items ≡ piece_count rows.old.items }
 {
     settle(rows, order, fates, top);
-    release(rows, fates, charges);
+    if let Some(at) = index_of(rows, top) {
+        sums.leave(rows, at);
+    }
     let end = rows.len();
     let mut kept = 0;
     let mut gone = 0;
@@ -43,6 +46,7 @@ pub(crate) fn drop_under(
             // A row before the first that goes stays where it is. Most often what goes came late, and few rows move.
             if kept < at {
                 rows.swap(kept, at);
+                sums.swap(kept, at);
             }
             kept += 1;
         } else {
@@ -50,22 +54,8 @@ pub(crate) fn drop_under(
         }
     }
     rows.truncate(kept);
+    sums.truncate(kept);
     gone
-}
-
-/// No longer counts the rows that go.
-fn release(rows: &[NodeRow], fates: &[usize], charges: &mut Charges)
-    requires fates { (kept : NodeRow → Bool) × AreFates kept rows.now (length rows.now) fates.now }
-    requires charged { AreCharged rows.now charges.old.sums }
-    ensures charged { (kept : NodeRow → Bool) → AreFates kept rows.now (length rows.now) fates.now → AreCharged (filter kept rows.now) charges.new.sums }
-    ensures room { charges.new.room ≡ charges.old.room }
-{
-    let end = rows.len();
-    for at in 0..end {
-        if fates[at] == end {
-            charges.go(&rows[at]);
-        }
-    }
 }
 
 /// Finds out where each row goes.
@@ -132,7 +122,7 @@ fn mark_row(rows: &[NodeRow], marks: &mut Vec<usize>, node: NodeId)
     ensures marks { AreMarked rows.now (node ∷ []) marks.old.items marks.new.items }
     ensures room { vec_capacity marks.new ≡ vec_capacity marks.old }
 {
-    if let Some(at) = nodes::index_of(rows, node) {
+    if let Some(at) = index_of(rows, node) {
         marks[at] = rows.len();
     }
 }

@@ -1,18 +1,17 @@
 //! The tree as callers see it.
 
-ghost use Rattle.std.specs.Prelude.{◌≡◌, ◌==◌, ◌<◌, ◌≤◌, ◌+◌, ◌*◌, ◌↔◌, All, IfOk, OnOk, IsSome, true, Some, map, [], ◌∷◌, ◌++◌, Err, length, option_copied, sum_by, if◌then◌else◌, vec_len, vec_capacity};
+ghost use Rattle.std.specs.Prelude.{◌≡◌, ◌==◌, ◌<◌, ◌≤◌, ◌+◌, ◌*◌, ◌↔◌, All, IfOk, OnOk, IsSome, true, Some, map, [], ◌∷◌, ◌++◌, Err, length, option_copied, vec_len, vec_capacity};
 ghost use Rattle.std.specs.List.{position};
 ghost use Rattle.nf_base.specs.declared.limits.TheConstants.{MAX_PIECES};
-ghost use Rattle.nf_base.specs.Content.{size_of};
 ghost use Rattle.nf_base.specs.declared.rows.Row.TheVariants.{Node};
+ghost use Rattle.nf_charge.specs.Sums.{LeadUp, bytes_under};
 ghost use Rattle.nf_defs.specs.Tree.{node_row, child_of, is_folder, is_file, is_leaf, content_of, piece_count, is_under, depth, found_from, children_of, walk_of, walk_within, is_rooted, with_node, filled, relinked, trashed, without_under};
 ghost use Rattle.nf_tree.specs.Order.{AreRisingNodes, placed};
 
 use crate::{nodes, order, removal};
-use nf_base::{
-    Content, MAX_DEPTH, MAX_NODES, Moment, Name, NodeId, NodeRow, Place, Row, RowList, UserId,
-};
-use nf_charge::Charges;
+use nf_base::{Content, MAX_DEPTH, MAX_NODES, Moment, Name, NodeId, NodeRow, Place, Row, RowList};
+use nf_charge::Sums;
+use nf_charge::rows::index_of;
 use nf_defs::Found;
 use std::alloc::{AllocError, Global};
 use std::marker::Model;
@@ -51,7 +50,7 @@ fn growth(many: usize, count: usize) -> usize
     }
 }
 
-/// All nodes of the site. What is found is found in logarithmic time.
+/// All nodes of the site, each of which leads up to a row in no folder. What is found is found in logarithmic time.
 #[derive(Drop)]
 pub struct Tree {
     /// By rising number.
@@ -60,8 +59,8 @@ pub struct Tree {
     order: Vec<usize>,
     /// Room in which a purge notes where each row goes.
     fates: Vec<usize>,
-    /// What each user's rows take up.
-    charges: Charges,
+    /// How many bytes what is under each row's node has.
+    sums: Sums,
     /// How many pieces the rows have.
     pieces: usize,
     /// How many rows fit without more memory.
@@ -70,14 +69,14 @@ pub struct Tree {
 
 impl Model for Tree {
     ghost use Rattle.std.specs.Prelude.{vec_capacity};
-    ghost use Rattle.nf_charge.specs.Charges.{AreCharged};
+    ghost use Rattle.nf_charge.specs.Sums.{AreSums, LeadUp};
     ghost use Rattle.nf_tree.specs.Held.{HaveRoom, Held, IsTree};
 
     ghost Value = { Held };
 
     ghost view = { λ tree. record { rows = tree.rows.items; room = tree.room } };
 
-    ghost invariant = { λ tree. IsTree tree.rows.items tree.order.items tree.pieces tree.room × HaveRoom tree.room (vec_capacity tree.rows) (vec_capacity tree.order) (vec_capacity tree.fates) tree.charges.room × AreCharged tree.rows.items tree.charges.sums };
+    ghost invariant = { λ tree. IsTree tree.rows.items tree.order.items tree.pieces tree.room × HaveRoom tree.room (vec_capacity tree.rows) (vec_capacity tree.order) (vec_capacity tree.fates) tree.sums.room × LeadUp tree.rows.items × AreSums tree.rows.items tree.sums.sums };
 }
 
 impl Tree {
@@ -90,7 +89,7 @@ impl Tree {
             rows: Vec::new(alloc),
             order: Vec::new(alloc),
             fates: Vec::new(alloc),
-            charges: Charges::new(alloc),
+            sums: Sums::new(alloc),
             pieces: 0,
             room: 0,
         }
@@ -100,6 +99,7 @@ impl Tree {
     pub fn load(alloc: Global, rows: Vec<NodeRow>) -> Result<Self, AllocError>
         requires rising { AreRisingNodes rows.items }
         requires few { length rows.items ≤ MAX_NODES }
+        requires leads { LeadUp rows.items }
         ensures rows { IfOk result (λ tree. tree.rows ≡ rows.items) }
         ensures room { IfOk result (λ tree. length tree.rows ≤ tree.room) }
     {
@@ -108,12 +108,12 @@ impl Tree {
         let order = order::of(alloc, &rows)?;
         let mut fates = Vec::new(alloc);
         fates.reserve(room)?;
-        let charges = Charges::of(alloc, &rows)?;
+        let sums = Sums::of(alloc, &rows)?;
         Ok(Tree {
             rows,
             order,
             fates,
-            charges,
+            sums,
             pieces,
             room,
         })
@@ -136,7 +136,7 @@ impl Tree {
             self.order.reserve(more)?;
             self.fates.clear();
             self.fates.reserve(many + more)?;
-            self.charges.reserve(many + more)?;
+            self.sums.reserve(many + more)?;
             self.room = many + more;
         }
         Ok(())
@@ -166,12 +166,14 @@ impl Tree {
         self.pieces
     }
 
-    /// How many bytes the user's files take up: those of all rows, present or not. So what is in the trash still counts;
-    /// nothing is put there yet.
-    pub fn charge(&self, user: UserId) -> u128
-        ensures { result ≡ sum_by (λ row. if row.owner == user then size_of row.content else 0) self.now.rows }
+    /// How many bytes what is under a node has together; in a running sum.
+    pub fn bytes_under(&self, node: NodeId) -> u128
+        ensures { result ≡ bytes_under self.now.rows node }
     {
-        self.charges.charge(user)
+        match index_of(&self.rows, node) {
+            Some(at) => self.sums.get(at),
+            None => 0,
+        }
     }
 
     /// The nodes' rows, by rising number.
@@ -300,13 +302,14 @@ impl Tree {
     pub fn add(&mut self, row: NodeRow)
         requires room { length self.old.rows < self.old.room }
         requires newest { All (λ (older : NodeRow). older.id < row.id) self.old.rows }
+        requires leads { LeadUp (self.old.rows ++ row ∷ []) }
         ensures { self.new ≡ record self.old { rows = self.old.rows ++ row ∷ [] } }
     {
         let last = self.rows.len();
         self.pieces += nodes::pieces_of(&row);
-        self.charges.come(&row);
         self.rows.push_reserved(row);
         order::put(&self.rows, &mut self.order, last);
+        self.sums.push(&self.rows);
     }
 
     /// Gives a node another content, which became current at the moment. The old one is answered.
@@ -316,18 +319,17 @@ impl Tree {
         ensures content { result ≡ content_of self.old.rows file }
     {
         let at = self.place_of(file);
-        let owner = self.rows[at].owner;
-        let size = content.size();
         let more = content.pieces().len();
+        self.sums.change(&self.rows, at, content.size());
         let old = nodes::refill(&mut self.rows[at], content, changed);
         self.pieces = self.pieces - old.pieces().len() + more;
-        self.charges.refill(owner, old.size(), size);
         old
     }
 
     /// Moves a node into that folder, under that name.
     pub fn relink(&mut self, node: NodeId, folder: NodeId, name: Name)
-        requires { IsSome (node_row self.old.rows node) }
+        requires there { IsSome (node_row self.old.rows node) }
+        requires leads { LeadUp (with_node self.old.rows node (relinked folder name)) }
         ensures { self.new ≡ record self.old { rows = with_node self.old.rows node (relinked folder name) } }
     {
         self.place(node, Place::Inside(folder), Some(name))
@@ -338,23 +340,28 @@ impl Tree {
         requires { IsSome (node_row self.old.rows node) }
         ensures { self.new ≡ record self.old { rows = with_node self.old.rows node trashed } }
     {
+        let _ = &self.room;
         self.place(node, Place::Trash, None)
     }
 
     /// Puts a node elsewhere, under another name where one is given.
     fn place(&mut self, node: NodeId, place: Place, name: Option<Name>)
-        requires { IsSome (node_row self.old.rows node) }
+        requires there { IsSome (node_row self.old.rows node) }
+        requires leads { LeadUp (with_node self.old.rows node (placed place name)) }
         ensures { self.new ≡ record self.old { rows = with_node self.old.rows node (placed place name) } }
     {
         let at = self.place_of(node);
+        self.sums.leave(&self.rows, at);
         order::take(&self.rows, &mut self.order, at);
         nodes::place(&mut self.rows[at], place, name);
         order::put(&self.rows, &mut self.order, at);
+        self.sums.enter(&self.rows, at);
     }
 
     /// Moves a node out of the trash into that folder, under that name.
     pub fn attach(&mut self, node: NodeId, folder: NodeId, name: Name)
-        requires { IsSome (node_row self.old.rows node) }
+        requires there { IsSome (node_row self.old.rows node) }
+        requires leads { LeadUp (with_node self.old.rows node (relinked folder name)) }
         ensures { self.new ≡ record self.old { rows = with_node self.old.rows node (relinked folder name) } }
     {
         self.relink(node, folder, name)
@@ -376,12 +383,13 @@ impl Tree {
         requires { is_leaf self.old.rows leaf ≡ true }
         ensures { self.new ≡ record self.old { rows = without_under self.old.rows leaf } }
     {
-        if let Some(at) = nodes::index_of(&self.rows, leaf) {
+        if let Some(at) = index_of(&self.rows, leaf) {
+            self.sums.leave(&self.rows, at);
             order::take(&self.rows, &mut self.order, at);
             order::lower(&mut self.order, at);
             let row = self.rows.remove(at);
             self.pieces -= nodes::pieces_of(&row);
-            self.charges.go(&row);
+            self.sums.remove(at);
         }
     }
 
@@ -393,7 +401,7 @@ impl Tree {
             &mut self.rows,
             &self.order,
             &mut self.fates,
-            &mut self.charges,
+            &mut self.sums,
             node,
         );
         order::renumber(&mut self.order, &self.fates);
@@ -403,6 +411,6 @@ impl Tree {
         requires { IsSome (node_row self.now.rows node) }
         ensures { Some result ≡ position (λ row. row.id == node) self.now.rows }
     {
-        nodes::index_of(&self.rows, node).unwrap()
+        index_of(&self.rows, node).unwrap()
     }
 }

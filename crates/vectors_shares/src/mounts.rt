@@ -51,14 +51,15 @@ fn as_many_mounts_as_may_be(rt: HostRuntime) -> Result<(), Fail> {
     Ok(())
 }
 
-/// A folder `plans` of that number, in that folder.
-fn plans(alloc: Global, number: u64, folder: u64) -> Result<NodeRow, Fail>
-    ensures { IfOk result (λ row. row.id ≡ number) }
+/// A folder `plans` of that number, at that place.
+fn plans(alloc: Global, number: u64, place: Place) -> Result<NodeRow, Fail>
+    ensures number { IfOk result (λ row. row.id ≡ number) }
+    ensures place { IfOk result (λ row. row.place ≡ place) }
 {
     Ok(NodeRow {
         id: NodeId::new(number),
         owner: UserId::new(1),
-        place: Place::Inside(NodeId::new(folder)),
+        place,
         name: name(alloc, b"plans")?,
         kind: NodeKind::Folder,
         content: Content::empty(alloc),
@@ -66,11 +67,12 @@ fn plans(alloc: Global, number: u64, folder: u64) -> Result<NodeRow, Fail>
     })
 }
 
-/// Two folders `plans`: node 3 in the root of users without rows, and node 7 elsewhere.
+/// Node 0, which is the root of users without rows, in it a folder `plans`, node 3, and elsewhere another, node 7.
 fn two_plans(alloc: Global) -> Result<Tree, Fail> {
     let mut rows = Vec::new(alloc);
-    rows.push(plans(alloc, 3, 0)?)?;
-    rows.push(plans(alloc, 7, 1)?)?;
+    rows.push(plans(alloc, 0, Place::Root)?)?;
+    rows.push(plans(alloc, 3, Place::Inside(NodeId::new(0)))?)?;
+    rows.push(plans(alloc, 7, Place::Root)?)?;
     Ok(Tree::load(alloc, rows)?)
 }
 

@@ -11,8 +11,8 @@ use Rattle.nf_decide.proofs.Lines.{all_of_user, listed_of_user}
 use Rattle.nf_decide.specs.Listed.{is_listed}
 use Rattle.nf_decide.proofs.listing.lines_of.Goals as goal
 
-pub push_mount-requires : goal.push_mount-requires
-push_mount-requires c =
+pub push_mount-requires-clause-user : goal.push_mount-requires-clause-user
+push_mount-requires-clause-user c =
     let user = c.args.user in
     let own = subst (All (λ (row : MountRow). row.user ≡ user)) (sym c.mounts-mount-items.ensures) (all_of_user user c.args.asker.now.mounts) in
     let owned = ap (λ (row : MountRow). row.user) c.mount-item.is ∙ own c.loop-mount.mount-index c.mount-item.result c.loop-mount-test.true in

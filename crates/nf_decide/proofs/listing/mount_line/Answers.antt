@@ -16,8 +16,8 @@ returns c =
     let mount = c.args.mount.now in
     let row = c.in-Some.row.now in
     let granted : (Seeker → ℕ) = λ seeker. bits_by a.moment (by_chains a.base seeker mount.node) in
-    let seeker : c.seeker.result ≡ User mount.user = c.seeker.ensures ∙ c.requires in
-    let perms : c.permissions-granted.result ≡ granted (User mount.user) = c.permissions-granted.ensures ∙ ap granted c.requires in
+    let seeker : c.seeker.result ≡ User mount.user = c.seeker.ensures ∙ c.requires.user in
+    let perms : c.permissions-granted.result ≡ granted (User mount.user) = c.permissions-granted.ensures ∙ ap granted c.requires.user in
     let there : node_row t.nodes mount.node ≡ Some row =
     ap (λ (rows : List NodeRow). node_row rows mount.node) (sym c.tree.ensures) ∙ sym c.node.ensures ∙ ap option_copied c.in-Some.is in
     let line =

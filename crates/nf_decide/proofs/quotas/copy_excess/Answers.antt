@@ -11,12 +11,8 @@ returns c =
     let t = c.args.view.now.tables in
     let transfer = c.args.transfer.now in
     let owner : c.owner_of-owner.result ≡ owner_of t.nodes transfer.folder =
-    c.owner_of-owner.ensures ∙ ap (λ (rows : List NodeRow). owner_of rows transfer.folder) c.tree-3.ensures in
-    let old : c.in_ok-old.old ≡ option_map_or (size_of t.nodes) transfer.replaced 0 =
-    c.in_ok-old.ensures ∙ ap (λ (rows : List NodeRow). option_map_or (size_of rows) transfer.replaced 0) c.tree.ensures in
-    let new : c.in_ok-new.new ≡ size_of t.nodes transfer.node =
-    c.in_ok-new.ensures ∙ ap (λ (rows : List NodeRow). size_of rows transfer.node) c.tree-2.ensures in
+    c.owner_of-owner.ensures ∙ ap (λ (rows : List NodeRow). owner_of rows transfer.folder) c.tree.ensures in
     c.excess.ensures
-    ∙ ap (λ (user : ℕ). excess t user c.in_ok-old.old c.in_ok-new.new) owner
-    ∙ ap (λ (n : ℕ). excess t (owner_of t.nodes transfer.folder) n c.in_ok-new.new) old
-    ∙ ap (excess t (owner_of t.nodes transfer.folder) (option_map_or (size_of t.nodes) transfer.replaced 0)) new
+    ∙ ap (λ (user : ℕ). excess t user c.size_replaced-old.result c.size-new.result) owner
+    ∙ ap (λ (n : ℕ). excess t (owner_of t.nodes transfer.folder) n c.size-new.result) c.size_replaced-old.ensures
+    ∙ ap (excess t (owner_of t.nodes transfer.folder) (option_map_or (size_of t.nodes) transfer.replaced 0)) c.size-new.ensures

@@ -19,6 +19,11 @@ add_all-self-inside-requires-clause-given c =
     let next = ap (λ (held : Rows). held.tables.meta.next_node) c.self.view_is ∙ ap (λ (t : Tables). t.meta.next_node) c.clear.ensures.tables in
     rw nodes (rw next (cleared_given t.nodes c.args.replaced.now t.meta.next_node c.requires.given.given))
 
+pub add_all-self-inside-requires-clause-leads : goal.add_all-self-inside-requires-clause-leads
+add_all-self-inside-requires-clause-leads c =
+    let nodes = ap (λ (held : Rows). held.tables.nodes) c.self.view_is ∙ ap (λ (t : Tables). t.nodes) c.clear.ensures.tables in
+    rw nodes c.requires.bears.leads
+
 pub returns : goal.returns
 returns c =
     let joined_to : (Tables → Tables) = λ t. record t {

@@ -1,3 +1,4 @@
+use Rattle.nf_decide.proofs.Leading.{sound_leads}
 use Rattle.nf_decide.proofs.Openings.{people_of}
 use Rattle.nf_decide.proofs.tables.Tables.of.Goals as goal
 
@@ -7,3 +8,6 @@ load-requires c =
 
 pub load-requires-2-clause-rising : goal.load-requires-2-clause-rising
 load-requires-2-clause-rising c = rw c.split-parts.ensures.nodes c.requires.sound.rising
+
+pub load-requires-2-clause-leads : goal.load-requires-2-clause-leads
+load-requires-2-clause-leads c = rw c.split-parts.ensures.nodes (sound_leads c.args.loaded c.requires.sound)

@@ -5,6 +5,11 @@ use Rattle.nf_decide.specs.Rows.{Rows}
 use Rattle.nf_decide.proofs.Stamps.{stamped_some, transferred_some}
 use Rattle.nf_decide.proofs.tables.Tables.transfer.Goals as goal
 
+pub relink-requires-clause-leads : goal.relink-requires-clause-leads
+relink-requires-clause-leads c =
+    let nodes = ap (λ (held : Rows). held.tables.nodes) c.self.view_is ∙ ap (λ (t : Tables). t.nodes) c.clear.ensures.tables in
+    rw nodes c.requires.leads
+
 pub returns : goal.returns
 returns c =
     let t = c.args.self.now.tables in
@@ -15,6 +20,6 @@ returns c =
     } in
     let stamp = stamped_some t (transferred t transfer c.args.name) c.args.moment
     (gone_for t.nodes t.shares transfer.replaced ++ transferred_row (node_row t.nodes transfer.node) transfer c.args.name)
-    (transferred_some t.nodes t.shares transfer c.args.name transfer.replaced c.requires) in
+    (transferred_some t.nodes t.shares transfer c.args.name transfer.replaced c.requires.there) in
     let put = rw c.relink.ensures at c.stamp.ensures in
     put ∙ ap (λ (held : Rows). moved held.tables) c.self.view_is ∙ ap moved c.clear.ensures.tables ∙ sym stamp

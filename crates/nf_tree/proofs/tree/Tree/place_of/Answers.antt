@@ -2,7 +2,7 @@ use Rattle.std.proofs.Common.{ap, subst, sym, ◌∙◌}
 use Rattle.std.specs.Prelude.{IsSome}
 use Rattle.nf_defs.specs.Tree.{node_row}
 use Rattle.nf_tree.specs.Held.{Held}
-use Rattle.nf_tree.proofs.Positions.{is_there}
+use Rattle.nf_charge.proofs.Positions.{is_there}
 use Rattle.nf_tree.proofs.tree.Tree.place_of.Goals as goal
 
 pub unwrap-requires : goal.unwrap-requires
