@@ -1,0 +1,5 @@
+pub mod Members
+pub mod Walks
+pub mod Only
+pub mod Fronts
+pub mod Turns

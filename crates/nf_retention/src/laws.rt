@@ -1,0 +1,32 @@
+//! The walks give what the rules say without a walk, and the rules mean nothing else.
+
+ghost use Rattle.nf_retention.specs.Laws.{FittingIsOnly, FittingIsRight, IsThinnedSo, KeptIsOnly, KeptIsRight, ThinnedIsRest};
+
+/// What the walk keeps has the newest version, versions alone, neighbours a step apart, and leaves out none that is a step away.
+pub fn kept_is_right()
+    ensures { KeptIsRight }
+{}
+
+/// And it is the only list that has.
+#[tactic(auto, using(crate::proofs::Only::kept_only))]
+pub fn kept_is_only()
+    ensures { KeptIsOnly }
+{}
+
+/// What it keeps in an example: were a gap measured from the version before, kept or not, the last one would go.
+pub fn is_thinned_so()
+    ensures { IsThinnedSo }
+{}
+
+/// What goes is what isn't kept.
+#[tactic(auto, using(crate::proofs::Walks::thinned_rest))]
+pub fn thinned_is_rest()
+    ensures { ThinnedIsRest }
+{}
+
+/// One number of sizes is that of the longest front within a bound, and no other.
+#[tactic(auto, using(crate::proofs::Fronts::fitting_right, crate::proofs::Fronts::fitting_only))]
+pub fn fitting_is_only()
+    ensures there { FittingIsRight }
+    ensures only { FittingIsOnly }
+{}
