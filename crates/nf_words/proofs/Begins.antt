@@ -29,7 +29,7 @@ use Rattle.nf_words.proofs.Passing.{acts_pass, call_passes, no_fault, no_limit, 
 use Rattle.nf_words.proofs.Starts.{has_asker, IsAsking, itself_asker, link_found, link_mount, link_seeks, only_files, root_is, row_of_caller, user_root, user_seeks}
 use Rattle.nf_words.proofs.Starts.IsAsking.{by_link, by_user}
 use Rattle.nf_words.proofs.Transfers.{copied_known, fit_parts, moved_known, off}
-use Rattle.nf_words.proofs.Ways.{bounded, free_no_mount, slot_known, way_there}
+use Rattle.nf_words.proofs.Ways.{bounded, free_no_mount, node_present, slot_known, slot_present, way_there}
 use Rattle.nf_words.specs.Asked.{asked_about}
 use Rattle.nf_words.specs.Calls.{link_by}
 use Rattle.nf_words.specs.declared.request.Caller.{Caller}
@@ -78,7 +78,12 @@ module _ (call : Call) (spot : Spot) (sound : AreSound call.state.tables) (is : 
           → Known t call.now (if folds then allowed.List (listing_of (access_of call.state) call (way_of call spot).mount node)
           else allowed.Get node (content_of t.nodes node))
       here true folds = tt
-      here false folds = record { no_folder = folds; of_node = refl; there = way_there call spot sound is node reached leads }
+      here false folds = record {
+        no_folder = folds;
+        of_node = refl;
+        there = way_there call spot sound is node reached leads;
+        present = node_present call spot sound is node reached leads;
+      }
   served_known nowhere leads = tt
 
   -- a user who stores by no mount may do so as the owner
@@ -163,6 +168,7 @@ module _ (call : Call) (spot : Spot) (sound : AreSound call.state.tables) (is : 
       record {
         short = short;
         held = rw there.1 (no_file there.0 (subst (λ (o : Option NodeRow). option_map_or (λ row. is_folder_kind row.kind) o false ≡ false) there.1 file));
+        present = node_present call spot sound is node reached leads;
         storer = storer_may Update node (subst MayAll asked may);
       }
     where
@@ -170,7 +176,12 @@ module _ (call : Call) (spot : Spot) (sound : AreSound call.state.tables) (is : 
       no_file row none = ap not none
   granted_known length inside (Free folder) short leads file may =
       let slot = slot_known call spot sound is folder reached leads in
-      record { short = short; held = (slot.folds, slot.free); storer = storer_may Create folder (subst MayAll (made ∙ in_folder) may) }
+      record {
+        short = short;
+        held = (slot.folds, slot.free);
+        present = slot_present call spot sound is folder reached leads;
+        storer = storer_may Create folder (subst MayAll (made ∙ in_folder) may);
+      }
     where
       made : target_needs (making.File length) t.nodes (root_of call) inside (way_of call spot) ≡ needs_in t.nodes (root_of call) (way_of call spot)
       made =
@@ -189,13 +200,18 @@ module _ (call : Call) (spot : Spot) (sound : AreSound call.state.tables) (is : 
   folder_known (At node) leads some = tt
   folder_known (Free folder) leads some =
       let slot = slot_known call spot sound is folder reached leads in
-      new_known t call.now folder (last_name spot) Folder [] None 0 sound slot.folds slot.free slot.unmounted
+      new_known t call.now folder (last_name spot) Folder [] None 0 sound slot.folds (slot_present call spot sound is folder reached leads) slot.free
+      slot.unmounted
       (within t 1 (depth t.nodes folder + 1) 0 0 some) (omega arith) refl (λ _. refl)
   folder_known (Missing found) leads some = tt
 
   deleted_known : (place : Found) → found call spot ≡ place → is_there (λ node. node == root_of call || is_root t.nodes node) (Some place) ≡ false
       → Known t call.now (deleted (node_at (Some place)))
-  deleted_known (At node) leads fits = record { no_root = off (node == root_of call) (is_root t.nodes node) fits; there = way_there call spot sound is node reached leads }
+  deleted_known (At node) leads fits = record {
+    no_root = off (node == root_of call) (is_root t.nodes node) fits;
+    there = way_there call spot sound is node reached leads;
+    present = node_present call spot sound is node reached leads;
+  }
   deleted_known nowhere leads fits = tt
 
 -- ---- a mount that gets another name

@@ -7,7 +7,7 @@ use Rattle.nf_base.specs.declared.rows.NodeRow.{NodeRow}
 use Rattle.nf_defs.specs.Prelude.{child_of, content_of, is_folder, is_root, is_under, Tables, walk_of}
 use Rattle.nf_words.proofs.Fits.{KnownChange}
 use Rattle.nf_words.proofs.Ways.{HasRow}
-use Rattle.nf_words.specs.Prelude.{copies_to, crosses, deepest_in, IsHeld, IsUnmounted, last_number, MayStoreAt, node_of_key, pieces_in, stored_pieces}
+use Rattle.nf_words.specs.Prelude.{copies_to, crosses, deepest_in, IsHeld, IsUnmounted, LeadsToRoot, last_number, MayStoreAt, node_of_key, pieces_in, stored_pieces}
 use Rattle.nf_words.specs.declared.answer.Allowed.{Allowed}
 use Rattle.nf_words.specs.declared.answer.Allowed.TheVariants as allowed
 use Rattle.nf_words.specs.declared.answer.By.{By}
@@ -18,21 +18,26 @@ pub record KnownServed (t : Tables) (node : ℕ) (content : List Piece) : Type 0
   pub no_folder : is_folder t.nodes node ≡ false
   pub of_node : content ≡ content_of t.nodes node
   pub there : HasRow t.nodes node
+  pub present : LeadsToRoot t.nodes node
 
 pub record KnownGranted (t : Tables) (by : By) (key : LockKey) (length : ℕ) : Type 0 where
   pub short : length ≤ MAX_BODY
   pub held : IsHeld t key
+  pub present : LeadsToRoot t.nodes (node_of_key key)
   pub storer : MayStoreAt t by (node_of_key key)
 
 pub record KnownGone (t : Tables) (node : ℕ) : Type 0 where
   pub no_root : is_root t.nodes node ≡ false
   pub there : HasRow t.nodes node
+  pub present : LeadsToRoot t.nodes node
 
 -- what is moved or copied and where to: no root, not over a root, neither inside the other, and not too deep
 pub record KnownTransfer (t : Tables) (transfer : Transfer) (name : List ℕ) : Type 0 where
   pub source : HasRow t.nodes transfer.node
   pub no_root : is_root t.nodes transfer.node ≡ false
+  pub present : LeadsToRoot t.nodes transfer.node
   pub in_folder : is_folder t.nodes transfer.folder ≡ true
+  pub folder_present : LeadsToRoot t.nodes transfer.folder
   pub there : child_of t.nodes transfer.folder name ≡ transfer.replaced
   pub unmounted : IsUnmounted t transfer.folder name
   pub differs : option_map_or (λ node. node == transfer.node) transfer.replaced false ≡ false

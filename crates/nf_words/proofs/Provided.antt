@@ -27,6 +27,7 @@ use Rattle.nf_words.proofs.Asks.{Differs, ensured_lean, found_any, lean_with, mo
 use Rattle.nf_words.proofs.Ensured.{ensured_known, IsMountable}
 use Rattle.nf_words.proofs.Fits.{KnownChange, newest, no_more, not_there, one_more, put_found, user_more}
 use Rattle.nf_words.proofs.Found.{found_has, found_passes, put_is_found}
+use Rattle.nf_words.proofs.Ways.{present_row}
 use Rattle.nf_words.specs.Prelude.{AreSound, counted, is_joined, is_member, is_taken, IsLean, IsMountSound, IsShareSound, join_limit, joined_by, left_by, membership, mount_limit, mounts_joined, new_root, new_user, people_changed, people_limit, put_mounts, raised, requoted, row_named, user_made}
 use Rattle.nf_words.specs.declared.answer.Breach.{Breach}
 use Rattle.nf_words.specs.declared.answer.Limit.{Limit}
@@ -306,15 +307,11 @@ module _ (t : Tables) (now : ℕ) (sound : AreSound t) where
       one (get_or (filter (is_joined row) t.shares) k d) (filter_passes (is_joined row) t.shares k d within)
       (All-filter (is_joined row) (IsShareSound t) t.shares sound.others.shares k d within))
     where
-      some_of : {X : Type 0} (o : Option X) → is_some o ≡ true → (x : X) × (o ≡ Some x)
-      some_of None is = absurd (cc)
-      some_of (Some x) is = (x, refl)
-
       one : (share : ShareRow) → is_joined row share ≡ true → IsShareSound t share → IsMountable t (row.user, share.node)
       one share joined fine =
           let outer = and_parts _ _ joined in
           let inner = and_parts _ _ outer.0 in
-          let node = some_of (node_row t.nodes share.node) (fine.present (not-true share.ended inner.0)) in
+          let node = present_row t.nodes share.node (fine.present (not-true share.ended inner.0)) in
           record {
             node = node.0;
             there = node.1;

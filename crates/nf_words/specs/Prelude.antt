@@ -28,6 +28,7 @@ pub use Rattle.nf_words.specs.Places.{crosses, folder_at, folder_in, folder_seen
 unfoldable pub use Rattle.nf_words.specs.Places.{exists_rule, forbidden_rule, overwrite_rule, target_rule}
 pub use Rattle.nf_words.specs.Reached.{broken_by, first_refused, is_refused, need_broken, source_refused, target_refused, told_broken, unlinked, unreached, unreached_by}
 unfoldable pub use Rattle.nf_words.specs.Reached.{acts_rule, place_rule}
+pub use Rattle.nf_words.specs.Present.{LeadsToRoot}
 pub use Rattle.nf_words.specs.Rules.{Rule, earlier_rules, first_that_holds, later_rules, refusal_of, rules}
 pub use Rattle.nf_words.specs.Sharing.{fault_by, fault_of_ask, is_end_moment, is_listed_for, is_long, is_on, is_own, is_seen_by, is_steered_by, is_past, is_set_past, is_widened, is_wider, kind_of, kind_to, limit_by, limit_of_ask, live_share, mounts_for, new_share, offer_fault, offer_limit, offer_of, offered, offered_by, parent_by, parent_for, perms_after, perms_to, receiver_named, recipient_of, set_fault, share_line, share_lines, share_shown, share_steered, unnamed, unnamed_by, until_after, users_for, usual_perms}
 unfoldable pub use Rattle.nf_words.specs.Sharing.{named_rule, room_rule, sharing_rule}
