@@ -263,35 +263,6 @@ module _ (t : Tables) (now : ℕ) (sound : AreSound t) where
         next_blob = omega arith;
       }
 
-  -- ---- a quota
-
-  quota_known : (quota : ℕ) (row : UserRow) → user_row t.users row.id ≡ Some row → KnownChange t now (requoted quota row) None
-  quota_known quota row there = here (row.quota == quota) refl
-    where
-      new : UserRow
-      new = record row { quota = quota }
-
-      given : row.id < t.meta.next_user
-      given = subst (λ (o : Option UserRow). IfSome o (λ (old : UserRow). old.id < t.meta.next_user)) there
-          (found_has (λ (old : UserRow). old.id < t.meta.next_user) (λ (old : UserRow). old.id == row.id) t.users sound.users_given)
-
-      here : (b : Bool) → (row.quota == quota) ≡ b → KnownChange t now (if b then [] else Put (rows.User new) ∷ []) None
-      here true e = nothing_known t now
-      here false e =
-          let differs : new ≢ row = λ same. both_ways (row.quota == quota) e (eq-eqb row.quota quota (sym (ap (λ (r : UserRow). r.quota) same))) in
-          let up = raised t now (Put (rows.User new) ∷ []) None in
-          record {
-            rows = one_more up (Put (rows.User new)) [] (refl, record { old = row; there = there; same = refl; other = differs })
-                (no_more (made up (Put (rows.User new))));
-            lean = one_lean t (Put (rows.User new)) (user_differs t new (λ same. differs (same_Some new row (sym same ∙ there))));
-            stored = λ none. refl;
-            next_user = omega (arith, given);
-            next_group = omega arith;
-            next_node = omega arith;
-            next_share = omega arith;
-            next_blob = omega arith;
-          }
-
   -- ---- members
 
   -- who is to be a member is there, and so is the group
@@ -417,11 +388,7 @@ people_known t now (ask.DropMember user group) sound free few = here (membership
     here : (o : Option MemberRow) → KnownChange t now (option_map_or (left_by t) o []) None
     here None = nothing_known t now
     here (Some row) = leaves_known t now sound row
-people_known t now (ask.SetQuota user quota) sound free few = here (row_named t user) refl
-  where
-    here : (o : Option UserRow) → row_named t user ≡ o → KnownChange t now (option_map_or (requoted quota) o []) None
-    here None e = nothing_known t now
-    here (Some row) e = quota_known t now sound quota row (row_there t now sound user row e)
+people_known t now (ask.SetQuota user quota) sound free few = nothing_known t now
 people_known t now (ask.AddToken user token) sound free few = here (user_named t.users user) refl
   where
     here : (o : Option ℕ) → user_named t.users user ≡ o

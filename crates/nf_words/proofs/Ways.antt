@@ -98,6 +98,23 @@ present_row rows node is = here (node_row rows node) refl
     here None e = absurd (none e is.steps is.climbs)
     here (Some row) e = (row, e)
 
+-- what is present and no root is in a folder
+pub present_inside : (rows : List NodeRow) (node : ℕ) (row : NodeRow) → node_row rows node ≡ Some row → is_root rows node ≡ false → LeadsToRoot rows node
+    → (folder : ℕ) × (row.place ≡ Inside folder)
+present_inside rows node row there no_root is = here is.steps is.climbs
+  where
+    placed : (k : ℕ) (place : Place) → option_and_then (climb rows k) (folder_of place) ≡ Some is.top → (folder : ℕ) × (place ≡ Inside folder)
+    placed k Root climbs = absurd (none-some is.top climbs)
+    placed k (Inside folder) climbs = (folder, refl)
+    placed k Trash climbs = absurd (none-some is.top climbs)
+
+    here : (k : ℕ) → climb rows k node ≡ Some is.top → (folder : ℕ) × (row.place ≡ Inside folder)
+    here zero climbs =
+        absurd (both_ways (is_root rows node) no_root (subst (λ (n : ℕ). is_root rows n ≡ true) (sym (same_Some node is.top climbs)) is.root))
+    here (suc k) climbs =
+        placed k row.place
+        (sym (ap (λ (o : Option NodeRow). option_and_then (climb rows k) (option_and_then (λ row. folder_of row.place) o)) there) ∙ climbs)
+
 -- what is at a place, or the folder of a free name, is present
 abbrev pub IsPresentAt : List NodeRow → Found → Type 0
 IsPresentAt rows (At node) = LeadsToRoot rows node

@@ -105,6 +105,10 @@ made_folder t now name (Some (At node)) = allowed.Close
 made_folder t now name (Some (Free folder)) = makes (new_node t now folder name Folder []) None
 made_folder t now name (Some (Missing depth)) = allowed.Close
 
+-- nothing is done
+abbrev pub nothing_done : Allowed
+nothing_done = allowed.Change [] None report.Plain
+
 -- DELETE puts the node that is there in the trash, with all under it, unless the trash can't hold it. What goes for good goes then
 abbrev pub discard : Tables → ℕ → NodeRow → Allowed
 discard t now row =
@@ -114,7 +118,7 @@ discard t now row =
     else allowed.Trash (deed.Discard (item_for now row)) gone report.Done
 
 abbrev pub deleted : Tables → ℕ → Option ℕ → Allowed
-deleted t now node = option_map_or (discard t now) (option_and_then (node_row t.nodes) node) allowed.Close
+deleted t now node = option_map_or (discard t now) (option_and_then (node_row t.nodes) node) nothing_done
 
 -- MOVE puts the node that is there, and COPY copies of it and of all under it, into the target's folder under the target's name. What
 -- goes to another owner is copied there, and then removed
@@ -160,10 +164,6 @@ mount_renamed call way name = with_mount_row (option_map (named_row name) (own_m
 -- some rows are put, and a share is told as it is then
 abbrev pub share_told : Tables → List Change → ShareRow → Allowed
 share_told t changes row = allowed.Change changes None (option_map_or report.Share (share_line t row) report.Plain)
-
--- nothing is done
-abbrev pub nothing_done : Allowed
-nothing_done = allowed.Change [] None report.Plain
 
 -- a share is made, and those whom it names have a mount of the node
 abbrev pub share_made : Access → Call → Offer → Allowed

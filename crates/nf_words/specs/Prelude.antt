@@ -23,7 +23,7 @@ pub use Rattle.nf_words.specs.Listing.{bits_by, bytes_of, child_line, child_line
 pub use Rattle.nf_words.specs.Locks.{restore_touches, source_touches, target_name, target_touches, touched, touches, transfer_touches}
 unfoldable pub use Rattle.nf_words.specs.Locks.{locked_rule}
 pub use Rattle.nf_words.specs.Needed.{folder_for, Need, is_owner, is_within, may_by, needed, needed_by, needs, needs_at, needs_between, needs_in, source_needs}
-pub use Rattle.nf_words.specs.Others.{AreMountsApart, AreOthersSound, IsKindSound, IsMountSound, IsOfNode, IsShareSound}
+pub use Rattle.nf_words.specs.Others.{AreMountsApart, AreOthersSound, IsItemSound, IsKindSound, IsMountSound, IsOfNode, IsShareSound}
 pub use Rattle.nf_words.specs.People.{are_named, is_joined, is_member, is_taken, join_limit, joined_by, left_by, membership, mounts_joined, new_root, new_user, people_changed, people_limit, put_mounts, row_named, user_made}
 pub use Rattle.nf_words.specs.Places.{crosses, folder_at, folder_in, folder_seen, has_forbidden, is_free_in, is_kept, is_off_mount, is_root_at, is_start, is_there, lost, misplaced, misplaced_by, node_at, node_found, source_lost, taken, target_lost, transfer_between, transfer_by, transfer_of, transfer_to, unfit, unfit_between}
 unfoldable pub use Rattle.nf_words.specs.Places.{exists_rule, forbidden_rule, overwrite_rule, target_rule}

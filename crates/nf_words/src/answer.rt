@@ -6,9 +6,9 @@ ghost use Rattle.nf_words.specs.Limits.{count_of};
 use crate::{Items, Listing, Route, ShareLine, ShareLines, Transfer};
 use nf_access::Cause;
 use nf_base::{
-    BlobId, Changes, Content, Digest, ItemRow, MAX_DEPTH, MAX_GROUPS, MAX_MEMBERS, MAX_MOUNTS, MAX_NODES,
-    MAX_SHARES, MAX_STORED_PIECES, MAX_TOKENS, MAX_USERS, Name, NameFault, NodeId, NodeRow,
-    ShareId, UserRow,
+    BlobId, Changes, Content, Digest, ItemRow, MAX_DEPTH, MAX_GROUPS, MAX_MEMBERS, MAX_MOUNTS,
+    MAX_NODES, MAX_SHARES, MAX_STORED_PIECES, MAX_TOKENS, MAX_USERS, Name, NameFault, NodeId,
+    NodeRow, ShareId, UserRow,
 };
 use nf_defs::Seeker;
 use std::alloc::AllocError;

@@ -67,17 +67,11 @@ pub enum TrashAsk {
     /// What is in it.
     List(Name),
     /// That an item, by the number of its node, goes for good with all under it.
-    Drop {
-        user: Name,
-        item: NodeId,
-    },
+    Drop { user: Name, item: NodeId },
     /// That all its items do.
     Empty(Name),
     /// That an item comes back: into the folder that it came from where that is present, and else into the root, under a free name.
-    Restore {
-        user: Name,
-        item: NodeId,
-    },
+    Restore { user: Name, item: NodeId },
 }
 
 /// What is asked about shares.
