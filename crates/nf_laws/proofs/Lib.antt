@@ -23,6 +23,7 @@ pub mod Gone
 pub mod Held
 pub mod Lines
 pub mod Links
+pub mod Leading
 pub mod Leaning
 pub mod Lists
 pub mod Locking
@@ -53,6 +54,7 @@ pub mod Stays
 pub mod Stored
 pub mod Telling
 pub mod Transferred
+pub mod Trashing
 pub mod Upwards
 pub mod Walked
 pub mod Weighing

@@ -104,7 +104,7 @@ size_under t top sound =
 -- ---- what goes
 
 -- what passes a test and what doesn't are all
-parts_sum : (f : NodeRow → ℕ) (test : NodeRow → Bool) (rows : List NodeRow)
+pub parts_sum : (f : NodeRow → ℕ) (test : NodeRow → Bool) (rows : List NodeRow)
     → sum_by f (filter (λ row. not (test row)) rows) + sum_by (λ row. if test row then f row else 0) rows ≡ sum_by f rows
 parts_sum f test [] = omega arith
 parts_sum f test (row ∷ rows) =
