@@ -160,7 +160,7 @@ module _ (t : Tables) (now : ℕ) (transfer : Transfer) (name : List ℕ) (rows 
       AllPairs-append (λ (a b : NodeRow). a.id < b.id) left.nodes rows left_fine.rising (copies_rise t now transfer name rows mirrors)
       (λ i d within k e also. omega (arith, (left_fine.nodes i d within).given, (copy k e also).id))
 
-  copy_there : (d : NodeRow) (k : ℕ) → k < length rows → node_row made.nodes (t.meta.next_node + k) ≡ Some (get_or rows k d)
+  pub copy_there : (d : NodeRow) (k : ℕ) → k < length rows → node_row made.nodes (t.meta.next_node + k) ≡ Some (get_or rows k d)
   copy_there d k within =
       let same = get_or-append-add left.nodes rows k d in
       let there = node_row_each made.nodes joined_rises (length left.nodes + k) d (omega (arith, length-append left.nodes rows)) in

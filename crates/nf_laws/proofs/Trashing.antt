@@ -7,20 +7,41 @@ use Rattle.std.proofs.lemmas.List.{append-nil}
 use Rattle.std.proofs.lemmas.List.Elements.{All-append, All-cons, All-filter, All-nil, All-weaker, filter-append, filter_passes}
 use Rattle.std.proofs.lemmas.List.Filters.{sum_by-filter_both}
 use Rattle.std.proofs.lemmas.Option.{same_Some}
+use Rattle.nf_base.specs.declared.changes.Change.{Change}
 use Rattle.nf_base.specs.declared.rows.NodeRow.{NodeRow}
 use Rattle.nf_base.specs.declared.rows.Place.{Place}
-use Rattle.nf_base.specs.declared.rows.Place.TheVariants.{Inside, Root, Trash}
+use Rattle.nf_base.specs.declared.rows.Place.TheVariants.{Root, Trash}
 use Rattle.nf_defs.proofs.Climbs.{under_climb}
-use Rattle.nf_defs.specs.Prelude.{child_of, climb, filled, is_present, is_under, node_row, relinked, Tables, with_node, without_under}
+use Rattle.nf_defs.specs.Prelude.{child_of, filled, is_present, is_under, node_row, relinked, Tables, with_node, without_under}
+use Rattle.nf_laws.proofs.Added.{new_there}
 use Rattle.nf_laws.proofs.Charging.{sums_agree}
 use Rattle.nf_laws.proofs.Climbs.{node_row_each, parent_at}
+use Rattle.nf_laws.proofs.Copied.{copied_sound, copies_numbered, copy_at, copy_in, copy_there}
 use Rattle.nf_laws.proofs.Crossed.{none_pass}
-use Rattle.nf_laws.proofs.Leading.{leads_beside, leads_inside, leads_kept, leads_left, leads_moved, leads_root, leads_up, LeadsTo, never_two, where_leads}
+use Rattle.nf_laws.proofs.Entries.{after_has}
+use Rattle.nf_laws.proofs.Gone.{cleared_all, clearing_sound, climb_cleared, folder_stays, row_cleared}
+use Rattle.nf_laws.proofs.Leading.{leads_beside, leads_cleared, leads_inside, leads_kept, leads_left, leads_moved, leads_root, leads_up, LeadsTo, never_two, where_leads}
+use Rattle.nf_laws.proofs.Lists.{nodes_have}
+use Rattle.nf_laws.proofs.Mirrored.{mirrored}
 use Rattle.nf_laws.proofs.OneRow.{filter_with, KeepsId, with_each}
-use Rattle.nf_laws.proofs.Rows.{AreKept, found_is, kept_joined, row_id, row_is}
+use Rattle.nf_laws.proofs.Replaced.{kept_replaced}
+use Rattle.nf_laws.proofs.Rows.{AreKept, found_is, kept_joined, row_id, row_is, stamp}
+use Rattle.nf_laws.proofs.Sizes.{weight}
 use Rattle.nf_laws.proofs.Sources.{filter_left}
+use Rattle.nf_laws.proofs.Stays.{sound_after}
+use Rattle.nf_laws.proofs.Upwards.{never_climbs}
 use Rattle.nf_laws.proofs.Weighing.{parts_sum}
-use Rattle.nf_words.specs.Prelude.{AreSound, cleared}
+use Rattle.nf_laws.specs.Charges.{bytes_trashed, owned_bytes, trashed_bytes}
+use Rattle.nf_laws.specs.Transfers.{Mirrors}
+use Rattle.nf_words.proofs.Fits.{KnownChange}
+use Rattle.nf_words.proofs.Found.{child_parent}
+use Rattle.nf_words.proofs.Known.{Known, KnownCopies, KnownCross, KnownTransfer}
+use Rattle.nf_words.specs.Prelude.{after, altered, AreSound, cleared, IsSound, joined, MayCome, State, transferred}
+use Rattle.nf_words.specs.declared.answer.Allowed.{Allowed}
+use Rattle.nf_words.specs.declared.answer.Allowed.TheVariants as allowed
+use Rattle.nf_words.specs.declared.answer.Report.{Report}
+use Rattle.nf_words.specs.declared.history.Entry.{Entry}
+use Rattle.nf_words.specs.declared.request.Transfer.{Transfer}
 
 -- ---- what is in the trash
 
@@ -123,7 +144,7 @@ moved_kept gone first u node folder name old sound kept there outside up over =
 
 -- ---- sound tables
 
--- what is there and no node's number yet isn't in the trash
+-- a number that wasn't given yet is none of a node in the trash
 pub fresh_stays : (t : Tables) (node : ℕ) → AreSound t → t.meta.next_node ≤ node → is_gone t node ≡ false
 fresh_stays t node sound fresh = here (node_row t.nodes node) refl
   where
@@ -167,21 +188,156 @@ gone_is gone first made sound kept k d within =
     either true place false e at to = absurd (never_two made.nodes row.id (subst (λ (p : Place). LeadsTo made.nodes p row.id) e at) to)
     either false place true e at to = absurd (never_two made.nodes row.id to (subst (λ (p : Place). LeadsTo made.nodes p row.id) e at))
 
--- so any sum over what isn't present is as before
-pub trash_sum : (f : NodeRow → ℕ) (t made : Tables) → AreSound t → AreSound made → KeepsTrash (is_gone t) t.nodes made.nodes
-    → sum_by (λ row. if not (is_present made.users made.nodes row.id) then f row else 0) made.nodes
-    ≡ sum_by (λ row. if not (is_present t.users t.nodes row.id) then f row else 0) t.nodes
-trash_sum f t made sound later kept =
-    of_those made later kept ∙ ap (sum_by f) kept.same ∙ sym (of_those t sound (all_kept t sound))
+-- so as many bytes of a user's are in the trash as before
+pub trash_same : (t made : Tables) (user : ℕ) → AreSound t → AreSound made → KeepsTrash (is_gone t) t.nodes made.nodes
+    → bytes_trashed made user ≡ bytes_trashed t user
+trash_same t made user sound later kept =
+    of_those made later kept ∙ ap (sum_by (owned_bytes user)) kept.same ∙ sym (of_those t sound (all_kept t sound))
   where
+    swapped : (own gone : Bool) (n : ℕ) → (if own && gone then n else 0) ≡ (if gone then (if own then n else 0) else 0)
+    swapped true gone n = refl
+    swapped false true n = refl
+    swapped false false n = refl
+
     of_those : (u : Tables) → AreSound u → KeepsTrash (is_gone t) t.nodes u.nodes
-        → sum_by (λ row. if not (is_present u.users u.nodes row.id) then f row else 0) u.nodes ≡ sum_by f (filter (λ row. is_gone t row.id) u.nodes)
+        → bytes_trashed u user ≡ sum_by (owned_bytes user) (filter (λ row. is_gone t row.id) u.nodes)
     of_those u fine kept =
         omega (
           arith,
-          sums_agree (λ (row : NodeRow). if not (is_present u.users u.nodes row.id) then f row else 0) (λ (row : NodeRow). if is_gone t row.id then f row else 0)
-              u.nodes
-              (λ k d within. ap (λ (b : Bool). if b then f (get_or u.nodes k d) else 0) (gone_is (is_gone t) t.nodes u fine kept k d within)),
-          parts_sum f (λ row. is_gone t row.id) u.nodes,
-          sum_by-filter_both (λ (row : NodeRow). is_gone t row.id) (λ (row : NodeRow). not (is_gone t row.id)) (λ row. refl) f u.nodes,
+          sums_agree (trashed_bytes u user) (λ (row : NodeRow). if is_gone t row.id then owned_bytes user row else 0) u.nodes
+              (λ k d within.
+              let row = get_or u.nodes k d in
+              ap (λ (gone : Bool). if row.owner == user && gone then weight row else 0) (gone_is (is_gone t) t.nodes u fine kept k d within)
+              ∙ swapped (row.owner == user) (is_gone t row.id) (weight row)),
+          parts_sum (owned_bytes user) (λ row. is_gone t row.id) u.nodes,
+          sum_by-filter_both (λ (row : NodeRow). is_gone t row.id) (λ (row : NodeRow). not (is_gone t row.id)) (λ row. refl) (owned_bytes user) u.nodes,
         )
+
+-- ---- every act
+
+-- a new row, which leads to a root
+born_kept : (t u : Tables) (row : NodeRow) → AreSound t → t.meta.next_node ≤ row.id → KeepsTrash (is_gone t) t.nodes u.nodes
+    → LeadsTo (u.nodes ++ row ∷ []) Root row.id → KeepsTrash (is_gone t) t.nodes (u.nodes ++ row ∷ [])
+born_kept t u row sound fresh kept up =
+    more_kept (is_gone t) t.nodes u.nodes kept (row ∷ [])
+    (All-cons (λ (row : NodeRow). is_gone t row.id ≡ false) row [] (fresh_stays t row.id sound fresh) (All-nil (λ (row : NodeRow). is_gone t row.id ≡ false)))
+    (All-cons Leads row [] up (All-nil Leads))
+  where
+    Leads : NodeRow → Type 0
+    Leads new = LeadsTo (u.nodes ++ row ∷ []) Root new.id
+
+changes_kept : (t : Tables) (now : ℕ) (changes : List Change) (blob : Option ℕ) (report : Report) → AreSound t → KnownChange t now changes blob
+    → KeepsTrash (is_gone t) t.nodes (altered t now (allowed.Change changes blob report)).nodes
+changes_kept t now changes blob report sound known =
+    nodes_have (KeepsTrash (is_gone t) t.nodes) (λ change. Unit {0}) t now changes blob report sound.rising known (λ k d within. tt)
+    (λ u row kept it any.
+    let born = it.born in
+    let made = u.nodes ++ row ∷ [] in
+    born_kept t u row sound it.fresh kept
+    (leads_inside made Root row.id born.folder (parent_at made row.id born.folder row (new_there u.nodes row born.newest) born.place)
+    (leads_kept u.nodes made Root born.folder (kept_joined u.nodes (row ∷ [])) (leads_root u.nodes born.folder born.present))))
+    (λ u row kept it any.
+    filled_kept (is_gone t) t.nodes u.nodes kept row.id (filled row.content row.changed) (λ r. refl) (leads_root u.nodes row.id it.filled.present)
+    (kept_replaced u.nodes row.changed row.id row.content))
+    (λ u row root kept it.
+    born_kept t u root sound it.2 kept
+    (record { steps = 0; top = root; climbs = refl; there = new_there u.nodes root it.1.newest_node; at = it.1.place }))
+    (all_kept t sound)
+
+-- ---- what is moved or copied
+
+module _ (t : Tables) (transfer : Transfer) (name : List ℕ) (sound : AreSound t) (known : KnownTransfer t transfer name) where
+  -- what has to go, if anything has, is in the folder
+  cleared_kept : KeepsTrash (is_gone t) t.nodes (cleared t.nodes transfer.replaced)
+  cleared_kept = here transfer.replaced known.there
+    where
+      here : (replaced : Option ℕ) → child_of t.nodes transfer.folder name ≡ replaced → KeepsTrash (is_gone t) t.nodes (cleared t.nodes replaced)
+      here None is = all_kept t sound
+      here (Some top) is =
+          left_kept (is_gone t) t.nodes t top sound (all_kept t sound)
+          (leads_inside t.nodes Root top transfer.folder (child_parent t.nodes transfer.folder name top sound.rising is)
+          (leads_root t.nodes transfer.folder known.folder_present))
+
+  -- the folder and the source lead to a root without it
+  folder_leads : LeadsTo (cleared t.nodes transfer.replaced) Root transfer.folder
+  folder_leads =
+      leads_cleared t transfer.replaced Root transfer.folder sound (folder_stays t transfer.replaced transfer.folder name sound known.there)
+      (leads_root t.nodes transfer.folder known.folder_present)
+
+  source_leads : LeadsTo (cleared t.nodes transfer.replaced) Root transfer.node
+  source_leads = leads_cleared t transfer.replaced Root transfer.node sound known.apart (leads_root t.nodes transfer.node known.present)
+
+  transferred_kept : KeepsTrash (is_gone t) t.nodes (transferred t transfer name).nodes
+  transferred_kept =
+      let u : Tables = cleared_all t transfer.replaced in
+      let stays = folder_stays t transfer.replaced transfer.folder name sound known.there in
+      moved_kept (is_gone t) t.nodes u transfer.node transfer.folder name known.source.0 (clearing_sound t transfer name sound known) cleared_kept
+      (row_cleared t.nodes transfer.replaced transfer.node known.apart ∙ known.source.1)
+      (false_from_ne_true (is_under u.nodes transfer.folder transfer.node) (λ under.
+      let c = under_climb u.nodes transfer.folder transfer.node under in
+      never_climbs t transfer.folder transfer.node sound known.outside c.0 (sym (climb_cleared t transfer.replaced c.0 transfer.folder sound stays) ∙ c.2)))
+      source_leads folder_leads
+
+  module _ (now : ℕ) (rows : List NodeRow) (mirrors : Mirrors t now transfer name rows) where
+    abbrev with_copies : List NodeRow
+    with_copies = cleared t.nodes transfer.replaced ++ rows
+
+    -- each copy is in the folder, or in one before it
+    copy_leads : (d : NodeRow) (m k : ℕ) → k < m → k < length rows → LeadsTo with_copies Root (t.meta.next_node + k)
+    copy_leads d zero k before within = absurd (omega arith)
+    copy_leads d (suc m) zero before within =
+        let copy = copy_at t now transfer name rows mirrors 0 d within in
+        leads_inside with_copies Root (t.meta.next_node + 0) transfer.folder
+        (parent_at with_copies (t.meta.next_node + 0) transfer.folder (get_or rows 0 d) (copy_there t now transfer name rows mirrors sound known d 0 within)
+        copy.placed.0)
+        (leads_kept (cleared t.nodes transfer.replaced) with_copies Root transfer.folder (kept_joined (cleared t.nodes transfer.replaced) rows) folder_leads)
+    copy_leads d (suc m) (suc k) before within =
+        let c = copy_in t now transfer name rows mirrors sound k d within in
+        leads_inside with_copies Root (t.meta.next_node + suc k) (t.meta.next_node + c.at)
+        (parent_at with_copies (t.meta.next_node + suc k) (t.meta.next_node + c.at) (get_or rows (suc k) d)
+        (copy_there t now transfer name rows mirrors sound known d (suc k) within) c.place)
+        (copy_leads d m c.at (omega (arith, c.before)) (omega (arith, c.before)))
+
+    copies_kept : KeepsTrash (is_gone t) t.nodes with_copies
+    copies_kept =
+        more_kept (is_gone t) t.nodes (cleared t.nodes transfer.replaced) cleared_kept rows
+        (λ k d within. fresh_stays t (get_or rows k d).id sound (copies_numbered t now transfer name rows mirrors k d within).0)
+        (λ k d within.
+        subst (LeadsTo with_copies Root) (sym (copy_at t now transfer name rows mirrors k d within).id) (copy_leads d (suc k) k (omega arith) within))
+
+copied_kept : (t : Tables) (now : ℕ) (rows : List NodeRow) (replaced : Option ℕ) → AreSound t → KnownCopies t now rows replaced
+    → KeepsTrash (is_gone t) t.nodes (joined t rows replaced).nodes
+copied_kept t now rows replaced sound known =
+    subst (λ (o : Option ℕ). KeepsTrash (is_gone t) t.nodes (cleared t.nodes o ++ rows)) (sym known.replaced_is)
+    (copies_kept t known.transfer known.name sound known.known now rows (mirrored t now rows replaced sound known))
+
+-- what goes to another owner is present beside its copies
+crossed_leads : (t : Tables) (now : ℕ) (rows : List NodeRow) (replaced : Option ℕ) (node : ℕ) → AreSound t → KnownCross t now rows replaced node
+    → LeadsTo (joined t rows replaced).nodes Root node
+crossed_leads t now rows replaced node sound cross =
+    leads_kept (cleared t.nodes replaced) (cleared t.nodes replaced ++ rows) Root node (kept_joined (cleared t.nodes replaced) rows)
+    (subst (LeadsTo (cleared t.nodes replaced) Root) (sym cross.node_is)
+    (subst (λ (o : Option ℕ). LeadsTo (cleared t.nodes o) Root cross.copies.transfer.node) (sym cross.copies.replaced_is)
+    (source_leads t cross.copies.transfer cross.copies.name sound cross.copies.known)))
+
+-- ---- the law
+
+act_kept : (t : Tables) (now : ℕ) (act : Allowed) → AreSound t → t.meta.last ≤ now → Known t now act
+    → KeepsTrash (is_gone t) t.nodes (altered t now act).nodes
+act_kept t now (allowed.Change changes blob report) sound later known = changes_kept t now changes blob report sound known
+act_kept t now (allowed.Delete node) sound later known =
+    left_kept (is_gone t) t.nodes t node sound (all_kept t sound) (leads_root t.nodes node known.present)
+act_kept t now (allowed.Move transfer name) sound later known = transferred_kept t transfer name sound known.known
+act_kept t now (allowed.Copy rows replaced) sound later known = copied_kept t now rows replaced sound known
+act_kept t now (allowed.Cross rows replaced node) sound later known =
+    left_kept (is_gone t) t.nodes (stamp (joined t rows replaced) now) node (copied_sound t now rows replaced sound later known.copies)
+    (copied_kept t now rows replaced sound known.copies) (crossed_leads t now rows replaced node sound known)
+act_kept t now act sound later known = all_kept t sound
+
+-- after each entry as many bytes of a user's are in the trash as before
+pub trash_after : (n : ℕ) (s : State) (e : Entry) (user : ℕ) → IsSound s → MayCome n s e
+    → bytes_trashed (after s e).tables user ≡ bytes_trashed s.tables user
+trash_after n s e user sound may =
+    trash_same s.tables (after s e).tables user sound.rows (sound_after n s e sound may).rows
+    (after_has (λ (t : Tables). KeepsTrash (is_gone s.tables) s.tables.nodes t.nodes) n s e sound may (all_kept s.tables sound.rows)
+    (λ act known. act_kept s.tables e.moment act sound.rows (omega (arith, sound.seen, may.not_before)) known))
