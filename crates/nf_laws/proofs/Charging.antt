@@ -5,7 +5,7 @@ use Rattle.std.specs.List.{All}
 use Rattle.std.proofs.lemmas.List.Elements.{All-head, All-tail}
 use Rattle.std.proofs.lemmas.List.Sums.{sum_by-cons}
 use Rattle.nf_base.specs.declared.rows.NodeRow.{NodeRow}
-use Rattle.nf_defs.specs.Prelude.{is_present, Tables}
+use Rattle.nf_defs.specs.Prelude.{is_present}
 use Rattle.nf_laws.proofs.Sizes.{few_all, few_each, weight}
 use Rattle.nf_laws.specs.Charges.{ChargesAreFew, ChargesLeaveOutTrash, owned_bytes, trashed_bytes}
 use Rattle.nf_words.specs.Prelude.{charge_of, counted_for}

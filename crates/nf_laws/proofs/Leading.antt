@@ -1,7 +1,7 @@
 -- Where nodes lead: each to a root or to a top in the trash. Where the rows change, what stays leads where it did.
-use Rattle.std.proofs.Common.{ℕ, zero, suc, ◌+◌, ◌==◌, ◌≡◌, ◌≢◌, ◌≤◌, ◌⊎◌, not, true, false, List, Option, None, Some, option_map, inl, inr, refl, sym, ap, subst, ◌∙◌, arith}
+use Rattle.std.proofs.Common.{ℕ, suc, ◌+◌, ◌≡◌, ◌⊎◌, true, false, List, Option, None, Some, option_map, inl, inr, refl, sym, ap, ◌∙◌, arith}
 use Rattle.std.specs.Prelude.{is_some}
-use Rattle.std.specs.Option.{option_and_then, option_map_or}
+use Rattle.std.specs.Option.{option_and_then}
 use Rattle.std.proofs.lemmas.Bool.{false_from_ne_true, false≢true, ne_eqb, not_from_false}
 use Rattle.std.proofs.lemmas.Option.{same_Some}
 use Rattle.nf_base.specs.declared.rows.NodeRow.{NodeRow}
@@ -94,11 +94,14 @@ pub where_leads : (t : Tables) (row : NodeRow) → AreSound t → node_row t.nod
 where_leads t row sound there =
     elim ((present_there.there t row.id sound).0 (ap is_some there)) [
       | inl is ↦
-          inl (elim c.place [
-            | inl root ↦
-                record { steps = depth t.nodes row.id; top = c.top; climbs = c.climbs; there = c.there; at = root.0 }
-            | inr trash ↦ absurd (false≢true (sym (present_there.apart t row.id sound (trashed_by t row there c trash)) ∙ is))
-          ], is)
+          inl (
+            elim c.place [
+              | inl root ↦
+                  record { steps = depth t.nodes row.id; top = c.top; climbs = c.climbs; there = c.there; at = root.0 }
+              | inr trash ↦ absurd (false≢true (sym (present_there.apart t row.id sound (trashed_by t row there c trash)) ∙ is))
+            ],
+            is,
+          )
       | inr is ↦ inr (trash_leads t.nodes row.id is, present_there.apart t row.id sound is)
     ]
   where

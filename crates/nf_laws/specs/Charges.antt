@@ -43,7 +43,7 @@ ChargesLeaveOutTrash = (t : Tables) (user : ℕ) → charge_of t user + bytes_tr
 abbrev pub ChargesAreFew : Type 0
 ChargesAreFew = (t : Tables) (user : ℕ) → AreSound t → charge_of t user ≤ last_number
 
--- a user's charge is the size of the user's root: all that is present of the user's is under it, and nothing else
+-- so a user's charge is the size of the user's root
 abbrev pub ChargeIsSizeOfRoot : Type 0
 ChargeIsSizeOfRoot =
     (t : Tables) (user : ℕ) (row : UserRow) → AreSound t → user_row t.users user ≡ Some row → charge_of t user ≡ size_of t.nodes row.root

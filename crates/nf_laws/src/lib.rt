@@ -22,7 +22,8 @@ pub use acts::{
     crosses_move, cut_bodies_keep, deletes_keep, folders_are_made, mounts_are_renamed, puts_keep,
 };
 pub use charges::{
-    charge_is_size_of_root, charges_leave_out_trash, quota_exactly, quotas_are_kept, writes_are_charged,
+    charge_is_size_of_root, charges_leave_out_trash, quota_exactly, quotas_are_kept,
+    writes_are_charged,
 };
 pub use history::{counters_rise, numbers_are_new, stays_sound};
 pub use listings::{
