@@ -375,7 +375,14 @@ copied_sound t now rows replaced sound later copies =
 
 -- ---- what goes to another owner
 
--- the source is there with the copies, as it was
+-- the source hasn't to go with what is replaced
+crossed_left : (t : Tables) (now : ℕ) (rows : List NodeRow) (replaced : Option ℕ) (node : ℕ) → KnownCross t now rows replaced node
+    → is_replaced t.nodes replaced node ≡ false
+crossed_left t now rows replaced node cross =
+    subst (λ (n : ℕ). is_replaced t.nodes replaced n ≡ false) (sym cross.node_is)
+    (subst (λ (o : Option ℕ). is_replaced t.nodes o cross.copies.transfer.node ≡ false) (sym cross.copies.replaced_is) cross.copies.known.apart)
+
+-- it is there with the copies, as it was
 pub crossed_row : (t : Tables) (now : ℕ) (rows : List NodeRow) (replaced : Option ℕ) (node : ℕ) → AreSound t → KnownCross t now rows replaced node
     → node_row (joined t rows replaced).nodes node ≡ node_row t.nodes node
 crossed_row t now rows replaced node sound cross =
@@ -384,9 +391,7 @@ crossed_row t now rows replaced node sound cross =
     let source = row_is t transfer.node copies.known.source.0 sound copies.known.source.1 in
     let given : node < t.meta.next_node = omega (arith, cross.node_is, source.0, source.1.given) in
     old_joined t now transfer copies.name rows (mirrored t now rows replaced sound copies) (cleared t.nodes replaced) node given
-    ∙ row_cleared t.nodes replaced node
-    (subst (λ (n : ℕ). is_replaced t.nodes replaced n ≡ false) (sym cross.node_is)
-    (subst (λ (o : Option ℕ). is_replaced t.nodes o transfer.node ≡ false) (sym copies.replaced_is) copies.known.apart))
+    ∙ row_cleared t.nodes replaced node (crossed_left t now rows replaced node cross)
 
 pub crossed_no_root : (t : Tables) (now : ℕ) (rows : List NodeRow) (replaced : Option ℕ) (node : ℕ) → AreSound t → KnownCross t now rows replaced node
     → is_root (joined t rows replaced).nodes node ≡ false
@@ -398,11 +403,9 @@ crossed_no_root t now rows replaced node sound cross =
 crossed_present : (t : Tables) (now : ℕ) (rows : List NodeRow) (replaced : Option ℕ) (node : ℕ) → AreSound t → KnownCross t now rows replaced node
     → LeadsToRoot (joined t rows replaced).nodes node
 crossed_present t now rows replaced node sound cross =
-    let known = cross.copies.known in
-    let stays = subst (λ (n : ℕ). is_replaced t.nodes replaced n ≡ false) (sym cross.node_is)
-    (subst (λ (o : Option ℕ). is_replaced t.nodes o cross.copies.transfer.node ≡ false) (sym cross.copies.replaced_is) known.apart) in
     kept_leads (cleared t.nodes replaced) (joined t rows replaced).nodes node (kept_joined (cleared t.nodes replaced) rows)
-    (cleared_leads t replaced node sound stays (subst (LeadsToRoot t.nodes) (sym cross.node_is) known.present))
+    (cleared_leads t replaced node sound (crossed_left t now rows replaced node cross)
+    (subst (LeadsToRoot t.nodes) (sym cross.node_is) cross.copies.known.present))
 
 pub crossed_sound : (t : Tables) (now : ℕ) (rows : List NodeRow) (replaced : Option ℕ) (node : ℕ)
     → AreSound t → t.meta.last ≤ now → KnownCross t now rows replaced node → AreSound (stamp (removed (joined t rows replaced) node) now)

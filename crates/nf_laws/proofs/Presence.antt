@@ -1,5 +1,5 @@
 -- A node is there exactly where it is present, which is to be a root or under one, or in the trash. What shares and paths lead to is present.
-use Rattle.std.proofs.Common.{ℕ, zero, suc, ⊎_elim, ◌==◌, ◌≡◌, ◌≤◌, ◌⊎◌, ◌↔◌, true, Option, None, Some, List, get_or, refl, sym, ap, subst, ◌∙◌, arith}
+use Rattle.std.proofs.Common.{ℕ, zero, suc, ⊎_elim, ◌==◌, ◌≡◌, ◌≤◌, ◌⊎◌, ◌↔◌, true, Some, List, get_or, sym, ap, subst, arith}
 use Rattle.std.specs.Prelude.{is_some}
 use Rattle.std.specs.Cmp.{both_ways}
 use Rattle.std.proofs.lemmas.Bool.{eqb-true, false_from_ne_true, or_cases, or_left, or_right}

@@ -1,27 +1,26 @@
 -- Climbs in sound tables: none from a node that is there takes more than `MAX_DEPTH` steps, and a folder is one less deep than what is in it.
 -- So the words about the tree are as the plain ones.
 use Rattle.std.proofs.Common.{ℕ, suc, zero, ◌+◌, ◌≡◌, ◌≢◌, ◌≤◌, true, false, List, Option, None, Some, refl, ap, subst, ◌∙◌, sym, ◌⊎◌, inl, inr, arith, ◌==◌, Bool, [], ◌∷◌, get_or}
-use Rattle.std.specs.Option.{option_and_then, option_map_or}
+use Rattle.std.specs.Option.{option_map_or}
 use Rattle.std.specs.List.{All, list_any}
 use Rattle.std.specs.Prelude.{bytes_eq, is_some, IsSome}
-use Rattle.std.proofs.lemmas.Bool.{both_ways, false_from_ne_true, false≢true}
+use Rattle.std.proofs.lemmas.Bool.{both_ways, false_from_ne_true}
 use Rattle.std.proofs.lemmas.Option.{none-some, option_and_then_some, same_Some}
 use Rattle.std.proofs.lemmas.List.Recursion.{max_bounds}
 use Rattle.std.proofs.lemmas.List.Folds.{list_any_at}
 use Rattle.nf_base.specs.declared.limits.TheConstants.{MAX_DEPTH}
-use Rattle.nf_base.specs.declared.rows.ItemRow.{ItemRow}
 use Rattle.nf_base.specs.declared.rows.NodeRow.{NodeRow}
 use Rattle.nf_base.specs.declared.rows.Place.{Place}
 use Rattle.nf_base.specs.declared.rows.Place.TheVariants.{Inside, Root, Trash}
 use Rattle.nf_base.specs.FreeNames.{is_taken}
 use Rattle.nf_base.specs.declared.rows.UserRow.{UserRow}
 use Rattle.nf_defs.proofs.Climbs.{climb_under, under_climb}
-use Rattle.nf_defs.specs.Prelude.{child_of, climb, depth, folder_of, is_in, is_root, is_root_place, is_under, item_row, node_row, parent_of, Tables, taken_names, user_row}
+use Rattle.nf_defs.specs.Prelude.{child_of, climb, depth, folder_of, is_in, is_under, node_row, parent_of, Tables, taken_names, user_row}
 use Rattle.nf_laws.proofs.Climbs.{climbs_no_further, depth_is, node_row_each, some_there}
 use Rattle.nf_laws.proofs.Paths.{IsOf, climb_own}
 use Rattle.nf_laws.proofs.Rows.{IsRooted, found_is, none_over, parent_there, row_is}
 use Rattle.nf_laws.specs.Tree.{ClimbsByDepth, DepthIsClimbed, IsTrashed, NamesAreTaken, NoRings, NodesArePresent, Under, UnderIsDerived, inside, itself}
-use Rattle.nf_words.specs.Prelude.{AreSound, deepest, HasNoLater, IsPlaceSound, IsTop, root_of_user}
+use Rattle.nf_words.specs.Prelude.{AreSound, deepest, IsPlaceSound, IsTop, root_of_user}
 
 -- ---- climbs
 
