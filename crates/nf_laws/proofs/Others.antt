@@ -1,4 +1,4 @@
--- What rows of shares and mounts keep where the nodes are others, and where shares end.
+-- What rows of shares and mounts keep where the nodes are others, and where shares end; and items of the trash.
 use Rattle.std.proofs.Common.{ℕ, ◌==◌, ◌&&◌, ◌≡◌, ◌≢◌, ◌<◌, ◌≤◌, Bool, true, false, not, List, [], ◌∷◌, ◌++◌, Option, None, Some, bytes_eq, get_or, if◌then◌else◌, length, map, option_map, refl, sym, ap, subst, ◌∙◌, arith, le_refl}
 use Rattle.std.specs.Prelude.{is_some}
 use Rattle.std.specs.List.{All, AllPairs, list_any}
