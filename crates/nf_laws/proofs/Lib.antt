@@ -39,6 +39,7 @@ pub mod Peopled
 pub mod Owned
 pub mod Paths
 pub mod Presence
+pub mod Present
 pub mod Providing
 pub mod Puts
 pub mod Quotas
