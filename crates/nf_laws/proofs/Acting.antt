@@ -480,4 +480,4 @@ puts_keep s seat now by key digest size sound granted ok =
     let known = known_change s seat now event act sound may (goes ∙ none) in
     let there = subst (λ (o : Option Goal). IfSome o (IsStorable t)) granted (goal_held s seat sound) in
     subst (λ (made : Tables). IsPut t made now key (content_in (blob_for t.meta.next_blob size) digest size))
-    (sym (step_changed s seat now event act (goes ∙ none))) (put_rows t now key digest size sound.rows there known)
+    (sym (step_changed s seat now event act (goes ∙ none))) (put_rows t now key digest size sound.rows there.0 known)

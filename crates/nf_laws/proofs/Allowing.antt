@@ -649,7 +649,7 @@ goal_allowed s e (Body digest size) (Store by key wanted) act sound at held is k
     let h = not_refused (end_refusal (access_of s) t now by key size) stores act is in
     let passes = end_passes (access_of s) t now by key size h.0 in
     let content = content_in (blob_for t.meta.next_blob size) digest size in
-    let put = put_rows t now key digest size sound.rows held (subst (λ (a : Allowed). Known t now a) (sym h.1) known) in
+    let put = put_rows t now key digest size sound.rows held.0 (subst (λ (a : Allowed). Known t now a) (sym h.1) known) in
     let needs : needs_of s e.seat now (End outcome_of) ≡ needed_by by key = ap (λ (o : Option Goal). option_map_or needs_of_goal o []) at in
     allowed_so s e (End outcome_of) by.seeker nothing (changed t now act) (ap (option_and_then seeker_of_goal) at)
     (subst (All (MayDo s now by.seeker)) (sym needs) (needs_pass (access_of s) (ground_of t) by.seeker now (needed_by by key) passes.allowed))

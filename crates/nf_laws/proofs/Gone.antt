@@ -1,37 +1,35 @@
 -- The tables without what is removed are sound.
-use Rattle.std.proofs.Common.{inl, inr, ℕ, zero, suc, ◌==◌, ◌≡◌, ◌<◌, ◌≤◌, Bool, true, false, not, List, Option, None, Some, length, refl, sym, ap, subst, ◌∙◌, arith, le_refl}
+use Rattle.std.proofs.Common.{inl, inr, ℕ, suc, ◌==◌, ◌≡◌, ◌<◌, ◌≤◌, Bool, true, false, not, List, Option, None, Some, length, refl, sym, ap, subst, ◌∙◌, arith, le_refl}
 use Rattle.std.specs.List.{All}
-use Rattle.std.specs.Option.{option_map_or}
+use Rattle.std.specs.Option.{IfSome, option_map_or}
 use Rattle.std.proofs.lemmas.Bool.{both_ways, cases_Bool, false_from_ne_true, false≢true, ne_eqb, not-true, not_from_false}
 use Rattle.std.proofs.lemmas.List.Elements.{All-filter, All-weaker, filter_passes}
 use Rattle.std.proofs.lemmas.List.Filters.{length-filter_both, sum_by-filter_both}
 use Rattle.std.proofs.lemmas.List.Kept.{AllPairs-filter}
-use Rattle.std.proofs.lemmas.Option.{none-some, option_and_then_some, same_Some}
+use Rattle.std.proofs.lemmas.Option.{none-some, same_Some}
 use Rattle.nf_base.specs.declared.rows.NodeRow.{NodeRow}
 use Rattle.nf_base.specs.declared.rows.Place.{Place}
 use Rattle.nf_base.specs.declared.rows.Place.TheVariants.{Inside, Root, Trash}
 use Rattle.nf_base.specs.declared.rows.UserRow.{UserRow}
 use Rattle.nf_defs.proofs.Climbs.{climb_under, under_climb}
 use Rattle.nf_defs.specs.Prelude.{child_of, climb, folder_of, is_root, is_root_place, is_under, node_row, parent_of, piece_count, Tables}
-use Rattle.nf_laws.proofs.Climbs.{climb_those, climbs_no_further, node_row_each, parent_at, row_of_those, those}
+use Rattle.nf_laws.proofs.Climbs.{climb_passes, climb_those, climbs_no_further, IsClosed, node_row_each, parent_at, row_of_those, those}
 use Rattle.nf_laws.proofs.Others.{others_ended, without}
 use Rattle.nf_laws.proofs.Paths.{child_is, child_there}
+use Rattle.nf_laws.proofs.Present.{those_leads, trash_outside}
 use Rattle.nf_laws.proofs.Rows.{finds_none, kept_row, node_still, root_still}
-use Rattle.nf_laws.proofs.Upwards.{inside_no_root, never_climbs, no_rings}
+use Rattle.nf_laws.proofs.Upwards.{never_climbs, no_rings}
 use Rattle.nf_laws.specs.Transfers.{is_replaced}
 use Rattle.nf_words.proofs.Found.{child_parent}
 use Rattle.nf_words.proofs.Known.{KnownTransfer}
-use Rattle.nf_words.specs.Prelude.{AreApart, AreSound, cleared, ended_for, HasRoot, IsNodeSound, IsPlaceSound, removed}
+use Rattle.nf_words.proofs.Ways.{inside_no_root, inside_present}
+use Rattle.nf_words.specs.Prelude.{AreApart, AreSound, cleared, ended_for, HasRoot, IsNodeSound, IsPlaceSound, LeadsToRoot, removed}
 use Rattle.nf_words.specs.declared.request.Transfer.{Transfer}
 
 -- ---- the tables without the nodes that go
 
 abbrev pub stays : (ℕ → Bool) → ℕ → Bool
 stays gone node = not (gone node)
-
--- the folder of what passes passes
-abbrev pub IsClosed : List NodeRow → (ℕ → Bool) → Type 0
-IsClosed rows test = (node parent : ℕ) → parent_of rows node ≡ Some parent → test node ≡ true → test parent ≡ true
 
 -- what passes has its place, its climb and its root as before
 place_left : (t : Tables) (gone : ℕ → Bool) (row : NodeRow) → IsClosed t.nodes (stays gone) → node_row t.nodes row.id ≡ Some row → stays gone row.id ≡ true
@@ -42,14 +40,6 @@ place_left t gone row closed there passes (Inside folder) is h =
     let e = row_of_those (stays gone) t.nodes folder (closed row.id folder above passes) in
     (rw e h.0, rw e h.1)
 place_left t gone row closed there passes Trash is h = h
-
--- what passes climbs to what passes
-climb_passes : (test : ℕ → Bool) (rows : List NodeRow) → IsClosed rows test → (k node top : ℕ) → climb rows k node ≡ Some top
-    → test node ≡ true → test top ≡ true
-climb_passes test rows closed zero node top is passes = subst (λ (n : ℕ). test n ≡ true) (same_Some node top is) passes
-climb_passes test rows closed (suc k) node top is passes =
-    option_and_then_some (climb rows k) (parent_of rows node) top is (λ parent above is.
-    climb_passes test rows closed k parent top is (closed node parent above passes))
 
 node_left : (t : Tables) (gone : ℕ → Bool) (row : NodeRow) → IsClosed t.nodes (stays gone) → node_row t.nodes row.id ≡ Some row → stays gone row.id ≡ true
     → IsNodeSound t row → IsNodeSound (without t gone) row
@@ -74,8 +64,9 @@ root_stays t gone user passes root =
     (kept_row (those (stays gone) t.nodes) user.root root.row (row_of_those (stays gone) t.nodes user.root passes ∙ root.there))
 
 pub those_sound : (t : Tables) (gone : ℕ → Bool) → AreSound t → IsClosed t.nodes (stays gone)
-    → ((user : UserRow) → HasRoot t user → stays gone user.root ≡ true) → AreSound (without t gone)
-those_sound t gone sound closed roots =
+    → ((user : UserRow) → HasRoot t user → stays gone user.root ≡ true)
+    → ((node : ℕ) (row : NodeRow) → node_row t.nodes node ≡ Some row → row.place ≡ Trash → stays gone node ≡ true) → AreSound (without t gone)
+those_sound t gone sound closed roots trash =
     let passes : NodeRow → Bool = λ row. stays gone row.id in
     record {
       counters = sound.counters;
@@ -96,7 +87,7 @@ those_sound t gone sound closed roots =
         sum_by-filter_both passes (λ row. not (passes row)) (λ row. refl) (λ row. length row.content) t.nodes,
       );
       later = sound.later;
-      others = others_ended t gone sound;
+      others = others_ended t gone sound closed trash;
     }
 
 -- ---- the tables without the nodes under a top
@@ -125,9 +116,21 @@ root_left t top no_root user root =
     let is : is_root t.nodes user.root ≡ true = rw root.there (ap is_root_place root.place) in
     both_ways (is_root t.nodes top) no_root (subst (λ (n : ℕ). is_root t.nodes n ≡ true) same is)))
 
-pub left_sound : (t : Tables) (top : ℕ) → AreSound t → is_root t.nodes top ≡ false → AreSound (removed t top)
-left_sound t top sound no_root =
-    those_sound t (λ node. is_under t.nodes node top) sound (folder_left t top sound) (root_left t top no_root)
+-- and so is what is in the trash, where the top is present
+trash_left : (rows : List NodeRow) (top : ℕ) → LeadsToRoot rows top → (node : ℕ) (row : NodeRow) → node_row rows node ≡ Some row
+    → row.place ≡ Trash → is_left rows top node ≡ true
+trash_left rows top present node row there place =
+    not_from_false (is_under rows node top) (false_from_ne_true (is_under rows node top) (λ under.
+    let c = under_climb rows node top under in trash_outside c.0 rows node top row present there place c.2))
+
+pub left_sound : (t : Tables) (top : ℕ) → AreSound t → is_root t.nodes top ≡ false → LeadsToRoot t.nodes top → AreSound (removed t top)
+left_sound t top sound no_root present =
+    those_sound t (λ node. is_under t.nodes node top) sound (folder_left t top sound) (root_left t top no_root) (trash_left t.nodes top present)
+
+-- what is present and isn't under the top is present without it
+pub left_leads : (t : Tables) (top node : ℕ) → AreSound t → is_under t.nodes node top ≡ false → LeadsToRoot t.nodes node
+    → LeadsToRoot (removed t top).nodes node
+left_leads t top node sound outside = those_leads (is_left t.nodes top) t.nodes node (folder_left t top sound) (ap not outside)
 
 -- ---- the tables without what has to go, if anything has
 
@@ -135,9 +138,15 @@ abbrev pub cleared_all : Tables → Option ℕ → Tables
 cleared_all t replaced = record t { nodes = cleared t.nodes replaced; shares = ended_for t.nodes replaced t.shares }
 
 pub cleared_sound : (t : Tables) (replaced : Option ℕ) → AreSound t → option_map_or (is_root t.nodes) replaced false ≡ false
-    → AreSound (cleared_all t replaced)
-cleared_sound t None sound no_root = sound
-cleared_sound t (Some top) sound no_root = left_sound t top sound no_root
+    → IfSome replaced (LeadsToRoot t.nodes) → AreSound (cleared_all t replaced)
+cleared_sound t None sound no_root present = sound
+cleared_sound t (Some top) sound no_root present = left_sound t top sound no_root present
+
+-- what is present and hasn't to go is present
+pub cleared_leads : (t : Tables) (replaced : Option ℕ) (node : ℕ) → AreSound t → is_replaced t.nodes replaced node ≡ false
+    → LeadsToRoot t.nodes node → LeadsToRoot (cleared t.nodes replaced) node
+cleared_leads t None node sound stays up = up
+cleared_leads t (Some top) node sound stays up = left_leads t top node sound stays up
 
 -- a node that hasn't to go has its row as before
 pub row_cleared : (rows : List NodeRow) (replaced : Option ℕ) (node : ℕ) → is_replaced rows replaced node ≡ false
@@ -214,6 +223,13 @@ replaced_no_root t None folder name sound is = refl
 replaced_no_root t (Some top) folder name sound is =
     inside_no_root t.nodes top folder (child_parent t.nodes folder name top sound.rising is)
 
+-- where its folder is present, it is
+replaced_present : (t : Tables) (replaced : Option ℕ) (folder : ℕ) (name : List ℕ) → AreSound t → LeadsToRoot t.nodes folder
+    → child_of t.nodes folder name ≡ replaced → IfSome replaced (LeadsToRoot t.nodes)
+replaced_present t None folder name sound up is = tt
+replaced_present t (Some top) folder name sound up is =
+    inside_present t.nodes top folder (child_parent t.nodes folder name top sound.rising is) up
+
 -- and its folder hasn't to go
 pub folder_stays : (t : Tables) (replaced : Option ℕ) (folder : ℕ) (name : List ℕ) → AreSound t → child_of t.nodes folder name ≡ replaced
     → is_replaced t.nodes replaced folder ≡ false
@@ -225,3 +241,4 @@ pub clearing_sound : (t : Tables) (transfer : Transfer) (name : List ℕ) → Ar
     → AreSound (cleared_all t transfer.replaced)
 clearing_sound t transfer name sound known =
     cleared_sound t transfer.replaced sound (replaced_no_root t transfer.replaced transfer.folder name sound known.there)
+    (replaced_present t transfer.replaced transfer.folder name sound known.folder_present known.there)

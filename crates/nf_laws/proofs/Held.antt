@@ -12,18 +12,21 @@ use Rattle.nf_defs.proofs.Climbs.{climb_under}
 use Rattle.nf_defs.proofs.Walks.{inside_of}
 use Rattle.nf_defs.specs.Prelude.{child_of, filled, is_folder_kind, is_in, is_under, node_row, relinked, Tables}
 use Rattle.nf_laws.proofs.Crossed.{crossed_under}
-use Rattle.nf_laws.proofs.Copied.{copy_at}
-use Rattle.nf_laws.proofs.Gone.{all_cleared, row_cleared}
+use Rattle.nf_laws.proofs.Copied.{copied_sound, copy_at}
+use Rattle.nf_laws.proofs.Gone.{all_cleared, cleared_leads, left_leads, row_cleared}
 use Rattle.nf_laws.proofs.Lists.{nodes_have, with_filled}
 use Rattle.nf_laws.proofs.Mirrored.{mirrored}
+use Rattle.nf_laws.proofs.Moved.{transferred_leads}
 use Rattle.nf_laws.proofs.OneRow.{row_other, with_all}
-use Rattle.nf_laws.proofs.Rows.{each_fails, finds_none, folder_there, no_value, row_is, row_joined, stamped_has}
+use Rattle.nf_laws.proofs.Present.{kept_leads}
+use Rattle.nf_laws.proofs.Replaced.{kept_replaced}
+use Rattle.nf_laws.proofs.Rows.{each_fails, finds_none, folder_there, kept_joined, no_value, row_is, row_joined, stamp, stamped_has}
 use Rattle.nf_laws.specs.Locks.{IsFree, KeyStays}
 use Rattle.nf_laws.specs.Transfers.{is_replaced, IsPlacedCopy, Mirrors}
 use Rattle.nf_words.proofs.Fits.{KnownFilled}
 use Rattle.nf_words.proofs.Known.{Known, KnownCopies, KnownCross}
 use Rattle.nf_words.proofs.Spared.{Spares, SparesChange, SparesRow, SparesTarget, SparesUnder}
-use Rattle.nf_words.specs.Prelude.{altered, AreSound, changed, cleared, IsHeld, joined, node_of_key, removed, told, transferred}
+use Rattle.nf_words.specs.Prelude.{altered, AreSound, changed, cleared, IsHeld, joined, LeadsToRoot, node_of_key, removed, told, transferred}
 use Rattle.nf_words.specs.declared.answer.Allowed.{Allowed}
 use Rattle.nf_words.specs.declared.answer.Allowed.TheVariants as allowed
 use Rattle.nf_words.specs.declared.answer.Hold.{Hold}
@@ -244,3 +247,33 @@ module _ (t : Tables) (hold : Hold) (sound : AreSound t) (held : IsHeld t hold.k
   act_stays now act known spares =
       let stays = stamped_has (λ (u : Tables). Stays u.nodes) t (altered t now act) now (told t act) first (altered_stays now act known spares) in
       record { row = stays.0; free = free_of (changed t now act).nodes key stays.1 }
+
+  -- ---- what is held and present stays present
+
+  copied_leads : (now : ℕ) (rows : List NodeRow) (replaced : Option ℕ) (known : KnownCopies t now rows replaced)
+      → SparesTarget t key known.transfer known.name → LeadsToRoot t.nodes node → LeadsToRoot (joined t rows replaced).nodes node
+  copied_leads now rows replaced known target up =
+      let stays = not_replaced replaced (subst (λ (o : Option ℕ). IfSome o (SparesUnder t key)) (sym known.replaced_is) target.replaced) in
+      kept_leads (cleared t.nodes replaced) (joined t rows replaced).nodes node (kept_joined (cleared t.nodes replaced) rows)
+      (cleared_leads t replaced node sound stays up)
+
+  altered_leads : (now : ℕ) (act : Allowed) → t.meta.last ≤ now → Known t now act → Spares t now hold act → LeadsToRoot t.nodes node
+      → LeadsToRoot (altered t now act).nodes node
+  altered_leads now (allowed.Change changes blob report) later known spares up =
+      nodes_have (λ (rows : List NodeRow). LeadsToRoot rows node) (λ change. Unit {0}) t now changes blob report sound.rising known (λ k d within. tt)
+      (λ u row h it is. kept_leads u.nodes (u.nodes ++ row ∷ []) node (kept_joined u.nodes (row ∷ [])) h)
+      (λ u row h it is. kept_leads u.nodes (with_filled u row).nodes node (kept_replaced u.nodes row.changed row.id row.content) h)
+      (λ u row root h it. kept_leads u.nodes (u.nodes ++ root ∷ []) node (kept_joined u.nodes (root ∷ [])) h) up
+  altered_leads now (allowed.Delete top) later known spares up = left_leads t top node sound spares up
+  altered_leads now (allowed.Move transfer name) later known spares up =
+      transferred_leads t transfer name node sound known (not_replaced transfer.replaced spares.1.replaced) up
+  altered_leads now (allowed.Copy rows replaced) later known spares up = copied_leads now rows replaced spares.0 spares.1 up
+  altered_leads now (allowed.Cross rows replaced top) later known spares up =
+      left_leads (stamp (joined t rows replaced) now) top node (copied_sound t now rows replaced sound later spares.0)
+      (crossed_under t now rows replaced top sound known node ∙ spares.2) (copied_leads now rows replaced spares.0 spares.1 up)
+  altered_leads now act later known spares up = up
+
+  pub act_leads : (now : ℕ) (act : Allowed) → t.meta.last ≤ now → Known t now act → Spares t now hold act → LeadsToRoot t.nodes node
+      → LeadsToRoot (changed t now act).nodes node
+  act_leads now act later known spares up =
+      stamped_has (λ (u : Tables). LeadsToRoot u.nodes node) t (altered t now act) now (told t act) up (altered_leads now act later known spares up)

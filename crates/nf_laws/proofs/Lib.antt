@@ -23,6 +23,7 @@ pub mod Gone
 pub mod Held
 pub mod Lines
 pub mod Links
+pub mod Leading
 pub mod Leaning
 pub mod Lists
 pub mod Locking
@@ -38,6 +39,7 @@ pub mod Peopled
 pub mod Owned
 pub mod Paths
 pub mod Presence
+pub mod Present
 pub mod Providing
 pub mod Puts
 pub mod Quotas
@@ -53,6 +55,7 @@ pub mod Stays
 pub mod Stored
 pub mod Telling
 pub mod Transferred
+pub mod Trashing
 pub mod Upwards
 pub mod Walked
 pub mod Weighing

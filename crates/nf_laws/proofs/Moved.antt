@@ -15,13 +15,16 @@ use Rattle.nf_defs.proofs.Walks.{climbs_walk}
 use Rattle.nf_defs.specs.Prelude.{child_of, climb, depth, folder_of, is_folder, is_folder_kind, is_root, is_root_place, is_under, node_row, owner_of, parent_of, relinked, Tables, walk_of, with_node}
 use Rattle.nf_laws.proofs.Added.{new_apart}
 use Rattle.nf_laws.proofs.Climbs.{climb_on, climb_same, depth_is, node_row_each}
-use Rattle.nf_laws.proofs.Gone.{cleared_all, clearing_sound, climb_cleared, folder_stays, free_cleared, kept_cleared, row_cleared}
+use Rattle.nf_laws.proofs.Gone.{cleared_all, cleared_leads, clearing_sound, climb_cleared, folder_stays, free_cleared, kept_cleared, row_cleared}
 use Rattle.nf_laws.proofs.OneRow.{IsEither, each_either, length_with, pieces_with, rising_with, row_itself, row_other, value_with, with_each}
-use Rattle.nf_laws.proofs.Others.{new_off, others_still, still_with}
+use Rattle.nf_laws.proofs.Others.{IsTrashKept, new_off, others_still, still_with}
+use Rattle.nf_laws.proofs.Present.{below_present, never_trash}
 use Rattle.nf_laws.proofs.Rows.{IsRooted, folder_there, kept_row, node_still, none_higher, none_over, root_still}
 use Rattle.nf_laws.proofs.Upwards.{climb_short, climbs_depth, climbs_is_under, deepest_among, depth_climb, never_climbs, rooted}
+use Rattle.nf_laws.specs.Transfers.{is_replaced}
 use Rattle.nf_words.proofs.Known.{KnownMove}
-use Rattle.nf_words.specs.Prelude.{AreApart, AreSound, cleared, crosses, deepest, HasRoot, IsNodeSound, IsPlaceSound, IsTop, IsUnmounted, transferred}
+use Rattle.nf_words.proofs.Ways.{inside_present}
+use Rattle.nf_words.specs.Prelude.{AreApart, AreSound, cleared, crosses, deepest, HasRoot, IsNodeSound, IsPlaceSound, IsTop, IsUnmounted, LeadsToRoot, transferred}
 use Rattle.nf_words.specs.declared.request.Transfer.{Transfer}
 
 -- ---- climbs where a node is put into a folder
@@ -72,11 +75,13 @@ top_outside k rows node folder name other top apart is ends = record {
 
 -- ---- a node in another folder
 
--- the folder isn't under the node, has its owner and no child of the name, and what is under the node won't be too deep
+-- both are present; the folder isn't under the node, has its owner and no child of the name, and what is under the node won't be too deep
 record Fits (u : Tables) (node folder : ℕ) (name : List ℕ) (old : NodeRow) : Type 0 where
   there : node_row u.nodes node ≡ Some old
   no_root : is_root u.nodes node ≡ false
+  present : LeadsToRoot u.nodes node
   in_folder : is_folder u.nodes folder ≡ true
+  folder_present : LeadsToRoot u.nodes folder
   owner : owner_of u.nodes folder ≡ old.owner
   free : child_of u.nodes folder name ≡ None
   unmounted : IsUnmounted u folder name
@@ -119,6 +124,41 @@ rooted_moved u node folder name old row sound fits there =
             ends = top_outside r.steps u.nodes node folder name row.id r.top apart r.climbs r.ends;
           })
     ]
+
+-- what is present and doesn't climb to the node is present as before
+outside_leads : (rows : List NodeRow) (node folder : ℕ) (name : List ℕ) (other : ℕ) → ((j : ℕ) → climb rows j other ≢ Some node)
+    → LeadsToRoot rows other → LeadsToRoot (relinking rows node folder name) other
+outside_leads rows node folder name other apart up = record {
+  steps = up.steps;
+  top = up.top;
+  climbs = climb_outside up.steps rows node folder name other apart ∙ up.climbs;
+  root =
+      ap (λ (o : Option NodeRow). option_map_or (λ row. is_root_place row.place) o false)
+      (row_other rows node (relinked folder name) (λ row. refl) up.top
+      (ne_eqb up.top node (λ same. apart up.steps (up.climbs ∙ ap Some same)))) ∙ up.root;
+}
+
+-- what is under the node is present by the folder
+moved_leads : (u : Tables) (node folder : ℕ) (name : List ℕ) (old : NodeRow) → AreSound u → Fits u node folder name old
+    → (other : ℕ) → LeadsToRoot u.nodes other → LeadsToRoot (relinking u.nodes node folder name) other
+moved_leads u node folder name old sound fits other up =
+    elim (cases_Bool (is_under u.nodes other node)) [
+      | inl under ↦
+          (let c = under_climb u.nodes other node under in
+          let rows = relinking u.nodes node folder name in
+          below_present c.0 rows other node (climb_below c.0 u node folder name other sound c.2)
+          (inside_present rows node folder (parent_itself u.nodes node folder name old fits.there)
+          (outside_leads u.nodes node folder name folder (never_climbs u folder node sound fits.outside) fits.folder_present)))
+      | inr outside ↦ outside_leads u.nodes node folder name other (never_climbs u other node sound outside) up
+    ]
+
+-- what is in the trash isn't the node
+trash_moved : (u : Tables) (node folder : ℕ) (name : List ℕ) (old : NodeRow) → Fits u node folder name old
+    → IsTrashKept u.nodes (relinking u.nodes node folder name)
+trash_moved u node folder name old fits other row there place =
+    kept_row (relinking u.nodes node folder name) other row
+    (row_other u.nodes node (relinked folder name) (λ row. refl) other
+    (ne_eqb other node (λ same. never_trash 0 u.nodes node other row fits.present (ap Some (sym same)) there place)) ∙ there)
 
 folder_moved : (u : Tables) (node folder : ℕ) (name : List ℕ) (row : NodeRow) (parent : ℕ)
     → (is_folder u.nodes parent ≡ true) × (owner_of u.nodes parent ≡ row.owner) → IsPlaceSound (relink u node folder name) row (Inside parent)
@@ -213,6 +253,8 @@ relinked_sound u node folder name old sound fits =
             kind = λ row. refl;
             root = λ row there. sym (no_root_row u node row fits.no_root there);
             off = λ row there off. new_off u (change row) folder sound refl fits.unmounted;
+            present = moved_leads u node folder name old sound fits;
+            trashed = trash_moved u node folder name old fits;
           }));
     }
 
@@ -268,7 +310,9 @@ move_fits t transfer name sound move =
       record {
         there = itself ∙ own.1;
         no_root = rw itself known.no_root;
+        present = cleared_leads t transfer.replaced node sound known.apart known.present;
         in_folder = rw at known.in_folder;
+        folder_present = cleared_leads t transfer.replaced folder sound stays known.folder_present;
         owner = rw at (same_owner t.nodes transfer own.0 move.within own.1);
         free = free_cleared t transfer.replaced folder name sound known.there;
         unmounted = unmounted_cleared t transfer.replaced folder name at known.unmounted;
@@ -292,3 +336,11 @@ transferred_sound t transfer name sound move =
     let fits = move_fits t transfer name sound move in
     relinked_sound (cleared_all t transfer.replaced) transfer.node transfer.folder name fits.0
     (clearing_sound t transfer name sound move.known) fits.1
+
+-- what is present and hasn't to go is present after the move
+pub transferred_leads : (t : Tables) (transfer : Transfer) (name : List ℕ) (node : ℕ) → AreSound t → KnownMove t transfer name
+    → is_replaced t.nodes transfer.replaced node ≡ false → LeadsToRoot t.nodes node → LeadsToRoot (transferred t transfer name).nodes node
+transferred_leads t transfer name node sound move stays up =
+    let fits = move_fits t transfer name sound move in
+    moved_leads (cleared_all t transfer.replaced) transfer.node transfer.folder name fits.0 (clearing_sound t transfer name sound move.known) fits.1
+    node (cleared_leads t transfer.replaced node sound stays up)

@@ -1,4 +1,4 @@
--- What rows of shares and mounts keep where the nodes are others, and where shares end.
+-- What rows of shares and mounts keep where the nodes are others, and where shares end; and items of the trash.
 use Rattle.std.proofs.Common.{ℕ, ◌==◌, ◌&&◌, ◌≡◌, ◌≢◌, ◌<◌, ◌≤◌, Bool, true, false, not, List, [], ◌∷◌, ◌++◌, Option, None, Some, bytes_eq, get_or, if◌then◌else◌, length, map, option_map, refl, sym, ap, subst, ◌∙◌, arith, le_refl}
 use Rattle.std.specs.Prelude.{is_some}
 use Rattle.std.specs.List.{All, AllPairs, list_any}
@@ -15,26 +15,27 @@ use Rattle.nf_base.specs.declared.rows.MetaRow.{MetaRow}
 use Rattle.nf_base.specs.declared.rows.MountRow.{MountRow}
 use Rattle.nf_base.specs.declared.rows.NodeKind.{NodeKind}
 use Rattle.nf_base.specs.declared.rows.NodeRow.{NodeRow}
-use Rattle.nf_base.specs.declared.rows.Place.TheVariants.{Inside}
+use Rattle.nf_base.specs.declared.rows.Place.TheVariants.{Inside, Trash}
 use Rattle.nf_base.specs.declared.rows.ShareKind.{ShareKind}
 use Rattle.nf_base.specs.declared.rows.ShareKind.TheVariants as to
 use Rattle.nf_base.specs.declared.rows.ShareRow.{ShareRow}
 use Rattle.nf_base.specs.declared.rows.UserRow.{UserRow}
-use Rattle.nf_defs.specs.Prelude.{child_of, is_in, is_place_in, is_root, is_root_place, IsRising, key_cmp, mount_key, node_row, owner_of, share_key, Tables, user_row, with_node}
+use Rattle.nf_defs.specs.Prelude.{child_of, is_in, is_place_in, is_root, is_root_place, IsRising, item_key, key_cmp, mount_key, node_row, owner_of, share_key, Tables, user_row, with_node}
 use Rattle.nf_laws.proofs.Chained.{AreLinked, still_chained}
-use Rattle.nf_laws.proofs.Climbs.{map_some, row_of_those, some_there, those}
+use Rattle.nf_laws.proofs.Climbs.{IsClosed, map_some, row_of_those, some_there, those}
 use Rattle.nf_laws.proofs.OneRow.{KeepsId, row_with, with_each}
-use Rattle.nf_laws.proofs.Rows.{AreKept, counters_up, each_fails, finds_none, found_is, kept_joined, kept_row, no_value, node_kept, none_higher, root_kept, row_joined, stamp, with_nodes}
+use Rattle.nf_laws.proofs.Present.{kept_leads, those_leads}
+use Rattle.nf_laws.proofs.Rows.{AreKept, counters_up, each_fails, finds_none, found_is, Kept, kept_joined, kept_row, no_value, node_kept, none_higher, root_kept, row_joined, stamp, with_nodes}
 use Rattle.nf_laws.specs.Numbers.{AreHigher}
 use Rattle.nf_words.specs.Others.{AreMountsApart, AreOthersSound, IsChunkSound, IsItemSound, IsKindSound, IsMountSound, IsShareSound, IsUploadSound, IsVersionSound}
-use Rattle.nf_words.specs.Prelude.{AreSound, ended_row, HasNoLater, HasRoot, IsBorn, IsNodeSound, IsUnmounted}
+use Rattle.nf_words.specs.Prelude.{AreSound, ended_row, HasNoLater, HasRoot, IsBorn, IsNodeSound, IsUnmounted, LeadsToRoot}
 
 -- ---- what there is none of keeps its rules
 
 pub others_from : (t : Tables) → HasNoLater t → All (IsShareSound t) t.shares → IsRising share_key t.shares → length t.shares ≤ MAX_SHARES
     → All (IsMountSound t) t.mounts → IsRising mount_key t.mounts → AllPairs AreMountsApart t.mounts → length t.mounts ≤ MAX_MOUNTS
-    → AreOthersSound t
-others_from t (versions, (items, (uploads, (chunks, end)))) shares shares_rise few_shares mounts mounts_rise mounts_apart few_mounts = record {
+    → All (IsItemSound t) t.items → IsRising item_key t.items → AreOthersSound t
+others_from t (versions, (uploads, (chunks, end))) shares shares_rise few_shares mounts mounts_rise mounts_apart few_mounts items items_rise = record {
   shares = shares;
   shares_rise = shares_rise;
   few_shares = few_shares;
@@ -43,10 +44,34 @@ others_from t (versions, (items, (uploads, (chunks, end)))) shares shares_rise f
   mounts_apart = mounts_apart;
   few_mounts = few_mounts;
   versions = subst (All (IsVersionSound t)) (sym versions) (All-nil (IsVersionSound t));
-  items = subst (All (IsItemSound t)) (sym items) (All-nil (IsItemSound t));
+  items = items;
+  items_rise = items_rise;
   uploads = subst (All (IsUploadSound t)) (sym uploads) (All-nil (IsUploadSound t));
   chunks = subst (All (IsChunkSound t)) (sym chunks) (All-nil (IsChunkSound t));
 }
+
+-- ---- the trash
+
+-- what is in the trash and in no folder keeps its owner, place, name and kind
+abbrev pub IsTrashKept : List NodeRow → List NodeRow → Type 0
+IsTrashKept rows others = (node : ℕ) (old : NodeRow) → node_row rows node ≡ Some old → old.place ≡ Trash → Kept others node old
+
+pub trash_kept : (rows others : List NodeRow) → AreKept rows others → IsTrashKept rows others
+trash_kept rows others kept node old there place = kept node old there
+
+-- so the items of the trash stay sound
+pub items_still : (t made : Tables) → t.meta.last ≤ made.meta.last → IsTrashKept t.nodes made.nodes → All (IsItemSound t) t.items
+    → All (IsItemSound made) t.items
+items_still t made later kept =
+    All-weaker (IsItemSound t) (IsItemSound made) (λ item is.
+    let k = kept item.node is.of is.there is.place in
+    record {
+      at = omega (arith, is.at, later);
+      of = k.row;
+      there = k.there;
+      owner = k.owner ∙ is.owner;
+      place = k.place ∙ is.place;
+    }) t.items
 
 -- ---- names of mounts
 
@@ -141,7 +166,7 @@ kind_still t made users groups (to.Link token) is = tt
 
 share_still : (t : Tables) (meta : MetaRow) (nodes : List NodeRow) (share : ShareRow) → t.meta.next_share ≤ meta.next_share
     → t.meta.next_node ≤ meta.next_node → t.meta.last ≤ meta.last → WasThere t.nodes nodes share.node
-    → (share.ended ≡ false → is_some (node_row nodes share.node) ≡ true) → IsShareSound t share → IsShareSound (with_nodes t meta nodes) share
+    → (share.ended ≡ false → LeadsToRoot nodes share.node) → IsShareSound t share → IsShareSound (with_nodes t meta nodes) share
 share_still t meta nodes share up_shares up_nodes later was still is = record {
   some = is.some;
   given = omega (arith, is.given, up_shares);
@@ -167,8 +192,9 @@ share_still t meta nodes share up_shares up_nodes later was still is = record {
 pub record Still (t : Tables) (nodes : List NodeRow) : Type 0 where
   pub of_shares : OfShares t (WasThere t.nodes nodes)
   pub of_mounts : OfMounts t (WasThere t.nodes nodes)
-  pub present : All (λ (share : ShareRow). share.ended ≡ false → is_some (node_row nodes share.node) ≡ true) t.shares
+  pub present : All (λ (share : ShareRow). share.ended ≡ false → LeadsToRoot nodes share.node) t.shares
   pub off : All (IsOff t) nodes
+  pub trashed : IsTrashKept t.nodes nodes
 
 mounts_still : (t made : Tables) → made.users ≡ t.users → t.meta.next_node ≤ made.meta.next_node → AreSound t
     → OfMounts t (WasThere t.nodes made.nodes) → All (IsOff t) made.nodes → All (IsMountSound made) t.mounts
@@ -192,7 +218,7 @@ others_still t meta nodes sound up later still =
     (λ k d within. share_still t meta nodes (get_or t.shares k d) up.shares up.nodes later (still.of_shares k d within) (still.present k d within)
     (sound.others.shares k d within))
     sound.others.shares_rise sound.others.few_shares (mounts_still t made refl up.nodes sound still.of_mounts still.off) sound.others.mounts_rise
-    sound.others.mounts_apart sound.others.few_mounts
+    sound.others.mounts_apart sound.others.few_mounts (items_still t made later still.trashed sound.others.items) sound.others.items_rise
 
 -- nodes that are as they were are still so
 pub still_same : (t : Tables) → AreSound t → Still t t.nodes
@@ -201,15 +227,14 @@ still_same t sound = record {
   of_mounts = λ k d within row there. was_same t.nodes _ row there;
   present = λ k d within. (sound.others.shares k d within).present;
   off = all_off t sound;
+  trashed = trash_kept t.nodes t.nodes (kept_row t.nodes);
 }
 
--- what is kept is there
+-- what is kept is present
 pub kept_present : (t : Tables) (nodes : List NodeRow) → AreSound t → AreKept t.nodes nodes
-    → All (λ (share : ShareRow). share.ended ≡ false → is_some (node_row nodes share.node) ≡ true) t.shares
+    → All (λ (share : ShareRow). share.ended ≡ false → LeadsToRoot nodes share.node) t.shares
 kept_present t nodes sound kept k d within unended =
-    let share = get_or t.shares k d in
-    let was = some_there (node_row t.nodes share.node) ((sound.others.shares k d within).present unended) in
-    ap is_some (kept share.node was.0 was.1).there
+    kept_leads t.nodes nodes (get_or t.shares k d).node kept ((sound.others.shares k d within).present unended)
 
 -- with a node more
 pub still_more : (t : Tables) (row : NodeRow) → AreSound t → IsBorn t row → Still t (t.nodes ++ row ∷ [])
@@ -218,6 +243,7 @@ still_more t row sound born = record {
   of_mounts = λ k d within. was (get_or t.mounts k d).node (born.unused k d within);
   present = kept_present t (t.nodes ++ row ∷ []) sound (kept_joined t.nodes (row ∷ []));
   off = All-push (IsOff t) t.nodes row (all_off t sound) (new_off t row born.folder sound born.place born.unmounted);
+  trashed = trash_kept t.nodes (t.nodes ++ row ∷ []) (kept_joined t.nodes (row ∷ []));
 }
   where
     was : (node : ℕ) → node < row.id → WasThere t.nodes (t.nodes ++ row ∷ []) node
@@ -226,32 +252,26 @@ still_more t row sound born = record {
         (sym (row_joined t.nodes (row ∷ []) node (All-cons (λ (r : NodeRow). r.id ≢ node) row [] (λ same. absurd (omega (arith, less, same)))
         (All-nil (λ (r : NodeRow). r.id ≢ node)))) ∙ there)
 
--- with another row of a node, which is of the same owner and kind, a root or none as before, and no child of a mount's name
+-- with another row of a node, which is of the same owner and kind, a root or none as before, and no child of a mount's name; what was present
+-- is so, and what is in the trash stays there
 pub record IsSeenSo (t : Tables) (node : ℕ) (change : NodeRow → NodeRow) : Type 0 where
   pub id : KeepsId change
   pub owner : (row : NodeRow) → (change row).owner ≡ row.owner
   pub kind : (row : NodeRow) → (change row).kind ≡ row.kind
   pub root : (row : NodeRow) → node_row t.nodes node ≡ Some row → is_root_place (change row).place ≡ is_root_place row.place
   pub off : (row : NodeRow) → node_row t.nodes node ≡ Some row → IsOff t row → IsOff t (change row)
+  pub present : (n : ℕ) → LeadsToRoot t.nodes n → LeadsToRoot (with_node t.nodes node change) n
+  pub trashed : IsTrashKept t.nodes (with_node t.nodes node change)
 
 pub still_with : (t : Tables) (node : ℕ) (change : NodeRow → NodeRow) → AreSound t → IsSeenSo t node change → Still t (with_node t.nodes node change)
 still_with t node change sound seen = record {
   of_shares = λ k d within. was (get_or t.shares k d).node;
   of_mounts = λ k d within. was (get_or t.mounts k d).node;
-  present = λ k d within unended.
-      let n = (get_or t.shares k d).node in
-      ap is_some (row_with t.nodes node change seen.id n) ∙ same_some n (n == node) ∙ (sound.others.shares k d within).present unended;
+  present = λ k d within unended. seen.present (get_or t.shares k d).node ((sound.others.shares k d within).present unended);
   off = with_each (IsOff t) (IsOff t) t.nodes node change (λ row off. off) (λ row there off. seen.off row there off) (all_off t sound);
+  trashed = seen.trashed;
 }
   where
-    mapped : (o : Option NodeRow) → is_some (option_map change o) ≡ is_some o
-    mapped None = refl
-    mapped (Some row) = refl
-
-    same_some : (n : ℕ) (b : Bool) → is_some (if b then option_map change (node_row t.nodes n) else node_row t.nodes n) ≡ is_some (node_row t.nodes n)
-    same_some n true = mapped (node_row t.nodes n)
-    same_some n false = refl
-
     was : (n : ℕ) → WasThere t.nodes (with_node t.nodes node change) n
     was n row there = here (n == node) refl (sym (row_with t.nodes node change seen.id n) ∙ there)
       where
@@ -320,8 +340,9 @@ those_were test rows node row is =
     let passes = subst (λ (n : ℕ). test n ≡ true) (eqb-true row.id node found.0) found.1 in
     (passes, sym (row_of_those test rows node passes) ∙ is)
 
-share_ended : (t : Tables) (gone : ℕ → Bool) (share : ShareRow) → IsShareSound t share → IsShareSound (without t gone) (unless_gone gone share)
-share_ended t gone share is = here (gone share.node) refl
+share_ended : (t : Tables) (gone : ℕ → Bool) (share : ShareRow) → IsClosed t.nodes (λ node. not (gone node)) → IsShareSound t share
+    → IsShareSound (without t gone) (unless_gone gone share)
+share_ended t gone share closed is = here (gone share.node) refl
   where
     made : Tables
     made = without t gone
@@ -357,31 +378,40 @@ share_ended t gone share is = here (gone share.node) refl
       kind = kind_still t made refl refl share.kind is.kind;
       chained = chained share refl;
       parent = is.parent;
-      present = λ unended. ap is_some (row_of_those test t.nodes share.node (ap not stays)) ∙ is.present unended;
+      present = λ unended. those_leads test t.nodes share.node closed (ap not stays) (is.present unended);
       of_node = λ of there. let o = is.of_node of (those_were test t.nodes share.node of there).1 in record { owner = o.owner; no_root = o.no_root; perms = o.perms };
     }
 
-pub others_ended : (t : Tables) (gone : ℕ → Bool) → AreSound t → AreOthersSound (without t gone)
-others_ended t gone sound =
+-- they rise as before
+pub ended_rising : (t : Tables) (gone : ℕ → Bool) → IsRising share_key t.shares → IsRising share_key (map (unless_gone gone) t.shares)
+ended_rising t gone rise i j d before within =
+    let few : j < length t.shares = omega (arith, length-map t.shares (unless_gone gone)) in
+    let a = get_or-map (unless_gone gone) t.shares i d d (omega (arith, before, few)) in
+    let b = get_or-map (unless_gone gone) t.shares j d d few in
+    ap (λ (row : ShareRow). key_cmp (share_key row) (share_key (get_or (map (unless_gone gone) t.shares) j d))) a
+    ∙ ap (λ (row : ShareRow). key_cmp (share_key (unless_gone gone (get_or t.shares i d))) (share_key row)) b
+    ∙ ap (λ (k : List ℕ). key_cmp k (share_key (unless_gone gone (get_or t.shares j d)))) (same_field gone share_key (λ s. refl) (get_or t.shares i d))
+    ∙ ap (key_cmp (share_key (get_or t.shares i d))) (same_field gone share_key (λ s. refl) (get_or t.shares j d))
+    ∙ rise i j d before few
+
+-- where the folder of what stays stays, and so does what is in the trash
+pub others_ended : (t : Tables) (gone : ℕ → Bool) → AreSound t → IsClosed t.nodes (λ node. not (gone node))
+    → ((node : ℕ) (row : NodeRow) → node_row t.nodes node ≡ Some row → row.place ≡ Trash → not (gone node) ≡ true) → AreOthersSound (without t gone)
+others_ended t gone sound closed trash =
     let made = without t gone in
     let test : ℕ → Bool = λ node. not (gone node) in
     others_from made sound.later
     (All-map (IsShareSound made) (unless_gone gone) t.shares
-    (λ k d within. share_ended t gone (get_or t.shares k d) (sound.others.shares k d within)))
-    (λ i j d before within.
-    let few : j < length t.shares = omega (arith, length-map t.shares (unless_gone gone)) in
-    let a = get_or-map (unless_gone gone) t.shares i d d (omega (arith, before, few)) in
-    let b = get_or-map (unless_gone gone) t.shares j d d few in
-    ap (λ (row : ShareRow). key_cmp (share_key row) (share_key (get_or made.shares j d))) a
-    ∙ ap (λ (row : ShareRow). key_cmp (share_key (unless_gone gone (get_or t.shares i d))) (share_key row)) b
-    ∙ ap (λ (k : List ℕ). key_cmp k (share_key (unless_gone gone (get_or t.shares j d)))) (same_field gone share_key (λ s. refl) (get_or t.shares i d))
-    ∙ ap (key_cmp (share_key (get_or t.shares i d))) (same_field gone share_key (λ s. refl) (get_or t.shares j d))
-    ∙ sound.others.shares_rise i j d before few)
+    (λ k d within. share_ended t gone (get_or t.shares k d) closed (sound.others.shares k d within)))
+    (ended_rising t gone sound.others.shares_rise)
     (omega (arith, length-map t.shares (unless_gone gone), sound.others.few_shares))
     (mounts_still t made refl (le_refl _) sound
     (λ k d within row there. was_same t.nodes _ row (those_were test t.nodes _ row there).1)
     (All-filter (λ (row : NodeRow). test row.id) (IsOff t) t.nodes (all_off t sound)))
     sound.others.mounts_rise sound.others.mounts_apart sound.others.few_mounts
+    (items_still t made (le_refl _) (λ node old there place.
+    kept_row made.nodes node old (row_of_those test t.nodes node (trash node old there place) ∙ there)) sound.others.items)
+    sound.others.items_rise
 
 -- ---- counters and moments
 

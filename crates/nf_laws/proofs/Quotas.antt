@@ -13,14 +13,14 @@ use Rattle.nf_base.specs.declared.rows.NodeRow.{NodeRow}
 use Rattle.nf_base.specs.declared.rows.Row.TheVariants as rows
 use Rattle.nf_defs.specs.Prelude.{Access, filled, node_row, owner_of, relinked, Tables, with_node}
 use Rattle.nf_laws.proofs.Affording.{Affords, call_affords}
-use Rattle.nf_laws.proofs.Charging.{alike, charge_owned}
+use Rattle.nf_laws.proofs.Charging.{alike, charge_beside}
 use Rattle.nf_laws.proofs.Entries.{entry_has}
 use Rattle.nf_laws.proofs.Lists.{nodes_have}
 use Rattle.nf_laws.proofs.Rows.{stamped_has}
-use Rattle.nf_laws.proofs.Stays.{sound_after}
 use Rattle.nf_laws.proofs.Stored.{Comes, stored_comes}
+use Rattle.nf_laws.proofs.Trashing.{trash_after}
 use Rattle.nf_laws.proofs.Weighing.{cleared_fewer, cleared_owned, copies_owned, row_owned, without_fewer}
-use Rattle.nf_laws.specs.Charges.{bytes_at, bytes_owned, owned_bytes, QuotasAreKept}
+use Rattle.nf_laws.specs.Charges.{bytes_at, bytes_owned, bytes_trashed, owned_bytes, QuotasAreKept}
 use Rattle.nf_words.proofs.Bodies.{IsOfBody}
 use Rattle.nf_words.proofs.Ends.{goal_held, known_change}
 use Rattle.nf_words.proofs.Fits.{KnownChange}
@@ -44,17 +44,18 @@ use Rattle.nf_words.specs.declared.history.Outcome.{Outcome}
 use Rattle.nf_words.specs.declared.history.Outcome.TheVariants.{Body}
 use Rattle.nf_words.specs.declared.request.Transfer.{Transfer}
 
--- what is the user's is no more than before, or within the quota
+-- what is the user's is no more than before, or within the quota beside what was in the trash
 abbrev Keeps : Tables → ℕ → Tables → Type 0
-Keeps t user made = (bytes_owned made.nodes user ≤ bytes_owned t.nodes user) ⊎ (bytes_owned made.nodes user ≤ quota_of made user)
+Keeps t user made =
+    (bytes_owned made.nodes user ≤ bytes_owned t.nodes user) ⊎ (bytes_owned made.nodes user ≤ bytes_trashed t user + quota_of made user)
 
 -- where no quota is passed, what comes is no more than what goes, or within the quota with the rest
-fits : (t : Tables) (user old new : ℕ) → AreSound t → excess t user old new ≡ None
-    → (new ≤ old) ⊎ (bytes_owned t.nodes user - old + new ≤ quota_of t user)
-fits t user old new sound none =
+fits : (t : Tables) (user old new : ℕ) → excess t user old new ≡ None
+    → (new ≤ old) ⊎ (bytes_owned t.nodes user - old + new ≤ bytes_trashed t user + quota_of t user)
+fits t user old new none =
     elim (and_cases _ _ (never (is_over t user old new) _ none)) [
       | inl fewer ↦ inl (ltb-false old new fewer)
-      | inr within ↦ inr (omega (arith, ltb-false (quota_of t user) _ within, charge_owned t user sound))
+      | inr within ↦ inr (omega (arith, ltb-false (quota_of t user) _ within, charge_beside t user))
     ]
   where
     never : (over : Bool) (excess : Excess) → (if over then Some excess else None) ≡ None → over ≡ false
@@ -62,15 +63,15 @@ fits t user old new sound none =
     never false excess none = refl
 
 -- what comes for one owner in the place of what goes, where that passes no quota
-owner_keeps : (t made : Tables) (user owner old new : ℕ) → AreSound t → quota_of made user ≡ quota_of t user → excess t owner old new ≡ None
+owner_keeps : (t made : Tables) (user owner old new : ℕ) → quota_of made user ≡ quota_of t user → excess t owner old new ≡ None
     → Comes t owner old new made → Keeps t user made
-owner_keeps t made user owner old new sound quota none comes = here (owner == user) refl (comes user)
+owner_keeps t made user owner old new quota none comes = here (owner == user) refl (comes user)
   where
     here : (own : Bool) → (owner == user) ≡ own
         → bytes_owned made.nodes user + (if own then old else 0) ≡ bytes_owned t.nodes user + (if own then new else 0) → Keeps t user made
     here false other sum = inl (omega (arith, sum))
     here true own sum =
-        elim (fits t user old new sound (subst (λ (n : ℕ). excess t n old new ≡ None) (eqb-true owner user own) none)) [
+        elim (fits t user old new (subst (λ (n : ℕ). excess t n old new ≡ None) (eqb-true owner user own) none)) [
           | inl fewer ↦ inl (omega (arith, sum, fewer))
           | inr within ↦ inr (omega (arith, sum, within, quota))
         ]
@@ -82,7 +83,7 @@ copies_keep : (t : Tables) (now user : ℕ) (rows : List NodeRow) (replaced : Op
     → copy_excess t known.transfer ≡ None → Keeps t user (joined t rows replaced)
 copies_keep t now user rows replaced sound known none =
     owner_keeps t (joined t rows replaced) user (owner_of t.nodes transfer.folder) (option_map_or (size_of t.nodes) transfer.replaced 0)
-    (size_of t.nodes transfer.node) sound refl none
+    (size_of t.nodes transfer.node) refl none
     (λ user.
     omega (
       arith,
@@ -101,7 +102,7 @@ copies_keep t now user rows replaced sound known none =
 stored_keeps : (t : Tables) (now user : ℕ) (key : LockKey) (digest : List ℕ) (size : ℕ) → AreSound t → IsHeld t key
     → excess_at t size (place_of key) ≡ None → Keeps t user (altered t now (stored_at t now key digest size))
 stored_keeps t now user key digest size sound held none =
-    owner_keeps t (altered t now (stored_at t now key digest size)) user (owner_of t.nodes (node_of_key key)) (bytes_at t.nodes key) size sound
+    owner_keeps t (altered t now (stored_at t now key digest size)) user (owner_of t.nodes (node_of_key key)) (bytes_at t.nodes key) size
     (same_quota key) (at_owner key none) (stored_comes t now key digest size sound held)
   where
     at_owner : (key : LockKey) → excess_at t size (place_of key) ≡ None → excess t (owner_of t.nodes (node_of_key key)) (bytes_at t.nodes key) size ≡ None
@@ -130,7 +131,7 @@ goal_keeps access t now user (Body digest size) (Serve content) act sound held i
 goal_keeps access t now user (Body digest size) (Store by key wanted) act sound held is =
     let h = not_refused (end_refusal access t now by key size) (stored_at t now key digest size) act is in
     subst (λ (a : Allowed). Keeps t user (altered t now a)) h.1
-    (stored_keeps t now user key digest size sound held (end_passes access t now by key size h.0).quota)
+    (stored_keeps t now user key digest size sound held.0 (end_passes access t now by key size h.0).quota)
 goal_keeps access t now user outcome goal act sound held is = closed_keeps t now user act is
 
 end_keeps : (access : Access) (t : Tables) (now user : ℕ) (outcome : Outcome) (goal : Option Goal) (act : Allowed) → AreSound t
@@ -215,6 +216,7 @@ quotas_kept n s e user sound may =
     let kept = entry_has (λ t tickets blob. Keeps s.tables user t) s e e.mark same (λ act is.
     stamped_has (Keeps s.tables user) s.tables (altered s.tables e.moment act) e.moment (told s.tables act) same
     (act_keeps s e.seat e.moment user e.event act sound may.asked is)) in
-    let before = charge_owned s.tables user sound.rows in
-    let later = charge_owned (after s e).tables user (sound_after n s e sound may).rows in
-    elim kept [ inl fewer ↦ inl (omega (arith, fewer, before, later)) | inr within ↦ inr (omega (arith, within, later)) ]
+    let before = charge_beside s.tables user in
+    let later = charge_beside (after s e).tables user in
+    let trash = trash_after n s e user sound may in
+    elim kept [ inl fewer ↦ inl (omega (arith, fewer, before, later, trash)) | inr within ↦ inr (omega (arith, within, later, trash)) ]

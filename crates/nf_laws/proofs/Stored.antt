@@ -13,14 +13,14 @@ use Rattle.nf_base.specs.declared.rows.NodeRow.{NodeRow}
 use Rattle.nf_base.specs.declared.rows.Row.TheVariants as rows
 use Rattle.nf_defs.proofs.Climbs.{holds_some}
 use Rattle.nf_defs.specs.Prelude.{filled, is_folder_kind, node_row, owner_of, Tables}
-use Rattle.nf_laws.proofs.Charging.{alike, charge_owned}
+use Rattle.nf_laws.proofs.Charging.{alike, charge_beside}
 use Rattle.nf_laws.proofs.Entries.{step_changed}
 use Rattle.nf_laws.proofs.Puts.{put_changed, put_new}
 use Rattle.nf_laws.proofs.Reading.{none_refused}
 use Rattle.nf_laws.proofs.Sizes.{weight}
-use Rattle.nf_laws.proofs.Stays.{sound_after}
+use Rattle.nf_laws.proofs.Trashing.{trash_after}
 use Rattle.nf_laws.proofs.Weighing.{row_owned}
-use Rattle.nf_laws.specs.Charges.{bytes_at, bytes_owned, IsCharged, owned_bytes, WritesAreCharged}
+use Rattle.nf_laws.specs.Charges.{bytes_at, bytes_owned, bytes_trashed, IsCharged, owned_bytes, WritesAreCharged}
 use Rattle.nf_words.proofs.Bodies.{content_decides}
 use Rattle.nf_words.proofs.Ends.{goal_held}
 use Rattle.nf_words.proofs.Fits.{newest}
@@ -114,27 +114,30 @@ stored_nodes t now (Node node) digest size =
     let blob = blob_for t.meta.next_blob size in nodes_changed t now (refilled (node_row t.nodes node) now (content_in blob digest size)) blob Done
 stored_nodes t now (Slot folder name) digest size = refl
 
--- what comes is charged
-comes_charged : (t made : Tables) (owner old new : ℕ) → AreSound t → AreSound made → Comes t owner old new made → IsCharged t made owner old new
-comes_charged t made owner old new sound later comes = record {
+-- what comes is charged, where the trash stays as it is
+comes_charged : (t made : Tables) (owner old new : ℕ) → ((user : ℕ) → bytes_trashed made user ≡ bytes_trashed t user) → Comes t owner old new made
+    → IsCharged t made owner old new
+comes_charged t made owner old new trash comes = record {
   owned = omega (
     arith,
     rw (eq-eqb owner owner refl) at (comes owner),
-    charge_owned t owner sound,
-    charge_owned made owner later,
+    charge_beside t owner,
+    charge_beside made owner,
+    trash owner,
   );
   others = λ user other.
       omega (
         arith,
         rw (ne_eqb owner user (λ same. other (sym same))) at (comes user),
-        charge_owned t user sound,
-        charge_owned made user later,
+        charge_beside t user,
+        charge_beside made user,
+        trash user,
       );
 }
 
 pub writes_charged : WritesAreCharged
 writes_charged n s e by key digest size sound may goal event ok =
-    comes_charged t (after s e).tables owner old size sound.rows (sound_after n s e sound may).rows (here e.mark ok)
+    comes_charged t (after s e).tables owner old size (λ user. trash_after n s e user sound may) (here e.mark ok)
   where
     t : Tables
     t = s.tables
@@ -161,6 +164,6 @@ writes_charged n s e by key digest size sound may goal event ok =
         λ user.
         ap (λ (all : List NodeRow). bytes_owned all user + (if owner == user then old else 0))
         (ap (λ (u : Tables). u.nodes) (step_changed s e.seat e.moment e.event act (goes ∙ none)) ∙ sym (stored_nodes t e.moment key digest size))
-        ∙ stored_comes t e.moment key digest size sound.rows held user
+        ∙ stored_comes t e.moment key digest size sound.rows held.0 user
     here mark.Store ok = absurd (cc)
     here mark.Memory ok = absurd (cc)
