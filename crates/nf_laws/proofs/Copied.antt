@@ -400,7 +400,7 @@ crossed_no_root t now rows replaced node sound cross =
     ∙ ap (is_root t.nodes) cross.node_is ∙ cross.copies.known.no_root
 
 -- and present
-crossed_present : (t : Tables) (now : ℕ) (rows : List NodeRow) (replaced : Option ℕ) (node : ℕ) → AreSound t → KnownCross t now rows replaced node
+pub crossed_present : (t : Tables) (now : ℕ) (rows : List NodeRow) (replaced : Option ℕ) (node : ℕ) → AreSound t → KnownCross t now rows replaced node
     → LeadsToRoot (joined t rows replaced).nodes node
 crossed_present t now rows replaced node sound cross =
     kept_leads (cleared t.nodes replaced) (joined t rows replaced).nodes node (kept_joined (cleared t.nodes replaced) rows)

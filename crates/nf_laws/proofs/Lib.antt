@@ -23,7 +23,6 @@ pub mod Gone
 pub mod Held
 pub mod Lines
 pub mod Links
-pub mod Leading
 pub mod Leaning
 pub mod Lists
 pub mod Locking
