@@ -26,7 +26,7 @@ use Rattle.nf_laws.proofs.Upwards.{climb_short, climbs_depth, climbs_is_under, d
 use Rattle.nf_laws.specs.Transfers.{is_replaced}
 use Rattle.nf_words.proofs.Known.{KnownMove}
 use Rattle.nf_words.proofs.Ways.{inside_present}
-use Rattle.nf_words.specs.Prelude.{AreApart, AreSound, cleared, crosses, deepest, HasRoot, IsNodeSound, IsPlaceSound, IsTop, IsUnmounted, LeadsToRoot, transferred}
+use Rattle.nf_words.specs.Prelude.{AreApart, AreSound, cleared, crosses, deepest, deepest_in, HasRoot, IsNodeSound, IsPlaceSound, IsTop, IsUnmounted, LeadsToRoot, transferred}
 use Rattle.nf_words.specs.declared.request.Transfer.{Transfer}
 
 -- ---- climbs where a node has another row
@@ -278,6 +278,15 @@ relinked_sound u items node folder name old sound fits =
           (items_left u made (λ other. other == node) items (le_refl _) (others_same u.nodes node change (λ row. refl)) fits.left) fits.left.rise;
     }
 
+-- no node under one is deeper in the folder than the deepest of them
+pub deep_below : (t : Tables) (node folder j below : ℕ) → AreSound t → climb t.nodes j below ≡ Some node → deepest_in t.nodes node folder ≤ MAX_DEPTH
+    → j + 1 + depth t.nodes folder ≤ MAX_DEPTH
+deep_below t node folder j below sound climbs deep =
+    let few = climb_short j t below node sound climbs in
+    let among = All-contains (λ (n : ℕ). depth t.nodes n ≤ deepest t.nodes (walk_of t.nodes node)) (walk_of t.nodes node) below
+    (deepest_among t.nodes (walk_of t.nodes node)) (climbs_walk j t.nodes node below few climbs) in
+    omega (arith, among, depth_climb j t below node sound climbs, deep)
+
 -- ---- what is known of a move
 
 -- what stays is as deep as before
@@ -345,10 +354,7 @@ move_fits t transfer name sound move =
         shallow = λ j below row there is.
             let kept = kept_cleared t.nodes transfer.replaced below row there in
             let climbs : climb t.nodes j below ≡ Some node = sym (climb_cleared t transfer.replaced j below sound kept.0) ∙ is in
-            let few = climb_short j t below node sound climbs in
-            let among = All-contains (λ (n : ℕ). depth t.nodes n ≤ deepest t.nodes (walk_of t.nodes node)) (walk_of t.nodes node) below
-            (deepest_among t.nodes (walk_of t.nodes node)) (climbs_walk j t.nodes node below few climbs) in
-            omega (arith, among, deep, depth_climb j t below node sound climbs, known.deep);
+            omega (arith, deep, deep_below t node folder j below sound climbs known.deep);
       },
     )
 
