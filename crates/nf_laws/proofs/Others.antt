@@ -7,6 +7,7 @@ use Rattle.std.proofs.lemmas.Bool.{and_from, and_parts, both_ways, cases_Bool, e
 use Rattle.std.proofs.lemmas.List.{get_or-map, length-map}
 use Rattle.std.proofs.lemmas.List.Elements.{All-cons, All-filter, All-map, All-nil, All-push, All-weaker, filter_passes}
 use Rattle.std.proofs.lemmas.Slice.Eq.{bytes_eq-Decides}
+use Rattle.std.proofs.lemmas.Option.{none-some}
 use Rattle.nf_access.specs.Mounts.{is_shown_to, mount_at, root_folder}
 use Rattle.nf_access.specs.Shares.{chain_within, perms_of_share, share_row}
 use Rattle.nf_base.specs.declared.limits.TheConstants.{MAX_CHAIN, MAX_MOUNTS, MAX_SHARES}
@@ -128,7 +129,33 @@ item_other node other (item ∷ items) differs =
     first : {a b : ℕ} → a ∷ [] ≡ b ∷ [] → a ≡ b
     first same = cc
 
--- and all but that of the only one that leaves the trash
+-- that of the node itself isn't
+pub item_gone : (node : ℕ) (items : List ItemRow) → item_row (dropped item_key (node ∷ []) items) node ≡ None
+item_gone node items =
+    finds_none (λ item. item.node == node) (dropped item_key (node ∷ []) items) (λ k d within.
+    let item = get_or (dropped item_key (node ∷ []) items) k d in
+    ne_eqb item.node node (λ same.
+    both_ways (bytes_eq (node ∷ []) (item_key item))
+    (not-true (bytes_eq (node ∷ []) (item_key item)) (filter_passes (λ item. not (bytes_eq (node ∷ []) (item_key item))) items k d within))
+    ((bytes_eq-Decides (node ∷ []) (item_key item)).1 (ap (λ (n : ℕ). n ∷ []) (sym same)))))
+
+-- where there is none all stay
+pub item_none : (node : ℕ) (items : List ItemRow) → item_row items node ≡ None → dropped item_key (node ∷ []) items ≡ items
+item_none node [] none = refl
+item_none node (item ∷ items) none =
+    elim (cases_Bool (item.node == node)) [
+      | inl e ↦ absurd (none-some item (sym none ∙ simp e refl))
+      | inr e ↦
+          (let off : bytes_eq (node ∷ []) (item_key item) ≡ false =
+          false_from_ne_true (bytes_eq (node ∷ []) (item_key item)) (λ same.
+          both_ways (item.node == node) e (eq-eqb item.node node (first (sym ((bytes_eq-Decides (node ∷ []) (item_key item)).0 same))))) in
+          simp off (ap (λ (left : List ItemRow). item ∷ left) (item_none node items (simp e at none))))
+    ]
+  where
+    first : {a b : ℕ} → a ∷ [] ≡ b ∷ [] → a ≡ b
+    first same = cc
+
+-- and all but that of the only one that leaves the trash are left
 pub items_dropped : (t : Tables) (gone : ℕ → Bool) (node : ℕ) → AreSound t → gone node ≡ true
     → ((other : ℕ) (row : NodeRow) → node_row t.nodes other ≡ Some row → row.place ≡ Trash → other ≢ node → not (gone other) ≡ true)
     → ItemsLeft t gone (dropped item_key (node ∷ []) t.items)

@@ -330,15 +330,20 @@ pub purged_stamped : (t : Tables) (now : ℕ) (gone : List ℕ) → purged_all (
 purged_stamped t now [] = refl
 purged_stamped t now (node ∷ gone) = purged_stamped (purged t node) now gone
 
+-- at any moment from which on the tables with the deed done may be stamped
+pub deed_sound_at : (t : Tables) (now moment : ℕ) (did : Deed) → AreSound t → t.meta.last ≤ moment → now ≤ moment → KnownDeed t now did
+    → AreSound (stamp (deed_done t did) moment)
+deed_sound_at t now moment deed.Nothing sound later after known = stamp_sound t moment sound later
+deed_sound_at t now moment (deed.Discard item) sound later after known =
+    discarded_sound (stamp t moment) item known.row item.from (stamp_sound t moment sound later)
+    (omega (arith, after, ap (λ (i : ItemRow). i.at) known.is)) known.there known.inside known.present (ap (λ (i : ItemRow). i.owner) known.is)
+deed_sound_at t now moment (deed.Restore node folder name) sound later after known =
+    stamp_sound (restored t node folder name) moment (restored_sound t node folder name sound known) later
+deed_sound_at t now moment (deed.Requote row) sound later after known =
+    stamp_sound (made t (Put (rows.User row))) moment (people_sound t (Put (rows.User row)) sound known) later
+
 pub deed_sound : (t : Tables) (now : ℕ) (did : Deed) → AreSound t → t.meta.last ≤ now → KnownDeed t now did → AreSound (stamp (deed_done t did) now)
-deed_sound t now deed.Nothing sound later known = stamp_sound t now sound later
-deed_sound t now (deed.Discard item) sound later known =
-    discarded_sound (stamp t now) item known.row item.from (stamp_sound t now sound later)
-    (omega (arith, ap (λ (i : ItemRow). i.at) known.is)) known.there known.inside known.present (ap (λ (i : ItemRow). i.owner) known.is)
-deed_sound t now (deed.Restore node folder name) sound later known =
-    stamp_sound (restored t node folder name) now (restored_sound t node folder name sound known) later
-deed_sound t now (deed.Requote row) sound later known =
-    stamp_sound (made t (Put (rows.User row))) now (people_sound t (Put (rows.User row)) sound known) later
+deed_sound t now did sound later known = deed_sound_at t now now did sound later (le_refl _) known
 
 -- ---- what goes, one after the other
 
@@ -347,7 +352,8 @@ goes_all : (t : Tables) (nodes : List ℕ) → All (IsItem t) nodes → KnownGoe
 goes_all t [] all = tt
 goes_all t (node ∷ nodes) all = (inl (All-head (IsItem t) node nodes all), All-tail (IsItem t) node nodes all)
 
-goes_stamped : (t : Tables) (now : ℕ) (gone : List ℕ) → KnownGoes t gone → KnownGoes (stamp t now) gone
+-- those that go are known whatever the moment
+pub goes_stamped : (t : Tables) (now : ℕ) (gone : List ℕ) → KnownGoes t gone → KnownGoes (stamp t now) gone
 goes_stamped t now [] goes = tt
 goes_stamped t now (node ∷ gone) (inl is, rest) = (inl is, rest)
 goes_stamped t now (node ∷ gone) (inr is, rest) = (inr (record { no_root = is.no_root; there = is.there; present = is.present }), rest)
