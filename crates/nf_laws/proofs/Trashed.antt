@@ -1,13 +1,12 @@
 -- The tables with what is put in the trash, comes back or goes for good are sound.
-use Rattle.std.proofs.Common.{inl, inr, ℕ, ◌==◌, ◌≡◌, ◌≢◌, ◌⊎◌, ◌&&◌, ◌≤◌, suc, Bool, true, false, not, List, [], ◌∷◌, Option, None, Some, bytes_eq, length, map, get_or, if◌then◌else◌, refl, sym, ap, subst, ◌∙◌, arith, le_refl, filter, option_map}
+use Rattle.std.proofs.Common.{inl, inr, ℕ, ◌==◌, ◌≡◌, ◌≢◌, ◌⊎◌, ◌&&◌, ◌≤◌, suc, Bool, true, false, not, List, [], ◌∷◌, Option, None, Some, length, get_or, if◌then◌else◌, refl, sym, ap, subst, ◌∙◌, arith, le_refl, filter, option_map}
 use Rattle.std.specs.Prelude.{is_some}
 use Rattle.std.specs.List.{All, AllPairs}
 use Rattle.std.specs.Option.{option_map_or}
-use Rattle.std.proofs.lemmas.Bool.{and_parts, both_ways, cases_Bool, cond_both, eq-eqb, eqb-true, false_from_ne_true, ne_eqb, not_from_false}
+use Rattle.std.proofs.lemmas.Bool.{both_ways, cases_Bool, eq-eqb, eqb-true, false_from_ne_true, ne_eqb, not_from_false}
 use Rattle.std.proofs.lemmas.List.{length-map}
-use Rattle.std.proofs.lemmas.List.Elements.{All-head, All-nil, All-tail, All-weaker}
+use Rattle.std.proofs.lemmas.List.Elements.{All-head, All-tail, All-weaker}
 use Rattle.std.proofs.lemmas.List.Filters.{length-filter_both}
-use Rattle.std.proofs.lemmas.Option.{none-some, same_Some}
 use Rattle.nf_access.proofs.Naming.{free_is_free, taken_child}
 use Rattle.nf_access.specs.Mounts.{free_name_of, mount_at, names_in_root, root_folder}
 use Rattle.nf_base.specs.declared.changes.Change.TheVariants.{Put}
@@ -19,23 +18,23 @@ use Rattle.nf_base.specs.declared.rows.Row.TheVariants as rows
 use Rattle.nf_base.specs.declared.rows.UserRow.{UserRow}
 use Rattle.nf_defs.proofs.Climbs.{climb_under, under_climb}
 use Rattle.nf_defs.proofs.Puts.{all_put, put_rising}
-use Rattle.nf_defs.specs.Prelude.{child_of, dropped, is_folder, is_folder_kind, is_in, is_root, is_root_place, is_under, item_key, item_row, made, node_row, owner_of, put, Tables, taken_names, user_row, with_node}
+use Rattle.nf_defs.specs.Prelude.{child_of, dropped, is_folder, is_folder_kind, is_in, is_root, is_root_place, is_under, item_key, item_row, made, node_row, owner_of, put, Tables, taken_names, user_row}
 use Rattle.nf_defs.specs.Tree.{trashed}
 use Rattle.nf_laws.proofs.Climbs.{node_row_each, some_there}
 use Rattle.nf_laws.proofs.Gone.{folder_left, root_left, those_sound}
-use Rattle.nf_laws.proofs.Moved.{climb_below, deep_below, Fits, names_turned, no_root_row, others_same, outside_leads, outside_rooted, relinked_sound, root_turned}
+use Rattle.nf_laws.proofs.Moved.{climb_below, deep_below, names_turned, no_root_row, others_same, outside_leads, outside_rooted, relinked_sound, root_turned}
 use Rattle.nf_laws.proofs.OneRow.{KeepsId, length_with, pieces_with, rising_with, row_itself, value_with, with_each}
-use Rattle.nf_laws.proofs.Others.{item_other, items_all, items_dropped, items_left, ItemsLeft, IsSeenSo, off_with, others_ended, stamp_sound, was_with}
-use Rattle.nf_laws.proofs.Paths.{climb_own, IsOf}
+use Rattle.nf_laws.proofs.Others.{item_other, items_all, items_dropped, items_left, IsSeenSo, off_with, others_ended, stamp_sound, was_with}
+use Rattle.nf_laws.proofs.Paths.{climb_own}
 use Rattle.nf_laws.proofs.Peopled.{people_sound}
 use Rattle.nf_laws.proofs.Present.{below_present, never_trash, root_leads, trash_alone}
 use Rattle.nf_laws.proofs.Puts.{number_found, other_number}
 use Rattle.nf_laws.proofs.Rows.{folder_there, found_is, IsRooted, node_still, row_is, stamp}
 use Rattle.nf_laws.proofs.Upwards.{climb_short, never_climbs, owners_there}
 use Rattle.nf_words.proofs.Ensured.{free_in_root}
-use Rattle.nf_words.proofs.Known.{IsItem, KnownDeed, KnownDiscard, KnownGoes, KnownGone, KnownRestore, KnownTrash}
+use Rattle.nf_words.proofs.Known.{IsItem, KnownDeed, KnownGoes, KnownGone, KnownRestore, KnownTrash}
 use Rattle.nf_words.specs.Others.{IsItemSound}
-use Rattle.nf_words.specs.Prelude.{AreSound, deed_done, discarded, HasRoot, home_of, IsNodeSound, IsPlaceSound, IsUnmounted, LeadsToRoot, name_back, names_taken_in, purged, purged_all, restored, root_of_user}
+use Rattle.nf_words.specs.Prelude.{AreSound, deed_done, discarded, HasRoot, home_of, IsNodeSound, IsPlaceSound, IsUnmounted, LeadsToRoot, names_taken_in, purged, purged_all, restored, root_of_user}
 use Rattle.nf_words.specs.declared.answer.Deed.{Deed}
 use Rattle.nf_words.specs.declared.answer.Deed.TheVariants as deed
 
@@ -138,11 +137,10 @@ module _ (t : Tables) (item : ItemRow) (row : NodeRow) (folder : ℕ) (sound : A
   trash_itself : (other : NodeRow) → node_row t.nodes top ≡ Some other → node_row t.nodes other.id ≡ Some other → IsNodeSound t other
       → IsNodeSound binned (trashed other)
   trash_itself other is of h =
-      node_still t binned other Trash other.name (le_refl _) (le_refl _) (le_refl _) h
-      (
+      node_still t binned other Trash other.name (le_refl _) (le_refl _) (le_refl _) h (
         (found_is (λ (r : NodeRow). is_some (user_row t.users r.owner) ≡ true) (λ (r : NodeRow). r.id == other.id) t.nodes other (owners_there t sound) of).1,
         ap (λ (n : ℕ). is_some (item_row binned.items n)) (row_is t top other sound is).0
-        ∙ ap is_some (number_found (λ (i : ItemRow). i.node) item t.items),
+            ∙ ap is_some (number_found (λ (i : ItemRow). i.node) item t.items),
       ) (trash_rooted other of)
 
   seen_trashed : IsSeenSo t top trashed
