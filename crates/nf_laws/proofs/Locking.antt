@@ -140,7 +140,7 @@ one_of tickets differ a b one two same =
 
 module _ (call : Call) where
   abbrev all : List Touch
-  all = touches call.state.tables.nodes (asked_by call) (places_of call)
+  all = touches call.state.tables (asked_by call) (places_of call)
 
   abbrev test : Ticket → Bool
   test ticket = blocks call.state.tables.nodes call.seat all ticket
