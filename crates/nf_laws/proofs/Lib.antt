@@ -55,6 +55,7 @@ pub mod Stays
 pub mod Stored
 pub mod Telling
 pub mod Transferred
+pub mod Trashed
 pub mod Trashing
 pub mod Upwards
 pub mod Walked
